@@ -1,0 +1,10 @@
+//! The words of a run: the lines of a schedule, and the entries of the transcript that a run gives.
+#![tactic(auto)]
+
+mod entry;
+mod line;
+mod octets;
+
+pub use entry::{Entry, NoCause};
+pub use line::{End, Header, Line};
+pub use octets::Octets;
