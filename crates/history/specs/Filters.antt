@@ -2,7 +2,7 @@
 use Rattle.std.specs.Prelude.{ℕ, ◌+◌, ◌-◌, ◌/◌, ◌==◌, ◌&&◌, Bool, true, false, not, if◌then◌else◌, max, List, [], ◌∷◌, ◌++◌, length, take, drop, Option, Some, None, sum_by}
 use Rattle.std.specs.List.{filter_map, fold}
 use Rattle.trace_model.specs.declared.entry.Entry.{Entry}
-use Rattle.trace_model.specs.declared.entry.Entry.TheVariants.{Up, Sent, Got, Acked, Emit, Took}
+use Rattle.trace_model.specs.declared.entry.Entry.TheVariants.{Up, Sent, Got, Acked, Emit, Took, Lost}
 use Rattle.trace_model.specs.declared.line.End.{End}
 use Rattle.trace_model.specs.Ends.{other_end}
 
@@ -45,11 +45,12 @@ acked_after e n before _ = before
 abbrev pub acked_in : List Entry → End → ℕ → ℕ
 acked_in t e n = fold (acked_after e n) 0 t
 
--- The wire to an end after an entry: what the other end emits stands behind what stands there, and what the end takes is
--- the first frame.
+-- The wire to an end after an entry: what the other end emits stands behind what stands there, and what the end takes or
+-- what is lost on its way is the first frame.
 abbrev pub wire_after : End → List (List ℕ) → Entry → List (List ℕ)
 wire_after e wire (Emit f lpdu) = if same_end f (other_end e) then wire ++ lpdu ∷ [] else wire
 wire_after e wire (Took f lpdu) = if same_end f e then drop 1 wire else wire
+wire_after e wire (Lost f lpdu cause) = if same_end f e then drop 1 wire else wire
 wire_after e wire _ = wire
 
 -- the frames that are on their way to an end, first the one that it takes next
@@ -64,6 +65,16 @@ session_after e session _ = session
 -- the number of the session that an end has, if it is up
 abbrev pub session_of : List Entry → End → Option ℕ
 session_of t e = fold (session_after e) None t
+
+-- the frames that were lost on their way to an end since its session began, after an entry
+abbrev pub losses_after : End → List (List ℕ) → Entry → List (List ℕ)
+losses_after e losses (Up f n) = if same_end f e then [] else losses
+losses_after e losses (Lost f lpdu cause) = if same_end f e then losses ++ lpdu ∷ [] else losses
+losses_after e losses _ = losses
+
+-- the frames that were lost on their way to an end since its session began
+abbrev pub losses_to : List Entry → End → List (List ℕ)
+losses_to t e = fold (losses_after e) [] t
 
 -- the blocks of memory that a message of this length takes
 abbrev pub blocks_of : ℕ → ℕ

@@ -2,13 +2,15 @@
 use Rattle.std.specs.Prelude.{◌≡◌, ℕ, zero, suc, ◌+◌, ◌-◌, ◌<◌, ◌==◌, nat_lt, Bool, true, false, if◌then◌else◌, List, [], ◌∷◌, ◌++◌, length, take, drop, map, Option, Some, None, unwrap_or}
 use Rattle.std.specs.List.{fold, flat_map}
 use Rattle.trace_model.specs.declared.entry.Entry.{Entry}
-use Rattle.trace_model.specs.declared.entry.Entry.TheVariants.{Up, Sent, Got, Acked, Emit, Took}
+use Rattle.trace_model.specs.declared.entry.Entry.TheVariants.{Up, Sent, Got, Acked, Emit, Took, Lost}
+use Rattle.trace_model.specs.declared.entry.LostCause.TheVariants.{Full as Pushed_out}
 use Rattle.trace_model.specs.declared.entry.NoCause.{NoCause}
 use Rattle.trace_model.specs.declared.entry.NoCause.TheVariants.{NotUp, TooLong, Full, Empty}
 use Rattle.trace_model.specs.declared.line.End.{End}
 use Rattle.trace_model.specs.declared.line.Header.{Header}
 use Rattle.trace_model.specs.declared.line.Line.{Line}
 use Rattle.trace_model.specs.declared.line.Line.TheVariants.{Send, Deliver}
+use Rattle.trace_model.specs.Ends.{other_end}
 use Rattle.shdlc_core.specs.Machine.{EndState, all_fetched}
 use Rattle.history.specs.Histories.{Event, Outcome, Step, History, Refused, Caused, events_of, entries_of}
 use Rattle.history.specs.Filters.{same_end, sent_in, acked_in, wire_to, session_of, blocks_of, spare_in}
@@ -32,9 +34,28 @@ number_at t e = unwrap_or (session_of t e) 0
 
 -- ## Events
 
+-- the most frames that a wire holds
+abbrev pub wire_limit : ℕ
+wire_limit = 64
+
+-- the frames that are pushed out of a wire on which one frame too many stands: the oldest
+abbrev pub pushed_out : List (List ℕ) → List (List ℕ)
+pushed_out wire = if nat_lt wire_limit (length wire) then take 1 wire else []
+
+-- the frames that stay on it
+abbrev pub kept_on : List (List ℕ) → List (List ℕ)
+kept_on wire = if nat_lt wire_limit (length wire) then drop 1 wire else wire
+
+-- The entries of LPDUs that an end puts on the wire to the other end, one after another.
+abbrev pub puts : End → List (List ℕ) → List (List ℕ) → Event
+puts e wire [] = []
+puts e wire (lpdu ∷ lpdus) =
+    Emit e lpdu ∷ (map (λ lost. Lost (other_end e) lost Pushed_out) (pushed_out (wire ++ lpdu ∷ []))
+    ++ puts e (kept_on (wire ++ lpdu ∷ [])) lpdus)
+
 -- the entries of the LPDUs that a machine sends
-abbrev pub emits : End → EndState → Event
-emits e s = map (λ lpdu. Emit e lpdu) (lpdus_of s)
+abbrev pub emits : List Entry → End → EndState → Event
+emits t e s = puts e (wire_to t (other_end e)) (lpdus_of s)
 
 -- `acked` is noted where the number of messages whose packets are all acknowledged has grown
 abbrev pub acked_note : List Entry → End → EndState → Event
@@ -52,13 +73,13 @@ got_notes t e s =
 -- an end is given a message to send
 abbrev pub sent_event : List Entry → End → ℕ → List ℕ → Event
 sent_event t e pid message =
-    Sent e (number_at t e) pid message ∷ emits e (given (machine_at t e) pid message)
+    Sent e (number_at t e) pid message ∷ emits t e (given (machine_at t e) pid message)
 
 -- an end takes a frame
 abbrev pub took_event : List Entry → End → List ℕ → Event
 took_event t e lpdu =
     let s : EndState = taken_lpdu (machine_at t e) lpdu in
-    Took e lpdu ∷ (acked_note t e s ++ (got_notes t e s ++ emits e s))
+    Took e lpdu ∷ (acked_note t e s ++ (got_notes t e s ++ emits t e s))
 
 -- an end takes these frames, one after another
 abbrev pub took_events : List Entry → End → List (List ℕ) → List Event

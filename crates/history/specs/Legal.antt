@@ -5,7 +5,7 @@ use Rattle.trace_model.specs.declared.line.End.{End}
 use Rattle.trace_model.specs.Ends.{other_end}
 use Rattle.hcp_packet.specs.Packets.{good_of, IsFrontOf}
 use Rattle.history.specs.Histories.{Event, History, all_events, entries_of, all_entries}
-use Rattle.history.specs.Filters.{sent_in, got_in, acked_in, wire_to, session_of}
+use Rattle.history.specs.Filters.{sent_in, got_in, acked_in, wire_to, losses_to, session_of}
 
 -- In each session each end has got a front of the good messages that the other sent, and the good ones among those that
 -- are acknowledged to the sender are a front of what the other got. No more are acknowledged than were sent.
@@ -18,11 +18,12 @@ pub record IsInOrder (t : List Entry) : Type 0 where
 abbrev pub Prefix : History → Type 0
 Prefix t = (front back : List Entry) → all_entries t ≡ front ++ back → IsInOrder front
 
--- Where both ends of a link are up in one session and both wires are empty, all that was sent has come and is
--- acknowledged: on this link no frame is ever lost.
+-- Where both ends of a link are up in one session, no frame was lost in it and both wires are empty, all that was sent has
+-- come and is acknowledged.
 abbrev pub IsComplete : List Entry → Type 0
 IsComplete t =
     (e : End) (n : ℕ) → session_of t e ≡ Some n → session_of t (other_end e) ≡ Some n
+    → losses_to t e ≡ [] → losses_to t (other_end e) ≡ []
     → wire_to t e ≡ [] → wire_to t (other_end e) ≡ []
     → (got_in t (other_end e) n ≡ good_of (sent_in t e n)) × (acked_in t e n ≡ length (sent_in t e n))
 

@@ -5,7 +5,7 @@ use Rattle.swp_base.specs.declared.control_frames.Control.{Control}
 use Rattle.swp_lpdu.specs.Lpdus.{control_of, lpdu_of}
 use Rattle.swp_lpdu.specs.declared.LpduFault.{LpduFault}
 use Rattle.hcp_packet.specs.Packets.{packets_of, packet_count, bytes_of, good_messages_of}
-use Rattle.shdlc_core.specs.Machine.{EndState, new_end, up_with, put_out, taken, all_frames, all_fetched}
+use Rattle.shdlc_core.specs.Machine.{EndState, new_end, begun, put_out, taken, all_frames, all_fetched}
 
 -- a message with its pipe
 abbrev pub Message : Type 0
@@ -13,7 +13,7 @@ Message = ℕ × List ℕ
 
 -- both ends of a bare link start Up, with a window of 4
 abbrev pub bare_end : EndState
-bare_end = up_with (new_end 4) 4
+bare_end = begun (new_end 4)
 
 -- an end that was given a message to send: its packets stand behind those of the messages before it
 abbrev pub given : EndState → ℕ → List ℕ → EndState
