@@ -1,2 +1,5 @@
 pub mod Ends
 pub mod Filtering
+pub mod Calm
+pub mod Events
+pub mod Orders
