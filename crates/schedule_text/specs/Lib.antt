@@ -1,0 +1,6 @@
+pub mod Entries
+pub mod Forms
+pub mod Lines
+pub mod Rules
+pub mod Values
+pub mod Words

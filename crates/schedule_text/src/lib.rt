@@ -1,0 +1,11 @@
+//! The texts of a run: the lines of a schedule are read, and the entries of a transcript are written.
+#![tactic(auto)]
+
+mod fault;
+mod read;
+mod forms;
+mod values;
+mod words;
+
+pub use fault::LineFault;
+pub use read::Read;
