@@ -7,6 +7,8 @@ use Rattle.std.proofs.lemmas.Option.{slice_get_within, get_or_from_slice_get}
 use Rattle.std.proofs.lemmas.List.Elements.{All-get_or, All-append}
 use Rattle.std.proofs.lemmas.Bool.{eqb-true, ltb-true, ltb-false, and_parts}
 use Rattle.std.proofs.lemmas.Grind.{common_steps}
+use Rattle.std.proofs.lemmas.List.{append-nil}
+use Rattle.hcp_packet.specs.Packets.{IsFrontOf}
 use Rattle.swp_base.specs.DataUnits.{IsInfo}
 use Rattle.swp_base.specs.declared.control_frames.Control.{Control}
 use Rattle.swp_base.specs.declared.control_frames.Control.TheVariants.{I, S, Rset, Ua, Act, Clt}
@@ -137,6 +139,7 @@ pub record TakesOn (old new : EndState) : Type 0 where
   pub calm : IsCalm new 1
   pub grows : old.session.acked ≤ new.session.acked
   pub out_is : new.session.out ≡ old.session.out
+  pub accepts : IsFrontOf old.session.acc new.session.acc
 
 -- an end that is calm and has nothing due
 abbrev pub calm_form : EndState → EndState
@@ -147,48 +150,49 @@ calm_form_is e up ready due =
     ap (λ p. record e { phase = p }) up
     ∙ (ap (λ r. record e { phase = Up; ready = r }) ready ∙ ap (λ d. record e { phase = Up; ready = true; due = d }) due)
 
-received_calm : (e f : EndState) (ns : ℕ) (info : Fragment) → e.session.acked ≤ f.session.acked → f.session.out ≡ e.session.out → All IsInfo e.session.out
+received_calm : (e f : EndState) (ns : ℕ) (info : Fragment) → e.session.acked ≤ f.session.acked → f.session.out ≡ e.session.out → f.session.acc ≡ e.session.acc → All IsInfo e.session.out
     → TakesOn e (received (calm_form f) ns info)
-received_calm e f ns info grows out fits = go (ahead f.session ns == 0) (nat_lt (ahead f.session ns) 4) f.session.gap_open
+received_calm e f ns info grows out acc fits = go (ahead f.session ns == 0) (nat_lt (ahead f.session ns) 4) f.session.gap_open
   where
     gap : EndState
     gap = record (calm_form f) { due = Rej_due ∷ []; session = record f.session { gap_open = true } }
-    kept : (g : EndState) → g.phase ≡ Up → g.ready ≡ true → AllByRecursion IsCalmDue g.due → length g.due ≤ 1 → g.session.out ≡ f.session.out → g.session.acked ≡ f.session.acked → TakesOn e g
-    kept g p r d few o a =
+    kept : (g : EndState) → g.phase ≡ Up → g.ready ≡ true → AllByRecursion IsCalmDue g.due → length g.due ≤ 1 → g.session.out ≡ f.session.out → g.session.acked ≡ f.session.acked → IsFrontOf f.session.acc g.session.acc → TakesOn e g
+    kept g p r d few o a more =
         record {
           calm = record { up = p; ready = r; calm_due = d; few_due = few; fits = (let P : List Fragment → Type 0 = λ l. All IsInfo l in subst P (sym (o ∙ out)) fits) };
           grows = omega arith;
           out_is = o ∙ out;
+          accepts = (let P : List Fragment → Type 0 = λ l. IsFrontOf l g.session.acc in subst P acc more);
         }
     go : (b c d : Bool) → TakesOn e (if b then accepted (calm_form f) info else (if c then (if d then calm_form f else gap) else repeated (calm_form f)))
-    go true c d = kept (accepted (calm_form f) info) refl refl (tt, tt) (omega arith) refl refl
-    go false true true = kept (calm_form f) refl refl tt (omega arith) refl refl
-    go false true false = kept gap refl refl (tt, tt) (omega arith) refl refl
-    go false false d = kept (repeated (calm_form f)) refl refl (tt, tt) (omega arith) refl refl
+    go true c d = kept (accepted (calm_form f) info) refl refl (tt, tt) (omega arith) refl refl (info ∷ [], refl)
+    go false true true = kept (calm_form f) refl refl tt (omega arith) refl refl ([], append-nil f.session.acc)
+    go false true false = kept gap refl refl (tt, tt) (omega arith) refl refl ([], append-nil f.session.acc)
+    go false false d = kept (repeated (calm_form f)) refl refl (tt, tt) (omega arith) refl refl ([], append-nil f.session.acc)
 
 -- an end that is calm takes a calm frame
 taken_form : (e : EndState) (c : Control) → IsCalmFrame c → All IsInfo e.session.out → TakesOn (calm_form e) (taken (calm_form e) c)
 taken_form e (I ns nr info) calm fits =
     place_of_cases (λ o. TakesOn (calm_form e) (received_at o)) e.session nr (same e fits)
-    (λ x more. received_calm (calm_form e) (acknowledged (calm_form e) x) ns info more refl fits)
+    (λ x more. received_calm (calm_form e) (acknowledged (calm_form e) x) ns info more refl refl fits)
   where
     received_at : Option ℕ → EndState
     received_at None = calm_form e
     received_at (Some x) = received (acknowledged (calm_form e) x) ns info
     same : (f : EndState) → All IsInfo f.session.out → TakesOn (calm_form f) (calm_form f)
-    same f fits = record { calm = record { up = refl; ready = refl; calm_due = tt; few_due = omega arith; fits = fits }; grows = omega arith; out_is = refl }
+    same f fits = record { calm = record { up = refl; ready = refl; calm_due = tt; few_due = omega arith; fits = fits }; grows = omega arith; out_is = refl; accepts = ([], append-nil f.session.acc) }
 taken_form e (S Rr nr) calm fits =
     place_of_cases (λ o. TakesOn (calm_form e) (at o)) e.session nr
-    (record { calm = record { up = refl; ready = refl; calm_due = tt; few_due = omega arith; fits = fits }; grows = omega arith; out_is = refl })
-    (λ x more. record { calm = record { up = refl; ready = refl; calm_due = tt; few_due = omega arith; fits = fits }; grows = more; out_is = refl })
+    (record { calm = record { up = refl; ready = refl; calm_due = tt; few_due = omega arith; fits = fits }; grows = omega arith; out_is = refl; accepts = ([], append-nil e.session.acc) })
+    (λ x more. record { calm = record { up = refl; ready = refl; calm_due = tt; few_due = omega arith; fits = fits }; grows = more; out_is = refl; accepts = ([], append-nil e.session.acc) })
   where
     at : Option ℕ → EndState
     at None = calm_form e
     at (Some x) = ready_again (calm_form e) x
 taken_form e (S Rej nr) calm fits =
     place_of_cases (λ o. TakesOn (calm_form e) (at o)) e.session nr
-    (record { calm = record { up = refl; ready = refl; calm_due = tt; few_due = omega arith; fits = fits }; grows = omega arith; out_is = refl })
-    (λ x more. record { calm = record { up = refl; ready = refl; calm_due = tt; few_due = omega arith; fits = fits }; grows = more; out_is = refl })
+    (record { calm = record { up = refl; ready = refl; calm_due = tt; few_due = omega arith; fits = fits }; grows = omega arith; out_is = refl; accepts = ([], append-nil e.session.acc) })
+    (λ x more. record { calm = record { up = refl; ready = refl; calm_due = tt; few_due = omega arith; fits = fits }; grows = more; out_is = refl; accepts = ([], append-nil e.session.acc) })
   where
     at : Option ℕ → EndState
     at None = calm_form e

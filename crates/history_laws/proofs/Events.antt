@@ -1,6 +1,6 @@
 -- What an event does to what is read off a history.
 use Rattle.std.proofs.Common.{◌≡◌, ℕ, ◌+◌, Bool, true, false, cond, eqb, ltb, List, [], ◌∷◌, ◌++◌, length, take, drop, map, refl, sym, ap, ◌∙◌, append_assoc, arith, subst}
-use Rattle.std.specs.Prelude.{Option, Some, None, not, ◌&&◌, max, nat_lt}
+use Rattle.std.specs.Prelude.{Option, Some, None, not, ◌&&◌, max, nat_lt, if◌then◌else◌}
 use Rattle.std.specs.List.{cons_option, filter_map, fold}
 use Rattle.std.proofs.lemmas.List.{append-nil}
 use Rattle.std.proofs.lemmas.List.Elements.{filter_map-append}
@@ -119,3 +119,127 @@ session-took t e x lpdu =
     fold_both (session_after x) None t (took_event t e lpdu)
     ∙ (fold-took_first (session_after x) t e lpdu (λ s n count. refl) (λ s n pid message. refl) (session_of t x)
     ∙ fold-puts (session_after x) e (λ s l. refl) (λ s l. refl) (session_of t x) (wire_to t (other_end e)) (lpdus_of (taken_lpdu (machine_at t e) lpdu)))
+
+-- ## An event that gives a message
+
+-- a fold that passes over the message passes over the event but for what is put on the wire
+fold-sent : {S : Type 0} (f : S → Entry → S) (t : List Entry) (e : End) (pid : ℕ) (message : List ℕ) (s : S)
+    → fold f s (sent_event t e pid message) ≡ fold f (f s (Sent e (number_at t e) pid message)) (emits t e (given (machine_at t e) pid message))
+fold-sent f t e pid message s = refl
+
+pub machine-sent : (t : List Entry) (e : End) (pid : ℕ) (message : List ℕ) → machine_at (t ++ sent_event t e pid message) e ≡ all_fetched (given (machine_at t e) pid message)
+machine-sent t e pid message =
+    let m = given (machine_at t e) pid message in
+    fold_both (machine_after e) _ t (sent_event t e pid message)
+    ∙ (fold-puts (machine_after e) e (λ s l. refl) (λ s l. refl) (machine_after e (machine_at t e) (Sent e (number_at t e) pid message)) (wire_to t (other_end e)) (lpdus_of m)
+    ∙ ap (λ b. cond b (all_fetched m) (machine_at t e)) (same_end_self e))
+
+pub machine-sent-elsewhere : (t : List Entry) (e x : End) (pid : ℕ) (message : List ℕ) → same_end e x ≡ false → machine_at (t ++ sent_event t e pid message) x ≡ machine_at t x
+machine-sent-elsewhere t e x pid message other =
+    let m = given (machine_at t e) pid message in
+    fold_both (machine_after x) _ t (sent_event t e pid message)
+    ∙ (fold-puts (machine_after x) e (λ s l. refl) (λ s l. refl) (machine_after x (machine_at t x) (Sent e (number_at t e) pid message)) (wire_to t (other_end e)) (lpdus_of m)
+    ∙ ap (λ b. cond b (all_fetched (given (machine_at t x) pid message)) (machine_at t x)) other)
+
+pub wire-sent : (t : List Entry) (e : End) (pid : ℕ) (message : List ℕ) → wire_to (t ++ sent_event t e pid message) e ≡ wire_to t e
+wire-sent t e pid message =
+    fold_both (wire_after e) [] t (sent_event t e pid message)
+    ∙ wire-puts-elsewhere e e (same_end_other e) (same_end_other_left e) (wire_to t e) (wire_to t (other_end e)) (lpdus_of (given (machine_at t e) pid message))
+
+pub wire-sent-back : (t : List Entry) (e : End) (pid : ℕ) (message : List ℕ) → wire_to (t ++ sent_event t e pid message) (other_end e) ≡ put_on (wire_to t (other_end e)) (lpdus_of (given (machine_at t e) pid message))
+wire-sent-back t e pid message =
+    fold_both (wire_after (other_end e)) [] t (sent_event t e pid message)
+    ∙ wire-puts e (wire_to t (other_end e)) (lpdus_of (given (machine_at t e) pid message))
+
+pub losses-sent : (t : List Entry) (e : End) (pid : ℕ) (message : List ℕ) → losses_to (t ++ sent_event t e pid message) e ≡ losses_to t e
+losses-sent t e pid message =
+    fold_both (losses_after e) [] t (sent_event t e pid message)
+    ∙ losses-puts-elsewhere e e (same_end_other_left e) (losses_to t e) (wire_to t (other_end e)) (lpdus_of (given (machine_at t e) pid message))
+
+pub losses-sent-back : (t : List Entry) (e : End) (pid : ℕ) (message : List ℕ) → losses_to (t ++ sent_event t e pid message) (other_end e) ≡ losses_to t (other_end e) ++ pushed_off (wire_to t (other_end e)) (lpdus_of (given (machine_at t e) pid message))
+losses-sent-back t e pid message =
+    fold_both (losses_after (other_end e)) [] t (sent_event t e pid message)
+    ∙ losses-puts e (losses_to t (other_end e)) (wire_to t (other_end e)) (lpdus_of (given (machine_at t e) pid message))
+
+pub session-sent : (t : List Entry) (e x : End) (pid : ℕ) (message : List ℕ) → session_of (t ++ sent_event t e pid message) x ≡ session_of t x
+session-sent t e x pid message =
+    fold_both (session_after x) None t (sent_event t e pid message)
+    ∙ fold-puts (session_after x) e (λ s l. refl) (λ s l. refl) (session_of t x) (wire_to t (other_end e)) (lpdus_of (given (machine_at t e) pid message))
+
+-- ## Messages
+
+-- what is sent, got and acknowledged after an event that gives a message
+pub sent_in-sent : (t : List Entry) (e x : End) (n pid : ℕ) (message : List ℕ)
+    → sent_in (t ++ sent_event t e pid message) x n ≡ sent_in t x n ++ cons_option (if same_end e x && eqb (number_at t e) n then Some (pid, message) else None) []
+sent_in-sent t e x n pid message =
+    let m = given (machine_at t e) pid message in
+    filter_map-append (sent_by x n) t (sent_event t e pid message)
+    ∙ ap (λ l. sent_in t x n ++ cons_option (if same_end e x && eqb (number_at t e) n then Some (pid, message) else None) l)
+      (filter_map-puts (sent_by x n) e (λ l. refl) (λ l. refl) (wire_to t (other_end e)) (lpdus_of m))
+
+pub got_in-sent : (t : List Entry) (e x : End) (n pid : ℕ) (message : List ℕ) → got_in (t ++ sent_event t e pid message) x n ≡ got_in t x n
+got_in-sent t e x n pid message =
+    filter_map-append (got_by x n) t (sent_event t e pid message)
+    ∙ (ap (λ l. got_in t x n ++ l) (filter_map-puts (got_by x n) e (λ l. refl) (λ l. refl) (wire_to t (other_end e)) (lpdus_of (given (machine_at t e) pid message)))
+    ∙ append-nil (got_in t x n))
+
+pub acked_in-sent : (t : List Entry) (e x : End) (n pid : ℕ) (message : List ℕ) → acked_in (t ++ sent_event t e pid message) x n ≡ acked_in t x n
+acked_in-sent t e x n pid message =
+    fold_both (acked_after x n) 0 t (sent_event t e pid message)
+    ∙ fold-puts (acked_after x n) e (λ s l. refl) (λ s l. refl) (acked_in t x n) (wire_to t (other_end e)) (lpdus_of (given (machine_at t e) pid message))
+
+-- the messages that come with an event that takes a frame
+abbrev pub new_messages : List Entry → End → List ℕ → List Message
+new_messages t e lpdu = drop (length (messages_got (machine_at t e))) (messages_got (taken_lpdu (machine_at t e) lpdu))
+
+-- after an event that takes a frame
+pub sent_in-took : (t : List Entry) (e x : End) (n : ℕ) (lpdu : List ℕ) → sent_in (t ++ took_event t e lpdu) x n ≡ sent_in t x n
+sent_in-took t e x n lpdu =
+    let m = taken_lpdu (machine_at t e) lpdu in
+    filter_map-append (sent_by x n) t (took_event t e lpdu)
+    ∙ (ap (λ l. sent_in t x n ++ l)
+      (filter_map-append (sent_by x n) (acked_note t e m) (got_notes t e m ++ emits t e m)
+      ∙ (ap (λ l. l ++ filter_map (sent_by x n) (got_notes t e m ++ emits t e m)) (filter_map-acked (sent_by x n) t e m (λ k count. refl))
+      ∙ (filter_map-append (sent_by x n) (got_notes t e m) (emits t e m)
+      ∙ (ap (λ l. l ++ filter_map (sent_by x n) (emits t e m)) (filter_map-got (sent_by x n) e (number_at t e) (λ pid message. refl) (new_messages t e lpdu))
+      ∙ filter_map-puts (sent_by x n) e (λ l. refl) (λ l. refl) (wire_to t (other_end e)) (lpdus_of m)))))
+    ∙ append-nil (sent_in t x n))
+
+-- what a filter for messages that came finds in their notes
+got_found : (e x : End) (k n : ℕ) (messages : List Message) (b : Bool) → (same_end e x && eqb k n) ≡ b → filter_map (got_by x n) (notes_of e k messages) ≡ (if b then messages else [])
+got_found e x k n [] true is = refl
+got_found e x k n [] false is = refl
+got_found e x k n (m ∷ messages) true is =
+    ap (λ b. cons_option (if b then Some m else None) (filter_map (got_by x n) (notes_of e k messages))) is ∙ ap (λ l. m ∷ l) (got_found e x k n messages true is)
+got_found e x k n (m ∷ messages) false is =
+    ap (λ b. cons_option (if b then Some m else None) (filter_map (got_by x n) (notes_of e k messages))) is ∙ got_found e x k n messages false is
+
+pub got_in-took : (t : List Entry) (e x : End) (n : ℕ) (lpdu : List ℕ) (b : Bool) → (same_end e x && eqb (number_at t e) n) ≡ b
+    → got_in (t ++ took_event t e lpdu) x n ≡ got_in t x n ++ (if b then new_messages t e lpdu else [])
+got_in-took t e x n lpdu b is =
+    let m = taken_lpdu (machine_at t e) lpdu in
+    let here = filter_map (got_by x n) (notes_of e (number_at t e) (new_messages t e lpdu)) in
+    filter_map-append (got_by x n) t (took_event t e lpdu)
+    ∙ ap (λ l. got_in t x n ++ l)
+      (filter_map-append (got_by x n) (acked_note t e m) (got_notes t e m ++ emits t e m)
+      ∙ (ap (λ l. l ++ filter_map (got_by x n) (got_notes t e m ++ emits t e m)) (filter_map-acked (got_by x n) t e m (λ k count. refl))
+      ∙ (filter_map-append (got_by x n) (got_notes t e m) (emits t e m)
+      ∙ (ap (λ l. here ++ l) (filter_map-puts (got_by x n) e (λ l. refl) (λ l. refl) (wire_to t (other_end e)) (lpdus_of m))
+      ∙ (append-nil here ∙ got_found e x (number_at t e) n (new_messages t e lpdu) b is)))))
+
+-- how many messages are whole before and after the frame
+abbrev pub whole_before : List Entry → End → ℕ
+whole_before t e = whole_among (sent_in t e (number_at t e)) (machine_at t e).session.acked
+
+abbrev pub whole_after : List Entry → End → List ℕ → ℕ
+whole_after t e lpdu = whole_among (sent_in t e (number_at t e)) (taken_lpdu (machine_at t e) lpdu).session.acked
+
+pub acked_in-took : (t : List Entry) (e x : End) (n : ℕ) (lpdu : List ℕ)
+    → acked_in (t ++ took_event t e lpdu) x n ≡ fold (acked_after x n) (acked_in t x n) (acked_note t e (taken_lpdu (machine_at t e) lpdu))
+acked_in-took t e x n lpdu =
+    let m = taken_lpdu (machine_at t e) lpdu in
+    let noted = fold (acked_after x n) (acked_in t x n) (acked_note t e m) in
+    fold_both (acked_after x n) 0 t (took_event t e lpdu)
+    ∙ (fold-took (acked_after x n) t e lpdu (acked_in t x n)
+    ∙ (ap (λ a. fold (acked_after x n) a (emits t e m)) (fold-got (acked_after x n) e (number_at t e) (λ s pid message. refl) noted (new_messages t e lpdu))
+    ∙ fold-puts (acked_after x n) e (λ s l. refl) (λ s l. refl) noted (wire_to t (other_end e)) (lpdus_of m)))
