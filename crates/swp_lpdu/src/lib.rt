@@ -3,6 +3,7 @@
 #![tactic(auto)]
 
 ghost use Rattle.std.specs.Prelude.{◌≡◌, ℕ, ◌+◌, ◌/◌, ◌<◌, ◌≤◌, ◌↔◌, Ok, Err, IsTrue, length, slice_index};
+ghost use Rattle.swp_base.specs.DataUnits.{IsLpdu};
 ghost use Rattle.swp_lpdu.specs.Controls.{control_of, HasNumbers, bytes_of, kind_number, is_unknown, need_of, is_supervisory};
 
 use arrayvec::ArrayVec;
@@ -58,6 +59,27 @@ pub fn read_lpdu(lpdu: &Lpdu) -> Result<Control, LpduFault>
             caps: bytes.get(2).copied().unwrap_or(0),
         }),
         0xE6 => Ok(Control::Ua),
+        0x60..=0x6A => read_act(bytes),
+        0x40..=0x5F => Ok(Control::Clt),
+        byte => Err(LpduFault::Unknown { byte }),
+    }
+}
+
+/// What the bytes of an LPDU say whose control byte is 60 to 6A: an activation frame, or nothing.
+fn read_act(bytes: &[u8]) -> Result<Control, LpduFault>
+    requires sized { IsLpdu bytes.now }
+    requires low { 0x60 ≤ slice_index bytes.now 0 }
+    requires high { slice_index bytes.now 0 ≤ 0x6A }
+    ensures says { result ≡ control_of bytes.now }
+    ensures unknown { (b : ℕ) → (result ≡ Err (LpduFault.Unknown b))
+        ↔ (IsTrue (is_unknown b) × (slice_index bytes.now 0 ≡ b)) }
+    ensures short { (need got : ℕ) → (result ≡ Err (LpduFault.Short need got))
+        ↔ ((need_of (slice_index bytes.now 0) ≡ need) × (length bytes.now ≡ got) × (got < need)) }
+    ensures too_long { (got : ℕ) → (result ≡ Err (LpduFault.TooLong got))
+        ↔ (IsTrue (is_supervisory (slice_index bytes.now 0)) × (length bytes.now ≡ got) × (1 < got)) }
+{
+    let got = bytes.len() as u8;
+    match bytes[0] {
         byte @ (0x60 | 0x68) => Ok(Control::Act {
             act: Act::Ready,
             again: byte == 0x68,
@@ -81,7 +103,6 @@ pub fn read_lpdu(lpdu: &Lpdu) -> Result<Control, LpduFault>
                 again: byte == 0x6A,
             })
         }
-        0x40..=0x5F => Ok(Control::Clt),
         byte => Err(LpduFault::Unknown { byte }),
     }
 }
@@ -100,7 +121,8 @@ fn kind_of(byte: u8) -> Kind
     }
 }
 
-/// The LPDU that says this. A reset has both its bytes, and a frame of contactless tunnelling is the byte 40.
+/// The LPDU that says this, for numbers below 8. A reset has both its bytes, and a frame of contactless tunnelling is
+/// the byte 40.
 pub fn write_lpdu(control: &Control) -> Lpdu
     requires { HasNumbers control.now }
     ensures bytes { result ≡ bytes_of control.now }
@@ -136,3 +158,6 @@ fn write_act(act: Act, again: bool) -> Lpdu
         Act::PowerMode(power) => Lpdu::new(&[0x62 + repeat, power]),
     }
 }
+
+#[cfg(test)]
+mod tests;
