@@ -1,1 +1,3 @@
+pub mod HexLemmas
+pub mod NumbersLemmas
 pub mod WordsLemmas

@@ -3,6 +3,7 @@
 
 mod fault;
 mod read;
+mod rules;
 mod forms;
 mod values;
 mod words;
