@@ -9,4 +9,4 @@ mod values;
 mod words;
 
 pub use fault::LineFault;
-pub use read::Read;
+pub use read::{Read, read_line};
