@@ -1,1 +1,4 @@
+pub mod HexLemmas
+pub mod NumbersLemmas
+pub mod RowsLemmas
 pub mod WordsLemmas

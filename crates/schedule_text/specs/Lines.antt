@@ -1,5 +1,5 @@
 -- A line of a schedule: what it says, or what is wrong with it.
-use Rattle.std.specs.Prelude.{ℕ, ◌==◌, nat_lt, Bool, true, false, not, if◌then◌else◌, List, [], ◌∷◌, length, slice_get, slice_index, Option, Some, None, is_some, Result, Ok, Err, codes}
+use Rattle.std.specs.Prelude.{ℕ, ◌==◌, ◌&&◌, nat_lt, nat_le, Bool, true, false, not, if◌then◌else◌, List, [], ◌∷◌, length, slice_get, slice_index, Option, Some, None, is_some, Result, Ok, Err, codes}
 use Rattle.std.specs.Option.{option_map, option_and_then, option_map_or, ok_or}
 use Rattle.trace_model.specs.declared.line.Header.{Header}
 use Rattle.trace_model.specs.declared.line.Line.{Line}
@@ -13,7 +13,7 @@ use Rattle.schedule_text.specs.declared.forms.Name.TheVariants as name
 use Rattle.schedule_text.specs.declared.forms.Place.{Place}
 use Rattle.schedule_text.specs.declared.forms.Place.TheVariants as place
 use Rattle.schedule_text.specs.Words.{words}
-use Rattle.schedule_text.specs.Values.{byte_value, bytes_value, number_value, end_value}
+use Rattle.schedule_text.specs.Values.{byte_value, bytes_value, number_value, end_value, option_if}
 use Rattle.schedule_text.specs.Forms.{Row, row_for}
 use Rattle.schedule_text.specs.Rules.{words_fault}
 
@@ -39,7 +39,7 @@ send_of ws = do
 abbrev pub deliver_of : List (List ℕ) → Option Read
 deliver_of ws = do
   at ← slice_get ws 0 >>= end_value
-  Some (read.Line (line.Deliver at (slice_get ws 1 >>= number_value)))
+  Some (read.Line (line.Deliver at (slice_get ws 1 >>= (λ word. option_if (λ n. nat_le 1 n && nat_le n 64) (number_value word)))))
 
 -- what the words behind the first say
 abbrev pub read_of : Name → List (List ℕ) → Option Read

@@ -1,7 +1,7 @@
 -- What may be wrong with the words of a line, by one rule over the kinds that its row in the table gives them.
 use Rattle.std.specs.Prelude.{ℕ, ◌+◌, ◌==◌, ◌&&◌, ◌||◌, nat_le, nat_lt, Bool, true, false, not, if◌then◌else◌, List, [], ◌∷◌, length, Option, Some, None, is_some, unwrap_or, codes}
 use Rattle.std.specs.List.{list_all, list_any}
-use Rattle.std.specs.Option.{option_map, option_and_then, option_or}
+use Rattle.std.specs.Option.{option_map, option_or}
 use Rattle.std.specs.Str.{bytes_eq}
 use Rattle.trace_model.specs.declared.line.End.{End}
 use Rattle.schedule_text.specs.declared.fault.LineFault.{LineFault}
@@ -16,29 +16,39 @@ pub record Slot : Type 0 where
   pub kind : Kind
   pub word : List ℕ
 
+-- the kinds of the further words, behind one of kind k: the last kind stays
+abbrev pub later : Kind → List Kind → List Kind
+later k [] = k ∷ []
+later k (j ∷ ks) = j ∷ ks
+
 -- each word with its kind: the last kind is that of all further words
 abbrev pub slots : List Kind → List (List ℕ) → List Slot
-slots [] ws = []
-slots (k ∷ ks) [] = []
-slots (k ∷ []) (w ∷ ws) = record { kind = k; word = w } ∷ slots (k ∷ []) ws
-slots (k ∷ j ∷ ks) (w ∷ ws) = record { kind = k; word = w } ∷ slots (j ∷ ks) ws
+slots ks [] = []
+slots [] (w ∷ ws) = []
+slots (k ∷ ks) (w ∷ ws) = record { kind = k; word = w } ∷ slots (later k ks) ws
 
 -- an end that may send: in `hci` the controller sends nothing by itself
-abbrev pub may_send : Bool → End → Bool
-may_send hci e = not hci || e.at_host
+abbrev pub is_sender : Bool → Option End → Bool
+is_sender hci None = false
+is_sender hci (Some e) = not hci || e.at_host
 
 -- the fixed words, and the form of an end
 abbrev pub has_shape : Bool → Kind → List ℕ → Bool
 has_shape hci kind.Version word = bytes_eq word (codes "1")
 has_shape hci kind.Bare word = bytes_eq word (codes "bare")
 has_shape hci kind.End word = is_some (end_value word)
-has_shape hci kind.Sender word = is_some (option_and_then (λ e. if may_send hci e then Some e else None) (end_value word))
+has_shape hci kind.Sender word = is_sender hci (end_value word)
 has_shape hci kind.NewHost word = true
 has_shape hci (kind.Byte below) word = true
 has_shape hci (kind.Bytes low high) word = true
 has_shape hci (kind.Number low high) word = true
 
--- so many bytes as hexadecimal digits
+-- a byte below a number
+abbrev pub has_byte : ℕ → Option ℕ → Bool
+has_byte below None = false
+has_byte below (Some b) = nat_lt b below
+
+-- so many bytes
 abbrev pub has_bytes : ℕ → ℕ → Option (List ℕ) → Bool
 has_bytes low high None = false
 has_bytes low high (Some bytes) = nat_le low (length bytes) && nat_le (length bytes) high
@@ -50,7 +60,7 @@ digits_fault at kind.Bare word = None
 digits_fault at kind.End word = None
 digits_fault at kind.Sender word = None
 digits_fault at kind.NewHost word = if is_some (byte_value word) then None else Some (fault.Hex at)
-digits_fault at (kind.Byte below) word = if is_some (option_if (λ b. nat_lt b below) (byte_value word)) then None else Some (fault.Hex at)
+digits_fault at (kind.Byte below) word = if has_byte below (byte_value word) then None else Some (fault.Hex at)
 digits_fault at (kind.Bytes low high) word = if has_bytes low high (bytes_value word) then None else Some (fault.Hex at)
 digits_fault at (kind.Number low high) word =
     if is_some (option_if (λ n. nat_le low n && nat_le n high) (number_value word)) then None else Some (fault.Number at)

@@ -43,6 +43,7 @@ pub(crate) enum Name {
 }
 
 /// A row of the table. The last kind is that of all further words.
+#[derive(Drop)]
 pub(crate) struct Form {
     pub name: Name,
     pub place: Place,

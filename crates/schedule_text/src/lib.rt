@@ -3,9 +3,10 @@
 
 mod fault;
 mod read;
+mod rules;
 mod forms;
 mod values;
 mod words;
 
 pub use fault::LineFault;
-pub use read::Read;
+pub use read::{Read, read_line};

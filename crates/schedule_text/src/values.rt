@@ -58,7 +58,10 @@ fn number_up_to(word: &[u8], high: u16) -> Option<u16>
             return None;
         }
         let next = u32::from(number) * 10 + u32::from(*digit - b'0');
-        number = u16::try_from(next).ok().filter(|n| *n <= high)?;
+        if next > u32::from(high) {
+            return None;
+        }
+        number = next as u16;
     }
     Some(number)
 }

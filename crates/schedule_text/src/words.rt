@@ -1,6 +1,7 @@
 //! The words of a line, which stand apart by spaces.
-ghost use Rattle.std.specs.Prelude.{◌≡◌, ℕ, ◌<◌, ◌==◌, not, [], ◌∷◌, length, take, drop, position, unwrap_or, IfSome, IfNone};
+ghost use Rattle.std.specs.Prelude.{◌≡◌, ℕ, ◌<◌, ◌==◌, not, [], ◌∷◌, length, take, drop, position, unwrap_or, slice_get, IfSome, IfNone};
 ghost use Rattle.std.specs.List.{position_or_len};
+ghost use Rattle.std.specs.Option.{option_copied};
 ghost use Rattle.schedule_text.specs.Words.{words};
 
 /// The first word of a line, and what stands behind it.
@@ -25,4 +26,16 @@ fn first_space(line: &[u8]) -> Option<usize>
     ensures { result ≡ position (λ b. b == 32) line.now }
 {
     line.iter().position(|b| *b == b' ')
+}
+
+/// Word `k` of a line, counted from 0.
+pub(crate) fn word_at(line: &[u8], k: usize) -> Option<&[u8]>
+    ensures { option_copied result ≡ slice_get (words line.now) k }
+{
+    let (word, more) = next_word(line)?;
+    if k == 0 {
+        Some(word)
+    } else {
+        word_at(more, k - 1)
+    }
 }
