@@ -68,7 +68,7 @@ pub becomes-put_all : (l : Link) (e : EndState)
 becomes-put_all l e = put_all-controller (frames_of most_frames e) l (after_frames most_frames e)
 
 -- the near end becomes e, and sends what is due
-joined_becomes : (l : Link) (e : EndState) → Joined (IsWhole l) e l.host l.to_controller l.to_host → JoinedLink (becomes l e)
+pub joined_becomes : (l : Link) (e : EndState) → Joined (IsWhole l) e l.host l.to_controller l.to_host → JoinedLink (becomes l e)
 joined_becomes l e h =
     rw (becomes-put_all l e)
       (sends_keeps (λ f m. Joined (IsWhole m) f m.host m.to_controller m.to_host)
@@ -88,7 +88,7 @@ put_all-ended (c ∷ cs) l = put_all-ended cs (put l c)
 pub becomes-ended : (l : Link) (e : EndState) → (becomes l e).ended ≡ l.ended
 becomes-ended l e = put_all-ended (frames_of most_frames e) (record l { controller = after_frames most_frames e })
 
-none_from_is_some : {X : Type 0} (o : Option X) → is_some o ≡ false → o ≡ None
+pub none_from_is_some : {X : Type 0} (o : Option X) → is_some o ≡ false → o ≡ None
 none_from_is_some None h = refl
 none_from_is_some (Some x) h = cc
 
@@ -174,7 +174,7 @@ joined_aged W V near far (x ∷ xs) to_far weak fits h = go (nat_lt x.age 4) ref
         let lossy : V → ⊥ = λ v. true≢false (rw q at (fits v)) in
         rw q (later (λ v. absurd (lossy v)) (joined_lost W V lossy near far x xs to_far h))
 
-keeps_aged : (l : Link) → Keeps l → Keeps (aged l)
+pub keeps_aged : (l : Link) → Keeps l → Keeps (aged l)
 keeps_aged l k n =
     let V : Type 0 = IsWhole (aged l) in
     let a : Bool = loses_aged l.to_controller in

@@ -23,10 +23,10 @@ abbrev pub Sends : Session → List Fragment → List Control → List Control �
 Sends s acc there back = Flows s.out s.window s.acked s.next s.reached acc there back
 
 -- an end that has become ready or not ready, and the control frames that wait then
-abbrev changed : EndState → Bool → List Due → EndState
+abbrev pub changed : EndState → Bool → List Due → EndState
 changed e r ds = record e { ready = r; due = ds; session = record e.session { answered_rnr = false } }
 
-ready_cases : (P : EndState → Type 0) (e : EndState) (r : Bool) → P e → P (changed e r e.due) → P (changed e r (e.due ++ Rr_due ∷ [])) → P (with_ready e r)
+pub ready_cases : (P : EndState → Type 0) (e : EndState) (r : Bool) → P e → P (changed e r e.due) → P (changed e r (e.due ++ Rr_due ∷ [])) → P (with_ready e r)
 ready_cases P e r same other answered = go e.ready r e.session.answered_rnr same other answered
   where
     at : Bool → Bool → EndState
@@ -38,7 +38,7 @@ ready_cases P e r same other answered = go e.ready r e.session.answered_rnr same
     go false true true a b c = c
     go false true false a b c = b
 
-tick_cases : (P : EndState → Type 0) (e : EndState) → e.phase ≡ Up → (tick_answer e).ended ≡ None → P e → P (record e { timer = e.timer + 1 }) → P (sent_again e) → P (ticked e)
+pub tick_cases : (P : EndState → Type 0) (e : EndState) → e.phase ≡ Up → (tick_answer e).ended ≡ None → P e → P (record e { timer = e.timer + 1 }) → P (sent_again e) → P (ticked e)
 tick_cases P e up answer same counted again = go (runs_timer e.session) (nat_lt (e.timer + 1) 10) (nat_lt e.tries 5) refl refl refl answer
   where
     go : (a b c : Bool) → runs_timer e.session ≡ a → nat_lt (e.timer + 1) 10 ≡ b → nat_lt e.tries 5 ≡ c → (tick_answer e).ended ≡ None → P (ticked e)
@@ -48,7 +48,7 @@ tick_cases P e up answer same counted again = go (runs_timer e.session) (nat_lt 
     go true false false p q r n = absurd (let m = rw (up, p, q, r) at n in cc)
 
 -- what an end does with a fragment, by cases
-received_cases : (P : EndState → Type 0) (e : EndState) (ns : ℕ) (info : Fragment)
+pub received_cases : (P : EndState → Type 0) (e : EndState) (ns : ℕ) (info : Fragment)
     → (ahead e.session ns ≡ 0 → P (accepted e info))
     → ((ahead e.session ns ≡ 0 → ⊥) → ahead e.session ns < 4 → P e)
     → ((ahead e.session ns ≡ 0 → ⊥) → ahead e.session ns < 4 → P (record e { due = e.due ++ Rej_due ∷ []; session = record e.session { gap_open = true } }))
@@ -92,11 +92,11 @@ no_stop Rej n ms (inr e) h = cc
 no_stop Rnr n ms e h = h
 no_stop Srej n ms e h = h
 
-taken_I : (P : EndState → Type 0) (e : EndState) (ns nr x : ℕ) (info : Fragment) → e.phase ≡ Up → place_of e.session nr ≡ Some x
+pub taken_I : (P : EndState → Type 0) (e : EndState) (ns nr x : ℕ) (info : Fragment) → e.phase ≡ Up → place_of e.session nr ≡ Some x
     → P (received (acknowledged e x) ns info) → P (taken e (I ns nr info))
 taken_I P e ns nr x info up at h = rw (up, at) (rw up at h)
 
-taken_S : (P : EndState → Type 0) (e : EndState) (kind : Kind) (nr x : ℕ) → e.phase ≡ Up → place_of e.session nr ≡ Some x
+pub taken_S : (P : EndState → Type 0) (e : EndState) (kind : Kind) (nr x : ℕ) → e.phase ≡ Up → place_of e.session nr ≡ Some x
     → (kind ≡ Rr → P (ready_again e x)) → (kind ≡ Rej → P (rejected e x)) → (kind ≡ Rnr → P (made_busy e x)) → (kind ≡ Srej → P e)
     → P (taken e (S kind nr))
 taken_S P e Rr nr x up at a b c d = rw (up, at) (rw up at (a refl))

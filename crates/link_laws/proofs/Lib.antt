@@ -5,3 +5,4 @@ pub mod Whole
 pub mod Joined
 pub mod InOrder
 pub mod Idle
+pub mod Delivered
