@@ -1,7 +1,8 @@
 -- The frames on a wire with the places and lengths that their numbers stand for: marks.
-use Rattle.std.proofs.Common.{◌≡◌, ℕ, ◌+◌, ◌%◌, ◌<◌, ◌≤◌, suc, zero, List, [], ◌∷◌, ◌++◌, Option, Some, None, refl, arith, length}
+use Rattle.std.proofs.Common.{◌≡◌, ℕ, ◌+◌, ◌%◌, ◌<◌, ◌≤◌, suc, zero, List, [], ◌∷◌, ◌++◌, Option, Some, None, refl, arith, length, max}
 use Rattle.std.specs.Prelude.{slice_get}
 use Rattle.swp_base.specs.declared.control_frames.Kind.{Kind}
+use Rattle.swp_base.specs.declared.control_frames.Kind.TheVariants.{Rr, Rej, Rnr, Srej}
 use Rattle.swp_base.specs.declared.control_frames.Control.{Control}
 use Rattle.swp_base.specs.declared.control_frames.Control.TheVariants.{I, S, Rset, Ua, Act, Clt}
 use Rattle.shdlc_core.specs.Machine.{Fragment}
@@ -149,3 +150,55 @@ shows_older [] [] h = tt
 shows_older [] (_ ∷ _) h = absurd h
 shows_older (x ∷ xs) [] h = absurd h
 shows_older (x ∷ xs) (_ ∷ ms) h = (h.0, shows_older xs ms h.1)
+
+-- ## A wire that loses nothing
+
+-- once all marks are taken, the length accepted is m: no place is ahead of what was accepted when it comes
+abbrev pub Caught : ℕ → ℕ → List Control → Type 0
+Caught r m [] = r ≡ m
+Caught r m (I p n info ∷ ms) = (p ≤ r) × Caught (max r (p + 1)) m ms
+Caught r m (_ ∷ ms) = Caught r m ms
+
+-- the last number accepted that is on its way, or a where there is none
+abbrev pub last_count : ℕ → List Control → ℕ
+last_count a [] = a
+last_count a (I p n info ∷ ms) = last_count n ms
+last_count a (S k n ∷ ms) = last_count n ms
+last_count a (_ ∷ ms) = last_count a ms
+
+-- RR and REJ are the only control frames
+abbrev pub AcksOnly : List Control → Type 0
+AcksOnly [] = Unit {0}
+AcksOnly (I p n info ∷ ms) = AcksOnly ms
+AcksOnly (S Rr n ∷ ms) = AcksOnly ms
+AcksOnly (S Rej n ∷ ms) = AcksOnly ms
+AcksOnly (_ ∷ ms) = ⊥
+
+pub caught_push : (r m p n : ℕ) (info : Fragment) (ms : List Control) → p ≤ m → Caught r m ms → Caught r (max m (p + 1)) (ms ++ I p n info ∷ [])
+caught_push r m p n info [] i h = (omega arith, omega arith)
+caught_push r m p n info (I q _ _ ∷ ms) i h = (h.0, caught_push (max r (q + 1)) m p n info ms i h.1)
+caught_push r m p n info (_ ∷ ms) i h = caught_push r m p n info ms i h
+
+pub caught_push_S : (r m n : ℕ) (k : Kind) (ms : List Control) → Caught r m ms → Caught r m (ms ++ S k n ∷ [])
+caught_push_S r m n k [] h = h
+caught_push_S r m n k (I q _ _ ∷ ms) h = (h.0, caught_push_S (max r (q + 1)) m n k ms h.1)
+caught_push_S r m n k (_ ∷ ms) h = caught_push_S r m n k ms h
+
+pub last_count_push_I : (a p n : ℕ) (info : Fragment) (ms : List Control) → last_count a (ms ++ I p n info ∷ []) ≡ n
+last_count_push_I a p n info [] = refl
+last_count_push_I a p n info (I _ k _ ∷ ms) = last_count_push_I k p n info ms
+last_count_push_I a p n info (S _ k ∷ ms) = last_count_push_I k p n info ms
+last_count_push_I a p n info (_ ∷ ms) = last_count_push_I a p n info ms
+
+pub last_count_push_S : (a n : ℕ) (k : Kind) (ms : List Control) → last_count a (ms ++ S k n ∷ []) ≡ n
+last_count_push_S a n k [] = refl
+last_count_push_S a n k (I _ j _ ∷ ms) = last_count_push_S j n k ms
+last_count_push_S a n k (S _ j ∷ ms) = last_count_push_S j n k ms
+last_count_push_S a n k (_ ∷ ms) = last_count_push_S a n k ms
+
+pub acks_push : (ms : List Control) (c : Control) → AcksOnly (c ∷ []) → AcksOnly ms → AcksOnly (ms ++ c ∷ [])
+acks_push [] c e h = e
+acks_push (I _ _ _ ∷ ms) c e h = acks_push ms c e h
+acks_push (S Rr _ ∷ ms) c e h = acks_push ms c e h
+acks_push (S Rej _ ∷ ms) c e h = acks_push ms c e h
+acks_push (_ ∷ ms) c e h = absurd h
