@@ -1,0 +1,14 @@
+-- What the two sessions of a link have to do with each other.
+use Rattle.std.specs.Prelude.{ℕ, ◌≤◌, ◌≡◌, List, length}
+use mathlib.Core.List.{IsPrefix}
+use Rattle.shdlc_core.specs.Machine.{Session}
+
+-- what was accepted of a sender is a front of what it was given for sending, and it counts as acknowledged no more than that
+pub record InOrder (sender receiver : Session) : Type 0 where
+  pub front : IsPrefix receiver.acc sender.out
+  pub acked : sender.acked ≤ length receiver.acc
+
+-- all that a sender was given is accepted and acknowledged
+pub record AllDelivered (sender receiver : Session) : Type 0 where
+  pub accepted : receiver.acc ≡ sender.out
+  pub acked : sender.acked ≡ length sender.out

@@ -1,0 +1,54 @@
+//! What one end of a link answers, and the words for its state.
+use swp_base::{Cause, Info};
+
+/// The state of one end of a link.
+#[derive(Clone, Copy, Debug, PartialEq, Eq)]
+pub enum LinkState {
+    /// No session, and none is asked for.
+    Down,
+    /// A reset was sent, and its acceptance hasn't come.
+    Waiting,
+    /// A session runs.
+    Up,
+}
+
+/// Why a fragment wasn't taken for sending. Nothing changed.
+#[derive(Clone, Copy, Debug, PartialEq, Eq)]
+pub enum OfferRefused {
+    /// The end isn't Up.
+    NotUp,
+    /// As many fragments as an end keeps aren't acknowledged yet: `len`, which is 4.
+    QueueFull { len: u8 },
+}
+
+/// What a frame from the other end did.
+#[derive(Debug, Drop, PartialEq, Eq)]
+pub struct Taken {
+    /// Why the session ended, where it did.
+    pub ended: Option<Cause>,
+    /// A session began.
+    pub began: bool,
+    /// How many fragments the frame newly acknowledged.
+    pub acked: u8,
+    /// The fragment that the frame brought, where it was the one expected and the end is ready.
+    pub accepted: Option<Info>,
+}
+
+/// What a tick did.
+#[derive(Clone, Copy, Debug, PartialEq, Eq)]
+pub struct Ticked {
+    /// Why the session ended, where it did.
+    pub ended: Option<Cause>,
+    /// How many resets were sent in vain, where the end gave up.
+    pub gave_up: Option<u8>,
+}
+
+/// A control frame that was made and not yet fetched. Its numbers are filled in when it is fetched.
+#[derive(Clone, Copy, Debug, PartialEq, Eq)]
+pub enum Due {
+    Rr,
+    Rej,
+    Rnr,
+    Rset,
+    Ua,
+}

@@ -1,0 +1,94 @@
+//! The outside world as traits. Each object has a count of faults that never falls, and a call answers `Failed` only
+//! where the count rose in that call: it is then greater than before, or stands at the last value of a `u64`. An object
+//! may also tell what it holds; its calls then say what they do to that.
+ghost use Rattle.std.specs.Prelude.{◌≡◌, ℕ, ◌+◌, ◌<◌, ◌≤◌, Bool, List, [], ◌++◌, length, take, IsTrue, IfOk, OnOk, OnErr, slice_range};
+ghost use Rattle.swp_base.specs.Outside.{Rose, overwritten, IsTorn};
+
+use std::alloc::AllocError;
+
+/// A call to the outside world failed, and the count of faults of its object rose.
+#[derive(Clone, Copy, Debug, PartialEq, Eq)]
+pub struct Failed;
+
+/// There was no memory for what was asked.
+#[derive(Clone, Copy, Debug, PartialEq, Eq)]
+pub struct NoMemory;
+
+impl From<AllocError> for NoMemory {
+    fn from(_: AllocError) -> Self {
+        NoMemory
+    }
+}
+
+/// Bytes that come from outside.
+pub trait Source {
+    ghost faults: { Self → ℕ };
+
+    ghost tells: { Bool };
+
+    ghost left: { Self → List ℕ };
+
+    /// Reads some of the bytes that are left into the front of the buffer, and gives their number. It is 0 only at the
+    /// end, where nothing is left. A call that fails reads nothing.
+    fn read(&mut self, buf: &mut [u8]) -> Result<usize, Failed>
+        requires { 0 < length buf.old }
+        ensures count { faults self.old ≤ faults self.new }
+        ensures fault { OnErr result (Rose (faults self.old) (faults self.new)) }
+        ensures bound { IfOk result (λ n. n ≤ length buf.new) }
+        ensures read { IsTrue tells → IfOk result (λ n. left self.old ≡ take n buf.new ++ left self.new) }
+        ensures end { IsTrue tells → IfOk result (λ n. n ≡ 0 → left self.old ≡ []) }
+        ensures kept { IsTrue tells → OnErr result (left self.new ≡ left self.old) };
+}
+
+/// Bytes that go outside.
+pub trait Sink {
+    ghost faults: { Self → ℕ };
+
+    ghost tells: { Bool };
+
+    ghost written: { Self → List ℕ };
+
+    /// Writes some bytes from the front of the piece, at least one, and gives their number. A call that fails writes
+    /// nothing.
+    fn write(&mut self, bytes: &[u8]) -> Result<usize, Failed>
+        requires { 0 < length bytes.now }
+        ensures count { faults self.old ≤ faults self.new }
+        ensures fault { OnErr result (Rose (faults self.old) (faults self.new)) }
+        ensures bound { IfOk result (λ n. (0 < n) × (n ≤ length bytes.now)) }
+        ensures wrote { IsTrue tells → IfOk result (λ n. written self.new ≡ written self.old ++ take n bytes.now) }
+        ensures kept { IsTrue tells → OnErr result (written self.new ≡ written self.old) };
+}
+
+/// A memory that keeps its bytes while the power is off.
+pub trait Nv {
+    ghost faults: { Self → ℕ };
+
+    ghost capacity: { Self → ℕ };
+
+    ghost tells: { Bool };
+
+    ghost content: { Self → List ℕ };
+
+    /// How many bytes it has.
+    fn size(&self) -> u32
+        ensures size { result ≡ capacity self.now }
+        ensures told { IsTrue tells → length (content self.now) ≡ result };
+
+    /// Fills the buffer with the bytes from place `at` on. It changes nothing.
+    fn read(&mut self, at: u32, buf: &mut [u8]) -> Result<(), Failed>
+        requires { at + length buf.old ≤ capacity self.old }
+        ensures count { faults self.old ≤ faults self.new }
+        ensures fault { OnErr result (Rose (faults self.old) (faults self.new)) }
+        ensures size { capacity self.new ≡ capacity self.old }
+        ensures read { IsTrue tells → OnOk result (buf.new ≡ slice_range (content self.old) at (at + length buf.old)) }
+        ensures kept { IsTrue tells → content self.new ≡ content self.old };
+
+    /// Puts the bytes there from place `at` on. A call that fails leaves any bytes in that range, and no others change.
+    fn write(&mut self, at: u32, bytes: &[u8]) -> Result<(), Failed>
+        requires { at + length bytes.now ≤ capacity self.old }
+        ensures count { faults self.old ≤ faults self.new }
+        ensures fault { OnErr result (Rose (faults self.old) (faults self.new)) }
+        ensures size { capacity self.new ≡ capacity self.old }
+        ensures wrote { IsTrue tells → OnOk result (content self.new ≡ overwritten (content self.old) at bytes.now) }
+        ensures torn { IsTrue tells → OnErr result (IsTorn (content self.old) (content self.new) at (length bytes.now)) };
+}
