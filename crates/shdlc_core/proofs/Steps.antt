@@ -2,9 +2,12 @@
 use Rattle.std.proofs.Common.{ℕ, ◌≡◌, ◌-◌, Option, Some, None, false}
 use Rattle.swp_base.specs.declared.control_frames.Control.TheVariants.{I, S}
 use Rattle.swp_base.specs.declared.control_frames.Kind.TheVariants.{Rr, Rej, Rnr}
-use Rattle.shdlc_core.specs.declared.answers.LinkState.TheVariants.{Up}
+use denote.Enum.Bare.{sameb}
+use Rattle.shdlc_core.specs.contracts.answers.LinkState.{the_type}
+use Rattle.shdlc_core.specs.declared.answers.LinkState.{LinkState}
+use Rattle.shdlc_core.specs.declared.answers.LinkState.TheVariants.{Down, Waiting, Up}
 use Rattle.shdlc_core.specs.declared.answers.Taken.{Taken}
-use Rattle.shdlc_core.specs.Machine.{EndState, Fragment, place_of, taken, take_answer, received, acknowledged, ready_again, rejected, made_busy, nothing_taken, fragment_accepted}
+use Rattle.shdlc_core.specs.Machine.{is_waiting, reset_with, waiting_from, EndState, Fragment, place_of, taken, take_answer, received, acknowledged, ready_again, rejected, made_busy, nothing_taken, fragment_accepted}
 
 pub taken-fragment : (e : EndState) (ns nr : ℕ) (info : Fragment) (x : ℕ) → e.phase ≡ Up → place_of e.session nr ≡ Some x →
     taken e (I ns nr info) ≡ received (acknowledged e x) ns info
@@ -28,3 +31,13 @@ pub answer-acked : (t : Taken) (count more : ℕ) (found info : Option Fragment)
     t ≡ record { ended = None; began = false; acked = 0; accepted = None } → count ≡ more → found ≡ info →
     record t { acked = count; accepted = found } ≡ record nothing_taken { acked = more; accepted = info }
 answer-acked t count more found info p q r = rw (p, q, r)
+
+is_waiting-other : (e : EndState) (p : LinkState) → p ≡ e.phase → sameb the_type p Waiting ≡ false → is_waiting e ≡ false
+is_waiting-other e Down q h = rw (← q)
+is_waiting-other e Up q h = rw (← q)
+is_waiting-other e Waiting q h = cc
+
+-- a reset in another state than Waiting
+pub reset_with-other : (e : EndState) (p : LinkState) (w : ℕ) → p ≡ e.phase → sameb the_type p Waiting ≡ false →
+    reset_with e w ≡ waiting_from (record e { own_window = w })
+reset_with-other e p w q h = let other = is_waiting-other e p q h in rw other

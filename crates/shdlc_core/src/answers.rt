@@ -1,6 +1,6 @@
 //! What one end of a link answers, and the words for its state.
 ghost use Rattle.std.specs.Prelude.{◌≡◌};
-ghost use Rattle.shdlc_core.specs.Machine.{nothing_taken};
+ghost use Rattle.shdlc_core.specs.Machine.{nothing_taken, nothing_ticked};
 
 use swp_base::{Cause, Info};
 
@@ -58,6 +58,18 @@ pub struct Ticked {
     pub ended: Option<Cause>,
     /// How many resets were sent in vain, where the end gave up.
     pub gave_up: Option<u8>,
+}
+
+impl Ticked {
+    // Nothing of this happened.
+    pub(crate) fn nothing() -> Self
+        ensures { result ≡ nothing_ticked }
+    {
+        Self {
+            ended: None,
+            gave_up: None,
+        }
+    }
 }
 
 /// A control frame that was made and not yet fetched. Its numbers are filled in when it is fetched.

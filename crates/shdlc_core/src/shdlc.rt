@@ -1,9 +1,10 @@
 //! One end of a link.
 ghost use Rattle.std.specs.Prelude.{◌≡◌, ◌≢◌, ◌+◌, ◌<◌, ◌≤◌, ◌↔◌, [], length, IsTrue, OnSome, option_map, min, ℕ, ◌++◌, ◌∷◌, OnOk, OnErr, IfNone, IfSome, MatchResult, false, true, not, if◌then◌else◌};
+ghost use Rattle.std.specs.Bool.{OnFalse};
 ghost use Rattle.shdlc_core.specs.Kept.{StandsFor, ReceivesFor, frames_left};
-ghost use Rattle.shdlc_core.specs.Machine.{EndState, new_end, begun, up_with, offered, offer_refusal, control_due, frame_due, fetched, acknowledged, ready_again, rejected, made_busy, received, fragment_accepted, with_timer, place_of, gap_found, due_left, taken, take_answer};
+ghost use Rattle.shdlc_core.specs.Machine.{EndState, new_end, begun, up_with, offered, offer_refusal, control_due, frame_due, fetched, acknowledged, ready_again, rejected, made_busy, received, fragment_accepted, with_timer, place_of, gap_found, due_left, taken, take_answer, ticked, tick_answer, sent_again, asked_again, waiting_from, no_session, reset_with, stopped, with_ready};
 
-use crate::answers::{Due, LinkState, OfferRefused, Taken};
+use crate::answers::{Due, LinkState, OfferRefused, Taken, Ticked};
 use crate::receiver::Receiver;
 use crate::sender::Sender;
 use arrayvec::ArrayVec;
@@ -48,6 +49,11 @@ impl Model for Shdlc {
 impl Shdlc {
     /// The most fragments that are offered and not acknowledged.
     pub const QUEUE_LEN: u8 = 4;
+
+    // The ticks of T2 and those between two RSETs, and how often each is tried.
+    const TICKS: u8 = 10;
+
+    const TRIES: u8 = 5;
 
     /// An end that is Down and ready, and asks for this window, which is 1 to 4.
     pub fn new(window: u8) -> Self
@@ -408,5 +414,157 @@ impl Shdlc {
             began: true,
             ..Taken::nothing()
         }
+    }
+
+    /// One tick of time. At most seven control frames wait to be fetched before.
+    pub fn tick(&mut self) -> Ticked
+        requires { length self.old.due < 8 }
+        ensures stands { (e : EndState) → StandsFor self.old e → StandsFor self.new (ticked e) }
+        ensures answer { (e : EndState) → StandsFor self.old e → result ≡ tick_answer e }
+    {
+        match self.phase {
+            LinkState::Down => Ticked::nothing(),
+            LinkState::Waiting => self.tick_waiting(),
+            LinkState::Up => self.tick_up(),
+        }
+    }
+
+    // One tick in Up: what isn't acknowledged is sent again where T2 is over, five times.
+    fn tick_up(&mut self) -> Ticked
+        requires up { self.old.phase ≡ LinkState.Up }
+        requires room { length self.old.due < 8 }
+        ensures stands { (e : EndState) → StandsFor self.old e → StandsFor self.new (ticked e) }
+        ensures answer { (e : EndState) → StandsFor self.old e → result ≡ tick_answer e }
+    {
+        if !self.sender.runs_timer() {
+            return Ticked::nothing();
+        }
+        if self.timer + 1 < Self::TICKS {
+            self.timer += 1;
+            return Ticked::nothing();
+        }
+        if self.tries < Self::TRIES {
+            self.repeat_fragments();
+            return Ticked::nothing();
+        }
+        self.wait();
+        Ticked {
+            ended: Some(Cause::NoAnswer),
+            gave_up: None,
+        }
+    }
+
+    // One tick in Waiting: RSET is sent again after each ten ticks, five times in all.
+    fn tick_waiting(&mut self) -> Ticked
+        requires waits { self.old.phase ≡ LinkState.Waiting }
+        requires room { length self.old.due < 8 }
+        ensures stands { (e : EndState) → StandsFor self.old e → StandsFor self.new (ticked e) }
+        ensures answer { (e : EndState) → StandsFor self.old e → result ≡ tick_answer e }
+    {
+        if self.timer + 1 < Self::TICKS {
+            self.timer += 1;
+            return Ticked::nothing();
+        }
+        if self.tries < Self::TRIES {
+            self.repeat_reset();
+            return Ticked::nothing();
+        }
+        let gave_up = Some(self.tries);
+        self.phase = LinkState::Down;
+        self.timer = 0;
+        self.tries = 0;
+        Ticked {
+            ended: None,
+            gave_up,
+        }
+    }
+
+    // All unacknowledged fragments are to be sent again, and where the other end is busy the first of them alone.
+    fn repeat_fragments(&mut self)
+        requires { self.old.tries < 5 }
+        ensures { (e : EndState) → StandsFor self.old e → StandsFor self.new (sent_again e) }
+    {
+        let busy = self.sender.peer_is_busy();
+        self.sender.start_over(busy, busy);
+        self.timer = 0;
+        self.tries += 1;
+    }
+
+    // RSET is sent again.
+    fn repeat_reset(&mut self)
+        requires tried { self.old.tries < 5 }
+        requires room { length self.old.due < 8 }
+        ensures { (e : EndState) → StandsFor self.old e → StandsFor self.new (asked_again e) }
+    {
+        self.due.push(Due::Rset);
+        self.timer = 0;
+        self.tries += 1;
+    }
+
+    // A session ends here, where there is one, RSET is sent for the first time, and the end waits.
+    fn wait(&mut self)
+        requires { length self.old.due < 8 }
+        ensures { (e : EndState) → StandsFor self.old e → StandsFor self.new (waiting_from e) }
+    {
+        self.drop_frames();
+        self.make(Due::Rset);
+        self.enter(LinkState::Waiting);
+        self.tries = 1;
+        self.peer_window = 4;
+    }
+
+    // The end is Down or Waiting: nothing of a session is kept.
+    fn enter(&mut self, phase: LinkState)
+        ensures { (e : EndState) → StandsFor self.old e → StandsFor self.new (
+            record e { phase = phase; timer = 0; tries = 0; session = no_session }) }
+    {
+        self.phase = phase;
+        self.timer = 0;
+        self.tries = 0;
+        self.sender = Sender::new(0);
+        self.receiver = Receiver::new();
+    }
+
+    /// A reset of the link is asked for, with this window from now on, which is 1 to 4: a session ends, where there is one,
+    /// RSET is sent, and the end waits for UA. False where the end waits already; nothing changes then. At most seven control
+    /// frames wait to be fetched before.
+    pub fn reset(&mut self, window: u8) -> bool
+        requires low { 1 ≤ window }
+        requires high { window ≤ 4 }
+        requires room { length self.old.due < 8 }
+        ensures stands { (e : EndState) → StandsFor self.old e → StandsFor self.new (reset_with e window) }
+        ensures answer { IsTrue result ↔ (self.old.phase ≢ LinkState.Waiting) }
+        ensures refused { OnFalse result (self.new ≡ self.old) }
+    {
+        if self.phase == LinkState::Waiting {
+            return false;
+        }
+        self.own_window = window;
+        self.wait();
+        true
+    }
+
+    /// The end is Down, and nothing of a session is kept. Its own window and its readiness stay.
+    pub fn stop(&mut self)
+        ensures { (e : EndState) → StandsFor self.old e → StandsFor self.new (stopped e) }
+    {
+        self.due.clear();
+        self.enter(LinkState::Down);
+    }
+
+    /// The end takes fragments from now on, or takes none. An end that becomes ready and has answered RNR in this session
+    /// since it became not ready sends RR. At most seven control frames wait to be fetched before.
+    pub fn set_ready(&mut self, ready: bool)
+        requires { length self.old.due < 8 }
+        ensures { (e : EndState) → StandsFor self.old e → StandsFor self.new (with_ready e ready) }
+    {
+        if self.ready == ready {
+            return;
+        }
+        if ready && self.receiver.has_answered_rnr() {
+            self.due.push(Due::Rr);
+        }
+        self.ready = ready;
+        self.receiver.set_answered_rnr(false);
     }
 }
