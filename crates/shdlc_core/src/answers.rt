@@ -1,4 +1,7 @@
 //! What one end of a link answers, and the words for its state.
+ghost use Rattle.std.specs.Prelude.{◌≡◌};
+ghost use Rattle.shdlc_core.specs.Machine.{nothing_taken, nothing_ticked};
+
 use swp_base::{Cause, Info};
 
 /// The state of one end of a link.
@@ -34,6 +37,20 @@ pub struct Taken {
     pub accepted: Option<Info>,
 }
 
+impl Taken {
+    // Nothing of this happened.
+    pub(crate) fn nothing() -> Self
+        ensures { result ≡ nothing_taken }
+    {
+        Self {
+            ended: None,
+            began: false,
+            acked: 0,
+            accepted: None,
+        }
+    }
+}
+
 /// What a tick did.
 #[derive(Clone, Copy, Debug, PartialEq, Eq)]
 pub struct Ticked {
@@ -43,9 +60,22 @@ pub struct Ticked {
     pub gave_up: Option<u8>,
 }
 
+impl Ticked {
+    // Nothing of this happened.
+    pub(crate) fn nothing() -> Self
+        ensures { result ≡ nothing_ticked }
+    {
+        Self {
+            ended: None,
+            gave_up: None,
+        }
+    }
+}
+
 /// A control frame that was made and not yet fetched. Its numbers are filled in when it is fetched.
-#[derive(Clone, Copy, Debug, PartialEq, Eq)]
+#[derive(Clone, Copy, Debug, Default, PartialEq, Eq)]
 pub enum Due {
+    #[default]
     Rr,
     Rej,
     Rnr,

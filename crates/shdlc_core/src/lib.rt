@@ -3,5 +3,9 @@
 #![tactic(auto)]
 
 mod answers;
+mod receiver;
+mod sender;
+mod shdlc;
 
 pub use answers::{LinkState, OfferRefused, Taken, Ticked};
+pub use shdlc::Shdlc;

@@ -1,0 +1,18 @@
+use Rattle.std.proofs.Common.{refl, subst, sym}
+use Rattle.shdlc_core.specs.Kept.{StandsFor}
+use Rattle.shdlc_core.proofs.shdlc.Shdlc.start.Goals as goal
+
+pub returns-clause-stands : goal.returns-clause-stands
+returns-clause-stands c = λ e h.
+    let stood = subst (λ k. StandsFor k e) (sym c.self.view_is) h in
+    record {
+      phase = refl;
+      own_window = stood.own_window;
+      ready = stood.ready;
+      due = stood.due;
+      timer = refl;
+      tries = refl;
+      peer_window = stood.peer_window;
+      sender = c.new-self-inside.ensures;
+      receiver = c.new-self-inside-2.ensures c.args.window;
+    }

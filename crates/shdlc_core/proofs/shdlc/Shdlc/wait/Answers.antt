@@ -1,0 +1,20 @@
+use Rattle.std.proofs.Common.{refl, subst, sym}
+use Rattle.shdlc_core.specs.Kept.{StandsFor}
+use Rattle.shdlc_core.specs.Machine.{waiting_from}
+use Rattle.shdlc_core.proofs.shdlc.Shdlc.wait.Goals as goal
+
+pub returns : goal.returns
+returns c = λ e h.
+    let entered = c.enter.ensures _ (c.make.ensures _ (c.drop_frames.ensures.stands e h)) in
+    let waits = subst (λ k. StandsFor k (record (waiting_from e) { tries = 0; peer_window = e.peer_window })) (sym c.self.view_is) entered in
+    record {
+      phase = waits.phase;
+      own_window = waits.own_window;
+      ready = waits.ready;
+      due = waits.due;
+      timer = waits.timer;
+      tries = refl;
+      peer_window = refl;
+      sender = waits.sender;
+      receiver = waits.receiver;
+    }
