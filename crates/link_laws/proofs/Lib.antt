@@ -7,3 +7,4 @@ pub mod InOrder
 pub mod Idle
 pub mod Delivered
 pub mod Wires
+mod Examples

@@ -1,14 +1,14 @@
 -- The frames on each wire are the last of those that its end made.
-use Rattle.std.proofs.Common.{◌≡◌, ℕ, ◌+◌, ◌<◌, Bool, true, false, cond, ◌||◌, List, [], ◌∷◌, ◌++◌, map, drop, Option, Some, None, refl, ap, sym, ◌∙◌, append_assoc}
+use Rattle.std.proofs.Common.{◌≡◌, Bool, true, false, cond, ◌||◌, List, [], ◌∷◌, ◌++◌, map, drop, refl, ap, sym, ◌∙◌, append_assoc}
 use Rattle.std.specs.Prelude.{nat_lt, is_some}
 use Rattle.std.proofs.lemmas.List.{map-append}
 use mathlib.Core.List.{IsSuffix}
 use Rattle.swp_base.specs.declared.control_frames.Control.{Control}
-use Rattle.shdlc_core.specs.Machine.{EndState, Fragment, taken, take_answer, ticked, tick_answer, with_ready, put_out, all_frames, all_fetched}
+use Rattle.shdlc_core.specs.Machine.{EndState, taken, take_answer, ticked, tick_answer, with_ready, put_out, all_frames, all_fetched}
 use Rattle.link_laws.specs.Link.{Link, Carried, start, exchanged, is_full, with_frame, put, put_all, becomes, EndEvent, happens_here, ticks_here, older, aged_wire, aged, LinkEvent, happens, after}
 use Rattle.link_laws.specs.Link.EndEvent.{Offer, Deliver, Lose, Busy, Ready}
 use Rattle.link_laws.specs.Link.LinkEvent.{AtController, AtHost, Tick}
-use Rattle.link_laws.proofs.InOrder.{offer_cases, deliver_cases, lose_cases, took}
+use Rattle.link_laws.proofs.InOrder.{offer_cases, deliver_cases, lose_cases}
 
 abbrev pub frames : List Carried → List Control
 frames wire = map (λ x. x.frame) wire
@@ -31,8 +31,8 @@ suffix_full true (x ∷ xs) made h = suffix_rest x.frame (frames xs) made h
 order_put : (l : Link) (c : Control) → InTheirOrder l → InTheirOrder (put l c)
 order_put l c h =
     let pushed : IsSuffix (frames (with_frame l.to_host c)) (l.made_at_controller ++ c ∷ []) =
-        rw (map-append (λ (x : Carried). x.frame) l.to_host (record { frame = c; age = 0 } ∷ []))
-          (suffix_push (frames l.to_host) l.made_at_controller c h.to_host) in
+    rw (map-append (λ (x : Carried). x.frame) l.to_host (record { frame = c; age = 0 } ∷ []))
+    (suffix_push (frames l.to_host) l.made_at_controller c h.to_host) in
     record {
       to_host = suffix_full (is_full (with_frame l.to_host c)) (with_frame l.to_host c) (l.made_at_controller ++ c ∷ []) pushed;
       to_controller = h.to_controller;
@@ -50,12 +50,12 @@ order_here : (l : Link) (e : EndEvent) → InTheirOrder l → InTheirOrder (happ
 order_here l (Offer fragments) h = offer_cases InTheirOrder l fragments h (λ up. order_becomes l (put_out l.controller fragments) h)
 order_here l Deliver h =
     deliver_cases InTheirOrder l h (λ x xs q.
-      let m : Link = record l { to_controller = xs; ended = l.ended || is_some (take_answer l.controller x.frame).ended } in
-      order_becomes m (taken l.controller x.frame)
-        (record { to_host = h.to_host; to_controller = suffix_rest x.frame (frames xs) l.made_at_host (rw q at h.to_controller) }))
+    let m : Link = record l { to_controller = xs; ended = l.ended || is_some (take_answer l.controller x.frame).ended } in
+    order_becomes m (taken l.controller x.frame)
+    (record { to_host = h.to_host; to_controller = suffix_rest x.frame (frames xs) l.made_at_host (rw q at h.to_controller) }))
 order_here l Lose h =
     lose_cases InTheirOrder l h (λ x xs q.
-      record { to_host = h.to_host; to_controller = suffix_rest x.frame (frames xs) l.made_at_host (rw q at h.to_controller) })
+    record { to_host = h.to_host; to_controller = suffix_rest x.frame (frames xs) l.made_at_host (rw q at h.to_controller) })
 order_here l Busy h = order_becomes l (with_ready l.controller false) h
 order_here l Ready h = order_becomes l (with_ready l.controller true) h
 
@@ -65,7 +65,7 @@ order_exchanged l h = record { to_host = h.to_controller; to_controller = h.to_h
 order_tick_here : (l : Link) → InTheirOrder l → InTheirOrder (ticks_here l)
 order_tick_here l h =
     order_becomes (record l { ended = l.ended || is_some (tick_answer l.controller).ended }) (ticked l.controller)
-      (record { to_host = h.to_host; to_controller = h.to_controller })
+    (record { to_host = h.to_host; to_controller = h.to_controller })
 
 frames-older : (wire : List Carried) → frames (older wire) ≡ frames wire
 frames-older [] = refl
