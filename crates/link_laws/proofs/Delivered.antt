@@ -1,18 +1,18 @@
 -- Where both wires are empty, and nothing was lost and no RNR made, all is accepted and acknowledged.
-use Rattle.std.proofs.Common.{◌≡◌, ℕ, zero, suc, ◌+◌, ◌<◌, ◌≤◌, Bool, false, true, not, ◌||◌, ◌&&◌, List, [], ◌∷◌, ◌++◌, Option, Some, None, refl, ap, sym, ◌∙◌, arith, length, length-append}
+use Rattle.std.proofs.Common.{◌≡◌, ℕ, zero, suc, ◌+◌, ◌<◌, ◌≤◌, false, true, List, [], ◌∷◌, ◌++◌, None, refl, ap, sym, ◌∙◌, arith, length, length-append}
 use Rattle.std.specs.Prelude.{slice_get, nat_lt}
 use Rattle.std.proofs.lemmas.List.{append-nil, nil_from_length}
 use Rattle.std.proofs.lemmas.Bool.{lt-ltb}
 use mathlib.Core.List.{IsPrefix}
 use Rattle.swp_base.specs.declared.control_frames.Control.{Control}
 use Rattle.shdlc_core.specs.Machine.{EndState, Session, Fragment, frame_due, fragment_due}
-use Rattle.link_laws.specs.Link.{Link, Carried, start, LinkEvent, after}
+use Rattle.link_laws.specs.Link.{Carried, start, LinkEvent, after}
 use Rattle.link_laws.specs.Order.{AllDelivered}
 use Rattle.link_laws.proofs.Marks.{Shows}
 use Rattle.link_laws.proofs.Whole.{NoRnr, Whole}
 use Rattle.link_laws.proofs.Joined.{Joined, Sends, joined_exchanged, fetch_cases}
 use Rattle.link_laws.proofs.InOrder.{IsWhole}
-use Rattle.link_laws.proofs.Idle.{IsCalm, stays_after, stays_start, no_due}
+use Rattle.link_laws.proofs.Idle.{stays_after, stays_start, no_due}
 
 no_marks : (wire : List Carried) (ms : List Control) → wire ≡ [] → Shows wire ms → ms ≡ []
 no_marks [] [] e h = refl
@@ -79,4 +79,4 @@ delivered_there events n lost rnr near far =
     let l = after start events in
     let calm = stays_after events start stays_start n in
     delivered (IsWhole l) l.host l.controller l.to_host l.to_controller
-      (joined_exchanged (IsWhole l) l.controller l.host l.to_controller l.to_host calm.joined) (lost, rnr) calm.idle.host calm.idle.controller far near
+    (joined_exchanged (IsWhole l) l.controller l.host l.to_controller l.to_host calm.joined) (lost, rnr) calm.idle.host calm.idle.controller far near

@@ -1,5 +1,5 @@
 -- What one sender, its receiver and the wires between them have to do with each other at every moment.
-use Rattle.std.proofs.Common.{◌≡◌, ℕ, ◌+◌, ◌<◌, ◌≤◌, List, [], ◌∷◌, ◌++◌, Option, Some, refl, ap, sym, subst, ◌∙◌, arith, length, suc, zero, max, length-append, append_assoc}
+use Rattle.std.proofs.Common.{◌≡◌, ℕ, ◌+◌, ◌<◌, ◌≤◌, List, [], ◌∷◌, ◌++◌, Some, ap, sym, subst, ◌∙◌, arith, length, max, length-append, append_assoc}
 use Rattle.std.specs.Prelude.{slice_get}
 use Rattle.std.proofs.lemmas.Option.{slice_get_within}
 use mathlib.Core.List.{IsPrefix}
@@ -28,11 +28,16 @@ pub flows_put : (out more : List Fragment) (w a s m : ℕ) (acc : List Fragment)
     → Flows out w a s m acc there back → Flows (out ++ more) w a s m acc there back
 flows_put out more w a s m acc there back h =
     record {
-      window = h.window; wide = h.wide; acked_next = h.acked_next; next_reach = h.next_reach;
+      window = h.window;
+      wide = h.wide;
+      acked_next = h.acked_next;
+      next_reach = h.next_reach;
       reach_out = omega (arith, length-append out more);
       reach_window = h.reach_window;
       front = (h.front.0 ++ more, sym (append_assoc acc h.front.0 more) ∙ ap (λ l. l ++ more) h.front.1);
-      sent = h.sent; counts = h.counts; places = places_grow out more (length acc) m there h.places;
+      sent = h.sent;
+      counts = h.counts;
+      places = places_grow out more (length acc) m there h.places;
     }
 
 -- the next fragment is sent
@@ -43,29 +48,51 @@ flows_send out w a s m acc there back n info inside is h =
     let within : s < length out = slice_get_within out s info is in
     let more : m ≤ max m (s + 1) = omega arith in
     record {
-      window = h.window; wide = h.wide; acked_next = omega arith; next_reach = omega arith;
-      reach_out = omega arith; reach_window = omega arith;
-      front = h.front; sent = omega arith; counts = h.counts;
+      window = h.window;
+      wide = h.wide;
+      acked_next = omega arith;
+      next_reach = omega arith;
+      reach_out = omega arith;
+      reach_window = omega arith;
+      front = h.front;
+      sent = omega arith;
+      counts = h.counts;
       places = places_push out (length acc) (max m (s + 1)) s n info there (omega arith) (omega arith) (omega arith) is
-        (places_reach out (length acc) m (max m (s + 1)) there more h.places);
+          (places_reach out (length acc) m (max m (s + 1)) there more h.places);
     }
 
 -- the sender answers as a receiver
 pub flows_send_S : (out : List Fragment) (w a s m : ℕ) (acc : List Fragment) (there back : List Control) (n : ℕ) (k : Kind)
     → Flows out w a s m acc there back → Flows out w a s m acc (there ++ S k n ∷ []) back
-flows_send_S out w a s m acc there back n k h = 
+flows_send_S out w a s m acc there back n k h =
     record {
-      window = h.window; wide = h.wide; acked_next = h.acked_next; next_reach = h.next_reach; reach_out = h.reach_out; reach_window = h.reach_window;
-      front = h.front; sent = h.sent; counts = h.counts; places = places_push_S out (length acc) m n k there h.places;
+      window = h.window;
+      wide = h.wide;
+      acked_next = h.acked_next;
+      next_reach = h.next_reach;
+      reach_out = h.reach_out;
+      reach_window = h.reach_window;
+      front = h.front;
+      sent = h.sent;
+      counts = h.counts;
+      places = places_push_S out (length acc) m n k there h.places;
     }
 
 -- the receiver makes a frame, with the number that it accepted
 pub flows_answer : (out : List Fragment) (w a s m : ℕ) (acc : List Fragment) (there back : List Control) (c : Control)
     → Carries c (length acc) → Flows out w a s m acc there back → Flows out w a s m acc there (back ++ c ∷ [])
-flows_answer out w a s m acc there back c e h = 
+flows_answer out w a s m acc there back c e h =
     record {
-      window = h.window; wide = h.wide; acked_next = h.acked_next; next_reach = h.next_reach; reach_out = h.reach_out; reach_window = h.reach_window;
-      front = h.front; sent = h.sent; counts = counts_push a (length acc) back c e h.counts; places = h.places;
+      window = h.window;
+      wide = h.wide;
+      acked_next = h.acked_next;
+      next_reach = h.next_reach;
+      reach_out = h.reach_out;
+      reach_window = h.reach_window;
+      front = h.front;
+      sent = h.sent;
+      counts = counts_push a (length acc) back c e h.counts;
+      places = h.places;
     }
 
 -- the sender is to go on from another place
@@ -73,8 +100,16 @@ pub flows_move : (out : List Fragment) (w a s m s' : ℕ) (acc : List Fragment) 
     → a ≤ s' → s' ≤ m → Flows out w a s m acc there back → Flows out w a s' m acc there back
 flows_move out w a s m s' acc there back i j h =
     record {
-      window = h.window; wide = h.wide; acked_next = i; next_reach = j; reach_out = h.reach_out; reach_window = h.reach_window;
-      front = h.front; sent = h.sent; counts = h.counts; places = h.places;
+      window = h.window;
+      wide = h.wide;
+      acked_next = i;
+      next_reach = j;
+      reach_out = h.reach_out;
+      reach_window = h.reach_window;
+      front = h.front;
+      sent = h.sent;
+      counts = h.counts;
+      places = h.places;
     }
 
 -- a number that comes back is one from the first unacknowledged place to one past the last that was sent
@@ -94,8 +129,16 @@ pub flows_acked : (out : List Fragment) (w a s m s' : ℕ) (acc : List Fragment)
 flows_acked out w a s m s' acc there back c n e i j h =
     let number = flows_number out w a s m acc there back c n e h in
     record {
-      window = h.window; wide = h.wide; acked_next = i; next_reach = j; reach_out = h.reach_out; reach_window = omega (arith, number.0, h.reach_window);
-      front = h.front; sent = h.sent; counts = number.2; places = h.places;
+      window = h.window;
+      wide = h.wide;
+      acked_next = i;
+      next_reach = j;
+      reach_out = h.reach_out;
+      reach_window = omega (arith, number.0, h.reach_window);
+      front = h.front;
+      sent = h.sent;
+      counts = number.2;
+      places = h.places;
     }
 
 -- what stands behind a front of a list
@@ -118,7 +161,12 @@ flows_accept out w a s m acc there back p n info e h =
     let below : NoneBelow (length acc) there = rw (← e) h.places.3 in
     let is : slice_get out (length acc) ≡ Some info = rw (← e) h.places.2 in
     record {
-      window = h.window; wide = h.wide; acked_next = h.acked_next; next_reach = h.next_reach; reach_out = h.reach_out; reach_window = h.reach_window;
+      window = h.window;
+      wide = h.wide;
+      acked_next = h.acked_next;
+      next_reach = h.next_reach;
+      reach_out = h.reach_out;
+      reach_window = h.reach_window;
       front = front_accept acc out info is h.front;
       sent = omega (arith, h.places.1);
       counts = rw one (counts_higher a (length acc) (length acc + 1) back more h.counts);
@@ -128,16 +176,32 @@ flows_accept out w a s m acc there back p n info e h =
 -- a frame is taken or lost
 pub flows_past : (out : List Fragment) (w a s m : ℕ) (acc : List Fragment) (there back : List Control) (c : Control)
     → Flows out w a s m acc (c ∷ there) back → Flows out w a s m acc there back
-flows_past out w a s m acc there back c h = 
+flows_past out w a s m acc there back c h =
     record {
-      window = h.window; wide = h.wide; acked_next = h.acked_next; next_reach = h.next_reach; reach_out = h.reach_out; reach_window = h.reach_window;
-      front = h.front; sent = h.sent; counts = h.counts; places = places_lost out (length acc) m c there h.places;
+      window = h.window;
+      wide = h.wide;
+      acked_next = h.acked_next;
+      next_reach = h.next_reach;
+      reach_out = h.reach_out;
+      reach_window = h.reach_window;
+      front = h.front;
+      sent = h.sent;
+      counts = h.counts;
+      places = places_lost out (length acc) m c there h.places;
     }
 
 pub flows_lost_back : (out : List Fragment) (w a s m : ℕ) (acc : List Fragment) (there back : List Control) (c : Control)
     → Flows out w a s m acc there (c ∷ back) → Flows out w a s m acc there back
-flows_lost_back out w a s m acc there back c h = 
+flows_lost_back out w a s m acc there back c h =
     record {
-      window = h.window; wide = h.wide; acked_next = h.acked_next; next_reach = h.next_reach; reach_out = h.reach_out; reach_window = h.reach_window;
-      front = h.front; sent = h.sent; counts = counts_lost a (length acc) c back h.counts; places = h.places;
+      window = h.window;
+      wide = h.wide;
+      acked_next = h.acked_next;
+      next_reach = h.next_reach;
+      reach_out = h.reach_out;
+      reach_window = h.reach_window;
+      front = h.front;
+      sent = h.sent;
+      counts = counts_lost a (length acc) c back h.counts;
+      places = h.places;
     }

@@ -1,23 +1,22 @@
 -- After each event both ends have sent all that was due.
-use Rattle.std.proofs.Common.{◌≡◌, ℕ, zero, suc, ◌+◌, ◌-◌, ◌<◌, ◌≤◌, Bool, true, false, cond, ◌&&◌, ◌||◌, not, ◌%◌, List, [], ◌∷◌, ◌++◌, Option, Some, None, refl, ap, sym, ◌∙◌, ◌⊎◌, inl, inr, arith, length, length-append}
+use Rattle.std.proofs.Common.{◌≡◌, ℕ, zero, suc, ◌+◌, ◌-◌, ◌≤◌, Bool, true, false, ◌&&◌, ◌||◌, not, ◌%◌, List, [], ◌∷◌, ◌++◌, Some, None, refl, ap, sym, ◌∙◌, ◌⊎◌, inl, inr, arith, length, length-append}
 use Rattle.std.specs.Prelude.{is_some, nat_lt, slice_get}
-use Rattle.std.proofs.lemmas.Bool.{or_parts, and_right, le-ltb, lt-ltb, cond-false, true≢false}
+use Rattle.std.proofs.lemmas.Bool.{or_parts, and_right, le-ltb, cond-false, true≢false}
 use Rattle.swp_base.specs.declared.control_frames.Kind.{Kind}
-use Rattle.swp_base.specs.declared.control_frames.Kind.TheVariants.{Rr, Rej, Rnr, Srej}
 use Rattle.swp_base.specs.declared.control_frames.Control.{Control}
 use Rattle.swp_base.specs.declared.control_frames.Control.TheVariants.{I, S, Rset, Ua, Act, Clt}
 use Rattle.shdlc_core.specs.declared.answers.LinkState.TheVariants.{Up}
 use Rattle.shdlc_core.specs.declared.answers.Due.{Due}
 use Rattle.shdlc_core.specs.declared.answers.Due.TheVariants.{Rr as Rr_due, Rej as Rej_due, Rnr as Rnr_due}
-use Rattle.shdlc_core.specs.Machine.{EndState, Session, Fragment, place_of, acknowledged, taken, take_answer, ticked, tick_answer, with_ready, put_out, fetched, frame_due, fragment_due, frames_of, after_frames, all_fetched, most_frames, sent_next}
-use Rattle.link_laws.specs.Link.{Link, Carried, start, exchanged, is_full, with_frame, put, put_all, becomes, EndEvent, happens_here, ticks_here, aged_wire, aged, LinkEvent, happens, after}
+use Rattle.shdlc_core.specs.Machine.{EndState, Session, Fragment, place_of, acknowledged, taken, take_answer, ticked, tick_answer, with_ready, put_out, fetched, frame_due, fragment_due, frames_of, after_frames, most_frames}
+use Rattle.link_laws.specs.Link.{Link, Carried, start, exchanged, put, put_all, becomes, EndEvent, happens_here, ticks_here, aged, LinkEvent, happens, after}
 use Rattle.link_laws.specs.Link.EndEvent.{Offer, Deliver, Lose, Busy, Ready}
 use Rattle.link_laws.specs.Link.LinkEvent.{AtController, AtHost, Tick}
 use Rattle.link_laws.proofs.Numbers.{place_found}
 use Rattle.link_laws.proofs.Marks.{Shows}
 use Rattle.link_laws.proofs.Flows.{flows_number}
 use Rattle.link_laws.proofs.Joined.{Joined, joined_exchanged, joined_lost, Sends, joined_put, joined_ready, joined_ticked, joined_taken, fetch_cases, fragment_due_tells, ready_cases, tick_cases, received_cases, taken_I, taken_S}
-use Rattle.link_laws.proofs.InOrder.{IsWhole, Keeps, keeps_aged, keeps_start, joined_becomes, none_from_is_some, fetched_idle, after_frames_idle, becomes-put_all, becomes-ended, offer_cases, deliver_cases, lose_cases, took}
+use Rattle.link_laws.proofs.InOrder.{IsWhole, Keeps, keeps_aged, keeps_start, joined_becomes, none_from_is_some, after_frames_idle, becomes-put_all, becomes-ended, offer_cases, deliver_cases, lose_cases}
 
 -- so many frames are due at most
 abbrev pub left : EndState → ℕ
@@ -26,22 +25,22 @@ left e = length e.due + (e.session.acked + e.session.window - e.session.next)
 fragment_none : (s : Session) → s.acked + s.window ≤ s.next → fragment_due s ≡ None
 fragment_none s h =
     cond-false ((not s.peer_busy || s.probe) && nat_lt s.next (s.acked + s.window)) (slice_get s.out s.next) None
-      (and_right (not s.peer_busy || s.probe) (nat_lt s.next (s.acked + s.window)) (le-ltb s.next (s.acked + s.window) h))
+    (and_right (not s.peer_busy || s.probe) (nat_lt s.next (s.acked + s.window)) (le-ltb s.next (s.acked + s.window) h))
 
 -- each fetch leaves fewer
 fetch_leaves : (e : EndState) → (frame_due e ≡ None) ⊎ (left (fetched e) + 1 ≤ left e)
 fetch_leaves e =
     fetch_cases (λ f c. (c ≡ None) ⊎ (left f + 1 ≤ left e)) e
-      (λ d ds p. inr (let q : length e.due ≡ suc (length ds) = ap length p in omega arith))
-      (λ p q. inl refl)
-      (λ info p q. inr (let tells = fragment_due_tells e.session info q in omega (arith, tells.0)))
+    (λ d ds p. inr (let q : length e.due ≡ suc (length ds) = ap length p in omega arith))
+    (λ p q. inl refl)
+    (λ info p q. inr (let tells = fragment_due_tells e.session info q in omega (arith, tells.0)))
 
 nothing_left : (e : EndState) → left e ≡ 0 → frame_due e ≡ None
 nothing_left e h =
     fetch_cases (λ f c. c ≡ None) e
-      (λ d ds p. absurd (let q : length e.due ≡ suc (length ds) = ap length p in omega arith))
-      (λ p q. refl)
-      (λ info p q. absurd (let tells = fragment_due_tells e.session info q in omega (arith, tells.0)))
+    (λ d ds p. absurd (let q : length e.due ≡ suc (length ds) = ap length p in omega arith))
+    (λ p q. refl)
+    (λ info p q. absurd (let tells = fragment_due_tells e.session info q in omega (arith, tells.0)))
 
 pub idle_after : (n : ℕ) (e : EndState) → left e ≤ n → frame_due (after_frames n e) ≡ None
 idle_after zero e h = nothing_left e (omega arith)
@@ -72,7 +71,7 @@ few_taken_I e ns nr x info up at =
     let P : EndState → Type 0 = λ f. length f.due ≤ length e.due + 1 in
     let one : (d : Due) → length (e.due ++ d ∷ []) ≤ length e.due + 1 = λ d. omega (arith, length-append e.due (d ∷ [])) in
     taken_I P e ns nr x info up at
-      (received_cases P (acknowledged e x) ns info (λ z. one Rr_due) (λ z g. omega arith) (λ z g. one Rej_due) (λ z g. one Rr_due) (one Rnr_due))
+    (received_cases P (acknowledged e x) ns info (λ z. one Rr_due) (λ z g. omega arith) (λ z g. one Rej_due) (λ z g. one Rr_due) (one Rnr_due))
 
 few_taken_S : (e : EndState) (k : Kind) (nr x : ℕ) → e.phase ≡ Up → place_of e.session nr ≡ Some x → length (taken e (S k nr)).due ≤ length e.due + 1
 few_taken_S e k nr x up at =
@@ -84,8 +83,10 @@ few_taken W near far x to_near to_far h = go h.near_marks h.near_shows h.near_se
   where
     s : Session
     s = near.session
+
     t : Session
     t = far.session
+
     go : (ms : List Control) → Shows (x ∷ to_near) ms → Sends s t.acc h.far_marks ms → length (taken near x.frame).due ≤ length near.due + 1
     go [] shows sends = absurd shows
     go (I p n info ∷ ms) shows sends =
@@ -146,31 +147,31 @@ few_from_idle e e' idle more = let none : length e.due ≡ 0 = ap length (no_due
 stays_ready : (l : Link) (r : Bool) → IsCalm l → IsCalm (becomes l (with_ready l.controller r))
 stays_ready l r calm =
     stays_becomes l (with_ready l.controller r) (joined_ready (IsWhole l) l.controller l.host l.to_controller l.to_host r calm.joined)
-      (few_from_idle l.controller (with_ready l.controller r) calm.idle.controller (few_ready l.controller r)) calm.idle.host
+    (few_from_idle l.controller (with_ready l.controller r) calm.idle.controller (few_ready l.controller r)) calm.idle.host
 
 stays_here : (l : Link) (e : EndEvent) → Stays l → Stays (happens_here l e)
 stays_here l (Offer fragments) k =
     offer_cases Stays l fragments k (λ up n.
-      let calm = k (sym (becomes-ended l (put_out l.controller fragments)) ∙ n) in
-      stays_becomes l (put_out l.controller fragments)
-        (joined_put (IsWhole l) l.controller l.host l.to_controller l.to_host fragments calm.joined)
-        (few_from_idle l.controller (put_out l.controller fragments) calm.idle.controller (omega arith)) calm.idle.host)
+    let calm = k (sym (becomes-ended l (put_out l.controller fragments)) ∙ n) in
+    stays_becomes l (put_out l.controller fragments)
+    (joined_put (IsWhole l) l.controller l.host l.to_controller l.to_host fragments calm.joined)
+    (few_from_idle l.controller (put_out l.controller fragments) calm.idle.controller (omega arith)) calm.idle.host)
 stays_here l Deliver k =
     deliver_cases Stays l k (λ x xs q n.
-      let m : Link = record l { to_controller = xs; ended = l.ended || is_some (take_answer l.controller x.frame).ended } in
-      let before = or_parts l.ended (is_some (take_answer l.controller x.frame).ended) (sym (becomes-ended m (taken l.controller x.frame)) ∙ n) in
-      let calm = k before.0 in
-      let joined : Joined (IsWhole l) l.controller l.host (x ∷ xs) l.to_host = rw q at calm.joined in
-      stays_becomes m (taken l.controller x.frame) (joined_taken (IsWhole l) l.controller l.host x xs l.to_host joined).0
-        (few_from_idle l.controller (taken l.controller x.frame) calm.idle.controller (few_taken (IsWhole l) l.controller l.host x xs l.to_host joined)) calm.idle.host)
+    let m : Link = record l { to_controller = xs; ended = l.ended || is_some (take_answer l.controller x.frame).ended } in
+    let before = or_parts l.ended (is_some (take_answer l.controller x.frame).ended) (sym (becomes-ended m (taken l.controller x.frame)) ∙ n) in
+    let calm = k before.0 in
+    let joined : Joined (IsWhole l) l.controller l.host (x ∷ xs) l.to_host = rw q at calm.joined in
+    stays_becomes m (taken l.controller x.frame) (joined_taken (IsWhole l) l.controller l.host x xs l.to_host joined).0
+    (few_from_idle l.controller (taken l.controller x.frame) calm.idle.controller (few_taken (IsWhole l) l.controller l.host x xs l.to_host joined)) calm.idle.host)
 stays_here l Lose k =
     lose_cases Stays l k (λ x xs q n.
-      let calm = k n in
-      record {
-        joined = joined_lost (IsWhole l) (IsWhole (record l { to_controller = xs; lost = true })) (λ v. true≢false v.0) l.controller l.host x xs l.to_host
+    let calm = k n in
+    record {
+      joined = joined_lost (IsWhole l) (IsWhole (record l { to_controller = xs; lost = true })) (λ v. true≢false v.0) l.controller l.host x xs l.to_host
           (rw q at calm.joined);
-        idle = record { controller = calm.idle.controller; host = calm.idle.host };
-      })
+      idle = record { controller = calm.idle.controller; host = calm.idle.host };
+    })
 stays_here l Busy k = λ n. stays_ready l false (k (sym (becomes-ended l (with_ready l.controller false)) ∙ n))
 stays_here l Ready k = λ n. stays_ready l true (k (sym (becomes-ended l (with_ready l.controller true)) ∙ n))
 
@@ -188,8 +189,8 @@ stays_tick_here l k n =
     let calm = k before.0 in
     let answer = none_from_is_some (tick_answer l.controller).ended before.1 in
     stays_becomes m (ticked l.controller)
-      (joined_ticked (IsWhole l) l.controller l.host l.to_controller l.to_host answer calm.joined)
-      (few_from_idle l.controller (ticked l.controller) calm.idle.controller (few_ticked l.controller calm.joined.near_up answer)) calm.idle.host
+    (joined_ticked (IsWhole l) l.controller l.host l.to_controller l.to_host answer calm.joined)
+    (few_from_idle l.controller (ticked l.controller) calm.idle.controller (few_ticked l.controller calm.joined.near_up answer)) calm.idle.host
 
 stays_aged : (l : Link) → Stays l → Stays (aged l)
 stays_aged l k n =

@@ -1,12 +1,11 @@
 -- Each event keeps what joins the two ends, until a session ends.
-use Rattle.std.proofs.Common.{◌≡◌, ℕ, zero, suc, ◌+◌, ◌<◌, ◌≤◌, Bool, true, false, cond, ◌||◌, List, [], ◌∷◌, ◌++◌, Option, Some, None, refl, ap, sym, subst, ◌∙◌, arith, length, drop, lit≤}
+use Rattle.std.proofs.Common.{◌≡◌, ℕ, zero, suc, Bool, true, false, cond, ◌||◌, List, [], ◌∷◌, Option, Some, None, refl, sym, ◌∙◌, arith, length, drop}
 use Rattle.std.specs.Prelude.{is_some, nat_lt}
 use Rattle.std.proofs.lemmas.Bool.{or_parts, true≢false}
 use Rattle.swp_base.specs.declared.control_frames.Control.{Control}
-use Rattle.swp_base.specs.declared.link_terms.Cause.{Cause}
 use Rattle.shdlc_core.specs.declared.answers.LinkState.{LinkState}
 use Rattle.shdlc_core.specs.declared.answers.LinkState.TheVariants.{Down, Waiting, Up}
-use Rattle.shdlc_core.specs.Machine.{EndState, Session, Fragment, taken, take_answer, ticked, tick_answer, with_ready, put_out, fetched, frame_due, frames_of, after_frames, most_frames, new_end, new_session, begun}
+use Rattle.shdlc_core.specs.Machine.{EndState, Fragment, taken, take_answer, ticked, tick_answer, with_ready, put_out, fetched, frame_due, frames_of, after_frames, most_frames, new_session}
 use Rattle.link_laws.specs.Link.{Link, Carried, start, exchanged, is_full, with_frame, put, put_all, becomes, EndEvent, happens_here, ticks_here, older, aged_wire, loses_aged, is_rnr, aged, LinkEvent, happens, after}
 use Rattle.link_laws.specs.Link.EndEvent.{Offer, Deliver, Lose, Busy, Ready}
 use Rattle.link_laws.specs.Link.LinkEvent.{AtController, AtHost, Tick}
@@ -14,7 +13,7 @@ use Rattle.link_laws.specs.Order.{InOrder}
 use Rattle.link_laws.proofs.Marks.{counts_le}
 use Rattle.link_laws.proofs.Flows.{Flows}
 use Rattle.link_laws.proofs.Whole.{Whole}
-use Rattle.link_laws.proofs.Joined.{Joined, joined_weaker, rnr_next, joined_exchanged, joined_put, joined_ready, joined_ticked, joined_lost, joined_older, joined_taken, joined_fetched, fetch_cases, with_next}
+use Rattle.link_laws.proofs.Joined.{Joined, joined_weaker, rnr_next, joined_exchanged, joined_put, joined_ready, joined_ticked, joined_lost, joined_older, joined_taken, joined_fetched, fetch_cases}
 
 -- nothing was lost and no RNR was made
 abbrev pub IsWhole : Link → Type 0
@@ -44,7 +43,7 @@ joined_full W V near far to_near to_far false weak fits h = joined_weaker W V we
 joined_full W V near far to_near [] true weak fits h = joined_weaker W V weak near far to_near [] h
 joined_full W V near far to_near (x ∷ xs) true weak fits h =
     joined_exchanged V far near xs to_near
-      (joined_lost W V (λ v. true≢false (fits v)) far near x xs to_near (joined_exchanged W near far to_near (x ∷ xs) h))
+    (joined_lost W V (λ v. true≢false (fits v)) far near x xs to_near (joined_exchanged W near far to_near (x ∷ xs) h))
 
 -- what each frame that is due keeps, as the end sends it, all of them keep
 pub sends_keeps : (P : EndState → Link → Type 0)
@@ -71,15 +70,15 @@ becomes-put_all l e = put_all-controller (frames_of most_frames e) l (after_fram
 pub joined_becomes : (l : Link) (e : EndState) → Joined (IsWhole l) e l.host l.to_controller l.to_host → JoinedLink (becomes l e)
 joined_becomes l e h =
     rw (becomes-put_all l e)
-      (sends_keeps (λ f m. Joined (IsWhole m) f m.host m.to_controller m.to_host)
-        (λ f m c q k.
-          let full : Bool = is_full (with_frame m.to_host c) in
-          let weak : IsWhole (put m c) → IsWhole m = λ v. ((or_parts m.lost full v.0).0, (or_parts m.rnr (is_rnr c) v.1).0) in
-          let rnr : IsWhole (put m c) → rnr_next (frame_due f) ≡ false = λ v. rw q ((or_parts m.rnr (is_rnr c) v.1).1) in
-          joined_full (IsWhole (put m c)) (IsWhole (put m c)) (fetched f) m.host m.to_controller (with_frame m.to_host c) full (λ v. v)
-            (λ v. (or_parts m.lost full v.0).1)
-            (rw q at (joined_fetched (IsWhole m) (IsWhole (put m c)) weak f m.host m.to_controller m.to_host rnr k)))
-        most_frames e l h)
+    (sends_keeps (λ f m. Joined (IsWhole m) f m.host m.to_controller m.to_host)
+    (λ f m c q k.
+    let full : Bool = is_full (with_frame m.to_host c) in
+    let weak : IsWhole (put m c) → IsWhole m = λ v. ((or_parts m.lost full v.0).0, (or_parts m.rnr (is_rnr c) v.1).0) in
+    let rnr : IsWhole (put m c) → rnr_next (frame_due f) ≡ false = λ v. rw q ((or_parts m.rnr (is_rnr c) v.1).1) in
+    joined_full (IsWhole (put m c)) (IsWhole (put m c)) (fetched f) m.host m.to_controller (with_frame m.to_host c) full (λ v. v)
+    (λ v. (or_parts m.lost full v.0).1)
+    (rw q at (joined_fetched (IsWhole m) (IsWhole (put m c)) weak f m.host m.to_controller m.to_host rnr k)))
+    most_frames e l h)
 
 pub put_all-ended : (cs : List Control) (l : Link) → (put_all l cs).ended ≡ l.ended
 put_all-ended [] l = refl
@@ -107,7 +106,7 @@ offer_cases P l fragments same offered = go l.controller.phase refl
 abbrev pub took : Link → Carried → List Carried → Link
 took l x xs =
     becomes (record l { to_controller = xs; ended = l.ended || is_some (take_answer l.controller x.frame).ended })
-      (taken l.controller x.frame)
+    (taken l.controller x.frame)
 
 pub deliver_cases : (P : Link → Type 0) (l : Link) → P l
     → ((x : Carried) (xs : List Carried) → l.to_controller ≡ x ∷ xs → P (took l x xs)) → P (happens_here l Deliver)
@@ -133,21 +132,21 @@ lose_cases P l same loses = go l.to_controller same loses
 keeps_here : (l : Link) (e : EndEvent) → Keeps l → Keeps (happens_here l e)
 keeps_here l (Offer fragments) k =
     offer_cases Keeps l fragments k (λ up n. joined_becomes l (put_out l.controller fragments)
-      (joined_put (IsWhole l) l.controller l.host l.to_controller l.to_host fragments (k (sym (becomes-ended l (put_out l.controller fragments)) ∙ n))))
+    (joined_put (IsWhole l) l.controller l.host l.to_controller l.to_host fragments (k (sym (becomes-ended l (put_out l.controller fragments)) ∙ n))))
 keeps_here l Deliver k =
     deliver_cases Keeps l k (λ x xs q n.
-      let m : Link = record l { to_controller = xs; ended = l.ended || is_some (take_answer l.controller x.frame).ended } in
-      let before = or_parts l.ended (is_some (take_answer l.controller x.frame).ended) (sym (becomes-ended m (taken l.controller x.frame)) ∙ n) in
-      let joined : Joined (IsWhole l) l.controller l.host (x ∷ xs) l.to_host = rw q at (k before.0) in
-      joined_becomes m (taken l.controller x.frame) (joined_taken (IsWhole l) l.controller l.host x xs l.to_host joined).0)
+    let m : Link = record l { to_controller = xs; ended = l.ended || is_some (take_answer l.controller x.frame).ended } in
+    let before = or_parts l.ended (is_some (take_answer l.controller x.frame).ended) (sym (becomes-ended m (taken l.controller x.frame)) ∙ n) in
+    let joined : Joined (IsWhole l) l.controller l.host (x ∷ xs) l.to_host = rw q at (k before.0) in
+    joined_becomes m (taken l.controller x.frame) (joined_taken (IsWhole l) l.controller l.host x xs l.to_host joined).0)
 keeps_here l Lose k =
     lose_cases Keeps l k (λ x xs q n. joined_lost (IsWhole l) (IsWhole (record l { to_controller = xs; lost = true })) (λ v. true≢false v.0) l.controller l.host x xs l.to_host (rw q at (k n)))
 keeps_here l Busy k = λ n.
     joined_becomes l (with_ready l.controller false)
-      (joined_ready (IsWhole l) l.controller l.host l.to_controller l.to_host false (k (sym (becomes-ended l (with_ready l.controller false)) ∙ n)))
+    (joined_ready (IsWhole l) l.controller l.host l.to_controller l.to_host false (k (sym (becomes-ended l (with_ready l.controller false)) ∙ n)))
 keeps_here l Ready k = λ n.
     joined_becomes l (with_ready l.controller true)
-      (joined_ready (IsWhole l) l.controller l.host l.to_controller l.to_host true (k (sym (becomes-ended l (with_ready l.controller true)) ∙ n)))
+    (joined_ready (IsWhole l) l.controller l.host l.to_controller l.to_host true (k (sym (becomes-ended l (with_ready l.controller true)) ∙ n)))
 
 keeps_exchanged : (l : Link) → Keeps l → Keeps (exchanged l)
 keeps_exchanged l k n = joined_exchanged (IsWhole l) l.controller l.host l.to_controller l.to_host (k n)
@@ -158,7 +157,7 @@ keeps_tick_here l k n =
     let m : Link = record l { ended = l.ended || is_some (tick_answer l.controller).ended } in
     let before = or_parts l.ended (is_some (tick_answer l.controller).ended) (sym (becomes-ended m (ticked l.controller)) ∙ n) in
     joined_becomes m (ticked l.controller)
-      (joined_ticked (IsWhole l) l.controller l.host l.to_controller l.to_host (none_from_is_some (tick_answer l.controller).ended before.1) (k before.0))
+    (joined_ticked (IsWhole l) l.controller l.host l.to_controller l.to_host (none_from_is_some (tick_answer l.controller).ended before.1) (k before.0))
 
 -- frames grow older, and those that are too old are lost
 joined_aged : (W V : Type 0) (near far : EndState) (to_near to_far : List Carried) → (V → W) → (V → loses_aged to_near ≡ false)
@@ -180,9 +179,9 @@ keeps_aged l k n =
     let a : Bool = loses_aged l.to_controller in
     let b : Bool = loses_aged l.to_host in
     let one = joined_aged (IsWhole l) V l.controller l.host l.to_controller l.to_host
-            (λ v. ((or_parts l.lost a (or_parts (l.lost || a) b v.0).0).0, v.1)) (λ v. (or_parts l.lost a (or_parts (l.lost || a) b v.0).0).1) (k n) in
+    (λ v. ((or_parts l.lost a (or_parts (l.lost || a) b v.0).0).0, v.1)) (λ v. (or_parts l.lost a (or_parts (l.lost || a) b v.0).0).1) (k n) in
     let other = joined_aged V V l.host l.controller l.to_host (aged_wire l.to_controller) (λ v. v) (λ v. (or_parts (l.lost || a) b v.0).1)
-            (joined_exchanged V l.controller l.host (aged_wire l.to_controller) l.to_host one) in
+    (joined_exchanged V l.controller l.host (aged_wire l.to_controller) l.to_host one) in
     joined_exchanged V l.host l.controller (aged_wire l.to_host) (aged_wire l.to_controller) other
 
 keeps : (l : Link) (e : LinkEvent) → Keeps l → Keeps (happens l e)
@@ -199,17 +198,36 @@ keeps_after (e ∷ es) l k = keeps_after es (happens l e) (keeps l e k)
 pub keeps_start : Keeps start
 keeps_start n =
     record {
-      near_up = refl; far_up = refl; near_due = tt; far_due = tt; near_marks = []; far_marks = []; near_shows = tt; far_shows = tt;
-      near_sends = fresh; far_sends = fresh; near_whole = λ v d. whole; far_whole = λ v d. whole;
+      near_up = refl;
+      far_up = refl;
+      near_due = tt;
+      far_due = tt;
+      near_marks = [];
+      far_marks = [];
+      near_shows = tt;
+      far_shows = tt;
+      near_sends = fresh;
+      far_sends = fresh;
+      near_whole = λ v d. whole;
+      far_whole = λ v d. whole;
     }
   where
     whole : Whole (new_session 4) [] [] [] []
     whole = record { caught = refl; told = λ e. refl; free = refl; acks = tt }
+
     fresh : Flows [] 4 0 0 0 [] [] []
     fresh =
         record {
-          window = omega arith; wide = omega arith; acked_next = omega arith; next_reach = omega arith; reach_out = omega arith; reach_window = omega arith;
-          front = ([], refl); sent = omega arith; counts = omega arith; places = tt;
+          window = omega arith;
+          wide = omega arith;
+          acked_next = omega arith;
+          next_reach = omega arith;
+          reach_out = omega arith;
+          reach_window = omega arith;
+          front = ([], refl);
+          sent = omega arith;
+          counts = omega arith;
+          places = tt;
         }
 
 -- what follows for the lists of fragments
@@ -232,4 +250,4 @@ pub accepted_in_order_there : (events : List LinkEvent) → (after start events)
 accepted_in_order_there events n =
     let l = after start events in
     in_order (IsWhole l) l.host l.controller l.to_host l.to_controller
-      (joined_exchanged (IsWhole l) l.controller l.host l.to_controller l.to_host (keeps_after events start keeps_start n))
+    (joined_exchanged (IsWhole l) l.controller l.host l.to_controller l.to_host (keeps_after events start keeps_start n))

@@ -1,20 +1,19 @@
 -- Two ends that are Up in one session and the wires between them: what is true of them at every moment of an event, and
 -- how each thing that one end does keeps it.
-use Rattle.std.proofs.Common.{◌≡◌, ℕ, ◌+◌, ◌-◌, ◌%◌, ◌<◌, ◌≤◌, ◌==◌, Bool, true, false, cond, ◌&&◌, ◌||◌, not, List, [], ◌∷◌, ◌++◌, Option, Some, None, refl, ap, sym, subst, ◌∙◌, ◌⊎◌, inl, inr, arith, length, length-append, max, ltb}
-use Rattle.std.specs.Prelude.{slice_get, is_some, nat_lt}
-use Rattle.std.proofs.lemmas.Bool.{eqb-true, eqb-false, ltb-true, ltb-false, and_parts, cases_Bool, cond_both, cases_eq, true≢false}
+use Rattle.std.proofs.Common.{◌≡◌, ℕ, ◌+◌, ◌%◌, ◌<◌, ◌≤◌, ◌==◌, Bool, true, false, ◌&&◌, ◌||◌, not, List, [], ◌∷◌, ◌++◌, Option, Some, None, refl, ap, sym, ◌∙◌, ◌⊎◌, inl, inr, arith, length, length-append, max}
+use Rattle.std.specs.Prelude.{slice_get, nat_lt}
+use Rattle.std.proofs.lemmas.Bool.{eqb-true, eqb-false, ltb-true, ltb-false, and_parts, cases_eq, true≢false}
 use Rattle.swp_base.specs.declared.control_frames.Kind.{Kind}
 use Rattle.swp_base.specs.declared.control_frames.Kind.TheVariants.{Rr, Rej, Rnr, Srej}
 use Rattle.swp_base.specs.declared.control_frames.Control.{Control}
 use Rattle.swp_base.specs.declared.control_frames.Control.TheVariants.{I, S, Rset, Ua, Act, Clt}
-use Rattle.shdlc_core.specs.declared.answers.LinkState.{LinkState}
-use Rattle.shdlc_core.specs.declared.answers.LinkState.TheVariants.{Down, Waiting, Up}
+use Rattle.shdlc_core.specs.declared.answers.LinkState.TheVariants.{Up}
 use Rattle.shdlc_core.specs.declared.answers.Due.{Due}
 use Rattle.shdlc_core.specs.declared.answers.Due.TheVariants.{Rr as Rr_due, Rej as Rej_due, Rnr as Rnr_due, Rset as Rset_due, Ua as Ua_due}
-use Rattle.shdlc_core.specs.Machine.{EndState, Session, Fragment, place_of, acknowledged, ahead, received, accepted, gap_found, repeated, discarded, taken, take_answer, ticked, tick_answer, with_ready, put_out, fetched, frame_due, fragment_due, expected, control_due, sent_next, ready_again, rejected, made_busy, sent_again, runs_timer}
+use Rattle.shdlc_core.specs.Machine.{EndState, Session, Fragment, place_of, acknowledged, ahead, received, accepted, repeated, discarded, taken, take_answer, ticked, tick_answer, with_ready, put_out, fetched, frame_due, fragment_due, expected, control_due, sent_next, ready_again, rejected, made_busy, sent_again, runs_timer}
 use Rattle.link_laws.specs.Link.{Carried, older, with_frame, is_rnr}
 use Rattle.link_laws.proofs.Numbers.{place_found, ahead_same, ahead_other, ahead_repeat}
-use Rattle.link_laws.proofs.Marks.{reduced, Shows, Carries, Counts, counts_le, Caught, last_count, AcksOnly, shows_push, shows_older}
+use Rattle.link_laws.proofs.Marks.{Shows, counts_le, AcksOnly, shows_push, shows_older}
 use Rattle.link_laws.proofs.Whole.{AnswersOnly, NoRnr, Whole, answers_push, no_rnr_push, rnr_pushed, push_not_empty, whole_send, whole_send_S, whole_answer_I, whole_answer_S}
 use Rattle.link_laws.proofs.Flows.{Flows, flows_put, flows_send, flows_send_S, flows_answer, flows_move, flows_number, flows_acked, flows_accept, flows_past, flows_lost_back}
 
@@ -31,6 +30,7 @@ ready_cases P e r same other answered = go e.ready r e.session.answered_rnr same
   where
     at : Bool → Bool → EndState
     at was noted = record e { ready = was; session = record e.session { answered_rnr = noted } }
+
     go : (was now noted : Bool) → P (at was noted) → P (changed e now e.due) → P (changed e now (e.due ++ Rr_due ∷ [])) → P (with_ready (at was noted) now)
     go true true noted a b c = a
     go false false noted a b c = a
@@ -123,7 +123,7 @@ pub fetch_cases : (P : EndState → Option Control → Type 0) (e : EndState)
     → ((d : Due) (ds : List Due) → e.due ≡ d ∷ ds → P (record e { due = ds }) (Some (control_due e d)))
     → (e.due ≡ [] → fragment_due e.session ≡ None → P e None)
     → ((info : Fragment) → e.due ≡ [] → fragment_due e.session ≡ Some info
-        → P (record e { session = sent_next e.session }) (Some (I (e.session.next % 8) (expected e.session) info)))
+    → P (record e { session = sent_next e.session }) (Some (I (e.session.next % 8) (expected e.session) info)))
     → P (fetched e) (frame_due e)
 fetch_cases P e control none fragment = go e.due (fragment_due e.session) refl refl
   where
@@ -162,18 +162,36 @@ module _ (W : Type 0) where
   pub joined_exchanged : (near far : EndState) (to_near to_far : List Carried) → Joined W near far to_near to_far → Joined W far near to_far to_near
   joined_exchanged near far to_near to_far h =
       record {
-        near_up = h.far_up; far_up = h.near_up; near_due = h.far_due; far_due = h.near_due; near_marks = h.far_marks;
-        far_marks = h.near_marks; near_shows = h.far_shows; far_shows = h.near_shows; near_sends = h.far_sends;
-        far_sends = h.near_sends; near_whole = h.far_whole; far_whole = h.near_whole;
+        near_up = h.far_up;
+        far_up = h.near_up;
+        near_due = h.far_due;
+        far_due = h.near_due;
+        near_marks = h.far_marks;
+        far_marks = h.near_marks;
+        near_shows = h.far_shows;
+        far_shows = h.near_shows;
+        near_sends = h.far_sends;
+        far_sends = h.near_sends;
+        near_whole = h.far_whole;
+        far_whole = h.near_whole;
       }
 
   -- less is claimed to be whole
   pub joined_weaker : (V : Type 0) → (V → W) → (near far : EndState) (to_near to_far : List Carried) → Joined W near far to_near to_far → Joined V near far to_near to_far
   joined_weaker V f near far to_near to_far h =
       record {
-        near_up = h.near_up; far_up = h.far_up; near_due = h.near_due; far_due = h.far_due; near_marks = h.near_marks;
-        far_marks = h.far_marks; near_shows = h.near_shows; far_shows = h.far_shows; near_sends = h.near_sends;
-        far_sends = h.far_sends; near_whole = λ v. h.near_whole (f v); far_whole = λ v. h.far_whole (f v);
+        near_up = h.near_up;
+        far_up = h.far_up;
+        near_due = h.near_due;
+        far_due = h.far_due;
+        near_marks = h.near_marks;
+        far_marks = h.far_marks;
+        near_shows = h.near_shows;
+        far_shows = h.far_shows;
+        near_sends = h.near_sends;
+        far_sends = h.far_sends;
+        near_whole = λ v. h.near_whole (f v);
+        far_whole = λ v. h.far_whole (f v);
       }
 
   -- more is offered
@@ -182,8 +200,14 @@ module _ (W : Type 0) where
   joined_put near far to_near to_far more h =
       let s = near.session in
       record {
-        near_up = h.near_up; far_up = h.far_up; near_due = h.near_due; far_due = h.far_due; near_marks = h.near_marks;
-        far_marks = h.far_marks; near_shows = h.near_shows; far_shows = h.far_shows;
+        near_up = h.near_up;
+        far_up = h.far_up;
+        near_due = h.near_due;
+        far_due = h.far_due;
+        near_marks = h.near_marks;
+        far_marks = h.far_marks;
+        near_shows = h.near_shows;
+        far_shows = h.far_shows;
         near_sends = flows_put s.out more s.window s.acked s.next s.reached far.session.acc h.far_marks h.near_marks h.near_sends;
         far_sends = h.far_sends;
         near_whole = λ w n. let x = h.near_whole w n in record { caught = x.caught; told = x.told; free = x.free; acks = x.acks };
@@ -198,16 +222,22 @@ module _ (W : Type 0) where
       → Joined W near far to_near to_far → Joined W near' far to_near to_far
   joined_same near near' far to_near to_far up due rnr empty same acc acked reached busy h =
       record {
-        near_up = up; far_up = h.far_up; near_due = due; far_due = h.far_due; near_marks = h.near_marks;
-        far_marks = h.far_marks; near_shows = h.near_shows; far_shows = h.far_shows;
+        near_up = up;
+        far_up = h.far_up;
+        near_due = due;
+        far_due = h.far_due;
+        near_marks = h.near_marks;
+        far_marks = h.far_marks;
+        near_shows = h.near_shows;
+        far_shows = h.far_shows;
         near_sends = rw same h.near_sends;
         far_sends = rw acc h.far_sends;
         near_whole = λ w n.
-          let x = h.near_whole w n in
-          record { caught = rw reached x.caught; told = rw acked x.told; free = busy ∙ x.free; acks = x.acks };
+            let x = h.near_whole w n in
+            record { caught = rw reached x.caught; told = rw acked x.told; free = busy ∙ x.free; acks = x.acks };
         far_whole = λ w n.
-          let x = h.far_whole w (rnr n) in
-          record { caught = rw acc x.caught; told = λ e. x.told (empty e) ∙ ap length (sym acc); free = x.free; acks = x.acks };
+            let x = h.far_whole w (rnr n) in
+            record { caught = rw acc x.caught; told = λ e. x.told (empty e) ∙ ap length (sym acc); free = x.free; acks = x.acks };
       }
 
   -- the end becomes ready or not ready
@@ -215,9 +245,9 @@ module _ (W : Type 0) where
       → Joined W near far to_near to_far → Joined W (with_ready near r) far to_near to_far
   joined_ready near far to_near to_far r h =
       ready_cases (λ e. Joined W e far to_near to_far) near r h
-        (joined_same near (changed near r near.due) far to_near to_far h.near_up h.near_due (λ n. n) (λ n. n) refl refl refl refl refl h)
-        (joined_same near (changed near r (near.due ++ Rr_due ∷ [])) far to_near to_far h.near_up (answers_push near.due Rr_due tt h.near_due)
-          (no_rnr_push near.due Rr_due) (λ n. absurd (push_not_empty near.due Rr_due n)) refl refl refl refl refl h)
+      (joined_same near (changed near r near.due) far to_near to_far h.near_up h.near_due (λ n. n) (λ n. n) refl refl refl refl refl h)
+      (joined_same near (changed near r (near.due ++ Rr_due ∷ [])) far to_near to_far h.near_up (answers_push near.due Rr_due tt h.near_due)
+      (no_rnr_push near.due Rr_due) (λ n. absurd (push_not_empty near.due Rr_due n)) refl refl refl refl refl h)
 
   -- a tick that doesn't end the session
   pub joined_ticked : (near far : EndState) (to_near to_far : List Carried) → (tick_answer near).ended ≡ None
@@ -225,16 +255,22 @@ module _ (W : Type 0) where
   joined_ticked near far to_near to_far answer h =
       let s = near.session in
       tick_cases (λ e. Joined W e far to_near to_far) near h.near_up answer h
-        (joined_same near (record near { timer = near.timer + 1 }) far to_near to_far h.near_up h.near_due (λ n. n) (λ n. n) refl refl refl refl refl h)
-        (record {
-          near_up = h.near_up; far_up = h.far_up; near_due = h.near_due; far_due = h.far_due; near_marks = h.near_marks;
-          far_marks = h.far_marks; near_shows = h.near_shows; far_shows = h.far_shows;
-          near_sends = flows_move s.out s.window s.acked s.next s.reached s.acked far.session.acc h.far_marks h.near_marks (omega arith)
+      (joined_same near (record near { timer = near.timer + 1 }) far to_near to_far h.near_up h.near_due (λ n. n) (λ n. n) refl refl refl refl refl h)
+      (record {
+        near_up = h.near_up;
+        far_up = h.far_up;
+        near_due = h.near_due;
+        far_due = h.far_due;
+        near_marks = h.near_marks;
+        far_marks = h.far_marks;
+        near_shows = h.near_shows;
+        far_shows = h.far_shows;
+        near_sends = flows_move s.out s.window s.acked s.next s.reached s.acked far.session.acc h.far_marks h.near_marks (omega arith)
             (omega (arith, h.near_sends.acked_next, h.near_sends.next_reach)) h.near_sends;
-          far_sends = h.far_sends;
-          near_whole = λ w n. let x = h.near_whole w n in record { caught = x.caught; told = x.told; free = x.free; acks = x.acks };
-          far_whole = h.far_whole;
-        })
+        far_sends = h.far_sends;
+        near_whole = λ w n. let x = h.near_whole w n in record { caught = x.caught; told = x.told; free = x.free; acks = x.acks };
+        far_whole = h.far_whole;
+      })
 
   -- a frame on the way to the near end is lost, and nothing is whole any more
   pub joined_lost : (V : Type 0) → (V → ⊥) → (near far : EndState) (x : Carried) (to_near to_far : List Carried)
@@ -248,8 +284,14 @@ module _ (W : Type 0) where
           let s = near.session in
           let t = far.session in
           record {
-            near_up = h.near_up; far_up = h.far_up; near_due = h.near_due; far_due = h.far_due; near_marks = ms;
-            far_marks = h.far_marks; near_shows = shows.1; far_shows = h.far_shows;
+            near_up = h.near_up;
+            far_up = h.far_up;
+            near_due = h.near_due;
+            far_due = h.far_due;
+            near_marks = ms;
+            far_marks = h.far_marks;
+            near_shows = shows.1;
+            far_shows = h.far_shows;
             near_sends = flows_lost_back s.out s.window s.acked s.next s.reached t.acc h.far_marks ms m near_sends;
             far_sends = flows_past t.out t.window t.acked t.next t.reached s.acc ms h.far_marks m far_sends;
             near_whole = λ v. absurd (lossy v);
@@ -261,9 +303,18 @@ module _ (W : Type 0) where
       → Joined W near far to_near to_far → Joined W near far (older to_near) to_far
   joined_older near far to_near to_far h =
       record {
-        near_up = h.near_up; far_up = h.far_up; near_due = h.near_due; far_due = h.far_due; near_marks = h.near_marks;
-        far_marks = h.far_marks; near_shows = shows_older to_near h.near_marks h.near_shows; far_shows = h.far_shows;
-        near_sends = h.near_sends; far_sends = h.far_sends; near_whole = h.near_whole; far_whole = h.far_whole;
+        near_up = h.near_up;
+        far_up = h.far_up;
+        near_due = h.near_due;
+        far_due = h.far_due;
+        near_marks = h.near_marks;
+        far_marks = h.far_marks;
+        near_shows = shows_older to_near h.near_marks h.near_shows;
+        far_shows = h.far_shows;
+        near_sends = h.near_sends;
+        far_sends = h.far_sends;
+        near_whole = h.near_whole;
+        far_whole = h.far_whole;
       }
 
   -- the near end takes the first frame on the way to it, which ends no session
@@ -274,8 +325,10 @@ module _ (W : Type 0) where
     where
       s : Session
       s = near.session
+
       t : Session
       t = far.session
+
       go : (ms : List Control) → Shows (x ∷ to_near) ms → Sends near.session far.session.acc h.far_marks ms
           → Sends far.session near.session.acc ms h.far_marks
           → (W → NoRnr far.due → Whole near.session far.session.acc far.due h.far_marks ms)
@@ -288,77 +341,108 @@ module _ (W : Type 0) where
           let place : place_of s (n % 8) ≡ Some n = place_found s n number.0 number.1 reach in
           let e : EndState = acknowledged near n in
           let sends : Sends e.session t.acc h.far_marks ms =
-              flows_acked s.out s.window s.acked s.next s.reached (max s.next n) t.acc h.far_marks ms (I p n info) n refl (omega arith)
-                (omega (arith, near_sends.next_reach, number.1)) near_sends in
+          flows_acked s.out s.window s.acked s.next s.reached (max s.next n) t.acc h.far_marks ms (I p n info) n refl (omega arith)
+          (omega (arith, near_sends.next_reach, number.1)) near_sends in
           let receives : Sends t s.acc ms h.far_marks = flows_past t.out t.window t.acked t.next t.reached s.acc ms h.far_marks (I p n info) far_sends in
           let low : t.acked ≤ length s.acc = counts_le t.acked (length s.acc) h.far_marks far_sends.counts in
           let high : p ≤ length s.acc + 3 = omega (arith, far_sends.places.1, far_sends.reach_window, far_sends.window, low) in
           let whole : W → NoRnr far.due → Whole e.session t.acc far.due h.far_marks ms =
-              λ w q. let y = near_whole w q in record { caught = y.caught; told = y.told; free = y.free; acks = y.acks } in
+          λ w q. let y = near_whole w q in record { caught = y.caught; told = y.told; free = y.free; acks = y.acks } in
           -- a place that isn't ahead of what was accepted shows no gap
           let no_gap : (ahead e.session (p % 8) ≡ 0 → ⊥) → ahead e.session (p % 8) < 4 → p ≤ length s.acc → ⊥ =
-              λ z g b. gap_behind e.session p z g b far_sends.places.0 in
+          λ z g b. gap_behind e.session p z g b far_sends.places.0 in
           let same : (d : List Due) → AnswersOnly d → (g b : Bool) → (W → NoRnr d → Whole t s.acc d ms h.far_marks)
-                  → Joined W (record e { due = d; session = record e.session { gap_open = g; answered_rnr = b } }) far to_near to_far =
-              λ d a g b c. record {
-                near_up = h.near_up; far_up = h.far_up; near_due = a; far_due = h.far_due; near_marks = ms;
-                far_marks = h.far_marks; near_shows = shows.1; far_shows = h.far_shows; near_sends = sends; far_sends = receives;
-                near_whole = λ w q. let y = whole w q in record { caught = y.caught; told = y.told; free = y.free; acks = y.acks };
-                far_whole = c;
-              } in
-          (rw shows.0 (taken_I (λ f. Joined W f far to_near to_far) near (p % 8) (n % 8) n info h.near_up place
-              (received_cases (λ f. Joined W f far to_near to_far) e (p % 8) info
+          → Joined W (record e { due = d; session = record e.session { gap_open = g; answered_rnr = b } }) far to_near to_far =
+          λ d a g b c. record {
+            near_up = h.near_up;
+            far_up = h.far_up;
+            near_due = a;
+            far_due = h.far_due;
+            near_marks = ms;
+            far_marks = h.far_marks;
+            near_shows = shows.1;
+            far_shows = h.far_shows;
+            near_sends = sends;
+            far_sends = receives;
+            near_whole = λ w q. let y = whole w q in record { caught = y.caught; told = y.told; free = y.free; acks = y.acks };
+            far_whole = c;
+          } in (
+            rw shows.0 (taken_I (λ f. Joined W f far to_near to_far) near (p % 8) (n % 8) n info h.near_up place
+                (received_cases (λ f. Joined W f far to_near to_far) e (p % 8) info
                 (λ z. let at : p ≡ length s.acc = ahead_other e.session p far_sends.places.0 high z in
                 record {
-                  near_up = h.near_up; far_up = h.far_up; near_due = answers_push e.due Rr_due tt h.near_due; far_due = h.far_due; near_marks = ms;
-                  far_marks = h.far_marks; near_shows = shows.1; far_shows = h.far_shows; near_sends = sends;
+                  near_up = h.near_up;
+                  far_up = h.far_up;
+                  near_due = answers_push e.due Rr_due tt h.near_due;
+                  far_due = h.far_due;
+                  near_marks = ms;
+                  far_marks = h.far_marks;
+                  near_shows = shows.1;
+                  far_shows = h.far_shows;
+                  near_sends = sends;
                   far_sends = flows_accept t.out t.window t.acked t.next t.reached s.acc ms h.far_marks p n info at far_sends;
                   near_whole = λ w q. let y = whole w q in record { caught = y.caught; told = y.told; free = y.free; acks = y.acks };
                   far_whole = λ w q.
-                    let y = far_whole w (no_rnr_push near.due Rr_due q) in
-                    let next : length (s.acc ++ info ∷ []) ≡ max (length s.acc) (p + 1) = omega (arith, length-append s.acc (info ∷ [])) in
-                    record {
-                      caught = rw next y.caught.1; told = λ f. absurd (push_not_empty near.due Rr_due f); free = y.free; acks = y.acks;
-                    };
+                      let y = far_whole w (no_rnr_push near.due Rr_due q) in
+                      let next : length (s.acc ++ info ∷ []) ≡ max (length s.acc) (p + 1) = omega (arith, length-append s.acc (info ∷ [])) in
+                      record {
+                        caught = rw next y.caught.1;
+                        told = λ f. absurd (push_not_empty near.due Rr_due f);
+                        free = y.free;
+                        acks = y.acks;
+                      };
                 })
                 (λ z g. same e.due h.near_due s.gap_open s.answered_rnr (λ w q. absurd (no_gap z g (far_whole w q).caught.0)))
                 (λ z g. same (e.due ++ Rej_due ∷ []) (answers_push e.due Rej_due tt h.near_due) true s.answered_rnr
-                  (λ w q. absurd (no_gap z g (far_whole w (no_rnr_push near.due Rej_due q)).caught.0)))
+                (λ w q. absurd (no_gap z g (far_whole w (no_rnr_push near.due Rej_due q)).caught.0)))
                 (λ z g. same (e.due ++ Rr_due ∷ []) (answers_push e.due Rr_due tt h.near_due) s.gap_open s.answered_rnr
-                  (λ w q.
-                    let y = far_whole w (no_rnr_push near.due Rr_due q) in
-                    let below : p < length s.acc = not_expected e.session p z y.caught.0 in
-                    let still : length s.acc ≡ max (length s.acc) (p + 1) = omega arith in
-                    record {
-                      caught = rw still y.caught.1; told = λ f. absurd (push_not_empty near.due Rr_due f); free = y.free; acks = y.acks;
-                    }))
+                (λ w q.
+                let y = far_whole w (no_rnr_push near.due Rr_due q) in
+                let below : p < length s.acc = not_expected e.session p z y.caught.0 in
+                let still : length s.acc ≡ max (length s.acc) (p + 1) = omega arith in
+                record {
+                  caught = rw still y.caught.1;
+                  told = λ f. absurd (push_not_empty near.due Rr_due f);
+                  free = y.free;
+                  acks = y.acks;
+                }))
                 (same (e.due ++ Rnr_due ∷ []) (answers_push e.due Rnr_due tt h.near_due) s.gap_open true (λ w q. absurd (rnr_pushed near.due q))))),
-            rw shows.0 (answer_I near (p % 8) (n % 8) info h.near_up))
+            rw shows.0 (answer_I near (p % 8) (n % 8) info h.near_up),
+          )
       go (S k n ∷ ms) shows near_sends far_sends near_whole far_whole =
           let number = flows_number s.out s.window s.acked s.next s.reached t.acc h.far_marks ms (S k n) n refl near_sends in
           let reach : s.reached ≤ s.acked + 4 = omega (arith, near_sends.window, near_sends.reach_window) in
           let place : place_of s (n % 8) ≡ Some n = place_found s n number.0 number.1 reach in
           let receives : Sends t s.acc ms h.far_marks = flows_past t.out t.window t.acked t.next t.reached s.acc ms h.far_marks (S k n) far_sends in
           let from : (f : EndState) → f.phase ≡ Up → f.due ≡ near.due → Sends f.session t.acc h.far_marks ms → f.session.acc ≡ s.acc
-                  → (W → NoRnr far.due → Whole f.session t.acc far.due h.far_marks ms) → Joined W f far to_near to_far =
-              λ f up due sends acc whole. record {
-                near_up = up; far_up = h.far_up; near_due = rw due h.near_due; far_due = h.far_due; near_marks = ms;
-                far_marks = h.far_marks; near_shows = shows.1; far_shows = h.far_shows; near_sends = sends; far_sends = rw acc receives;
-                near_whole = whole;
-                far_whole = λ w q.
-                  let y = far_whole w (rw due at q) in
-                  record { caught = rw acc y.caught; told = λ z. y.told (sym due ∙ z) ∙ ap length (sym acc); free = y.free; acks = y.acks };
-              } in
+          → (W → NoRnr far.due → Whole f.session t.acc far.due h.far_marks ms) → Joined W f far to_near to_far =
+          λ f up due sends acc whole. record {
+            near_up = up;
+            far_up = h.far_up;
+            near_due = rw due h.near_due;
+            far_due = h.far_due;
+            near_marks = ms;
+            far_marks = h.far_marks;
+            near_shows = shows.1;
+            far_shows = h.far_shows;
+            near_sends = sends;
+            far_sends = rw acc receives;
+            near_whole = whole;
+            far_whole = λ w q.
+                let y = far_whole w (rw due at q) in
+                record { caught = rw acc y.caught; told = λ z. y.told (sym due ∙ z) ∙ ap length (sym acc); free = y.free; acks = y.acks };
+          } in
           let acked : (s' : ℕ) → n ≤ s' → s' ≤ s.reached → Flows s.out s.window n s' s.reached t.acc h.far_marks ms =
-              λ s' i j. flows_acked s.out s.window s.acked s.next s.reached s' t.acc h.far_marks ms (S k n) n refl i j near_sends in
-          let upper : max s.next n ≤ s.reached = omega (arith, near_sends.next_reach, number.1) in
-          (rw shows.0 (taken_S (λ f. Joined W f far to_near to_far) near k (n % 8) n h.near_up place
-              (λ is. from (ready_again near n) h.near_up refl (acked (max s.next n) (omega arith) upper) refl (freed k n ms near_whole (ready_again near n).session refl refl refl))
-              (λ is. from (rejected near n) h.near_up refl (acked n (omega arith) number.1) refl (freed k n ms near_whole (rejected near n).session refl refl refl))
-              (λ is. from (made_busy near n) h.near_up refl (acked n (omega arith) number.1) refl (stopped_by k n ms (inl is) near_whole (made_busy near n).session))
-              (λ is. from near h.near_up refl (flows_lost_back s.out s.window s.acked s.next s.reached t.acc h.far_marks ms (S k n) near_sends) refl
+          λ s' i j. flows_acked s.out s.window s.acked s.next s.reached s' t.acc h.far_marks ms (S k n) n refl i j near_sends in
+          let upper : max s.next n ≤ s.reached = omega (arith, near_sends.next_reach, number.1) in (
+            rw shows.0 (taken_S (λ f. Joined W f far to_near to_far) near k (n % 8) n h.near_up place
+                (λ is. from (ready_again near n) h.near_up refl (acked (max s.next n) (omega arith) upper) refl (freed k n ms near_whole (ready_again near n).session refl refl refl))
+                (λ is. from (rejected near n) h.near_up refl (acked n (omega arith) number.1) refl (freed k n ms near_whole (rejected near n).session refl refl refl))
+                (λ is. from (made_busy near n) h.near_up refl (acked n (omega arith) number.1) refl (stopped_by k n ms (inl is) near_whole (made_busy near n).session))
+                (λ is. from near h.near_up refl (flows_lost_back s.out s.window s.acked s.next s.reached t.acc h.far_marks ms (S k n) near_sends) refl
                 (stopped_by k n ms (inr is) near_whole s))),
-            rw shows.0 (answer_S near k (n % 8) h.near_up))
+            rw shows.0 (answer_S near k (n % 8) h.near_up),
+          )
         where
           -- an acknowledgement frees the sender
           freed : (k : Kind) (n : ℕ) (ms : List Control) → (W → NoRnr far.due → Whole s t.acc far.due h.far_marks (S k n ∷ ms))
@@ -367,6 +451,7 @@ module _ (W : Type 0) where
           freed k n ms whole f acked reached busy w q =
               let y = whole w q in
               record { caught = rw reached y.caught; told = rw acked y.told; free = busy; acks = acks_rest k n ms y.acks }
+
           stopped_by : (k : Kind) (n : ℕ) (ms : List Control) → ((k ≡ Rnr) ⊎ (k ≡ Srej)) → (W → NoRnr far.due → Whole s t.acc far.due h.far_marks (S k n ∷ ms))
               → (f : Session) → W → NoRnr far.due → Whole f t.acc far.due h.far_marks ms
           stopped_by k n ms is whole f w q = absurd (no_stop k n ms is (whole w q).acks)
@@ -384,7 +469,11 @@ module _ (W : Type 0) where
       let s = near.session in
       let t = far.session in
       record {
-        near_up = h.near_up; far_up = h.far_up; near_due = due; far_due = h.far_due; near_marks = h.near_marks;
+        near_up = h.near_up;
+        far_up = h.far_up;
+        near_due = due;
+        far_due = h.far_due;
+        near_marks = h.near_marks;
         far_marks = h.far_marks ++ S k (length s.acc) ∷ [];
         near_shows = h.near_shows;
         far_shows = shows_push to_far h.far_marks (S k (expected s)) (S k (length s.acc)) refl h.far_shows;
@@ -402,14 +491,18 @@ module _ (W : Type 0) where
       let t = far.session in
       let tells = fragment_due_tells s info is in
       record {
-        near_up = h.near_up; far_up = h.far_up; near_due = h.near_due; far_due = h.far_due; near_marks = h.near_marks;
+        near_up = h.near_up;
+        far_up = h.far_up;
+        near_due = h.near_due;
+        far_due = h.far_due;
+        near_marks = h.near_marks;
         far_marks = h.far_marks ++ I s.next (length s.acc) info ∷ [];
         near_shows = h.near_shows;
         far_shows = shows_push to_far h.far_marks (I (s.next % 8) (expected s) info) (I s.next (length s.acc) info) refl h.far_shows;
         near_sends = flows_send s.out s.window s.acked s.next s.reached t.acc h.far_marks h.near_marks (length s.acc) info tells.0 tells.1 h.near_sends;
         far_sends = flows_answer t.out t.window t.acked t.next t.reached s.acc h.near_marks h.far_marks (I s.next (length s.acc) info) refl h.far_sends;
         near_whole = λ v q.
-          whole_send s (sent_next s) t.acc far.due h.far_marks h.near_marks (length s.acc) info h.near_sends.next_reach refl refl refl (h.near_whole (weak v) q);
+            whole_send s (sent_next s) t.acc far.due h.far_marks h.near_marks (length s.acc) info h.near_sends.next_reach refl refl refl (h.near_whole (weak v) q);
         far_whole = λ v q. whole_answer_I t s.acc near.due near.due h.near_marks h.far_marks s.next info (h.far_whole (weak v) q);
       }
 
@@ -419,10 +512,10 @@ module _ (W : Type 0) where
       → Joined W near far to_near to_far → Joined V (fetched near) far to_near (with_next to_far (frame_due near))
   joined_fetched V weak near far to_near to_far rnr h =
       fetch_cases (λ e c. (V → rnr_next c ≡ false) → Joined V e far to_near (with_next to_far c)) near
-        (λ d ds p r. control d ds p (rw p at h.near_due) r)
-        (λ p q r. joined_weaker V weak near far to_near to_far h)
-        (λ info p q r. joined_sent V weak near far to_near to_far info q h)
-        rnr
+      (λ d ds p r. control d ds p (rw p at h.near_due) r)
+      (λ p q r. joined_weaker V weak near far to_near to_far h)
+      (λ info p q r. joined_sent V weak near far to_near to_far info q h)
+      rnr
     where
       control : (d : Due) (ds : List Due) → near.due ≡ d ∷ ds → AnswersOnly (d ∷ ds) → (V → rnr_next (Some (control_due near d)) ≡ false)
           → Joined V (record near { due = ds }) far to_near (with_frame to_far (control_due near d))

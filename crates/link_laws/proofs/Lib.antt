@@ -6,3 +6,5 @@ pub mod Joined
 pub mod InOrder
 pub mod Idle
 pub mod Delivered
+pub mod Wires
+mod Examples

@@ -1,6 +1,6 @@
 -- A number modulo 8 names one place among those that it can mean.
-use Rattle.std.proofs.Common.{◌≡◌, ℕ, ◌+◌, ◌-◌, ◌%◌, ◌<◌, ◌≤◌, Bool, true, false, Option, Some, None, refl, arith, length}
-use Rattle.std.proofs.lemmas.Bool.{eq-eqb, le-leb, and_from, cond-true, ne_eqb}
+use Rattle.std.proofs.Common.{◌≡◌, ℕ, ◌+◌, ◌-◌, ◌%◌, ◌<◌, ◌≤◌, Some, None, refl, arith, length}
+use Rattle.std.proofs.lemmas.Bool.{eq-eqb, le-leb, and_from, cond-true}
 use Rattle.shdlc_core.specs.Machine.{Session, place_of, ahead}
 
 -- the eight places from a on have different numbers

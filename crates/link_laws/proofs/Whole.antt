@@ -1,7 +1,6 @@
 -- One sender, its receiver and the wires between them, where nothing was lost and no RNR was made.
-use Rattle.std.proofs.Common.{◌≡◌, ℕ, ◌+◌, ◌<◌, ◌≤◌, Bool, false, List, [], ◌∷◌, ◌++◌, refl, ap, sym, ◌∙◌, arith, length, max}
+use Rattle.std.proofs.Common.{◌≡◌, ℕ, ◌+◌, ◌≤◌, false, List, [], ◌∷◌, ◌++◌, ◌∙◌, length, max}
 use Rattle.swp_base.specs.declared.control_frames.Kind.{Kind}
-use Rattle.swp_base.specs.declared.control_frames.Kind.TheVariants.{Rr, Rej, Rnr, Srej}
 use Rattle.swp_base.specs.declared.control_frames.Control.{Control}
 use Rattle.swp_base.specs.declared.control_frames.Control.TheVariants.{I, S}
 use Rattle.shdlc_core.specs.declared.answers.Due.{Due}
@@ -81,7 +80,9 @@ pub whole_answer_I : (s : Session) (acc : List Fragment) (due due' : List Due) (
     → Whole s acc due there back → Whole s acc due' there (back ++ I p (length acc) info ∷ [])
 whole_answer_I s acc due due' there back p info h =
     record {
-      caught = h.caught; told = λ e. last_count_push_I s.acked p (length acc) info back; free = h.free;
+      caught = h.caught;
+      told = λ e. last_count_push_I s.acked p (length acc) info back;
+      free = h.free;
       acks = acks_push back (I p (length acc) info) tt h.acks;
     }
 
@@ -89,6 +90,8 @@ pub whole_answer_S : (s : Session) (acc : List Fragment) (due due' : List Due) (
     → AcksOnly (S k (length acc) ∷ []) → Whole s acc due there back → Whole s acc due' there (back ++ S k (length acc) ∷ [])
 whole_answer_S s acc due due' there back k e h =
     record {
-      caught = h.caught; told = λ e. last_count_push_S s.acked (length acc) k back; free = h.free;
+      caught = h.caught;
+      told = λ e. last_count_push_S s.acked (length acc) k back;
+      free = h.free;
       acks = acks_push back (S k (length acc)) e h.acks;
     }

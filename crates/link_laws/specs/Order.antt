@@ -1,5 +1,5 @@
 -- What the two sessions of a link have to do with each other.
-use Rattle.std.specs.Prelude.{ℕ, ◌≤◌, ◌≡◌, List, length}
+use Rattle.std.specs.Prelude.{◌≤◌, ◌≡◌, length}
 use mathlib.Core.List.{IsPrefix}
 use Rattle.shdlc_core.specs.Machine.{Session}
 
