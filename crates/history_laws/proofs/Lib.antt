@@ -6,3 +6,4 @@ pub mod Orders
 pub mod CalmLink
 pub mod Mirror
 pub mod Whole
+pub mod Sound

@@ -55,7 +55,7 @@ pub put_all_wire : (l : Link) (cs : List Control) → lpdus_on (put_all l cs).to
 put_all_wire l [] = refl
 put_all_wire l (c ∷ cs) = put_all_wire (put l c) cs ∙ ap (λ w. put_on w (map lpdu_of cs)) (put_wire l c)
 
-append_none : {X : Type 0} (a b : List X) → a ++ b ≡ [] → (a ≡ []) × (b ≡ [])
+pub append_none : {X : Type 0} (a b : List X) → a ++ b ≡ [] → (a ≡ []) × (b ≡ [])
 append_none [] b none = (refl, none)
 append_none (x ∷ a) b none = absurd (cc)
 
