@@ -7,3 +7,5 @@ pub mod CalmLink
 pub mod Mirror
 pub mod Whole
 pub mod Sound
+pub mod Steps
+pub mod Keeps
