@@ -20,14 +20,14 @@ use Rattle.history_laws.proofs.Filtering.{fold_both, fold-puts, filter_map-puts,
 -- ## Notes
 
 -- a fold that passes over what is acknowledged passes over the note of it
-fold-acked : {S : Type 0} (f : S → Entry → S) (t : List Entry) (e : End) (m : EndState) → ((s : S) (n count : ℕ) → f s (Acked e n count) ≡ s) → (s : S) → fold f s (acked_note t e m) ≡ s
+pub fold-acked : {S : Type 0} (f : S → Entry → S) (t : List Entry) (e : End) (m : EndState) → ((s : S) (n count : ℕ) → f s (Acked e n count) ≡ s) → (s : S) → fold f s (acked_note t e m) ≡ s
 fold-acked {S} f t e m passes s = go (nat_lt (whole_among (sent_in t e (number_at t e)) (machine_at t e).session.acked) (whole_among (sent_in t e (number_at t e)) m.session.acked))
   where
     go : (b : Bool) → fold f s (cond b (Acked e (number_at t e) (whole_among (sent_in t e (number_at t e)) m.session.acked) ∷ []) []) ≡ s
     go true = passes s (number_at t e) (whole_among (sent_in t e (number_at t e)) m.session.acked)
     go false = refl
 
-filter_map-acked : {M : Type 0} (f : Entry → Option M) (t : List Entry) (e : End) (m : EndState) → ((n count : ℕ) → f (Acked e n count) ≡ None) → filter_map f (acked_note t e m) ≡ []
+pub filter_map-acked : {M : Type 0} (f : Entry → Option M) (t : List Entry) (e : End) (m : EndState) → ((n count : ℕ) → f (Acked e n count) ≡ None) → filter_map f (acked_note t e m) ≡ []
 filter_map-acked {M} f t e m passes = go (nat_lt (whole_among (sent_in t e (number_at t e)) (machine_at t e).session.acked) (whole_among (sent_in t e (number_at t e)) m.session.acked))
   where
     go : (b : Bool) → filter_map f (cond b (Acked e (number_at t e) (whole_among (sent_in t e (number_at t e)) m.session.acked) ∷ []) []) ≡ []

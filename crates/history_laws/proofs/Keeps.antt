@@ -34,7 +34,7 @@ two_ends P link false here there true = there
 two_ends P link true here there false = there
 two_ends P link true here there true = here
 
-other_sound : (t : List Entry) (link : ℕ) (s : Bool) → Sound t link → SoundEnd t (other_end (end_at link s))
+pub other_sound : (t : List Entry) (link : ℕ) (s : Bool) → Sound t link → SoundEnd t (other_end (end_at link s))
 other_sound t link false h = h.ends true
 other_sound t link true h = h.ends false
 
@@ -110,11 +110,11 @@ order_sent_event t e pid message h =
 -- ## An end takes a frame
 
 -- a link whose end takes the first frame on its way to it
-record Takes (l : Link) (t : List Entry) (e : End) (lpdu : List ℕ) : Type 0 where
+pub record Takes (l : Link) (t : List Entry) (e : End) (lpdu : List ℕ) : Type 0 where
   pub mirrors : Mirrors (happens_here l Deliver) (t ++ took_event t e lpdu) e
   pub takes : TakesOn (machine_at t e) (taken_lpdu (machine_at t e) lpdu)
 
-link_takes : ReadsAgain → (l : Link) (t : List Entry) (e : End) (lpdu : List ℕ) (rest : List (List ℕ)) → Mirrors l t e → IsCalmLink l 0 → wire_to t e ≡ lpdu ∷ rest → Takes l t e lpdu
+pub link_takes : ReadsAgain → (l : Link) (t : List Entry) (e : End) (lpdu : List ℕ) (rest : List (List ℕ)) → Mirrors l t e → IsCalmLink l 0 → wire_to t e ≡ lpdu ∷ rest → Takes l t e lpdu
 link_takes reads l t e lpdu rest m calm stands = go l.to_controller (m.near_wire ∙ stands) calm.to_controller
   where
     go : (wire : List Carried) → lpdus_on wire ≡ lpdu ∷ rest → AreCalm wire → Takes (record l { to_controller = wire }) t e lpdu

@@ -9,3 +9,5 @@ pub mod Whole
 pub mod Sound
 pub mod Steps
 pub mod Keeps
+pub mod Legal
+pub mod Runs
