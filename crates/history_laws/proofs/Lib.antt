@@ -11,3 +11,5 @@ pub mod Steps
 pub mod Keeps
 pub mod Legal
 pub mod Runs
+pub mod Written
+pub mod Opening

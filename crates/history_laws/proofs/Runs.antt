@@ -42,11 +42,11 @@ IsOfSession0 (_) = Unit {0}
 abbrev pub AreOfSession0 : List Entry → Type 0
 AreOfSession0 entries = AllByRecursion IsOfSession0 entries
 
-all_both : (a b : List Entry) → AreOfSession0 a → AreOfSession0 b → AreOfSession0 (a ++ b)
+pub all_both : (a b : List Entry) → AreOfSession0 a → AreOfSession0 b → AreOfSession0 (a ++ b)
 all_both [] b h k = k
 all_both (x ∷ a) b h k = (h.0, all_both a b h.1 k)
 
-all_front : (a b : List Entry) → AreOfSession0 (a ++ b) → AreOfSession0 a
+pub all_front : (a b : List Entry) → AreOfSession0 (a ++ b) → AreOfSession0 a
 all_front [] b h = tt
 all_front (x ∷ a) b h = (h.0, all_front a b h.1)
 
@@ -101,7 +101,7 @@ nothing_acked (Acked f k count ∷ t) e j a h =
     ap (λ b. fold (acked_after e (suc j)) (if b then max a count else a) t) (and_false (same_end f e) (eqb k (suc j)) (not_zero k j h.0)) ∙ nothing_acked t e j a h.1
 nothing_acked (_ ∷ t) e j a h = nothing_acked t e j a h.1
 
-in_order_of : (t : List Entry) → AreOfSession0 t → InOrder0 t → IsInOrder t
+pub in_order_of : (t : List Entry) → AreOfSession0 t → InOrder0 t → IsInOrder t
 in_order_of t numbered h =
     record {
       delivered = λ e n. (parts e n).delivered;
@@ -181,7 +181,7 @@ keep_line laws header t line valid h = go (refusal t line)
     go (Some cause) = keep_none t h
     go None = caused line valid
 
-events_both : (t : List Entry) (a b : List Event) → EventsKeep t a → EventsKeep (t ++ entries_of a) b → EventsKeep t (a ++ b)
+pub events_both : (t : List Entry) (a b : List Event) → EventsKeep t a → EventsKeep (t ++ entries_of a) b → EventsKeep t (a ++ b)
 events_both t [] b h k = (let P : List Entry → Type 0 = λ l. EventsKeep l b in subst P (append-nil t) k)
 events_both t (x ∷ a) b h k =
     (h.0, h.1, h.2, events_both (t ++ x) a b h.3 (let P : List Entry → Type 0 = λ l. EventsKeep l b in subst P (sym (append_assoc t x (entries_of a))) k))
