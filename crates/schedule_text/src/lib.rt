@@ -5,8 +5,11 @@ mod fault;
 mod read;
 mod rules;
 mod forms;
+mod text;
 mod values;
 mod words;
+mod write;
 
 pub use fault::LineFault;
 pub use read::{Read, read_line};
+pub use write::write_entry;
