@@ -1,9 +1,8 @@
 -- How growing text goes on.
-use Rattle.std.proofs.Common.{◌≡◌, ℕ, ◌+◌, ◌≤◌, ◌/◌, ◌%◌, ◌<◌, Bool, true, false, List, [], ◌∷◌, ◌++◌, length, take, refl, sym, ◌∙◌, ap, subst, arith, slice_index, append_assoc, length-append, get_or, ◌^◌}
-use Rattle.std.proofs.lemmas.List.{take-append-le, take_all, take_more}
-use Rattle.std.specs.List.{join_with_byte}
+use Rattle.std.proofs.Common.{◌≡◌, ℕ, ◌+◌, ◌≤◌, ◌/◌, ◌%◌, ◌<◌, Bool, true, false, List, [], ◌∷◌, ◌++◌, length, take, refl, sym, ◌∙◌, ap, subst, arith, slice_index, append_assoc, length-append, get_or, ◌^◌, append-nil, map}
+use Rattle.std.proofs.lemmas.List.{take-append-le, take_all, take_more, map-append}
 use Rattle.std.specs.Fmt.{decimal}
-use Rattle.std.proofs.lemmas.Fmt.{decimal_step, decimal_digit}
+use Rattle.std.proofs.lemmas.Fmt.{decimal_step}
 use Rattle.hex.specs.Hex.{encode_with, encode_upper, upper_digits}
 use Rattle.schedule_text.specs.Words.{spaced}
 use Rattle.schedule_text.specs.Growth.{Holds, HoldsWords}
@@ -62,10 +61,18 @@ pub holds_byte : (start text bytes digits items : List ℕ) (i : ℕ) (short : B
 holds_byte start text bytes digits items i short within e h =
     subst (λ t. Holds start t items short)
     (ap (λ d. (text ++ encode_upper (take i bytes)) ++ d) e ∙ append_assoc text (encode_upper (take i bytes)) (encode_upper (get_or bytes i 0 ∷ []))
-        ∙ ap (λ t. text ++ t) (sym (encode-more bytes i within))) h
+    ∙ ap (λ t. text ++ t) (sym (encode-more bytes i within))) h
 
 -- the last digit of a number
 pub holds_digit : (start text items : List ℕ) (n : ℕ) (short : Bool) → 10 ≤ n → n < 2 ^ 64
     → Holds start ((text ++ decimal (n / 10)) ++ ((48 + n % 10) ∷ [])) items short → Holds start (text ++ decimal n) items short
 holds_digit start text items n short large fits h =
     subst (λ t. Holds start t items short) (append_assoc text (decimal (n / 10)) ((48 + n % 10) ∷ []) ∙ ap (λ t. text ++ t) (sym (decimal_step n large fits))) h
+
+-- before anything is appended
+pub holds_nothing : (start : List ℕ) → Holds start [] start false
+holds_nothing start = record { whole = λ _. sym (append-nil start); front = λ e. cc }
+
+-- the words of one more host
+pub hosts-more : (f : ℕ → List ℕ) (hosts : List ℕ) (i : ℕ) → i < length hosts → map f (take (i + 1) hosts) ≡ map f (take i hosts) ++ f (get_or hosts i 0) ∷ []
+hosts-more f hosts i h = rw (take_more hosts i 0 h, map-append) refl

@@ -2,9 +2,9 @@
 #![tactic(auto)]
 
 mod fault;
+mod forms;
 mod read;
 mod rules;
-mod forms;
 mod text;
 mod values;
 mod words;

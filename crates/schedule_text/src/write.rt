@@ -1,5 +1,5 @@
 //! An entry of a transcript is written.
-ghost use Rattle.std.specs.Prelude.{◌≡◌, List, ℕ, [], ◌∷◌, ◌++◌, OnOk, OnErr, length, take, ◌≤◌};
+ghost use Rattle.std.specs.Prelude.{◌≡◌, List, ℕ, [], ◌∷◌, ◌++◌, OnOk, OnErr, codes, if◌then◌else◌};
 ghost use Rattle.std.specs.Fmt.{decimal};
 ghost use Rattle.hex.specs.Hex.{encode_upper};
 ghost use Rattle.schedule_text.specs.Entries.{end_text, byte_text, header_words, line_words, lost_word, cause_words, entry_words, entry_line};
@@ -118,10 +118,16 @@ fn write_header(text: &mut Text, header: &Header)
 {
     text.word(b"swp");
     text.word(b"1");
-    text.word(if header.hci { b"hci" } else { b"bare" });
-    for host in &header.hosts {
+    text.word(world_of(header.hci));
+    for host in header.hosts.as_slice() {
         text.byte(*host);
     }
+}
+
+fn world_of(hci: bool) -> &'static [u8]
+    ensures { result.now ≡ (if hci then codes "hci" else codes "bare") }
+{
+    if hci { b"hci" } else { b"bare" }
 }
 
 fn write_line(text: &mut Text, line: &Line)

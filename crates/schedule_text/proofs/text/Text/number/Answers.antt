@@ -7,5 +7,5 @@ use Rattle.schedule_text.proofs.text.Text.number.Goals as goal
 pub returns : goal.returns
 returns c =
     λ start first more h.
-      holds_word start first (decimal c.args.number) _ more _
-      (c.digits.ensures start (spaced (first ∷ more) ++ (32 ∷ [])) (c.push.ensures start (spaced (first ∷ more)) h))
+    holds_word start first (decimal c.args.number) _ more _
+    (c.digits.ensures start (spaced (first ∷ more) ++ (32 ∷ [])) (c.push.ensures start (spaced (first ∷ more)) h))
