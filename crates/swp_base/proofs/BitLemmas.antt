@@ -1,5 +1,5 @@
 -- Lemmas on the bits of bytes.
-use Rattle.std.proofs.Common.{◌≡◌, ℕ, ◌+◌, ◌*◌, List, [], ◌∷◌, ◌++◌, length, refl, ap, sym, ◌∙◌, arith, append_assoc, length-append}
+use Rattle.std.proofs.Common.{◌≡◌, ℕ, ◌*◌, List, [], ◌∷◌, ◌++◌, length, refl, ap, sym, ◌∙◌, arith, append_assoc, length-append}
 use Rattle.swp_base.specs.Bits.{bits_of_byte, bits_of}
 
 pub length-bits_of_byte : (b : ℕ) → length (bits_of_byte b) ≡ 8
