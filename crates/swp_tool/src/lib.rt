@@ -1,2 +1,6 @@
-//! The top call of the program.
+//! The top call of the program `swp`: words, input and output in, a status out.
 #![tactic(auto)]
+
+mod status;
+
+pub use status::{Status, exit_code, status_text};
