@@ -1,3 +1,4 @@
 pub mod Schedules
 pub mod Transcripts
 pub mod Statuses
+pub mod Replays

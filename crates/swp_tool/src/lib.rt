@@ -1,6 +1,8 @@
 //! The top call of the program `swp`: words, input and output in, a status out.
 #![tactic(auto)]
 
+mod replay;
 mod status;
+mod transcript;
 
 pub use status::{Status, exit_code, status_text};
