@@ -1,2 +1,3 @@
 pub mod Cutting
 pub mod Texts
+pub mod Reading

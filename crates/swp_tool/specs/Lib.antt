@@ -2,3 +2,4 @@ pub mod Schedules
 pub mod Transcripts
 pub mod Statuses
 pub mod Replays
+pub mod Pieces

@@ -1,6 +1,7 @@
 //! The top call of the program `swp`: words, input and output in, a status out.
 #![tactic(auto)]
 
+mod pieces;
 mod replay;
 mod status;
 mod transcript;

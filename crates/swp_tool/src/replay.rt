@@ -87,6 +87,7 @@ impl Replay {
         ensures few { OnOk result (HasFew self.new) }
         ensures count { OnOk result (self.new.count ≡ self.old.count + 1) }
         ensures same { OnErr result (self.new.text.items ≡ self.old.text.items) }
+        ensures uncounted { OnErr result (self.new.count ≡ self.old.count) }
     {
         let header = match &self.world {
             Some(world) => Some(&world.header),
@@ -114,6 +115,7 @@ impl Replay {
         ensures few { OnOk result (HasFew self.new) }
         ensures count { OnOk result (self.new.count ≡ self.old.count + 1) }
         ensures same { OnErr result (self.new.text.items ≡ self.old.text.items) }
+        ensures uncounted { OnErr result (self.new.count ≡ self.old.count) }
     {
         let world = open(alloc, header, &mut self.text)?;
         self.world = Some(world);
@@ -132,6 +134,7 @@ impl Replay {
         ensures few { OnOk result (HasFew self.new) }
         ensures count { OnOk result (self.new.count ≡ self.old.count + 1) }
         ensures same { OnErr result (self.new.text.items ≡ self.old.text.items) }
+        ensures uncounted { OnErr result (self.new.count ≡ self.old.count) }
     {
         let Some(world) = &mut self.world else {
             return Err(Halt::Fault(LineFault::Order));

@@ -10,7 +10,7 @@ pub returns-then-is_err-clause-err : goal.returns-then-is_err-clause-err
 returns-then-is_err-clause-err c =
     let now = c.write_entry-written.new.out.items in
     on_err (IsFront c.loop-entry.text.items (entry_line c.entry-item.result) now) ((more : List ℕ) × (now ≡ c.args.text.now.items ++ more))
-      c.write_entry-written.result
-      (front_is_more c.args.text.now.items (entry_line c.args.echo.now ++ entry_lines (take c.loop-entry.entry-index c.args.entries.now)) (entry_line c.entry-item.result)
-        c.loop-entry.text.items now c.loop-entry.invariant)
-      c.write_entry-written.ensures.err
+    c.write_entry-written.result
+    (front_is_more c.args.text.now.items (entry_line c.args.echo.now ++ entry_lines (take c.loop-entry.entry-index c.args.entries.now)) (entry_line c.entry-item.result)
+    c.loop-entry.text.items now c.loop-entry.invariant)
+    c.write_entry-written.ensures.err
