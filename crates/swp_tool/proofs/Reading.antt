@@ -1,11 +1,12 @@
 -- What a piece of a schedule adds to what was read before it.
-use Rattle.std.proofs.Common.{◌≡◌, ℕ, suc, ◌+◌, ◌-◌, ◌<◌, ◌≤◌, Bool, true, false, cond, eqb, ltb, List, [], ◌∷◌, ◌++◌, length, map, take, drop, refl, sym, ap, ◌∙◌, append_assoc, arith, subst}
+use Rattle.std.proofs.Common.{◌≡◌, ℕ, suc, ◌+◌, ◌-◌, ◌<◌, ◌≤◌, Bool, true, false, cond, eqb, ltb, List, [], ◌∷◌, ◌++◌, length, map, take, drop, refl, sym, ap, ◌∙◌, append_assoc, arith, subst, ◌⊎◌, ⊎_elim}
 use Rattle.std.specs.Prelude.{Option, Some, None, Result, Ok, Err}
 use Rattle.std.specs.List.{flat_map, fold, All}
 use Rattle.std.specs.Str.Lines.{lines, strip_carriage_return}
 use Rattle.std.proofs.lemmas.List.{append-nil}
 use Rattle.std.proofs.lemmas.Grind.{common_steps, fold-append}
 use Rattle.trace_model.specs.declared.line.Header.{Header}
+use Rattle.trace_model.specs.declared.line.Line.{Line}
 use Rattle.world.specs.declared.World.{World}
 use Rattle.schedule_text.specs.declared.fault.LineFault.{LineFault}
 use Rattle.schedule_text.specs.declared.fault.LineFault.TheVariants as fault
@@ -18,10 +19,10 @@ use Rattle.swp_tool.specs.declared.replay.Halt.{Halt}
 use Rattle.swp_tool.specs.declared.replay.Halt.TheVariants as halt
 use Rattle.swp_tool.specs.declared.pieces.Pieces.{Pieces}
 use Rattle.swp_tool.specs.Schedules.{Stop, AtFault, Too_many, Schedule, nothing_read, with_said, with_line, with_lines, ended, schedule_of}
-use Rattle.swp_tool.specs.Transcripts.{IsTranscriptOf, IsTextOf, IsTranscript}
+use Rattle.swp_tool.specs.Transcripts.{IsTranscriptOf, IsTextOf, IsTranscript, done_line}
 use Rattle.swp_tool.specs.Replays.{Runs, IsAt, HasPlayed, HaltsAt}
-use Rattle.swp_tool.specs.Pieces.{LacksLineFeed, ended_line, AllLackLineFeed, schedule_so_far, HasRead, IsReading, IsFrontTranscript, StopsAt, Halts}
-use Rattle.swp_tool.proofs.Cutting.{lines-ended, lines-all_ended, FirstLine, long_line, some_line, lacks_more}
+use Rattle.swp_tool.specs.Pieces.{LacksLineFeed, ended_line, AllLackLineFeed, schedule_so_far, HasRead, IsReading, IsFrontTranscript, StopsAt, Halts, HaltsAtEnd, schedule_read, IsCompleteTranscript}
+use Rattle.swp_tool.proofs.Cutting.{lines-ended, lines-all_ended, FirstLine, long_line, some_line, lacks_more, lines-lacks}
 
 -- ## Schedules
 
@@ -72,7 +73,7 @@ stops_there s why bytes running stop =
 transcript_same : (s s' : Schedule) (text : List ℕ) → StopsThere s s' → IsTranscript s text → IsTranscript s' text
 transcript_same s s' text there h =
     let P : Option Header → Type 0 = λ o. IsTextOf o s'.lines text in
-    let Q : List Rattle.trace_model.specs.declared.line.Line.Line → Type 0 = λ l. IsTextOf s.header l text in
+    let Q : List Line → Type 0 = λ l. IsTextOf s.header l text in
     subst P (sym there.header_is) (subst Q (sym there.lines_are) h)
 
 -- what a replay has gathered is the transcript of what it read
@@ -227,3 +228,116 @@ halts_at_line p why count now bytes written h count_is now_is halts =
     go halt.NoMemory any = λ rest.
         let R : List ℕ → Type 0 = λ b. IsFrontTranscript b text in
         subst R (sym (append_assoc bytes (10 ∷ []) rest)) (front_so_far p bytes written (10 ∷ rest) text h transcript)
+
+-- ## The end of the bytes
+
+end_of : (bytes : List ℕ) (P : List ℕ → Type 0) → P (bytes ++ []) → P bytes
+end_of bytes P h = subst P (append-nil bytes) h
+
+-- no line is under way
+pub played_all : (p : Pieces) (bytes written : List ℕ) → HasRead p bytes written → p.partial.items ≡ [] → HasPlayed p.replay (schedule_read bytes) written
+played_all p bytes written h none =
+    let P : Schedule → Type 0 = λ s. HasPlayed p.replay s written in
+    let is : lines bytes ≡ map strip_carriage_return h.whole =
+    end_of bytes (λ b. lines b ≡ map strip_carriage_return h.whole ++ lines (p.partial.items ++ [])) (lines_on p bytes written [] h)
+    ∙ (ap (λ l. map strip_carriage_return h.whole ++ lines (l ++ [])) none ∙ append-nil (map strip_carriage_return h.whole)) in
+    subst P (ap (λ l. with_lines nothing_read l) (sym is)) h.played
+
+rest_is : (p : Pieces) (bytes written : List ℕ) (h : HasRead p bytes written) → 0 < length p.partial.items → lines (p.partial.items ++ []) ≡ p.partial.items ∷ []
+rest_is p bytes written h some = ap lines (append-nil p.partial.items) ∙ lines-lacks p.partial.items h.partial_lacks some
+
+-- the line under way was played
+pub played_rest : (p : Pieces) (r : Replay) (bytes written : List ℕ) → HasRead p bytes written → 0 < length p.partial.items
+    → ((s : Schedule) (w : List ℕ) → HasPlayed p.replay s w → HasPlayed r (with_line s p.partial.items) w) → HasPlayed r (schedule_read bytes) written
+played_rest p r bytes written h some played =
+    let P : Schedule → Type 0 = λ s. HasPlayed r s written in
+    let is : lines bytes ≡ map strip_carriage_return h.whole ++ p.partial.items ∷ [] =
+    end_of bytes (λ b. lines b ≡ map strip_carriage_return h.whole ++ lines (p.partial.items ++ [])) (lines_on p bytes written [] h)
+    ∙ ap (λ l. map strip_carriage_return h.whole ++ l) (rest_is p bytes written h some) in
+    subst P (sym (ap (λ l. with_lines nothing_read l) is ∙ with_lines-append nothing_read (map strip_carriage_return h.whole) (p.partial.items ∷ [])))
+    (played (schedule_so_far h.whole) written h.played)
+
+-- the line under way was not played
+pub halts_at_rest : (p : Pieces) (why : Halt) (count : ℕ) (now bytes written : List ℕ) → HasRead p bytes written → 0 < length p.partial.items → count ≡ p.replay.count → now ≡ p.replay.text.items
+    → ((s : Schedule) (w : List ℕ) → HasPlayed p.replay s w → HaltsAt why s p.partial.items)
+    → HaltsAtEnd why count bytes (written ++ now)
+halts_at_rest p why count now bytes written h some count_is now_is halts =
+    let P : ℕ → Type 0 = λ n. HaltsAtEnd why n bytes (written ++ now) in
+    let Q : List ℕ → Type 0 = λ l. HaltsAtEnd why p.replay.count bytes (written ++ l) in
+    subst P (sym count_is) (subst Q (sym now_is) (go why (halts (schedule_so_far h.whole) written h.played)))
+  where
+    text : List ℕ
+    text = written ++ p.replay.text.items
+
+    transcript : IsTranscript (schedule_so_far h.whole) text
+    transcript = played_transcript p.replay (schedule_so_far h.whole) written h.played
+
+    go : (w : Halt) → HaltsAt w (schedule_so_far h.whole) p.partial.items → HaltsAtEnd w p.replay.count bytes text
+    go (halt.Fault f) stop =
+        end_of bytes (λ b. StopsAt b (AtFault f) (p.replay.count + 1) text)
+        (stops_next p bytes written [] (AtFault f) text h p.partial.items [] (rest_is p bytes written h some) stop transcript)
+    go halt.TooMany never = never
+    go halt.NoMemory any = end_of bytes (λ b. IsFrontTranscript b text) (front_so_far p bytes written [] text h transcript)
+
+-- the last line was gathered
+pub closed : (r : Replay) (bytes written text : List ℕ) → HasPlayed r (schedule_read bytes) written → (r.world ≡ None → ⊥) → text ≡ r.text.items ++ done_line r.count
+    → IsCompleteTranscript bytes (written ++ text)
+closed r bytes written text h up is =
+    let s = schedule_read bytes in
+    let same : schedule_of bytes ≡ s = go s.stop h.running s.header r.world h.at up in
+    let P : Schedule → Type 0 = λ x. IsTranscript x (written ++ r.text.items) in
+    record {
+      running = ap (λ x. x.stop) same ∙ h.running;
+      lines_text = written ++ r.text.items;
+      transcript = subst P (sym same) (played_transcript r s written h);
+      text_is = ap (λ l. written ++ l) is ∙ (sym (append_assoc written r.text.items (done_line r.count))
+          ∙ ap (λ n. (written ++ r.text.items) ++ done_line n) (h.count_is ∙ ap (λ x. x.count) (sym same)));
+    }
+  where
+    go : (o : Option Stop) → o ≡ None → (header : Option Header) (w : Option World) → IsAt w header (schedule_read bytes).lines (written ++ r.text.items) → (w ≡ None → ⊥)
+        → ended (record (schedule_read bytes) { stop = o; header = header }) ≡ record (schedule_read bytes) { stop = o; header = header }
+    go None is' (Some x) w at up' = refl
+    go None is' None None at up' = absurd (up' refl)
+    go None is' None (Some w) at up' = absurd at
+    go (Some x) is' header w at up' = absurd (cc)
+
+no_world : (header : Option Header) (ls : List Line) (text : List ℕ) → IsAt None header ls text → (header ≡ None) × (text ≡ [])
+no_world None ls text at = (refl, at.1)
+no_world (Some x) ls text at = absurd at
+
+ended_no_header : (s : Schedule) → s.stop ≡ None → s.header ≡ None → ended s ≡ record s { count = s.count + 1; stop = Some (AtFault fault.Order) }
+ended_no_header s running none =
+    let P : Option Stop → Type 0 = λ o. ended (record s { stop = o }) ≡ record s { count = s.count + 1; stop = Some (AtFault fault.Order) } in
+    let Q : Option Header → Type 0 = λ x. ended (record s { stop = None; header = x }) ≡ record s { header = x; count = s.count + 1; stop = Some (AtFault fault.Order) } in
+    subst P (sym running) (subst Q (sym none) refl)
+
+-- without a header the line after the last is out of order
+pub no_header : (r : Replay) (bytes written : List ℕ) → HasPlayed r (schedule_read bytes) written → r.world ≡ None
+    → StopsAt bytes (AtFault fault.Order) (r.count + 1) (written ++ r.text.items)
+no_header r bytes written h none =
+    let s = schedule_read bytes in
+    let text = written ++ r.text.items in
+    let P : Option World → Type 0 = λ w. IsAt w s.header s.lines text in
+    let nothing = no_world s.header s.lines text (subst P none h.at) in
+    let is : schedule_of bytes ≡ record s { count = s.count + 1; stop = Some (AtFault fault.Order) } = ended_no_header s h.running nothing.0 in
+    let Q : Schedule → Type 0 = λ x. IsTranscript x text in
+    let R : Option Header → Type 0 = λ x. IsTextOf x s.lines text in
+    record {
+      stop = ap (λ x. x.stop) is;
+      count_is = ap (λ x. x.count) is ∙ ap (λ n. n + 1) (sym h.count_is);
+      transcript = subst Q (sym is) (subst R (sym nothing.0) nothing.1);
+    }
+
+-- without memory the transcript of all lines stands
+pub no_memory_at_end : (r : Replay) (bytes written : List ℕ) → HasPlayed r (schedule_read bytes) written → IsFrontTranscript bytes (written ++ r.text.items)
+no_memory_at_end r bytes written h =
+    record { front = lines bytes; back = []; lines_are = sym (append-nil (lines bytes)); transcript = played_transcript r (schedule_read bytes) written h }
+
+pub halts_closing : (r : Replay) (why : Halt) (count : ℕ) (now bytes written : List ℕ) → HasPlayed r (schedule_read bytes) written → count ≡ r.count → now ≡ r.text.items
+    → (why ≡ halt.NoMemory) ⊎ ((why ≡ halt.Fault fault.Order) × (r.world ≡ None)) → HaltsAtEnd why count bytes (written ++ now)
+halts_closing r why count now bytes written h count_is now_is cause =
+    let P : ℕ → Type 0 = λ n. HaltsAtEnd why n bytes (written ++ now) in
+    let Q : List ℕ → Type 0 = λ l. HaltsAtEnd why r.count bytes (written ++ l) in
+    let R : Halt → Type 0 = λ w. HaltsAtEnd w r.count bytes (written ++ r.text.items) in
+    subst P (sym count_is) (subst Q (sym now_is)
+    (⊎_elim (λ memory. subst R (sym memory) (no_memory_at_end r bytes written h)) (λ order. subst R (sym order.0) (no_header r bytes written h order.1)) cause))

@@ -27,6 +27,10 @@ AllLackLineFeed (line ∷ more) = LacksLineFeed line × AllLackLineFeed more
 abbrev pub schedule_so_far : List (List ℕ) → Schedule
 schedule_so_far whole = with_lines nothing_read (map strip_carriage_return whole)
 
+-- the schedule of all lines of the bytes, without a word on whether it may end there
+abbrev pub schedule_read : List ℕ → Schedule
+schedule_read bytes = with_lines nothing_read (lines bytes)
+
 -- The bytes are whole lines and the front of one that is kept; the whole lines are played.
 pub record HasRead (p : Pieces) (bytes written : List ℕ) : Type 0 where
   pub whole : List (List ℕ)

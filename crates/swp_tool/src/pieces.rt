@@ -1,7 +1,8 @@
 //! A schedule comes in pieces; each line is played as soon as it has ended.
 ghost use Rattle.std.specs.Prelude.{◌≡◌, ◌≢◌, ◌+◌, ◌<◌, ◌++◌, ◌∷◌, [], List, ℕ, length, OnOk, IfErr};
 ghost use Rattle.std.specs.Str.Lines.{strip_carriage_return};
-ghost use Rattle.swp_tool.specs.Pieces.{HasRead, IsReading, IsCompleteTranscript, Halts, HaltsAtEnd, bytes_left};
+ghost use Rattle.swp_tool.specs.Replays.{HasPlayed};
+ghost use Rattle.swp_tool.specs.Pieces.{schedule_read, HasRead, IsReading, IsCompleteTranscript, Halts, HaltsAtEnd, bytes_left};
 
 use crate::replay::{Halt, Replay};
 use schedule_text::LineFault;
@@ -48,6 +49,51 @@ impl Pieces {
             }
         }
         Ok(())
+    }
+
+    /// The bytes have ended: plays the line that no LF has ended, if there is one, and gathers the last line of the
+    /// transcript. Where it halts, the text is that of the lines before.
+    pub fn finish(&mut self, alloc: Global) -> Result<(), Halt>
+        requires { IsReading self.old }
+        ensures done { OnOk result ((bytes written : List ℕ) → HasRead self.old bytes written
+            → IsCompleteTranscript bytes (written ++ self.new.replay.text.items)) }
+        ensures halts { IfErr result (λ why. (bytes written : List ℕ) → HasRead self.old bytes written
+            → HaltsAtEnd why self.new.replay.count bytes (written ++ self.new.replay.text.items)) }
+    {
+        match self.play_rest(alloc) {
+            Ok(()) => self.close(alloc),
+            Err(why) => Err(why),
+        }
+    }
+
+    /// Gathers the last line of the transcript.
+    fn close(&mut self, alloc: Global) -> Result<(), Halt>
+        ensures done { OnOk result ((bytes written : List ℕ) → HasPlayed self.old.replay (schedule_read bytes) written
+            → IsCompleteTranscript bytes (written ++ self.new.replay.text.items)) }
+        ensures halts { IfErr result (λ why. (bytes written : List ℕ) → HasPlayed self.old.replay (schedule_read bytes) written
+            → HaltsAtEnd why self.new.replay.count bytes (written ++ self.new.replay.text.items)) }
+    {
+        match self.replay.close(alloc) {
+            Ok(()) => Ok(()),
+            Err(why) => Err(why),
+        }
+    }
+
+    /// Plays the line that no LF has ended, if there is one.
+    fn play_rest(&mut self, alloc: Global) -> Result<(), Halt>
+        requires { IsReading self.old }
+        ensures played { OnOk result ((bytes written : List ℕ) → HasRead self.old bytes written → HasPlayed self.new.replay (schedule_read bytes) written) }
+        ensures halts { IfErr result (λ why. (bytes written : List ℕ) → HasRead self.old bytes written
+            → HaltsAtEnd why self.new.replay.count bytes (written ++ self.new.replay.text.items)) }
+    {
+        let rest = self.partial.as_slice();
+        if rest.is_empty() {
+            return Ok(());
+        }
+        match self.replay.play(alloc, rest) {
+            Ok(()) => Ok(()),
+            Err(why) => Err(why),
+        }
     }
 
     /// Takes a byte.

@@ -1,18 +1,18 @@
 //! The lines of a schedule are played one by one, and the transcript is gathered.
-ghost use Rattle.std.specs.Prelude.{◌≡◌, ◌+◌, ◌<◌, ◌++◌, ◌∷◌, [], List, ℕ, Ok, None, OnOk, OnErr, IfOk, IfErr, IsSomeAnd};
+ghost use Rattle.std.specs.Prelude.{◌≡◌, ◌+◌, ◌<◌, ◌++◌, ◌∷◌, [], List, ℕ, Ok, None, OnOk, OnErr, IfOk, IfErr, IsSomeAnd, ◌⊎◌, ◌≢◌};
 ghost use Rattle.trace_model.specs.declared.line.Header.{Header};
 ghost use Rattle.trace_model.specs.declared.line.Line.{Line};
 ghost use Rattle.trace_model.specs.Lines.{IsHeader, IsLineOf};
 ghost use Rattle.swp_tool.specs.Schedules.{Schedule, with_line, with_said, nothing_read};
 ghost use Rattle.swp_tool.specs.Replays.{Runs, HasPlayed, HasFew, HaltsAt};
-ghost use Rattle.swp_tool.specs.Transcripts.{text_of};
+ghost use Rattle.swp_tool.specs.Transcripts.{text_of, done_line};
 ghost use Rattle.history.specs.Follows.{opened};
 ghost use Rattle.history.specs.Legal.{Legal};
 ghost use Rattle.world.specs.Worlds.{StandsFor};
 
 use crate::transcript::note;
 use schedule_text::{LineFault, Read, read_line};
-use std::alloc::Global;
+use std::alloc::{AllocError, Global};
 use swp_base::NoMemory;
 use trace_model::{Entry, Header, Line};
 use world::{World, WorldFault};
@@ -143,6 +143,31 @@ impl Replay {
         self.count += 1;
         Ok(())
     }
+
+    /// Gathers the last line of the transcript, with the number of lines; without a header the schedule is no schedule.
+    pub fn close(&mut self, alloc: Global) -> Result<(), Halt>
+        ensures done { OnOk result ((self.old.world ≢ None) × (self.new.text.items ≡ self.old.text.items ++ done_line self.old.count)) }
+        ensures halts { IfErr result (λ why. (why ≡ Halt.NoMemory) ⊎ ((why ≡ Halt.Fault LineFault.Order) × (self.old.world ≡ None))) }
+        ensures same { OnErr result (self.new.text.items ≡ self.old.text.items) }
+        ensures count { self.new.count ≡ self.old.count }
+    {
+        if self.world.is_none() {
+            return Err(Halt::Fault(LineFault::Order));
+        }
+        match append_done(alloc, self.count, &mut self.text) {
+            Ok(()) => Ok(()),
+            Err(_) => Err(Halt::NoMemory),
+        }
+    }
+}
+
+/// Appends the last line of a transcript. Where there is no memory, the text stays as it was.
+fn append_done(alloc: Global, count: u64, text: &mut Vec<u8>) -> Result<(), AllocError>
+    ensures ok { OnOk result (text.new.items ≡ text.old.items ++ done_line count) }
+    ensures err { OnErr result (text.new.items ≡ text.old.items) }
+{
+    let line = format!(in alloc; "done {count}\n")?;
+    text.extend_from_slice(line.as_bytes())
 }
 
 /// The world of a header, and the text of its opening behind what was gathered.

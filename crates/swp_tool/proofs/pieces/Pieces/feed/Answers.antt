@@ -19,5 +19,5 @@ returns-in-Err-clause-halts c bytes written h =
     let count = c.take.new.self.replay.count in
     let P : List ℕ → Type 0 = λ b. Halts c.in-Err.why count b text in
     subst P (whole_piece bytes piece i (omega (arith, c.loop-byte-test.true)))
-      (halts_more c.in-Err.why count ((bytes ++ take i piece) ++ get_or piece i 0 ∷ []) (drop (i + 1) piece) text
-        (c.in-Err.ensures.halts (bytes ++ take i piece) written (c.loop-byte.invariant.read bytes written h)))
+    (halts_more c.in-Err.why count ((bytes ++ take i piece) ++ get_or piece i 0 ∷ []) (drop (i + 1) piece) text
+    (c.in-Err.ensures.halts (bytes ++ take i piece) written (c.loop-byte.invariant.read bytes written h)))
