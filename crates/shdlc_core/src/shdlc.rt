@@ -595,3 +595,6 @@ impl Shdlc {
         self.receiver.set_answered_rnr(false);
     }
 }
+
+#[cfg(test)]
+mod tests;
