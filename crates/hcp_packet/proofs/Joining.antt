@@ -1,13 +1,12 @@
 -- Cutting messages into packets and joining them again.
-use Rattle.std.proofs.Common.{◌≡◌, ℕ, zero, suc, ◌+◌, ◌-◌, ◌*◌, ◌/◌, ◌<◌, ◌≤◌, Bool, true, false, cond, eqb, List, [], ◌∷◌, ◌++◌, length, take, drop, map, refl, sym, ap, ◌∙◌, append_assoc, arith, length-take, length-drop, take-append-drop}
-use Rattle.std.specs.Prelude.{Some}
-use Rattle.std.specs.List.{filter, flat_map}
-use Rattle.std.proofs.lemmas.List.{append-nil, take_all}
+use Rattle.std.proofs.Common.{◌≡◌, ℕ, zero, suc, ◌+◌, ◌-◌, ◌*◌, ◌/◌, ◌<◌, ◌≤◌, Bool, true, false, cond, eqb, leb, List, [], ◌∷◌, ◌++◌, length, take, drop, map, refl, sym, ap, ◌∙◌, append_assoc, arith, length-drop, take-append-drop}
+use Rattle.std.specs.Prelude.{Some, slice_get}
+use Rattle.std.specs.List.{flat_map}
+use Rattle.std.proofs.lemmas.List.{append-nil, take_all, drop-drop}
 use Rattle.std.proofs.lemmas.List.Elements.{filter_map-append, filter-append}
 use Rattle.std.proofs.lemmas.Grind.{common_steps, fold-append}
-use Rattle.arrayvec.specs.ArrayVec.{ArrayVec}
 use Rattle.hcp_packet.specs.declared.Packet.{Packet}
-use Rattle.hcp_packet.specs.Packets.{packet, bytes_of, packet_of, parts_of, packet_count, packets_of, under_way_after, under_way, ended_by, messages_after, messages_of, is_good, good_of, packets_in, good_messages_of, fragments_of, IsSendable, AreSendable, IsFrontOf}
+use Rattle.hcp_packet.specs.Packets.{packet, bytes_of, packet_of, parts_of, packet_count, packets_of, packet_at, under_way_after, under_way, ended_by, messages_after, messages_of, is_good, good_of, packets_in, good_messages_of, fragments_of, AreSendable, IsFrontOf}
 
 -- what packets end that come behind others
 messages_after-append : (before q r : List Packet) → messages_after before (q ++ r) ≡ messages_after before q ++ messages_after (before ++ q) r
@@ -50,11 +49,11 @@ parts_joined pipe (suc n) left before fits =
     ap (messages_after before) (parts_of-more pipe n left)
     ∙ (parts_joined pipe n (drop 28 left) (before ++ packet false pipe (take 28 left) ∷ []) (omega (arith, length-drop 28 left))
     ∙ ap (λ bytes. (pipe, bytes) ∷ []) (
-        ap (λ bytes. bytes ++ drop 28 left) (
-            under_way-push pipe before (packet false pipe (take 28 left))
-            ∙ ap (λ b. cond b (under_way pipe before ++ take 28 left) (under_way pipe before)) (eqb_self pipe))
-        ∙ (append_assoc (under_way pipe before) (take 28 left) (drop 28 left)
-        ∙ ap (λ bytes. under_way pipe before ++ bytes) (take-append-drop 28 left))))
+    ap (λ bytes. bytes ++ drop 28 left) (
+    under_way-push pipe before (packet false pipe (take 28 left))
+    ∙ ap (λ b. cond b (under_way pipe before ++ take 28 left) (under_way pipe before)) (eqb_self pipe))
+    ∙ (append_assoc (under_way pipe before) (take 28 left) (drop 28 left)
+    ∙ ap (λ bytes. under_way pipe before ++ bytes) (take-append-drop 28 left))))
 
 -- Behind the last part of a message nothing is under way on its pipe, nor on others where nothing was.
 parts_end : (pipe n : ℕ) (left : List ℕ) (before : List Packet) (q : ℕ) → (eqb pipe q ≡ false → under_way q before ≡ []) → under_way q (before ++ parts_of pipe (suc n) left) ≡ []
@@ -68,8 +67,8 @@ parts_end pipe (suc n) left before q idle =
     ap (λ ps. under_way q (before ++ ps)) (parts_of-more pipe n left)
     ∙ (ap (under_way q) (sym (append_assoc before (packet false pipe (take 28 left) ∷ []) (parts_of pipe (suc n) (drop 28 left))))
     ∙ parts_end pipe n (drop 28 left) (before ++ packet false pipe (take 28 left) ∷ []) q
-        (λ other. under_way-push q before (packet false pipe (take 28 left))
-            ∙ (ap (λ b. cond b (under_way q before ++ take 28 left) (under_way q before)) other ∙ idle other)))
+    (λ other. under_way-push q before (packet false pipe (take 28 left))
+    ∙ (ap (λ b. cond b (under_way q before ++ take 28 left) (under_way q before)) other ∙ idle other)))
 
 -- a message that isn't empty has packets enough for its bytes
 packet_count-suc : (len : ℕ) → 0 < len → (n : ℕ) × (packet_count len ≡ suc n) × (len ≤ 28 * suc n)
@@ -87,9 +86,9 @@ joined_behind (m ∷ sent) sendable before idle =
     ap (λ ps. messages_after before (ps ++ packets_of_all sent)) parts
     ∙ (messages_after-append before (parts_of m.0 (suc count.0) m.1) (packets_of_all sent)
     ∙ (ap (λ ms. ms ++ messages_after (before ++ parts_of m.0 (suc count.0) m.1) (packets_of_all sent))
-        (parts_joined m.0 count.0 m.1 before count.2 ∙ ap (λ bytes. (m.0, bytes ++ m.1) ∷ []) (idle m.0))
+    (parts_joined m.0 count.0 m.1 before count.2 ∙ ap (λ bytes. (m.0, bytes ++ m.1) ∷ []) (idle m.0))
     ∙ ap (λ ms. m ∷ ms) (joined_behind sent sendable.1 (before ++ parts_of m.0 (suc count.0) m.1)
-        (λ q. parts_end m.0 count.0 m.1 before q (λ other. idle q)))))
+    (λ q. parts_end m.0 count.0 m.1 before q (λ other. idle q)))))
 
 -- what is written is read again
 packet_of-bytes_of : (p : Packet) → p.pipe < 112 → packet_of (bytes_of p) ≡ Some p
@@ -126,3 +125,37 @@ pub whole_messages_have_come : (sent : List (ℕ × List ℕ)) (got : List (List
 whole_messages_have_come sent got sendable front =
     let grown = good_messages_grow (fragments_of sent) got front in
     (grown.0, ap (λ ms. ms ++ grown.0) (sym (ap good_of (joined_again sent sendable))) ∙ grown.1)
+
+-- how many parts there are
+length-parts_of : (pipe n : ℕ) (left : List ℕ) → length (parts_of pipe n left) ≡ n
+length-parts_of pipe zero left = refl
+length-parts_of pipe (suc n) left = ap suc (length-parts_of pipe n (drop 28 left))
+
+pub packets_are_counted : (pipe : ℕ) (message : List ℕ) → length (packets_of pipe message) ≡ packet_count (length message)
+packets_are_counted pipe message = length-parts_of pipe (packet_count (length message)) message
+
+-- a test at the only part and at a part that more follow
+only_part : (m len : ℕ) → 28 * m < len → len ≤ 28 * suc m → eqb m 0 ≡ leb len 28
+only_part zero len low high = let small : leb len 28 ≡ true = grind (arith, common_steps) in sym small
+only_part (suc m) len low high =
+    let more : eqb (suc m) 0 ≡ false = grind (arith, common_steps) in
+    let large : leb len 28 ≡ false = grind (arith, common_steps) in
+    more ∙ sym large
+
+same_tests : (a b c d : ℕ) → a + 28 ≡ b → c + 28 ≡ d → a ≤ c → leb a c ≡ leb b d
+same_tests a b c d e f le = grind (arith, common_steps)
+
+part_at : (pipe n : ℕ) (left : List ℕ) (k : ℕ) → 28 * k < length left → length left ≤ 28 * n → 28 * n < length left + 28 → slice_get (parts_of pipe n left) k ≡ Some (packet_at pipe left (28 * k))
+part_at pipe zero left k in_left fits all = absurd (omega arith)
+part_at pipe (suc m) left zero in_left fits all =
+    ap (λ b. Some (packet b pipe (take 28 left))) (only_part m (length left) (omega arith) fits)
+part_at pipe (suc m) left (suc k) in_left fits all =
+    let behind = part_at pipe m (drop 28 left) k (omega (arith, length-drop 28 left)) (omega (arith, length-drop 28 left)) (omega (arith, length-drop 28 left)) in
+    let mark : leb (length (drop 28 left)) (28 * k + 28) ≡ leb (length left) (28 * suc k + 28) = grind (arith, common_steps, length-drop 28 left) in
+    let bytes : drop (28 * k) (drop 28 left) ≡ drop (28 * suc k) left = drop-drop (28 * k) 28 left ∙ ap (λ i. drop i left) (omega arith) in
+    behind ∙ (ap (λ b. Some (packet b pipe (take 28 (drop (28 * k) (drop 28 left))))) mark
+    ∙ ap (λ bs. Some (packet (leb (length left) (28 * suc k + 28)) pipe (take 28 bs))) bytes)
+
+pub packets_stand_in_place : (pipe : ℕ) (message : List ℕ) (k : ℕ) → 28 * k < length message → slice_get (packets_of pipe message) k ≡ Some (packet_at pipe message (28 * k))
+packets_stand_in_place pipe message k in_message =
+    part_at pipe (packet_count (length message)) message k in_message (omega arith) (omega arith)

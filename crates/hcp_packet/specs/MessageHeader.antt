@@ -1,5 +1,5 @@
 -- The first byte of a message (ETSI TS 102 622, message structure): two bits type, six bits instruction.
-use Rattle.std.specs.Prelude.{ℕ, ◌+◌, ◌*◌, ◌/◌, ◌%◌, List, [], ◌∷◌, Result, Ok, Err, if◌then◌else◌, ◌==◌}
+use Rattle.std.specs.Prelude.{ℕ, ◌/◌, ◌%◌, List, [], ◌∷◌, Result, Ok, Err, if◌then◌else◌, ◌==◌}
 use Rattle.hcp_packet.specs.declared.MessageKind.{MessageKind}
 use Rattle.hcp_packet.specs.declared.MessageKind.TheVariants.{Command, Event, Response}
 use Rattle.hcp_packet.specs.declared.MessageFault.{MessageFault}

@@ -31,16 +31,27 @@ pub record Link : Type 0 where
 abbrev pub start : Link
 start =
     record {
-      controller = begun (new_end 4); host = begun (new_end 4); to_controller = []; to_host = []; made_at_controller = [];
-      made_at_host = []; lost = false; rnr = false; ended = false;
+      controller = begun (new_end 4);
+      host = begun (new_end 4);
+      to_controller = [];
+      to_host = [];
+      made_at_controller = [];
+      made_at_host = [];
+      lost = false;
+      rnr = false;
+      ended = false;
     }
 
 -- the same link, with the names of its ends exchanged
 abbrev pub exchanged : Link → Link
 exchanged l =
     record l {
-      controller = l.host; host = l.controller; to_controller = l.to_host; to_host = l.to_controller;
-      made_at_controller = l.made_at_host; made_at_host = l.made_at_controller;
+      controller = l.host;
+      host = l.controller;
+      to_controller = l.to_host;
+      to_host = l.to_controller;
+      made_at_controller = l.made_at_host;
+      made_at_host = l.made_at_controller;
     }
 
 -- a wire holds 64 frames: one more pushes the first out
@@ -96,7 +107,7 @@ happens_here l Deliver = first l.to_controller where
   first [] = l
   first (x ∷ xs) =
       becomes (record l { to_controller = xs; ended = l.ended || is_some (take_answer l.controller x.frame).ended })
-          (taken l.controller x.frame)
+      (taken l.controller x.frame)
 happens_here l Lose = first l.to_controller where
   first : List Carried → Link
   first [] = l

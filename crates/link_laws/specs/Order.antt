@@ -1,5 +1,5 @@
 -- What the two sessions of a link have to do with each other.
-use Rattle.std.specs.Prelude.{ℕ, ◌≤◌, ◌≡◌, List, length}
+use Rattle.std.specs.Prelude.{◌≤◌, ◌≡◌, length}
 use mathlib.Core.List.{IsPrefix}
 use Rattle.shdlc_core.specs.Machine.{Session}
 
@@ -7,6 +7,7 @@ use Rattle.shdlc_core.specs.Machine.{Session}
 pub record InOrder (sender receiver : Session) : Type 0 where
   pub front : IsPrefix receiver.acc sender.out
   pub acked : sender.acked ≤ length receiver.acc
+  pub offered : sender.acked ≤ length sender.out
 
 -- all that a sender was given is accepted and acknowledged
 pub record AllDelivered (sender receiver : Session) : Type 0 where

@@ -1,3 +1,4 @@
 pub mod Bits
 pub mod DataUnits
 pub mod Outside
+pub mod InMemory

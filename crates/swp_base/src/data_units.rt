@@ -31,15 +31,24 @@ impl Lpdu {
     /// The most bytes of an LPDU.
     pub const MAX_LEN: usize = 30;
 
+    /// The LPDU of these bytes, of which there are 1 to 30.
+    pub fn new(bytes: &[u8]) -> Self
+        requires { IsLpdu bytes.now }
+        ensures { result ≡ bytes.now }
+    {
+        let mut unit = ArrayVec::new();
+        let _fits = unit.try_extend_from_slice(bytes);
+        Self { bytes: unit }
+    }
+
     /// The LPDU of these bytes: none where there is no byte, or where there are more than 30.
     pub fn from_bytes(bytes: &[u8]) -> Option<Self>
         ensures { SomeIff result (IsLpdu bytes.now) bytes.now }
     {
-        if bytes.is_empty() {
+        if bytes.is_empty() || bytes.len() > Self::MAX_LEN {
             return None;
         }
-        let bytes = ArrayVec::try_from(bytes).ok()?;
-        Some(Self { bytes })
+        Some(Self::new(bytes))
     }
 
     /// The bytes, the control byte first.
@@ -54,9 +63,7 @@ impl Lpdu {
     pub fn copied(&self) -> Self
         ensures { result ≡ self.now }
     {
-        let mut bytes = ArrayVec::new();
-        let _fits = bytes.try_extend_from_slice(self.bytes.as_slice());
-        Self { bytes }
+        Self::new(self.bytes())
     }
 }
 
@@ -105,15 +112,24 @@ impl Info {
     /// The most bytes of an information field.
     pub const MAX_LEN: usize = 29;
 
+    /// The information field of these bytes, of which there are 1 to 29.
+    pub fn new(bytes: &[u8]) -> Self
+        requires { IsInfo bytes.now }
+        ensures { result ≡ bytes.now }
+    {
+        let mut field = ArrayVec::new();
+        let _fits = field.try_extend_from_slice(bytes);
+        Self { bytes: field }
+    }
+
     /// The information field of these bytes: none where there is no byte, or where there are more than 29.
     pub fn from_bytes(bytes: &[u8]) -> Option<Self>
         ensures { SomeIff result (IsInfo bytes.now) bytes.now }
     {
-        if bytes.is_empty() {
+        if bytes.is_empty() || bytes.len() > Self::MAX_LEN {
             return None;
         }
-        let bytes = ArrayVec::try_from(bytes).ok()?;
-        Some(Self { bytes })
+        Some(Self::new(bytes))
     }
 
     /// The bytes.
@@ -128,9 +144,7 @@ impl Info {
     pub fn copied(&self) -> Self
         ensures { result ≡ self.now }
     {
-        let mut bytes = ArrayVec::new();
-        let _fits = bytes.try_extend_from_slice(self.bytes.as_slice());
-        Self { bytes }
+        Self::new(self.bytes())
     }
 }
 

@@ -4,12 +4,16 @@
 
 mod control_frames;
 mod data_units;
+mod in_memory;
 mod link_terms;
+mod nv_memory;
 mod outside;
 
 pub use control_frames::{Act, Control, Kind};
 pub use data_units::{Info, Lpdu};
+pub use in_memory::{MemSink, MemSource, SureSink, SureSource};
 pub use link_terms::{Cause, FrameFault, Role};
+pub use nv_memory::{MemNv, SureNv};
 pub use outside::{Failed, NoMemory, Nv, Sink, Source};
 
 #[cfg(test)]

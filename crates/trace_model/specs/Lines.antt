@@ -1,6 +1,5 @@
 -- What a line of a schedule may say, apart from its text.
-use Rattle.std.specs.Prelude.{◌≡◌, ℕ, ◌<◌, ◌≤◌, ◌⊎◌, List, length, All, Contains, IsTrue, IfSome}
-use Rattle.std.specs.List.Sorted.{IsStrictlyIncreasing}
+use Rattle.std.specs.Prelude.{◌≡◌, ℕ, ◌<◌, ◌≤◌, List, length, All, Contains, IsTrue, IfSome, false}
 use Rattle.trace_model.specs.declared.line.End.{End}
 use Rattle.trace_model.specs.declared.line.Header.{Header}
 use Rattle.trace_model.specs.declared.line.Line.{Line}
@@ -10,20 +9,25 @@ use Rattle.trace_model.specs.declared.line.Line.TheVariants.{Send, Deliver}
 abbrev pub IsHost : ℕ → Type 0
 IsHost h = (1 ≤ h) × (h ≤ 7)
 
--- the hosts of a world: one at least, ascending
-abbrev pub AreHosts : List ℕ → Type 0
-AreHosts hosts = (0 < length hosts) × All IsHost hosts × IsStrictlyIncreasing hosts
+-- a header that a schedule may begin with: a bare world has one link
+pub record IsHeader (header : Header) : Type 0 where
+  pub bare : header.hci ≡ false
+  pub one : length header.hosts.items ≡ 1
+  pub hosts : All IsHost header.hosts.items
 
--- a header that a schedule may begin with: a bare world has one host
-abbrev pub IsHeader : Header → Type 0
-IsHeader header = AreHosts header.hosts.items × ((length header.hosts.items ≡ 1) ⊎ IsTrue header.hci)
-
--- an end of a link of this world
+-- the end of a link of this world
 abbrev pub IsEndOf : Header → End → Type 0
 IsEndOf header e = Contains header.hosts.items e.link
 
--- a line that may stand below this header: its ends are in the world and its numbers and lengths in their ranges
+-- a message that a line sends on a pipe: dynamic and static pipes are below 70, and the message has a byte at least
+pub record IsSend (header : Header) (e : End) (pid : ℕ) (message : List ℕ) : Type 0 where
+  pub known : IsEndOf header e
+  pub sender : IsTrue header.hci → IsTrue e.at_host
+  pub pipe : pid < 112
+  pub some : 0 < length message
+  pub bytes : All (λ b. b < 256) message
+
+-- a line that may stand below this header: its ends are in the world, and its numbers, lengths and bytes in their ranges
 abbrev pub IsLineOf : Header → Line → Type 0
-IsLineOf header (Send e pid message) =
-    IsEndOf header e × (IsTrue header.hci → IsTrue e.at_host) × (pid < 112) × (0 < length message)
+IsLineOf header (Send e pid message) = IsSend header e pid message
 IsLineOf header (Deliver e count) = IsEndOf header e × IfSome count (λ n. (1 ≤ n) × (n ≤ 64))

@@ -14,6 +14,27 @@ pub enum NoCause {
     Empty,
 }
 
+/// Why a frame was lost on its way.
+#[derive(Clone, Copy, Debug, PartialEq, Eq)]
+pub enum LostCause {
+    /// A line of the schedule asked for it.
+    Asked,
+    /// It was on its way for too long.
+    Age,
+    /// The wire held as many frames as it can, and one more came.
+    Full,
+    /// It was damaged: its length is outside the limits.
+    Length,
+    /// It was damaged: its length is no whole number of bytes.
+    Alignment,
+    /// It was damaged: its CRC differs.
+    Crc,
+    /// It was damaged: it was broken off.
+    Broken,
+    /// It was damaged so that no frame was read.
+    Nothing,
+}
+
 /// A line of the transcript.
 #[derive(Debug, Drop, PartialEq, Eq)]
 pub enum Entry {
@@ -55,6 +76,12 @@ pub enum Entry {
     Took {
         at: End,
         lpdu: Lpdu,
+    },
+    /// A frame on its way to an end was lost.
+    Lost {
+        at: End,
+        lpdu: Lpdu,
+        cause: LostCause,
     },
     /// The line was refused and changed nothing.
     No {

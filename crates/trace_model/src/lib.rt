@@ -5,6 +5,6 @@ mod entry;
 mod line;
 mod octets;
 
-pub use entry::{Entry, NoCause};
+pub use entry::{Entry, LostCause, NoCause};
 pub use line::{End, Header, Line};
 pub use octets::Octets;

@@ -1,0 +1,51 @@
+-- How blocks lie in a region and are linked. No public clause cites this module.
+use Rattle.std.specs.Prelude.{◌≡◌, ℕ, zero, suc, ◌+◌, ◌-◌, ◌*◌, ◌/◌, ◌%◌, ◌<◌, ◌≤◌, List, map, length, Option, None, Some, slice_index, slice_index_or}
+use Rattle.std.specs.List.{range_with_len}
+use Rattle.block_pool.specs.Slots.{Held, blocks_for}
+use Rattle.block_pool.specs.declared.blocks.Head.{Head}
+
+-- the k-th block of the list of blocks that begins at a block
+abbrev pub block_at : List ℕ → ℕ → ℕ → ℕ
+block_at next first zero = first
+block_at next first (suc k) = slice_index next (block_at next first k)
+
+-- byte i of the chain that begins at a block
+abbrev pub byte_at : List ℕ → List ℕ → ℕ → ℕ → ℕ
+byte_at region next first i = slice_index region (32 * block_at next first (i / 32) + i % 32)
+
+-- the bytes of a chain
+unfoldable pub chain_bytes : List ℕ → List ℕ → ℕ → ℕ → List ℕ
+chain_bytes region next first len = map (byte_at region next first) (range_with_len 0 len)
+
+-- the chain that a head says
+abbrev pub held_by : List ℕ → List ℕ → ℕ → Option Head → Option Held
+held_by region next block None = None
+held_by region next block (Some head) =
+    Some (record { owner = head.owner; bytes = chain_bytes region next block head.len })
+
+-- for each block the chain that begins there
+unfoldable pub slots_of : List ℕ → List ℕ → List (Option Head) → List (Option Held)
+slots_of region next heads =
+    map (λ block. held_by region next block (slice_index_or heads block None)) (range_with_len 0 (length heads))
+
+-- Each block has one mark: a chain, named by its first block, and a place in it. The free list counts as a chain whose
+-- name is no block.
+abbrev pub IsMarked : (ℕ → ℕ × ℕ) → ℕ → ℕ → ℕ → ℕ → Type 0
+IsMarked mark count block chain place = (block < count) × (mark block ≡ (chain, place))
+
+-- a chain lies in blocks that have its marks
+pub record IsChain (next : List ℕ) (mark : ℕ → ℕ × ℕ) (count block : ℕ) (head : Head) : Type 0 where
+  pub some : 0 < head.len
+  pub marked : (k : ℕ) → k < blocks_for head.len → IsMarked mark count (block_at next block k) block k
+  pub last : block_at next block (blocks_for head.len - 1) ≡ head.last
+
+-- no block lies in two chains, nor in a chain and the free list, nor twice in one
+pub record IsSound (region next : List ℕ) (heads : List (Option Head)) (free free_len : ℕ) : Type 0 where
+  pub count : ℕ
+  pub counted : length heads ≡ count
+  pub links : length next ≡ count
+  pub bytes : length region ≡ 32 * count
+  pub few : count ≤ 16384
+  pub mark : ℕ → ℕ × ℕ
+  pub chains : (block : ℕ) (head : Head) → slice_index_or heads block None ≡ Some head → IsChain next mark count block head
+  pub spare : (k : ℕ) → k < free_len → IsMarked mark count (block_at next free k) count k

@@ -1,0 +1,15 @@
+pub mod Ends
+pub mod Filtering
+pub mod Calm
+pub mod Events
+pub mod Orders
+pub mod CalmLink
+pub mod Mirror
+pub mod Whole
+pub mod Sound
+pub mod Steps
+pub mod Keeps
+pub mod Legal
+pub mod Runs
+pub mod Written
+pub mod Opening

@@ -1,0 +1,10 @@
+pub mod Numbers
+pub mod Marks
+pub mod Flows
+pub mod Whole
+pub mod Joined
+pub mod InOrder
+pub mod Idle
+pub mod Delivered
+pub mod Wires
+mod Examples

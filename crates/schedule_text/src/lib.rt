@@ -1,0 +1,15 @@
+//! The texts of a run: the lines of a schedule are read, and the entries of a transcript are written.
+#![tactic(auto)]
+
+mod fault;
+mod forms;
+mod read;
+mod rules;
+mod text;
+mod values;
+mod words;
+mod write;
+
+pub use fault::LineFault;
+pub use read::{Read, read_line};
+pub use write::write_entry;

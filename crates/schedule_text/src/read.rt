@@ -1,0 +1,155 @@
+//! A line of a schedule is read.
+ghost use Rattle.std.specs.Prelude.{◌≡◌, ◌+◌, ◌<◌, ◌≤◌, ◌∷◌, length, is_some, slice_get, true, OnErr, IfErr};
+ghost use Rattle.std.specs.Option.{option_copied};
+ghost use Rattle.schedule_text.specs.Words.{words};
+ghost use Rattle.schedule_text.specs.Lines.{is_comment, may_stand, has_nodes, hosts_of, by_row, header_of, send_of, deliver_of, line_of};
+ghost use Rattle.schedule_text.specs.Forms.{row_for};
+ghost use Rattle.schedule_text.specs.Answers.{IsSaid, IsRead, HasMessage};
+
+use crate::LineFault;
+use crate::forms::{Name, Place, form_of};
+use crate::rules::fault_in;
+use crate::values::{byte_of, end_of, number_of};
+use crate::words::{next_word, word_at};
+use arrayvec::ArrayVec;
+use hex::FromHexError;
+use std::alloc::Global;
+use trace_model::{Header, Line, Octets};
+
+/// The most bytes of a line, without the end of the line (this project's own).
+const MAX_LINE: usize = 9000;
+
+/// What a line of a schedule is.
+#[derive(Debug, Drop, PartialEq, Eq)]
+pub enum Read {
+    /// An empty line or a comment, which is counted and does nothing.
+    Skip,
+    /// The header of the schedule.
+    Header(Header),
+    /// A line behind the header.
+    Line(Line),
+    /// There was no memory for the bytes of the line's message.
+    NoMemory,
+}
+
+/// Reads a line of a schedule, without the LF at its end and the CR before that: below the header, or as the first line
+/// where there is no header yet. The texts are this project's own.
+pub fn read_line(alloc: Global, header: Option<&Header>, bytes: &[u8]) -> Result<Read, LineFault>
+    // A line is what its text says, unless there is no memory for the bytes of a line that has no fault.
+    ensures said { IsRead result (line_of (option_copied header.entry) bytes.now) }
+{
+    if bytes.len() > MAX_LINE {
+        return Err(LineFault::TooLong);
+    }
+    let Some((first, rest)) = next_word(bytes) else {
+        return Ok(Read::Skip);
+    };
+    if comment(first) {
+        return Ok(Read::Skip);
+    }
+    read_words(alloc, header, first, rest)
+}
+
+fn comment(word: &[u8]) -> bool
+    ensures { result ≡ is_comment word.now }
+{
+    match word.first() {
+        Some(letter) => *letter == b'#',
+        None => false,
+    }
+}
+
+fn read_words(
+    alloc: Global,
+    header: Option<&Header>,
+    first: &[u8],
+    rest: &[u8],
+) -> Result<Read, LineFault>
+    requires { length rest.now ≤ 9000 }
+    ensures { IsRead result (by_row (option_copied header.entry) (row_for first.now) (words rest.now)) }
+{
+    let Some(form) = form_of(first) else {
+        return Err(if header.is_some() {
+            LineFault::Word
+        } else {
+            LineFault::Order
+        });
+    };
+    if !allowed(form.place, header) {
+        return Err(LineFault::Order);
+    }
+    if let Some(fault) = fault_in(nodes(header), hosts(header), &form, rest) {
+        return Err(fault);
+    }
+    let said = match form.name {
+        Name::Header => header_line(rest),
+        Name::Send => send_line(alloc, rest),
+        Name::Deliver => deliver_line(rest),
+    };
+    said.ok_or(LineFault::Word)
+}
+
+fn allowed(place: Place, header: Option<&Header>) -> bool
+    ensures { result ≡ may_stand place (option_copied header.entry) }
+{
+    match place {
+        Place::First => header.is_none(),
+        Place::Below => header.is_some(),
+    }
+}
+
+fn nodes(header: Option<&Header>) -> bool
+    ensures { result ≡ has_nodes (option_copied header.entry) }
+{
+    match header {
+        Some(header) => header.hci,
+        None => false,
+    }
+}
+
+fn hosts(header: Option<&Header>) -> &[u8]
+    ensures { result.now ≡ hosts_of (option_copied header.entry) }
+{
+    match header {
+        Some(header) => header.hosts.as_slice(),
+        None => &[],
+    }
+}
+
+fn header_line(rest: &[u8]) -> Option<Read>
+    ensures { result ≡ header_of (words rest.now) }
+{
+    let host = byte_of(word_at(rest, 2)?)?;
+    let mut hosts = ArrayVec::new();
+    hosts.push(host);
+    Some(Read::Header(Header { hci: false, hosts }))
+}
+
+fn send_line(alloc: Global, rest: &[u8]) -> Option<Read>
+    requires { HasMessage (words rest.now) }
+    ensures { IsSaid result (send_of (words rest.now)) }
+{
+    let at = end_of(word_at(rest, 0)?)?;
+    let pid = byte_of(word_at(rest, 1)?)?;
+    let message = word_at(rest, 2)?;
+    match hex::decode(alloc, message) {
+        Ok(bytes) => Some(Read::Line(Line::Send {
+            at,
+            pid,
+            message: Octets { bytes },
+        })),
+        Err(FromHexError::OutOfMemory) => Some(Read::NoMemory),
+        Err(_) => None,
+    }
+}
+
+fn deliver_line(rest: &[u8]) -> Option<Read>
+    ensures { result ≡ deliver_of (words rest.now) }
+{
+    let at = end_of(word_at(rest, 0)?)?;
+    let count = match word_at(rest, 1) {
+        Some(word) => number_of(word, 1, 64).and_then(|count| u8::try_from(count).ok()),
+        None => None,
+    };
+    Some(Read::Line(Line::Deliver { at, count }))
+}

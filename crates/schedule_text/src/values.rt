@@ -1,0 +1,67 @@
+//! What one word of a line stands for.
+ghost use Rattle.std.specs.Prelude.{◌≡◌, nat_le, ◌&&◌};
+ghost use Rattle.schedule_text.specs.Values.{byte_value, end_value, number_value, digits_number, option_if, side_value};
+
+use trace_model::End;
+
+/// The byte of two hexadecimal digits, of either case.
+pub(crate) fn byte_of(word: &[u8]) -> Option<u8>
+    ensures { result ≡ byte_value word.now }
+{
+    let mut byte = [0];
+    match hex::decode_to_slice(word, &mut byte) {
+        Ok(()) => Some(byte[0]),
+        Err(_) => None,
+    }
+}
+
+/// The end that a word names, as `02c` or `02h`.
+pub(crate) fn end_of(word: &[u8]) -> Option<End>
+    ensures { result ≡ end_value word.now }
+{
+    let &[_, _, letter] = word else {
+        return None;
+    };
+    let link = byte_of(&word[..2])?;
+    let at_host = side_of(letter)?;
+    Some(End { link, at_host })
+}
+
+fn side_of(letter: u8) -> Option<bool>
+    ensures { result ≡ side_value letter }
+{
+    match letter {
+        b'c' => Some(false),
+        b'h' => Some(true),
+        _ => None,
+    }
+}
+
+/// The decimal number of a word, without leading zero, if it is from `low` to `high`.
+pub(crate) fn number_of(word: &[u8], low: u16, high: u16) -> Option<u16>
+    ensures { result ≡ option_if (λ n. nat_le low n && nat_le n high) (number_value word.now) }
+{
+    if word.is_empty() || (word[0] == b'0' && word.len() > 1) {
+        return None;
+    }
+    let number = number_up_to(word, high)?;
+    if number < low { None } else { Some(number) }
+}
+
+/// The number that decimal digits write, if it is at most `high`.
+fn number_up_to(word: &[u8], high: u16) -> Option<u16>
+    ensures { result ≡ option_if (λ n. nat_le n high) (digits_number word.now) }
+{
+    let mut number: u16 = 0;
+    for digit in word {
+        if !digit.is_ascii_digit() {
+            return None;
+        }
+        let next = u32::from(number) * 10 + u32::from(*digit - b'0');
+        if next > u32::from(high) {
+            return None;
+        }
+        number = next as u16;
+    }
+    Some(number)
+}

@@ -1,0 +1,41 @@
+//! The words of a line, which stand apart by spaces.
+ghost use Rattle.std.specs.Prelude.{◌≡◌, ℕ, ◌<◌, ◌==◌, not, [], ◌∷◌, length, take, drop, position, unwrap_or, slice_get, IfSome, IfNone};
+ghost use Rattle.std.specs.List.{position_or_len};
+ghost use Rattle.std.specs.Option.{option_copied};
+ghost use Rattle.schedule_text.specs.Words.{words};
+
+/// The first word of a line, and what stands behind it.
+pub(crate) fn next_word(line: &[u8]) -> Option<(&[u8], &[u8])>
+    ensures some { IfSome result (λ r. words line.now ≡ r.0.now ∷ words r.1.now) }
+    ensures none { IfNone result (words line.now ≡ []) }
+    ensures shorter { IfSome result (λ r. length r.1.now < length line.now) }
+{
+    let start = first_letter(line)?;
+    let (_, rest) = line.split_at(start);
+    let end = first_space(rest).unwrap_or(rest.len());
+    Some(rest.split_at(end))
+}
+
+fn first_letter(line: &[u8]) -> Option<usize>
+    ensures { result ≡ position (λ b. not (b == 32)) line.now }
+{
+    line.iter().position(|b| *b != b' ')
+}
+
+fn first_space(line: &[u8]) -> Option<usize>
+    ensures { result ≡ position (λ b. b == 32) line.now }
+{
+    line.iter().position(|b| *b == b' ')
+}
+
+/// Word `k` of a line, counted from 0.
+pub(crate) fn word_at(line: &[u8], k: usize) -> Option<&[u8]>
+    ensures { option_copied result ≡ slice_get (words line.now) k }
+{
+    let (word, more) = next_word(line)?;
+    if k == 0 {
+        Some(word)
+    } else {
+        word_at(more, k - 1)
+    }
+}

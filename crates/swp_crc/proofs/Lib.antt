@@ -1,0 +1,4 @@
+pub mod DivisionLemmas
+pub mod Numbers
+pub mod Steps
+pub mod Entries

@@ -1,0 +1,50 @@
+//! A CRC under way.
+ghost use Rattle.std.specs.Prelude.{◌≡◌, ◌+◌, ◌++◌, ◌∷◌, [], List, ℕ};
+ghost use Rattle.swp_crc.specs.Crc.{crc_of};
+ghost use Rattle.swp_crc.specs.Running.{running_of};
+
+use crate::table::entry;
+use std::marker::Model;
+
+/// The CRC of the bytes pushed so far.
+#[derive(Clone, Copy, Debug, PartialEq, Eq)]
+pub struct Register {
+    remainder: u16,
+}
+
+impl Model for Register {
+    ghost use Rattle.std.specs.Prelude.{ℕ};
+
+    ghost Value = { ℕ };
+
+    ghost view = { λ r. r.remainder };
+
+    ghost inverse = { λ n. record { remainder = n } };
+}
+
+impl Register {
+    /// A register before the first byte.
+    #[inline]
+    pub fn new() -> Self
+        ensures { result ≡ running_of [] }
+    {
+        Self { remainder: 0xFFFF }
+    }
+
+    /// Goes on by one byte.
+    #[inline]
+    pub fn push(&mut self, byte: u8)
+        ensures { (bytes : List ℕ) → self.old ≡ running_of bytes → self.new ≡ running_of (bytes ++ byte ∷ []) }
+    {
+        let index = (self.remainder >> 8) as u8 ^ byte;
+        self.remainder = (self.remainder << 8) ^ entry(index);
+    }
+
+    /// The CRC of the bytes pushed.
+    #[inline]
+    pub fn crc(self) -> u16
+        ensures { (bytes : List ℕ) → self ≡ running_of bytes → result ≡ crc_of bytes }
+    {
+        !self.remainder
+    }
+}

@@ -1,0 +1,97 @@
+//! One period of a line record.
+ghost use Rattle.std.specs.Prelude.{◌≡◌, ◌↔◌};
+ghost use Rattle.swp_line.specs.Periods.{byte_of_period, period_at};
+
+/// What one byte of a line record says.
+#[derive(Clone, Copy, Debug, PartialEq, Eq)]
+pub enum Period {
+    /// One bit in each direction.
+    Bits { s1: bool, s2: bool },
+    /// The line is suspended: no bits.
+    Suspended,
+    /// The UICC asks for the line to be resumed: no bits.
+    ResumeAsked,
+    /// The line is deactivated: no bits.
+    Deactivated,
+}
+
+/// The period that a byte stands for; none for a byte outside the table of the line record.
+#[inline]
+pub fn period_of(byte: u8) -> Option<Period>
+    ensures value { result ≡ period_at byte }
+    ensures table { (p : Period) → (result ≡ Some p) ↔ (byte ≡ byte_of_period p) }
+{
+    match byte {
+        0x40 => Some(Period::Bits {
+            s1: false,
+            s2: false,
+        }),
+        0x54 => Some(Period::Bits {
+            s1: true,
+            s2: false,
+        }),
+        0xC0 => Some(Period::Bits {
+            s1: false,
+            s2: true,
+        }),
+        0xFC => Some(Period::Bits { s1: true, s2: true }),
+        0x55 => Some(Period::Suspended),
+        0xFF => Some(Period::ResumeAsked),
+        0x00 => Some(Period::Deactivated),
+        _ => None,
+    }
+}
+
+/// The byte that reads as this period.
+#[inline]
+pub fn byte_of(period: &Period) -> u8
+    ensures value { result ≡ byte_of_period period.now }
+    ensures read_again { period_at result ≡ Some period.now }
+{
+    match period {
+        Period::Bits {
+            s1: false,
+            s2: false,
+        } => 0x40,
+        Period::Bits {
+            s1: true,
+            s2: false,
+        } => 0x54,
+        Period::Bits {
+            s1: false,
+            s2: true,
+        } => 0xC0,
+        Period::Bits { s1: true, s2: true } => 0xFC,
+        Period::Suspended => 0x55,
+        Period::ResumeAsked => 0xFF,
+        Period::Deactivated => 0x00,
+    }
+}
+
+#[cfg(test)]
+mod tests {
+    use super::*;
+    use std::test::Fail;
+
+    #[test]
+    fn periods_of_the_table(rt: HostRuntime) -> Result<(), Fail> {
+        assert_eq!(rt;
+            period_of(0x54),
+            Some(Period::Bits {
+                s1: true,
+                s2: false
+            })
+        );
+        assert_eq!(rt;
+            period_of(0xC0),
+            Some(Period::Bits {
+                s1: false,
+                s2: true
+            })
+        );
+        assert_eq!(rt; period_of(0x00), Some(Period::Deactivated));
+        assert_eq!(rt; period_of(0x7F), None);
+        assert_eq!(rt; byte_of(&Period::ResumeAsked), 0xFF);
+        Ok(())
+    }
+}

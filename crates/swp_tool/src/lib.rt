@@ -1,0 +1,2 @@
+//! The top call of the program.
+#![tactic(auto)]
