@@ -33,7 +33,7 @@ enum Answer {
 }
 
 fn info() -> Info {
-    Info::from_bytes(&[0x81, 0x03]).unwrap_or_default()
+    Info::new(&[0x81, 0x03])
 }
 
 // The first byte of a frame's LPDU.
@@ -153,19 +153,25 @@ fn up() -> Shdlc
     end
 }
 
+// A new end, which is Down.
+fn down() -> Shdlc
+    ensures { result.due ≡ [] }
+{
+    Shdlc::new(4)
+}
+
 #[test]
 fn lost_frame_is_rejected_and_sent_again(rt: HostRuntime) {
-    use Answer::{Accepted, Acked, Nothing};
     let mut host = up();
     play(
         &rt,
         &mut host,
         &[
-            (Input::Offer, Nothing, &[0x80]),
-            (Input::Offer, Nothing, &[0x88]),
-            (Input::Offer, Nothing, &[0x90]),
-            (Input::S(Kind::Rr, 1), Acked(1), &[]),
-            (Input::S(Kind::Rej, 1), Nothing, &[0x88, 0x90]),
+            (Input::Offer, Answer::Nothing, &[0x80]),
+            (Input::Offer, Answer::Nothing, &[0x88]),
+            (Input::Offer, Answer::Nothing, &[0x90]),
+            (Input::S(Kind::Rr, 1), Answer::Acked(1), &[]),
+            (Input::S(Kind::Rej, 1), Answer::Nothing, &[0x88, 0x90]),
         ],
     );
     let mut controller = up();
@@ -173,10 +179,190 @@ fn lost_frame_is_rejected_and_sent_again(rt: HostRuntime) {
         &rt,
         &mut controller,
         &[
-            (Input::I(0, 0), Accepted, &[0xC1]),
-            (Input::I(2, 0), Nothing, &[0xC9]),
-            (Input::I(1, 0), Accepted, &[0xC2]),
-            (Input::I(2, 0), Accepted, &[0xC3]),
+            (Input::I(0, 0), Answer::Accepted, &[0xC1]),
+            (Input::I(2, 0), Answer::Nothing, &[0xC9]),
+            (Input::I(1, 0), Answer::Accepted, &[0xC2]),
+            (Input::I(2, 0), Answer::Accepted, &[0xC3]),
+        ],
+    );
+}
+
+#[test]
+fn window_and_queue_hold_four(rt: HostRuntime) {
+    let mut host = up();
+    play(
+        &rt,
+        &mut host,
+        &[
+            (Input::Offer, Answer::Nothing, &[0x80]),
+            (Input::Offer, Answer::Nothing, &[0x88]),
+            (Input::Offer, Answer::Nothing, &[0x90]),
+            (Input::Offer, Answer::Nothing, &[0x98]),
+            (Input::Offer, Answer::Refused, &[]),
+            (Input::S(Kind::Rr, 1), Answer::Acked(1), &[]),
+            (Input::Offer, Answer::Nothing, &[0xA0]),
+            (Input::S(Kind::Rr, 5), Answer::Acked(4), &[]),
+        ],
+    );
+}
+
+#[test]
+fn lost_acknowledgement_is_answered_again(rt: HostRuntime) {
+    let mut host = up();
+    play(
+        &rt,
+        &mut host,
+        &[
+            (Input::Offer, Answer::Nothing, &[0x80]),
+            (Input::Ticks(9), Answer::Nothing, &[]),
+            (Input::Ticks(1), Answer::Nothing, &[0x80]),
+            (Input::S(Kind::Rr, 1), Answer::Acked(1), &[]),
+            (Input::Ticks(60), Answer::Nothing, &[]),
+        ],
+    );
+    let mut controller = up();
+    play(
+        &rt,
+        &mut controller,
+        &[
+            (Input::I(0, 0), Answer::Accepted, &[0xC1]),
+            (Input::I(0, 0), Answer::Nothing, &[0xC1]),
+        ],
+    );
+}
+
+#[test]
+fn busy_end_is_sent_to_when_it_is_ready(rt: HostRuntime) {
+    let mut controller = up();
+    play(
+        &rt,
+        &mut controller,
+        &[
+            (Input::Ready(false), Answer::Nothing, &[]),
+            (Input::I(0, 0), Answer::Nothing, &[0xD0]),
+            (Input::Ready(true), Answer::Nothing, &[0xC0]),
+            (Input::Ready(true), Answer::Nothing, &[]),
+            (Input::I(0, 0), Answer::Accepted, &[0xC1]),
+        ],
+    );
+    let mut host = up();
+    play(
+        &rt,
+        &mut host,
+        &[
+            (Input::Offer, Answer::Nothing, &[0x80]),
+            (Input::Offer, Answer::Nothing, &[0x88]),
+            (Input::S(Kind::Rnr, 0), Answer::Nothing, &[]),
+            (Input::Ticks(10), Answer::Nothing, &[0x80]),
+            (Input::S(Kind::Rr, 0), Answer::Nothing, &[0x88]),
+            (Input::S(Kind::Rnr, 1), Answer::Acked(1), &[]),
+            (Input::S(Kind::Rr, 1), Answer::Nothing, &[0x88]),
+        ],
+    );
+}
+
+#[test]
+fn reset_from_either_end_starts_a_session(rt: HostRuntime) {
+    let mut host = up();
+    play(
+        &rt,
+        &mut host,
+        &[
+            (Input::Offer, Answer::Nothing, &[0x80]),
+            (Input::Reset(4), Answer::Nothing, &[0xF9]),
+            (Input::Reset(4), Answer::Refused, &[]),
+            (Input::I(0, 1), Answer::Nothing, &[]),
+            (Input::Ticks(10), Answer::Nothing, &[0xF9]),
+            (Input::Ua, Answer::Began, &[]),
+            (Input::Offer, Answer::Nothing, &[0x80]),
+        ],
+    );
+    let mut controller = up();
+    play(
+        &rt,
+        &mut controller,
+        &[
+            (Input::Rset(4), Answer::EndedAndBegan(Cause::Peer), &[0xE6]),
+            (Input::Ua, Answer::Nothing, &[]),
+            (Input::Stop, Answer::Nothing, &[]),
+            (Input::Offer, Answer::Refused, &[]),
+            (Input::Rset(2), Answer::Began, &[0xE6]),
+            (Input::Offer, Answer::Nothing, &[0x80]),
+            (Input::Offer, Answer::Nothing, &[0x88]),
+            (Input::Offer, Answer::Nothing, &[]),
+            (Input::S(Kind::Rr, 1), Answer::Acked(1), &[0x90]),
+        ],
+    );
+}
+
+#[test]
+fn crossed_resets_give_one_session(rt: HostRuntime) {
+    let mut controller = up();
+    play(
+        &rt,
+        &mut controller,
+        &[
+            (Input::Reset(4), Answer::Nothing, &[0xF9]),
+            (Input::Rset(4), Answer::Nothing, &[0xE6]),
+            (Input::Ua, Answer::Began, &[]),
+        ],
+    );
+}
+
+#[test]
+fn fragment_is_tried_five_times(rt: HostRuntime) {
+    let mut host = up();
+    play(
+        &rt,
+        &mut host,
+        &[
+            (Input::Offer, Answer::Nothing, &[0x80]),
+            (Input::Ticks(10), Answer::Nothing, &[0x80]),
+            (Input::Ticks(10), Answer::Nothing, &[0x80]),
+            (Input::Ticks(10), Answer::Nothing, &[0x80]),
+            (Input::Ticks(10), Answer::Nothing, &[0x80]),
+            (Input::Ticks(10), Answer::Nothing, &[0x80]),
+            (Input::Ticks(10), Answer::Ended(Cause::NoAnswer), &[0xF9]),
+            (Input::Ua, Answer::Began, &[]),
+        ],
+    );
+}
+
+#[test]
+fn reset_is_tried_five_times(rt: HostRuntime) {
+    let mut host = down();
+    play(
+        &rt,
+        &mut host,
+        &[
+            (Input::Reset(4), Answer::Nothing, &[0xF9]),
+            (Input::Ticks(10), Answer::Nothing, &[0xF9]),
+            (Input::Ticks(10), Answer::Nothing, &[0xF9]),
+            (Input::Ticks(10), Answer::Nothing, &[0xF9]),
+            (Input::Ticks(10), Answer::Nothing, &[0xF9]),
+            (Input::Ticks(10), Answer::GaveUp(5), &[]),
+            (Input::Offer, Answer::Refused, &[]),
+            (Input::Reset(4), Answer::Nothing, &[0xF9]),
+        ],
+    );
+}
+
+#[test]
+fn frames_that_say_nothing_are_ignored(rt: HostRuntime) {
+    let mut end = up();
+    play(
+        &rt,
+        &mut end,
+        &[
+            (Input::I(0, 1), Answer::Nothing, &[]),
+            (Input::S(Kind::Srej, 0), Answer::Nothing, &[]),
+            (Input::I(1, 0), Answer::Nothing, &[0xC8]),
+            (Input::I(2, 0), Answer::Nothing, &[]),
+            (Input::I(0, 0), Answer::Accepted, &[0xC1]),
+            (Input::I(0, 0), Answer::Nothing, &[0xC1]),
+            (Input::Rset(0), Answer::Nothing, &[]),
+            (Input::Rset(7), Answer::EndedAndBegan(Cause::Peer), &[0xE6]),
+            (Input::Offer, Answer::Nothing, &[0x80]),
         ],
     );
 }

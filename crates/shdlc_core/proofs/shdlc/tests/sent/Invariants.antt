@@ -1,4 +1,3 @@
-use Rattle.std.proofs.Common.{◌≡◌}
 use Rattle.shdlc_core.specs.Kept.{frames_left}
 use Rattle.shdlc_core.proofs.shdlc.tests.sent.Given as goal
 
