@@ -76,8 +76,7 @@ impl Shdlc {
 
     /// The end is Up in a given session, with its own window: both ends of a bare link begin so.
     pub fn begin(&mut self)
-        ensures stands { (e : EndState) → StandsFor self.old e → StandsFor self.new (begun e) }
-        ensures due { self.new.due ≡ [] }
+        ensures { (e : EndState) → StandsFor self.old e → StandsFor self.new (begun e) }
     {
         let window = self.own_window;
         self.due.clear();

@@ -3,8 +3,8 @@ use Rattle.shdlc_core.specs.Kept.{StandsFor}
 use Rattle.shdlc_core.specs.Machine.{up_with}
 use Rattle.shdlc_core.proofs.shdlc.Shdlc.begin.Goals as goal
 
-pub returns-clause-stands : goal.returns-clause-stands
-returns-clause-stands c = λ e h.
+pub returns : goal.returns
+returns c = λ e h.
     let stood = subst (λ k. StandsFor k e) (sym c.self.view_is) h in
     let cleared = record e { due = [] } in
     subst (λ w. StandsFor c.start.new.self (up_with cleared w)) stood.own_window
