@@ -13,3 +13,6 @@ mod write;
 pub use fault::LineFault;
 pub use read::{Read, read_line};
 pub use write::write_entry;
+
+#[cfg(test)]
+mod tests;
