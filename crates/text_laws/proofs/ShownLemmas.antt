@@ -156,8 +156,9 @@ cut [] (c ∷ y) r s a b h = absurd (inside_end c _ b cc)
 cut (c ∷ x) [] r s a b h = absurd (inside_end c _ a cc)
 cut (c ∷ x) (d ∷ y) r s a b h =
     let same : c ≡ d = cc in
-    let behind = cut x y r s (rest_inside _ _ a) (rest_inside _ _ b) cc in
-    (let more : x ≡ y = behind.0 in cc, behind.1)
+    let tails : x ++ (10 ∷ r) ≡ y ++ (10 ∷ s) = cc in
+    let behind = cut x y r s (rest_inside _ _ a) (rest_inside _ _ b) tails in
+    (ap (λ e. e ∷ x) same ∙ ap (λ t. d ∷ t) behind.0, behind.1)
 
 no_text : (a : Entry) (rest : List ℕ) → entry_line a ++ rest ≡ [] → ⊥
 no_text a rest h =
