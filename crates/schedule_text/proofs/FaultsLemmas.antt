@@ -1,5 +1,5 @@
 -- When each fault comes.
-use Rattle.std.proofs.Common.{◌≡◌, ◌≢◌, ◌==◌, ◌⊎◌, ℕ, ◌+◌, ◌<◌, ◌≤◌, Bool, true, false, not, cond, nat_lt, nat_le, List, [], ◌∷◌, length, refl, sym, ◌∙◌, ap, subst, arith, Option, Some, None, Result, Ok, Err, is_some, IsTrue, inl, inr, codes, ◌↔◌, IfOk}
+use Rattle.std.proofs.Common.{◌≡◌, ◌≢◌, ℕ, ◌+◌, Bool, true, false, cond, List, [], ◌∷◌, refl, sym, ◌∙◌, subst, Option, Some, None, Result, Ok, Err, inl, inr, codes, ◌↔◌, IfOk}
 use Rattle.std.specs.Option.{option_map, option_or}
 use Rattle.std.specs.Str.{bytes_eq}
 use Rattle.std.proofs.lemmas.Slice.Eq.{bytes_eq-Decides}
@@ -10,12 +10,10 @@ use Rattle.schedule_text.specs.declared.read.Read.{Read}
 use Rattle.schedule_text.specs.declared.read.Read.TheVariants as read
 use Rattle.schedule_text.specs.declared.forms.Kind.{Kind}
 use Rattle.schedule_text.specs.declared.forms.Kind.TheVariants as kind
-use Rattle.schedule_text.specs.Words.{words}
-use Rattle.schedule_text.specs.Values.{byte_value, bytes_value, number_value, option_if}
 use Rattle.schedule_text.specs.Forms.{Row, row_for, header_row, send_row, deliver_row}
-use Rattle.schedule_text.specs.Rules.{Slot, slots, has_byte, has_bytes, digits_fault, first_digits_fault, first_host_fault, is_well_formed, words_fault}
-use Rattle.schedule_text.specs.Lines.{has_nodes, hosts_of, read_of, unless_fault, by_row, by_words, is_comment, line_of}
-use Rattle.schedule_text.specs.Answers.{IsRead, ReadsALine, IsOutOfOrder}
+use Rattle.schedule_text.specs.Rules.{Slot, slots, digits_fault, first_digits_fault, first_host_fault, is_well_formed, words_fault}
+use Rattle.schedule_text.specs.Lines.{read_of, unless_fault, by_row, is_comment}
+use Rattle.schedule_text.specs.Answers.{IsRead, IsOutOfOrder}
 use Rattle.schedule_text.proofs.RowsLemmas.{row_cases}
 
 -- a fault of the words behind the first

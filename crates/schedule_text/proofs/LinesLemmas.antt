@@ -1,24 +1,23 @@
 -- What is read is inside the grammar.
-use Rattle.std.proofs.Common.{◌≡◌, ◌==◌, ◌&&◌, ◌||◌, ◌⊎◌, ℕ, zero, suc, ◌+◌, ◌<◌, ◌≤◌, Bool, true, false, not, cond, nat_lt, nat_le, List, [], ◌∷◌, length, get_or, refl, sym, ◌∙◌, ap, subst, arith, Option, Some, None, Result, Ok, Err, is_some, IfSome, Contains, All, IsTrue, slice_get, inl, inr, eqb-true}
+use Rattle.std.proofs.Common.{◌≡◌, ◌==◌, ◌&&◌, ◌||◌, ℕ, suc, ◌≤◌, Bool, true, false, not, cond, nat_lt, nat_le, List, [], ◌∷◌, length, get_or, refl, sym, ◌∙◌, subst, arith, Option, Some, None, Result, Ok, Err, IfSome, Contains, All, IsTrue, slice_get, eqb-true}
 use Rattle.std.proofs.lemmas.Bool.{leb-true}
 use Rattle.std.specs.List.{list_any}
-use Rattle.std.specs.Option.{option_and_then}
 use Rattle.trace_model.specs.declared.line.End.{End}
 use Rattle.trace_model.specs.declared.line.Header.{Header}
 use Rattle.trace_model.specs.declared.line.Line.{Line}
 use Rattle.trace_model.specs.declared.line.Line.TheVariants as line
-use Rattle.trace_model.specs.Lines.{IsHost, IsHeader, IsLineOf, IsSend}
+use Rattle.trace_model.specs.Lines.{IsHost, IsHeader, IsLineOf}
 use Rattle.schedule_text.specs.declared.fault.LineFault.{LineFault}
 use Rattle.schedule_text.specs.declared.fault.LineFault.TheVariants as fault
 use Rattle.schedule_text.specs.declared.read.Read.{Read}
 use Rattle.schedule_text.specs.declared.read.Read.TheVariants as read
 use Rattle.schedule_text.specs.Words.{words}
 use Rattle.schedule_text.specs.Values.{byte_value, bytes_value, number_value, end_value, option_if}
-use Rattle.schedule_text.specs.Forms.{Row, row_for, header_row, send_row, deliver_row}
+use Rattle.schedule_text.specs.Forms.{row_for, header_row, send_row, deliver_row}
 use Rattle.schedule_text.specs.Rules.{words_fault}
 use Rattle.schedule_text.specs.Lines.{◌>>=◌, header_of, send_of, deliver_of, unless_fault, by_row, by_words, is_comment, line_of}
 use Rattle.schedule_text.specs.Answers.{IsInGrammar}
-use Rattle.schedule_text.proofs.RowsLemmas.{NoFault, no_fault, SendWords, send_words, deliver_words, header_host, row_cases, both}
+use Rattle.schedule_text.proofs.RowsLemmas.{no_fault, send_words, deliver_words, header_host, row_cases, both}
 
 found_at : (t : Bool) (x q : ℕ) (xs : List ℕ) → (x == q) ≡ t → (list_any (λ y. y == q) xs ≡ true → Contains xs q)
     → (t || list_any (λ y. y == q) xs) ≡ true → Contains (x ∷ xs) q
