@@ -3,3 +3,4 @@ pub mod Transcripts
 pub mod Statuses
 pub mod Replays
 pub mod Pieces
+pub mod Runs

@@ -3,6 +3,7 @@
 
 mod pieces;
 mod replay;
+mod run;
 mod status;
 mod transcript;
 

@@ -1,5 +1,5 @@
 //! A schedule comes in pieces; each line is played as soon as it has ended.
-ghost use Rattle.std.specs.Prelude.{◌≡◌, ◌≢◌, ◌+◌, ◌<◌, ◌++◌, ◌∷◌, [], List, ℕ, length, OnOk, IfErr};
+ghost use Rattle.std.specs.Prelude.{◌≡◌, ◌≢◌, ◌+◌, ◌<◌, ◌≤◌, ◌++◌, ◌∷◌, [], List, ℕ, length, OnOk, IfErr};
 ghost use Rattle.std.specs.Str.Lines.{strip_carriage_return};
 ghost use Rattle.swp_tool.specs.Replays.{HasPlayed};
 ghost use Rattle.swp_tool.specs.Pieces.{schedule_read, HasRead, IsReading, IsCompleteTranscript, Halts, HaltsAtEnd, bytes_left};
@@ -39,6 +39,7 @@ impl Pieces {
         requires { IsReading self.old }
         ensures read { OnOk result ((bytes written : List ℕ) → HasRead self.old bytes written → HasRead self.new (bytes ++ piece.now) written) }
         ensures reading { OnOk result (IsReading self.new) }
+        ensures counted { self.new.replay.count ≤ 20000 }
         ensures progress { OnOk result (0 < length piece.now → bytes_left self.new < bytes_left self.old) }
         ensures halts { IfErr result (λ why. (bytes written : List ℕ) → HasRead self.old bytes written
             → Halts why self.new.replay.count (bytes ++ piece.now) (written ++ self.new.replay.text.items)) }
@@ -55,6 +56,7 @@ impl Pieces {
     /// transcript. Where it halts, the text is that of the lines before.
     pub fn finish(&mut self, alloc: Global) -> Result<(), Halt>
         requires { IsReading self.old }
+        ensures counted { self.new.replay.count ≤ 20000 }
         ensures done { OnOk result ((bytes written : List ℕ) → HasRead self.old bytes written
             → IsCompleteTranscript bytes (written ++ self.new.replay.text.items)) }
         ensures halts { IfErr result (λ why. (bytes written : List ℕ) → HasRead self.old bytes written
@@ -68,6 +70,7 @@ impl Pieces {
 
     /// Gathers the last line of the transcript.
     fn close(&mut self, alloc: Global) -> Result<(), Halt>
+        ensures counted { self.new.replay.count ≡ self.old.replay.count }
         ensures done { OnOk result ((bytes written : List ℕ) → HasPlayed self.old.replay (schedule_read bytes) written
             → IsCompleteTranscript bytes (written ++ self.new.replay.text.items)) }
         ensures halts { IfErr result (λ why. (bytes written : List ℕ) → HasPlayed self.old.replay (schedule_read bytes) written
@@ -82,6 +85,7 @@ impl Pieces {
     /// Plays the line that no LF has ended, if there is one.
     fn play_rest(&mut self, alloc: Global) -> Result<(), Halt>
         requires { IsReading self.old }
+        ensures counted { self.new.replay.count ≤ 20000 }
         ensures played { OnOk result ((bytes written : List ℕ) → HasRead self.old bytes written → HasPlayed self.new.replay (schedule_read bytes) written) }
         ensures halts { IfErr result (λ why. (bytes written : List ℕ) → HasRead self.old bytes written
             → HaltsAtEnd why self.new.replay.count bytes (written ++ self.new.replay.text.items)) }
@@ -101,6 +105,7 @@ impl Pieces {
         requires { IsReading self.old }
         ensures read { OnOk result ((bytes written : List ℕ) → HasRead self.old bytes written → HasRead self.new (bytes ++ byte ∷ []) written) }
         ensures reading { OnOk result (IsReading self.new) }
+        ensures counted { self.new.replay.count ≤ 20000 }
         ensures progress { OnOk result (bytes_left self.new < bytes_left self.old) }
         ensures halts { IfErr result (λ why. (bytes written : List ℕ) → HasRead self.old bytes written
             → Halts why self.new.replay.count (bytes ++ byte ∷ []) (written ++ self.new.replay.text.items)) }
@@ -121,6 +126,7 @@ impl Pieces {
         requires byte { byte ≢ 10 }
         ensures read { OnOk result ((bytes written : List ℕ) → HasRead self.old bytes written → HasRead self.new (bytes ++ byte ∷ []) written) }
         ensures reading { OnOk result (IsReading self.new) }
+        ensures counted { self.new.replay.count ≤ 20000 }
         ensures progress { OnOk result (bytes_left self.new < bytes_left self.old) }
         ensures halts { IfErr result (λ why. (bytes written : List ℕ) → HasRead self.old bytes written
             → Halts why self.new.replay.count (bytes ++ byte ∷ []) (written ++ self.new.replay.text.items)) }
@@ -140,6 +146,7 @@ impl Pieces {
         requires room { self.old.replay.count < 20000 }
         ensures read { OnOk result ((bytes written : List ℕ) → HasRead self.old bytes written → HasRead self.new (bytes ++ 10 ∷ []) written) }
         ensures reading { OnOk result (IsReading self.new) }
+        ensures counted { self.new.replay.count ≤ 20000 }
         ensures progress { OnOk result (bytes_left self.new < bytes_left self.old) }
         ensures halts { IfErr result (λ why. (bytes written : List ℕ) → HasRead self.old bytes written
             → Halts why self.new.replay.count (bytes ++ 10 ∷ []) (written ++ self.new.replay.text.items)) }
