@@ -1,0 +1,2 @@
+//! The world of a run: the two ends of a bare link and the frames between them.
+#![tactic(auto)]
