@@ -1,2 +1,3 @@
 pub mod Machines
 pub mod Joined
+pub mod Offering
