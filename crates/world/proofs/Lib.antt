@@ -1,3 +1,4 @@
 pub mod Machines
 pub mod Joined
 pub mod Offering
+pub mod Sending

@@ -19,7 +19,7 @@ use Rattle.shdlc_core.specs.declared.answers.Due.{Due}
 use Rattle.shdlc_core.specs.declared.answers.Due.TheVariants.{Rr as Rr_due, Rej as Rej_due, Rnr as Rnr_due, Rset as Rset_due, Ua as Ua_due}
 use Rattle.shdlc_core.specs.Machine.{EndState, Session, Fragment, taken, take_answer, nothing_taken, fetched, frame_due, fragment_due, fragment_accepted, newly_acked, sent_next, expected, place_of, ahead, accepted, repeated, acknowledged, ready_again, rejected, received, put_out}
 use Rattle.history_laws.proofs.Calm.{IsCalm, IsCalmFrame, IsCalmDue, calm_form}
-use Rattle.world.specs.Ends.{with_out, Offers, EndStandsFor, IsLast}
+use Rattle.world.specs.Ends.{with_out, Offers, EndStandsFor, IsLast, IsLastIn}
 
 -- ## The frame that is sent now
 
@@ -84,20 +84,39 @@ pub record FetchedFrom (old new : EndState) : Type 0 where
   pub out_is : new.session.out ≡ old.session.out
   pub acked_is : new.session.acked ≡ old.session.acked
   pub window_is : new.session.window ≡ old.session.window
+  pub due_is : AllByRecursion IsCalmDue old.due → AllByRecursion IsCalmDue new.due
 
-fetched_keeps : (m : EndState) (due : List Due) → FetchedFrom m (fetched (record m { due = due }))
+fetched_keeps : (m : EndState) (due : List Due) → FetchedFrom (record m { due = due }) (fetched (record m { due = due }))
 fetched_keeps m [] = go (fragment_due m.session)
   where
     sent : Option Fragment → EndState
     sent None = record m { due = [] }
     sent (Some _) = record m { due = []; session = sent_next m.session }
-    go : (o : Option Fragment) → FetchedFrom m (sent o)
-    go None = record { out_is = refl; acked_is = refl; window_is = refl }
-    go (Some info) = record { out_is = refl; acked_is = refl; window_is = refl }
-fetched_keeps m (d ∷ due) = record { out_is = refl; acked_is = refl; window_is = refl }
+    go : (o : Option Fragment) → FetchedFrom (record m { due = [] }) (sent o)
+    go None = record { out_is = refl; acked_is = refl; window_is = refl; due_is = λ h. h }
+    go (Some info) = record { out_is = refl; acked_is = refl; window_is = refl; due_is = λ h. h }
+fetched_keeps m (d ∷ due) = record { out_is = refl; acked_is = refl; window_is = refl; due_is = λ h. h.1 }
 
 pub fetched-keeps : (m : EndState) → FetchedFrom m (fetched m)
 fetched-keeps m = fetched_keeps m m.due
+
+-- where no frame is sent a fetch changes nothing
+fetched_none : (m : EndState) (due : List Due) → frame_due (record m { due = due }) ≡ None → fetched (record m { due = due }) ≡ record m { due = due }
+fetched_none m [] none = go (fragment_due m.session) none
+  where
+    frame : Option Fragment → Option Control
+    frame None = None
+    frame (Some info) = Some (I (m.session.next % 8) (expected m.session) info)
+    sent : Option Fragment → EndState
+    sent None = record m { due = [] }
+    sent (Some _) = record m { due = []; session = sent_next m.session }
+    go : (o : Option Fragment) → frame o ≡ None → sent o ≡ record m { due = [] }
+    go None is = refl
+    go (Some info) is = cc
+fetched_none m (d ∷ due) none = cc
+
+pub fetched-none : (m : EndState) → frame_due m ≡ None → fetched m ≡ m
+fetched-none m none = fetched_none m m.due none
 
 -- ## What a frame brings
 
@@ -203,10 +222,6 @@ taken-offered e offered c calm frame =
     let P : EndState → Type 0 = λ f. TakesFrame f offered c in
     subst P (sym (calm_form_of e calm)) (takes_form e offered c frame)
 
--- what an end accepts is what the frame brings
-abbrev pub IsLastIn : Control → Type 0
-IsLastIn (I ns nr info) = IsLast info
-IsLastIn _ = Unit {0}
 
 valid_last : (o : Option ℕ) (b : Bool) (info : Fragment) → IsLast info → AllByRecursion IsLast (option_to_list (if_valid o (if b then Some info else None)))
 valid_last None b info last = tt

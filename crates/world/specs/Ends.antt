@@ -1,6 +1,11 @@
 -- What is kept of one end of a bare link, and for which states of its machine it stands: the link layer keeps at most four
 -- fragments, and the others wait.
 use Rattle.std.specs.Prelude.{◌≡◌, ℕ, ◌+◌, ◌≤◌, List, [], ◌∷◌, ◌++◌, length, ◌⊎◌}
+use Rattle.std.specs.List.{All, AllByRecursion}
+use Rattle.swp_base.specs.DataUnits.{IsInfo}
+use Rattle.swp_base.specs.declared.control_frames.Control.{Control}
+use Rattle.swp_base.specs.declared.control_frames.Control.TheVariants.{I}
+use Rattle.history_laws.proofs.Calm.{IsCalmDue}
 use Rattle.shdlc_core.specs.Machine.{EndState, Fragment}
 use Rattle.shdlc_core.specs.Kept.{Kept, StandsFor}
 
@@ -25,3 +30,14 @@ pub record EndStandsFor (k : Kept) (waiting : List Fragment) (m : EndState) : Ty
 abbrev pub IsLast : Fragment → Type 0
 IsLast [] = ⊥
 IsLast (first ∷ rest) = 128 ≤ first
+
+-- an I frame brings the last packet of a message
+abbrev pub IsLastIn : Control → Type 0
+IsLastIn (I ns nr info) = IsLast info
+IsLastIn _ = Unit {0}
+
+-- an end has RR, REJ and fragments to send, each fragment the last packet of its message
+pub record CanSend (m : EndState) : Type 0 where
+  pub due : AllByRecursion IsCalmDue m.due
+  pub fits : All IsInfo m.session.out
+  pub last : AllByRecursion IsLast m.session.out

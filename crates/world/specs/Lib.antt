@@ -1,1 +1,3 @@
 pub mod Ends
+pub mod Wires
+pub mod Sides

@@ -2,3 +2,5 @@
 #![tactic(auto)]
 
 mod bare_end;
+mod side;
+mod wire;
