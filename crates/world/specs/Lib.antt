@@ -1,3 +1,5 @@
 pub mod Ends
 pub mod Wires
 pub mod Sides
+pub mod Takes
+pub mod Steps

@@ -2,5 +2,6 @@
 #![tactic(auto)]
 
 mod bare_end;
+mod link;
 mod side;
 mod wire;
