@@ -1,13 +1,14 @@
 -- Linked blocks: what writes to links, bytes and heads leave of the chains.
-use Rattle.std.proofs.Common.{◌≡◌, ◌≢◌, ℕ, zero, suc, ◌+◌, ◌-◌, ◌*◌, ◌/◌, ◌%◌, ◌<◌, ◌≤◌, Bool, true, false, cond, eqb, ◌⊎◌, inl, inr, List, [], ◌∷◌, ◌++◌, length, get_or, set, map, refl, sym, ap, ◌∙◌, subst, arith, length-set, get_or-set_same, get_or-set_other}
-use Rattle.std.specs.Prelude.{Option, Some, None}
+use Rattle.std.proofs.Common.{◌≡◌, ◌≢◌, ℕ, zero, suc, ◌+◌, ◌-◌, ◌*◌, ◌/◌, ◌%◌, ◌^◌, ◌<◌, ◌≤◌, Bool, true, false, cond, eqb, ◌⊎◌, inl, inr, List, [], ◌∷◌, ◌++◌, length, get_or, set, map, refl, sym, ap, ◌∙◌, subst, arith, rules, Fits, w16, w32, length-set, get_or-set_same, get_or-set_other}
+use Rattle.std.specs.Prelude.{Option, Some, None, IsSome}
 use Rattle.std.specs.List.{range_with_len}
+use Rattle.std.specs.Int.{div_ceil}
 use Rattle.std.proofs.lemmas.List.{same_lists, get_or_past, get_or_default}
 use Rattle.std.proofs.lemmas.Bool.{cases_lt, cases_eq}
 use Rattle.std.proofs.lemmas.List.FromFn.{length-map-range_with_len, get_or-map-range_with_len, map-range_with_len_more}
 use Rattle.std.proofs.lemmas.Grind.{common_steps}
 use Rattle.block_pool.specs.declared.blocks.Head.{Head}
-use Rattle.block_pool.specs.Slots.{Held, blocks_for, slot, put, bytes_of, owner_of}
+use Rattle.block_pool.specs.Slots.{Held, blocks_for, slot, put, bytes_in, bytes_of, owner_in, owner_of}
 use Rattle.block_pool.specs.Layout.{block_at, byte_at, chain_bytes, held_by, slots_of, IsMarked, IsChain, IsSound}
 
 -- ---- links
@@ -43,6 +44,10 @@ same_bytes region next region' next' first len same = same_made (byte_at region'
 one_more_byte : (region next : List ℕ) (first len : ℕ) → chain_bytes region next first (len + 1) ≡ chain_bytes region next first len ++ byte_at region next first len ∷ []
 unfolding chain_bytes
 one_more_byte region next first len = map-range_with_len_more (byte_at region next first) 0 len len (omega arith)
+
+one_byte : (region next : List ℕ) (first : ℕ) → chain_bytes region next first 1 ≡ get_or region (32 * first + 0) 0 ∷ []
+unfolding chain_bytes
+one_byte region next first = refl
 
 pub length-chain_bytes : (region next : List ℕ) (first len : ℕ) → length (chain_bytes region next first len) ≡ len
 unfolding chain_bytes
@@ -83,6 +88,9 @@ slots_set region next region' next' heads heads' b v lens low here others =
         ])
 
 -- ---- marks
+
+none_is_some : (h : Head) → None ≡ Some h → ⊥
+none_is_some h e = cc
 
 -- equal blocks have one mark
 same_mark : (mark : ℕ → ℕ × ℕ) (x y c k d j : ℕ) → mark x ≡ (c, k) → mark y ≡ (d, j) → x ≡ y → (c ≡ d) × (k ≡ j)
@@ -216,3 +224,373 @@ module _ (region next : List ℕ) (heads : List (Option Head)) (free free_len : 
         ];
         spare = sound.spare;
       }
+
+  -- the bytes of a chain, where another chain's block was written
+  other_bytes : (b : ℕ) (head : Head) → get_or heads b None ≡ Some head → (block d j offset byte : ℕ) → sound.mark block ≡ (d, j) → d ≢ b → chain_bytes (set region (32 * block + offset % 32) byte) next b head.len ≡ chain_bytes region next b head.len
+  other_bytes b head at block d j offset byte marked apart =
+      same_bytes region next (set region (32 * block + offset % 32) byte) next b head.len (λ i low.
+          let m = block_of_byte next sound.mark sound.count b head (sound.chains b head at) i low in
+          get_or-set_other region (32 * block + offset % 32) (32 * block_at next b (i / 32) + i % 32) byte 0
+              (other_block (block_at next b (i / 32)) block i offset (λ same. apart (sym (same_mark sound.mark (block_at next b (i / 32)) block b (i / 32) d j m.1 marked same).0))))
+
+  -- the block that has room is the last one
+  last_has_room : (b : ℕ) (head : Head) → get_or heads b None ≡ Some head → 0 < head.len % 32 → block_at next b (head.len / 32) ≡ head.last
+  last_has_room b head at room =
+      let e : head.len / 32 ≡ blocks_for head.len - 1 = omega arith in
+      ap (block_at next b) e ∙ (sound.chains b head at).last
+
+  -- the chain's bytes after a byte more in its last block
+  pushed_bytes : (b : ℕ) (head : Head) (byte : ℕ) → get_or heads b None ≡ Some head → 0 < head.len % 32 → chain_bytes (set region (32 * head.last + head.len % 32) byte) next b (head.len + 1) ≡ chain_bytes region next b head.len ++ byte ∷ []
+  pushed_bytes b head byte at room =
+      let chain = sound.chains b head at in
+      let place = 32 * head.last + head.len % 32 in
+      let last_in : head.last < sound.count = (last_marked next sound.mark sound.count b head chain).0 in
+      let in_region : place < length region = omega (arith, last_in, sound.bytes) in
+      let new_byte : byte_at (set region place byte) next b head.len ≡ byte =
+          ap (λ x. get_or (set region place byte) (32 * x + head.len % 32) 0) (last_has_room b head at room) ∙ get_or-set_same region place byte 0 in_region in
+      let before : chain_bytes (set region place byte) next b head.len ≡ chain_bytes region next b head.len =
+          same_bytes region next (set region place byte) next b head.len (λ i low.
+              let m = block_of_byte next sound.mark sound.count b head chain i low in
+              let l = last_marked next sound.mark sound.count b head chain in
+              get_or-set_other region place (32 * block_at next b (i / 32) + i % 32) byte 0
+                  (λ same.
+                      let blocks : block_at next b (i / 32) ≡ head.last = omega arith in
+                      let parts = same_mark sound.mark (block_at next b (i / 32)) head.last b (i / 32) b (blocks_for head.len - 1) m.1 l.1 blocks in
+                      let place_is : i / 32 ≡ blocks_for head.len - 1 = parts.1 in
+                      let offsets : i % 32 ≡ head.len % 32 = omega arith in
+                      absurd (omega arith))) in
+      one_more_byte (set region place byte) next b head.len ∙ (ap (λ bs. bs ++ byte_at (set region place byte) next b head.len ∷ []) before ∙ ap (λ x. chain_bytes region next b head.len ++ x ∷ []) new_byte)
+
+  pub push_in_block_slots : (b : ℕ) (head : Head) (byte : ℕ) → get_or heads b None ≡ Some head → 0 < head.len % 32 → slots_of (set region (32 * head.last + head.len % 32) byte) next (set heads b (Some (record { owner = head.owner; last = head.last; len = head.len + 1 }))) ≡ put (slots_of region next heads) b head.owner (chain_bytes region next b head.len ++ byte ∷ [])
+  push_in_block_slots b head byte at room =
+      let chain = sound.chains b head at in
+      let low : b < length heads = omega (arith, in_pool next sound.mark sound.count b head chain, sound.counted) in
+      let longer : Head = record { owner = head.owner; last = head.last; len = head.len + 1 } in
+      let place = 32 * head.last + head.len % 32 in
+      let l = last_marked next sound.mark sound.count b head chain in
+      slots_set region next (set region place byte) next heads (set heads b (Some longer)) b (Some (record { owner = head.owner; bytes = chain_bytes region next b head.len ++ byte ∷ [] }))
+          (length-set heads b (Some longer)) low
+          (ap (held_by (set region place byte) next b) (get_or-set_same heads b (Some longer) None low)
+              ∙ ap (λ bs. Some (record { owner = head.owner; bytes = bs })) (pushed_bytes b head byte at room))
+          (λ c apart. ap (held_by (set region place byte) next c) (get_or-set_other heads b c (Some longer) None apart) ∙ other_held c (get_or heads c None) refl b head l.1 apart)
+    where
+      other_held : (c : ℕ) (h : Option Head) → get_or heads c None ≡ h → (b : ℕ) (head : Head) → sound.mark head.last ≡ (b, blocks_for head.len - 1) → c ≢ b → held_by (set region (32 * head.last + head.len % 32) byte) next c (get_or heads c None) ≡ held_by region next c (get_or heads c None)
+      other_held c None e b head m apart = rw e refl
+      other_held c (Some h) e b head m apart =
+          rw e (ap (λ bs. Some (record { owner = h.owner; bytes = bs })) (other_bytes c h e head.last b (blocks_for head.len - 1) head.len byte m (λ s. apart (sym s))))
+
+  -- ---- the first free block taken
+
+  -- the next free blocks
+  popped_spare : (c k : ℕ) (next' : List ℕ) (after : ℕ) → after ≡ get_or next free 0 → ((i : ℕ) → i < free_len - 1 → block_at next' after i ≡ block_at next after i) → (i : ℕ) → i < free_len - 1 → IsMarked (λ x. popped sound.count c k (sound.mark x)) sound.count (block_at next' after i) sound.count i
+  popped_spare c k next' after is_next same i low =
+      let place : block_at next' after i ≡ block_at next free (1 + i) = same i low ∙ (ap (λ x. block_at next x i) is_next ∙ behind next free 1 i) in
+      let m = sound.spare (1 + i) (omega arith) in
+      subst (λ x. IsMarked (λ y. popped sound.count c k (sound.mark y)) sound.count x sound.count i) (sym place)
+          (m.0, ap (popped sound.count c k) m.1 ∙ popped_rest sound.count c k i)
+
+  -- a chain that wasn't written
+  popped_chain : (c k : ℕ) (next' : List ℕ) (d : ℕ) (head : Head) → get_or heads d None ≡ Some head → ((i : ℕ) → i < blocks_for head.len → block_at next' d i ≡ block_at next d i) → IsChain next' (λ x. popped sound.count c k (sound.mark x)) sound.count d head
+  popped_chain c k next' d head at same =
+      let chain = sound.chains d head at in
+      let some : 0 < head.len = chain.some in
+      let low = in_pool next sound.mark sound.count d head chain in
+      record {
+        some = chain.some;
+        marked = λ i h.
+            let m = chain.marked i h in
+            subst (λ x. IsMarked (λ y. popped sound.count c k (sound.mark y)) sound.count x d i) (sym (same i h))
+                (m.0, ap (popped sound.count c k) m.1 ∙ popped_other sound.count c k d i (λ e. absurd (omega arith)));
+        last = same (blocks_for head.len - 1) (omega arith) ∙ chain.last;
+      }
+
+  pub begin_sound : (owner byte place after : ℕ) → 0 < free_len → after ≡ get_or next free 0 → IsSound (set region place byte) next (set heads free (Some (record { owner = owner; last = free; len = 1 }))) after (free_len - 1)
+  begin_sound owner byte place after some is_next =
+      let first = first_free some in
+      let low : free < length heads = omega (arith, first.0, sound.counted) in
+      let new : Head = record { owner = owner; last = free; len = 1 } in
+      let mark = λ (x : ℕ). popped sound.count free 0 (sound.mark x) in
+      let begun : IsChain next mark sound.count free new = record {
+          some = omega arith;
+          marked = λ k h.
+              let zero_place : 0 ≡ k = omega arith in
+              subst (λ i. IsMarked mark sound.count (block_at next free i) free i) zero_place
+                  (first.0, ap (popped sound.count free 0) first.1 ∙ popped_first sound.count free 0);
+          last = refl;
+        } in
+      record {
+        count = sound.count;
+        counted = length-set heads free (Some new) ∙ sound.counted;
+        links = sound.links;
+        bytes = length-set region place byte ∙ sound.bytes;
+        few = sound.few;
+        mark = mark;
+        chains = λ c h e. elim (cases_eq c free) [
+            inl same ↦ subst (λ x. IsChain next mark sound.count x h) (sym same)
+                (subst (λ g. IsChain next mark sound.count free g) (sym (this_head free new h low (subst (λ x. get_or (set heads free (Some new)) x None ≡ Some h) same e))) begun)
+          | inr apart ↦ popped_chain free 0 next c h (other_head free (Some new) c (Some h) apart e) (λ i low. refl)
+        ];
+        spare = popped_spare free 0 next after is_next (λ i low. refl);
+      }
+
+  pub begin_slots : (owner byte : ℕ) → 0 < free_len → slots_of (set region (32 * free) byte) next (set heads free (Some (record { owner = owner; last = free; len = 1 }))) ≡ put (slots_of region next heads) free owner (byte ∷ [])
+  begin_slots owner byte some =
+      let first = first_free some in
+      let low : free < length heads = omega (arith, first.0, sound.counted) in
+      let new : Head = record { owner = owner; last = free; len = 1 } in
+      let in_region : 32 * free < length region = omega (arith, first.0, sound.bytes) in
+      let plain : 32 * free + 0 ≡ 32 * free = omega arith in
+      let one : chain_bytes (set region (32 * free) byte) next free 1 ≡ byte ∷ [] =
+          one_byte (set region (32 * free) byte) next free ∙ ap (λ x. x ∷ []) (ap (λ i. get_or (set region (32 * free) byte) i 0) plain ∙ get_or-set_same region (32 * free) byte 0 in_region) in
+      slots_set region next (set region (32 * free) byte) next heads (set heads free (Some new)) free (Some (record { owner = owner; bytes = byte ∷ [] }))
+          (length-set heads free (Some new)) low
+          (ap (held_by (set region (32 * free) byte) next free) (get_or-set_same heads free (Some new) None low)
+              ∙ ap (λ bs. Some (record { owner = owner; bytes = bs })) one)
+          (λ c apart. ap (held_by (set region (32 * free) byte) next c) (get_or-set_other heads free c (Some new) None apart)
+              ∙ (ap (λ i. held_by (set region i byte) next c (get_or heads c None)) (sym plain) ∙ other_held c (get_or heads c None) refl first.1))
+    where
+      other_held : (c : ℕ) (h : Option Head) → get_or heads c None ≡ h → sound.mark free ≡ (sound.count, 0) → held_by (set region (32 * free + 0 % 32) byte) next c (get_or heads c None) ≡ held_by region next c (get_or heads c None)
+      other_held c None e m = rw e refl
+      other_held c (Some h) e m =
+          let low = in_pool next sound.mark sound.count c h (sound.chains c h e) in
+          rw e (ap (λ bs. Some (record { owner = h.owner; bytes = bs })) (other_bytes c h e free sound.count 0 0 byte m (λ s. absurd (omega arith))))
+
+  -- ---- a byte more in a new last block
+
+  pub push_in_new_block_sound : (b : ℕ) (head : Head) (place byte after : ℕ) → get_or heads b None ≡ Some head → head.len % 32 ≡ 0 → 0 < free_len → after ≡ get_or next free 0 → IsSound (set region place byte) (set next head.last free) (set heads b (Some (record { owner = head.owner; last = free; len = head.len + 1 }))) after (free_len - 1)
+  push_in_new_block_sound b head place byte after at full some is_next =
+      let chain = sound.chains b head at in
+      let b_low = in_pool next sound.mark sound.count b head chain in
+      let low : b < length heads = omega (arith, b_low, sound.counted) in
+      let head_some : 0 < head.len = chain.some in
+      let longer : Head = record { owner = head.owner; last = free; len = head.len + 1 } in
+      let first = first_free some in
+      let l = last_marked next sound.mark sound.count b head chain in
+      let n = blocks_for head.len in
+      let n_some : 0 < n = omega arith in
+      let one_more : blocks_for (head.len + 1) ≡ n + 1 = omega arith in
+      let next' = set next head.last free in
+      let mark = λ (x : ℕ). popped sound.count b n (sound.mark x) in
+      let kept = λ (k : ℕ) (h : k < n). last_link next sound.mark sound.count b head chain head.last free (n - 1) l.1 k h (omega arith) in
+      let new_last : block_at next' b n ≡ free =
+          let e : suc (n - 1) ≡ n = omega arith in
+          let step : get_or next' (block_at next' b (n - 1)) 0 ≡ free =
+              ap (λ x. get_or next' x 0) (kept (n - 1) (omega arith) ∙ chain.last) ∙ get_or-set_same next head.last free 0 (omega (arith, l.0, sound.links)) in
+          ap (block_at next' b) (sym e) ∙ step in
+      let grown : IsChain next' mark sound.count b longer = record {
+          some = omega arith;
+          marked = λ k h. elim (cases_lt k n) [
+              inl before ↦
+                let m = chain.marked k before in
+                subst (λ x. IsMarked mark sound.count x b k) (sym (kept k before))
+                    (m.0, ap (popped sound.count b n) m.1 ∙ popped_other sound.count b n b k (λ e. absurd (omega arith)))
+            | inr behind_them ↦
+                let e : n ≡ k = omega (arith, one_more) in
+                subst (λ i. IsMarked mark sound.count (block_at next' b i) b i) e
+                    (subst (λ x. IsMarked mark sound.count x b n) (sym new_last)
+                        (first.0, ap (popped sound.count b n) first.1 ∙ popped_first sound.count b n))
+          ];
+          last = (let e : blocks_for (head.len + 1) - 1 ≡ n = omega (arith, one_more) in ap (block_at next' b) e) ∙ new_last;
+        } in
+      record {
+        count = sound.count;
+        counted = length-set heads b (Some longer) ∙ sound.counted;
+        links = length-set next head.last free ∙ sound.links;
+        bytes = length-set region place byte ∙ sound.bytes;
+        few = sound.few;
+        mark = mark;
+        chains = λ c h e. elim (cases_eq c b) [
+            inl same ↦ subst (λ x. IsChain next' mark sound.count x h) (sym same)
+                (subst (λ g. IsChain next' mark sound.count b g) (sym (this_head b longer h low (subst (λ x. get_or (set heads b (Some longer)) x None ≡ Some h) same e))) grown)
+          | inr apart ↦
+              let at_c = other_head b (Some longer) c (Some h) apart e in
+              popped_chain b n next' c h at_c (λ i i_low. other_link next sound.mark sound.count c h (sound.chains c h at_c) head.last free b (n - 1) l.1 (λ s. apart (sym s)) i i_low)
+        ];
+        spare = popped_spare b n next' after is_next (λ i i_low. unchanged next head.last free after i (λ j h same.
+            let m = sound.spare (1 + j) (omega arith) in
+            let place_is : block_at next free (1 + j) ≡ head.last = sym (ap (λ x. block_at next x j) is_next ∙ behind next free 1 j) ∙ same in
+            let parts = same_mark sound.mark (block_at next free (1 + j)) head.last sound.count (1 + j) b (n - 1) m.1 l.1 place_is in
+            absurd (let e : sound.count ≡ b = parts.0 in omega arith)));
+      }
+
+  pub push_in_new_block_slots : (b : ℕ) (head : Head) (byte : ℕ) → get_or heads b None ≡ Some head → head.len % 32 ≡ 0 → 0 < free_len → slots_of (set region (32 * free) byte) (set next head.last free) (set heads b (Some (record { owner = head.owner; last = free; len = head.len + 1 }))) ≡ put (slots_of region next heads) b head.owner (chain_bytes region next b head.len ++ byte ∷ [])
+  push_in_new_block_slots b head byte at full some =
+      let chain = sound.chains b head at in
+      let b_low = in_pool next sound.mark sound.count b head chain in
+      let low : b < length heads = omega (arith, b_low, sound.counted) in
+      let head_some : 0 < head.len = chain.some in
+      let longer : Head = record { owner = head.owner; last = free; len = head.len + 1 } in
+      let first = first_free some in
+      let l = last_marked next sound.mark sound.count b head chain in
+      let n = blocks_for head.len in
+      let next' = set next head.last free in
+      let region' = set region (32 * free) byte in
+      let plain : 32 * free + 0 ≡ 32 * free = omega arith in
+      let in_region : 32 * free < length region = omega (arith, first.0, sound.bytes) in
+      let kept = λ (k : ℕ) (h : k < n). last_link next sound.mark sound.count b head chain head.last free (n - 1) l.1 k h (omega arith) in
+      let new_last : block_at next' b (head.len / 32) ≡ free =
+          let e : suc (n - 1) ≡ head.len / 32 = omega arith in
+          let step : get_or next' (block_at next' b (n - 1)) 0 ≡ free =
+              ap (λ x. get_or next' x 0) (kept (n - 1) (omega arith) ∙ chain.last) ∙ get_or-set_same next head.last free 0 (omega (arith, l.0, sound.links)) in
+          ap (block_at next' b) (sym e) ∙ step in
+      let new_byte : byte_at region' next' b head.len ≡ byte =
+          ap (λ x. get_or region' (32 * x + head.len % 32) 0) new_last
+          ∙ (ap (λ o. get_or region' (32 * free + o) 0) full ∙ (ap (λ i. get_or region' i 0) plain ∙ get_or-set_same region (32 * free) byte 0 in_region)) in
+      let same_links : chain_bytes region next' b head.len ≡ chain_bytes region next b head.len =
+          same_bytes region next region next' b head.len (λ i i_low. ap (λ x. get_or region (32 * x + i % 32) 0) (kept (i / 32) (omega arith))) in
+      let before : chain_bytes region' next' b head.len ≡ chain_bytes region next b head.len =
+          same_bytes region next' region' next' b head.len (λ i i_low.
+              let m = block_of_byte next sound.mark sound.count b head chain i i_low in
+              let block_is : block_at next' b (i / 32) ≡ block_at next b (i / 32) = kept (i / 32) (omega arith) in
+              let apart : block_at next' b (i / 32) ≢ free =
+                  λ same. absurd (let e : b ≡ sound.count = (same_mark sound.mark (block_at next b (i / 32)) free b (i / 32) sound.count 0 m.1 first.1 (sym block_is ∙ same)).0 in omega arith) in
+              get_or-set_other region (32 * free) (32 * block_at next' b (i / 32) + i % 32) byte 0
+                  (λ same. other_block (block_at next' b (i / 32)) free i 0 apart (same ∙ sym plain)))
+          ∙ same_links in
+      slots_set region next region' next' heads (set heads b (Some longer)) b (Some (record { owner = head.owner; bytes = chain_bytes region next b head.len ++ byte ∷ [] }))
+          (length-set heads b (Some longer)) low
+          (ap (held_by region' next' b) (get_or-set_same heads b (Some longer) None low)
+              ∙ ap (λ bs. Some (record { owner = head.owner; bytes = bs }))
+                  (one_more_byte region' next' b head.len
+                      ∙ (ap (λ bs. bs ++ byte_at region' next' b head.len ∷ []) before ∙ ap (λ x. chain_bytes region next b head.len ++ x ∷ []) new_byte)))
+          (λ c apart. ap (held_by region' next' c) (get_or-set_other heads b c (Some longer) None apart)
+              ∙ (ap (λ i. held_by (set region i byte) next' c (get_or heads c None)) (sym plain)
+              ∙ other_held c (get_or heads c None) refl b head l.1 first.1 (λ e. apart e)))
+    where
+      other_held : (c : ℕ) (h : Option Head) → get_or heads c None ≡ h → (b : ℕ) (head : Head) → sound.mark head.last ≡ (b, blocks_for head.len - 1) → sound.mark free ≡ (sound.count, 0) → c ≢ b → held_by (set region (32 * free + 0 % 32) byte) (set next head.last free) c (get_or heads c None) ≡ held_by region next c (get_or heads c None)
+      other_held c None e b head m m0 apart = rw e refl
+      other_held c (Some h) e b head m m0 apart =
+          let c_chain = sound.chains c h e in
+          let low = in_pool next sound.mark sound.count c h c_chain in
+          let links : chain_bytes (set region (32 * free + 0 % 32) byte) (set next head.last free) c h.len ≡ chain_bytes (set region (32 * free + 0 % 32) byte) next c h.len =
+              same_bytes (set region (32 * free + 0 % 32) byte) next (set region (32 * free + 0 % 32) byte) (set next head.last free) c h.len
+                  (λ i i_low. ap (λ x. get_or (set region (32 * free + 0 % 32) byte) (32 * x + i % 32) 0)
+                      (other_link next sound.mark sound.count c h c_chain head.last free b (blocks_for head.len - 1) m (λ s. apart (sym s)) (i / 32) (omega arith))) in
+          rw e (ap (λ bs. Some (record { owner = h.owner; bytes = bs })) (links ∙ other_bytes c h e free sound.count 0 0 byte m0 (λ s. absurd (omega arith))))
+
+  -- ---- a chain freed
+
+  pub free_chain_sound : (b : ℕ) (head : Head) → get_or heads b None ≡ Some head → IsSound region (set next head.last free) (set heads b None) b (free_len + blocks_for head.len)
+  free_chain_sound b head at =
+      let chain = sound.chains b head at in
+      let b_low = in_pool next sound.mark sound.count b head chain in
+      let low : b < length heads = omega (arith, b_low, sound.counted) in
+      let head_some : 0 < head.len = chain.some in
+      let l = last_marked next sound.mark sound.count b head chain in
+      let n = blocks_for head.len in
+      let n_some : 0 < n = omega arith in
+      let next' = set next head.last free in
+      let mark = λ (x : ℕ). freed sound.count b n (sound.mark x) in
+      let kept = λ (k : ℕ) (h : k < n). last_link next sound.mark sound.count b head chain head.last free (n - 1) l.1 k h (omega arith) in
+      let count_apart : sound.count ≢ b = λ e. absurd (omega arith) in
+      let behind_last : block_at next' b n ≡ free =
+          let e : suc (n - 1) ≡ n = omega arith in
+          let step : get_or next' (block_at next' b (n - 1)) 0 ≡ free =
+              ap (λ x. get_or next' x 0) (kept (n - 1) (omega arith) ∙ chain.last) ∙ get_or-set_same next head.last free 0 (omega (arith, l.0, sound.links)) in
+          ap (block_at next' b) (sym e) ∙ step in
+      record {
+        count = sound.count;
+        counted = length-set heads b None ∙ sound.counted;
+        links = length-set next head.last free ∙ sound.links;
+        bytes = sound.bytes;
+        few = sound.few;
+        mark = mark;
+        chains = λ c h e. elim (cases_eq c b) [
+            inl same ↦ absurd (none_is_some h (sym (ap (λ x. get_or (set heads b None) x None) same ∙ get_or-set_same heads b None None low) ∙ e))
+          | inr apart ↦
+              let at_c = other_head b None c (Some h) apart e in
+              let c_chain = sound.chains c h at_c in
+              let c_low = in_pool next sound.mark sound.count c h c_chain in
+              let c_some : 0 < h.len = c_chain.some in
+              let same = λ (i : ℕ) (i_low : i < blocks_for h.len). other_link next sound.mark sound.count c h c_chain head.last free b (n - 1) l.1 (λ s. apart (sym s)) i i_low in
+              record {
+                some = c_chain.some;
+                marked = λ i i_low.
+                    let m = c_chain.marked i i_low in
+                    subst (λ x. IsMarked mark sound.count x c i) (sym (same i i_low))
+                        (m.0, ap (freed sound.count b n) m.1 ∙ freed_other sound.count b n c i apart (λ s. absurd (omega arith)));
+                last = same (blocks_for h.len - 1) (omega arith) ∙ c_chain.last;
+              }
+        ];
+        spare = λ k k_low. elim (cases_lt k n) [
+            inl in_chain ↦
+              let m = chain.marked k in_chain in
+              subst (λ x. IsMarked mark sound.count x sound.count k) (sym (kept k in_chain))
+                  (m.0, ap (freed sound.count b n) m.1 ∙ freed_chain sound.count b n k)
+          | inr further ↦
+              let j = k - n in
+              let m = sound.spare j (omega arith) in
+              let sum : n + j ≡ k = omega arith in
+              let turned : j + n ≡ k = omega arith in
+              let place : block_at next' b k ≡ block_at next free j =
+                  ap (block_at next' b) (sym sum) ∙ (sym (behind next' b n j) ∙ (ap (λ x. block_at next' x j) behind_last
+                  ∙ free_link next sound.mark sound.count free free_len sound.spare head.last free b (n - 1) l.1 (λ s. absurd (omega arith)) j (omega arith))) in
+              subst (λ x. IsMarked mark sound.count x sound.count k) (sym place)
+                  (m.0, ap (freed sound.count b n) m.1 ∙ (freed_free sound.count b n j count_apart ∙ ap (λ i. (sound.count, i)) turned))
+        ];
+      }
+
+  pub free_chain_slots : (b : ℕ) (head : Head) → get_or heads b None ≡ Some head → slots_of region (set next head.last free) (set heads b None) ≡ set (slots_of region next heads) b None
+  free_chain_slots b head at =
+      let chain = sound.chains b head at in
+      let low : b < length heads = omega (arith, in_pool next sound.mark sound.count b head chain, sound.counted) in
+      let l = last_marked next sound.mark sound.count b head chain in
+      slots_set region next region (set next head.last free) heads (set heads b None) b None
+          (length-set heads b None) low
+          (ap (held_by region (set next head.last free) b) (get_or-set_same heads b None None low))
+          (λ c apart. ap (held_by region (set next head.last free) c) (get_or-set_other heads b c None None apart) ∙ other_held c (get_or heads c None) refl b head l.1 apart)
+    where
+      other_held : (c : ℕ) (h : Option Head) → get_or heads c None ≡ h → (b : ℕ) (head : Head) → sound.mark head.last ≡ (b, blocks_for head.len - 1) → c ≢ b → held_by region (set next head.last free) c (get_or heads c None) ≡ held_by region next c (get_or heads c None)
+      other_held c None e b head m apart = rw e refl
+      other_held c (Some h) e b head m apart =
+          rw e (ap (λ bs. Some (record { owner = h.owner; bytes = bs }))
+              (same_bytes region next region (set next head.last free) c h.len
+                  (λ i i_low. ap (λ x. get_or region (32 * x + i % 32) 0)
+                      (other_link next sound.mark sound.count c h (sound.chains c h e) head.last free b (blocks_for head.len - 1) m (λ s. apart (sym s)) (i / 32) (omega arith)))))
+
+-- the last block of a chain lies in the pool
+pub last_in : (region next : List ℕ) (heads : List (Option Head)) (free free_len : ℕ) (sound : IsSound region next heads free free_len) (b : ℕ) (head : Head) → get_or heads b None ≡ Some head → head.last < sound.count
+last_in region next heads free free_len sound b head at = (last_marked next sound.mark sound.count b head (sound.chains b head at)).0
+
+-- the length of a chain that isn't too long fits its type
+pub head_fits : (len bytes : ℕ) → bytes ≡ len → bytes < 2 ^ 24 → Fits w32 (len + 1)
+head_fits len bytes same short = grind (arith, common_steps)
+
+-- how many blocks a chain has, as the code computes it
+pub blocks_is : (n len : ℕ) → n ≡ div_ceil len 32 → n ≡ blocks_for len
+blocks_is n len e = omega arith
+
+pub blocks_fit : (n k len : ℕ) → n ≡ div_ceil len 32 → k + blocks_for len < 2 ^ 16 → Fits w16 n × Fits w16 (k + n)
+blocks_fit n k len e low = let same = blocks_is n len e in (grind (arith, common_steps), grind (arith, common_steps))
+
+-- ---- what the slots say of a head
+
+module _ (region next : List ℕ) (heads : List (Option Head)) (slots : List (Option Held)) (view : slots_of region next heads ≡ slots) where
+  slots_say : (b : ℕ) → slot slots b ≡ held_by region next b (get_or heads b None)
+  slots_say b = ap (λ s. slot s b) (sym view) ∙ slot_is region next heads b
+
+  pub bytes_say : (b : ℕ) (head : Head) → get_or heads b None ≡ Some head → bytes_of slots b ≡ chain_bytes region next b head.len
+  bytes_say b head at = ap bytes_in (slots_say b ∙ ap (held_by region next b) at)
+
+  pub owner_says : (b : ℕ) (head : Head) → get_or heads b None ≡ Some head → owner_of slots b ≡ head.owner
+  owner_says b head at = ap owner_in (slots_say b ∙ ap (held_by region next b) at)
+
+  pub len_says : (b : ℕ) (head : Head) → get_or heads b None ≡ Some head → length (bytes_of slots b) ≡ head.len
+  len_says b head at = ap length (bytes_say b head at) ∙ length-chain_bytes region next b head.len
+
+  -- where there are bytes a chain begins
+  pub not_none : (b : ℕ) → 0 < length (bytes_of slots b) → get_or heads b None ≡ None → ⊥
+  not_none b some e =
+      let none : bytes_of slots b ≡ [] = ap bytes_in (slots_say b ∙ ap (held_by region next b) e) in
+      let zero_long : length (bytes_of slots b) ≡ 0 = ap length none in
+      absurd (omega arith)
+
+  pub block_low : (b : ℕ) → 0 < length (bytes_of slots b) → b < length heads
+  block_low b some = elim (cases_lt b (length heads)) [ inl low ↦ low | inr high ↦ absurd (not_none b some (get_or_past heads b None high)) ]
+
+  pub has_head : (b : ℕ) → 0 < length (bytes_of slots b) → IsSome (get_or heads b None)
+  has_head b some = by_head (get_or heads b None) refl
+    where
+      by_head : (h : Option Head) → get_or heads b None ≡ h → IsSome h
+      by_head None e = absurd (not_none b some e)
+      by_head (Some head) e = search rules

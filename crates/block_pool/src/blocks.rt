@@ -1,4 +1,6 @@
 //! Blocks of memory in one region, linked into chains and a list of free blocks.
+ghost use Rattle.std.specs.Prelude.{◌≡◌, ◌<◌, length, None, Some, IsSome, slice_index_or};
+
 use std::alloc::{AllocError, Global};
 use std::marker::Model;
 
@@ -13,6 +15,18 @@ struct Head {
     last: u16,
     /// Its length in bytes, at least 1.
     len: u32,
+}
+
+/// The chain that begins at a block where one does.
+fn head_at(heads: &[Option<Head>], block: u16) -> Head
+    requires { IsSome (slice_index_or heads.now block None) }
+    ensures low { block < length heads.now }
+    ensures head { slice_index_or heads.now block None ≡ Some result }
+{
+    match heads.get(block as usize) {
+        Some(Some(head)) => *head,
+        _ => unreachable!(),
+    }
 }
 
 /// Blocks of 32 bytes, each in a chain or free.
@@ -74,9 +88,7 @@ impl Blocks {
             ≡ put self.old.slots first (owner_of self.old.slots first) (bytes_of self.old.slots first ++ byte ∷ []) }
         ensures free { self.new.free ≡ self.old.free }
     {
-        let Some(head) = self.heads[first as usize] else {
-            unreachable!();
-        };
+        let head = head_at(&self.heads, first);
         let place = BLOCK_BYTES * head.last as usize + head.len as usize % BLOCK_BYTES;
         self.region[place] = byte;
         self.heads[first as usize] = Some(Head {
@@ -96,9 +108,7 @@ impl Blocks {
             ≡ put self.old.slots first (owner_of self.old.slots first) (bytes_of self.old.slots first ++ byte ∷ []) }
         ensures free { self.new.free + 1 ≡ self.old.free }
     {
-        let Some(head) = self.heads[first as usize] else {
-            unreachable!();
-        };
+        let head = head_at(&self.heads, first);
         let block = self.free;
         self.free = self.next[block as usize];
         self.free_len -= 1;
@@ -118,9 +128,7 @@ impl Blocks {
         ensures slots { self.new.slots ≡ slice_set self.old.slots first None }
         ensures free { self.new.free ≡ self.old.free + blocks_for (length (bytes_of self.old.slots first)) }
     {
-        let Some(head) = self.heads[first as usize] else {
-            unreachable!();
-        };
+        let head = head_at(&self.heads, first);
         self.next[head.last as usize] = self.free;
         self.free = first;
         self.free_len += head.len.div_ceil(BLOCK_BYTES as u32) as u16;

@@ -12,7 +12,7 @@ use Rattle.trace_model.specs.declared.line.Line.{Line}
 use Rattle.trace_model.specs.declared.line.Line.TheVariants.{Send, Deliver}
 use Rattle.trace_model.specs.Ends.{other_end}
 use Rattle.shdlc_core.specs.Machine.{EndState, all_fetched}
-use Rattle.history.specs.Histories.{Event, Outcome, Step, History, Refused, Caused, events_of, entries_of}
+use Rattle.history.specs.Histories.{Event, Outcome, Step, History, Refused, Caused, events_of, entries_of, all_entries}
 use Rattle.history.specs.Filters.{same_end, sent_in, acked_in, wire_to, session_of, blocks_of, spare_in}
 use Rattle.history.specs.LinkMachine.{bare_end, given, taken_lpdu, lpdus_of, whole_among, messages_got}
 
@@ -159,3 +159,11 @@ pub record Follows (header : Header) (lines : List Line) (t : History) : Type 0 
   pub header_is : t.header ≡ header
   pub opening_is : t.opening ≡ opening_of header
   pub steps_follow : StepsFollow t.opening lines t.steps
+
+-- the history of a header alone
+abbrev pub opened : Header → History
+opened header = record { header = header; opening = opening_of header; steps = [] }
+
+-- a history with one line more
+abbrev pub with_step : History → Line → History
+with_step t line = record t { steps = t.steps ++ record { line = line; outcome = outcome_of (all_entries t) line } ∷ [] }

@@ -1,5 +1,6 @@
 -- What an event does to what is read off a history.
-use Rattle.std.proofs.Common.{◌≡◌, ℕ, ◌+◌, Bool, true, false, cond, eqb, ltb, List, [], ◌∷◌, ◌++◌, length, take, drop, map, refl, sym, ap, ◌∙◌, append_assoc, arith, subst}
+use Rattle.std.proofs.Common.{◌≡◌, ℕ, ◌+◌, Bool, true, false, cond, eqb, ltb, List, [], ◌∷◌, ◌++◌, length, take, drop, map, refl, sym, ap, ◌∙◌, append_assoc, arith, subst, ◌≤◌}
+use Rattle.std.proofs.lemmas.Grind.{common_steps}
 use Rattle.std.specs.Prelude.{Option, Some, None, not, ◌&&◌, max, nat_lt, if◌then◌else◌}
 use Rattle.std.specs.List.{cons_option, filter_map, fold}
 use Rattle.std.proofs.lemmas.List.{append-nil}
@@ -19,14 +20,14 @@ use Rattle.history_laws.proofs.Filtering.{fold_both, fold-puts, filter_map-puts,
 -- ## Notes
 
 -- a fold that passes over what is acknowledged passes over the note of it
-fold-acked : {S : Type 0} (f : S → Entry → S) (t : List Entry) (e : End) (m : EndState) → ((s : S) (n count : ℕ) → f s (Acked e n count) ≡ s) → (s : S) → fold f s (acked_note t e m) ≡ s
+pub fold-acked : {S : Type 0} (f : S → Entry → S) (t : List Entry) (e : End) (m : EndState) → ((s : S) (n count : ℕ) → f s (Acked e n count) ≡ s) → (s : S) → fold f s (acked_note t e m) ≡ s
 fold-acked {S} f t e m passes s = go (nat_lt (whole_among (sent_in t e (number_at t e)) (machine_at t e).session.acked) (whole_among (sent_in t e (number_at t e)) m.session.acked))
   where
     go : (b : Bool) → fold f s (cond b (Acked e (number_at t e) (whole_among (sent_in t e (number_at t e)) m.session.acked) ∷ []) []) ≡ s
     go true = passes s (number_at t e) (whole_among (sent_in t e (number_at t e)) m.session.acked)
     go false = refl
 
-filter_map-acked : {M : Type 0} (f : Entry → Option M) (t : List Entry) (e : End) (m : EndState) → ((n count : ℕ) → f (Acked e n count) ≡ None) → filter_map f (acked_note t e m) ≡ []
+pub filter_map-acked : {M : Type 0} (f : Entry → Option M) (t : List Entry) (e : End) (m : EndState) → ((n count : ℕ) → f (Acked e n count) ≡ None) → filter_map f (acked_note t e m) ≡ []
 filter_map-acked {M} f t e m passes = go (nat_lt (whole_among (sent_in t e (number_at t e)) (machine_at t e).session.acked) (whole_among (sent_in t e (number_at t e)) m.session.acked))
   where
     go : (b : Bool) → filter_map f (cond b (Acked e (number_at t e) (whole_among (sent_in t e (number_at t e)) m.session.acked) ∷ []) []) ≡ []
@@ -243,3 +244,64 @@ acked_in-took t e x n lpdu =
     ∙ (fold-took (acked_after x n) t e lpdu (acked_in t x n)
     ∙ (ap (λ a. fold (acked_after x n) a (emits t e m)) (fold-got (acked_after x n) e (number_at t e) (λ s pid message. refl) noted (new_messages t e lpdu))
     ∙ fold-puts (acked_after x n) e (λ s l. refl) (λ s l. refl) noted (wire_to t (other_end e)) (lpdus_of m)))
+
+-- ## Other links
+
+-- an end of another link is neither this end nor its other end
+pub record IsElsewhere (e x : End) : Type 0 where
+  pub here : same_end e x ≡ false
+  pub back : same_end (other_end e) x ≡ false
+  pub to : same_end e (other_end x) ≡ false
+
+pub elsewhere : (e x : End) → eqb e.link x.link ≡ false → IsElsewhere e x
+elsewhere e x other =
+    record {
+      here = ap (λ b. b && Rattle.history.specs.Filters.same_side e.at_host x.at_host) other;
+      back = ap (λ b. b && Rattle.history.specs.Filters.same_side (not e.at_host) x.at_host) other;
+      to = ap (λ b. b && Rattle.history.specs.Filters.same_side e.at_host (not x.at_host)) other;
+    }
+
+pub wire-took-elsewhere : (t : List Entry) (e x : End) (lpdu : List ℕ) → IsElsewhere e x → wire_to (t ++ took_event t e lpdu) x ≡ wire_to t x
+wire-took-elsewhere t e x lpdu other =
+    fold_both (wire_after x) [] t (took_event t e lpdu)
+    ∙ (fold-took_first (wire_after x) t e lpdu (λ s n count. refl) (λ s n pid message. refl) (wire_to t x)
+    ∙ (wire-puts-elsewhere e x other.to other.back (wire_after x (wire_to t x) (Took e lpdu)) (wire_to t (other_end e)) (lpdus_of (taken_lpdu (machine_at t e) lpdu))
+    ∙ ap (λ b. cond b (drop 1 (wire_to t x)) (wire_to t x)) other.here))
+
+pub losses-took-elsewhere : (t : List Entry) (e x : End) (lpdu : List ℕ) → IsElsewhere e x → losses_to (t ++ took_event t e lpdu) x ≡ losses_to t x
+losses-took-elsewhere t e x lpdu other =
+    fold_both (losses_after x) [] t (took_event t e lpdu)
+    ∙ (fold-took_first (losses_after x) t e lpdu (λ s n count. refl) (λ s n pid message. refl) (losses_to t x)
+    ∙ losses-puts-elsewhere e x other.back (losses_to t x) (wire_to t (other_end e)) (lpdus_of (taken_lpdu (machine_at t e) lpdu)))
+
+pub wire-sent-elsewhere : (t : List Entry) (e x : End) (pid : ℕ) (message : List ℕ) → IsElsewhere e x → wire_to (t ++ sent_event t e pid message) x ≡ wire_to t x
+wire-sent-elsewhere t e x pid message other =
+    fold_both (wire_after x) [] t (sent_event t e pid message)
+    ∙ wire-puts-elsewhere e x other.to other.back (wire_to t x) (wire_to t (other_end e)) (lpdus_of (given (machine_at t e) pid message))
+
+pub losses-sent-elsewhere : (t : List Entry) (e x : End) (pid : ℕ) (message : List ℕ) → IsElsewhere e x → losses_to (t ++ sent_event t e pid message) x ≡ losses_to t x
+losses-sent-elsewhere t e x pid message other =
+    fold_both (losses_after x) [] t (sent_event t e pid message)
+    ∙ losses-puts-elsewhere e x other.back (losses_to t x) (wire_to t (other_end e)) (lpdus_of (given (machine_at t e) pid message))
+
+-- where the frame isn't taken at this end, nothing is acknowledged to it
+pub acked_in-took-elsewhere : (t : List Entry) (e x : End) (n : ℕ) (lpdu : List ℕ) → same_end e x ≡ false → acked_in (t ++ took_event t e lpdu) x n ≡ acked_in t x n
+acked_in-took-elsewhere t e x n lpdu other =
+    acked_in-took t e x n lpdu ∙ go (nat_lt (whole_before t e) (whole_after t e lpdu))
+  where
+    go : (b : Bool) → fold (acked_after x n) (acked_in t x n) (cond b (Acked e (number_at t e) (whole_after t e lpdu) ∷ []) []) ≡ acked_in t x n
+    go true = ap (λ c. cond (c && eqb (number_at t e) n) (max (acked_in t x n) (whole_after t e lpdu)) (acked_in t x n)) other
+    go false = refl
+
+-- where it is taken, in session 0, the greater number stands
+pub acked_in-took-here : (t : List Entry) (e : End) (lpdu : List ℕ) → number_at t e ≡ 0 → acked_in t e 0 ≡ whole_before t e → whole_before t e ≤ whole_after t e lpdu
+    → acked_in (t ++ took_event t e lpdu) e 0 ≡ whole_after t e lpdu
+acked_in-took-here t e lpdu zero_ was grows =
+    acked_in-took t e e 0 lpdu ∙ go (nat_lt (whole_before t e) (whole_after t e lpdu)) (λ is. grind (arith, common_steps))
+  where
+    go : (b : Bool) → (b ≡ false → whole_after t e lpdu ≤ whole_before t e) → fold (acked_after e 0) (acked_in t e 0) (cond b (Acked e (number_at t e) (whole_after t e lpdu) ∷ []) []) ≡ whole_after t e lpdu
+    go true less =
+        ap (λ c. cond (c && eqb (number_at t e) 0) (max (acked_in t e 0) (whole_after t e lpdu)) (acked_in t e 0)) (same_end_self e)
+        ∙ (ap (λ n. cond (eqb n 0) (max (acked_in t e 0) (whole_after t e lpdu)) (acked_in t e 0)) zero_
+        ∙ let larger : max (acked_in t e 0) (whole_after t e lpdu) ≡ whole_after t e lpdu = omega arith in larger)
+    go false less = let h = less refl in omega arith

@@ -7,3 +7,9 @@ pub mod CalmLink
 pub mod Mirror
 pub mod Whole
 pub mod Sound
+pub mod Steps
+pub mod Keeps
+pub mod Legal
+pub mod Runs
+pub mod Written
+pub mod Opening

@@ -33,13 +33,13 @@ front_trans xs ys zs a b = (a.0 ++ b.0, sym (append_assoc xs a.0 b.0) ∙ (ap (�
 
 -- ## One entry more
 
-sent_in-more : (t : List Entry) (x : Entry) (e : End) (n : ℕ) → sent_in (t ++ x ∷ []) e n ≡ sent_in t e n ++ cons_option (sent_by e n x) []
+pub sent_in-more : (t : List Entry) (x : Entry) (e : End) (n : ℕ) → sent_in (t ++ x ∷ []) e n ≡ sent_in t e n ++ cons_option (sent_by e n x) []
 sent_in-more t x e n = filter_map-append (sent_by e n) t (x ∷ [])
 
-got_in-more : (t : List Entry) (x : Entry) (e : End) (n : ℕ) → got_in (t ++ x ∷ []) e n ≡ got_in t e n ++ cons_option (got_by e n x) []
+pub got_in-more : (t : List Entry) (x : Entry) (e : End) (n : ℕ) → got_in (t ++ x ∷ []) e n ≡ got_in t e n ++ cons_option (got_by e n x) []
 got_in-more t x e n = filter_map-append (got_by e n) t (x ∷ [])
 
-acked_in-more : (t : List Entry) (x : Entry) (e : End) (n : ℕ) → acked_in (t ++ x ∷ []) e n ≡ acked_after e n (acked_in t e n) x
+pub acked_in-more : (t : List Entry) (x : Entry) (e : End) (n : ℕ) → acked_in (t ++ x ∷ []) e n ≡ acked_after e n (acked_in t e n) x
 acked_in-more t x e n = fold-append (acked_after e n) 0 t (x ∷ [])
 
 -- what a sender's messages, their number that is acknowledged, and the other end's messages have to do with each other
@@ -211,3 +211,6 @@ quiet_puts e wire (lpdu ∷ lpdus) = (tt, lost (pushed_out (wire ++ lpdu ∷ [])
 -- frames that are put on a wire
 pub along_puts : (t : List Entry) (e : End) (wire lpdus : List (List ℕ)) → InOrder0 t → InOrderAlong t (puts e wire lpdus)
 along_puts t e wire lpdus h = along_quiet t (puts e wire lpdus) (quiet_puts e wire lpdus) h
+
+pub along_end : (t xs : List Entry) → InOrderAlong t xs → InOrder0 (t ++ xs)
+along_end t xs h = along_front t xs [] (let P : List Entry → Type 0 = λ l. InOrderAlong t l in subst P (sym (append-nil xs)) h)

@@ -76,24 +76,24 @@ pub mirrors_unseen : (t : List Entry) (link : ℕ) (l : Link) (s : Bool) → Mir
 mirrors_unseen t link l false h = h
 mirrors_unseen t link l true h = mirrors_exchanged (exchanged l) t (end_at link true) h
 
-calm_seen : (l : Link) (s : Bool) → IsCalmLink l 0 → IsCalmLink (seen_from s l) 0
+pub calm_seen : (l : Link) (s : Bool) → IsCalmLink l 0 → IsCalmLink (seen_from s l) 0
 calm_seen l false h = h
 calm_seen l true h =
     record { controller = h.host; host = h.controller; to_controller = h.to_host; to_host = h.to_controller; not_ended = h.not_ended; no_rnr = h.no_rnr }
 
-calm_unseen : (l : Link) (s : Bool) → IsCalmLink (seen_from s l) 0 → IsCalmLink l 0
+pub calm_unseen : (l : Link) (s : Bool) → IsCalmLink (seen_from s l) 0 → IsCalmLink l 0
 calm_unseen l false h = h
 calm_unseen l true h =
     record { controller = h.host; host = h.controller; to_controller = h.to_host; to_host = h.to_controller; not_ended = h.not_ended; no_rnr = h.no_rnr }
 
 -- the law, as an end sees it
 module _ (laws : Laws) where
-  order_seen : (events : List LinkEvent) (s : Bool) → (after start events).ended ≡ false
+  pub order_seen : (events : List LinkEvent) (s : Bool) → (after start events).ended ≡ false
       → InOrder (seen_from s (after start events)).controller.session (seen_from s (after start events)).host.session
   order_seen events false up = laws.to_host events up
   order_seen events true up = laws.to_controller events up
 
-  quiet_seen : (events : List LinkEvent) (s : Bool) → (after start events).ended ≡ false → (after start events).lost ≡ false → (after start events).rnr ≡ false
+  pub quiet_seen : (events : List LinkEvent) (s : Bool) → (after start events).ended ≡ false → (after start events).lost ≡ false → (after start events).rnr ≡ false
       → (seen_from s (after start events)).to_controller ≡ [] → (seen_from s (after start events)).to_host ≡ []
       → AllDelivered (seen_from s (after start events)).controller.session (seen_from s (after start events)).host.session
   quiet_seen events false up lost rnr near far = laws.quiet_to_host events up lost rnr near far

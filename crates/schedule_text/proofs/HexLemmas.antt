@@ -1,6 +1,6 @@
 -- Which words are pairs of hexadecimal digits, and how many.
-use Rattle.std.proofs.Common.{◌≡◌, ◌*◌, ◌%◌, ◌/◌, ℕ, Bool, true, false, List, length, refl, sym, ◌∙◌, ap, arith, Option, Some, None, Result, Ok, Err, inl, inr}
-use Rattle.std.specs.List.{list_all, AllPass}
+use Rattle.std.proofs.Common.{◌≡◌, ◌%◌, ◌/◌, ℕ, true, List, length, refl, ap, arith, Some, None, Result, Ok, Err}
+use Rattle.std.specs.List.{list_all}
 use Rattle.std.specs.Option.{option_map}
 use Rattle.std.proofs.lemmas.List.Sums.{AllPass-from_list_all, list_all-from_AllPass}
 use Rattle.hex.specs.Hex.{decode_of, is_hex_digit}

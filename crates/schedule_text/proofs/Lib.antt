@@ -1,3 +1,4 @@
+pub mod GrowthLemmas
 pub mod HexLemmas
 pub mod NumbersLemmas
 pub mod RowsLemmas

@@ -1,11 +1,10 @@
 -- The number that decimal digits write, digit by digit.
-use Rattle.std.proofs.Common.{◌≡◌, ◌==◌, ◌&&◌, ℕ, suc, ◌+◌, ◌-◌, ◌*◌, ◌<◌, ◌≤◌, Bool, true, false, cond, nat_lt, nat_le, List, [], ◌∷◌, length, get_or, drop, refl, sym, ◌∙◌, ap, subst, arith, Option, Some, None, drop-cons, add-one}
-use Rattle.std.proofs.lemmas.Bool.{ltb-true, ltb-false}
+use Rattle.std.proofs.Common.{◌≡◌, ◌&&◌, ℕ, suc, ◌+◌, ◌-◌, ◌*◌, ◌<◌, ◌≤◌, Bool, true, false, cond, nat_le, List, [], ◌∷◌, length, get_or, drop, refl, ◌∙◌, ap, arith, Option, Some, None, drop-cons, add-one}
 use Rattle.std.proofs.lemmas.Bool.Decides.{nat_tests}
 use Rattle.std.specs.Char.{digit_value, is_ascii_digit}
 use Rattle.std.specs.Str.{all_ascii_digits}
-use Rattle.std.specs.Str.Parse.{digits_value, digits_value_after}
-use Rattle.schedule_text.specs.Values.{digits_number, option_if}
+use Rattle.std.specs.Str.Parse.{digits_value_after}
+use Rattle.schedule_text.specs.Values.{option_if}
 
 -- the number of the digits read so far and these
 abbrev pub onward : ℕ → List ℕ → Option ℕ

@@ -1,15 +1,14 @@
 -- What the words of a line without fault say.
-use Rattle.std.proofs.Common.{◌≡◌, ◌≢◌, ◌==◌, ◌&&◌, ◌||◌, ◌⊎◌, ℕ, suc, ◌+◌, ◌<◌, ◌≤◌, Bool, true, false, not, cond, nat_lt, nat_le, List, [], ◌∷◌, length, refl, sym, ◌∙◌, ap, subst, arith, Option, Some, None, is_some, IsSome, IfSome, Contains, All, slice_get, IsTrue, codes}
-use Rattle.std.proofs.lemmas.Bool.Decides.{nat_tests}
+use Rattle.std.proofs.Common.{◌≡◌, ◌==◌, ◌&&◌, ◌||◌, ℕ, ◌<◌, ◌≤◌, Bool, true, false, not, cond, List, [], ◌∷◌, length, refl, sym, ◌∙◌, ap, subst, arith, Option, Some, None, is_some, IsSome, slice_get, codes}
 use Rattle.std.proofs.lemmas.Bool.{leb-true, ltb-true}
 use Rattle.std.specs.List.{list_all, list_any}
-use Rattle.std.specs.Option.{option_map, option_or, option_and_then}
+use Rattle.std.specs.Option.{option_map, option_or}
 use Rattle.std.specs.Str.{bytes_eq}
 use Rattle.trace_model.specs.declared.line.End.{End}
 use Rattle.schedule_text.specs.declared.fault.LineFault.{LineFault}
 use Rattle.schedule_text.specs.declared.fault.LineFault.TheVariants as fault
 use Rattle.schedule_text.specs.declared.forms.Name.TheVariants as name
-use Rattle.schedule_text.specs.Values.{byte_value, bytes_value, number_value, end_value, option_if}
+use Rattle.schedule_text.specs.Values.{byte_value, bytes_value, end_value, option_if}
 use Rattle.schedule_text.specs.Forms.{Row, row_for, header_row, send_row, deliver_row}
 use Rattle.schedule_text.specs.Rules.{slots, is_sender, has_byte, has_bytes, has_shape, is_well_formed, first_digits_fault, first_host_fault, words_fault}
 use Rattle.schedule_text.specs.Lines.{◌>>=◌}

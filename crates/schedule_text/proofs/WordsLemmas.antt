@@ -1,10 +1,10 @@
 -- How the words of a line are found from its front.
-use Rattle.std.proofs.Common.{◌≡◌, ◌==◌, ℕ, zero, suc, ◌+◌, ◌-◌, ◌<◌, ◌≤◌, Bool, true, false, not, cond, nat_lt, List, [], ◌∷◌, ◌++◌, length, get_or, take, drop, refl, sym, ◌∙◌, ap, subst, arith, rules, Option, Some, None, unwrap_or, position, filter, drop-cons, add-one, add-zero, length-drop}
+use Rattle.std.proofs.Common.{◌≡◌, ◌==◌, ℕ, zero, suc, ◌+◌, ◌<◌, ◌≤◌, Bool, true, false, not, cond, nat_lt, List, [], ◌∷◌, length, get_or, take, drop, refl, sym, ◌∙◌, ap, subst, arith, Some, None, unwrap_or, position, filter, drop-cons, add-one, add-zero, length-drop}
 use Rattle.std.proofs.lemmas.Bool.{eqb-true, ltb-false, ltb-true}
 use Rattle.std.proofs.lemmas.List.{drop_all, take_all, get_or-drop}
 use Rattle.std.proofs.lemmas.Grind.{common_steps}
 use Rattle.std.proofs.lemmas.Bool.Decides.{nat_tests}
-use Rattle.std.specs.List.{position_or_len, slice_split, before_first, after_first}
+use Rattle.std.specs.List.{position_or_len, slice_split}
 use Rattle.std.proofs.lemmas.List.Sums.{fails_before_first, passes_at_first, prefix_len-le-length}
 use Rattle.std.proofs.lemmas.List.Splits.{slice_split_first, slice_split_none}
 use Rattle.std.proofs.lemmas.Option.{cond_some}
@@ -66,12 +66,12 @@ word_then_space : (rest : List ℕ) (end : ℕ) → end ≡ position_or_len is_s
     → words rest ≡ take end rest ∷ words (drop end rest)
 word_then_space rest end e some within =
     let parts : slice_split is_space rest ≡ take end rest ∷ slice_split is_space (drop (end + 1) rest) =
-        rw e (slice_split_first is_space rest 0 (subst (λ n. n < length rest) e within)) in
+    rw e (slice_split_first is_space rest 0 (subst (λ n. n < length rest) e within)) in
     let sized : 0 < length (take end rest) = grind (arith, common_steps) in
     let at_space : get_or rest end 0 ≡ 32 =
-        eqb-true _ _ (subst (λ n. is_space (get_or rest n 0) ≡ true) (sym e) (passes_at_first is_space rest 0 (subst (λ n. n < length rest) e within))) in
+    eqb-true _ _ (subst (λ n. is_space (get_or rest n 0) ≡ true) (sym e) (passes_at_first is_space rest 0 (subst (λ n. n < length rest) e within))) in
     let behind : words (drop end rest) ≡ words (drop (end + 1) rest) =
-        rw (add-one, drop-cons rest end 0 within) (space_first (get_or rest end 0) (drop (suc end) rest) at_space) in
+    rw (add-one, drop-cons rest end 0 within) (space_first (get_or rest end 0) (drop (suc end) rest) at_space) in
     ap (filter (λ w. nat_lt 0 (length w))) parts ∙ kept (take end rest) (slice_split is_space (drop (end + 1) rest)) sized ∙ ap (λ ws. take end rest ∷ ws) (sym behind)
 
 -- a word that the line ends
@@ -79,7 +79,7 @@ word_then_end : (rest : List ℕ) → position_or_len is_space rest ≡ length r
     → words rest ≡ take (length rest) rest ∷ words (drop (length rest) rest)
 word_then_end rest e some =
     let parts : slice_split is_space rest ≡ rest ∷ [] =
-        slice_split_none is_space rest (λ k d lt. fails_before_first is_space rest k d (omega (arith, e))) in
+    slice_split_none is_space rest (λ k d lt. fails_before_first is_space rest k d (omega (arith, e))) in
     ap (filter (λ w. nat_lt 0 (length w))) parts ∙ kept rest [] some ∙ rw (drop_all (length rest) rest (omega arith), take_all (length rest) rest (omega arith)) refl
 
 by_end : (t : Bool) (rest : List ℕ) (end : ℕ) → nat_lt end (length rest) ≡ t → end ≡ position_or_len is_space rest → 0 < end
@@ -108,9 +108,9 @@ letter_first : (line : List ℕ) (start : ℕ) → start ≡ position_or_len is_
 letter_first line start e within h =
     let long : 0 < length (drop start line) = simp length-drop (omega arith) in
     let spaced : is_space (get_or (drop start line) 0 0) ≡ true =
-        subst (λ n. is_space (get_or (drop start line) n 0) ≡ true) h (passes_at_first is_space (drop start line) 0 (subst (λ n. n < length (drop start line)) (sym h) long)) in
+    subst (λ n. is_space (get_or (drop start line) n 0) ≡ true) h (passes_at_first is_space (drop start line) 0 (subst (λ n. n < length (drop start line)) (sym h) long)) in
     let letter : is_letter (get_or line start 0) ≡ true =
-        subst (λ n. is_letter (get_or line n 0) ≡ true) (sym e) (passes_at_first is_letter line 0 (subst (λ n. n < length line) e within)) in
+    subst (λ n. is_letter (get_or line n 0) ≡ true) (sym e) (passes_at_first is_letter line 0 (subst (λ n. n < length line) e within)) in
     let same : get_or (drop start line) 0 0 ≡ get_or line start 0 = get_or-drop start line 0 0 ∙ ap (λ n. get_or line n 0) (add-zero start) in
     not_both _ (subst (λ b. is_space b ≡ true) same spaced) letter
 

@@ -1,5 +1,5 @@
 -- The texts of lines and entries.
-use Rattle.std.specs.Prelude.{ℕ, ◌==◌, Bool, true, false, if◌then◌else◌, List, [], ◌∷◌, ◌++◌, map, Option, Some, None, codes}
+use Rattle.std.specs.Prelude.{ℕ, if◌then◌else◌, List, [], ◌∷◌, ◌++◌, map, Some, None, codes}
 use Rattle.std.specs.Fmt.{decimal}
 use Rattle.hex.specs.Hex.{encode_upper}
 use Rattle.trace_model.specs.declared.line.End.{End}
@@ -8,6 +8,8 @@ use Rattle.trace_model.specs.declared.line.Line.{Line}
 use Rattle.trace_model.specs.declared.line.Line.TheVariants as line
 use Rattle.trace_model.specs.declared.entry.Entry.{Entry}
 use Rattle.trace_model.specs.declared.entry.Entry.TheVariants as entry
+use Rattle.trace_model.specs.declared.entry.LostCause.{LostCause}
+use Rattle.trace_model.specs.declared.entry.LostCause.TheVariants as lost
 use Rattle.trace_model.specs.declared.entry.NoCause.{NoCause}
 use Rattle.trace_model.specs.declared.entry.NoCause.TheVariants as cause
 use Rattle.schedule_text.specs.Words.{spaced}
@@ -38,6 +40,17 @@ cause_words cause.TooLong = codes "too-long" ∷ []
 cause_words (cause.Full need spare) = codes "full" ∷ decimal need ∷ decimal spare ∷ []
 cause_words cause.Empty = codes "empty" ∷ []
 
+-- why a frame was lost
+abbrev pub lost_word : LostCause → List ℕ
+lost_word lost.Asked = codes "asked"
+lost_word lost.Age = codes "age"
+lost_word lost.Full = codes "full"
+lost_word lost.Length = codes "length"
+lost_word lost.Alignment = codes "alignment"
+lost_word lost.Crc = codes "crc"
+lost_word lost.Broken = codes "broken"
+lost_word lost.Nothing = codes "none"
+
 -- the words of an entry
 abbrev pub entry_words : Entry → List (List ℕ)
 entry_words (entry.Head header) = codes ">" ∷ header_words header
@@ -50,6 +63,7 @@ entry_words (entry.Got at session pid message) =
 entry_words (entry.Acked at session count) = codes "acked" ∷ end_text at ∷ decimal session ∷ decimal count ∷ []
 entry_words (entry.Emit at lpdu) = codes "emit" ∷ end_text at ∷ encode_upper lpdu ∷ []
 entry_words (entry.Took at lpdu) = codes "took" ∷ end_text at ∷ encode_upper lpdu ∷ []
+entry_words (entry.Lost at lpdu cause) = codes "lost" ∷ end_text at ∷ encode_upper lpdu ∷ lost_word cause ∷ []
 entry_words (entry.No cause) = codes "no" ∷ cause_words cause
 
 -- the text of a line, and of an entry without the end of its line

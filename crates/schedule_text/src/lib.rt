@@ -2,11 +2,14 @@
 #![tactic(auto)]
 
 mod fault;
+mod forms;
 mod read;
 mod rules;
-mod forms;
+mod text;
 mod values;
 mod words;
+mod write;
 
 pub use fault::LineFault;
 pub use read::{Read, read_line};
+pub use write::write_entry;

@@ -59,7 +59,12 @@ fn comment(word: &[u8]) -> bool
     }
 }
 
-fn read_words(alloc: Global, header: Option<&Header>, first: &[u8], rest: &[u8]) -> Result<Read, LineFault>
+fn read_words(
+    alloc: Global,
+    header: Option<&Header>,
+    first: &[u8],
+    rest: &[u8],
+) -> Result<Read, LineFault>
     requires { length rest.now ≤ 9000 }
     ensures { IsRead result (by_row (option_copied header.entry) (row_for first.now) (words rest.now)) }
 {

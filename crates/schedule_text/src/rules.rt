@@ -114,7 +114,10 @@ fn wrong_digits(at: u32, kind: Kind, word: &[u8]) -> Option<LineFault>
         Kind::NewHost => (byte_of(word).is_some(), LineFault::Hex { at }),
         Kind::Byte { below } => (byte_below(word, below), LineFault::Hex { at }),
         Kind::Bytes { low, high } => (is_bytes(word, low, high), LineFault::Hex { at }),
-        Kind::Number { low, high } => (number_of(word, low, high).is_some(), LineFault::Number { at }),
+        Kind::Number { low, high } => (
+            number_of(word, low, high).is_some(),
+            LineFault::Number { at },
+        ),
     };
     if is_right { None } else { Some(fault) }
 }
@@ -192,7 +195,8 @@ fn unknown_host(hosts: &[u8], before: u8, kind: Kind, word: &[u8]) -> Option<u8>
             Some(at) => Some(at.link),
             None => None,
         },
-        Kind::Version | Kind::Bare | Kind::Byte { .. } | Kind::Bytes { .. } | Kind::Number { .. } => None,
+        Kind::Version | Kind::Bare | Kind::Byte { .. } | Kind::Bytes { .. } | Kind::Number { .. } =>
+            None,
     }
 }
 

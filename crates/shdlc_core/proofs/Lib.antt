@@ -1,2 +1,4 @@
 mod Examples
 pub mod Steps
+pub mod Histories
+pub mod FramesDue

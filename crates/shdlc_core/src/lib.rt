@@ -3,6 +3,7 @@
 #![tactic(auto)]
 
 mod answers;
+pub mod laws;
 mod receiver;
 mod sender;
 mod shdlc;

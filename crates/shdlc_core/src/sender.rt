@@ -61,6 +61,20 @@ impl Sender {
         }
     }
 
+    /// Another session begins: nothing is offered, and the numbers begin at 0 again.
+    pub fn restart(&mut self, window: u8)
+        ensures { SendsFor self.new (new_session window) }
+    {
+        self.window = window;
+        self.queue.clear();
+        self.first = 0;
+        self.sent = 0;
+        self.reach = 0;
+        self.peer_busy = false;
+        self.probe = false;
+    }
+
+    /// Whether four fragments aren't acknowledged.
     pub fn is_full(&self) -> bool
         ensures value { result ≡ (length self.now.queue == 4) }
         ensures fits { length self.now.queue ≤ 4 }

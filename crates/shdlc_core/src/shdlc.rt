@@ -91,7 +91,7 @@ impl Shdlc {
         self.phase = LinkState::Up;
         self.timer = 0;
         self.tries = 0;
-        self.sender = Sender::new(window);
+        self.sender.restart(window);
         self.receiver = Receiver::new();
     }
 
@@ -521,7 +521,7 @@ impl Shdlc {
         self.phase = phase;
         self.timer = 0;
         self.tries = 0;
-        self.sender = Sender::new(0);
+        self.sender.restart(0);
         self.receiver = Receiver::new();
     }
 

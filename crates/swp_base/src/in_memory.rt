@@ -24,7 +24,13 @@ impl Model for MemSource {
 
     ghost Value = { Reading };
 
-    ghost view = { λ s. record { left = drop s.at s.bytes.items; fails = s.fails.items; piece = s.piece; calls = s.calls; faults = s.faults } };
+    ghost view = { λ s. record {
+      left = drop s.at s.bytes.items;
+      fails = s.fails.items;
+      piece = s.piece;
+      calls = s.calls;
+      faults = s.faults;
+    } };
 
     ghost invariant = { λ s. (s.at ≤ length s.bytes.items) × (0 < s.piece) };
 }
@@ -34,7 +40,13 @@ impl MemSource {
     /// `piece` bytes.
     pub fn new(bytes: Vec<u8>, fails: Vec<u64>, piece: u32) -> Self
         requires { 0 < piece }
-        ensures { result ≡ record { left = bytes.items; fails = fails.items; piece = piece; calls = 0; faults = 0 } }
+        ensures { result ≡ record {
+          left = bytes.items;
+          fails = fails.items;
+          piece = piece;
+          calls = 0;
+          faults = 0;
+        } }
     {
         Self {
             bytes,
@@ -66,10 +78,13 @@ impl Source for MemSource {
         ensures count { self.old.faults ≤ self.new.faults }
         ensures end { IfOk result (λ n. n ≡ 0 → self.old.left ≡ []) }
         ensures planned { IsErr result ↔ IsTrue (is_planned self.old.fails self.old.calls) }
-        ensures moved { IfOk result (λ n. n ≡ min (min (length self.old.left) (length buf.old)) self.old.piece) }
+        ensures moved { IfOk result (λ n.
+            n ≡ min (min (length self.old.left) (length buf.old)) self.old.piece) }
         ensures read { IfOk result (λ n. take n buf.new ≡ take n self.old.left) }
-        ensures rest { IfOk result (λ n. self.new ≡ record self.old { left = drop n self.old.left; calls = one_more self.old.calls }) }
-        ensures failed { OnErr result (self.new ≡ record self.old { calls = one_more self.old.calls; faults = one_more self.old.faults }) }
+        ensures rest { IfOk result (λ n. self.new
+            ≡ record self.old { left = drop n self.old.left; calls = one_more self.old.calls }) }
+        ensures failed { OnErr result (self.new
+            ≡ record self.old { calls = one_more self.old.calls; faults = one_more self.old.faults }) }
     {
         self.calls = self.calls.saturating_add(1);
         if self.fails.contains(&self.calls) {
@@ -101,7 +116,13 @@ impl Model for MemSink {
 
     ghost Value = { Writing };
 
-    ghost view = { λ s. record { written = s.bytes.items; fails = s.fails.items; piece = s.piece; calls = s.calls; faults = s.faults } };
+    ghost view = { λ s. record {
+      written = s.bytes.items;
+      fails = s.fails.items;
+      piece = s.piece;
+      calls = s.calls;
+      faults = s.faults;
+    } };
 
     ghost invariant = { λ s. 0 < s.piece };
 }
@@ -111,7 +132,13 @@ impl MemSink {
     /// `piece` bytes.
     pub fn new(bytes: Vec<u8>, fails: Vec<u64>, piece: u32) -> Self
         requires { 0 < piece }
-        ensures { result ≡ record { written = bytes.items; fails = fails.items; piece = piece; calls = 0; faults = 0 } }
+        ensures { result ≡ record {
+          written = bytes.items;
+          fails = fails.items;
+          piece = piece;
+          calls = 0;
+          faults = 0;
+        } }
     {
         Self {
             bytes,
@@ -143,8 +170,10 @@ impl Sink for MemSink {
         ensures some { IfOk result (λ n. 0 < n) }
         ensures planned { IsTrue (is_planned self.old.fails self.old.calls) → IsErr result }
         ensures moved { IfOk result (λ n. n ≡ min (length bytes.now) self.old.piece) }
-        ensures wrote { IfOk result (λ n. self.new ≡ record self.old { written = self.old.written ++ take n bytes.now; calls = one_more self.old.calls }) }
-        ensures failed { OnErr result (self.new ≡ record self.old { calls = one_more self.old.calls; faults = one_more self.old.faults }) }
+        ensures wrote { IfOk result (λ n. self.new
+            ≡ record self.old { written = self.old.written ++ take n bytes.now; calls = one_more self.old.calls }) }
+        ensures failed { OnErr result (self.new
+            ≡ record self.old { calls = one_more self.old.calls; faults = one_more self.old.faults }) }
     {
         self.calls = self.calls.saturating_add(1);
         let moved = bytes.len().min(self.piece as usize);

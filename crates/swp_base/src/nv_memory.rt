@@ -99,9 +99,17 @@ impl Nv for MemNv {
         ensures count { self.old.faults ≤ self.new.faults }
         ensures size { length self.new.content ≡ length self.old.content }
         ensures planned { IsErr result ↔ IsTrue (is_next self.old.plan) }
-        ensures wrote { OnOk result (self.new ≡ record self.old { content = overwritten self.old.content at bytes.now; plan = plan_after self.old.plan }) }
-        ensures torn { OnErr result (self.new ≡ record self.old { content = overwritten self.old.content at (torn_bytes self.old.plan (length bytes.now)); plan = None; faults = one_more self.old.faults }) }
-        ensures torn_len { OnErr result (length (torn_bytes self.old.plan (length bytes.now)) ≡ length bytes.now) }
+        ensures wrote { OnOk result (self.new ≡ record self.old {
+          content = overwritten self.old.content at bytes.now;
+          plan = plan_after self.old.plan;
+        }) }
+        ensures torn { OnErr result (self.new ≡ record self.old {
+          content = overwritten self.old.content at (torn_bytes self.old.plan (length bytes.now));
+          plan = None;
+          faults = one_more self.old.faults;
+        }) }
+        ensures torn_len { OnErr result
+            (length (torn_bytes self.old.plan (length bytes.now)) ≡ length bytes.now) }
     {
         let from = at as usize;
         match self.plan.take() {

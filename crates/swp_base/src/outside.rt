@@ -22,10 +22,13 @@ impl From<AllocError> for NoMemory {
 
 /// Bytes that come from outside.
 pub trait Source {
+    // how many of its calls failed; it stands still at the last value of a `u64`
     ghost faults: { Self → ℕ };
 
+    // it tells what is left
     ghost tells: { Bool };
 
+    // the bytes still to come
     ghost left: { Self → List ℕ };
 
     /// Reads some of the bytes that are left into the front of the buffer, and gives their number. It is 0 only at the
@@ -35,17 +38,21 @@ pub trait Source {
         ensures count { faults self.old ≤ faults self.new }
         ensures fault { OnErr result (Rose (faults self.old) (faults self.new)) }
         ensures bound { IfOk result (λ n. n ≤ length buf.new) }
-        ensures read { IsTrue tells → IfOk result (λ n. left self.old ≡ take n buf.new ++ left self.new) }
+        ensures read { IsTrue tells →
+            IfOk result (λ n. left self.old ≡ take n buf.new ++ left self.new) }
         ensures end { IsTrue tells → IfOk result (λ n. n ≡ 0 → left self.old ≡ []) }
         ensures kept { IsTrue tells → OnErr result (left self.new ≡ left self.old) };
 }
 
 /// Bytes that go outside.
 pub trait Sink {
+    // how many of its calls failed; it stands still at the last value of a `u64`
     ghost faults: { Self → ℕ };
 
+    // it tells what was written
     ghost tells: { Bool };
 
+    // the bytes taken so far
     ghost written: { Self → List ℕ };
 
     /// Writes some bytes from the front of the piece, at least one, and gives their number. A call that fails writes
@@ -55,18 +62,23 @@ pub trait Sink {
         ensures count { faults self.old ≤ faults self.new }
         ensures fault { OnErr result (Rose (faults self.old) (faults self.new)) }
         ensures bound { IfOk result (λ n. (0 < n) × (n ≤ length bytes.now)) }
-        ensures wrote { IsTrue tells → IfOk result (λ n. written self.new ≡ written self.old ++ take n bytes.now) }
+        ensures wrote { IsTrue tells →
+            IfOk result (λ n. written self.new ≡ written self.old ++ take n bytes.now) }
         ensures kept { IsTrue tells → OnErr result (written self.new ≡ written self.old) };
 }
 
 /// A memory that keeps its bytes while the power is off.
 pub trait Nv {
+    // how many of its calls failed; it stands still at the last value of a `u64`
     ghost faults: { Self → ℕ };
 
+    // how many bytes it has
     ghost capacity: { Self → ℕ };
 
+    // it tells its content
     ghost tells: { Bool };
 
+    // its bytes
     ghost content: { Self → List ℕ };
 
     /// How many bytes it has.
@@ -80,7 +92,8 @@ pub trait Nv {
         ensures count { faults self.old ≤ faults self.new }
         ensures fault { OnErr result (Rose (faults self.old) (faults self.new)) }
         ensures size { capacity self.new ≡ capacity self.old }
-        ensures read { IsTrue tells → OnOk result (buf.new ≡ slice_range (content self.old) at (at + length buf.old)) }
+        ensures read { IsTrue tells →
+            OnOk result (buf.new ≡ slice_range (content self.old) at (at + length buf.old)) }
         ensures kept { IsTrue tells → content self.new ≡ content self.old };
 
     /// Puts the bytes there from place `at` on. A call that fails leaves any bytes in that range, and no others change.
@@ -89,6 +102,8 @@ pub trait Nv {
         ensures count { faults self.old ≤ faults self.new }
         ensures fault { OnErr result (Rose (faults self.old) (faults self.new)) }
         ensures size { capacity self.new ≡ capacity self.old }
-        ensures wrote { IsTrue tells → OnOk result (content self.new ≡ overwritten (content self.old) at bytes.now) }
-        ensures torn { IsTrue tells → OnErr result (IsTorn (content self.old) (content self.new) at (length bytes.now)) };
+        ensures wrote { IsTrue tells →
+            OnOk result (content self.new ≡ overwritten (content self.old) at bytes.now) }
+        ensures torn { IsTrue tells →
+            OnErr result (IsTorn (content self.old) (content self.new) at (length bytes.now)) };
 }

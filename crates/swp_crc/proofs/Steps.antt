@@ -10,11 +10,11 @@ use Rattle.swp_crc.proofs.DivisionLemmas.{sum_comm, sum_assoc, sum_zeros, length
 use Rattle.swp_crc.proofs.Numbers.{number_of-append, number_of-injective, number_of-sum, number_of-not, number_of-lt}
 use Rattle.swp_crc.proofs.Entries.{number_of_byte}
 
-length-byte : (b : ℕ) → length (bits_of_byte b) ≡ 8
+pub length-byte : (b : ℕ) → length (bits_of_byte b) ≡ 8
 unfolding bits_of_byte
 length-byte b = refl
 
-bits_of-push : (bytes : List ℕ) (b : ℕ) → bits_of (bytes ++ b ∷ []) ≡ bits_of bytes ++ bits_of_byte b
+pub bits_of-push : (bytes : List ℕ) (b : ℕ) → bits_of (bytes ++ b ∷ []) ≡ bits_of bytes ++ bits_of_byte b
 bits_of-push [] b = append-nil (bits_of_byte b)
 bits_of-push (x ∷ bytes) b = rw (bits_of-push bytes b) (sym (append_assoc (bits_of_byte x) (bits_of bytes) (bits_of_byte b)))
 

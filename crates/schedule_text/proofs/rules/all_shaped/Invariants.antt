@@ -1,4 +1,4 @@
-use Rattle.std.proofs.Common.{◌≡◌, ℕ, length}
+use Rattle.std.proofs.Common.{◌≡◌, length}
 use Rattle.std.specs.List.{list_all}
 use Rattle.schedule_text.specs.Words.{words}
 use Rattle.schedule_text.specs.Rules.{slots, has_shape}

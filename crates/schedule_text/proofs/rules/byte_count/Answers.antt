@@ -1,4 +1,4 @@
-use Rattle.std.proofs.Common.{sym, ◌∙◌, arith}
+use Rattle.std.proofs.Common.{sym, ◌∙◌}
 use Rattle.schedule_text.proofs.HexLemmas.{bytes_of_digits, bytes_of_others}
 use Rattle.schedule_text.proofs.rules.byte_count.Goals as goal
 use Rattle.schedule_text.proofs.rules.byte_count.Goals.{else-word-eq0-via-then-word-eq0+else-all_hex, else-word-eq0-via-else-word-eq0}

@@ -13,6 +13,6 @@ returns c = λ e h.
       timer = refl;
       tries = refl;
       peer_window = stood.peer_window;
-      sender = c.new-self-inside.ensures;
-      receiver = c.new-self-inside-2.ensures 0;
+      sender = c.restart.ensures;
+      receiver = c.new-self-inside.ensures 0;
     }

@@ -1,0 +1,52 @@
+use Rattle.std.proofs.Common.{◌≡◌, ◌<◌, ◌≤◌, ◌+◌, ◌*◌, ◌/◌, ◌%◌, ◌-◌, ◌^◌, ℕ, sym, ap, ◌∙◌, subst, arith, length, get_or, Fits, List}
+use Rattle.std.specs.Prelude.{◌∷◌, [], ◌++◌, None, Some, IsSome}
+use Rattle.std.proofs.lemmas.List.{get_or_read}
+use Rattle.block_pool.specs.Slots.{BlocksState, put, bytes_of, owner_of, blocks_for}
+use Rattle.block_pool.specs.Layout.{slots_of, chain_bytes}
+use Rattle.block_pool.proofs.LayoutLemmas.{bytes_say, owner_says, len_says, has_head, last_in, head_fits, first_free, push_in_block_sound, push_in_block_slots}
+use Rattle.block_pool.proofs.blocks.Blocks.push_in_block.Goals as goal
+
+pub head_at-head-requires : goal.head_at-head-requires
+head_at-head-requires c =
+    let s = c.self.inside in
+    subst (λ hs. IsSome (get_or hs c.args.first None)) (sym c.deref.ensures.value)
+        (has_head s.region.items s.next.items s.heads.items c.args.self.now.slots (ap (λ (v : BlocksState). v.slots) c.self.view_is) c.args.first (let r = c.requires.room in omega arith))
+
+pub index_mut-requires : goal.index_mut-requires
+index_mut-requires c =
+    let s = c.self.inside in
+    let head = c.head_at-head.result in
+    let at : get_or s.heads.items c.args.first None ≡ Some head = rw c.deref.ensures.value at c.head_at-head.ensures.head in
+    omega (arith, last_in s.region.items s.next.items s.heads.items s.free s.free_len c.self.invariant c.args.first head at, c.self.invariant.bytes, s.region.ok.0)
+
+pub overflow_add-head : goal.overflow_add-head
+overflow_add-head c =
+    let s = c.self.inside in
+    let head = c.head_at-head.result in
+    let at : get_or s.heads.items c.args.first None ≡ Some head = rw c.deref.ensures.value at c.head_at-head.ensures.head in
+    let view : slots_of s.region.items s.next.items s.heads.items ≡ c.args.self.now.slots = ap (λ (v : BlocksState). v.slots) c.self.view_is in
+    let len_is = len_says s.region.items s.next.items s.heads.items c.args.self.now.slots view c.args.first head at in
+    head_fits head.len (length (bytes_of c.args.self.now.slots c.args.first)) len_is c.requires.short
+
+pub invariant_of-self : goal.invariant_of-self
+invariant_of-self c =
+    let s = c.self.inside in
+    let head = c.head_at-head.result in
+    let at : get_or s.heads.items c.args.first None ≡ Some head = rw c.deref.ensures.value at c.head_at-head.ensures.head in
+    let view : slots_of s.region.items s.next.items s.heads.items ≡ c.args.self.now.slots = ap (λ (v : BlocksState). v.slots) c.self.view_is in
+    let len_is = len_says s.region.items s.next.items s.heads.items c.args.self.now.slots view c.args.first head at in
+    push_in_block_sound s.region.items s.next.items s.heads.items s.free s.free_len c.self.invariant c.args.first head (32 * head.last + head.len % 32) c.args.byte at (let r = c.requires.room in subst (λ n. 0 < n % 32) len_is r)
+
+pub returns-clause-slots : goal.returns-clause-slots
+returns-clause-slots c =
+    let s = c.self.inside in
+    let head = c.head_at-head.result in
+    let at : get_or s.heads.items c.args.first None ≡ Some head = rw c.deref.ensures.value at c.head_at-head.ensures.head in
+    let view : slots_of s.region.items s.next.items s.heads.items ≡ c.args.self.now.slots = ap (λ (v : BlocksState). v.slots) c.self.view_is in
+    let len_is = len_says s.region.items s.next.items s.heads.items c.args.self.now.slots view c.args.first head at in
+    let bytes_are = bytes_say s.region.items s.next.items s.heads.items c.args.self.now.slots view c.args.first head at in
+    let owner_is = owner_says s.region.items s.next.items s.heads.items c.args.self.now.slots view c.args.first head at in
+    push_in_block_slots s.region.items s.next.items s.heads.items s.free s.free_len c.self.invariant c.args.first head c.args.byte at (let r = c.requires.room in subst (λ n. 0 < n % 32) len_is r)
+    ∙ (ap (λ ss. put ss c.args.first head.owner (chain_bytes s.region.items s.next.items c.args.first head.len ++ c.args.byte ∷ [])) view
+    ∙ (ap (λ bs. put c.args.self.now.slots c.args.first head.owner (bs ++ c.args.byte ∷ [])) (sym bytes_are)
+    ∙ ap (λ o. put c.args.self.now.slots c.args.first o (bytes_of c.args.self.now.slots c.args.first ++ c.args.byte ∷ [])) (sym owner_is)))

@@ -1,0 +1,18 @@
+use Rattle.std.proofs.Common.{◌++◌, ◌/◌, arith, sym, subst}
+use Rattle.std.specs.Fmt.{decimal}
+use Rattle.std.proofs.lemmas.Fmt.{decimal_digit}
+use Rattle.schedule_text.specs.Growth.{Holds}
+use Rattle.schedule_text.proofs.GrowthLemmas.{holds_digit}
+use Rattle.schedule_text.proofs.text.Text.+digits.Goals as goal
+
+pub returns-then-number-lt10 : goal.returns-then-number-lt10
+returns-then-number-lt10 t c =
+    λ start text h.
+    subst (λ ds. Holds start (text ++ ds) c.push.new.self.bytes.items c.push.new.self.short) (sym (decimal_digit c.args.number (omega arith)))
+    (c.push.ensures start text h)
+
+pub returns : goal.returns
+returns t c =
+    λ start text h.
+    holds_digit start text _ c.args.number _ (omega arith) (omega arith)
+    (c.push-2.ensures start (text ++ decimal (c.args.number / 10)) (c.digits.ensures start text h))

@@ -1,0 +1,11 @@
+use Rattle.std.proofs.Common.{[], ◌∷◌, ◌++◌}
+use Rattle.hex.specs.Hex.{encode_upper}
+use Rattle.schedule_text.specs.Words.{spaced}
+use Rattle.schedule_text.proofs.GrowthLemmas.{holds_word}
+use Rattle.schedule_text.proofs.text.Text.hex.Goals as goal
+
+pub returns : goal.returns
+returns c =
+    λ start first more h.
+    holds_word start first (encode_upper c.args.bytes.now) _ more _
+    (c.pairs.ensures start (spaced (first ∷ more) ++ (32 ∷ [])) (c.push.ensures start (spaced (first ∷ more)) h))

@@ -1,0 +1,10 @@
+use Rattle.std.proofs.Common.{[], ◌∷◌, ◌++◌}
+use Rattle.schedule_text.specs.Words.{spaced}
+use Rattle.schedule_text.proofs.GrowthLemmas.{holds_word}
+use Rattle.schedule_text.proofs.text.Text.word.Goals as goal
+
+pub returns : goal.returns
+returns c =
+    λ start first more h.
+    holds_word start first c.args.word.now _ more _
+    (c.push-2.ensures start (spaced (first ∷ more) ++ (32 ∷ [])) (c.push.ensures start (spaced (first ∷ more)) h))

@@ -1,0 +1,4 @@
+pub mod Shifts
+pub mod ContentLemmas
+pub mod Runs
+pub mod WritingLemmas

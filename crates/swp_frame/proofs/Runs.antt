@@ -1,0 +1,102 @@
+-- Runs of 1 bits, and what was read since the start of a frame.
+use Rattle.std.proofs.Common.{◌≡◌, ◌≢◌, ℕ, suc, zero, ◌≤◌, Bool, true, false, not, cond, eqb, List, [], ◌∷◌, ◌++◌, drop, replicate, reverse, Option, Some, None, refl, sym, ap, ◌∙◌, subst, arith, append_assoc}
+use Rattle.std.proofs.lemmas.Bool.{eq-eqb, ne_eqb}
+use Rattle.std.proofs.lemmas.List.{reverse-append}
+use Rattle.std.specs.Prelude.{IsTrue, ◌↔◌}
+use Rattle.swp_frame.specs.declared.content.Content.{Content}
+use Rattle.swp_frame.specs.Signal.{Symbol, bit_0, bit_1, break, run_of, start_mark, end_mark, no_mark, since_mark, since_start, unstuffed}
+use Rattle.swp_frame.specs.Kept.{before_run, run_bits, with_held, KeepsContent, KeepsSince, KeepsOpen}
+
+zero_run : (starts : Bool) (before : Option (List Symbol)) (since : List Symbol) → since_mark (cond starts start_mark no_mark) bit_0 before ≡ Some since → run_of since ≡ 0
+zero_run true before [] e = refl
+zero_run true before (x ∷ since) e = absurd (cc)
+zero_run false None since e = absurd (cc)
+zero_run false (Some s) since e = let same : bit_0 ∷ s ≡ since = cc in ap run_of (sym same)
+
+one_run : (ends : Bool) (before : Option (List Symbol)) (since older : List Symbol) → (run_of older ≡ 6 → ends ≡ true)
+    → ((s : List Symbol) → before ≡ Some s → (run_of s ≡ run_of older) × (run_of older ≤ 6))
+    → since_mark (cond ends end_mark no_mark) bit_1 before ≡ Some since → (run_of since ≡ suc (run_of older)) × (suc (run_of older) ≤ 6)
+one_run true before since older six hyp e = absurd (cc)
+one_run false None since older six hyp e = absurd (cc)
+one_run false (Some s) since older six hyp e =
+    let same : bit_1 ∷ s ≡ since = cc in
+    let inner = hyp s refl in
+    let other : run_of older ≢ 6 = λ h. absurd (false_is_true (six h)) in
+    (ap run_of (sym same) ∙ ap suc inner.0, omega (arith, inner.1, other))
+  where
+    false_is_true : false ≡ true → ⊥
+    false_is_true h = cc
+
+-- the run of 1 bits lies behind the start of the frame, and has at most six
+pub since_run : (seen since : List Symbol) → since_start seen ≡ Some since → (run_of since ≡ run_of seen) × (run_of seen ≤ 6)
+since_run [] since e = absurd (cc)
+since_run (bit_0 ∷ older) since e = (zero_run (eqb (run_of older) 6) (since_start older) since e, omega arith)
+since_run (bit_1 ∷ older) since e = one_run (eqb (run_of older) 6) (since_start older) since older (eq-eqb (run_of older) 6) (λ s h. since_run older s h) e
+since_run (break ∷ older) since e = absurd (cc)
+
+pub drop_run : (since : List Symbol) → drop (suc (run_of since)) since ≡ drop 1 (before_run since)
+drop_run [] = refl
+drop_run (bit_0 ∷ older) = refl
+drop_run (bit_1 ∷ older) = drop_run older
+drop_run (break ∷ older) = refl
+
+pub unstuffed_run : (since : List Symbol) → unstuffed since ≡ replicate (run_of since) true ++ unstuffed (before_run since)
+unstuffed_run [] = refl
+unstuffed_run (bit_0 ∷ older) = refl
+unstuffed_run (bit_1 ∷ older) = ap (λ xs. true ∷ xs) (unstuffed_run older)
+unstuffed_run (break ∷ older) = refl
+
+ones-push : (n : ℕ) → replicate n true ++ true ∷ [] ≡ true ∷ replicate n true
+ones-push zero = refl
+ones-push (suc n) = ap (λ xs. true ∷ xs) (ones-push n)
+
+reverse-ones : (n : ℕ) → reverse (replicate n true) ≡ replicate n true
+reverse-ones zero = refl
+reverse-ones (suc n) =
+    reverse-append (true ∷ []) (replicate n true) ∙ ap (λ xs. xs ++ true ∷ []) (reverse-ones n) ∙ ones-push n
+
+reverse-run : (held : Bool) (n : ℕ) (bits : List Bool) → reverse (replicate n true ++ with_held held bits) ≡ reverse bits ++ run_bits held n
+reverse-run true n bits =
+    reverse-append (replicate n true) (false ∷ bits)
+    ∙ ap (λ xs. xs ++ reverse (replicate n true)) (reverse-append (false ∷ []) bits)
+    ∙ append_assoc (reverse bits) (false ∷ []) (reverse (replicate n true))
+    ∙ ap (λ xs. reverse bits ++ (false ∷ xs)) (reverse-ones n)
+reverse-run false n bits = reverse-append (replicate n true) bits ∙ ap (λ xs. reverse bits ++ xs) (reverse-ones n)
+
+-- what is kept of an open frame
+pub opened : (kept : Option Content) (since : Option (List Symbol)) (content : Content) → KeepsOpen kept since → kept ≡ Some content
+    → (s : List Symbol) × ((since ≡ Some s) × KeepsSince content s)
+opened None since content h e = absurd (cc)
+opened (Some k) None content h e = absurd h
+opened (Some k) (Some s) content h e = let same : k ≡ content = cc in (s, (refl, subst (λ x. KeepsSince x s) same h))
+
+held_next : (fives : Bool) (held : Bool) (bits : List Bool) → held ≡ not fives → cond fives bits (false ∷ bits) ≡ with_held held bits
+held_next true held bits e = rw e refl
+held_next false held bits e = rw e refl
+
+-- a 0 is read, where no frame starts
+pub zero_read : (kept after : Content) (since : List Symbol) → KeepsSince kept since
+    → KeepsContent after (reverse (unstuffed (drop 1 (before_run since))) ++ run_bits kept.held (run_of since))
+    → after.held ≡ not (eqb (run_of since) 5) → KeepsSince after (bit_0 ∷ since)
+zero_read kept after since old new held = record {
+  bits = subst (KeepsContent after) (sym (ap reverse (unstuffed_run since ∙ ap (λ xs. replicate (run_of since) true ++ xs) old.held)
+      ∙ reverse-run kept.held (run_of since) (unstuffed (drop 1 (before_run since))))) new;
+  held = held_next (eqb (run_of since) 5) after.held (unstuffed since) held;
+}
+
+pub held_is : (held : Bool) (n : ℕ) → (IsTrue held ↔ (n ≢ 5)) → held ≡ not (eqb n 5)
+held_is true n h = ap not (sym (ne_eqb n 5 (h.0 refl)))
+held_is false n h = tells (eqb n 5) refl
+  where
+    tells : (b : Bool) → eqb n 5 ≡ b → false ≡ not (eqb n 5)
+    tells true e = rw e refl
+    tells false e = absurd (differ (h.1 (λ five. differ (sym e ∙ eq-eqb n 5 five))))
+      where
+        differ : false ≡ true → ⊥
+        differ d = cc
+
+pub closed : (kept : Option Content) (since : Option (List Symbol)) → KeepsOpen kept since → ((content : Content) → kept ≡ Some content → ⊥)
+    → (kept ≡ None) × (since ≡ None)
+closed None None h n = (refl, refl)
+closed None (Some s) h n = absurd h
+closed (Some k) since h n = absurd (n k refl)

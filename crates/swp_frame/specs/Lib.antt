@@ -1,0 +1,6 @@
+pub mod Stuffing
+pub mod Signal
+pub mod Content
+pub mod Verdicts
+pub mod Kept
+pub mod Writing

@@ -1,0 +1,105 @@
+//! Finds the frames in what is read bit by bit.
+ghost use Rattle.std.specs.Prelude.{List, ◌≡◌, ◌<◌, ◌≤◌, ◌∷◌, []};
+
+use crate::content::Content;
+use crate::fed::Fed;
+use std::mem;
+use swp_base::FrameFault;
+
+/// The length of a start of frame's run of 1 bits; one more ends a frame.
+const START_ONES: u8 = 6;
+
+/// Finds the frames in the bits of one direction of a line. It takes no memory, however long a frame is.
+///
+/// A run of exactly six 1 bits and a 0 behind it starts a frame, and the seventh 1 bit in a row ends one. The bits are
+/// read as if one 0 stood before them and after each break. A start of frame inside an open frame refuses this frame as
+/// broken, and opens a new one.
+#[derive(Debug, Drop)]
+pub struct Deframer {
+    /// The 1 bits in a row that were read last; 7 stands for any greater number too.
+    ones: u8,
+    /// The frame that is open.
+    content: Option<Content>,
+    ghost short: { ones ≤ 7 },
+}
+
+impl Deframer {
+    ghost use Rattle.swp_base.specs.declared.link_terms.FrameFault.TheVariants.{Broken};
+    ghost use Rattle.swp_frame.specs.declared.fed.Fed.TheVariants.{Nothing, Refused};
+    ghost use Rattle.swp_frame.specs.Signal.{Symbol, bit_0, bit_1, break, symbol_of, since_start};
+    ghost use Rattle.swp_frame.specs.Verdicts.{verdict};
+    ghost use Rattle.swp_frame.specs.Kept.{StandsFor};
+
+    /// A deframer that has read nothing.
+    pub fn new() -> Self
+        ensures { StandsFor result [] }
+    {
+        Self {
+            ones: 0,
+            content: None,
+        }
+    }
+
+    /// Reads a bit. The faults of a frame are tested in the order of its length in bits without those put in (24 to 256),
+    /// their alignment to bytes, and the CRC.
+    #[inline]
+    pub fn feed(&mut self, bit: bool) -> Fed
+        ensures stands { (seen : List Symbol) → StandsFor self.old seen → StandsFor self.new (symbol_of bit ∷ seen) }
+        ensures answer { (seen : List Symbol) → StandsFor self.old seen → result ≡ verdict (symbol_of bit ∷ seen) }
+    {
+        if bit {
+            self.read_one()
+        } else {
+            self.read_zero()
+        }
+    }
+
+    /// Reads a break: an open frame is refused as broken, and a start of frame is awaited.
+    #[inline]
+    pub fn break_off(&mut self) -> Fed
+        ensures stands { (seen : List Symbol) → StandsFor self.old seen → StandsFor self.new (break ∷ seen) }
+        ensures answer { (seen : List Symbol) → StandsFor self.old seen → result ≡ verdict (break ∷ seen) }
+    {
+        self.ones = 0;
+        match self.content.take() {
+            Some(_) => Fed::Refused(FrameFault::Broken),
+            None => Fed::Nothing,
+        }
+    }
+
+    /// Reads a 1 bit.
+    #[inline]
+    fn read_one(&mut self) -> Fed
+        ensures stands { (seen : List Symbol) → StandsFor self.old seen → StandsFor self.new (bit_1 ∷ seen) }
+        ensures answer { (seen : List Symbol) → StandsFor self.old seen → result ≡ verdict (bit_1 ∷ seen) }
+    {
+        if self.ones < START_ONES {
+            self.ones += 1;
+            return Fed::Nothing;
+        }
+        self.ones = START_ONES + 1;
+        match self.content.take() {
+            Some(content) => content.judge(),
+            None => Fed::Nothing,
+        }
+    }
+
+    /// Reads a 0 bit.
+    #[inline]
+    fn read_zero(&mut self) -> Fed
+        ensures stands { (seen : List Symbol) → StandsFor self.old seen → StandsFor self.new (bit_0 ∷ seen) }
+        ensures answer { (seen : List Symbol) → StandsFor self.old seen → result ≡ verdict (bit_0 ∷ seen) }
+    {
+        let ones = mem::replace(&mut self.ones, 0);
+        if ones == START_ONES {
+            return match self.content.replace(Content::new()) {
+                Some(_) => Fed::Refused(FrameFault::Broken),
+                None => Fed::Nothing,
+            };
+        }
+        if let Some(content) = &mut self.content {
+            content.push_run(ones);
+        }
+        Fed::Nothing
+    }
+}

@@ -1,0 +1,13 @@
+//! What a deframer answers.
+use swp_base::{FrameFault, Lpdu};
+
+/// What one bit or break gave.
+#[derive(Debug, Drop, PartialEq, Eq)]
+pub enum Fed {
+    /// No frame ended here.
+    Nothing,
+    /// A frame ended, and this is its payload.
+    Frame(Lpdu),
+    /// A frame was refused.
+    Refused(FrameFault),
+}
