@@ -1,5 +1,5 @@
 -- The message that a fragment ends which is the last packet of its message, behind fragments that are last packets too.
-use Rattle.std.proofs.Common.{◌≡◌, ℕ, zero, suc, ◌+◌, ◌%◌, ◌<◌, ◌≤◌, Bool, true, false, cond, eqb, leb, ltb, List, [], ◌∷◌, ◌++◌, length, drop, refl, sym, ap, ◌∙◌, append_assoc, arith, subst}
+use Rattle.std.proofs.Common.{◌≡◌, ℕ, suc, ◌%◌, ◌≤◌, Bool, true, false, cond, eqb, leb, List, [], ◌∷◌, ◌++◌, length, drop, refl, sym, ap, ◌∙◌, append_assoc, arith}
 use Rattle.std.specs.Prelude.{Option, Some, None, nat_le, nat_lt, if◌then◌else◌}
 use Rattle.std.specs.List.{AllByRecursion, cons_option, fold}
 use Rattle.std.proofs.lemmas.List.{append-nil}
@@ -43,6 +43,7 @@ packets_last ((first ∷ rest) ∷ fs) last = go (nat_lt (first % 128) 112) (pac
   where
     marked : 128 ≤ first → leb 128 first ≡ true
     marked h = grind (arith, common_steps)
+
     go : (b : Bool) → AllByRecursion Ends (packets_in fs) → AllByRecursion Ends (cons_option (if b then Some (packet (nat_le 128 first) (first % 128) rest) else None) (packets_in fs))
     go true h = (marked last.0, h)
     go false h = h

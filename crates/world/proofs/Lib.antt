@@ -5,3 +5,5 @@ pub mod Sending
 pub mod Results
 pub mod Taking
 pub mod Standing
+pub mod LineSteps
+pub mod Worlds

@@ -1,25 +1,23 @@
 -- What the machine of an end does where the link layer was offered only some of its fragments, and what a frame brings.
-use Rattle.std.proofs.Common.{◌≡◌, ◌≢◌, ℕ, zero, suc, ◌+◌, ◌-◌, ◌%◌, ◌<◌, ◌≤◌, ◌==◌, ◌⊎◌, inl, inr, Bool, true, false, cond, List, [], ◌∷◌, ◌++◌, length, drop, refl, sym, ap, ◌∙◌, arith, get_or, subst, length-append}
-use Rattle.std.specs.Prelude.{Option, Some, None, not, ◌&&◌, ◌||◌, slice_get, nat_lt, nat_le, max, if◌then◌else◌}
+use Rattle.std.proofs.Common.{◌≡◌, ℕ, zero, suc, ◌+◌, ◌-◌, ◌%◌, ◌<◌, ◌≤◌, ◌==◌, ◌⊎◌, inl, inr, Bool, true, false, List, [], ◌∷◌, ◌++◌, length, drop, refl, sym, ap, ◌∙◌, arith, subst, length-append}
+use Rattle.std.specs.Prelude.{Option, Some, None, not, ◌&&◌, ◌||◌, slice_get, nat_lt, nat_le, if◌then◌else◌}
 use Rattle.std.specs.Option.{option_to_list}
 use Rattle.std.specs.List.{All, AllByRecursion}
 use Rattle.std.proofs.lemmas.Option.{slice_get-get_or, slice_get_within, get_or_from_slice_get}
 use Rattle.std.proofs.lemmas.List.Elements.{All-get_or}
 use Rattle.swp_base.specs.DataUnits.{IsInfo}
 use Rattle.std.proofs.lemmas.List.{get_or_append_left, append-nil}
-use Rattle.std.proofs.lemmas.Bool.{ltb-true, and_parts}
-use Rattle.std.proofs.lemmas.Grind.{common_steps}
+use Rattle.std.proofs.lemmas.Bool.{ltb-true}
 use Rattle.swp_base.specs.declared.control_frames.Control.{Control}
 use Rattle.swp_base.specs.declared.control_frames.Control.TheVariants.{I, S, Rset, Ua, Act, Clt}
-use Rattle.swp_base.specs.declared.control_frames.Kind.{Kind}
 use Rattle.swp_base.specs.declared.control_frames.Kind.TheVariants.{Rr, Rej, Rnr, Srej}
 use Rattle.shdlc_core.specs.declared.answers.LinkState.TheVariants.{Up}
 use Rattle.shdlc_core.specs.declared.answers.Taken.{Taken}
 use Rattle.shdlc_core.specs.declared.answers.Due.{Due}
 use Rattle.shdlc_core.specs.declared.answers.Due.TheVariants.{Rr as Rr_due, Rej as Rej_due, Rnr as Rnr_due, Rset as Rset_due, Ua as Ua_due}
-use Rattle.shdlc_core.specs.Machine.{EndState, Session, Fragment, taken, take_answer, nothing_taken, fetched, frame_due, fragment_due, fragment_accepted, newly_acked, sent_next, expected, place_of, ahead, accepted, repeated, acknowledged, ready_again, rejected, received, put_out}
+use Rattle.shdlc_core.specs.Machine.{EndState, Session, Fragment, taken, take_answer, nothing_taken, fetched, frame_due, fragment_due, fragment_accepted, newly_acked, sent_next, expected, place_of, ahead, accepted, repeated, acknowledged, ready_again, rejected, received}
 use Rattle.history_laws.proofs.Calm.{IsCalm, IsCalmFrame, IsCalmDue, calm_form}
-use Rattle.world.specs.Ends.{with_out, Offers, EndStandsFor, IsLast, IsLastIn}
+use Rattle.world.specs.Ends.{with_out, IsLast, IsLastIn}
 
 -- ## The frame that is sent now
 
@@ -36,6 +34,7 @@ due_same s offered waiting out window full = go (not s.peer_busy || s.probe) (na
     same : s.next < s.acked + s.window → (waiting ≡ []) ⊎ (length offered ≡ s.acked + 4) → slice_get offered s.next ≡ slice_get s.out s.next
     same within (inl none) = ap (λ l. slice_get l s.next) (sym (append-nil offered) ∙ (ap (λ w. offered ++ w) (sym none) ∙ sym out))
     same within (inr four) = sym (slice_get_front offered waiting s.next (omega arith)) ∙ ap (λ l. slice_get l s.next) (sym out)
+
     go : (a b : Bool) → nat_lt s.next (s.acked + s.window) ≡ b → (waiting ≡ []) ⊎ (length offered ≡ s.acked + 4)
         → (if a && b then slice_get offered s.next else None) ≡ (if a && b then slice_get s.out s.next else None)
     go false b is full = refl
@@ -62,9 +61,11 @@ fetched_same m offered [] same = ap sent same ∙ go (fragment_due m.session)
     sent : Option Fragment → EndState
     sent None = record (with_out m offered) { due = [] }
     sent (Some _) = record (with_out m offered) { due = []; session = sent_next (record m.session { out = offered }) }
+
     sent_all : Option Fragment → EndState
     sent_all None = record m { due = [] }
     sent_all (Some _) = record m { due = []; session = sent_next m.session }
+
     go : (o : Option Fragment) → sent o ≡ with_out (sent_all o) offered
     go None = refl
     go (Some info) = refl
@@ -92,6 +93,7 @@ fetched_keeps m [] = go (fragment_due m.session)
     sent : Option Fragment → EndState
     sent None = record m { due = [] }
     sent (Some _) = record m { due = []; session = sent_next m.session }
+
     go : (o : Option Fragment) → FetchedFrom (record m { due = [] }) (sent o)
     go None = record { out_is = refl; acked_is = refl; window_is = refl; due_is = λ h. h }
     go (Some info) = record { out_is = refl; acked_is = refl; window_is = refl; due_is = λ h. h }
@@ -107,9 +109,11 @@ fetched_none m [] none = go (fragment_due m.session) none
     frame : Option Fragment → Option Control
     frame None = None
     frame (Some info) = Some (I (m.session.next % 8) (expected m.session) info)
+
     sent : Option Fragment → EndState
     sent None = record m { due = [] }
     sent (Some _) = record m { due = []; session = sent_next m.session }
+
     go : (o : Option Fragment) → frame o ≡ None → sent o ≡ record m { due = [] }
     go None is = refl
     go (Some info) is = cc
@@ -136,21 +140,25 @@ place_cases P s nr none some = go ((place % 8 == nr) && nat_le place s.reached)
   where
     place : ℕ
     place = s.acked + (nr + (8 - s.acked % 8)) % 8
+
     go : (b : Bool) → P (if b then Some place else None)
     go true = some place (omega arith)
     go false = none
 
 received_takes : (e : EndState) (offered : List Fragment) (x ns : ℕ) (info : Fragment) → e.session.acked ≤ x
     → Takes (calm_form e) (received (acknowledged (calm_form e) x) ns info) (received (acknowledged (with_out (calm_form e) offered) x) ns info) offered
-      (record nothing_taken { acked = x - e.session.acked; accepted = fragment_accepted (calm_form e) ns info }) (record nothing_taken { acked = x - e.session.acked; accepted = fragment_accepted (calm_form e) ns info })
+    (record nothing_taken { acked = x - e.session.acked; accepted = fragment_accepted (calm_form e) ns info }) (record nothing_taken { acked = x - e.session.acked; accepted = fragment_accepted (calm_form e) ns info })
 received_takes e offered x ns info more = go (ahead e.session ns == 0) (nat_lt (ahead e.session ns) 4) e.session.gap_open
   where
     f : EndState
     f = acknowledged (calm_form e) x
+
     g : EndState
     g = acknowledged (with_out (calm_form e) offered) x
+
     gap : EndState → EndState
     gap h = record h { due = h.due ++ Rej_due ∷ []; session = record h.session { gap_open = true } }
+
     go : (b c d : Bool) → Takes (calm_form e)
         (if b then accepted f info else (if c then (if d then f else gap f) else repeated f))
         (if b then accepted g info else (if c then (if d then g else gap g) else repeated g)) offered
@@ -173,9 +181,11 @@ takes_form e offered (I ns nr info) calm =
     received_at : Option ℕ → EndState
     received_at None = calm_form e
     received_at (Some x) = received (acknowledged (calm_form e) x) ns info
+
     received_some : Option ℕ → EndState
     received_some None = with_out (calm_form e) offered
     received_some (Some x) = received (acknowledged (with_out (calm_form e) offered) x) ns info
+
     answer_at : Option ℕ → Taken
     answer_at o = record nothing_taken { acked = newly_acked e.session o; accepted = if_valid o (fragment_accepted (calm_form e) ns info) }
 takes_form e offered (S Rr nr) calm =
@@ -186,6 +196,7 @@ takes_form e offered (S Rr nr) calm =
     at : Option ℕ → EndState
     at None = calm_form e
     at (Some x) = ready_again (calm_form e) x
+
     at_some : Option ℕ → EndState
     at_some None = with_out (calm_form e) offered
     at_some (Some x) = ready_again (with_out (calm_form e) offered) x
@@ -197,6 +208,7 @@ takes_form e offered (S Rej nr) calm =
     at : Option ℕ → EndState
     at None = calm_form e
     at (Some x) = rejected (calm_form e) x
+
     at_some : Option ℕ → EndState
     at_some None = with_out (calm_form e) offered
     at_some (Some x) = rejected (with_out (calm_form e) offered) x
@@ -221,7 +233,6 @@ pub taken-offered : (e : EndState) (offered : List Fragment) (c : Control) → I
 taken-offered e offered c calm frame =
     let P : EndState → Type 0 = λ f. TakesFrame f offered c in
     subst P (sym (calm_form_of e calm)) (takes_form e offered c frame)
-
 
 valid_last : (o : Option ℕ) (b : Bool) (info : Fragment) → IsLast info → AllByRecursion IsLast (option_to_list (if_valid o (if b then Some info else None)))
 valid_last None b info last = tt
@@ -285,6 +296,7 @@ frame-calm m [] calm fits last =
     frame : Option Fragment → Option Control
     frame None = None
     frame (Some info) = Some (I (m.session.next % 8) (expected m.session) info)
+
     fragment_fits : (info : Fragment) → slice_get m.session.out m.session.next ≡ Some info → IsInfo info
     fragment_fits info is =
         let P : Fragment → Type 0 = λ x. IsInfo x in

@@ -1,5 +1,5 @@
 -- What sending adds to a wire and to the entries.
-use Rattle.std.proofs.Common.{◌≡◌, ℕ, zero, suc, ◌+◌, ◌-◌, ◌<◌, ◌≤◌, Bool, true, false, cond, ltb, List, [], ◌∷◌, ◌++◌, length, take, drop, map, refl, sym, ap, ◌∙◌, append_assoc, arith, subst}
+use Rattle.std.proofs.Common.{◌≡◌, ℕ, zero, suc, ◌<◌, Bool, true, false, cond, ltb, List, [], ◌∷◌, ◌++◌, length, take, drop, map, refl, sym, ap, ◌∙◌, append_assoc, arith, subst}
 use Rattle.std.specs.Prelude.{Option, Some, None, Ok, nat_lt, if◌then◌else◌}
 use Rattle.std.specs.List.{All, AllByRecursion}
 use Rattle.std.specs.Option.{option_to_list}
@@ -145,11 +145,11 @@ sending_goes_on n m e k new waiting new_waiting wire wire_now wire_next entries 
       after_is = h.after_is;
       wire_is = ap (λ w. put_on w rest) wire_is ∙ (sym (ap (put_on wire_now) first) ∙ h.wire_is);
       entries_are =
-        ap (λ es. es ++ puts e wire_next rest) entries_are
-        ∙ (ap (λ w. (entries_now ++ puts e wire_now (lpdu ∷ [])) ++ puts e w rest) wire_is
-        ∙ (append_assoc entries_now (puts e wire_now (lpdu ∷ [])) (puts e (kept_on (wire_now ++ lpdu ∷ [])) rest)
-        ∙ (ap (λ es. entries_now ++ es) (sym (puts_first e wire_now lpdu rest))
-        ∙ (sym (ap (λ ls. entries_now ++ puts e wire_now ls) first) ∙ h.entries_are))));
+          ap (λ es. es ++ puts e wire_next rest) entries_are
+          ∙ (ap (λ w. (entries_now ++ puts e wire_now (lpdu ∷ [])) ++ puts e w rest) wire_is
+          ∙ (append_assoc entries_now (puts e wire_now (lpdu ∷ [])) (puts e (kept_on (wire_now ++ lpdu ∷ [])) rest)
+          ∙ (ap (λ es. entries_now ++ es) (sym (puts_first e wire_now lpdu rest))
+          ∙ (sym (ap (λ ls. entries_now ++ puts e wire_now ls) first) ∙ h.entries_are))));
     }
 
 -- what is no frame is none

@@ -1,13 +1,12 @@
 -- Both sides of a link stand for the history after an event.
-use Rattle.std.proofs.Common.{◌≡◌, ℕ, zero, suc, ◌+◌, ◌-◌, ◌/◌, ◌<◌, ◌≤◌, ◌^◌, Bool, true, false, cond, eqb, ltb, leb, List, [], ◌∷◌, ◌++◌, length, take, drop, map, max, refl, sym, ap, ◌∙◌, append_assoc, arith, subst, length-append}
-use Rattle.std.specs.Prelude.{Option, Some, None, not, ◌&&◌, nat_lt, nat_le, if◌then◌else◌, unwrap_or}
+use Rattle.std.proofs.Common.{◌≡◌, ℕ, zero, suc, ◌+◌, ◌-◌, ◌<◌, ◌≤◌, ◌^◌, Bool, true, false, cond, eqb, ltb, leb, List, [], ◌∷◌, ◌++◌, length, take, drop, map, max, refl, sym, ap, ◌∙◌, append_assoc, arith, subst, length-append}
+use Rattle.std.specs.Prelude.{Some, None, ◌&&◌, nat_lt, nat_le, if◌then◌else◌, unwrap_or}
 use Rattle.std.specs.List.{All, AllByRecursion, cons_option, fold}
 use Rattle.std.proofs.lemmas.List.{append-nil, take_all}
 use Rattle.std.proofs.lemmas.Grind.{common_steps}
 use Rattle.swp_base.specs.DataUnits.{IsInfo}
-use Rattle.swp_lpdu.specs.Controls.{bytes_of as lpdu_of}
 use Rattle.hcp_packet.specs.Packets.{packets_of, parts_of, bytes_of, packet_count}
-use Rattle.shdlc_core.specs.Machine.{EndState, Fragment, frames_of, all_frames, all_fetched, put_out}
+use Rattle.shdlc_core.specs.Machine.{EndState, Fragment, all_fetched, put_out}
 use Rattle.trace_model.specs.declared.entry.Entry.{Entry}
 use Rattle.trace_model.specs.declared.entry.Entry.TheVariants.{Sent, Got, Acked, Took}
 use Rattle.trace_model.specs.declared.line.End.{End}
@@ -30,7 +29,7 @@ use Rattle.world.proofs.Machines.{all_append}
 use Rattle.world.proofs.Taking.{acked_within}
 
 -- the session of an end
-number_is : (t : List Entry) (e : End) → session_of t e ≡ Some 0 → number_at t e ≡ 0
+pub number_is : (t : List Entry) (e : End) → session_of t e ≡ Some 0 → number_at t e ≡ 0
 number_is t e up = ap (λ o. unwrap_or o 0) up
 
 -- a side to which nothing came but frames on the wire
@@ -134,14 +133,14 @@ sent_stands near near_now far far_now e t pid message info entries entries_now h
           first = ap (λ x. x.session.acked) machine ∙ (from.acked_is ∙ (h.here.first ∙ sym acked_is));
         };
         there = there_stands far far_now (other_end e) t t_now lpdus h.there
-          (session-sent t e (other_end e) pid message) (machine-sent-elsewhere t e (other_end e) pid message (same_end_other e)) (sent_there t e pid message) (acked_in-sent t e (other_end e) 0 pid message)
-          (wire-sent-back t e pid message ∙ ap (λ x. put_on (wire_to t (other_end e)) (lpdus_of x)) same)
-          end_is far_sent far_acked s.wire_is s.frames;
+            (session-sent t e (other_end e) pid message) (machine-sent-elsewhere t e (other_end e) pid message (same_end_other e)) (sent_there t e pid message) (acked_in-sent t e (other_end e) 0 pid message)
+            (wire-sent-back t e pid message ∙ ap (λ x. put_on (wire_to t (other_end e)) (lpdus_of x)) same)
+            end_is far_sent far_acked s.wire_is s.frames;
       };
       entries_are =
-        s.entries_are
-        ∙ (append_assoc entries (Sent e 0 pid message ∷ []) (puts e far.wire.items lpdus)
-        ∙ ap (λ es. entries ++ es) (
+          s.entries_are
+          ∙ (append_assoc entries (Sent e 0 pid message ∷ []) (puts e far.wire.items lpdus)
+          ∙ ap (λ es. entries ++ es) (
           ap (λ n. Sent e n pid message ∷ puts e far.wire.items lpdus) (sym number)
           ∙ (ap (λ w. Sent e (number_at t e) pid message ∷ puts e w lpdus) (sym h.there.wire)
           ∙ ap (λ x. Sent e (number_at t e) pid message ∷ puts e (wire_to t (other_end e)) (lpdus_of x)) (sym same))));
@@ -239,24 +238,24 @@ took_stands near popped taken_side near_now far far_now e t lpdu entries middle 
           short = subst T (sym sent) h.here.short;
           out = ap length out ∙ (h.here.out ∙ sym sent_same);
           acked = acked_in-took t e e 0 lpdu ∙ (ap (λ es. fold (acked_after e 0) (acked_in t e 0) es) note
-            ∙ (ap (λ k. fold (acked_after e 0) k (acked_entries e near.acked taken_side.acked)) h.here.acked
-            ∙ (fold-acked e near.acked taken_side.acked grows ∙ sym acked_is)));
+              ∙ (ap (λ k. fold (acked_after e 0) k (acked_entries e near.acked taken_side.acked)) h.here.acked
+              ∙ (fold-acked e near.acked taken_side.acked grows ∙ sym acked_is)));
           first = ap (λ x. x.session.acked) machine ∙ (from.acked_is ∙ (taken.acked ∙ sym acked_is));
         };
         there = there_stands far far_now (other_end e) t t_now lpdus h.there
-          (session-took t e (other_end e) lpdu) (machine-took-elsewhere t e (other_end e) lpdu (same_end_other e)) (sent_in-took t e (other_end e) 0 lpdu)
-          (acked_in-took t e (other_end e) 0 lpdu ∙ (ap (λ es. fold (acked_after (other_end e) 0) (acked_in t (other_end e) 0) es) note
+            (session-took t e (other_end e) lpdu) (machine-took-elsewhere t e (other_end e) lpdu (same_end_other e)) (sent_in-took t e (other_end e) 0 lpdu)
+            (acked_in-took t e (other_end e) 0 lpdu ∙ (ap (λ es. fold (acked_after (other_end e) 0) (acked_in t (other_end e) 0) es) note
             ∙ fold-acked-elsewhere e (other_end e) near.acked taken_side.acked (acked_in t (other_end e) 0) (same_end_other e)))
-          (wire-took-back t e lpdu)
-          end_is far_sent far_acked s.wire_is s.frames;
+            (wire-took-back t e lpdu)
+            end_is far_sent far_acked s.wire_is s.frames;
       };
       entries_are =
-        s.entries_are
-        ∙ (ap (λ es. es ++ puts e far.wire.items lpdus) taken.entries_are
-        ∙ (ap (λ es. ((entries ++ Took e lpdu ∷ []) ++ (es ++ got_entries e new)) ++ puts e far.wire.items lpdus) noted
-        ∙ (ap (λ es. ((entries ++ Took e lpdu ∷ []) ++ (acked_note t e g ++ es)) ++ puts e far.wire.items lpdus) got
-        ∙ (ap (λ es. ((entries ++ Took e lpdu ∷ []) ++ (acked_note t e g ++ got_notes t e g)) ++ es) sends
-        ∙ regroup entries (Took e lpdu) (acked_note t e g) (got_notes t e g) (emits t e g)))));
+          s.entries_are
+          ∙ (ap (λ es. es ++ puts e far.wire.items lpdus) taken.entries_are
+          ∙ (ap (λ es. ((entries ++ Took e lpdu ∷ []) ++ (es ++ got_entries e new)) ++ puts e far.wire.items lpdus) noted
+          ∙ (ap (λ es. ((entries ++ Took e lpdu ∷ []) ++ (acked_note t e g ++ es)) ++ puts e far.wire.items lpdus) got
+          ∙ (ap (λ es. ((entries ++ Took e lpdu ∷ []) ++ (acked_note t e g ++ got_notes t e g)) ++ es) sends
+          ∙ regroup entries (Took e lpdu) (acked_note t e g) (got_notes t e g) (emits t e g)))));
     }
   where
     regroup : (entries : List Entry) (x : Entry) (a b c : List Entry) → ((entries ++ x ∷ []) ++ (a ++ b)) ++ c ≡ entries ++ x ∷ (a ++ (b ++ c))
@@ -302,10 +301,10 @@ taking_goes_on near far near_now far_now e t entries entries_now entries_next ev
     record {
       both = adds.both;
       now_is = append_assoc now (took_event now e lpdu) (entries_of (took_events next e (take k near_now.wire.items)))
-        ∙ (ap (λ es. now ++ (took_event now e lpdu ++ es)) others ∙ (ap (λ es. now ++ es) (sym all) ∙ h.now_is));
+          ∙ (ap (λ es. now ++ (took_event now e lpdu ++ es)) others ∙ (ap (λ es. now ++ es) (sym all) ∙ h.now_is));
       entries_are = ap (λ es. es ++ entries_of (took_events next e (take k near_now.wire.items))) adds.entries_are
-        ∙ (append_assoc entries_now (took_event now e lpdu) (entries_of (took_events next e (take k near_now.wire.items)))
-        ∙ (ap (λ es. entries_now ++ (took_event now e lpdu ++ es)) others ∙ (ap (λ es. entries_now ++ es) (sym all) ∙ h.entries_are)));
+          ∙ (append_assoc entries_now (took_event now e lpdu) (entries_of (took_events next e (take k near_now.wire.items)))
+          ∙ (ap (λ es. entries_now ++ (took_event now e lpdu ++ es)) others ∙ (ap (λ es. entries_now ++ es) (sym all) ∙ h.entries_are)));
     }
 
 -- ## What may be taken and sent

@@ -1,7 +1,7 @@
 -- What is kept and noted after an end took a frame.
-use Rattle.std.proofs.Common.{◌≡◌, ℕ, ◌+◌, ◌<◌, ◌≤◌, ◌^◌, List, [], ◌∷◌, ◌++◌, length, drop, refl, sym, ap, ◌∙◌, arith, subst, length-append}
+use Rattle.std.proofs.Common.{◌≡◌, ℕ, ◌+◌, ◌<◌, ◌≤◌, ◌^◌, List, [], ◌++◌, length, drop, sym, ap, ◌∙◌, arith, subst, length-append}
 use Rattle.std.specs.Prelude.{Result, Ok, Err, Option, Some, None}
-use Rattle.std.specs.List.{All, AllByRecursion}
+use Rattle.std.specs.List.{AllByRecursion}
 use Rattle.std.specs.Option.{option_to_list}
 use Rattle.swp_base.specs.declared.control_frames.Control.{Control}
 use Rattle.swp_lpdu.specs.declared.LpduFault.{LpduFault}
@@ -73,9 +73,9 @@ has_taken old new e m lpdu c answer entries entries_now can is_frame says is sta
     let acc : (taken_lpdu m lpdu).session.acc ≡ m.session.acc ++ option_to_list accepted = ap (λ x. x.session.acc) s ∙ takes.accepted in
     let same_accepted : answer.accepted ≡ accepted = ap (λ a. a.accepted) is in
     let got : drop (length (messages_got m)) (messages_got (taken_lpdu m lpdu)) ≡ good_messages_of (option_to_list answer.accepted) =
-      ap (λ l. drop (length (messages_got m)) (good_messages_of l)) acc
-      ∙ (new-messages m.session.acc (option_to_list accepted) can.last_acc last (few_accepted accepted)
-      ∙ ap (λ o. good_messages_of (option_to_list o)) (sym same_accepted)) in
+    ap (λ l. drop (length (messages_got m)) (good_messages_of l)) acc
+    ∙ (new-messages m.session.acc (option_to_list accepted) can.last_acc last (few_accepted accepted)
+    ∙ ap (λ o. good_messages_of (option_to_list o)) (sym same_accepted)) in
     record {
       stands = subst P (sym s) stands;
       calm = subst Q (sym s) on.calm;
@@ -86,5 +86,5 @@ has_taken old new e m lpdu c answer entries entries_now can is_frame says is sta
       wire = wire;
       sent = sent;
       entries_are = entries_are ∙ (ap (λ n. entries ++ (acked_entries e old.acked n ++ got_entries e (good_messages_of (option_to_list answer.accepted)))) (sym acked)
-        ∙ ap (λ ms. entries ++ (acked_entries e old.acked new.acked ++ got_entries e ms)) (sym got));
+          ∙ ap (λ ms. entries ++ (acked_entries e old.acked new.acked ++ got_entries e ms)) (sym got));
     }

@@ -1,6 +1,6 @@
 -- What is kept of one end of a bare link, and for which states of its machine it stands: the link layer keeps at most four
 -- fragments, and the others wait.
-use Rattle.std.specs.Prelude.{◌≡◌, ℕ, ◌+◌, ◌≤◌, List, [], ◌∷◌, ◌++◌, length, ◌⊎◌}
+use Rattle.std.specs.Prelude.{◌≡◌, ◌+◌, ◌≤◌, List, [], ◌∷◌, ◌++◌, length, ◌⊎◌}
 use Rattle.std.specs.List.{All, AllByRecursion}
 use Rattle.swp_base.specs.DataUnits.{IsInfo}
 use Rattle.swp_base.specs.declared.control_frames.Control.{Control}

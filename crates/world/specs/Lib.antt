@@ -3,3 +3,4 @@ pub mod Wires
 pub mod Sides
 pub mod Takes
 pub mod Steps
+pub mod Worlds

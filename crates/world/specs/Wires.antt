@@ -1,5 +1,5 @@
 -- The frames on a wire, and what sending leaves there.
-use Rattle.std.specs.Prelude.{◌≡◌, ℕ, List, [], ◌∷◌, ◌++◌, map, Result, Ok}
+use Rattle.std.specs.Prelude.{◌≡◌, ℕ, List, ◌++◌, map, Ok}
 use Rattle.std.specs.List.{AllByRecursion}
 use Rattle.swp_base.specs.declared.control_frames.Control.{Control}
 use Rattle.swp_lpdu.specs.Controls.{control_of, bytes_of as lpdu_of}
@@ -10,7 +10,7 @@ use Rattle.trace_model.specs.declared.line.End.{End}
 use Rattle.history.specs.Follows.{puts}
 use Rattle.history_laws.proofs.Calm.{IsCalmFrame}
 use Rattle.history_laws.proofs.Filtering.{put_on}
-use Rattle.world.specs.Ends.{EndStandsFor, IsLastIn, CanSend}
+use Rattle.world.specs.Ends.{EndStandsFor, IsLastIn}
 
 -- a frame on a wire is an I frame with the last packet of a message, RR or REJ
 abbrev pub IsFrame : List ℕ → Type 0

@@ -110,7 +110,7 @@ pub(crate) fn take_frames(
     requires room { near.old.sent < 2 ^ 32 }
     ensures stands { (t : List Entry) → BothStandFor near.old far.old at t
         → OnOk result (Adds near.new far.new at t entries.old.items entries.new.items
-            (entries_of (took_events t at (take count near.old.wire.items)))) }
+        (entries_of (took_events t at (take count near.old.wire.items)))) }
     ensures sent { OnOk result ((near.new.sent ≡ near.old.sent) × (far.new.sent ≡ far.old.sent)) }
 {
     for _ in 0..count {

@@ -66,7 +66,11 @@ impl Side {
         let Ok(control) = read_lpdu(lpdu) else {
             return Ok(());
         };
-        let Taken { acked, accepted, .. } = self.end.take(&control);
+        let Taken {
+            acked,
+            accepted,
+            ..
+        } = self.end.take(&control);
         self.note_acked(at, acked, entries)?;
         note_got(alloc, at, accepted, entries)
     }

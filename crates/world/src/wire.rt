@@ -20,7 +20,12 @@ const WIRE_LIMIT: usize = 64;
 const MOST_FRAMES: u8 = 12;
 
 /// An end puts a frame on the wire to the other end. Where the wire is full, the oldest frame on it is lost.
-pub(crate) fn put(at: End, lpdu: Lpdu, wire: &mut VecDeque<Lpdu>, entries: &mut Vec<Entry>) -> Result<(), AllocError>
+pub(crate) fn put(
+    at: End,
+    lpdu: Lpdu,
+    wire: &mut VecDeque<Lpdu>,
+    entries: &mut Vec<Entry>,
+) -> Result<(), AllocError>
     ensures wire { OnOk result (wire.new.items ≡ kept_on (wire.old.items ++ lpdu ∷ [])) }
     ensures entries { OnOk result (entries.new.items ≡ entries.old.items ++ puts at wire.old.items (lpdu ∷ [])) }
 {

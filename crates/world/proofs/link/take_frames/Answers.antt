@@ -1,5 +1,4 @@
-use Rattle.std.proofs.Common.{ℕ, suc, ◌+◌, ◌-◌, ◌<◌, ◌≤◌, List, subst, [], ◌∷◌, ◌++◌, ◌≡◌, length, take, refl, ap, sym, ◌∙◌, arith}
-use Rattle.trace_model.specs.declared.entry.Entry.{Entry}
+use Rattle.std.proofs.Common.{ℕ, suc, ◌+◌, ◌-◌, ◌<◌, subst, ◌++◌, ◌≡◌, length, take, ap, ◌∙◌, arith}
 use Rattle.history.specs.Follows.{took_event, took_events}
 use Rattle.world.proofs.Standing.{IsTaking, taking_ends, taking_goes_on, first_frame, wire_left}
 use Rattle.world.proofs.link.take_frames.Goals as goal
@@ -20,12 +19,13 @@ loop-preserved c =
       near_sent = c.in_ok-take_frame.ensures.sent.0 ∙ c.loop.invariant.near_sent;
       far_sent = c.in_ok-take_frame.ensures.sent.1 ∙ c.loop.invariant.far_sent;
       takes = λ u both.
-        (let s = c.loop.invariant.takes u both in
-        let P : ℕ → Type 0 = λ n. IsTaking c.loop.near c.loop.far c.args.at u c.args.entries.now.items c.loop.entries.items (took_events u c.args.at (take c.args.count c.args.near.now.wire.items)) s.0 (took_events s.0 c.args.at (take n c.loop.near.wire.items)) in
-        (s.0 ++ took_event s.0 c.args.at f.0,
-        taking_goes_on c.loop.near c.loop.far c.take_frame.new.near c.take_frame.new.far c.args.at u c.args.entries.now.items c.loop.entries.items c.take_frame.new.entries.items
-        (took_events u c.args.at (take c.args.count c.args.near.now.wire.items)) s.0 k f.0 f.1 f.2 (subst P more s.1)
-        (c.in_ok-take_frame.ensures.stands s.0 f.0 f.1 s.1.both f.2)));
+          (let s = c.loop.invariant.takes u both in
+          let P : ℕ → Type 0 = λ n. IsTaking c.loop.near c.loop.far c.args.at u c.args.entries.now.items c.loop.entries.items (took_events u c.args.at (take c.args.count c.args.near.now.wire.items)) s.0 (took_events s.0 c.args.at (take n c.loop.near.wire.items)) in (
+            s.0 ++ took_event s.0 c.args.at f.0,
+            taking_goes_on c.loop.near c.loop.far c.take_frame.new.near c.take_frame.new.far c.args.at u c.args.entries.now.items c.loop.entries.items c.take_frame.new.entries.items
+                (took_events u c.args.at (take c.args.count c.args.near.now.wire.items)) s.0 k f.0 f.1 f.2 (subst P more s.1)
+                (c.in_ok-take_frame.ensures.stands s.0 f.0 f.1 s.1.both f.2),
+          ));
     }
 
 pub returns-clause-stands : goal.returns-clause-stands

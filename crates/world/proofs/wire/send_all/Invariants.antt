@@ -1,4 +1,4 @@
-use Rattle.std.proofs.Common.{◌≡◌, ℕ, ◌-◌}
+use Rattle.std.proofs.Common.{◌-◌}
 use Rattle.std.specs.List.{AllByRecursion}
 use Rattle.shdlc_core.specs.Machine.{EndState}
 use Rattle.world.specs.Ends.{EndStandsFor, CanSend}
@@ -10,5 +10,5 @@ abbrev pub invariant-loop : goal.invariant-loop
 invariant-loop l = record {
   can : (m : EndState) × EndStandsFor l.end.shdlc l.end.waiting.items m × CanSend m;
   sends : (m : EndState) → EndStandsFor l.initial.end.shdlc l.initial.end.waiting.items m → CanSend m → AllByRecursion IsFrame l.initial.wire.items
-      → (now : EndState) × IsSending 12 m l.at l.end.shdlc l.end.waiting.items l.initial.wire.items l.wire.items l.initial.entries.items l.entries.items (12 - l.counter) now
+      → (now : EndState) × IsSending 12 m l.at l.end.shdlc l.end.waiting.items l.initial.wire.items l.wire.items l.initial.entries.items l.entries.items (12 - l.counter) now;
 }

@@ -1,4 +1,4 @@
-use Rattle.std.proofs.Common.{◌≡◌, [], ◌∷◌, ◌++◌, ◌∙◌, ap, sym, append_assoc}
+use Rattle.std.proofs.Common.{[], ◌∷◌, ◌++◌, ◌∙◌, ap, sym, append_assoc}
 use Rattle.shdlc_core.specs.Machine.{put_out}
 use Rattle.world.proofs.bare_end.BareEnd.give.Goals as goal
 

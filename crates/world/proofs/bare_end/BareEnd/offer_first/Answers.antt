@@ -1,10 +1,9 @@
-use Rattle.std.proofs.Common.{◌≡◌, true, false, refl, List, ◌+◌, [], ◌∷◌, ◌++◌, length, ◌∙◌, sym, ap, subst, inr, append_assoc, arith}
-use Rattle.std.specs.Prelude.{slice_index_or, drop, is_err, Err}
-use Rattle.std.specs.Option.{option_to_list}
+use Rattle.std.proofs.Common.{◌≡◌, true, false, refl, List, ◌+◌, [], ◌∷◌, ◌++◌, length, ◌∙◌, sym, ap, subst, inr, append_assoc}
+use Rattle.std.specs.Prelude.{is_err, Err}
 use Rattle.shdlc_core.specs.Kept.{Kept, StandsFor}
 use Rattle.shdlc_core.specs.declared.answers.OfferRefused.TheVariants.{QueueFull}
 use Rattle.shdlc_core.specs.Machine.{EndState, Fragment}
-use Rattle.world.specs.Ends.{EndStandsFor, Offers, with_out}
+use Rattle.world.specs.Ends.{with_out}
 use Rattle.world.proofs.Offering.{refused-full, taken-offer, unchanged, split_first}
 use Rattle.world.proofs.bare_end.BareEnd.offer_first.Goals as goal
 
@@ -31,8 +30,10 @@ returns-clause-taken c m offered h =
     let more : List Fragment = offered ++ info ∷ [] in
     let P : EndState → Type 0 = λ x. StandsFor c.offer.new.self x in
     let first : c.args.self.now.waiting.items ≡ info ∷ c.pop_front.new.self.items =
-      split_first c.args.self.now.waiting.items c.pop_front.new.self.items c.pop_front.result info c.pop_front.ensures.items (c.pop_front.ensures.variant.1 (c.in-Some.ensures.variant.0 refl)) c.in-Some.ensures.lookup in
-    (more, record {
-      out = h.out ∙ (ap (λ w. offered ++ w) first ∙ sym (append_assoc offered (info ∷ []) c.pop_front.new.self.items));
-      kept = subst P (taken-offer c.offer.result e info (c.offer.ensures.answer e h.kept) ok) (c.offer.ensures.stands e h.kept);
-    })
+    split_first c.args.self.now.waiting.items c.pop_front.new.self.items c.pop_front.result info c.pop_front.ensures.items (c.pop_front.ensures.variant.1 (c.in-Some.ensures.variant.0 refl)) c.in-Some.ensures.lookup in (
+      more,
+      record {
+        out = h.out ∙ (ap (λ w. offered ++ w) first ∙ sym (append_assoc offered (info ∷ []) c.pop_front.new.self.items));
+        kept = subst P (taken-offer c.offer.result e info (c.offer.ensures.answer e h.kept) ok) (c.offer.ensures.stands e h.kept);
+      },
+    )

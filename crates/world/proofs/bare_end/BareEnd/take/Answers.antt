@@ -1,9 +1,9 @@
-use Rattle.std.proofs.Common.{◌≡◌, ◌∙◌, sym, ap, subst}
+use Rattle.std.proofs.Common.{◌∙◌, subst}
 use Rattle.shdlc_core.specs.Kept.{StandsFor}
-use Rattle.shdlc_core.specs.Machine.{EndState, taken, take_answer}
+use Rattle.shdlc_core.specs.Machine.{EndState, taken}
 use Rattle.history_laws.proofs.Calm.{TakesOn, taken_calm}
 use Rattle.world.specs.Ends.{with_out}
-use Rattle.world.proofs.Machines.{Takes, taken-offered}
+use Rattle.world.proofs.Machines.{taken-offered}
 use Rattle.world.proofs.bare_end.BareEnd.take.Goals as goal
 
 pub returns-clause-stands : goal.returns-clause-stands

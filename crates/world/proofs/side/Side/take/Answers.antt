@@ -1,8 +1,7 @@
 use Rattle.std.proofs.Common.{◌≡◌, ◌+◌, ◌++◌, ◌∙◌, sym, ap, subst, append_assoc}
-use Rattle.std.specs.Prelude.{Ok, Option}
+use Rattle.std.specs.Prelude.{Option}
 use Rattle.std.specs.List.{AllByRecursion}
 use Rattle.std.specs.Option.{option_to_list}
-use Rattle.swp_lpdu.specs.Controls.{control_of}
 use Rattle.hcp_packet.specs.Packets.{good_messages_of}
 use Rattle.shdlc_core.specs.Machine.{Fragment, taken}
 use Rattle.world.specs.Ends.{EndStandsFor, IsLast}
@@ -37,9 +36,9 @@ returns c m can =
     let P : Side → Type 0 = λ s. EndStandsFor s.«end».shdlc s.«end».waiting.items (taken m c.in-Ok.control) in
     on_ok c.note_got.result c.note_got.ensures
     (λ (noted : c.note_got.new.entries.items ≡ c.note_acked.new.entries.items ++ got_entries c.args.at (good_messages_of (option_to_list answer.accepted))).
-      has_taken c.args.self.now c.note_acked.new.self c.args.at m c.args.lpdu.now c.in-Ok.control answer c.args.entries.now.items c.note_got.new.entries.items
-      can c.requires.frame (sym c.in-Ok.ensures.says) (c.take-acked.ensures.answer m can.stands can.calm frame.0)
-      (subst P (sym counted) (c.take-acked.ensures.stands m can.stands can.calm frame.0))
-      (ap (λ s. s.wire) counted) (ap (λ s. s.sent) counted) (ap (λ s. s.acked) counted)
-      (noted ∙ (ap (λ es. es ++ got_entries c.args.at (good_messages_of (option_to_list answer.accepted))) c.in_ok-note_acked.ensures.entries
-      ∙ append_assoc c.args.entries.now.items (acked_entries c.args.at c.args.self.now.acked (c.args.self.now.acked + answer.acked)) (got_entries c.args.at (good_messages_of (option_to_list answer.accepted))))))
+    has_taken c.args.self.now c.note_acked.new.self c.args.at m c.args.lpdu.now c.in-Ok.control answer c.args.entries.now.items c.note_got.new.entries.items
+    can c.requires.frame (sym c.in-Ok.ensures.says) (c.take-acked.ensures.answer m can.stands can.calm frame.0)
+    (subst P (sym counted) (c.take-acked.ensures.stands m can.stands can.calm frame.0))
+    (ap (λ s. s.wire) counted) (ap (λ s. s.sent) counted) (ap (λ s. s.acked) counted)
+    (noted ∙ (ap (λ es. es ++ got_entries c.args.at (good_messages_of (option_to_list answer.accepted))) c.in_ok-note_acked.ensures.entries
+    ∙ append_assoc c.args.entries.now.items (acked_entries c.args.at c.args.self.now.acked (c.args.self.now.acked + answer.acked)) (got_entries c.args.at (good_messages_of (option_to_list answer.accepted))))))
