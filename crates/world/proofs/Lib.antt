@@ -1,0 +1,9 @@
+pub mod Machines
+pub mod Joined
+pub mod Offering
+pub mod Sending
+pub mod Results
+pub mod Taking
+pub mod Standing
+pub mod LineSteps
+pub mod Worlds
