@@ -73,10 +73,11 @@ of_ok P (Err e) b is holds h = absurd (cc)
 -- a front of what was gathered stands behind what was written
 pub cut_off : (input text items before written after : List ℕ) → IsSomeTranscript input (text ++ items) → written ≡ before ++ text
     → (n : ℕ) × (after ≡ written ++ take n items) → Appends (IsFrontOfTranscript input) before after
-cut_off input text items before written after some is front =
-    ( text ++ take front.0 items
-    , (text ++ items, length text + front.0, some, sym (take-append-add text items front.0))
-    , front.1 ∙ (ap (λ l. l ++ take front.0 items) is ∙ append_assoc before text (take front.0 items)) )
+cut_off input text items before written after some is front = (
+  text ++ take front.0 items,
+  (text ++ items, length text + front.0, some, sym (take-append-add text items front.0)),
+  front.1 ∙ (ap (λ l. l ++ take front.0 items) is ∙ append_assoc before text (take front.0 items)),
+)
 
 -- what was gathered of a piece is the transcript of some of the first lines, whether the replay goes on or not
 pub fed_front : (p q : Pieces) (r : Result (Unit {0}) Halt) (piece rest bytes text : List ℕ)

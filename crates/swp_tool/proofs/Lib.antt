@@ -2,3 +2,4 @@ pub mod Cutting
 pub mod Texts
 pub mod Reading
 pub mod Ending
+pub mod Playing

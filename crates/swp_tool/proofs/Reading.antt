@@ -7,7 +7,7 @@ use Rattle.std.proofs.lemmas.List.{append-nil}
 use Rattle.std.proofs.lemmas.Grind.{common_steps, fold-append}
 use Rattle.trace_model.specs.declared.line.Header.{Header}
 use Rattle.trace_model.specs.declared.line.Line.{Line}
-use Rattle.world.specs.declared.World.{World}
+use Rattle.world.specs.declared.world_steps.World.{World}
 use Rattle.schedule_text.specs.declared.fault.LineFault.{LineFault}
 use Rattle.schedule_text.specs.declared.fault.LineFault.TheVariants as fault
 use Rattle.schedule_text.specs.declared.read.Read.{Read}
@@ -82,7 +82,7 @@ played_transcript r s written h = go r.world s.header h.at
   where
     go : (w : Option World) (o : Option Header) → IsAt w o s.lines (written ++ r.text.items) → IsTextOf o s.lines (written ++ r.text.items)
     go None None at = at.1
-    go (Some w) (Some header) at = record { history = at.history; follows = at.stands.follows; legal = at.legal; text_is = at.text_is }
+    go (Some w) (Some header) at = record { history = at.history; follows = at.stands.follows; legal = at.stands.legal; text_is = at.text_is }
     go None (Some header) at = absurd at
     go (Some w) None at = absurd at
 

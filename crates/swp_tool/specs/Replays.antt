@@ -4,8 +4,7 @@ use Rattle.std.specs.Option.{ForSome}
 use Rattle.trace_model.specs.declared.line.Header.{Header}
 use Rattle.trace_model.specs.declared.line.Line.{Line}
 use Rattle.history.specs.Histories.{History}
-use Rattle.history.specs.Legal.{Legal}
-use Rattle.world.specs.declared.World.{World}
+use Rattle.world.specs.declared.world_steps.World.{World}
 use Rattle.world.specs.Worlds.{StandsFor}
 use Rattle.swp_tool.specs.declared.replay.Replay.{Replay}
 use Rattle.swp_tool.specs.declared.replay.Halt.{Halt}
@@ -17,7 +16,6 @@ use Rattle.swp_tool.specs.Transcripts.{text_of}
 pub record Runs (w : World) (header : Header) (lines : List Line) (text : List ℕ) : Type 0 where
   pub history : History
   pub stands : StandsFor w header lines history
-  pub legal : Legal history
   pub text_is : text ≡ text_of history
 
 -- there is a world where there is a header
@@ -33,10 +31,17 @@ pub record HasPlayed (r : Replay) (s : Schedule) (written : List ℕ) : Type 0 w
   pub count_is : r.count ≡ s.count
   pub at : IsAt r.world s.header s.lines (written ++ r.text.items)
 
--- a replay has read at most this many lines, and its world was stepped by no more
+-- a world was stepped by at most this many lines
+pub record WasStepped (w : World) (most : ℕ) : Type 0 where
+  pub lines : List Line
+  pub history : History
+  pub stands : StandsFor w w.header lines history
+  pub few : length lines ≤ most
+
+-- a replay has read at most 20,000 lines, and its world was stepped by no more than it has read
 pub record HasFew (r : Replay) : Type 0 where
   pub count : r.count ≤ 20000
-  pub steps : ForSome r.world (λ w. w.steps ≤ r.count)
+  pub steps : ForSome r.world (λ w. WasStepped w r.count)
 
 -- a replay halted at a line: the line has this fault; nothing is said where there was no memory
 abbrev pub HaltsAt : Halt → Schedule → List ℕ → Type 0

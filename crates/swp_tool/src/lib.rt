@@ -3,8 +3,9 @@
 
 mod pieces;
 mod replay;
-mod run;
 mod status;
+mod top;
 mod transcript;
 
 pub use status::{Status, exit_code, status_text};
+pub use top::{Ended, run};

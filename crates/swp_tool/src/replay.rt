@@ -4,11 +4,10 @@ ghost use Rattle.trace_model.specs.declared.line.Header.{Header};
 ghost use Rattle.trace_model.specs.declared.line.Line.{Line};
 ghost use Rattle.trace_model.specs.Lines.{IsHeader, IsLineOf};
 ghost use Rattle.swp_tool.specs.Schedules.{Schedule, with_line, with_said, nothing_read};
-ghost use Rattle.swp_tool.specs.Replays.{Runs, HasPlayed, HasFew, HaltsAt};
+ghost use Rattle.swp_tool.specs.Replays.{Runs, WasStepped, HasPlayed, HasFew, HaltsAt};
 ghost use Rattle.swp_tool.specs.Transcripts.{text_of, done_line};
 ghost use Rattle.history.specs.Follows.{opened};
-ghost use Rattle.history.specs.Legal.{Legal};
-ghost use Rattle.world.specs.Worlds.{StandsFor};
+ghost use Rattle.world.specs.Worlds.{StandsFor, HasRoom};
 
 use crate::transcript::note;
 use schedule_text::{LineFault, Read, read_line};
@@ -90,7 +89,7 @@ impl Replay {
         ensures uncounted { OnErr result (self.new.count ≡ self.old.count) }
     {
         let header = match &self.world {
-            Some(world) => Some(&world.header),
+            Some(world) => Some(world.header()),
             None => None,
         };
         match read_line(alloc, header, bytes) {
@@ -174,8 +173,7 @@ fn append_done(alloc: Global, count: u64, text: &mut Vec<u8>) -> Result<(), Allo
 fn open(alloc: Global, header: &Header, text: &mut Vec<u8>) -> Result<World, Halt>
     requires { IsHeader header.now }
     ensures stands { IfOk result (λ w. StandsFor w header.now [] (opened header.now)) }
-    ensures legal { OnOk result (Legal (opened header.now)) }
-    ensures steps { IfOk result (λ w. w.steps ≡ 0) }
+    ensures stepped { IfOk result (λ w. WasStepped w 0) }
     ensures text { OnOk result (text.new.items ≡ text.old.items ++ text_of (opened header.now)) }
     ensures halts { IfErr result (λ why. why ≡ Halt.NoMemory) }
     ensures same { OnErr result (text.new.items ≡ text.old.items) }
@@ -199,10 +197,10 @@ fn echo_of(header: &Header) -> Result<Entry, NoMemory>
 /// Steps a world by a line, and gathers the text of the line and of what it caused.
 fn step(alloc: Global, world: &mut World, line: Line, text: &mut Vec<u8>) -> Result<(), Halt>
     requires line { IsLineOf world.old.header line }
-    requires few { world.old.steps < 20000 }
+    requires room { HasRoom world.old }
     ensures runs { OnOk result ((header : Header) (lines : List Line) (before : List ℕ) → Runs world.old header lines (before ++ text.old.items)
         → Runs world.new header (lines ++ line ∷ []) (before ++ text.new.items)) }
-    ensures steps { OnOk result (world.new.steps ≡ world.old.steps + 1) }
+    ensures stepped { OnOk result ((most : ℕ) → WasStepped world.old most → WasStepped world.new (most + 1)) }
     ensures halts { IfErr result (λ why. why ≡ Halt.NoMemory) }
     ensures same { OnErr result (text.new.items ≡ text.old.items) }
 {

@@ -1,6 +1,7 @@
 //! The top call.
-ghost use Rattle.std.specs.Prelude.{◌≡◌, ◌≢◌, ◌≤◌, ◌<◌, ◌++◌, ◌↔◌, [], List, ℕ, length, IsTrue, OnOk, OnErr, IfErr, Ok, Err, take, true, false};
+ghost use Rattle.std.specs.Prelude.{◌≡◌, ◌≢◌, ◌≤◌, ◌<◌, ◌++◌, ◌↔◌, ◌⊎◌, [], List, ℕ, length, map, string_bytes, codes, None, IsTrue, OnOk, OnErr, IfErr, Ok, Err, take, true, false};
 ghost use Rattle.swp_base.specs.Outside.{Rose};
+ghost use Rattle.swp_tool.specs.Schedules.{schedule_of};
 ghost use Rattle.swp_tool.specs.Runs.{status_of, Replayed, IsUnderWay, IsReplay};
 ghost use Rattle.swp_tool.specs.Pieces.{HasRead, IsReading, bytes_left};
 
@@ -81,6 +82,7 @@ fn take_piece<K: Sink>(
     ensures count { K.faults sink.old ≤ K.faults sink.new }
     ensures write_fault { result ≡ Err Status.WriteFault → Rose (K.faults sink.old) (K.faults sink.new) }
     ensures read_fault { result ≢ Err Status.ReadFault }
+    ensures words { result ≢ Err Status.BadWords }
     ensures reading { OnOk result (IsReading pieces.new) }
     ensures progress { OnOk result (bytes_left pieces.new < bytes_left pieces.old) }
     ensures goes { IsTrue K.tells → OnOk result ((input rest before : List ℕ) → IsUnderWay pieces.old input (piece.now ++ rest) before (K.written sink.old)
@@ -103,6 +105,7 @@ fn close<K: Sink>(alloc: Global, sink: &mut K, pieces: &mut Pieces) -> Status
     requires { IsReading pieces.old }
     ensures write_fault { result ≡ Status.WriteFault → Rose (K.faults sink.old) (K.faults sink.new) }
     ensures read_fault { result ≢ Status.ReadFault }
+    ensures words { result ≢ Status.BadWords }
     ensures ends { IsTrue K.tells → (input before : List ℕ) → IsUnderWay pieces.old input [] before (K.written sink.old)
         → Replayed result input [] before (K.written sink.new) }
 {
@@ -130,6 +133,7 @@ fn pump<S: Source, K: Sink>(
     ensures writes { K.faults sink.old ≤ K.faults sink.new }
     ensures read_fault { result ≡ Err Status.ReadFault → Rose (S.faults source.old) (S.faults source.new) }
     ensures write_fault { result ≡ Err Status.WriteFault → Rose (K.faults sink.old) (K.faults sink.new) }
+    ensures words { result ≢ Err Status.BadWords }
     ensures reading { OnOk result (IsReading pieces.new) }
     ensures progress { result ≡ Ok true → bytes_left pieces.new < bytes_left pieces.old }
     ensures end { IsTrue S.tells → result ≡ Ok false → S.left source.new ≡ [] }
@@ -154,6 +158,7 @@ fn replay<S: Source, K: Sink>(alloc: Global, source: &mut S, sink: &mut K) -> St
     ensures write_fault { result ≡ Status.WriteFault → Rose (K.faults sink.old) (K.faults sink.new) }
     ensures replayed { IsTrue S.tells → IsTrue K.tells →
         Replayed result (S.left source.old) (S.left source.new) (K.written sink.old) (K.written sink.new) }
+    ensures words { result ≢ Status.BadWords }
 {
     let mut pieces = Pieces::new(alloc);
     let mut buffer = [0; PIECE];
@@ -164,4 +169,57 @@ fn replay<S: Source, K: Sink>(alloc: Global, source: &mut S, sink: &mut K) -> St
             Err(status) => return status,
         }
     }
+}
+
+/// Runs the program: the words are those behind its name. Of its commands `replay` is built: it reads a schedule to its
+/// end or to its first fault, line by line, and writes its transcript. The memory is handed back as it was.
+pub fn run<S: Source, K: Sink, N: Nv>(
+    alloc: Global,
+    words: &[String],
+    source: &mut S,
+    sink: &mut K,
+    nv: N,
+) -> Ended<N>
+    requires { N.capacity nv ≡ 65536 }
+
+    // What was read and written, for a source that tells what it has left and a sink that tells what it holds.
+    ensures replayed { IsReplay (map string_bytes words.now) → IsTrue S.tells → IsTrue K.tells →
+        Replayed result.status (S.left source.old) (S.left source.new) (K.written sink.old) (K.written sink.new) }
+
+    // Other words are refused exactly, and then nothing is read or written.
+    ensures bad_words { (result.status ≡ Status.BadWords) ↔ ¬ IsReplay (map string_bytes words.now) }
+    ensures untouched { result.status ≡ Status.BadWords → (source.new ≡ source.old) × (sink.new ≡ sink.old) }
+
+    // A fault of the outside comes only where its count rose.
+    ensures read_fault { result.status ≡ Status.ReadFault → Rose (S.faults source.old) (S.faults source.new) }
+    ensures write_fault { result.status ≡ Status.WriteFault → Rose (K.faults sink.old) (K.faults sink.new) }
+
+    // With the word, a whole schedule and no fault of the outside, the run is done, unless there is no memory.
+    ensures complete { IsReplay (map string_bytes words.now) → IsTrue S.tells → IsTrue K.tells →
+        (schedule_of (S.left source.old)).stop ≡ None →
+        ¬ Rose (S.faults source.old) (S.faults source.new) → ¬ Rose (K.faults sink.old) (K.faults sink.new) →
+        (result.status ≡ Status.Done) ⊎ (result.status ≡ Status.NoMemory) }
+    ensures nv { result.nv ≡ nv }
+{
+    let status = if is_replay(words) {
+        replay(alloc, source, sink)
+    } else {
+        Status::BadWords
+    };
+    Ended { status, nv }
+}
+
+fn is_replay(words: &[String]) -> bool
+    ensures { IsTrue result ↔ IsReplay (map string_bytes words.now) }
+{
+    match words {
+        [word] => is_replay_word(word.as_bytes()),
+        _ => false,
+    }
+}
+
+fn is_replay_word(word: &[u8]) -> bool
+    ensures { IsTrue result ↔ (word.now ≡ codes "replay") }
+{
+    word == b"replay".as_slice()
 }

@@ -1,7 +1,7 @@
 use Rattle.std.proofs.Common.{◌≡◌, ◌≤◌, List, ℕ, IsTrue}
 use Rattle.swp_tool.specs.Runs.{IsUnderWay}
 use Rattle.swp_tool.specs.Pieces.{IsReading, bytes_left}
-use Rattle.swp_tool.proofs.run.replay.Given as goal
+use Rattle.swp_tool.proofs.top.replay.Given as goal
 
 -- a front of the input was read, and the transcript of its whole lines was written
 abbrev pub invariant-input : goal.invariant-input
