@@ -1,5 +1,5 @@
 -- What is true of an end after any inputs.
-use Rattle.std.proofs.Common.{◌≡◌, ℕ, ◌≤◌, Bool, true, false, List, [], ◌∷◌, ◌++◌, Some, refl, ap, sym, ◌∙◌, arith, length-append, min, max}
+use Rattle.std.proofs.Common.{◌≡◌, ℕ, ◌≤◌, Bool, true, false, List, [], ◌∷◌, ◌++◌, Some, refl, ap, sym, ◌⊎◌, inl, inr, ◌∙◌, arith, length-append, min, max}
 use Rattle.std.specs.Prelude.{slice_get}
 use Rattle.std.proofs.lemmas.Option.{slice_get_within}
 use Rattle.swp_base.specs.declared.control_frames.Control.{Control}
@@ -7,11 +7,11 @@ use Rattle.swp_base.specs.declared.control_frames.Control.TheVariants.{I}
 use Rattle.shdlc_core.specs.declared.answers.LinkState.TheVariants.{Up}
 use Rattle.shdlc_core.specs.declared.answers.Due.{Due}
 use Rattle.shdlc_core.specs.declared.answers.Due.TheVariants.{Rr as Rr_due, Rej as Rej_due, Rnr as Rnr_due, Rset as Rset_due, Ua as Ua_due}
-use Rattle.shdlc_core.specs.Machine.{EndState, Session, Fragment, EndInput, end_step, after_inputs, new_end, new_session, no_session, acknowledged, accepted, repeated, discarded, ready_again, rejected, made_busy, up_with, taken, ticked, sent_again, waiting_from, with_ready, put_out, fetched, frame_due, control_due}
+use Rattle.shdlc_core.specs.Machine.{take_answer, EndState, Session, Fragment, EndInput, end_step, after_inputs, new_end, new_session, no_session, acknowledged, accepted, repeated, discarded, ready_again, rejected, made_busy, up_with, taken, ticked, sent_again, waiting_from, with_ready, put_out, fetched, frame_due, control_due}
 use Rattle.shdlc_core.specs.Machine.EndInput.{Begin, Offer, Take, Tick, Reset, Stop, SetReady, NextOut}
 use Rattle.end_laws.specs.Inputs.{IsWindow, IsAllowed, AllAllowed, IsReached, IsInWindow, GoesOut, StepAccepts}
 use Rattle.end_laws.specs.Inputs.StepAccepts.{Kept, Grown, Anew}
-use Rattle.end_laws.proofs.Steps.{received_cases, taken_cases, ticked_cases, ready_cases, reset_cases, offered_cases, fragment_due_tells, fetch_cases}
+use Rattle.end_laws.proofs.Steps.{Takes, received_cases, taken_cases, ticked_cases, ready_cases, reset_cases, offered_cases, fragment_due_tells, fetch_cases}
 
 pub record IsSound (e : EndState) : Type 0 where
   pub own : IsWindow e.own_window
@@ -51,9 +51,9 @@ same_window s t h a b c d e =
 
 sound_taken : (e : EndState) (c : Control) → IsSound e → IsSound (taken e c)
 sound_taken e c h =
-    taken_cases IsSound e c
+    taken_cases (λ f b. IsSound f) e c
     (record {
-      same = h;
+      same = λ b. h;
       info = λ x ns info up r.
           let s : Session = record e.session { acked = x; next = max e.session.next x } in
           let w : IsInWindow s = acknowledged_window e x (max e.session.next x) h r.1 r.0 (omega arith) (omega (arith, h.session.sent, r.1)) in
@@ -88,7 +88,7 @@ sound_ticked e h =
       again = λ up. moved e (sent_again e) h up refl refl
           (record { from = omega arith; sent = omega (arith, h.session.from, h.session.sent); offered = h.session.offered; within = h.session.within; most = h.session.most });
       asked = λ p. record { own = h.own; peer = h.peer; session = h.session; none = h.none };
-      waits = waiting_sound e h.own;
+      waits = λ n. waiting_sound e h.own;
       gives_up = λ p. record { own = h.own; peer = h.peer; session = h.session; none = λ n. h.none (λ u. let m = sym p ∙ u in cc) };
     })
 
@@ -138,7 +138,7 @@ sound_step e Begin a h = up_sound (record e { due = [] }) e.own_window h.own h.p
 sound_step e (Offer info) a h = offered_cases IsSound e info h (put_sound e info h)
 sound_step e (Take c) a h = sound_taken e c h
 sound_step e Tick a h = sound_ticked e h
-sound_step e (Reset w) a h = reset_cases IsSound e w h (waiting_sound (record e { own_window = w }) a)
+sound_step e (Reset w) a h = reset_cases IsSound e w h (λ n. waiting_sound (record e { own_window = w }) a)
 sound_step e Stop a h = record { own = h.own; peer = h.peer; session = fresh 0 (omega arith); none = λ n. refl }
 sound_step e (SetReady r) a h = sound_ready e r h
 sound_step e NextOut a h = sound_fetched e h
@@ -179,29 +179,40 @@ goes_out e r ns nr info =
       no_hole = h.session.sent;
     })
 
-taken_accepts : (e : EndState) (c : Control) → StepAccepts e.session (taken e c).session
-taken_accepts e c =
-    taken_cases (λ f. StepAccepts e.session f.session) e c
-    (record {
-      same = Kept refl;
-      info = λ x ns info up r.
-          received_cases (λ f. StepAccepts e.session f.session) (acknowledged e x) ns info (Grown info refl) (Kept refl) (Kept refl) (Kept refl) (Kept refl);
-      ready = λ x up r. Kept refl;
-      reject = λ x up r. Kept refl;
-      busy = λ x up r. Kept refl;
-      asked = λ w due p n. Kept refl;
-      begins = λ w due n. Anew (min e.own_window (min w 4)) refl;
-      confirmed = λ p. Anew (min e.own_window e.peer_window) refl;
-    })
+taken_accepts : (e : EndState) (c : Control) → StepAccepts e (Take c) (taken e c).session
+taken_accepts e c = pick (taken_cases (λ f began. Held f began) e c takes)
+  where
+    -- a frame that begins a session begins with none, and any other adds one at most
+    Held : EndState → Bool → Type 0
+    Held f began = (f.session.acc ≡ e.session.acc) ⊎ (((info : Fragment) × (f.session.acc ≡ e.session.acc ++ info ∷ [])) ⊎ ((w : ℕ) × (f.session ≡ new_session w) × (began ≡ true)))
 
-pub only_grow : (e : EndState) (i : EndInput) → StepAccepts e.session (end_step e i).0.session
-only_grow e Begin = Anew e.own_window refl
-only_grow e (Offer info) = offered_cases (λ f. StepAccepts e.session f.session) e info (Kept refl) (λ up. Kept refl)
+    takes : Takes Held e
+    takes =
+        record {
+          same = λ b. inl refl;
+          info = λ x ns info up r.
+              received_cases (λ f. Held f false) (acknowledged e x) ns info (inr (inl (info, refl))) (inl refl) (inl refl) (inl refl) (inl refl);
+          ready = λ x up r. inl refl;
+          reject = λ x up r. inl refl;
+          busy = λ x up r. inl refl;
+          asked = λ w due p n. inl refl;
+          begins = λ w due n. inr (inr (min e.own_window (min w 4), refl, refl));
+          confirmed = λ p. inr (inr (min e.own_window e.peer_window, refl, refl));
+        }
+
+    pick : Held (taken e c) (take_answer e c).began → StepAccepts e (Take c) (taken e c).session
+    pick (inl k) = Kept k
+    pick (inr (inl k)) = Grown k.0 k.1
+    pick (inr (inr k)) = Anew k.0 k.1 k.2
+
+pub only_grow : (e : EndState) (i : EndInput) → StepAccepts e i (end_step e i).0.session
+only_grow e Begin = Anew e.own_window refl tt
+only_grow e (Offer info) = offered_cases (λ f. StepAccepts e (Offer info) f.session) e info (Kept refl) (λ up. Kept refl)
 only_grow e (Take c) = taken_accepts e c
 only_grow e Tick =
-    ticked_cases (λ f. StepAccepts e.session f.session) e
-    (record { same = Kept refl; counted = Kept refl; again = λ up. Kept refl; asked = λ p. Kept refl; waits = Anew 0 refl; gives_up = λ p. Kept refl })
-only_grow e (Reset w) = reset_cases (λ f. StepAccepts e.session f.session) e w (Kept refl) (Anew 0 refl)
-only_grow e Stop = Anew 0 refl
-only_grow e (SetReady r) = ready_cases (λ f. StepAccepts e.session f.session) e r (Kept refl) (λ due. Kept refl)
-only_grow e NextOut = fetch_cases (λ f c. StepAccepts e.session f.session) e (λ d ds. Kept refl) (Kept refl) (λ info q. Kept refl)
+    ticked_cases (λ f. StepAccepts e Tick f.session) e
+    (record { same = Kept refl; counted = Kept refl; again = λ up. Kept refl; asked = λ p. Kept refl; waits = λ n. Anew 0 refl n; gives_up = λ p. Kept refl })
+only_grow e (Reset w) = reset_cases (λ f. StepAccepts e (Reset w) f.session) e w (Kept refl) (λ n. Anew 0 refl n)
+only_grow e Stop = Anew 0 refl tt
+only_grow e (SetReady r) = ready_cases (λ f. StepAccepts e (SetReady r) f.session) e r (Kept refl) (λ due. Kept refl)
+only_grow e NextOut = fetch_cases (λ f c. StepAccepts e NextOut f.session) e (λ d ds. Kept refl) (Kept refl) (λ info q. Kept refl)

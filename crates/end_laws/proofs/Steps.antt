@@ -6,12 +6,13 @@ use Rattle.swp_base.specs.declared.control_frames.Kind.{Kind}
 use Rattle.swp_base.specs.declared.control_frames.Kind.TheVariants.{Rr, Rej, Rnr, Srej}
 use Rattle.swp_base.specs.declared.control_frames.Control.{Control}
 use Rattle.swp_base.specs.declared.control_frames.Control.TheVariants.{I, S, Rset, Ua, Act, Clt}
+use Rattle.swp_base.specs.declared.link_terms.Cause.TheVariants.{NoAnswer}
 use Rattle.shdlc_core.specs.declared.answers.LinkState.{LinkState}
 use Rattle.shdlc_core.specs.declared.answers.LinkState.TheVariants.{Down, Waiting, Up}
 use Rattle.shdlc_core.specs.declared.answers.Due.{Due}
 use Rattle.shdlc_core.specs.declared.answers.Due.TheVariants.{Rr as Rr_due, Rej as Rej_due, Ua as Ua_due}
 use Rattle.shdlc_core.specs.declared.answers.OfferRefused.{OfferRefused}
-use Rattle.shdlc_core.specs.Machine.{EndState, Session, Fragment, place_of, ahead, acknowledged, received, accepted, repeated, discarded, ready_again, rejected, made_busy, accepted_reset, up_with, taken, ticked, sent_again, waiting_from, asked_again, given_up, runs_timer, with_ready, reset_with, offered, put_out, offer_refusal, fetched, fragment_due, sent_next, control_due, expected, frame_due}
+use Rattle.shdlc_core.specs.Machine.{EndState, Session, Fragment, place_of, ahead, acknowledged, received, accepted, repeated, discarded, ready_again, rejected, made_busy, accepted_reset, up_with, taken, ticked, sent_again, waiting_from, asked_again, given_up, runs_timer, with_ready, reset_with, offered, put_out, offer_refusal, fetched, fragment_due, sent_next, control_due, expected, frame_due, take_answer, tick_answer, is_waiting}
 
 pub received_cases : (P : EndState → Type 0) (e : EndState) (ns : ℕ) (info : Fragment)
     → P (accepted e info) → P e → P (record e { due = e.due ++ Rej_due ∷ []; session = record e.session { gap_open = true } })
@@ -40,57 +41,57 @@ place_within s nr x h = go ((y % 8 == nr) && nat_le y s.reached) refl
     go false q = absurd (let m = rw q at h in cc)
 
 -- what a frame does
-pub record Takes (P : EndState → Type 0) (e : EndState) : Type 0 where
-  pub same : P e
-  pub info : (x ns : ℕ) (info : Fragment) → e.phase ≡ Up → (e.session.acked ≤ x) × (x ≤ e.session.reached) → P (received (acknowledged e x) ns info)
-  pub ready : (x : ℕ) → e.phase ≡ Up → (e.session.acked ≤ x) × (x ≤ e.session.reached) → P (ready_again e x)
-  pub reject : (x : ℕ) → e.phase ≡ Up → (e.session.acked ≤ x) × (x ≤ e.session.reached) → P (rejected e x)
-  pub busy : (x : ℕ) → e.phase ≡ Up → (e.session.acked ≤ x) × (x ≤ e.session.reached) → P (made_busy e x)
-  pub asked : (w : ℕ) (due : List Due) → e.phase ≡ Waiting → (w ≡ 0 → ⊥) → P (record e { due = due; peer_window = min w 4 })
-  pub begins : (w : ℕ) (due : List Due) → (w ≡ 0 → ⊥) → P (up_with (record e { due = due }) (min e.own_window (min w 4)))
-  pub confirmed : e.phase ≡ Waiting → P (accepted_reset e)
+pub record Takes (P : EndState → Bool → Type 0) (e : EndState) : Type 0 where
+  pub same : (began : Bool) → P e began
+  pub info : (x ns : ℕ) (info : Fragment) → e.phase ≡ Up → (e.session.acked ≤ x) × (x ≤ e.session.reached) → P (received (acknowledged e x) ns info) false
+  pub ready : (x : ℕ) → e.phase ≡ Up → (e.session.acked ≤ x) × (x ≤ e.session.reached) → P (ready_again e x) false
+  pub reject : (x : ℕ) → e.phase ≡ Up → (e.session.acked ≤ x) × (x ≤ e.session.reached) → P (rejected e x) false
+  pub busy : (x : ℕ) → e.phase ≡ Up → (e.session.acked ≤ x) × (x ≤ e.session.reached) → P (made_busy e x) false
+  pub asked : (w : ℕ) (due : List Due) → e.phase ≡ Waiting → (w ≡ 0 → ⊥) → P (record e { due = due; peer_window = min w 4 }) false
+  pub begins : (w : ℕ) (due : List Due) → (w ≡ 0 → ⊥) → P (up_with (record e { due = due }) (min e.own_window (min w 4))) true
+  pub confirmed : e.phase ≡ Waiting → P (accepted_reset e) true
 
-pub taken_cases : (P : EndState → Type 0) (e : EndState) (c : Control) → Takes P e → P (taken e c)
+pub taken_cases : (P : EndState → Bool → Type 0) (e : EndState) (c : Control) → Takes P e → P (taken e c) (take_answer e c).began
 taken_cases P e c t = go e.phase c refl
   where
-    at_I : (ns nr : ℕ) (info : Fragment) → e.phase ≡ Up → (o : Option ℕ) → place_of e.session nr ≡ o → P (taken e (I ns nr info))
-    at_I ns nr info p None q = rw (p, q) (rw p at t.same)
+    at_I : (ns nr : ℕ) (info : Fragment) → e.phase ≡ Up → (o : Option ℕ) → place_of e.session nr ≡ o → P (taken e (I ns nr info)) (take_answer e (I ns nr info)).began
+    at_I ns nr info p None q = rw (p, q) (rw p at (t.same false))
     at_I ns nr info p (Some x) q = rw (p, q) (rw p at (t.info x ns info p (place_within e.session nr x q)))
 
-    at_S : (k : Kind) (nr : ℕ) → e.phase ≡ Up → (o : Option ℕ) → place_of e.session nr ≡ o → P (taken e (S k nr))
-    at_S Rr nr p None q = rw (p, q) (rw p at t.same)
-    at_S Rej nr p None q = rw (p, q) (rw p at t.same)
-    at_S Rnr nr p None q = rw (p, q) (rw p at t.same)
-    at_S Srej nr p o q = rw p (rw p at t.same)
+    at_S : (k : Kind) (nr : ℕ) → e.phase ≡ Up → (o : Option ℕ) → place_of e.session nr ≡ o → P (taken e (S k nr)) (take_answer e (S k nr)).began
+    at_S Rr nr p None q = rw (p, q) (rw p at (t.same false))
+    at_S Rej nr p None q = rw (p, q) (rw p at (t.same false))
+    at_S Rnr nr p None q = rw (p, q) (rw p at (t.same false))
+    at_S Srej nr p o q = rw p (rw p at (t.same false))
     at_S Rr nr p (Some x) q = rw (p, q) (rw p at (t.ready x p (place_within e.session nr x q)))
     at_S Rej nr p (Some x) q = rw (p, q) (rw p at (t.reject x p (place_within e.session nr x q)))
     at_S Rnr nr p (Some x) q = rw (p, q) (rw p at (t.busy x p (place_within e.session nr x q)))
 
-    at_Rset : (w caps : ℕ) (ph : LinkState) → e.phase ≡ ph → (b : Bool) → (w == 0) ≡ b → P (taken e (Rset w caps))
-    at_Rset w caps Up p true q = rw (p, q) (rw p at t.same)
-    at_Rset w caps Down p true q = rw (p, q) (rw p at t.same)
-    at_Rset w caps Waiting p true q = rw (p, q) (rw p at t.same)
+    at_Rset : (w caps : ℕ) (ph : LinkState) → e.phase ≡ ph → (b : Bool) → (w == 0) ≡ b → P (taken e (Rset w caps)) (take_answer e (Rset w caps)).began
+    at_Rset w caps Up p true q = rw (p, q) (rw p at (t.same false))
+    at_Rset w caps Down p true q = rw (p, q) (rw p at (t.same false))
+    at_Rset w caps Waiting p true q = rw (p, q) (rw p at (t.same false))
     at_Rset w caps Up p false q = rw (p, q) (t.begins w (Ua_due ∷ []) (eqb-false w 0 q))
     at_Rset w caps Down p false q = rw (p, q) (t.begins w (e.due ++ Ua_due ∷ []) (eqb-false w 0 q))
     at_Rset w caps Waiting p false q = rw (p, q) (rw p at (t.asked w (e.due ++ Ua_due ∷ []) p (eqb-false w 0 q)))
 
-    go : (ph : LinkState) (c : Control) → e.phase ≡ ph → P (taken e c)
+    go : (ph : LinkState) (c : Control) → e.phase ≡ ph → P (taken e c) (take_answer e c).began
     go Up (I ns nr info) p = at_I ns nr info p (place_of e.session nr) refl
     go Up (S k nr) p = at_S k nr p (place_of e.session nr) refl
     go ph (Rset w caps) p = at_Rset w caps ph p (w == 0) refl
     go Waiting Ua p = rw p (t.confirmed p)
-    go Up Ua p = rw p (rw p at t.same)
-    go Down Ua p = rw p (rw p at t.same)
-    go Down (I _ _ _) p = rw p (rw p at t.same)
-    go Waiting (I _ _ _) p = rw p (rw p at t.same)
-    go Down (S _ _) p = rw p (rw p at t.same)
-    go Waiting (S _ _) p = rw p (rw p at t.same)
-    go Up (Act _ _) p = rw p (rw p at t.same)
-    go Down (Act _ _) p = rw p (rw p at t.same)
-    go Waiting (Act _ _) p = rw p (rw p at t.same)
-    go Up Clt p = rw p (rw p at t.same)
-    go Down Clt p = rw p (rw p at t.same)
-    go Waiting Clt p = rw p (rw p at t.same)
+    go Up Ua p = rw p (rw p at (t.same false))
+    go Down Ua p = rw p (rw p at (t.same false))
+    go Down (I _ _ _) p = rw p (rw p at (t.same false))
+    go Waiting (I _ _ _) p = rw p (rw p at (t.same false))
+    go Down (S _ _) p = rw p (rw p at (t.same false))
+    go Waiting (S _ _) p = rw p (rw p at (t.same false))
+    go Up (Act _ _) p = rw p (rw p at (t.same false))
+    go Down (Act _ _) p = rw p (rw p at (t.same false))
+    go Waiting (Act _ _) p = rw p (rw p at (t.same false))
+    go Up Clt p = rw p (rw p at (t.same false))
+    go Down Clt p = rw p (rw p at (t.same false))
+    go Waiting Clt p = rw p (rw p at (t.same false))
 
 -- what a tick does
 pub record Ticks (P : EndState → Type 0) (e : EndState) : Type 0 where
@@ -98,7 +99,7 @@ pub record Ticks (P : EndState → Type 0) (e : EndState) : Type 0 where
   pub counted : P (record e { timer = e.timer + 1 })
   pub again : e.phase ≡ Up → P (sent_again e)
   pub asked : e.phase ≡ Waiting → P (asked_again e)
-  pub waits : P (waiting_from e)
+  pub waits : (tick_answer e).ended ≡ Some NoAnswer → P (waiting_from e)
   pub gives_up : e.phase ≡ Waiting → P (given_up e)
 
 pub ticked_cases : (P : EndState → Type 0) (e : EndState) → Ticks P e → P (ticked e)
@@ -109,7 +110,7 @@ ticked_cases P e t = go e.phase (runs_timer e.session) (nat_lt (e.timer + 1) 10)
     go Up false b c p q r u = rw (p, q) (rw p at t.same)
     go Up true true c p q r u = rw (p, q, r) (rw p at t.counted)
     go Up true false true p q r u = rw (p, q, r, u) (rw p at (t.again p))
-    go Up true false false p q r u = rw (p, q, r, u) (rw p at t.waits)
+    go Up true false false p q r u = rw (p, q, r, u) (rw p at (t.waits (rw (p, q, r, u) refl)))
     go Waiting a true c p q r u = rw (p, r) (rw p at t.counted)
     go Waiting a false true p q r u = rw (p, r, u) (rw p at (t.asked p))
     go Waiting a false false p q r u = rw (p, r, u) (t.gives_up p)
@@ -129,13 +130,13 @@ ready_cases P e r same changed = go e.ready r e.session.answered_rnr same change
     go false true true a b = b (e.due ++ Rr_due ∷ [])
     go false true false a b = b e.due
 
-pub reset_cases : (P : EndState → Type 0) (e : EndState) (w : ℕ) → P e → P (waiting_from (record e { own_window = w })) → P (reset_with e w)
+pub reset_cases : (P : EndState → Type 0) (e : EndState) (w : ℕ) → P e → (is_waiting e ≡ false → P (waiting_from (record e { own_window = w }))) → P (reset_with e w)
 reset_cases P e w same waits = go e.phase refl
   where
     go : (ph : LinkState) → e.phase ≡ ph → P (reset_with e w)
     go Waiting p = rw p (rw p at same)
-    go Up p = rw p (rw p at waits)
-    go Down p = rw p (rw p at waits)
+    go Up p = rw p (rw p at (waits (rw p refl)))
+    go Down p = rw p (rw p at (waits (rw p refl)))
 
 pub offered_cases : (P : EndState → Type 0) (e : EndState) (info : Fragment) → P e → (e.phase ≡ Up → P (put_out e (info ∷ []))) → P (offered e info)
 offered_cases P e info same puts = go e.phase refl (offer_refusal e) refl

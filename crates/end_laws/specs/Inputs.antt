@@ -1,9 +1,10 @@
 -- What one end is asked for, and what it may be said of it after any inputs.
-use Rattle.std.specs.Prelude.{ℕ, ◌+◌, ◌%◌, ◌<◌, ◌≤◌, ◌≡◌, List, [], ◌∷◌, ◌++◌, length, slice_get, Some}
+use Rattle.std.specs.Prelude.{ℕ, ◌+◌, ◌%◌, ◌<◌, ◌≤◌, ◌≡◌, List, [], ◌∷◌, ◌++◌, length, slice_get, Some, true, false}
 use Rattle.swp_base.specs.declared.control_frames.Control.{Control}
 use Rattle.swp_base.specs.declared.control_frames.Control.TheVariants.{I, S}
-use Rattle.shdlc_core.specs.Machine.{EndState, EndInput, Fragment, Session, new_end, new_session, after_inputs}
-use Rattle.shdlc_core.specs.Machine.EndInput.{Reset}
+use Rattle.shdlc_core.specs.Machine.{EndState, EndInput, Fragment, Session, new_end, new_session, after_inputs, is_waiting, take_answer, tick_answer}
+use Rattle.shdlc_core.specs.Machine.EndInput.{Begin, Take, Tick, Reset, Stop}
+use Rattle.swp_base.specs.declared.link_terms.Cause.TheVariants.{NoAnswer}
 
 -- a window is from 1 to 4
 abbrev pub IsWindow : ℕ → Type 0
@@ -50,8 +51,18 @@ TellsAccepted (I ns nr info) accepted = nr ≡ accepted % 8
 TellsAccepted (S kind nr) accepted = nr ≡ accepted % 8
 TellsAccepted _ accepted = Unit {0}
 
--- one step leaves the fragments accepted as they were, adds one, or begins with none in a new session or without one
-pub data StepAccepts (old new : Session) : Type 0 where
-  Kept : new.acc ≡ old.acc → StepAccepts old new
-  Grown : (info : Fragment) → new.acc ≡ old.acc ++ info ∷ [] → StepAccepts old new
-  Anew : (w : ℕ) → new ≡ new_session w → StepAccepts old new
+-- with this input a session begins or ends at the end: it is put Up or stopped, it begins to wait after a reset that was
+-- asked for or after tries in vain, or the other end's frame begins one
+abbrev pub Renews : EndState → EndInput → Type 0
+Renews e Begin = Unit {0}
+Renews e Stop = Unit {0}
+Renews e (Reset w) = is_waiting e ≡ false
+Renews e (Take c) = (take_answer e c).began ≡ true
+Renews e Tick = (tick_answer e).ended ≡ Some NoAnswer
+Renews e _ = ⊥
+
+-- one step leaves the fragments accepted as they were, adds one, or begins with none where a session begins or ends
+pub data StepAccepts (e : EndState) (i : EndInput) (new : Session) : Type 0 where
+  Kept : new.acc ≡ e.session.acc → StepAccepts e i new
+  Grown : (info : Fragment) → new.acc ≡ e.session.acc ++ info ∷ [] → StepAccepts e i new
+  Anew : (w : ℕ) → new ≡ new_session w → Renews e i → StepAccepts e i new

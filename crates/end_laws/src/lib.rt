@@ -28,9 +28,9 @@ pub fn frames_tell_what_was_accepted()
         TellsAccepted c (length e.session.acc) }
 {}
 
-/// In a session the accepted fragments only grow, one at a step.
+/// While a session goes on the accepted fragments only grow, at most one at a step.
 pub fn accepted_fragments_only_grow()
-    ensures { (e : EndState) (i : EndInput) → StepAccepts e.session (end_step e i).0.session }
+    ensures { (e : EndState) (i : EndInput) → StepAccepts e i (end_step e i).0.session }
 {}
 
 /// An end that isn't Up has no session: it has accepted nothing, is offered nothing and accepts nothing.
