@@ -1,0 +1,4 @@
+pub mod Evidence
+pub mod Timely
+pub mod Lasts
+pub mod Lives
