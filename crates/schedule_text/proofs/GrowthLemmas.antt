@@ -11,10 +11,10 @@ use Rattle.schedule_text.specs.Growth.{Holds, HoldsWords}
 pub holds_short : (start text more items : List ℕ) → Holds start text items true → Holds start (text ++ more) items true
 holds_short start text more items h =
     let f = h.front refl in
-    let within : f.0 ≤ length text = f.1 in
+    let within : f.0 ≤ length text = omega (arith, f.1) in
     record {
       whole = λ e. cc;
-      front = λ _. (f.0, rw length-append (omega arith), f.2 ∙ ap (λ t. start ++ t) (sym (take-append-le f.0 text more within)));
+      front = λ _. (f.0, rw length-append (omega (arith, f.1)), f.2 ∙ ap (λ t. start ++ t) (sym (take-append-le f.0 text more within)));
     }
 
 -- what is appended follows
@@ -23,8 +23,8 @@ holds_more start text more items grown h e =
     record { whole = λ _. e ∙ ap (λ t. t ++ more) (h.whole refl) ∙ append_assoc start text more; front = λ e. cc }
 
 -- or memory runs out
-pub holds_none : (start text more items : List ℕ) → Holds start text items false → Holds start (text ++ more) items true
-holds_none start text more items h =
+pub holds_none : (start text more items : List ℕ) → 0 < length more → Holds start text items false → Holds start (text ++ more) items true
+holds_none start text more items some h =
     record {
       whole = λ e. cc;
       front = λ _. (length text, rw length-append (omega arith), h.whole refl ∙ ap (λ t. start ++ t) (sym (take-append-le (length text) text more (omega arith) ∙ take_all (length text) text (omega arith))));

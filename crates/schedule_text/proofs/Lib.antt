@@ -1,5 +1,9 @@
+pub mod AgainLemmas
+pub mod FaultsLemmas
 pub mod GrowthLemmas
 pub mod HexLemmas
+pub mod LinesLemmas
 pub mod NumbersLemmas
+pub mod ReadAgainLemmas
 pub mod RowsLemmas
 pub mod WordsLemmas

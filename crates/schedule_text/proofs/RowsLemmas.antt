@@ -1,9 +1,14 @@
 -- What the words of a line without fault say.
-use Rattle.std.proofs.Common.{◌≡◌, ◌==◌, ◌&&◌, ◌||◌, ℕ, ◌<◌, ◌≤◌, Bool, true, false, not, cond, List, [], ◌∷◌, length, refl, sym, ◌∙◌, ap, subst, arith, Option, Some, None, is_some, IsSome, slice_get, codes}
+use Rattle.std.proofs.Common.{◌≡◌, ◌==◌, ◌&&◌, ◌||◌, ℕ, ◌<◌, ◌≤◌, Bool, true, false, not, cond, List, [], ◌∷◌, length, refl, sym, ◌∙◌, ap, subst, arith, Option, Some, None, is_some, IsSome, slice_get, codes, All, Result, Ok, Err, nat_lt, nat_le}
 use Rattle.std.proofs.lemmas.Bool.{leb-true, ltb-true}
 use Rattle.std.specs.List.{list_all, list_any}
 use Rattle.std.specs.Option.{option_map, option_or}
 use Rattle.std.specs.Str.{bytes_eq}
+use Rattle.std.specs.Result.{result_ok}
+use Rattle.std.proofs.lemmas.List.{get_or_default}
+use Rattle.hex.specs.Hex.{decode_of}
+use Rattle.hex.specs.declared.error.FromHexError.{FromHexError}
+use Rattle.hex.proofs.HexLemmas.{decode_of-ok}
 use Rattle.trace_model.specs.declared.line.End.{End}
 use Rattle.schedule_text.specs.declared.fault.LineFault.{LineFault}
 use Rattle.schedule_text.specs.declared.fault.LineFault.TheVariants as fault
@@ -14,7 +19,7 @@ use Rattle.schedule_text.specs.Rules.{slots, is_sender, has_byte, has_bytes, has
 use Rattle.schedule_text.specs.Lines.{◌>>=◌}
 use Rattle.schedule_text.specs.Answers.{HasMessage}
 
-both : (a b : Bool) → (a && b) ≡ true → (a ≡ true) × (b ≡ true)
+pub both : (a b : Bool) → (a && b) ≡ true → (a ≡ true) × (b ≡ true)
 both true b h = (refl, h)
 both false b h = cc
 
@@ -99,6 +104,17 @@ pub record SendWords (hci : Bool) (hosts : List ℕ) (ws : List (List ℕ)) : Ty
   pub below : pid < 112
   pub some : 1 ≤ length message
   pub known : list_any (λ host. host == at.link) hosts ≡ true
+  pub bytes : All (λ b. b < 256) message
+
+ok_of : (r : Result (List ℕ) FromHexError) (bytes : List ℕ) → result_ok r ≡ Some bytes → r ≡ Ok bytes
+ok_of (Ok bs) bytes h = cc
+ok_of (Err e) bytes h = cc
+
+-- what digits stand for are bytes
+pub are_bytes : (word bytes : List ℕ) → bytes_value word ≡ Some bytes → All (λ b. b < 256) bytes
+are_bytes word bytes h =
+    let small = (decode_of-ok word bytes (ok_of (decode_of word) bytes h)).3 in
+    λ k d within. subst (λ b. b < 256) (get_or_default bytes k 0 d within) (small k)
 
 send_three : (hci : Bool) (hosts : List ℕ) (a b c : List ℕ) → NoFault hci hosts send_row (a ∷ b ∷ c ∷ []) → SendWords hci hosts (a ∷ b ∷ c ∷ [])
 send_three hci hosts a b c right =
@@ -119,6 +135,7 @@ send_three hci hosts a b c right =
       below = pid.2;
       some = message.2;
       known = known_host hosts _ sender.0.link (ap (option_map (λ e. e.link)) sender.1) (or_none _ _ right.known).0;
+      bytes = are_bytes c message.0 message.1;
     }
 
 pub send_words : (hci : Bool) (hosts : List ℕ) (ws : List (List ℕ)) → NoFault hci hosts send_row ws → SendWords hci hosts ws
@@ -127,6 +144,27 @@ send_words hci hosts (a ∷ []) right = absurd (let h = right.least in omega ari
 send_words hci hosts (a ∷ b ∷ []) right = absurd (let h = right.least in omega arith)
 send_words hci hosts (a ∷ b ∷ c ∷ []) right = send_three hci hosts a b c right
 send_words hci hosts (a ∷ b ∷ c ∷ d ∷ ws) right = absurd (let h = right.most in omega arith)
+
+-- what `deliver` says
+pub deliver_words : (hci : Bool) (hosts : List ℕ) (a : List ℕ) (ws : List (List ℕ)) → NoFault hci hosts deliver_row (a ∷ ws)
+    → (e : End) × (end_value a ≡ Some e) × (list_any (λ host. host == e.link) hosts ≡ true)
+deliver_words hci hosts a ws right =
+    let at = some_end (end_value a) (both _ _ right.shapes).0 in
+    (at.0, at.1, known_host hosts _ at.0.link (ap (option_map (λ e. e.link)) at.1) (or_none _ _ right.known).0)
+
+-- a host that a header may name
+new_host : (o : Option ℕ) (h : ℕ) → o ≡ Some h → option_if (λ h. not (nat_lt 0 h && nat_le h 7)) o ≡ None → (1 ≤ h) × (h ≤ 7)
+new_host o h e none =
+    let range = both _ _ (not_true _ (if_some_none _ h (ap (option_if (λ h. not (nat_lt 0 h && nat_le h 7))) (sym e) ∙ none))) in
+    (ltb-true _ _ range.0, leb-true _ _ range.1)
+
+-- what a header says
+pub header_host : (hci : Bool) (hosts : List ℕ) (ws : List (List ℕ)) (h : ℕ) → NoFault hci hosts header_row ws → (slice_get ws 2 >>= byte_value) ≡ Some h
+    → (1 ≤ h) × (h ≤ 7)
+header_host hci hosts [] h right e = cc
+header_host hci hosts (a ∷ []) h right e = cc
+header_host hci hosts (a ∷ b ∷ []) h right e = cc
+header_host hci hosts (a ∷ b ∷ c ∷ ws) h right e = new_host (byte_value c) h e (or_none _ _ right.known).0
 
 -- the rows of the table are these
 pub row_cases : (P : Option Row → Type 0) (first : List ℕ) → P (Some header_row) → P (Some send_row) → P (Some deliver_row) → P None → P (row_for first)

@@ -55,7 +55,7 @@ no_word line h =
     let far = ltb-false _ _ (none_test _ _ h) in
     sym (spaces_first (length line) line (omega arith) (λ k lt. before_letter line k (omega (arith, far)))) ∙ ap words (drop_all (length line) line (omega arith))
 
-kept : (word : List ℕ) (parts : List (List ℕ)) → 0 < length word
+pub kept : (word : List ℕ) (parts : List (List ℕ)) → 0 < length word
     → filter (λ w. nat_lt 0 (length w)) (word ∷ parts) ≡ word ∷ filter (λ w. nat_lt 0 (length w)) parts
 kept word parts h =
     let test : nat_lt 0 (length word) ≡ true = grind (arith, nat_tests) in

@@ -1,10 +1,10 @@
 //! A line of a schedule is read.
-ghost use Rattle.std.specs.Prelude.{◌≡◌, ◌+◌, ◌<◌, ◌≤◌, ◌∷◌, length, is_some, slice_get, true, OnErr, IfErr};
+ghost use Rattle.std.specs.Prelude.{◌≡◌, ◌+◌, ◌<◌, ◌≤◌, ◌∷◌, length, is_some, slice_get, true, ◌↔◌, Ok, Err, IfOk};
 ghost use Rattle.std.specs.Option.{option_copied};
 ghost use Rattle.schedule_text.specs.Words.{words};
 ghost use Rattle.schedule_text.specs.Lines.{is_comment, may_stand, has_nodes, hosts_of, by_row, header_of, send_of, deliver_of, line_of};
 ghost use Rattle.schedule_text.specs.Forms.{row_for};
-ghost use Rattle.schedule_text.specs.Answers.{IsSaid, IsRead, HasMessage};
+ghost use Rattle.schedule_text.specs.Answers.{IsSaid, IsRead, HasMessage, IsInGrammar, IsSkipped, IsOutOfOrder};
 
 use crate::LineFault;
 use crate::forms::{Name, Place, form_of};
@@ -37,6 +37,12 @@ pub enum Read {
 pub fn read_line(alloc: Global, header: Option<&Header>, bytes: &[u8]) -> Result<Read, LineFault>
     // A line is what its text says, unless there is no memory for the bytes of a line that has no fault.
     ensures said { IsRead result (line_of (option_copied header.entry) bytes.now) }
+
+    // A header comes first, and below it lines of its world.
+    ensures fits { IfOk result (IsInGrammar (option_copied header.entry)) }
+    ensures too_long { (result ≡ Err LineFault.TooLong) ↔ (9000 < length bytes.now) }
+    ensures skip { (result ≡ Ok Read.Skip) ↔ ((length bytes.now ≤ 9000) × IsSkipped (words bytes.now)) }
+    ensures order { (result ≡ Err LineFault.Order) ↔ ((length bytes.now ≤ 9000) × IsOutOfOrder (option_copied header.entry) (words bytes.now)) }
 {
     if bytes.len() > MAX_LINE {
         return Err(LineFault::TooLong);

@@ -12,7 +12,7 @@ use swp_base::NoMemory;
 use trace_model::{End, Entry, Header, Line, LostCause, NoCause};
 
 /// Appends an entry as a line of the transcript, LF included (this project's own text). Where there is no memory for the
-/// whole line, `out` has its old bytes and then a front of the line, which may be empty.
+/// whole line, `out` has its old bytes and then a shorter front of the line, which may be empty.
 pub fn write_entry(alloc: Global, entry: &Entry, out: &mut Vec<u8>) -> Result<(), NoMemory>
     ensures ok { OnOk result (out.new.items ≡ out.old.items ++ entry_line entry.now) }
     ensures err { OnErr result (IsFront out.old.items (entry_line entry.now) out.new.items) }

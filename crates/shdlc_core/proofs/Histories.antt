@@ -77,13 +77,13 @@ received-accepted : (f : EndState) (ns : ℕ) (info : Fragment) →
     (received f ns info).session.acc ≡ f.session.acc ++ option_to_list (fragment_accepted f ns info)
 received-accepted f ns info = grind (arith, common_steps)
 
-received-phase : (f : EndState) (ns : ℕ) (info : Fragment) → (received f ns info).phase ≡ f.phase
+pub received-phase : (f : EndState) (ns : ℕ) (info : Fragment) → (received f ns info).phase ≡ f.phase
 received-phase f ns info = grind (arith, common_steps)
 
-received-acked : (f : EndState) (ns : ℕ) (info : Fragment) → (received f ns info).session.acked ≡ f.session.acked
+pub received-acked : (f : EndState) (ns : ℕ) (info : Fragment) → (received f ns info).session.acked ≡ f.session.acked
 received-acked f ns info = grind (arith, common_steps)
 
-received-sending : (f : EndState) (ns : ℕ) (info : Fragment) →
+pub received-sending : (f : EndState) (ns : ℕ) (info : Fragment) →
     ((received f ns info).session.out ≡ f.session.out) × ((received f ns info).session.next ≡ f.session.next)
     × ((received f ns info).session.reached ≡ f.session.reached) × ((received f ns info).session.window ≡ f.session.window)
 received-sending f ns info = (grind (arith, common_steps), grind (arith, common_steps), grind (arith, common_steps), grind (arith, common_steps))
@@ -122,7 +122,7 @@ unchanged : (e : EndState) (h : History) → Holds e h → Holds e (same_history
 unchanged e h k = subst (Holds e) (sym (same h)) k
 
 -- the end, with this phase
-abbrev in_phase : LinkState → EndState → EndState
+abbrev pub in_phase : LinkState → EndState → EndState
 in_phase p e = record e { phase = p }
 
 abbrev Keeps : EndState → History → EndInput → Type 0

@@ -3,7 +3,7 @@ use Rattle.std.specs.Prelude.{ℕ, ◌+◌, ◌<◌, ◌≤◌, ◌≡◌, ◌%�
 use Rattle.swp_base.specs.declared.control_frames.Control.{Control}
 use Rattle.swp_base.specs.declared.control_frames.Control.TheVariants.{I, S}
 use Rattle.shdlc_core.specs.Machine.{EndState, EndInput, EndOutput, Fragment, Session, after_inputs, end_step, new_end}
-use Rattle.shdlc_core.specs.Machine.EndInput.{Begin, Offer, Stop}
+use Rattle.shdlc_core.specs.Machine.EndInput.{Begin, Offer, Reset, Stop}
 use Rattle.shdlc_core.specs.Machine.EndOutput.{OfferTaken, TookFrame, TookTick, TookReset, FetchedFrame}
 
 -- a session begins or ends at an input with this answer
@@ -100,3 +100,9 @@ pub record IsNextFragment (h : History) (window ns : ℕ) (info : Fragment) : Ty
   pub unacknowledged : h.acked ≤ place
   pub within : place < h.acked + window
   pub no_hole : (q : ℕ) → q < place → Contains h.sent q
+
+-- each reset that is asked for names a window of 1 to 4
+abbrev pub AskForWindows : List EndInput → Type 0
+AskForWindows [] = Unit {0}
+AskForWindows (Reset w ∷ is) = (1 ≤ w) × (w ≤ 4) × AskForWindows is
+AskForWindows (_ ∷ is) = AskForWindows is

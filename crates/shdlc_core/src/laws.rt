@@ -1,6 +1,6 @@
 //! Laws of one end of a link, over every list of inputs. There is no code here that runs: each law is the contract of a
 //! function with an empty body.
-ghost use Rattle.std.specs.Prelude.{◌≡◌, ◌≢◌, ℕ, ◌+◌, ◌%◌, ◌<◌, ◌++◌, List, [], length, Contains};
+ghost use Rattle.std.specs.Prelude.{◌≡◌, ◌≢◌, ℕ, ◌+◌, ◌%◌, ◌<◌, ◌≤◌, false, List, [], length, Contains};
 ghost use Rattle.swp_base.specs.declared.control_frames.Control.{Control};
 ghost use Rattle.swp_base.specs.declared.control_frames.Control.TheVariants.{I};
 ghost use Rattle.shdlc_core.specs.declared.answers.LinkState.TheVariants.{Up};
@@ -8,7 +8,7 @@ ghost use Rattle.shdlc_core.specs.declared.answers.OfferRefused.TheVariants.{Not
 ghost use Rattle.shdlc_core.specs.Machine.{EndInput, Fragment, after_inputs, end_step, frame_due, take_answer};
 ghost use Rattle.shdlc_core.specs.Machine.EndInput.{Offer};
 ghost use Rattle.shdlc_core.specs.Machine.EndOutput.{OfferIsRefused};
-ghost use Rattle.shdlc_core.specs.Histories.{end_after, history_of, IsOneSession, Begins, CarriesNr, IsNextFragment};
+ghost use Rattle.shdlc_core.specs.Histories.{AskForWindows, end_after, history_of, IsOneSession, Begins, CarriesNr, IsNextFragment};
 
 /// The lists and the acknowledged place of a session are those of its history.
 pub fn sessions_are_their_histories()
@@ -58,4 +58,24 @@ pub fn nothing_goes_on_without_a_session()
         frame_due (end_after w inputs) ≢ Some (I ns nr info) }
     ensures empty { (w : ℕ) (inputs : List EndInput) → (end_after w inputs).phase ≢ Up →
         ((history_of w inputs).accepted ≡ []) × ((history_of w inputs).offered ≡ []) × ((history_of w inputs).sent ≡ []) }
+{}
+
+/// The window of a session is 1 to 4: the end's own one is, whatever the other end asks for.
+pub fn windows_are_one_to_four()
+    ensures low { (w : ℕ) (inputs : List EndInput) → 1 ≤ w → w ≤ 4 → AskForWindows inputs → (end_after w inputs).phase ≡ Up →
+        1 ≤ (end_after w inputs).session.window }
+    ensures high { (w : ℕ) (inputs : List EndInput) → 1 ≤ w → w ≤ 4 → AskForWindows inputs → (end_after w inputs).phase ≡ Up →
+        (end_after w inputs).session.window ≤ 4 }
+{}
+
+/// T2 stands at 0 while nothing is sent and unacknowledged, unless the other end is busy and something waits. A timer never
+/// stands at 10 ticks, and nothing is tried more than five times.
+pub fn timers_run_only_while_an_answer_is_awaited()
+    ensures ready { (w : ℕ) (inputs : List EndInput) → 1 ≤ w → w ≤ 4 → AskForWindows inputs → (end_after w inputs).phase ≡ Up →
+        (end_after w inputs).session.next ≡ (end_after w inputs).session.acked →
+        (end_after w inputs).session.peer_busy ≡ false → (end_after w inputs).timer ≡ 0 }
+    ensures empty { (w : ℕ) (inputs : List EndInput) → 1 ≤ w → w ≤ 4 → AskForWindows inputs → (end_after w inputs).phase ≡ Up →
+        length (end_after w inputs).session.out ≡ (end_after w inputs).session.acked → (end_after w inputs).timer ≡ 0 }
+    ensures ticks { (w : ℕ) (inputs : List EndInput) → 1 ≤ w → w ≤ 4 → AskForWindows inputs → (end_after w inputs).timer < 10 }
+    ensures tries { (w : ℕ) (inputs : List EndInput) → 1 ≤ w → w ≤ 4 → AskForWindows inputs → (end_after w inputs).tries ≤ 5 }
 {}

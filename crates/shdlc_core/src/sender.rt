@@ -1,6 +1,6 @@
 //! The half of a session that sends: the fragments that aren't acknowledged, and where sending stands (ETSI TS 102 613,
 //! section 10).
-ghost use Rattle.std.specs.Prelude.{◌≡◌, ◌+◌, ◌-◌, ◌<◌, ◌≤◌, ◌==◌, ◌++◌, ◌∷◌, [], length, drop, max, false, true, option_map, IfSome, OnSome, IfNone, ◌%◌};
+ghost use Rattle.std.specs.Prelude.{◌≡◌, ◌+◌, ◌<◌, ◌≤◌, ◌==◌, ◌++◌, ◌∷◌, [], length, drop, max, false, option_map, IfSome, OnSome, IfNone, ◌%◌};
 ghost use Rattle.shdlc_core.specs.Kept.{SendsFor};
 ghost use Rattle.shdlc_core.specs.Machine.{Session, place_of, fragment_due, sent_next, runs_timer, new_session};
 

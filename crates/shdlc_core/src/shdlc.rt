@@ -1,8 +1,8 @@
 //! One end of a link.
-ghost use Rattle.std.specs.Prelude.{◌≡◌, ◌≢◌, ◌+◌, ◌<◌, ◌≤◌, ◌↔◌, [], length, IsTrue, OnSome, option_map, min, ℕ, ◌++◌, ◌∷◌, OnOk, OnErr, IfNone, IfSome, MatchResult, false, true, not, if◌then◌else◌};
+ghost use Rattle.std.specs.Prelude.{◌≡◌, ◌≢◌, ◌+◌, ◌<◌, ◌≤◌, ◌↔◌, [], length, IsTrue, OnSome, option_map, min, ℕ, ◌++◌, ◌∷◌, OnErr, IfNone, IfSome, MatchResult, false, true};
 ghost use Rattle.std.specs.Bool.{OnFalse};
 ghost use Rattle.shdlc_core.specs.Kept.{StandsFor, ReceivesFor, frames_left};
-ghost use Rattle.shdlc_core.specs.Machine.{EndState, new_end, begun, up_with, offered, offer_refusal, control_due, frame_due, fetched, acknowledged, ready_again, rejected, made_busy, received, fragment_accepted, with_timer, place_of, gap_found, due_left, taken, take_answer, ticked, tick_answer, sent_again, asked_again, waiting_from, no_session, reset_with, stopped, with_ready};
+ghost use Rattle.shdlc_core.specs.Machine.{EndState, new_end, begun, up_with, offered, offer_refusal, control_due, frame_due, fetched, acknowledged, received, fragment_accepted, with_timer, place_of, gap_found, due_left, taken, take_answer, ticked, tick_answer, sent_again, asked_again, waiting_from, no_session, reset_with, stopped, with_ready};
 
 use crate::answers::{Due, LinkState, OfferRefused, Taken, Ticked};
 use crate::receiver::Receiver;
@@ -117,6 +117,7 @@ impl Shdlc {
         ensures queue_full { (result ≡ Err (OfferRefused.QueueFull 4))
             ↔ ((self.old.phase ≡ LinkState.Up) × (length self.old.sender.queue ≡ 4)) }
         ensures refused { OnErr result (self.new ≡ self.old) }
+        ensures due { self.new.due ≡ self.old.due }
     {
         if self.phase != LinkState::Up {
             return Err(OfferRefused::NotUp);
@@ -137,6 +138,8 @@ impl Shdlc {
         ensures stands { (e : EndState) → StandsFor self.old e → StandsFor self.new (fetched e) }
         ensures fewer { OnSome result (frames_left self.new < frames_left self.old) }
         ensures none { IfNone result (self.new ≡ self.old) }
+        ensures drained { IfNone result (self.new.due ≡ []) }
+        ensures shorter { length self.new.due ≤ length self.old.due }
     {
         match self.due.pop_at(0) {
             Some(due) => Some(self.control_due(due)),
@@ -175,6 +178,7 @@ impl Shdlc {
         ensures stands { (e : EndState) → StandsFor self.old e → StandsFor self.new (fetched e) }
         ensures fewer { OnSome result (frames_left self.new < frames_left self.old) }
         ensures none { IfNone result (self.new ≡ self.old) }
+        ensures due { self.new.due ≡ self.old.due }
     {
         let ns = self.sender.next_number();
         let nr = self.receiver.expected();
@@ -187,6 +191,7 @@ impl Shdlc {
         requires { length self.old.due < 8 }
         ensures stands { (e : EndState) → StandsFor self.old e → StandsFor self.new (taken e control.now) }
         ensures answer { (e : EndState) → StandsFor self.old e → result ≡ take_answer e control.now }
+        ensures added { length self.new.due ≤ length self.old.due + 1 }
     {
         match control {
             Control::I { ns, nr, info } => self.take_fragment(*ns, *nr, info),
@@ -202,6 +207,7 @@ impl Shdlc {
         requires { length self.old.due < 8 }
         ensures stands { (e : EndState) → StandsFor self.old e → StandsFor self.new (taken e (Control.I ns nr info.now)) }
         ensures answer { (e : EndState) → StandsFor self.old e → result ≡ take_answer e (Control.I ns nr info.now) }
+        ensures added { length self.new.due ≤ length self.old.due + 1 }
     {
         let Some(count) = self.place_of(nr) else {
             return Taken::nothing();
@@ -246,6 +252,7 @@ impl Shdlc {
         requires { length self.old.due < 8 }
         ensures stands { (e : EndState) → StandsFor self.old e → StandsFor self.new (received e ns info.now) }
         ensures accepted { (e : EndState) → StandsFor self.old e → result ≡ fragment_accepted e ns info.now }
+        ensures added { length self.new.due ≤ length self.old.due + 1 }
     {
         if !self.ready {
             self.due.push(Due::Rnr);
@@ -272,7 +279,8 @@ impl Shdlc {
     // A gap is answered by REJ, once while it is open.
     fn reject_gap(&mut self)
         requires { length self.old.due < 8 }
-        ensures { (e : EndState) → StandsFor self.old e → StandsFor self.new (gap_found e) }
+        ensures stands { (e : EndState) → StandsFor self.old e → StandsFor self.new (gap_found e) }
+        ensures added { length self.new.due ≤ length self.old.due + 1 }
     {
         if !self.receiver.gap_is_open() {
             self.due.push(Due::Rej);
@@ -284,6 +292,7 @@ impl Shdlc {
     fn take_supervisory(&mut self, kind: Kind, nr: u8) -> Taken
         ensures stands { (e : EndState) → StandsFor self.old e → StandsFor self.new (taken e (Control.S kind nr)) }
         ensures answer { (e : EndState) → StandsFor self.old e → result ≡ take_answer e (Control.S kind nr) }
+        ensures due { self.new.due ≡ self.old.due }
     {
         if kind == Kind::Srej {
             return Taken::nothing();
@@ -306,8 +315,9 @@ impl Shdlc {
 
     // The other end isn't busy any more; where T2 doesn't run it stands at 0.
     fn end_busy(&mut self)
-        ensures { (e : EndState) → StandsFor self.old e → StandsFor self.new (
+        ensures stands { (e : EndState) → StandsFor self.old e → StandsFor self.new (
             with_timer (record e { session = record e.session { peer_busy = false; probe = false } })) }
+        ensures due { self.new.due ≡ self.old.due }
     {
         self.sender.end_busy();
         if self.sender.runs_timer() {
@@ -318,8 +328,9 @@ impl Shdlc {
 
     // All fragments are to be sent again, and T2 starts again.
     fn send_again(&mut self)
-        ensures { (e : EndState) → StandsFor self.old e → StandsFor self.new (
+        ensures stands { (e : EndState) → StandsFor self.old e → StandsFor self.new (
             record e { timer = 0; session = record e.session { next = e.session.acked; peer_busy = false; probe = false } }) }
+        ensures due { self.new.due ≡ self.old.due }
     {
         self.timer = 0;
         self.sender.start_over(false, false);
@@ -327,8 +338,9 @@ impl Shdlc {
 
     // The other end is busy, all fragments count as not sent, T2 starts again and the tries are 0.
     fn hold_back(&mut self)
-        ensures { (e : EndState) → StandsFor self.old e → StandsFor self.new (
+        ensures stands { (e : EndState) → StandsFor self.old e → StandsFor self.new (
             record e { timer = 0; tries = 0; session = record e.session { next = e.session.acked; peer_busy = true; probe = false } }) }
+        ensures due { self.new.due ≡ self.old.due }
     {
         self.timer = 0;
         self.tries = 0;
@@ -340,6 +352,7 @@ impl Shdlc {
         requires { length self.old.due < 8 }
         ensures stands { (e : EndState) (caps : ℕ) → StandsFor self.old e → StandsFor self.new (taken e (Control.Rset window caps)) }
         ensures answer { (e : EndState) (caps : ℕ) → StandsFor self.old e → result ≡ take_answer e (Control.Rset window caps) }
+        ensures added { length self.new.due ≤ length self.old.due + 1 }
     {
         if window == 0 {
             return Taken::nothing();
@@ -372,8 +385,9 @@ impl Shdlc {
     // A new session begins, with the lesser of both windows, and UA is answered.
     fn restart(&mut self, peer_window: u8)
         requires { length self.old.due < 8 }
-        ensures { (e : EndState) → StandsFor self.old e → StandsFor self.new (
+        ensures stands { (e : EndState) → StandsFor self.old e → StandsFor self.new (
             up_with (record e { due = due_left e.phase e.due ++ Due.Ua ∷ [] }) (min e.own_window peer_window)) }
+        ensures added { length self.new.due ≤ length self.old.due + 1 }
     {
         let window = self.own_window.min(peer_window);
         self.drop_frames();
@@ -384,7 +398,8 @@ impl Shdlc {
     // A control frame is to be sent.
     fn make(&mut self, due: Due)
         requires { length self.old.due < 8 }
-        ensures { (e : EndState) → StandsFor self.old e → StandsFor self.new (record e { due = e.due ++ due ∷ [] }) }
+        ensures stands { (e : EndState) → StandsFor self.old e → StandsFor self.new (record e { due = e.due ++ due ∷ [] }) }
+        ensures added { length self.new.due ≤ length self.old.due + 1 }
     {
         self.due.push(due);
     }
@@ -404,6 +419,7 @@ impl Shdlc {
     fn take_acceptance(&mut self) -> Taken
         ensures stands { (e : EndState) → StandsFor self.old e → StandsFor self.new (taken e Control.Ua) }
         ensures answer { (e : EndState) → StandsFor self.old e → result ≡ take_answer e Control.Ua }
+        ensures due { self.new.due ≡ self.old.due }
     {
         if self.phase != LinkState::Waiting {
             return Taken::nothing();
@@ -421,6 +437,7 @@ impl Shdlc {
         requires { length self.old.due < 8 }
         ensures stands { (e : EndState) → StandsFor self.old e → StandsFor self.new (ticked e) }
         ensures answer { (e : EndState) → StandsFor self.old e → result ≡ tick_answer e }
+        ensures added { length self.new.due ≤ length self.old.due + 1 }
     {
         match self.phase {
             LinkState::Down => Ticked::nothing(),
@@ -435,6 +452,7 @@ impl Shdlc {
         requires room { length self.old.due < 8 }
         ensures stands { (e : EndState) → StandsFor self.old e → StandsFor self.new (ticked e) }
         ensures answer { (e : EndState) → StandsFor self.old e → result ≡ tick_answer e }
+        ensures added { length self.new.due ≤ length self.old.due + 1 }
     {
         if !self.sender.runs_timer() {
             return Ticked::nothing();
@@ -460,6 +478,7 @@ impl Shdlc {
         requires room { length self.old.due < 8 }
         ensures stands { (e : EndState) → StandsFor self.old e → StandsFor self.new (ticked e) }
         ensures answer { (e : EndState) → StandsFor self.old e → result ≡ tick_answer e }
+        ensures added { length self.new.due ≤ length self.old.due + 1 }
     {
         if self.timer + 1 < Self::TICKS {
             self.timer += 1;
@@ -482,7 +501,8 @@ impl Shdlc {
     // All unacknowledged fragments are to be sent again, and where the other end is busy the first of them alone.
     fn repeat_fragments(&mut self)
         requires { self.old.tries < 5 }
-        ensures { (e : EndState) → StandsFor self.old e → StandsFor self.new (sent_again e) }
+        ensures stands { (e : EndState) → StandsFor self.old e → StandsFor self.new (sent_again e) }
+        ensures due { self.new.due ≡ self.old.due }
     {
         let busy = self.sender.peer_is_busy();
         self.sender.start_over(busy, busy);
@@ -494,7 +514,8 @@ impl Shdlc {
     fn repeat_reset(&mut self)
         requires tried { self.old.tries < 5 }
         requires room { length self.old.due < 8 }
-        ensures { (e : EndState) → StandsFor self.old e → StandsFor self.new (asked_again e) }
+        ensures stands { (e : EndState) → StandsFor self.old e → StandsFor self.new (asked_again e) }
+        ensures added { length self.new.due ≤ length self.old.due + 1 }
     {
         self.due.push(Due::Rset);
         self.timer = 0;
@@ -504,7 +525,8 @@ impl Shdlc {
     // A session ends here, where there is one, RSET is sent for the first time, and the end waits.
     fn wait(&mut self)
         requires { length self.old.due < 8 }
-        ensures { (e : EndState) → StandsFor self.old e → StandsFor self.new (waiting_from e) }
+        ensures stands { (e : EndState) → StandsFor self.old e → StandsFor self.new (waiting_from e) }
+        ensures added { length self.new.due ≤ length self.old.due + 1 }
     {
         self.drop_frames();
         self.make(Due::Rset);
@@ -515,8 +537,9 @@ impl Shdlc {
 
     // The end is Down or Waiting: nothing of a session is kept.
     fn enter(&mut self, phase: LinkState)
-        ensures { (e : EndState) → StandsFor self.old e → StandsFor self.new (
+        ensures stands { (e : EndState) → StandsFor self.old e → StandsFor self.new (
             record e { phase = phase; timer = 0; tries = 0; session = no_session }) }
+        ensures due { self.new.due ≡ self.old.due }
     {
         self.phase = phase;
         self.timer = 0;
@@ -535,6 +558,7 @@ impl Shdlc {
         ensures stands { (e : EndState) → StandsFor self.old e → StandsFor self.new (reset_with e window) }
         ensures answer { IsTrue result ↔ (self.old.phase ≢ LinkState.Waiting) }
         ensures refused { OnFalse result (self.new ≡ self.old) }
+        ensures added { length self.new.due ≤ length self.old.due + 1 }
     {
         if self.phase == LinkState::Waiting {
             return false;
@@ -546,7 +570,8 @@ impl Shdlc {
 
     /// The end is Down, and nothing of a session is kept. Its own window and its readiness stay.
     pub fn stop(&mut self)
-        ensures { (e : EndState) → StandsFor self.old e → StandsFor self.new (stopped e) }
+        ensures stands { (e : EndState) → StandsFor self.old e → StandsFor self.new (stopped e) }
+        ensures due { self.new.due ≡ [] }
     {
         self.due.clear();
         self.enter(LinkState::Down);
@@ -556,7 +581,8 @@ impl Shdlc {
     /// since it became not ready sends RR. At most seven control frames wait to be fetched before.
     pub fn set_ready(&mut self, ready: bool)
         requires { length self.old.due < 8 }
-        ensures { (e : EndState) → StandsFor self.old e → StandsFor self.new (with_ready e ready) }
+        ensures stands { (e : EndState) → StandsFor self.old e → StandsFor self.new (with_ready e ready) }
+        ensures added { length self.new.due ≤ length self.old.due + 1 }
     {
         if self.ready == ready {
             return;
@@ -568,3 +594,6 @@ impl Shdlc {
         self.receiver.set_answered_rnr(false);
     }
 }
+
+#[cfg(test)]
+mod tests;

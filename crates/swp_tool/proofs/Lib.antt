@@ -1,1 +1,5 @@
 pub mod Cutting
+pub mod Texts
+pub mod Reading
+pub mod Ending
+pub mod Playing

@@ -1,0 +1,6 @@
+pub mod Schedules
+pub mod Transcripts
+pub mod Statuses
+pub mod Replays
+pub mod Pieces
+pub mod Runs

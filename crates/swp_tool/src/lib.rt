@@ -1,2 +1,11 @@
-//! The top call of the program.
+//! The top call of the program `swp`: words, input and output in, a status out.
 #![tactic(auto)]
+
+mod pieces;
+mod replay;
+mod status;
+mod top;
+mod transcript;
+
+pub use status::{Status, exit_code, status_text};
+pub use top::{Ended, run};

@@ -93,6 +93,13 @@ impl World {
         Ok(())
     }
 
+    /// The header that the world was made of.
+    pub fn header(&self) -> &Header
+        ensures { result.now ≡ self.now.header }
+    {
+        &self.header
+    }
+
     /// What the last line caused, in order; before the first line, what the header did. The lines themselves aren't in it.
     pub fn entries(&self) -> &[Entry]
         ensures { result.now ≡ self.now.entries.items }

@@ -2,8 +2,8 @@ use Rattle.std.proofs.Common.{refl, subst, sym}
 use Rattle.shdlc_core.specs.Kept.{StandsFor}
 use Rattle.shdlc_core.proofs.shdlc.Shdlc.enter.Goals as goal
 
-pub returns : goal.returns
-returns c = λ e h.
+pub returns-clause-stands : goal.returns-clause-stands
+returns-clause-stands c = λ e h.
     let stood = subst (λ k. StandsFor k e) (sym c.self.view_is) h in
     record {
       phase = refl;

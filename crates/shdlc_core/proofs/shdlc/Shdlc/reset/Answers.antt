@@ -8,7 +8,7 @@ returns-clause-stands c = λ e h.
     let stood = subst (λ k. StandsFor k e) (sym c.self.view_is) h in
     let asked = reset_with-other e c.self.inside.phase c.args.window stood.phase (sym c.eq.ensures ∙ c.if-eq.false) in
     subst (StandsFor c.wait.new.self) (sym asked)
-    (c.wait.ensures (record e { own_window = c.args.window }) (record {
+    (c.wait.ensures.stands (record e { own_window = c.args.window }) (record {
       phase = stood.phase;
       own_window = refl;
       ready = stood.ready;

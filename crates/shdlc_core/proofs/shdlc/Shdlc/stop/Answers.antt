@@ -2,10 +2,10 @@ use Rattle.std.proofs.Common.{subst, sym, []}
 use Rattle.shdlc_core.specs.Kept.{StandsFor}
 use Rattle.shdlc_core.proofs.shdlc.Shdlc.stop.Goals as goal
 
-pub returns : goal.returns
-returns c = λ e h.
+pub returns-clause-stands : goal.returns-clause-stands
+returns-clause-stands c = λ e h.
     let stood = subst (λ k. StandsFor k e) (sym c.self.view_is) h in
-    c.enter.ensures (record e { due = [] }) (record {
+    c.enter.ensures.stands (record e { due = [] }) (record {
       phase = stood.phase;
       own_window = stood.own_window;
       ready = stood.ready;

@@ -17,14 +17,14 @@ returns-clause-stands c = λ e h.
       | in-Rr w ↦
           subst stands (sym w.self-is)
           (subst (λ kind. StandsFor w.end_busy.new.self (taken e (S kind c.args.nr))) (sym w.in-Rr.is)
-          (subst (StandsFor w.end_busy.new.self) (sym (taken-rr e c.args.nr _ up at)) (w.end_busy.ensures _ acked)))
+          (subst (StandsFor w.end_busy.new.self) (sym (taken-rr e c.args.nr _ up at)) (w.end_busy.ensures.stands _ acked)))
       | in-Rej w ↦
           subst stands (sym w.self-is)
           (subst (λ kind. StandsFor w.send_again.new.self (taken e (S kind c.args.nr))) (sym w.in-Rej.is)
-          (subst (StandsFor w.send_again.new.self) (sym (taken-rej e c.args.nr _ up at)) (w.send_again.ensures _ acked)))
+          (subst (StandsFor w.send_again.new.self) (sym (taken-rej e c.args.nr _ up at)) (w.send_again.ensures.stands _ acked)))
       | in-Rnr w ↦
           subst stands (sym w.self-is)
           (subst (λ kind. StandsFor w.hold_back.new.self (taken e (S kind c.args.nr))) (sym w.in-Rnr.is)
-          (subst (StandsFor w.hold_back.new.self) (sym (taken-rnr e c.args.nr _ up at)) (w.hold_back.ensures _ acked)))
+          (subst (StandsFor w.hold_back.new.self) (sym (taken-rnr e c.args.nr _ up at)) (w.hold_back.ensures.stands _ acked)))
       | in-Srej w ↦ absurd (search rules)
     ]

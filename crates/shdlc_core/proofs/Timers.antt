@@ -1,0 +1,368 @@
+-- The timer, the tries and the windows of an end, whatever comes to it.
+use Rattle.std.proofs.Common.{ℕ, ◌+◌, ◌<◌, ◌≤◌, ◌≡◌, Bool, true, false, List, [], ◌∷◌, ◌++◌, length, Option, Some, None, refl, sym, subst, ◌∙◌, arith, max, min, nat_lt, cond}
+use Rattle.std.specs.Prelude.{◌==◌}
+use Rattle.std.proofs.lemmas.Grind.{common_steps}
+use Rattle.swp_base.specs.declared.control_frames.Control.{Control}
+use Rattle.swp_base.specs.declared.control_frames.Control.TheVariants.{I, S, Rset, Ua, Act, Clt}
+use Rattle.swp_base.specs.declared.control_frames.Kind.{Kind}
+use Rattle.swp_base.specs.declared.control_frames.Kind.TheVariants.{Rr, Rej, Rnr, Srej}
+use Rattle.shdlc_core.specs.declared.answers.LinkState.{LinkState}
+use Rattle.shdlc_core.specs.declared.answers.LinkState.TheVariants.{Down, Waiting, Up}
+use Rattle.shdlc_core.specs.declared.answers.Due.{Due}
+use Rattle.shdlc_core.specs.Machine.{Timed, timed, runs_timer, EndState, EndInput, Fragment, Session, end_step, new_session, new_end, place_of, received, acknowledged, fragment_due, sent_next, after_inputs}
+use Rattle.shdlc_core.specs.Machine.Timed.{Runs, Over, Spent}
+use Rattle.shdlc_core.specs.Machine.EndInput.{Begin, Offer, Take, Tick, Reset, Stop, SetReady, NextOut}
+use Rattle.shdlc_core.specs.Histories.{History, AskForWindows, no_history}
+use Rattle.shdlc_core.proofs.Histories.{IsOrdered, Holds, new-Holds, step-Holds, place_of-within, in_phase, received-phase, received-sending}
+
+abbrev pub IsWindow : ℕ → Type 0
+IsWindow w = (1 ≤ w) × (w ≤ 4)
+
+-- the window of a session is 1 to 4, and where T2 doesn't run it stands at 0
+abbrev pub IsTimedIn : LinkState → Session → ℕ → Type 0
+IsTimedIn Up s timer = IsWindow s.window × (runs_timer s ≡ false → timer ≡ 0)
+IsTimedIn Down s timer = timer ≡ 0
+IsTimedIn Waiting s timer = Unit {0}
+
+pub record TimedFor (phase : LinkState) (s : Session) (own peer ticks : ℕ) (made : ℕ) : Type 0 where
+  pub own_window : IsWindow own
+  pub peer_window : IsWindow peer
+  pub timer : ticks < 10
+  pub tries : made ≤ 5
+  pub session : IsTimedIn phase s ticks
+
+abbrev pub IsTimed : EndState → Type 0
+IsTimed e = TimedFor e.phase e.session e.own_window e.peer_window e.timer e.tries
+
+-- a step from an ordered session keeps it
+abbrev Keeps : EndState → EndInput → Type 0
+Keeps e i = IsOrdered e.session → IsTimed e → IsTimed (end_step e i).0
+
+lesser : (a b : ℕ) → IsWindow a → IsWindow b → IsWindow (min a b)
+lesser a b p q = let p0 = p.0 in let p1 = p.1 in let q0 = q.0 in let q1 = q.1 in (omega arith, omega arith)
+
+up : (w own peer : ℕ) → IsWindow w → IsWindow own → IsWindow peer → TimedFor Up (new_session w) own peer 0 0
+up w own peer p q r = record { own_window = q; peer_window = r; timer = omega arith; tries = omega arith; session = (p, λ _. refl) }
+
+waits : (s : Session) (own : ℕ) → IsWindow own → TimedFor Waiting s own 4 0 1
+waits s own q = record {
+  own_window = q;
+  peer_window = (omega arith, omega arith);
+  timer = omega arith;
+  tries = omega arith;
+  session = tt;
+}
+
+-- the timer and the tries, where the acknowledged part may have grown
+grown_timer : (a x t : ℕ) → t < 10 → cond (nat_lt a x) 0 t < 10
+grown_timer a x t l = grind (arith, common_steps)
+
+grown_tries : (a x t : ℕ) → t ≤ 5 → cond (nat_lt a x) 0 t ≤ 5
+grown_tries a x t l = grind (arith, common_steps)
+
+-- where the place doesn't grow, T2 runs as before
+acked_runs : (s : Session) (x t : ℕ) (gap answered : Bool) (acc : List Fragment) → s.acked ≤ x → s.acked ≤ s.next → (runs_timer s ≡ false → t ≡ 0) →
+    runs_timer (record s { acked = x; next = max s.next x; acc = acc; gap_open = gap; answered_rnr = answered }) ≡ false → cond (nat_lt s.acked x) 0 t ≡ 0
+acked_runs s x t gap answered acc l o stands r = grind (arith, common_steps)
+
+received-runs : (f : EndState) (ns : ℕ) (info : Fragment) → runs_timer (received f ns info).session ≡ runs_timer f.session
+received-runs f ns info = grind (arith, common_steps)
+
+received-kept : (f : EndState) (ns : ℕ) (info : Fragment) →
+    ((received f ns info).own_window ≡ f.own_window) × ((received f ns info).peer_window ≡ f.peer_window)
+    × ((received f ns info).timer ≡ f.timer) × ((received f ns info).tries ≡ f.tries)
+received-kept f ns info = (grind (arith, common_steps), grind (arith, common_steps), grind (arith, common_steps), grind (arith, common_steps))
+
+fragment-up : (e : EndState) (ns nr : ℕ) (info : Fragment) (o : Option ℕ) → place_of e.session nr ≡ o → Keeps (in_phase Up e) (Take (I ns nr info))
+fragment-up e ns nr info None q o k = rw q k
+fragment-up e ns nr info (Some x) q o k =
+    let within = place_of-within e.session nr x q in
+    let f = acknowledged (in_phase Up e) x in
+    let kept = received-kept f ns info in
+    let window = (received-sending f ns info).3 in
+    rw q (record {
+      own_window = subst IsWindow (sym kept.0) k.own_window;
+      peer_window = subst IsWindow (sym kept.1) k.peer_window;
+      timer = subst (λ t. t < 10) (sym kept.2) (grown_timer e.session.acked x e.timer k.timer);
+      tries = subst (λ t. t ≤ 5) (sym kept.3) (grown_tries e.session.acked x e.tries k.tries);
+      session =
+          subst (λ p. IsTimedIn p (received f ns info).session (received f ns info).timer) (sym (received-phase f ns info)) (
+            subst IsWindow (sym window) k.session.0,
+            λ r. kept.2 ∙ acked_runs e.session x e.timer e.session.gap_open e.session.answered_rnr e.session.acc within.0 o.next k.session.1
+                (sym (received-runs f ns info) ∙ r),
+          );
+    })
+
+stopped_timer : (b : Bool) (t : ℕ) → b ≡ false → cond b t 0 ≡ 0
+stopped_timer true t q = cc
+stopped_timer false t q = refl
+
+below_ten : (b : Bool) (t : ℕ) → t < 10 → cond b t 0 < 10
+below_ten true t l = l
+below_ten false t l = omega arith
+
+supervised-up : (e : EndState) (kind : Kind) (nr : ℕ) (o : Option ℕ) → place_of e.session nr ≡ o → Keeps (in_phase Up e) (Take (S kind nr))
+supervised-up e Srej nr p q o k = k
+supervised-up e Rr nr None q o k = rw q k
+supervised-up e Rej nr None q o k = rw q k
+supervised-up e Rnr nr None q o k = rw q k
+supervised-up e Rr nr (Some x) q o k = rw q (record {
+  own_window = k.own_window;
+  peer_window = k.peer_window;
+  timer = below_ten _ _ (grown_timer e.session.acked x e.timer k.timer);
+  tries = grown_tries e.session.acked x e.tries k.tries;
+  session = (k.session.0, λ r. stopped_timer _ _ r);
+})
+supervised-up e Rej nr (Some x) q o k = rw q (record {
+  own_window = k.own_window;
+  peer_window = k.peer_window;
+  timer = omega arith;
+  tries = grown_tries e.session.acked x e.tries k.tries;
+  session = (k.session.0, λ r. refl);
+})
+supervised-up e Rnr nr (Some x) q o k = rw q (record {
+  own_window = k.own_window;
+  peer_window = k.peer_window;
+  timer = omega arith;
+  tries = omega arith;
+  session = (k.session.0, λ r. refl);
+})
+
+-- the window that an RSET asks for counts as 1 to 4
+asked_window : (w : ℕ) → (w == 0) ≡ false → IsWindow (min w 4)
+asked_window w q = grind (arith, common_steps)
+
+reset-up : (e : EndState) (w caps : ℕ) (b : Bool) → (w == 0) ≡ b → Keeps (in_phase Up e) (Take (Rset w caps))
+reset-up e w caps true q o k = rw q k
+reset-up e w caps false q o k =
+    rw q (up (min e.own_window (min w 4)) e.own_window e.peer_window (lesser e.own_window (min w 4) k.own_window (asked_window w q)) k.own_window k.peer_window)
+
+reset-down : (e : EndState) (w caps : ℕ) (b : Bool) → (w == 0) ≡ b → Keeps (in_phase Down e) (Take (Rset w caps))
+reset-down e w caps true q o k = rw q k
+reset-down e w caps false q o k =
+    rw q (up (min e.own_window (min w 4)) e.own_window e.peer_window (lesser e.own_window (min w 4) k.own_window (asked_window w q)) k.own_window k.peer_window)
+
+reset-waiting : (e : EndState) (w caps : ℕ) (b : Bool) → (w == 0) ≡ b → Keeps (in_phase Waiting e) (Take (Rset w caps))
+reset-waiting e w caps true q o k = rw q k
+reset-waiting e w caps false q o k = rw q (record {
+  own_window = k.own_window;
+  peer_window = asked_window w q;
+  timer = k.timer;
+  tries = k.tries;
+  session = tt;
+})
+
+take-up : (e : EndState) (c : Control) → Keeps (in_phase Up e) (Take c)
+take-up e (I ns nr info) o k = fragment-up e ns nr info _ refl o k
+take-up e (S kind nr) o k = supervised-up e kind nr _ refl o k
+take-up e (Rset w caps) o k = reset-up e w caps _ refl o k
+take-up e Ua o k = k
+take-up e (Act act again) o k = k
+take-up e Clt o k = k
+
+take-down : (e : EndState) (c : Control) → Keeps (in_phase Down e) (Take c)
+take-down e (I ns nr info) o k = k
+take-down e (S kind nr) o k = k
+take-down e (Rset w caps) o k = reset-down e w caps _ refl o k
+take-down e Ua o k = k
+take-down e (Act act again) o k = k
+take-down e Clt o k = k
+
+take-waiting : (e : EndState) (c : Control) → Keeps (in_phase Waiting e) (Take c)
+take-waiting e (I ns nr info) o k = k
+take-waiting e (S kind nr) o k = k
+take-waiting e (Rset w caps) o k = reset-waiting e w caps _ refl o k
+take-waiting e Ua o k =
+    up (min e.own_window e.peer_window) e.own_window e.peer_window (lesser e.own_window e.peer_window k.own_window k.peer_window)
+    k.own_window k.peer_window
+take-waiting e (Act act again) o k = k
+take-waiting e Clt o k = k
+
+-- what the tests of a tick say
+timed-runs : (e : EndState) → timed e ≡ Runs → e.timer + 1 < 10
+timed-runs e q = grind (arith, common_steps)
+
+timed-over : (e : EndState) → timed e ≡ Over → e.tries + 1 ≤ 5
+timed-over e q = grind (arith, common_steps)
+
+tick-up : (e : EndState) (runs : Bool) (t : Timed) → runs_timer e.session ≡ runs → timed e ≡ t → Keeps (in_phase Up e) Tick
+tick-up e false t r q o k = rw r k
+tick-up e true Runs r q o k = rw (r, q) (record {
+  own_window = k.own_window;
+  peer_window = k.peer_window;
+  timer = timed-runs e q;
+  tries = k.tries;
+  session = (k.session.0, λ f. absurd (cc (r, f)));
+})
+tick-up e true Over r q o k = rw (r, q) (record {
+  own_window = k.own_window;
+  peer_window = k.peer_window;
+  timer = omega arith;
+  tries = timed-over e q;
+  session = (k.session.0, λ f. refl);
+})
+tick-up e true Spent r q o k = rw (r, q) (waits _ e.own_window k.own_window)
+
+tick-waiting : (e : EndState) (t : Timed) → timed e ≡ t → Keeps (in_phase Waiting e) Tick
+tick-waiting e Runs q o k = rw q (record {
+  own_window = k.own_window;
+  peer_window = k.peer_window;
+  timer = timed-runs e q;
+  tries = k.tries;
+  session = tt;
+})
+tick-waiting e Over q o k = rw q (record {
+  own_window = k.own_window;
+  peer_window = k.peer_window;
+  timer = omega arith;
+  tries = timed-over e q;
+  session = tt;
+})
+tick-waiting e Spent q o k = rw q (record {
+  own_window = k.own_window;
+  peer_window = k.peer_window;
+  timer = omega arith;
+  tries = omega arith;
+  session = refl;
+})
+
+-- where more is offered and T2 doesn't run, it didn't run before
+offered-runs : (s : Session) (info : Fragment) → runs_timer (record s { out = s.out ++ info ∷ [] }) ≡ false → runs_timer s ≡ false
+offered-runs s info r = grind (arith, common_steps)
+
+offer-up : (e : EndState) (info : Fragment) (b : Bool) → nat_lt (length e.session.out) (e.session.acked + 4) ≡ b →
+    Keeps (in_phase Up e) (Offer info)
+offer-up e info false q o k = rw q k
+offer-up e info true q o k = rw q (record {
+  own_window = k.own_window;
+  peer_window = k.peer_window;
+  timer = k.timer;
+  tries = k.tries;
+  session = (k.session.0, λ r. k.session.1 (offered-runs e.session info r));
+})
+
+reset-asked : (e : EndState) (w : ℕ) (p : LinkState) → IsWindow w → Keeps (in_phase p e) (Reset w)
+reset-asked e w Waiting i o k = k
+reset-asked e w Up i o k = waits _ w i
+reset-asked e w Down i o k = waits _ w i
+
+-- readiness is no matter of the timer
+with_answered : (p : LinkState) (s : Session) (timer : ℕ) → IsTimedIn p s timer → IsTimedIn p (record s { answered_rnr = false }) timer
+with_answered Up s timer i = i
+with_answered Down s timer i = i
+with_answered Waiting s timer i = i
+
+set_ready-other : (e : EndState) (p : LinkState) → IsTimed (in_phase p e) →
+    TimedFor p (record e.session { answered_rnr = false }) e.own_window e.peer_window e.timer e.tries
+set_ready-other e p k = record {
+  own_window = k.own_window;
+  peer_window = k.peer_window;
+  timer = k.timer;
+  tries = k.tries;
+  session = with_answered p e.session e.timer k.session;
+}
+
+set_ready : (e : EndState) (p : LinkState) (r was answered : Bool) → e.ready ≡ was → e.session.answered_rnr ≡ answered →
+    Keeps (in_phase p e) (SetReady r)
+set_ready e p true true a q w o k = rw q k
+set_ready e p false false a q w o k = rw q k
+set_ready e p false true a q w o k = rw q (set_ready-other e p k)
+set_ready e p true false true q w o k = rw (q, w) (set_ready-other e p k)
+set_ready e p true false false q w o k = rw (q, w) (set_ready-other e p k)
+
+-- once a fragment is sent T2 runs
+sent-runs : (s : Session) → s.acked ≤ s.next → runs_timer (sent_next s) ≡ true
+sent-runs s l = grind (arith, common_steps)
+
+sent_session : (p : LinkState) (s : Session) (timer : ℕ) → s.acked ≤ s.next → IsTimedIn p s timer → IsTimedIn p (sent_next s) timer
+sent_session Up s timer l i = (i.0, λ r. let runs = sent-runs s l in absurd (cc (runs, r)))
+sent_session Down s timer l i = i
+sent_session Waiting s timer l i = i
+
+fragment_out : (e : EndState) (p : LinkState) (f : Option Fragment) → e.due ≡ [] → fragment_due e.session ≡ f → Keeps (in_phase p e) NextOut
+fragment_out e p None d q o k = rw (d, q) k
+fragment_out e p (Some info) d q o k = rw (d, q) (record {
+  own_window = k.own_window;
+  peer_window = k.peer_window;
+  timer = k.timer;
+  tries = k.tries;
+  session = sent_session p e.session e.timer o.next k.session;
+})
+
+next_out : (e : EndState) (p : LinkState) (ds : List Due) → e.due ≡ ds → Keeps (in_phase p e) NextOut
+next_out e p [] d o k = fragment_out e p _ d refl o k
+next_out e p (d ∷ ds) q o k = rw q k
+
+stopped-timed : (e : EndState) (p : LinkState) → Keeps (in_phase p e) Stop
+stopped-timed e p o k = record {
+  own_window = k.own_window;
+  peer_window = k.peer_window;
+  timer = omega arith;
+  tries = omega arith;
+  session = refl;
+}
+
+-- a reset that is asked for names a window
+abbrev NamesWindow : EndInput → Type 0
+NamesWindow (Reset w) = IsWindow w
+NamesWindow _ = Unit {0}
+
+step-phase : (e : EndState) (i : EndInput) (p : LinkState) → NamesWindow i → Keeps (in_phase p e) i
+step-phase e Begin p a o k = up e.own_window e.own_window e.peer_window k.own_window k.own_window k.peer_window
+step-phase e Stop p a o k = stopped-timed e p o k
+step-phase e (Reset w) p a o k = reset-asked e w p a o k
+step-phase e (SetReady r) p a o k = set_ready e p r _ _ refl refl o k
+step-phase e NextOut p a o k = next_out e p _ refl o k
+step-phase e (Offer info) Up a o k = offer-up e info _ refl o k
+step-phase e (Offer info) Down a o k = k
+step-phase e (Offer info) Waiting a o k = k
+step-phase e (Take c) Up a o k = take-up e c o k
+step-phase e (Take c) Down a o k = take-down e c o k
+step-phase e (Take c) Waiting a o k = take-waiting e c o k
+step-phase e Tick Up a o k = tick-up e _ _ refl refl o k
+step-phase e Tick Down a o k = k
+step-phase e Tick Waiting a o k = tick-waiting e _ refl o k
+
+first_named : (i : EndInput) (is : List EndInput) → AskForWindows (i ∷ is) → NamesWindow i × AskForWindows is
+first_named (Reset w) is a = ((a.0, a.1), a.2)
+first_named Begin is a = (tt, a)
+first_named Stop is a = (tt, a)
+first_named (SetReady r) is a = (tt, a)
+first_named NextOut is a = (tt, a)
+first_named (Offer info) is a = (tt, a)
+first_named (Take c) is a = (tt, a)
+first_named Tick is a = (tt, a)
+
+run-timed : (e : EndState) (h : History) (inputs : List EndInput) → Holds e h → IsTimed e → AskForWindows inputs → IsTimed (after_inputs e inputs)
+run-timed e h [] k t a = t
+run-timed e h (i ∷ inputs) k t a =
+    let named = first_named i inputs a in
+    run-timed (end_step e i).0 _ inputs (step-Holds e h i k) (step-phase e i e.phase named.0 k.ordered t) named.1
+
+-- from a new end on
+pub new-timed : (w : ℕ) (inputs : List EndInput) → IsWindow w → AskForWindows inputs → IsTimed (after_inputs (new_end w) inputs)
+new-timed w inputs i a =
+    run-timed (new_end w) no_history inputs (new-Holds w []) (record {
+      own_window = i;
+      peer_window = (omega arith, omega arith);
+      timer = omega arith;
+      tries = omega arith;
+      session = refl;
+    }) a
+
+-- ## What follows for each law
+
+pub none-runs : (s : Session) → IsOrdered s → (s.next ≡ s.acked) × (s.peer_busy ≡ false) → runs_timer s ≡ false
+none-runs s o q = let a = q.0 in let b = q.1 in grind (arith, common_steps)
+
+pub empty-runs : (s : Session) → IsOrdered s → length s.out ≡ s.acked → runs_timer s ≡ false
+empty-runs s o q =
+    let n = o.next in let r = o.reached in let l = o.offered in
+    let acked = s.acked in
+    grind (arith, common_steps)
+
+pub up-session : (p : LinkState) (s : Session) (timer : ℕ) → p ≡ Up → IsTimedIn p s timer →
+    ((1 ≤ s.window) × (s.window ≤ 4)) × (runs_timer s ≡ false → timer ≡ 0)
+up-session Up s timer q i = i
+up-session Down s timer q i = cc
+up-session Waiting s timer q i = cc

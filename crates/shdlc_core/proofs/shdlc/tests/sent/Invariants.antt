@@ -1,0 +1,5 @@
+use Rattle.shdlc_core.specs.Kept.{frames_left}
+use Rattle.shdlc_core.proofs.shdlc.tests.sent.Given as goal
+
+abbrev pub decreases-loop-control : goal.decreases-loop-control
+decreases-loop-control l = frames_left l.end

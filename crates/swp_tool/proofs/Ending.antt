@@ -1,0 +1,99 @@
+-- What a replay that ends has written.
+use Rattle.std.proofs.Common.{◌≡◌, ℕ, ◌+◌, Bool, true, false, List, [], ◌∷◌, ◌++◌, length, take, refl, sym, ap, ◌∙◌, append_assoc, subst, ◌⊎◌}
+use Rattle.std.proofs.Common.{inl, inr}
+use Rattle.std.specs.Prelude.{Option, Some, None, Result, Ok, Err, OnOk, OnErr, IfErr, is_err}
+use Rattle.std.specs.Str.Lines.{lines}
+use Rattle.std.proofs.lemmas.List.{append-nil}
+use Rattle.std.proofs.Math.Seq.{take-append-add}
+use Rattle.trace_model.specs.declared.line.Header.{Header}
+use Rattle.trace_model.specs.declared.line.Line.{Line}
+use Rattle.swp_tool.specs.declared.replay.Halt.{Halt}
+use Rattle.swp_tool.specs.declared.replay.Halt.TheVariants as halt
+use Rattle.swp_tool.specs.declared.pieces.Pieces.{Pieces}
+use Rattle.swp_tool.specs.declared.status.Status.{Status}
+use Rattle.swp_tool.specs.declared.status.Status.TheVariants as status
+use Rattle.swp_tool.specs.Schedules.{Stop, AtFault, Too_many, Schedule, nothing_read, with_lines, ended, schedule_of}
+use Rattle.swp_tool.specs.Transcripts.{IsTextOf, IsTranscript}
+use Rattle.swp_tool.specs.Pieces.{HasRead, IsFrontTranscript, IsCompleteTranscript, StopsAt, Halts, HaltsAtEnd, schedule_read, schedule_so_far}
+use Rattle.swp_tool.specs.Runs.{status_of, Appends, IsSomeTranscript, IsFrontOfTranscript, Replayed, IsUnderWay}
+use Rattle.swp_tool.proofs.Reading.{front_so_far, played_transcript}
+
+-- the end of a schedule adds no line
+ended_same : (s : Schedule) → ((ended s).header ≡ s.header) × ((ended s).lines ≡ s.lines)
+ended_same s = go s.stop s.header
+  where
+    go : (o : Option Stop) (h : Option Header) → ((ended (record s { stop = o; header = h })).header ≡ h) × ((ended (record s { stop = o; header = h })).lines ≡ s.lines)
+    go None None = (refl, refl)
+    go None (Some h) = (refl, refl)
+    go (Some x) h = (refl, refl)
+
+-- the transcript of a schedule that stops is that of all its lines
+stops_front : (bytes : List ℕ) (why : Stop) (count : ℕ) (text : List ℕ) → StopsAt bytes why count text → IsFrontTranscript bytes text
+stops_front bytes why count text h =
+    let s = schedule_read bytes in
+    let same = ended_same s in
+    let P : Option Header → Type 0 = λ x. IsTextOf x s.lines text in
+    let Q : List Line → Type 0 = λ x. IsTextOf (ended s).header x text in
+    record { front = lines bytes; back = []; lines_are = sym (append-nil (lines bytes)); transcript = subst P same.0 (subst Q same.1 h.transcript) }
+
+halts_front : (why : Halt) (count : ℕ) (bytes text rest : List ℕ) → Halts why count bytes text → IsFrontTranscript (bytes ++ rest) text
+halts_front (halt.Fault f) count bytes text rest h = stops_front (bytes ++ rest) (AtFault f) (count + 1) text (h rest)
+halts_front halt.TooMany count bytes text rest h = stops_front (bytes ++ rest) Too_many (count + 1) text (h rest)
+halts_front halt.NoMemory count bytes text rest h = h rest
+
+halts_end_front : (why : Halt) (count : ℕ) (bytes text : List ℕ) → HaltsAtEnd why count bytes text → IsFrontTranscript bytes text
+halts_end_front (halt.Fault f) count bytes text h = stops_front bytes (AtFault f) (count + 1) text h
+halts_end_front halt.TooMany count bytes text h = absurd h
+halts_end_front halt.NoMemory count bytes text h = h
+
+-- the status of a halt says what was written
+pub halted_replayed : (why : Halt) (count : ℕ) (bytes text rest before after : List ℕ) → Halts why count bytes text → after ≡ before ++ text
+    → Replayed (status_of why count) (bytes ++ rest) rest before after
+halted_replayed (halt.Fault f) count bytes text rest before after h is = (text, h rest, is)
+halted_replayed halt.TooMany count bytes text rest before after h is = (text, h rest, is)
+halted_replayed halt.NoMemory count bytes text rest before after h is = (text, h rest, is)
+
+pub halted_at_end : (why : Halt) (count : ℕ) (bytes text before after : List ℕ) → HaltsAtEnd why count bytes text → after ≡ before ++ text
+    → Replayed (status_of why count) bytes [] before after
+halted_at_end (halt.Fault f) count bytes text before after h is = (text, h, is)
+halted_at_end halt.TooMany count bytes text before after h is = absurd h
+halted_at_end halt.NoMemory count bytes text before after h is = (text, h, is)
+
+-- ## Fronts of transcripts
+
+-- an error, where one is
+pub of_err : {T E : Type 0} (P : Type 0) (r : Result T E) (b : Bool) → b ≡ is_err r → b ≡ true → OnErr r P → P
+of_err P (Ok x) b is holds h = absurd (cc)
+of_err P (Err e) b is holds h = h
+
+pub of_ok : {T E : Type 0} (P : Type 0) (r : Result T E) (b : Bool) → b ≡ is_err r → b ≡ false → OnOk r P → P
+of_ok P (Ok x) b is holds h = h
+of_ok P (Err e) b is holds h = absurd (cc)
+
+-- a front of what was gathered stands behind what was written
+pub cut_off : (input text items before written after : List ℕ) → IsSomeTranscript input (text ++ items) → written ≡ before ++ text
+    → (n : ℕ) × (after ≡ written ++ take n items) → Appends (IsFrontOfTranscript input) before after
+cut_off input text items before written after some is front = (
+  text ++ take front.0 items,
+  (text ++ items, length text + front.0, some, sym (take-append-add text items front.0)),
+  front.1 ∙ (ap (λ l. l ++ take front.0 items) is ∙ append_assoc before text (take front.0 items)),
+)
+
+-- what was gathered of a piece is the transcript of some of the first lines, whether the replay goes on or not
+pub fed_front : (p q : Pieces) (r : Result (Unit {0}) Halt) (piece rest bytes text : List ℕ)
+    → OnOk r ((b w : List ℕ) → HasRead p b w → HasRead q (b ++ piece) w)
+    → IfErr r (λ why. (b w : List ℕ) → HasRead p b w → Halts why q.replay.count (b ++ piece) (w ++ q.replay.text.items))
+    → HasRead p bytes text → IsFrontTranscript ((bytes ++ piece) ++ rest) (text ++ q.replay.text.items)
+fed_front p q (Ok x) piece rest bytes text read halts h =
+    let k = read bytes text h in
+    front_so_far q (bytes ++ piece) text rest (text ++ q.replay.text.items) k (played_transcript q.replay (schedule_so_far k.whole) text k.played)
+fed_front p q (Err why) piece rest bytes text read halts h =
+    halts_front why q.replay.count (bytes ++ piece) (text ++ q.replay.text.items) rest (halts bytes text h)
+
+-- the same at the end
+pub finished_front : (p q : Pieces) (r : Result (Unit {0}) Halt) (bytes text : List ℕ)
+    → OnOk r ((b w : List ℕ) → HasRead p b w → IsCompleteTranscript b (w ++ q.replay.text.items))
+    → IfErr r (λ why. (b w : List ℕ) → HasRead p b w → HaltsAtEnd why q.replay.count b (w ++ q.replay.text.items))
+    → HasRead p bytes text → IsSomeTranscript bytes (text ++ q.replay.text.items)
+finished_front p q (Ok x) bytes text done halts h = inr (done bytes text h)
+finished_front p q (Err why) bytes text done halts h = inl (halts_end_front why q.replay.count bytes (text ++ q.replay.text.items) (halts bytes text h))

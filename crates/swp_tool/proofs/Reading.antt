@@ -1,0 +1,343 @@
+-- What a piece of a schedule adds to what was read before it.
+use Rattle.std.proofs.Common.{◌≡◌, ℕ, suc, ◌+◌, ◌-◌, ◌<◌, ◌≤◌, Bool, true, false, cond, eqb, ltb, List, [], ◌∷◌, ◌++◌, length, map, take, drop, refl, sym, ap, ◌∙◌, append_assoc, arith, subst, ◌⊎◌, ⊎_elim}
+use Rattle.std.specs.Prelude.{Option, Some, None, Result, Ok, Err}
+use Rattle.std.specs.List.{flat_map, fold, All}
+use Rattle.std.specs.Str.Lines.{lines, strip_carriage_return}
+use Rattle.std.proofs.lemmas.List.{append-nil}
+use Rattle.std.proofs.lemmas.Grind.{common_steps, fold-append}
+use Rattle.trace_model.specs.declared.line.Header.{Header}
+use Rattle.trace_model.specs.declared.line.Line.{Line}
+use Rattle.world.specs.declared.world_steps.World.{World}
+use Rattle.schedule_text.specs.declared.fault.LineFault.{LineFault}
+use Rattle.schedule_text.specs.declared.fault.LineFault.TheVariants as fault
+use Rattle.schedule_text.specs.declared.read.Read.{Read}
+use Rattle.schedule_text.specs.declared.read.Read.TheVariants as read
+use Rattle.schedule_text.specs.Lines.{line_of, by_words}
+use Rattle.schedule_text.specs.Words.{words}
+use Rattle.swp_tool.specs.declared.replay.Replay.{Replay}
+use Rattle.swp_tool.specs.declared.replay.Halt.{Halt}
+use Rattle.swp_tool.specs.declared.replay.Halt.TheVariants as halt
+use Rattle.swp_tool.specs.declared.pieces.Pieces.{Pieces}
+use Rattle.swp_tool.specs.Schedules.{Stop, AtFault, Too_many, Schedule, nothing_read, with_said, with_line, with_lines, ended, schedule_of}
+use Rattle.swp_tool.specs.Transcripts.{IsTranscriptOf, IsTextOf, IsTranscript, done_line}
+use Rattle.swp_tool.specs.Replays.{Runs, IsAt, HasPlayed, HaltsAt}
+use Rattle.swp_tool.specs.Pieces.{LacksLineFeed, ended_line, AllLackLineFeed, schedule_so_far, HasRead, IsReading, IsFrontTranscript, StopsAt, Halts, HaltsAtEnd, schedule_read, IsCompleteTranscript}
+use Rattle.swp_tool.proofs.Cutting.{lines-ended, lines-all_ended, FirstLine, long_line, some_line, lacks_more, lines-lacks}
+
+-- ## Schedules
+
+with_lines-append : (s : Schedule) (a b : List (List ℕ)) → with_lines s (a ++ b) ≡ with_lines (with_lines s a) b
+with_lines-append s a b = fold-append with_line s a b
+
+-- behind a line at which it stopped nothing is read
+with_line-stopped : (s : Schedule) (why : Stop) (bytes : List ℕ) → s.stop ≡ Some why → with_line s bytes ≡ s
+with_line-stopped s why bytes stop = go s.stop stop
+  where
+    go : (o : Option Stop) → o ≡ Some why → with_line (record s { stop = o }) bytes ≡ record s { stop = o }
+    go (Some x) is = refl
+    go None is = absurd (cc)
+
+pub with_lines-stopped : (s : Schedule) (why : Stop) (ls : List (List ℕ)) → s.stop ≡ Some why → with_lines s ls ≡ s
+with_lines-stopped s why [] stop = refl
+with_lines-stopped s why (l ∷ ls) stop = ap (λ x. with_lines x ls) (with_line-stopped s why l stop) ∙ with_lines-stopped s why ls stop
+
+ended-stopped : (s : Schedule) (why : Stop) → s.stop ≡ Some why → ended s ≡ s
+ended-stopped s why stop = go s.stop stop
+  where
+    go : (o : Option Stop) → o ≡ Some why → ended (record s { stop = o }) ≡ record s { stop = o }
+    go (Some x) is = refl
+    go None is = absurd (cc)
+
+-- a line at which a schedule stops adds nothing but itself
+pub record StopsThere (s s' : Schedule) : Type 0 where
+  pub header_is : s'.header ≡ s.header
+  pub lines_are : s'.lines ≡ s.lines
+  pub count_is : s'.count ≡ s.count + 1
+
+pub stops_there : (s : Schedule) (why : Stop) (bytes : List ℕ) → s.stop ≡ None → (with_line s bytes).stop ≡ Some why → StopsThere s (with_line s bytes)
+stops_there s why bytes running stop =
+    (let P : Option Stop → Type 0 = λ o. (with_line (record s { stop = o }) bytes).stop ≡ Some why → StopsThere s (with_line (record s { stop = o }) bytes) in
+    subst P (sym running) (go (eqb s.count 20000) (line_of s.header bytes))) stop
+  where
+    go : (b : Bool) (r : Result Read LineFault)
+        → (cond b (record s { count = s.count + 1; stop = Some Too_many }) (with_said (record s { stop = None }) r)).stop ≡ Some why
+        → StopsThere s (cond b (record s { count = s.count + 1; stop = Some Too_many }) (with_said (record s { stop = None }) r))
+    go true r is = record { header_is = refl; lines_are = refl; count_is = refl }
+    go false (Err f) is = record { header_is = refl; lines_are = refl; count_is = refl }
+    go false (Ok read.Skip) is = absurd (cc)
+    go false (Ok (read.Header header)) is = absurd (cc)
+    go false (Ok (read.Line line)) is = absurd (cc)
+    go false (Ok read.NoMemory) is = absurd (cc)
+
+-- a text stays the transcript where nothing is added
+transcript_same : (s s' : Schedule) (text : List ℕ) → StopsThere s s' → IsTranscript s text → IsTranscript s' text
+transcript_same s s' text there h =
+    let P : Option Header → Type 0 = λ o. IsTextOf o s'.lines text in
+    let Q : List Line → Type 0 = λ l. IsTextOf s.header l text in
+    subst P (sym there.header_is) (subst Q (sym there.lines_are) h)
+
+-- what a replay has gathered is the transcript of what it read
+pub played_transcript : (r : Replay) (s : Schedule) (written : List ℕ) → HasPlayed r s written → IsTranscript s (written ++ r.text.items)
+played_transcript r s written h = go r.world s.header h.at
+  where
+    go : (w : Option World) (o : Option Header) → IsAt w o s.lines (written ++ r.text.items) → IsTextOf o s.lines (written ++ r.text.items)
+    go None None at = at.1
+    go (Some w) (Some header) at = record { history = at.history; follows = at.stands.follows; legal = at.stands.legal; text_is = at.text_is }
+    go None (Some header) at = absurd at
+    go (Some w) None at = absurd at
+
+-- ## Pieces
+
+-- how the lines go on behind what was read
+pub lines_on : (p : Pieces) (bytes written rest : List ℕ) → (h : HasRead p bytes written) → lines (bytes ++ rest) ≡ map strip_carriage_return h.whole ++ lines (p.partial.items ++ rest)
+lines_on p bytes written rest h =
+    ap (λ b. lines (b ++ rest)) h.cut
+    ∙ (ap lines (append_assoc (flat_map ended_line h.whole) p.partial.items rest) ∙ lines-all_ended h.whole (p.partial.items ++ rest) h.lack)
+
+-- However the bytes go on, their schedule stops at the next line.
+pub stops_next : (p : Pieces) (bytes written rest : List ℕ) (why : Stop) (text : List ℕ) (h : HasRead p bytes written) (line : List ℕ) (more : List (List ℕ))
+    → lines (p.partial.items ++ rest) ≡ line ∷ more → (with_line (schedule_so_far h.whole) line).stop ≡ Some why
+    → IsTranscript (schedule_so_far h.whole) text → StopsAt (bytes ++ rest) why (p.replay.count + 1) text
+stops_next p bytes written rest why text h line more next stop transcript =
+    let s = schedule_so_far h.whole in
+    let s' = with_line s line in
+    let is : schedule_of (bytes ++ rest) ≡ s' =
+    ap (λ l. ended (with_lines nothing_read l)) (lines_on p bytes written rest h ∙ ap (λ l. map strip_carriage_return h.whole ++ l) next)
+    ∙ (ap ended (with_lines-append nothing_read (map strip_carriage_return h.whole) (line ∷ more) ∙ with_lines-stopped s' why more stop) ∙ ended-stopped s' why stop) in
+    let there = stops_there s why line h.played.running stop in
+    let P : Schedule → Type 0 = λ x. IsTranscript x text in
+    record {
+      stop = ap (λ x. x.stop) is ∙ stop;
+      count_is = ap (λ x. x.count) is ∙ (there.count_is ∙ ap (λ n. n + 1) (sym h.played.count_is));
+      transcript = subst P (sym is) (transcript_same s s' text there transcript);
+    }
+
+-- the transcript of the whole lines so far is that of some of the first lines
+pub front_so_far : (p : Pieces) (bytes written rest text : List ℕ) (h : HasRead p bytes written) → IsTranscript (schedule_so_far h.whole) text → IsFrontTranscript (bytes ++ rest) text
+front_so_far p bytes written rest text h transcript =
+    record { front = map strip_carriage_return h.whole; back = lines (p.partial.items ++ rest); lines_are = lines_on p bytes written rest h; transcript = transcript }
+
+-- what holds however the bytes go on holds behind more of them
+pub halts_more : (why : Halt) (count : ℕ) (bytes more text : List ℕ) → Halts why count bytes text → Halts why count (bytes ++ more) text
+halts_more (halt.Fault f) count bytes more text h = λ rest. (let P : List ℕ → Type 0 = λ b. StopsAt b (AtFault f) (count + 1) text in subst P (sym (append_assoc bytes more rest)) (h (more ++ rest)))
+halts_more halt.TooMany count bytes more text h = λ rest. (let P : List ℕ → Type 0 = λ b. StopsAt b Too_many (count + 1) text in subst P (sym (append_assoc bytes more rest)) (h (more ++ rest)))
+halts_more halt.NoMemory count bytes more text h = λ rest. (let P : List ℕ → Type 0 = λ b. IsFrontTranscript b text in subst P (sym (append_assoc bytes more rest)) (h (more ++ rest)))
+
+-- ## A line too many, a line too long
+
+pub halts_too_many : (p : Pieces) (bytes written : List ℕ) (byte : ℕ) → IsReading p → p.replay.count ≡ 20000 → HasRead p bytes written
+    → Halts halt.TooMany p.replay.count (bytes ++ byte ∷ []) (written ++ p.replay.text.items)
+halts_too_many p bytes written byte reading full h = λ rest.
+    let line = some_line byte rest in
+    let none : p.partial.items ≡ [] = no_partial p.partial.items (λ some. reading.begun some) in
+    let next : lines (p.partial.items ++ byte ∷ rest) ≡ line.line ∷ line.more = ap (λ l. lines (l ++ byte ∷ rest)) none ∙ line.lines_are in
+    let s = schedule_so_far h.whole in
+    let stop : (with_line s line.line).stop ≡ Some Too_many = at_limit s line.line h.played.running (sym h.played.count_is ∙ full) in
+    let P : List ℕ → Type 0 = λ b. StopsAt b Too_many (p.replay.count + 1) (written ++ p.replay.text.items) in
+    subst P (sym (append_assoc bytes (byte ∷ []) rest))
+    (stops_next p bytes written (byte ∷ rest) Too_many (written ++ p.replay.text.items) h line.line line.more next stop (played_transcript p.replay s written h.played))
+  where
+    no_partial : (l : List ℕ) → (0 < length l → p.replay.count < 20000) → l ≡ []
+    no_partial [] begun = refl
+    no_partial (x ∷ l) begun = absurd (let low = begun (omega arith) in omega arith)
+
+    at_limit : (s : Schedule) (line : List ℕ) → s.stop ≡ None → s.count ≡ 20000 → (with_line s line).stop ≡ Some Too_many
+    at_limit s line running count =
+        let P : Option Stop → Type 0 = λ o. (with_line (record s { stop = o }) line).stop ≡ Some Too_many in
+        subst P (sym running)
+        (ap (λ b. (cond b (record s { count = s.count + 1; stop = Some Too_many }) (with_said (record s { stop = None }) (line_of s.header line))).stop) (ap (λ n. eqb n 20000) count))
+
+pub halts_too_long : (p : Pieces) (bytes written : List ℕ) (byte : ℕ) → p.replay.count < 20000 → 9000 < length p.partial.items → (eqb byte 10 ≡ false) → HasRead p bytes written
+    → Halts (halt.Fault fault.TooLong) p.replay.count (bytes ++ byte ∷ []) (written ++ p.replay.text.items)
+halts_too_long p bytes written byte room long other h = λ rest.
+    let x = p.partial.items ++ byte ∷ [] in
+    let line = long_line x rest 9000 (lacks_more p.partial.items byte h.partial_lacks other) (let e : length x ≡ length p.partial.items + 1 = Rattle.std.proofs.Common.length-append p.partial.items (byte ∷ []) in omega arith) in
+    let next : lines (p.partial.items ++ byte ∷ rest) ≡ line.line ∷ line.more = ap lines (sym (append_assoc p.partial.items (byte ∷ []) rest)) ∙ line.lines_are in
+    let s = schedule_so_far h.whole in
+    let stop : (with_line s line.line).stop ≡ Some (AtFault fault.TooLong) = too_long s line.line h.played.running (omega (arith, h.played.count_is)) line.holds in
+    let P : List ℕ → Type 0 = λ b. StopsAt b (AtFault fault.TooLong) (p.replay.count + 1) (written ++ p.replay.text.items) in
+    subst P (sym (append_assoc bytes (byte ∷ []) rest))
+    (stops_next p bytes written (byte ∷ rest) (AtFault fault.TooLong) (written ++ p.replay.text.items) h line.line line.more next stop (played_transcript p.replay s written h.played))
+  where
+    too_long : (s : Schedule) (line : List ℕ) → s.stop ≡ None → s.count < 20000 → 9000 < length line → (with_line s line).stop ≡ Some (AtFault fault.TooLong)
+    too_long s line running room' long' =
+        let P : Option Stop → Type 0 = λ o. (with_line (record s { stop = o }) line).stop ≡ Some (AtFault fault.TooLong) in
+        let below : eqb s.count 20000 ≡ false = grind (arith, common_steps) in
+        let fault_is : line_of s.header line ≡ Err fault.TooLong =
+        ap (λ b. cond b (Err fault.TooLong) (by_words s.header (words line))) (let l : ltb 9000 (length line) ≡ true = grind (arith, common_steps) in l) in
+        subst P (sym running)
+        (ap (λ b. (cond b (record s { count = s.count + 1; stop = Some Too_many }) (with_said (record s { stop = None }) (line_of s.header line))).stop) below
+        ∙ ap (λ r. (with_said (record s { stop = None }) r).stop) fault_is)
+
+-- ## A line that has ended
+
+flat_ended-push : (whole : List (List ℕ)) (line : List ℕ) → flat_map ended_line (whole ++ line ∷ []) ≡ flat_map ended_line whole ++ ended_line line
+flat_ended-push [] line = append-nil (ended_line line)
+flat_ended-push (x ∷ whole) line = ap (λ l. ended_line x ++ l) (flat_ended-push whole line) ∙ sym (append_assoc (ended_line x) (flat_map ended_line whole) (ended_line line))
+
+lack-push : (whole : List (List ℕ)) (line : List ℕ) → AllLackLineFeed whole → LacksLineFeed line → AllLackLineFeed (whole ++ line ∷ [])
+lack-push [] line lack this = (this, tt)
+lack-push (x ∷ whole) line lack this = (lack.0, lack-push whole line lack.1 this)
+
+strip-push : (whole : List (List ℕ)) (line : List ℕ) → map strip_carriage_return (whole ++ line ∷ []) ≡ map strip_carriage_return whole ++ strip_carriage_return line ∷ []
+strip-push [] line = refl
+strip-push (x ∷ whole) line = ap (λ l. strip_carriage_return x ∷ l) (strip-push whole line)
+
+so_far-push : (whole : List (List ℕ)) (line : List ℕ) → schedule_so_far (whole ++ line ∷ []) ≡ with_line (schedule_so_far whole) (strip_carriage_return line)
+so_far-push whole line =
+    ap (λ l. with_lines nothing_read l) (strip-push whole line) ∙ with_lines-append nothing_read (map strip_carriage_return whole) (strip_carriage_return line ∷ [])
+
+-- the line was played
+pub read_line_ended : (p q : Pieces) (bytes written : List ℕ) → HasRead p bytes written → q.partial.items ≡ []
+    → ((s : Schedule) (w : List ℕ) → HasPlayed p.replay s w → HasPlayed q.replay (with_line s (strip_carriage_return p.partial.items)) w)
+    → HasRead q (bytes ++ 10 ∷ []) written
+read_line_ended p q bytes written h none played =
+    let whole = h.whole ++ p.partial.items ∷ [] in
+    let P : Schedule → Type 0 = λ s. HasPlayed q.replay s written in
+    record {
+      whole = whole;
+      cut = ap (λ b. b ++ 10 ∷ []) h.cut
+          ∙ (append_assoc (flat_map ended_line h.whole) p.partial.items (10 ∷ [])
+          ∙ (sym (flat_ended-push h.whole p.partial.items) ∙ (sym (append-nil (flat_map ended_line whole)) ∙ ap (λ l. flat_map ended_line whole ++ l) (sym none))));
+      lack = lack-push h.whole p.partial.items h.lack h.partial_lacks;
+      partial_lacks = (let Q : List ℕ → Type 0 = λ l. LacksLineFeed l in subst Q (sym none) (λ k d within. absurd (omega arith)));
+      played = subst P (sym (so_far-push h.whole p.partial.items)) (played (schedule_so_far h.whole) written h.played);
+    }
+
+-- the line was not played: it has a fault, or there was no memory
+pub halts_at_line : (p : Pieces) (why : Halt) (count : ℕ) (now bytes written : List ℕ) → HasRead p bytes written → count ≡ p.replay.count → now ≡ p.replay.text.items
+    → ((s : Schedule) (w : List ℕ) → HasPlayed p.replay s w → HaltsAt why s (strip_carriage_return p.partial.items))
+    → Halts why count (bytes ++ 10 ∷ []) (written ++ now)
+halts_at_line p why count now bytes written h count_is now_is halts =
+    let P : ℕ → Type 0 = λ n. Halts why n (bytes ++ 10 ∷ []) (written ++ now) in
+    let Q : List ℕ → Type 0 = λ l. Halts why p.replay.count (bytes ++ 10 ∷ []) (written ++ l) in
+    subst P (sym count_is) (subst Q (sym now_is) (go why (halts (schedule_so_far h.whole) written h.played)))
+  where
+    text : List ℕ
+    text = written ++ p.replay.text.items
+
+    transcript : IsTranscript (schedule_so_far h.whole) text
+    transcript = played_transcript p.replay (schedule_so_far h.whole) written h.played
+
+    go : (w : Halt) → HaltsAt w (schedule_so_far h.whole) (strip_carriage_return p.partial.items) → Halts w p.replay.count (bytes ++ 10 ∷ []) text
+    go (halt.Fault f) stop = λ rest.
+        let R : List ℕ → Type 0 = λ b. StopsAt b (AtFault f) (p.replay.count + 1) text in
+        subst R (sym (append_assoc bytes (10 ∷ []) rest))
+        (stops_next p bytes written (10 ∷ rest) (AtFault f) text h (strip_carriage_return p.partial.items) (lines rest) (lines-ended p.partial.items rest h.partial_lacks) stop transcript)
+    go halt.TooMany never = absurd never
+    go halt.NoMemory any = λ rest.
+        let R : List ℕ → Type 0 = λ b. IsFrontTranscript b text in
+        subst R (sym (append_assoc bytes (10 ∷ []) rest)) (front_so_far p bytes written (10 ∷ rest) text h transcript)
+
+-- ## The end of the bytes
+
+end_of : (bytes : List ℕ) (P : List ℕ → Type 0) → P (bytes ++ []) → P bytes
+end_of bytes P h = subst P (append-nil bytes) h
+
+-- no line is under way
+pub played_all : (p : Pieces) (bytes written : List ℕ) → HasRead p bytes written → p.partial.items ≡ [] → HasPlayed p.replay (schedule_read bytes) written
+played_all p bytes written h none =
+    let P : Schedule → Type 0 = λ s. HasPlayed p.replay s written in
+    let is : lines bytes ≡ map strip_carriage_return h.whole =
+    end_of bytes (λ b. lines b ≡ map strip_carriage_return h.whole ++ lines (p.partial.items ++ [])) (lines_on p bytes written [] h)
+    ∙ (ap (λ l. map strip_carriage_return h.whole ++ lines (l ++ [])) none ∙ append-nil (map strip_carriage_return h.whole)) in
+    subst P (ap (λ l. with_lines nothing_read l) (sym is)) h.played
+
+rest_is : (p : Pieces) (bytes written : List ℕ) (h : HasRead p bytes written) → 0 < length p.partial.items → lines (p.partial.items ++ []) ≡ p.partial.items ∷ []
+rest_is p bytes written h some = ap lines (append-nil p.partial.items) ∙ lines-lacks p.partial.items h.partial_lacks some
+
+-- the line under way was played
+pub played_rest : (p : Pieces) (r : Replay) (bytes written : List ℕ) → HasRead p bytes written → 0 < length p.partial.items
+    → ((s : Schedule) (w : List ℕ) → HasPlayed p.replay s w → HasPlayed r (with_line s p.partial.items) w) → HasPlayed r (schedule_read bytes) written
+played_rest p r bytes written h some played =
+    let P : Schedule → Type 0 = λ s. HasPlayed r s written in
+    let is : lines bytes ≡ map strip_carriage_return h.whole ++ p.partial.items ∷ [] =
+    end_of bytes (λ b. lines b ≡ map strip_carriage_return h.whole ++ lines (p.partial.items ++ [])) (lines_on p bytes written [] h)
+    ∙ ap (λ l. map strip_carriage_return h.whole ++ l) (rest_is p bytes written h some) in
+    subst P (sym (ap (λ l. with_lines nothing_read l) is ∙ with_lines-append nothing_read (map strip_carriage_return h.whole) (p.partial.items ∷ [])))
+    (played (schedule_so_far h.whole) written h.played)
+
+-- the line under way was not played
+pub halts_at_rest : (p : Pieces) (why : Halt) (count : ℕ) (now bytes written : List ℕ) → HasRead p bytes written → 0 < length p.partial.items → count ≡ p.replay.count → now ≡ p.replay.text.items
+    → ((s : Schedule) (w : List ℕ) → HasPlayed p.replay s w → HaltsAt why s p.partial.items)
+    → HaltsAtEnd why count bytes (written ++ now)
+halts_at_rest p why count now bytes written h some count_is now_is halts =
+    let P : ℕ → Type 0 = λ n. HaltsAtEnd why n bytes (written ++ now) in
+    let Q : List ℕ → Type 0 = λ l. HaltsAtEnd why p.replay.count bytes (written ++ l) in
+    subst P (sym count_is) (subst Q (sym now_is) (go why (halts (schedule_so_far h.whole) written h.played)))
+  where
+    text : List ℕ
+    text = written ++ p.replay.text.items
+
+    transcript : IsTranscript (schedule_so_far h.whole) text
+    transcript = played_transcript p.replay (schedule_so_far h.whole) written h.played
+
+    go : (w : Halt) → HaltsAt w (schedule_so_far h.whole) p.partial.items → HaltsAtEnd w p.replay.count bytes text
+    go (halt.Fault f) stop =
+        end_of bytes (λ b. StopsAt b (AtFault f) (p.replay.count + 1) text)
+        (stops_next p bytes written [] (AtFault f) text h p.partial.items [] (rest_is p bytes written h some) stop transcript)
+    go halt.TooMany never = never
+    go halt.NoMemory any = end_of bytes (λ b. IsFrontTranscript b text) (front_so_far p bytes written [] text h transcript)
+
+-- the last line was gathered
+pub closed : (r : Replay) (bytes written text : List ℕ) → HasPlayed r (schedule_read bytes) written → (r.world ≡ None → ⊥) → text ≡ r.text.items ++ done_line r.count
+    → IsCompleteTranscript bytes (written ++ text)
+closed r bytes written text h up is =
+    let s = schedule_read bytes in
+    let same : schedule_of bytes ≡ s = go s.stop h.running s.header r.world h.at up in
+    let P : Schedule → Type 0 = λ x. IsTranscript x (written ++ r.text.items) in
+    record {
+      running = ap (λ x. x.stop) same ∙ h.running;
+      lines_text = written ++ r.text.items;
+      transcript = subst P (sym same) (played_transcript r s written h);
+      text_is = ap (λ l. written ++ l) is ∙ (sym (append_assoc written r.text.items (done_line r.count))
+          ∙ ap (λ n. (written ++ r.text.items) ++ done_line n) (h.count_is ∙ ap (λ x. x.count) (sym same)));
+    }
+  where
+    go : (o : Option Stop) → o ≡ None → (header : Option Header) (w : Option World) → IsAt w header (schedule_read bytes).lines (written ++ r.text.items) → (w ≡ None → ⊥)
+        → ended (record (schedule_read bytes) { stop = o; header = header }) ≡ record (schedule_read bytes) { stop = o; header = header }
+    go None is' (Some x) w at up' = refl
+    go None is' None None at up' = absurd (up' refl)
+    go None is' None (Some w) at up' = absurd at
+    go (Some x) is' header w at up' = absurd (cc)
+
+no_world : (header : Option Header) (ls : List Line) (text : List ℕ) → IsAt None header ls text → (header ≡ None) × (text ≡ [])
+no_world None ls text at = (refl, at.1)
+no_world (Some x) ls text at = absurd at
+
+ended_no_header : (s : Schedule) → s.stop ≡ None → s.header ≡ None → ended s ≡ record s { count = s.count + 1; stop = Some (AtFault fault.Order) }
+ended_no_header s running none =
+    let P : Option Stop → Type 0 = λ o. ended (record s { stop = o }) ≡ record s { count = s.count + 1; stop = Some (AtFault fault.Order) } in
+    let Q : Option Header → Type 0 = λ x. ended (record s { stop = None; header = x }) ≡ record s { header = x; count = s.count + 1; stop = Some (AtFault fault.Order) } in
+    subst P (sym running) (subst Q (sym none) refl)
+
+-- without a header the line after the last is out of order
+pub no_header : (r : Replay) (bytes written : List ℕ) → HasPlayed r (schedule_read bytes) written → r.world ≡ None
+    → StopsAt bytes (AtFault fault.Order) (r.count + 1) (written ++ r.text.items)
+no_header r bytes written h none =
+    let s = schedule_read bytes in
+    let text = written ++ r.text.items in
+    let P : Option World → Type 0 = λ w. IsAt w s.header s.lines text in
+    let nothing = no_world s.header s.lines text (subst P none h.at) in
+    let is : schedule_of bytes ≡ record s { count = s.count + 1; stop = Some (AtFault fault.Order) } = ended_no_header s h.running nothing.0 in
+    let Q : Schedule → Type 0 = λ x. IsTranscript x text in
+    let R : Option Header → Type 0 = λ x. IsTextOf x s.lines text in
+    record {
+      stop = ap (λ x. x.stop) is;
+      count_is = ap (λ x. x.count) is ∙ ap (λ n. n + 1) (sym h.count_is);
+      transcript = subst Q (sym is) (subst R (sym nothing.0) nothing.1);
+    }
+
+-- without memory the transcript of all lines stands
+pub no_memory_at_end : (r : Replay) (bytes written : List ℕ) → HasPlayed r (schedule_read bytes) written → IsFrontTranscript bytes (written ++ r.text.items)
+no_memory_at_end r bytes written h =
+    record { front = lines bytes; back = []; lines_are = sym (append-nil (lines bytes)); transcript = played_transcript r (schedule_read bytes) written h }
+
+pub halts_closing : (r : Replay) (why : Halt) (count : ℕ) (now bytes written : List ℕ) → HasPlayed r (schedule_read bytes) written → count ≡ r.count → now ≡ r.text.items
+    → (why ≡ halt.NoMemory) ⊎ ((why ≡ halt.Fault fault.Order) × (r.world ≡ None)) → HaltsAtEnd why count bytes (written ++ now)
+halts_closing r why count now bytes written h count_is now_is cause =
+    let P : ℕ → Type 0 = λ n. HaltsAtEnd why n bytes (written ++ now) in
+    let Q : List ℕ → Type 0 = λ l. HaltsAtEnd why r.count bytes (written ++ l) in
+    let R : Halt → Type 0 = λ w. HaltsAtEnd w r.count bytes (written ++ r.text.items) in
+    subst P (sym count_is) (subst Q (sym now_is)
+    (⊎_elim (λ memory. subst R (sym memory) (no_memory_at_end r bytes written h)) (λ order. subst R (sym order.0) (no_header r bytes written h order.1)) cause))

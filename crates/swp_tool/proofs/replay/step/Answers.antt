@@ -1,0 +1,43 @@
+-- The text of the line and of what it caused stands behind that of the history before it.
+use Rattle.std.proofs.Common.{◌≡◌, ◌+◌, ◌≤◌, ◌++◌, ◌∷◌, [], List, ℕ, length, ap, sym, ◌∙◌, append_assoc, subst, arith, length-append}
+use Rattle.trace_model.specs.declared.entry.Entry.TheVariants as entry
+use Rattle.trace_model.specs.declared.line.Header.{Header}
+use Rattle.schedule_text.specs.Entries.{entry_line}
+use Rattle.history.specs.Histories.{noted, all_entries}
+use Rattle.history.specs.Follows.{with_step, outcome_of}
+use Rattle.world.specs.Worlds.{StandsFor}
+use Rattle.swp_tool.specs.Transcripts.{entry_lines, text_of}
+use Rattle.swp_tool.proofs.Texts.{text_of-step}
+use Rattle.swp_tool.proofs.replay.step.Goals as goal
+
+pub returns-clause-runs : goal.returns-clause-runs
+returns-clause-runs c header lines before runs =
+    let t = runs.history in
+    let line = c.args.line in
+    let w = c.args.world.now in
+    let P : Header → Type 0 = λ h. StandsFor w h lines t in
+    let Q : Header → Type 0 = λ h. StandsFor c.step.new.self h (lines ++ line ∷ []) (with_step t line) in
+    let stands = subst P (sym runs.stands.header_is) runs.stands in
+    let below : c.entries.result.now ≡ noted (outcome_of (all_entries t) line) =
+    c.entries.ensures ∙ c.in_ok-step.ensures.entries lines t stands in
+    let more = entry_line (entry.Echo line) ++ entry_lines c.entries.result.now in
+    record {
+      history = with_step t line;
+      stands = subst Q runs.stands.header_is (c.in_ok-step.ensures.stands lines t stands);
+      text_is = ap (λ l. before ++ l) c.in_ok-note.ensures.ok
+          ∙ (sym (append_assoc before c.args.text.now.items more)
+          ∙ (ap (λ l. l ++ more) runs.text_is
+          ∙ (ap (λ l. text_of t ++ (entry_line (entry.Echo line) ++ entry_lines l)) below ∙ sym (text_of-step t line))));
+    }
+
+pub returns-clause-stepped : goal.returns-clause-stepped
+returns-clause-stepped c most was =
+    let line = c.args.line in
+    let next = c.in_ok-step.ensures.stands was.lines was.history was.stands in
+    let P : Header → Type 0 = λ h. StandsFor c.step.new.self h (was.lines ++ line ∷ []) (with_step was.history line) in
+    record {
+      lines = was.lines ++ line ∷ [];
+      history = with_step was.history line;
+      stands = subst P (sym next.header_is) next;
+      few = omega (arith, length-append was.lines (line ∷ []), was.few);
+    }

@@ -1,0 +1,173 @@
+//! A schedule comes in pieces; each line is played as soon as it has ended.
+ghost use Rattle.std.specs.Prelude.{◌≡◌, ◌≢◌, ◌+◌, ◌<◌, ◌≤◌, ◌++◌, ◌∷◌, [], List, ℕ, length, OnOk, IfErr};
+ghost use Rattle.std.specs.Str.Lines.{strip_carriage_return};
+ghost use Rattle.swp_tool.specs.Replays.{HasPlayed};
+ghost use Rattle.swp_tool.specs.Pieces.{schedule_read, HasRead, IsReading, IsCompleteTranscript, Halts, HaltsAtEnd, bytes_left};
+
+use crate::replay::{Halt, Replay};
+use schedule_text::LineFault;
+use std::alloc::Global;
+
+/// The most lines of a schedule (this project's own).
+const MAX_LINES: u64 = 20_000;
+
+/// The most bytes of a line, without the end of the line (this project's own).
+const MAX_LINE: usize = 9_000;
+
+/// A replay, and the front of the line that has not ended yet.
+#[derive(Drop)]
+pub struct Pieces {
+    pub partial: Vec<u8>,
+    pub replay: Replay,
+}
+
+impl Pieces {
+    /// Before the first byte.
+    pub fn new(alloc: Global) -> Self
+        ensures read { HasRead result [] [] }
+        ensures reading { IsReading result }
+        ensures text { result.replay.text.items ≡ [] }
+    {
+        Pieces {
+            partial: Vec::new(alloc),
+            replay: Replay::new(alloc),
+        }
+    }
+
+    /// Takes the bytes of a piece, one after another. Where it halts, the text is that of the lines before.
+    pub fn feed(&mut self, alloc: Global, piece: &[u8]) -> Result<(), Halt>
+        requires { IsReading self.old }
+        ensures read { OnOk result ((bytes written : List ℕ) → HasRead self.old bytes written → HasRead self.new (bytes ++ piece.now) written) }
+        ensures reading { OnOk result (IsReading self.new) }
+        ensures counted { self.new.replay.count ≤ 20000 }
+        ensures progress { OnOk result (0 < length piece.now → bytes_left self.new < bytes_left self.old) }
+        ensures halts { IfErr result (λ why. (bytes written : List ℕ) → HasRead self.old bytes written
+            → Halts why self.new.replay.count (bytes ++ piece.now) (written ++ self.new.replay.text.items)) }
+    {
+        for byte in piece {
+            if let Err(why) = self.take(alloc, *byte) {
+                return Err(why);
+            }
+        }
+        Ok(())
+    }
+
+    /// The bytes have ended: plays the line that no LF has ended, if there is one, and gathers the last line of the
+    /// transcript. Where it halts, the text is that of the lines before.
+    pub fn finish(&mut self, alloc: Global) -> Result<(), Halt>
+        requires { IsReading self.old }
+        ensures counted { self.new.replay.count ≤ 20000 }
+        ensures done { OnOk result ((bytes written : List ℕ) → HasRead self.old bytes written
+            → IsCompleteTranscript bytes (written ++ self.new.replay.text.items)) }
+        ensures halts { IfErr result (λ why. (bytes written : List ℕ) → HasRead self.old bytes written
+            → HaltsAtEnd why self.new.replay.count bytes (written ++ self.new.replay.text.items)) }
+    {
+        match self.play_rest(alloc) {
+            Ok(()) => self.close(alloc),
+            Err(why) => Err(why),
+        }
+    }
+
+    /// Gathers the last line of the transcript.
+    fn close(&mut self, alloc: Global) -> Result<(), Halt>
+        ensures counted { self.new.replay.count ≡ self.old.replay.count }
+        ensures done { OnOk result ((bytes written : List ℕ) → HasPlayed self.old.replay (schedule_read bytes) written
+            → IsCompleteTranscript bytes (written ++ self.new.replay.text.items)) }
+        ensures halts { IfErr result (λ why. (bytes written : List ℕ) → HasPlayed self.old.replay (schedule_read bytes) written
+            → HaltsAtEnd why self.new.replay.count bytes (written ++ self.new.replay.text.items)) }
+    {
+        match self.replay.close(alloc) {
+            Ok(()) => Ok(()),
+            Err(why) => Err(why),
+        }
+    }
+
+    /// Plays the line that no LF has ended, if there is one.
+    fn play_rest(&mut self, alloc: Global) -> Result<(), Halt>
+        requires { IsReading self.old }
+        ensures counted { self.new.replay.count ≤ 20000 }
+        ensures played { OnOk result ((bytes written : List ℕ) → HasRead self.old bytes written → HasPlayed self.new.replay (schedule_read bytes) written) }
+        ensures halts { IfErr result (λ why. (bytes written : List ℕ) → HasRead self.old bytes written
+            → HaltsAtEnd why self.new.replay.count bytes (written ++ self.new.replay.text.items)) }
+    {
+        let rest = self.partial.as_slice();
+        if rest.is_empty() {
+            return Ok(());
+        }
+        match self.replay.play(alloc, rest) {
+            Ok(()) => Ok(()),
+            Err(why) => Err(why),
+        }
+    }
+
+    /// Takes a byte.
+    fn take(&mut self, alloc: Global, byte: u8) -> Result<(), Halt>
+        requires { IsReading self.old }
+        ensures read { OnOk result ((bytes written : List ℕ) → HasRead self.old bytes written → HasRead self.new (bytes ++ byte ∷ []) written) }
+        ensures reading { OnOk result (IsReading self.new) }
+        ensures counted { self.new.replay.count ≤ 20000 }
+        ensures progress { OnOk result (bytes_left self.new < bytes_left self.old) }
+        ensures halts { IfErr result (λ why. (bytes written : List ℕ) → HasRead self.old bytes written
+            → Halts why self.new.replay.count (bytes ++ byte ∷ []) (written ++ self.new.replay.text.items)) }
+    {
+        if self.replay.count == MAX_LINES {
+            return Err(Halt::TooMany);
+        }
+        if byte == b'\n' {
+            return self.end_line(alloc);
+        }
+        self.keep(byte)
+    }
+
+    /// Keeps a byte of the line that has not ended.
+    fn keep(&mut self, byte: u8) -> Result<(), Halt>
+        requires reading { IsReading self.old }
+        requires room { self.old.replay.count < 20000 }
+        requires byte { byte ≢ 10 }
+        ensures read { OnOk result ((bytes written : List ℕ) → HasRead self.old bytes written → HasRead self.new (bytes ++ byte ∷ []) written) }
+        ensures reading { OnOk result (IsReading self.new) }
+        ensures counted { self.new.replay.count ≤ 20000 }
+        ensures progress { OnOk result (bytes_left self.new < bytes_left self.old) }
+        ensures halts { IfErr result (λ why. (bytes written : List ℕ) → HasRead self.old bytes written
+            → Halts why self.new.replay.count (bytes ++ byte ∷ []) (written ++ self.new.replay.text.items)) }
+    {
+        if self.partial.len() > MAX_LINE {
+            return Err(Halt::Fault(LineFault::TooLong));
+        }
+        match self.partial.push(byte) {
+            Ok(()) => Ok(()),
+            Err(_) => Err(Halt::NoMemory),
+        }
+    }
+
+    /// Plays the line that an LF has ended.
+    fn end_line(&mut self, alloc: Global) -> Result<(), Halt>
+        requires reading { IsReading self.old }
+        requires room { self.old.replay.count < 20000 }
+        ensures read { OnOk result ((bytes written : List ℕ) → HasRead self.old bytes written → HasRead self.new (bytes ++ 10 ∷ []) written) }
+        ensures reading { OnOk result (IsReading self.new) }
+        ensures counted { self.new.replay.count ≤ 20000 }
+        ensures progress { OnOk result (bytes_left self.new < bytes_left self.old) }
+        ensures halts { IfErr result (λ why. (bytes written : List ℕ) → HasRead self.old bytes written
+            → Halts why self.new.replay.count (bytes ++ 10 ∷ []) (written ++ self.new.replay.text.items)) }
+    {
+        let line = without_carriage_return(self.partial.as_slice());
+        match self.replay.play(alloc, line) {
+            Ok(()) => {
+                self.partial.clear();
+                Ok(())
+            }
+            Err(why) => Err(why),
+        }
+    }
+}
+
+/// A line without the CR at its end, if it has one.
+fn without_carriage_return(line: &[u8]) -> &[u8]
+    ensures { result.now ≡ strip_carriage_return line.now }
+{
+    match line.last() {
+        Some(b'\r') => &line[..line.len() - 1],
+        _ => line,
+    }
+}

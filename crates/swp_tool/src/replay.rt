@@ -1,0 +1,210 @@
+//! The lines of a schedule are played one by one, and the transcript is gathered.
+ghost use Rattle.std.specs.Prelude.{◌≡◌, ◌+◌, ◌<◌, ◌++◌, ◌∷◌, [], List, ℕ, Ok, None, OnOk, OnErr, IfOk, IfErr, IsSomeAnd, ◌⊎◌, ◌≢◌};
+ghost use Rattle.trace_model.specs.declared.line.Header.{Header};
+ghost use Rattle.trace_model.specs.declared.line.Line.{Line};
+ghost use Rattle.trace_model.specs.Lines.{IsHeader, IsLineOf};
+ghost use Rattle.swp_tool.specs.Schedules.{Schedule, with_line, with_said, nothing_read};
+ghost use Rattle.swp_tool.specs.Replays.{Runs, WasStepped, HasPlayed, HasFew, HaltsAt};
+ghost use Rattle.swp_tool.specs.Transcripts.{text_of, done_line};
+ghost use Rattle.history.specs.Follows.{opened};
+ghost use Rattle.world.specs.Worlds.{StandsFor, HasRoom};
+
+use crate::transcript::note;
+use schedule_text::{LineFault, Read, read_line};
+use std::alloc::{AllocError, Global};
+use swp_base::NoMemory;
+use trace_model::{Entry, Header, Line};
+use world::{World, WorldFault};
+
+/// Why a replay does not go on.
+#[derive(Clone, Copy, Debug, PartialEq, Eq)]
+pub enum Halt {
+    /// The line just begun or read is outside the forms.
+    Fault(LineFault),
+    /// One line more begins than a schedule may have.
+    TooMany,
+    /// There was no memory.
+    NoMemory,
+}
+
+impl From<NoMemory> for Halt {
+    ghost use Rattle.std.specs.Prelude.{◌≡◌};
+    ghost use Rattle.swp_tool.specs.declared.replay.Halt.TheVariants as halt;
+
+    ghost from_gives = { λ _ h. h ≡ halt.NoMemory };
+
+    fn from(_: NoMemory) -> Self {
+        Halt::NoMemory
+    }
+}
+
+impl From<WorldFault> for Halt {
+    ghost use Rattle.std.specs.Prelude.{◌≡◌};
+    ghost use Rattle.swp_tool.specs.declared.replay.Halt.TheVariants as halt;
+
+    ghost from_gives = { λ _ h. h ≡ halt.NoMemory };
+
+    fn from(fault: WorldFault) -> Self {
+        match fault {
+            WorldFault::NoMemory => Halt::NoMemory,
+        }
+    }
+}
+
+/// What is kept of a replay between two lines.
+#[derive(Drop)]
+pub struct Replay {
+    /// The world, once its header was read.
+    pub world: Option<World>,
+    /// The lines read so far, at most 20,000.
+    pub count: u64,
+    /// Text that was gathered and isn't written yet.
+    pub text: Vec<u8>,
+}
+
+impl Replay {
+    /// Before the first line.
+    pub fn new(alloc: Global) -> Self
+        ensures played { HasPlayed result nothing_read [] }
+        ensures few { HasFew result }
+        ensures count { result.count ≡ 0 }
+        ensures text { result.text.items ≡ [] }
+    {
+        Replay {
+            world: None,
+            count: 0,
+            text: Vec::new(alloc),
+        }
+    }
+
+    /// Plays the next line, without the end of the line. Where it halts, the text stays as it was.
+    pub fn play(&mut self, alloc: Global, bytes: &[u8]) -> Result<(), Halt>
+        requires few { HasFew self.old }
+        requires next { self.old.count < 20000 }
+        ensures played { OnOk result ((s : Schedule) (written : List ℕ) → HasPlayed self.old s written → HasPlayed self.new (with_line s bytes.now) written) }
+        ensures halts { IfErr result (λ why. (s : Schedule) (written : List ℕ) → HasPlayed self.old s written → HaltsAt why s bytes.now) }
+        ensures few { OnOk result (HasFew self.new) }
+        ensures count { OnOk result (self.new.count ≡ self.old.count + 1) }
+        ensures same { OnErr result (self.new.text.items ≡ self.old.text.items) }
+        ensures uncounted { OnErr result (self.new.count ≡ self.old.count) }
+    {
+        let header = match &self.world {
+            Some(world) => Some(world.header()),
+            None => None,
+        };
+        match read_line(alloc, header, bytes) {
+            Err(fault) => Err(Halt::Fault(fault)),
+            Ok(Read::NoMemory) => Err(Halt::NoMemory),
+            Ok(Read::Skip) => {
+                self.count += 1;
+                Ok(())
+            }
+            Ok(Read::Header(header)) => self.begin(alloc, &header),
+            Ok(Read::Line(line)) => self.go_on(alloc, line),
+        }
+    }
+
+    /// Begins the world of a header, which is the next line.
+    fn begin(&mut self, alloc: Global, header: &Header) -> Result<(), Halt>
+        requires valid { IsHeader header.now }
+        requires next { self.old.count < 20000 }
+        ensures played { OnOk result ((s : Schedule) (written : List ℕ) → HasPlayed self.old s written → s.header ≡ None
+            → HasPlayed self.new (with_said s (Ok (Read.Header header.now))) written) }
+        ensures halts { IfErr result (λ why. why ≡ Halt.NoMemory) }
+        ensures few { OnOk result (HasFew self.new) }
+        ensures count { OnOk result (self.new.count ≡ self.old.count + 1) }
+        ensures same { OnErr result (self.new.text.items ≡ self.old.text.items) }
+        ensures uncounted { OnErr result (self.new.count ≡ self.old.count) }
+    {
+        let world = open(alloc, header, &mut self.text)?;
+        self.world = Some(world);
+        self.count += 1;
+        Ok(())
+    }
+
+    /// Steps the world by the next line, which is one below the header.
+    fn go_on(&mut self, alloc: Global, line: Line) -> Result<(), Halt>
+        requires world { IsSomeAnd self.old.world (λ w. IsLineOf w.header line) }
+        requires few { HasFew self.old }
+        requires next { self.old.count < 20000 }
+        ensures played { OnOk result ((s : Schedule) (written : List ℕ) → HasPlayed self.old s written
+            → HasPlayed self.new (with_said s (Ok (Read.Line line))) written) }
+        ensures halts { IfErr result (λ why. why ≡ Halt.NoMemory) }
+        ensures few { OnOk result (HasFew self.new) }
+        ensures count { OnOk result (self.new.count ≡ self.old.count + 1) }
+        ensures same { OnErr result (self.new.text.items ≡ self.old.text.items) }
+        ensures uncounted { OnErr result (self.new.count ≡ self.old.count) }
+    {
+        let Some(world) = &mut self.world else {
+            return Err(Halt::Fault(LineFault::Order));
+        };
+        step(alloc, world, line, &mut self.text)?;
+        self.count += 1;
+        Ok(())
+    }
+
+    /// Gathers the last line of the transcript, with the number of lines; without a header the schedule is no schedule.
+    pub fn close(&mut self, alloc: Global) -> Result<(), Halt>
+        ensures done { OnOk result ((self.old.world ≢ None) × (self.new.text.items ≡ self.old.text.items ++ done_line self.old.count)) }
+        ensures halts { IfErr result (λ why. (why ≡ Halt.NoMemory) ⊎ ((why ≡ Halt.Fault LineFault.Order) × (self.old.world ≡ None))) }
+        ensures same { OnErr result (self.new.text.items ≡ self.old.text.items) }
+        ensures count { self.new.count ≡ self.old.count }
+    {
+        if self.world.is_none() {
+            return Err(Halt::Fault(LineFault::Order));
+        }
+        match append_done(alloc, self.count, &mut self.text) {
+            Ok(()) => Ok(()),
+            Err(_) => Err(Halt::NoMemory),
+        }
+    }
+}
+
+/// Appends the last line of a transcript. Where there is no memory, the text stays as it was.
+fn append_done(alloc: Global, count: u64, text: &mut Vec<u8>) -> Result<(), AllocError>
+    ensures ok { OnOk result (text.new.items ≡ text.old.items ++ done_line count) }
+    ensures err { OnErr result (text.new.items ≡ text.old.items) }
+{
+    let line = format!(in alloc; "done {count}\n")?;
+    text.extend_from_slice(line.as_bytes())
+}
+
+/// The world of a header, and the text of its opening behind what was gathered.
+fn open(alloc: Global, header: &Header, text: &mut Vec<u8>) -> Result<World, Halt>
+    requires { IsHeader header.now }
+    ensures stands { IfOk result (λ w. StandsFor w header.now [] (opened header.now)) }
+    ensures stepped { IfOk result (λ w. WasStepped w 0) }
+    ensures text { OnOk result (text.new.items ≡ text.old.items ++ text_of (opened header.now)) }
+    ensures halts { IfErr result (λ why. why ≡ Halt.NoMemory) }
+    ensures same { OnErr result (text.new.items ≡ text.old.items) }
+{
+    let world = World::new(alloc, header)?;
+    let echo = echo_of(header)?;
+    note(alloc, &echo, world.entries(), text)?;
+    Ok(world)
+}
+
+/// The header as it is repeated in the transcript.
+fn echo_of(header: &Header) -> Result<Entry, NoMemory>
+    ensures { IfOk result (λ entry. entry ≡ Entry.Head header.now) }
+{
+    match header.clone() {
+        Ok(header) => Ok(Entry::Head(header)),
+        Err(_) => Err(NoMemory),
+    }
+}
+
+/// Steps a world by a line, and gathers the text of the line and of what it caused.
+fn step(alloc: Global, world: &mut World, line: Line, text: &mut Vec<u8>) -> Result<(), Halt>
+    requires line { IsLineOf world.old.header line }
+    requires room { HasRoom world.old }
+    ensures runs { OnOk result ((header : Header) (lines : List Line) (before : List ℕ) → Runs world.old header lines (before ++ text.old.items)
+        → Runs world.new header (lines ++ line ∷ []) (before ++ text.new.items)) }
+    ensures stepped { OnOk result ((most : ℕ) → WasStepped world.old most → WasStepped world.new (most + 1)) }
+    ensures halts { IfErr result (λ why. why ≡ Halt.NoMemory) }
+    ensures same { OnErr result (text.new.items ≡ text.old.items) }
+{
+    world.step(alloc, &line)?;
+    note(alloc, &Entry::Echo(line), world.entries(), text)?;
+    Ok(())
+}

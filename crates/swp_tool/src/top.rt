@@ -1,0 +1,225 @@
+//! The top call.
+ghost use Rattle.std.specs.Prelude.{◌≡◌, ◌≢◌, ◌≤◌, ◌<◌, ◌++◌, ◌↔◌, ◌⊎◌, [], List, ℕ, length, map, string_bytes, codes, None, IsTrue, OnOk, OnErr, IfErr, Ok, Err, take, true, false};
+ghost use Rattle.swp_base.specs.Outside.{Rose};
+ghost use Rattle.swp_tool.specs.Schedules.{schedule_of};
+ghost use Rattle.swp_tool.specs.Runs.{status_of, Replayed, IsUnderWay, IsReplay};
+ghost use Rattle.swp_tool.specs.Pieces.{HasRead, IsReading, bytes_left};
+
+use crate::pieces::Pieces;
+use crate::replay::Halt;
+use crate::status::Status;
+use std::alloc::Global;
+use swp_base::{Failed, Nv, Sink, Source};
+
+/// The most bytes that are read at once.
+const PIECE: usize = 4096;
+
+/// What a run gives back.
+pub struct Ended<N> {
+    /// How it ended.
+    pub status: Status,
+    /// The memory that was handed in.
+    pub nv: N,
+}
+
+/// Writes the whole piece, in as many calls as it takes. Where a call fails, a front of the piece was written.
+fn write_all<K: Sink>(sink: &mut K, bytes: &[u8]) -> Result<(), Failed>
+    ensures count { K.faults sink.old ≤ K.faults sink.new }
+    ensures fault { OnErr result (Rose (K.faults sink.old) (K.faults sink.new)) }
+    ensures wrote { IsTrue K.tells → OnOk result (K.written sink.new ≡ K.written sink.old ++ bytes.now) }
+    ensures front { IsTrue K.tells →
+        OnErr result ((n : ℕ) × (K.written sink.new ≡ K.written sink.old ++ take n bytes.now)) }
+{
+    let mut at = 0;
+    while at < bytes.len() {
+        at += sink.write(&bytes[at..])?;
+    }
+    Ok(())
+}
+
+/// The status of a replay that halts behind `count` whole lines.
+fn halted(why: Halt, count: u64) -> Status
+    requires { count ≤ 20000 }
+    ensures { result ≡ status_of why count }
+{
+    match why {
+        Halt::Fault(fault) => Status::BadSchedule {
+            line: count + 1,
+            fault,
+        },
+        Halt::TooMany => Status::TooMany { count: count + 1 },
+        Halt::NoMemory => Status::NoMemory,
+    }
+}
+
+/// Writes what a replay has gathered. Where a call fails, a front of it was written.
+fn flush<K: Sink>(sink: &mut K, pieces: &mut Pieces) -> Result<(), Failed>
+    ensures count { K.faults sink.old ≤ K.faults sink.new }
+    ensures fault { OnErr result (Rose (K.faults sink.old) (K.faults sink.new)) }
+    ensures wrote { IsTrue K.tells → OnOk result (K.written sink.new ≡ K.written sink.old ++ pieces.old.replay.text.items) }
+    ensures front { IsTrue K.tells →
+        OnErr result ((n : ℕ) × (K.written sink.new ≡ K.written sink.old ++ take n pieces.old.replay.text.items)) }
+    ensures reading { IsReading pieces.old → IsReading pieces.new }
+    ensures same { OnOk result ((bytes text : List ℕ) → HasRead pieces.old bytes text → HasRead pieces.new bytes (text ++ pieces.old.replay.text.items)) }
+    ensures gathered { OnOk result (pieces.new.replay.text.items ≡ []) }
+    ensures lines { pieces.new.replay.count ≡ pieces.old.replay.count }
+    ensures left { bytes_left pieces.new ≡ bytes_left pieces.old }
+{
+    write_all(sink, pieces.replay.text.as_slice())?;
+    pieces.replay.text.clear();
+    Ok(())
+}
+
+/// Feeds a piece to the replay, and writes what came of it. `Ok` says that the replay goes on.
+fn take_piece<K: Sink>(
+    alloc: Global,
+    sink: &mut K,
+    pieces: &mut Pieces,
+    piece: &[u8],
+) -> Result<(), Status>
+    requires reading { IsReading pieces.old }
+    requires some { 0 < length piece.now }
+    ensures count { K.faults sink.old ≤ K.faults sink.new }
+    ensures write_fault { result ≡ Err Status.WriteFault → Rose (K.faults sink.old) (K.faults sink.new) }
+    ensures read_fault { result ≢ Err Status.ReadFault }
+    ensures words { result ≢ Err Status.BadWords }
+    ensures reading { OnOk result (IsReading pieces.new) }
+    ensures progress { OnOk result (bytes_left pieces.new < bytes_left pieces.old) }
+    ensures goes { IsTrue K.tells → OnOk result ((input rest before : List ℕ) → IsUnderWay pieces.old input (piece.now ++ rest) before (K.written sink.old)
+        → IsUnderWay pieces.new input rest before (K.written sink.new)) }
+    ensures ends { IsTrue K.tells → IfErr result (λ status. (input rest before : List ℕ) → IsUnderWay pieces.old input (piece.now ++ rest) before (K.written sink.old)
+        → Replayed status input rest before (K.written sink.new)) }
+{
+    let fed = pieces.feed(alloc, piece);
+    if flush(sink, pieces).is_err() {
+        return Err(Status::WriteFault);
+    }
+    match fed {
+        Ok(()) => Ok(()),
+        Err(why) => Err(halted(why, pieces.replay.count)),
+    }
+}
+
+/// The input has ended: plays what is left of it, and writes the rest of the transcript.
+fn close<K: Sink>(alloc: Global, sink: &mut K, pieces: &mut Pieces) -> Status
+    requires { IsReading pieces.old }
+    ensures write_fault { result ≡ Status.WriteFault → Rose (K.faults sink.old) (K.faults sink.new) }
+    ensures read_fault { result ≢ Status.ReadFault }
+    ensures words { result ≢ Status.BadWords }
+    ensures ends { IsTrue K.tells → (input before : List ℕ) → IsUnderWay pieces.old input [] before (K.written sink.old)
+        → Replayed result input [] before (K.written sink.new) }
+{
+    let finished = pieces.finish(alloc);
+    if write_all(sink, pieces.replay.text.as_slice()).is_err() {
+        return Status::WriteFault;
+    }
+    match finished {
+        Ok(()) => Status::Done,
+        Err(why) => halted(why, pieces.replay.count),
+    }
+}
+
+/// Reads a piece of the input and plays it. `Ok(false)` says that the input has ended.
+fn pump<S: Source, K: Sink>(
+    alloc: Global,
+    source: &mut S,
+    sink: &mut K,
+    pieces: &mut Pieces,
+    buffer: &mut [u8],
+) -> Result<bool, Status>
+    requires reading { IsReading pieces.old }
+    requires room { 0 < length buffer.old }
+    ensures reads { S.faults source.old ≤ S.faults source.new }
+    ensures writes { K.faults sink.old ≤ K.faults sink.new }
+    ensures read_fault { result ≡ Err Status.ReadFault → Rose (S.faults source.old) (S.faults source.new) }
+    ensures write_fault { result ≡ Err Status.WriteFault → Rose (K.faults sink.old) (K.faults sink.new) }
+    ensures words { result ≢ Err Status.BadWords }
+    ensures reading { OnOk result (IsReading pieces.new) }
+    ensures progress { result ≡ Ok true → bytes_left pieces.new < bytes_left pieces.old }
+    ensures end { IsTrue S.tells → result ≡ Ok false → S.left source.new ≡ [] }
+    ensures goes { IsTrue S.tells → IsTrue K.tells → OnOk result ((input before : List ℕ) →
+        IsUnderWay pieces.old input (S.left source.old) before (K.written sink.old) → IsUnderWay pieces.new input (S.left source.new) before (K.written sink.new)) }
+    ensures ends { IsTrue S.tells → IsTrue K.tells → IfErr result (λ status. (input before : List ℕ) →
+        IsUnderWay pieces.old input (S.left source.old) before (K.written sink.old) → Replayed status input (S.left source.new) before (K.written sink.new)) }
+{
+    match source.read(buffer) {
+        Err(Failed) => Err(Status::ReadFault),
+        Ok(0) => Ok(false),
+        Ok(n) => match take_piece(alloc, sink, pieces, &buffer[..n]) {
+            Ok(()) => Ok(true),
+            Err(status) => Err(status),
+        },
+    }
+}
+
+/// Replays the schedule that the source has left.
+fn replay<S: Source, K: Sink>(alloc: Global, source: &mut S, sink: &mut K) -> Status
+    ensures read_fault { result ≡ Status.ReadFault → Rose (S.faults source.old) (S.faults source.new) }
+    ensures write_fault { result ≡ Status.WriteFault → Rose (K.faults sink.old) (K.faults sink.new) }
+    ensures replayed { IsTrue S.tells → IsTrue K.tells →
+        Replayed result (S.left source.old) (S.left source.new) (K.written sink.old) (K.written sink.new) }
+    ensures words { result ≢ Status.BadWords }
+{
+    let mut pieces = Pieces::new(alloc);
+    let mut buffer = [0; PIECE];
+    'input: loop {
+        match pump(alloc, source, sink, &mut pieces, &mut buffer) {
+            Ok(true) => {}
+            Ok(false) => return close(alloc, sink, &mut pieces),
+            Err(status) => return status,
+        }
+    }
+}
+
+/// Runs the program: the words are those behind its name. Of its commands `replay` is built: it reads a schedule to its
+/// end or to its first fault, line by line, and writes its transcript. The memory is handed back as it was.
+pub fn run<S: Source, K: Sink, N: Nv>(
+    alloc: Global,
+    words: &[String],
+    source: &mut S,
+    sink: &mut K,
+    nv: N,
+) -> Ended<N>
+    requires { N.capacity nv ≡ 65536 }
+
+    // What was read and written, for a source that tells what it has left and a sink that tells what it holds.
+    ensures replayed { IsReplay (map string_bytes words.now) → IsTrue S.tells → IsTrue K.tells →
+        Replayed result.status (S.left source.old) (S.left source.new) (K.written sink.old) (K.written sink.new) }
+
+    // Other words are refused exactly, and then nothing is read or written.
+    ensures bad_words { (result.status ≡ Status.BadWords) ↔ ¬ IsReplay (map string_bytes words.now) }
+    ensures untouched { result.status ≡ Status.BadWords → (source.new ≡ source.old) × (sink.new ≡ sink.old) }
+
+    // A fault of the outside comes only where its count rose.
+    ensures read_fault { result.status ≡ Status.ReadFault → Rose (S.faults source.old) (S.faults source.new) }
+    ensures write_fault { result.status ≡ Status.WriteFault → Rose (K.faults sink.old) (K.faults sink.new) }
+
+    // With the word, a whole schedule and no fault of the outside, the run is done, unless there is no memory.
+    ensures complete { IsReplay (map string_bytes words.now) → IsTrue S.tells → IsTrue K.tells →
+        (schedule_of (S.left source.old)).stop ≡ None →
+        ¬ Rose (S.faults source.old) (S.faults source.new) → ¬ Rose (K.faults sink.old) (K.faults sink.new) →
+        (result.status ≡ Status.Done) ⊎ (result.status ≡ Status.NoMemory) }
+    ensures nv { result.nv ≡ nv }
+{
+    let status = if is_replay(words) {
+        replay(alloc, source, sink)
+    } else {
+        Status::BadWords
+    };
+    Ended { status, nv }
+}
+
+fn is_replay(words: &[String]) -> bool
+    ensures { IsTrue result ↔ IsReplay (map string_bytes words.now) }
+{
+    match words {
+        [word] => is_replay_word(word.as_bytes()),
+        _ => false,
+    }
+}
+
+fn is_replay_word(word: &[u8]) -> bool
+    ensures { IsTrue result ↔ (word.now ≡ codes "replay") }
+{
+    word == b"replay".as_slice()
+}

@@ -1,0 +1,3 @@
+pub mod CauseLemmas
+pub mod SameLemmas
+pub mod ShownLemmas

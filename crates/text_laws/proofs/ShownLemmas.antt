@@ -1,0 +1,182 @@
+-- The texts of entries end at their first LF.
+use Rattle.std.proofs.Common.{◌≡◌, ◌==◌, ◌&&◌, ℕ, suc, ◌/◌, ◌%◌, ◌<◌, ◌≤◌, Bool, true, false, not, cond, nat_lt, List, [], ◌∷◌, ◌++◌, length, slice_index, refl, sym, ◌∙◌, ap, subst, arith, Some, None, All, codes, map, append_assoc, length-append}
+use Rattle.std.specs.List.{list_all, flat_map, AllByRecursion}
+use Rattle.std.specs.Char.{is_ascii_digit}
+use Rattle.std.specs.Str.{all_ascii_digits}
+use Rattle.std.specs.Fmt.{decimal}
+use Rattle.std.specs.Str.Parse.{digits_value}
+use Rattle.std.proofs.lemmas.Str.Parse.{IsNumeralModel, numerals_by_value}
+use Rattle.std.proofs.lemmas.Fmt.{digits_decimal}
+use Rattle.std.proofs.Common.{rules}
+use Rattle.std.proofs.lemmas.Bool.{ltb-true, ltb-false}
+use Rattle.std.proofs.lemmas.Bool.Decides.{nat_tests}
+use Rattle.std.proofs.lemmas.List.Sums.{AllPass-from_list_all}
+use Rattle.std.proofs.lemmas.List.Folds.{list_all-append}
+use Rattle.std.proofs.Math.ListN.{get_or-eq_default}
+use Rattle.hex.specs.Hex.{encode_with, encode_upper, upper_digits}
+use Rattle.trace_model.specs.declared.line.End.{End}
+use Rattle.trace_model.specs.declared.line.Line.{Line}
+use Rattle.trace_model.specs.declared.line.Line.TheVariants as line
+use Rattle.trace_model.specs.declared.entry.LostCause.{LostCause}
+use Rattle.trace_model.specs.declared.entry.LostCause.TheVariants as lost
+use Rattle.trace_model.specs.declared.entry.NoCause.{NoCause}
+use Rattle.trace_model.specs.declared.entry.NoCause.TheVariants as cause
+use Rattle.trace_model.specs.declared.entry.Entry.{Entry}
+use Rattle.trace_model.specs.declared.entry.Entry.TheVariants as entry
+use Rattle.schedule_text.specs.Words.{words, spaced}
+use Rattle.schedule_text.specs.Entries.{byte_text, end_text, line_words, lost_word, cause_words, entry_words, entry_text, entry_line}
+use Rattle.schedule_text.proofs.AgainLemmas.{IsWord, words-spaced, hex_word, end_word, number_word}
+use Rattle.text_laws.specs.Ranges.{IsNumber, IsSaid, IsCause, IsEntry}
+use Rattle.text_laws.proofs.SameLemmas.{same_entry}
+
+-- no LF
+abbrev pub is_inside : ℕ → Bool
+is_inside b = not (b == 10)
+
+-- a word without LF
+abbrev pub IsClean : List ℕ → Type 0
+IsClean word = IsWord word × (list_all is_inside word ≡ true)
+
+by_size : (P : Type 0) (k n : ℕ) (t : Bool) → nat_lt k n ≡ t → (k < n → P) → (n ≤ k → P) → P
+by_size P k n true e below above = below (ltb-true _ _ e)
+by_size P k n false e below above = above (ltb-false _ _ e)
+
+hex_inside : (k : ℕ) → is_inside (slice_index upper_digits k) ≡ true
+hex_inside k =
+    by_size (is_inside (slice_index upper_digits k) ≡ true) k 16 (nat_lt k 16) refl (λ h. AllPass-from_list_all is_inside upper_digits refl k 0 h)
+    (λ h. subst (λ b. is_inside b ≡ true) (sym (get_or-eq_default upper_digits 0 h)) refl)
+
+hex_all_inside : (xs : List ℕ) → list_all is_inside (encode_upper xs) ≡ true
+unfolding encode_with
+hex_all_inside [] = refl
+hex_all_inside (x ∷ xs) = rw (hex_inside (x / 16), hex_inside (x % 16)) (hex_all_inside xs)
+
+hex_clean : (xs : List ℕ) → 0 < length xs → IsClean (encode_upper xs)
+hex_clean xs some = (hex_word xs some, hex_all_inside xs)
+
+byte_clean : (b : ℕ) → IsClean (byte_text b)
+byte_clean b = hex_clean (b ∷ []) (omega arith)
+
+side_inside : (at_host : Bool) → is_inside (cond at_host 104 99) ≡ true
+side_inside true = refl
+side_inside false = refl
+
+end_clean : (e : End) → IsClean (end_text e)
+end_clean e =
+    (end_word e, list_all-append is_inside (byte_text e.link) (cond e.at_host 104 99 ∷ []) ∙ rw (hex_all_inside (e.link ∷ []), side_inside e.at_host) refl)
+
+own : IsNumeralModel (λ ds. all_ascii_digits ds ≡ true) (digits_value 10)
+own = numerals_by_value _ (search rules)
+
+digit_inside : (c : ℕ) (cs : List ℕ) (t : Bool) → is_ascii_digit c ≡ t → (t && all_ascii_digits cs) ≡ true → (all_ascii_digits cs ≡ true → list_all is_inside cs ≡ true)
+    → (is_inside c && list_all is_inside cs) ≡ true
+digit_inside c cs true e h k = let inside : is_inside c ≡ true = grind (arith, nat_tests) in rw inside (k h)
+digit_inside c cs false e h k = cc
+
+digits_inside : (ds : List ℕ) → all_ascii_digits ds ≡ true → list_all is_inside ds ≡ true
+digits_inside [] h = refl
+digits_inside (c ∷ cs) h = digit_inside c cs (is_ascii_digit c) refl h (digits_inside cs)
+
+number_clean : (n : ℕ) → IsNumber n → IsClean (decimal n)
+number_clean n h = (number_word n (omega arith), digits_inside (decimal n) (digits_decimal own n (omega arith)))
+
+letters : (word : List ℕ) → 0 < length word → list_all (λ b. not (b == 32)) word ≡ true → list_all is_inside word ≡ true → IsClean word
+letters word some a b = ((some, a), b)
+
+lost_clean : (why : LostCause) → IsClean (lost_word why)
+lost_clean lost.Asked = ((omega arith, refl), refl)
+lost_clean lost.Age = ((omega arith, refl), refl)
+lost_clean lost.Full = ((omega arith, refl), refl)
+lost_clean lost.Length = ((omega arith, refl), refl)
+lost_clean lost.Alignment = ((omega arith, refl), refl)
+lost_clean lost.Crc = ((omega arith, refl), refl)
+lost_clean lost.Broken = ((omega arith, refl), refl)
+lost_clean lost.Nothing = ((omega arith, refl), refl)
+
+world_clean : (hci : Bool) → IsClean (cond hci (codes "hci") (codes "bare"))
+world_clean true = ((omega arith, refl), refl)
+world_clean false = ((omega arith, refl), refl)
+
+hosts_clean : (hosts : List ℕ) → AllByRecursion IsClean (map byte_text hosts)
+hosts_clean [] = tt
+hosts_clean (h ∷ hosts) = (byte_clean h, hosts_clean hosts)
+
+cause_clean : (why : NoCause) → IsCause why → AllByRecursion IsClean (cause_words why)
+cause_clean cause.NotUp h = (((omega arith, refl), refl), tt)
+cause_clean cause.TooLong h = (((omega arith, refl), refl), tt)
+cause_clean cause.Empty h = (((omega arith, refl), refl), tt)
+cause_clean (cause.Full n s) h = (((omega arith, refl), refl), (number_clean n h.0, (number_clean s h.1, tt)))
+
+said_clean : (said : Line) → IsSaid said → AllByRecursion IsClean (line_words said)
+said_clean (line.Send e p m) h = (((omega arith, refl), refl), (end_clean e, (byte_clean p, (hex_clean m h.2.0, tt))))
+said_clean (line.Deliver e None) h = (((omega arith, refl), refl), (end_clean e, tt))
+said_clean (line.Deliver e (Some n)) h = (((omega arith, refl), refl), (end_clean e, (number_clean n h.1, tt)))
+
+entry_clean : (a : Entry) → IsEntry a → AllByRecursion IsClean (entry_words a)
+entry_clean (entry.Head header) h =
+    (((omega arith, refl), refl), (((omega arith, refl), refl), (((omega arith, refl), refl), (world_clean header.hci, hosts_clean header.hosts.items))))
+entry_clean (entry.Echo said) h = (((omega arith, refl), refl), said_clean said h)
+entry_clean (entry.Up e n) h = (((omega arith, refl), refl), (end_clean e, (number_clean n h.1, tt)))
+entry_clean (entry.Sent e n p m) h = (((omega arith, refl), refl), (end_clean e, (number_clean n h.1, (byte_clean p, (hex_clean m h.3.0, tt)))))
+entry_clean (entry.Got e n p m) h = (((omega arith, refl), refl), (end_clean e, (number_clean n h.1, (byte_clean p, (hex_clean m h.3.0, tt)))))
+entry_clean (entry.Acked e n k) h = (((omega arith, refl), refl), (end_clean e, (number_clean n h.1, (number_clean k h.2, tt))))
+entry_clean (entry.Emit e l) h = (((omega arith, refl), refl), (end_clean e, (hex_clean l h.1.0, tt)))
+entry_clean (entry.Took e l) h = (((omega arith, refl), refl), (end_clean e, (hex_clean l h.1.0, tt)))
+entry_clean (entry.Lost e l why) h = (((omega arith, refl), refl), (end_clean e, (hex_clean l h.1.0, (lost_clean why, tt))))
+entry_clean (entry.No why) h = (((omega arith, refl), refl), cause_clean why h)
+
+all_words : (ws : List (List ℕ)) → AllByRecursion IsClean ws → AllByRecursion IsWord ws
+all_words [] h = tt
+all_words (w ∷ ws) h = (h.0.0, all_words ws h.1)
+
+spaced_inside : (ws : List (List ℕ)) → AllByRecursion IsClean ws → list_all is_inside (spaced ws) ≡ true
+spaced_inside [] h = refl
+spaced_inside (w ∷ []) h = h.0.1
+spaced_inside (w ∷ v ∷ ws) h =
+    let behind : list_all is_inside (spaced (v ∷ ws)) ≡ true = spaced_inside (v ∷ ws) h.1 in
+    list_all-append is_inside w (32 ∷ spaced (v ∷ ws)) ∙ rw (h.0.1, behind) refl
+
+-- entries with the same text
+same_text : (a b : Entry) → IsEntry a → IsEntry b → entry_text a ≡ entry_text b → a ≡ b
+same_text a b ra rb h =
+    same_entry a b ra rb
+    (sym (words-spaced (entry_words a) (all_words _ (entry_clean a ra))) ∙ ap words h ∙ words-spaced (entry_words b) (all_words _ (entry_clean b rb)))
+
+inside_end : (b : ℕ) (t : Bool) → (not (b == 10) && t) ≡ true → b ≡ 10 → ⊥
+inside_end b t h e = let bad : (not (10 == 10) && t) ≡ true = subst (λ c. (not (c == 10) && t) ≡ true) e h in cc
+
+rest_inside : (b t : Bool) → (b && t) ≡ true → t ≡ true
+rest_inside true t h = h
+rest_inside false t h = cc
+
+-- two texts that go on behind an LF
+cut : (x y r s : List ℕ) → list_all is_inside x ≡ true → list_all is_inside y ≡ true → x ++ (10 ∷ r) ≡ y ++ (10 ∷ s) → (x ≡ y) × (r ≡ s)
+cut [] [] r s a b h = (refl, cc)
+cut [] (c ∷ y) r s a b h = absurd (inside_end c _ b cc)
+cut (c ∷ x) [] r s a b h = absurd (inside_end c _ a cc)
+cut (c ∷ x) (d ∷ y) r s a b h =
+    let same : c ≡ d = cc in
+    let tails : x ++ (10 ∷ r) ≡ y ++ (10 ∷ s) = cc in
+    let behind = cut x y r s (rest_inside _ _ a) (rest_inside _ _ b) tails in
+    (ap (λ e. e ∷ x) same ∙ ap (λ t. d ∷ t) behind.0, behind.1)
+
+no_text : (a : Entry) (rest : List ℕ) → entry_line a ++ rest ≡ [] → ⊥
+no_text a rest h =
+    let long = length-append (entry_line a) rest in
+    let line = length-append (entry_text a) (10 ∷ []) in
+    let none : length (entry_line a ++ rest) ≡ 0 = ap length h in
+    omega (arith, long, line, none)
+
+-- transcripts with the same text
+pub same_transcript : (xs ys : List Entry) → All IsEntry xs → All IsEntry ys → flat_map entry_line xs ≡ flat_map entry_line ys → xs ≡ ys
+same_transcript [] [] ra rb h = refl
+same_transcript [] (b ∷ ys) ra rb h = absurd (no_text b (flat_map entry_line ys) (sym h))
+same_transcript (a ∷ xs) [] ra rb h = absurd (no_text a (flat_map entry_line xs) h)
+same_transcript (a ∷ xs) (b ∷ ys) ra rb h =
+    let is_a = ra 0 a (omega arith) in
+    let is_b = rb 0 b (omega arith) in
+    let parts = cut (entry_text a) (entry_text b) (flat_map entry_line xs) (flat_map entry_line ys)
+    (spaced_inside _ (entry_clean a is_a)) (spaced_inside _ (entry_clean b is_b))
+    (sym (append_assoc (entry_text a) (10 ∷ []) (flat_map entry_line xs)) ∙ h ∙ append_assoc (entry_text b) (10 ∷ []) (flat_map entry_line ys)) in
+    let first : a ≡ b = same_text a b is_a is_b parts.0 in
+    let rest : xs ≡ ys = same_transcript xs ys (λ k d within. ra (suc k) d (omega arith)) (λ k d within. rb (suc k) d (omega arith)) parts.1 in cc
