@@ -25,7 +25,7 @@ use Rattle.history_laws.proofs.Calm.{IsCalm}
 use Rattle.shdlc_core.specs.Machine.{EndState}
 use Rattle.world.specs.Sides.{IsShort, SideStandsFor, BothStandFor}
 use Rattle.world.specs.Steps.{Does, end_of_line}
-use Rattle.world.specs.Worlds.{StandsFor, controller_end}
+use Rattle.world.specs.Worlds.{StandsFor, HasRoom, controller_end}
 use Rattle.world.proofs.Machines.{all_append}
 
 -- ## The header
@@ -192,3 +192,9 @@ controller_steps law w now header lines t line entries h is header_is at_host do
     let P : End → Type 0 = λ e. BothStandFor now.controller now.host e after in
     step_stands law w now header lines t line h is header_is
     (subst P (sym (controller_is header line h.is_header is at_host)) does.both) controller_sent (omega (arith, host_sent))
+
+-- a world that stands for a history of few enough lines can be stepped
+pub has_room : (w : World) (header : Header) (lines : List Line) (t : History) → StandsFor w header lines t → length lines < 20000 → HasRoom w
+has_room w header lines t h few =
+    let P : Header → Type 0 = λ x. StandsFor w x lines t in
+    record { lines = lines; history = t; stands = subst P (sym h.header_is) h; few = few }

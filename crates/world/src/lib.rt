@@ -10,3 +10,6 @@ mod wire;
 mod world_steps;
 
 pub use world_steps::{World, WorldFault};
+
+#[cfg(test)]
+mod tests;
