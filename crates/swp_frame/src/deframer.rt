@@ -1,5 +1,5 @@
 //! Finds the frames in what is read bit by bit.
-ghost use Rattle.std.specs.Prelude.{List, ◌≡◌, ◌<◌, ◌≤◌, ◌∷◌, []};
+ghost use Rattle.std.specs.Prelude.{IsTrue, ◌↔◌, List, ◌≡◌, ◌<◌, ◌≤◌, ◌∷◌, []};
 
 use crate::content::Content;
 use crate::fed::Fed;
@@ -26,7 +26,7 @@ pub struct Deframer {
 impl Deframer {
     ghost use Rattle.swp_base.specs.declared.link_terms.FrameFault.TheVariants.{Broken};
     ghost use Rattle.swp_frame.specs.declared.fed.Fed.TheVariants.{Nothing, Refused};
-    ghost use Rattle.swp_frame.specs.Signal.{Symbol, bit_0, bit_1, break, symbol_of, since_start};
+    ghost use Rattle.swp_frame.specs.Signal.{Symbol, bit_0, bit_1, break, symbol_of, mark_of, start_mark};
     ghost use Rattle.swp_frame.specs.Verdicts.{verdict};
     ghost use Rattle.swp_frame.specs.Kept.{StandsFor};
 
@@ -65,6 +65,14 @@ impl Deframer {
             Some(_) => Fed::Refused(FrameFault::Broken),
             None => Fed::Nothing,
         }
+    }
+
+    /// Whether a 0 bit now would end a start of frame.
+    #[inline]
+    pub fn is_before_start(&self) -> bool
+        ensures { (seen : List Symbol) → StandsFor self.now seen → IsTrue result ↔ (mark_of (bit_0 ∷ seen) ≡ start_mark) }
+    {
+        self.ones == START_ONES
     }
 
     /// Reads a 1 bit.
