@@ -20,7 +20,7 @@ hex_more text bytes i h =
     ∙ append_assoc text (hex_of (take i bytes)) (digit_glyph true (get_or bytes i 0 / 16) ∷ digit_glyph true (get_or bytes i 0 % 16) ∷ [])
     ∙ ap (λ xs. text ++ xs) (sym (hex_of-push (take i bytes) (get_or bytes i 0)) ∙ ap hex_of (sym (take_more bytes i 0 h)))
 
-pub room_of : (text bytes new : List ℕ) (i : ℕ) → new ≡ text ++ hex_of (take i bytes) → i < length bytes → length text + 2 * length bytes ≤ 128 → length new + 2 ≤ 128
+pub room_of : (text bytes new : List ℕ) (i : ℕ) → new ≡ text ++ hex_of (take i bytes) → i < length bytes → length text + 2 * length bytes ≤ 8192 → length new + 2 ≤ 8192
 room_of text bytes new i e h room =
     omega (arith, ap length e, length-append text (hex_of (take i bytes)), length-hex_of (take i bytes), length-take i bytes)
 

@@ -9,23 +9,19 @@ use Rattle.swp_decode.specs.Readings.{Reading, symbol_on, signal, symbols, start
 use Rattle.swp_decode.specs.Texts.{line_of, line_feed}
 
 -- the line that comes with a new reading on a wire, after the older ones
-abbrev pub line_with : Wire → Option Symbol → List Reading → Option (List ℕ)
-line_with wire None older = None
+abbrev pub line_with : Wire → Option Symbol → List Reading → List ℕ
+line_with wire None older = []
 line_with wire (Some symbol) older = line_of wire (start_of older) (verdict (symbol ∷ symbols older))
 
--- the line that the newest byte of a record, the newest first, gives on a wire
-abbrev pub line_at : Wire → List ℕ → Option (List ℕ)
-line_at wire [] = None
+-- the line that the newest byte of a record, the newest first, gives on a wire, if it gives one
+abbrev pub line_at : Wire → List ℕ → List ℕ
+line_at wire [] = []
 line_at wire (byte ∷ older) = line_with wire (symbol_on wire (period_at byte)) (signal wire older)
-
-abbrev pub text_of : Option (List ℕ) → List ℕ
-text_of None = []
-text_of (Some line) = line
 
 -- the lines of a record, the newest byte first: in the order of the byte that ended them, S1 before S2
 abbrev pub transcript : List ℕ → List ℕ
 transcript [] = []
-transcript (byte ∷ older) = transcript older ++ text_of (line_at S1 (byte ∷ older)) ++ text_of (line_at S2 (byte ∷ older))
+transcript (byte ∷ older) = transcript older ++ line_at S1 (byte ∷ older) ++ line_at S2 (byte ∷ older)
 
 -- what is written for a record, its oldest byte first: its lines, and how many bytes it has
 abbrev pub decoded : List ℕ → List ℕ

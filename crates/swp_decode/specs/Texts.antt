@@ -1,5 +1,5 @@
 -- The lines that a decoder writes.
-use Rattle.std.specs.Prelude.{ℕ, ◌/◌, ◌%◌, List, [], ◌∷◌, ◌++◌, codes, decimal, true, Option, Some, None, Result, Ok, Err}
+use Rattle.std.specs.Prelude.{ℕ, ◌/◌, ◌%◌, List, [], ◌∷◌, ◌++◌, codes, decimal, true, Result, Ok, Err}
 use Rattle.std.specs.Fmt.{digit_glyph}
 use Rattle.swp_base.specs.declared.control_frames.Control.{Control}
 use Rattle.swp_base.specs.declared.control_frames.Control.TheVariants.{I, S, Rset, Ua, Act, Clt}
@@ -74,8 +74,8 @@ line_feed = 10 ∷ []
 abbrev pub whole_line : Wire → ℕ → Fed → List ℕ
 whole_line wire start fed = wire_name wire ++ decimal start ++ codes " " ++ verdict_words fed ++ line_feed
 
--- the line of a verdict on one wire, of a frame that starts at this place
-abbrev pub line_of : Wire → ℕ → Fed → Option (List ℕ)
-line_of wire start Nothing = None
-line_of wire start (Frame lpdu) = Some (whole_line wire start (Frame lpdu))
-line_of wire start (Refused fault) = Some (whole_line wire start (Refused fault))
+-- what a verdict on one wire gives, of a frame that starts at this place: its line, or nothing
+abbrev pub line_of : Wire → ℕ → Fed → List ℕ
+line_of wire start Nothing = []
+line_of wire start (Frame lpdu) = whole_line wire start (Frame lpdu)
+line_of wire start (Refused fault) = whole_line wire start (Refused fault)

@@ -9,8 +9,9 @@ mod line;
 mod signal;
 mod words;
 
-pub use decoder::{Decoder, Lines};
-pub use line::{Line, Wire};
+pub use decoder::Decoder;
+pub use line::Wire;
+pub use words::Text;
 
 #[cfg(test)]
 mod tests;

@@ -1,9 +1,8 @@
 //! A line of text.
-ghost use Rattle.std.specs.Prelude.{◌≡◌, option_map};
-ghost use Rattle.swp_decode.specs.Texts.{whole_line, line_of};
+ghost use Rattle.std.specs.Prelude.{◌≡◌, ◌+◌, ◌≤◌, ◌++◌, length};
+ghost use Rattle.swp_decode.specs.Texts.{wire_name, whole_line, line_of};
 
-use crate::words::{push_decimal, push_text, push_verdict};
-use arrayvec::ArrayVec;
+use crate::words::{Text, push_decimal, push_text, push_verdict};
 use swp_frame::Fed;
 
 /// A direction of a line.
@@ -15,35 +14,40 @@ pub enum Wire {
     S2,
 }
 
-/// One line of text, with its line feed.
-#[derive(Debug, Drop)]
-pub struct Line {
-    pub text: ArrayVec<u8, 128>,
-}
-
-/// The line of what was read on a wire, of a frame whose start is at this place; none where nothing came.
+/// Appends the line of what was read on a wire, of a frame whose start is at this place; nothing where nothing came.
 #[inline]
-pub fn line_of_fed(wire: Wire, start: u32, fed: &Fed) -> Option<Line>
-    ensures { option_map (λ line. line.text.items) result ≡ line_of wire start fed.now }
+pub fn push_line(text: &mut Text, wire: Wire, start: u32, fed: &Fed)
+    requires { length text.old.items + 128 ≤ 8192 }
+    ensures items { text.new.items ≡ text.old.items ++ line_of wire start fed.now }
+    ensures sized { length text.new.items ≤ length text.old.items + 128 }
 {
     match fed {
-        Fed::Nothing => None,
-        Fed::Frame(_) | Fed::Refused(_) => Some(whole(wire, start, fed)),
+        Fed::Nothing => {}
+        Fed::Frame(_) | Fed::Refused(_) => push_whole_line(text, wire, start, fed),
     }
 }
 
 #[cold]
-fn whole(wire: Wire, start: u32, fed: &Fed) -> Line
-    ensures { result.text.items ≡ whole_line wire start fed.now }
+#[inline(never)]
+fn push_whole_line(text: &mut Text, wire: Wire, start: u32, fed: &Fed)
+    requires { length text.old.items + 128 ≤ 8192 }
+    ensures items { text.new.items ≡ text.old.items ++ whole_line wire start fed.now }
+    ensures sized { length text.new.items ≤ length text.old.items + 128 }
 {
-    let mut text = ArrayVec::new();
+    push_name(text, wire);
+    push_decimal(text, start);
+    push_text(text, b" ");
+    push_verdict(text, fed);
+    push_text(text, b"\n");
+}
+
+fn push_name(text: &mut Text, wire: Wire)
+    requires { length text.old.items + 3 ≤ 8192 }
+    ensures items { text.new.items ≡ text.old.items ++ wire_name wire }
+    ensures sized { length text.new.items ≤ length text.old.items + 3 }
+{
     match wire {
-        Wire::S1 => push_text(&mut text, b"s1 "),
-        Wire::S2 => push_text(&mut text, b"s2 "),
+        Wire::S1 => push_text(text, b"s1 "),
+        Wire::S2 => push_text(text, b"s2 "),
     }
-    push_decimal(&mut text, start);
-    push_text(&mut text, b" ");
-    push_verdict(&mut text, fed);
-    push_text(&mut text, b"\n");
-    Line { text }
 }

@@ -1,7 +1,8 @@
 //! The frames of one direction, and where they start.
-ghost use Rattle.std.specs.Prelude.{ℕ, List, [], ◌∷◌, ◌≡◌, option_map};
+ghost use Rattle.std.specs.Prelude.{ℕ, List, [], ◌∷◌, ◌++◌, ◌≡◌, ◌+◌, ◌≤◌, length};
 
-use crate::line::{Line, Wire, line_of_fed};
+use crate::line::{Wire, push_line};
+use crate::words::Text;
 use swp_frame::{Deframer, Fed};
 
 /// Reads one direction of a record.
@@ -32,7 +33,7 @@ impl SignalReader {
     }
 
     /// Reads a bit at a place.
-    #[inline]
+    #[inline(always)]
     pub fn read_bit(&mut self, bit: bool, place: u32) -> Fed
         ensures reads { (older : List Reading) → ReadsSignal self.old older → ReadsSignal self.new (with_reading (Some (symbol_of bit)) place older) }
         ensures answer { (older : List Reading) → ReadsSignal self.old older → result ≡ verdict (symbol_of bit ∷ symbols older) }
@@ -58,27 +59,49 @@ impl SignalReader {
         self.deframer.break_off()
     }
 
-    /// Reads a bit at a place, and gives the line of what came with it.
-    #[inline]
-    pub fn line_of_bit(&mut self, wire: Wire, bit: bool, place: u32) -> Option<Line>
+    /// Reads a bit at a place, and appends the line of what came with it.
+    #[inline(always)]
+    pub fn decode_bit(&mut self, text: &mut Text, wire: Wire, bit: bool, place: u32)
+        requires { length text.old.items + 128 ≤ 8192 }
         ensures reads { (older : List Reading) → ReadsSignal self.old older → ReadsSignal self.new (with_reading (Some (symbol_of bit)) place older) }
-        ensures answer { (older : List Reading) → ReadsSignal self.old older
-            → option_map (λ line. line.text.items) result ≡ line_with wire (Some (symbol_of bit)) older }
+        ensures items { (older : List Reading) → ReadsSignal self.old older
+            → text.new.items ≡ text.old.items ++ line_with wire (Some (symbol_of bit)) older }
+        ensures sized { length text.new.items ≤ length text.old.items + 128 }
+    {
+        if self.deframer.is_before_start() {
+            self.decode_mark(text, wire, bit, place);
+        } else {
+            // Nothing comes with a bit that ends no mark.
+            let _nothing = self.read_bit(bit, place);
+        }
+    }
+
+    /// Reads a bit with which a mark ends, and appends the line of what came with it.
+    #[cold]
+    #[inline(never)]
+    fn decode_mark(&mut self, text: &mut Text, wire: Wire, bit: bool, place: u32)
+        requires { length text.old.items + 128 ≤ 8192 }
+        ensures reads { (older : List Reading) → ReadsSignal self.old older → ReadsSignal self.new (with_reading (Some (symbol_of bit)) place older) }
+        ensures items { (older : List Reading) → ReadsSignal self.old older
+            → text.new.items ≡ text.old.items ++ line_with wire (Some (symbol_of bit)) older }
+        ensures sized { length text.new.items ≤ length text.old.items + 128 }
     {
         let start = self.start;
         let fed = self.read_bit(bit, place);
-        line_of_fed(wire, start, &fed)
+        push_line(text, wire, start, &fed);
     }
 
-    /// Reads a break, and gives the line of what came with it.
+    /// Reads a break, and appends the line of what came with it.
     #[inline]
-    pub fn line_of_break(&mut self, wire: Wire) -> Option<Line>
+    pub fn decode_break(&mut self, text: &mut Text, wire: Wire)
+        requires { length text.old.items + 128 ≤ 8192 }
         ensures reads { (place : ℕ) (older : List Reading) → ReadsSignal self.old older → ReadsSignal self.new (with_reading (Some break) place older) }
-        ensures answer { (older : List Reading) → ReadsSignal self.old older
-            → option_map (λ line. line.text.items) result ≡ line_with wire (Some break) older }
+        ensures items { (older : List Reading) → ReadsSignal self.old older
+            → text.new.items ≡ text.old.items ++ line_with wire (Some break) older }
+        ensures sized { length text.new.items ≤ length text.old.items + 128 }
     {
         let start = self.start;
         let fed = self.read_break();
-        line_of_fed(wire, start, &fed)
+        push_line(text, wire, start, &fed);
     }
 }

@@ -1,6 +1,5 @@
 //! Worked records.
-use crate::{Decoder, Line};
-use std::alloc::{AllocError, Global};
+use crate::{Decoder, Text};
 use std::process::Abort;
 use std::test::Fail;
 
@@ -11,29 +10,21 @@ const RECORD: [u8; 40] = [
     0x40, 0x54, 0x54, 0x54, 0x54, 0x54, 0x54, 0x54,
 ];
 
-fn append(text: &mut Vec<u8>, line: &Option<Line>) -> Result<(), AllocError> {
-    match line {
-        Some(line) => text.extend_from_slice(line.text.as_slice()),
-        None => Ok(()),
-    }
-}
-
-/// The lines of a record.
-fn decoded(rt: &impl Abort, alloc: Global, record: &[u8]) -> Result<Vec<u8>, AllocError> {
+/// The lines of a record that gives few.
+fn decoded(rt: &impl Abort, record: &[u8]) -> Text {
     let mut decoder = Decoder::new();
-    let mut text = Vec::new(alloc);
+    let mut text = Text::new();
     for byte in record {
         assert!(rt; decoder.count < Decoder::MAX_BYTES);
-        let lines = decoder.step(*byte);
-        append(&mut text, &lines.s1)?;
-        append(&mut text, &lines.s2)?;
+        assert!(rt; text.len() < 256);
+        decoder.step(*byte, &mut text);
     }
-    Ok(text)
+    text
 }
 
 #[test]
 fn frame_is_decoded(rt: HostRuntime) -> Result<(), Fail> {
-    let text = decoded(&rt, rt.alloc(), &RECORD)?;
+    let text = decoded(&rt, &RECORD);
     assert_eq!(rt; text.as_slice(), b"s1 0 C1 rr 1\n".as_slice());
     Ok(())
 }
@@ -42,14 +33,14 @@ fn frame_is_decoded(rt: HostRuntime) -> Result<(), Fail> {
 fn invalid_byte_breaks_a_frame(rt: HostRuntime) -> Result<(), Fail> {
     let mut record = RECORD;
     record[11] = 0x7F;
-    let text = decoded(&rt, rt.alloc(), &record)?;
+    let text = decoded(&rt, &record);
     assert_eq!(rt; text.as_slice(), b"s1 0 broken\n".as_slice());
     Ok(())
 }
 
 #[test]
 fn part_of_a_frame_gives_nothing(rt: HostRuntime) -> Result<(), Fail> {
-    let text = decoded(&rt, rt.alloc(), &RECORD[..20])?;
+    let text = decoded(&rt, &RECORD[..20]);
     assert!(rt; text.is_empty());
     Ok(())
 }
@@ -63,7 +54,7 @@ fn both_wires_are_decoded(rt: HostRuntime) -> Result<(), Fail> {
             *byte = 0xFC;
         }
     }
-    let text = decoded(&rt, rt.alloc(), &record[1..])?;
+    let text = decoded(&rt, &record[1..]);
     assert_eq!(rt; text.as_slice(), b"s1 0 C1 rr 1\ns2 0 C1 rr 1\n".as_slice());
     Ok(())
 }

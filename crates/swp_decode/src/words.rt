@@ -8,12 +8,12 @@ use swp_base::{Act, Control, FrameFault, Kind};
 use swp_frame::Fed;
 use swp_lpdu::{LpduFault, read_lpdu};
 
-/// A line under way.
-pub type Text = ArrayVec<u8, 128>;
+/// Text that is gathered before it is written.
+pub type Text = ArrayVec<u8, 8192>;
 
 /// Appends a text.
 pub fn push_text(text: &mut Text, more: &[u8])
-    requires { length text.old.items + length more.now ≤ 128 }
+    requires { length text.old.items + length more.now ≤ 8192 }
     ensures items { text.new.items ≡ text.old.items ++ more.now }
     ensures sized { length text.new.items ≡ length text.old.items + length more.now }
 {
@@ -22,7 +22,7 @@ pub fn push_text(text: &mut Text, more: &[u8])
 
 /// Appends a number in decimal.
 pub fn push_decimal(text: &mut Text, n: u32)
-    requires { length text.old.items + 10 ≤ 128 }
+    requires { length text.old.items + 10 ≤ 8192 }
     ensures items { text.new.items ≡ text.old.items ++ decimal n }
     ensures sized { length text.new.items ≤ length text.old.items + 10 }
 {
@@ -30,7 +30,7 @@ pub fn push_decimal(text: &mut Text, n: u32)
 }
 
 fn push_digits(text: &mut Text, n: u32)
-    requires { length text.old.items + length (decimal n) ≤ 128 }
+    requires { length text.old.items + length (decimal n) ≤ 8192 }
     ensures { text.new.items ≡ text.old.items ++ decimal n }
 {
     if n < 10 {
@@ -50,7 +50,7 @@ fn hex_digit(n: u8) -> u8
 
 /// Appends bytes in hexadecimal, two digits each.
 pub fn push_hex(text: &mut Text, bytes: &[u8])
-    requires { length text.old.items + 2 * length bytes.now ≤ 128 }
+    requires { length text.old.items + 2 * length bytes.now ≤ 8192 }
     ensures items { text.new.items ≡ text.old.items ++ hex_of bytes.now }
     ensures sized { length text.new.items ≡ length text.old.items + 2 * length bytes.now }
 {
@@ -62,7 +62,7 @@ pub fn push_hex(text: &mut Text, bytes: &[u8])
 
 /// Appends two bytes in hexadecimal.
 fn push_hex_word(text: &mut Text, n: u16)
-    requires { length text.old.items + 4 ≤ 128 }
+    requires { length text.old.items + 4 ≤ 8192 }
     ensures items { text.new.items ≡ text.old.items ++ hex_word n }
     ensures sized { length text.new.items ≡ length text.old.items + 4 }
 {
@@ -70,7 +70,7 @@ fn push_hex_word(text: &mut Text, n: u16)
 }
 
 fn push_kind(text: &mut Text, kind: Kind)
-    requires { length text.old.items + 5 ≤ 128 }
+    requires { length text.old.items + 5 ≤ 8192 }
     ensures items { text.new.items ≡ text.old.items ++ kind_word kind }
     ensures sized { length text.new.items ≤ length text.old.items + 5 }
 {
@@ -83,7 +83,7 @@ fn push_kind(text: &mut Text, kind: Kind)
 }
 
 fn push_act(text: &mut Text, act: &Act)
-    requires { length text.old.items + 11 ≤ 128 }
+    requires { length text.old.items + 11 ≤ 8192 }
     ensures items { text.new.items ≡ text.old.items ++ act_words act.now }
     ensures sized { length text.new.items ≤ length text.old.items + 11 }
 {
@@ -101,7 +101,7 @@ fn push_act(text: &mut Text, act: &Act)
 }
 
 fn push_two(text: &mut Text, first: u8, second: u8)
-    requires { length text.old.items + 21 ≤ 128 }
+    requires { length text.old.items + 21 ≤ 8192 }
     ensures items { text.new.items ≡ text.old.items ++ decimal first ++ codes " " ++ decimal second }
     ensures sized { length text.new.items ≤ length text.old.items + 21 }
 {
@@ -111,7 +111,7 @@ fn push_two(text: &mut Text, first: u8, second: u8)
 }
 
 fn push_control(text: &mut Text, control: &Control)
-    requires { length text.old.items + 30 ≤ 128 }
+    requires { length text.old.items + 30 ≤ 8192 }
     ensures items { text.new.items ≡ text.old.items ++ control_words control.now }
     ensures sized { length text.new.items ≤ length text.old.items + 30 }
 {
@@ -135,7 +135,7 @@ fn push_control(text: &mut Text, control: &Control)
 }
 
 fn push_fault(text: &mut Text, fault: &FrameFault)
-    requires { length text.old.items + 30 ≤ 128 }
+    requires { length text.old.items + 30 ≤ 8192 }
     ensures items { text.new.items ≡ text.old.items ++ fault_words fault.now }
     ensures sized { length text.new.items ≤ length text.old.items + 30 }
 {
@@ -160,7 +160,7 @@ fn push_fault(text: &mut Text, fault: &FrameFault)
 
 /// Appends what a frame says, or why it was refused.
 pub fn push_verdict(text: &mut Text, fed: &Fed)
-    requires { length text.old.items + 91 ≤ 128 }
+    requires { length text.old.items + 91 ≤ 8192 }
     ensures items { text.new.items ≡ text.old.items ++ verdict_words fed.now }
     ensures sized { length text.new.items ≤ length text.old.items + 91 }
 {

@@ -42,7 +42,7 @@ impl Deframer {
 
     /// Reads a bit. The faults of a frame are tested in the order of its length in bits without those put in (24 to 256),
     /// their alignment to bytes, and the CRC.
-    #[inline]
+    #[inline(always)]
     pub fn feed(&mut self, bit: bool) -> Fed
         ensures stands { (seen : List Symbol) → StandsFor self.old seen → StandsFor self.new (symbol_of bit ∷ seen) }
         ensures answer { (seen : List Symbol) → StandsFor self.old seen → result ≡ verdict (symbol_of bit ∷ seen) }
@@ -76,7 +76,7 @@ impl Deframer {
     }
 
     /// Reads a 1 bit.
-    #[inline]
+    #[inline(always)]
     fn read_one(&mut self) -> Fed
         ensures stands { (seen : List Symbol) → StandsFor self.old seen → StandsFor self.new (bit_1 ∷ seen) }
         ensures answer { (seen : List Symbol) → StandsFor self.old seen → result ≡ verdict (bit_1 ∷ seen) }
@@ -85,6 +85,17 @@ impl Deframer {
             self.ones += 1;
             return Fed::Nothing;
         }
+        self.read_seventh_one()
+    }
+
+    /// Reads a 1 bit behind six 1 bits: a frame that is open ends.
+    #[cold]
+    #[inline(never)]
+    fn read_seventh_one(&mut self) -> Fed
+        requires { 6 ≤ self.old.ones }
+        ensures stands { (seen : List Symbol) → StandsFor self.old seen → StandsFor self.new (bit_1 ∷ seen) }
+        ensures answer { (seen : List Symbol) → StandsFor self.old seen → result ≡ verdict (bit_1 ∷ seen) }
+    {
         self.ones = START_ONES + 1;
         match self.content.take() {
             Some(content) => content.judge(),
@@ -93,7 +104,7 @@ impl Deframer {
     }
 
     /// Reads a 0 bit.
-    #[inline]
+    #[inline(always)]
     fn read_zero(&mut self) -> Fed
         ensures stands { (seen : List Symbol) → StandsFor self.old seen → StandsFor self.new (bit_0 ∷ seen) }
         ensures answer { (seen : List Symbol) → StandsFor self.old seen → result ≡ verdict (bit_0 ∷ seen) }
