@@ -87,6 +87,7 @@ impl Content {
     }
 
     /// The verdict on a content that has ended.
+    #[inline(never)]
     pub fn judge(&self) -> Fed
         ensures { (bits : List Bool) → KeepsContent self.now bits → result ≡ judged bits }
     {

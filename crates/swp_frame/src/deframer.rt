@@ -1,5 +1,5 @@
 //! Finds the frames in what is read bit by bit.
-ghost use Rattle.std.specs.Prelude.{List, ◌≡◌, ◌<◌, ◌≤◌, ◌∷◌, []};
+ghost use Rattle.std.specs.Prelude.{IsTrue, ◌↔◌, List, ◌≡◌, ◌<◌, ◌≤◌, ◌∷◌, []};
 
 use crate::content::Content;
 use crate::fed::Fed;
@@ -26,7 +26,7 @@ pub struct Deframer {
 impl Deframer {
     ghost use Rattle.swp_base.specs.declared.link_terms.FrameFault.TheVariants.{Broken};
     ghost use Rattle.swp_frame.specs.declared.fed.Fed.TheVariants.{Nothing, Refused};
-    ghost use Rattle.swp_frame.specs.Signal.{Symbol, bit_0, bit_1, break, symbol_of, since_start};
+    ghost use Rattle.swp_frame.specs.Signal.{Symbol, bit_0, bit_1, break, symbol_of, mark_of, start_mark};
     ghost use Rattle.swp_frame.specs.Verdicts.{verdict};
     ghost use Rattle.swp_frame.specs.Kept.{StandsFor};
 
@@ -42,7 +42,7 @@ impl Deframer {
 
     /// Reads a bit. The faults of a frame are tested in the order of its length in bits without those put in (24 to 256),
     /// their alignment to bytes, and the CRC.
-    #[inline]
+    #[inline(always)]
     pub fn feed(&mut self, bit: bool) -> Fed
         ensures stands { (seen : List Symbol) → StandsFor self.old seen → StandsFor self.new (symbol_of bit ∷ seen) }
         ensures answer { (seen : List Symbol) → StandsFor self.old seen → result ≡ verdict (symbol_of bit ∷ seen) }
@@ -67,8 +67,16 @@ impl Deframer {
         }
     }
 
-    /// Reads a 1 bit.
+    /// Whether a 0 bit now would end a start of frame.
     #[inline]
+    pub fn is_before_start(&self) -> bool
+        ensures { (seen : List Symbol) → StandsFor self.now seen → IsTrue result ↔ (mark_of (bit_0 ∷ seen) ≡ start_mark) }
+    {
+        self.ones == START_ONES
+    }
+
+    /// Reads a 1 bit.
+    #[inline(always)]
     fn read_one(&mut self) -> Fed
         ensures stands { (seen : List Symbol) → StandsFor self.old seen → StandsFor self.new (bit_1 ∷ seen) }
         ensures answer { (seen : List Symbol) → StandsFor self.old seen → result ≡ verdict (bit_1 ∷ seen) }
@@ -77,6 +85,17 @@ impl Deframer {
             self.ones += 1;
             return Fed::Nothing;
         }
+        self.read_seventh_one()
+    }
+
+    /// Reads a 1 bit behind six 1 bits: a frame that is open ends.
+    #[cold]
+    #[inline(never)]
+    fn read_seventh_one(&mut self) -> Fed
+        requires { 6 ≤ self.old.ones }
+        ensures stands { (seen : List Symbol) → StandsFor self.old seen → StandsFor self.new (bit_1 ∷ seen) }
+        ensures answer { (seen : List Symbol) → StandsFor self.old seen → result ≡ verdict (bit_1 ∷ seen) }
+    {
         self.ones = START_ONES + 1;
         match self.content.take() {
             Some(content) => content.judge(),
@@ -85,7 +104,7 @@ impl Deframer {
     }
 
     /// Reads a 0 bit.
-    #[inline]
+    #[inline(always)]
     fn read_zero(&mut self) -> Fed
         ensures stands { (seen : List Symbol) → StandsFor self.old seen → StandsFor self.new (bit_0 ∷ seen) }
         ensures answer { (seen : List Symbol) → StandsFor self.old seen → result ≡ verdict (bit_0 ∷ seen) }

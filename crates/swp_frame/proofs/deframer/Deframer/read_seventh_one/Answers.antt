@@ -3,7 +3,7 @@ use Rattle.std.proofs.lemmas.Bool.{eq-eqb}
 use Rattle.swp_frame.specs.Signal.{run_of, since_start, unstuffed}
 use Rattle.swp_frame.specs.Content.{judged}
 use Rattle.swp_frame.proofs.Runs.{since_run, drop_run, opened}
-use Rattle.swp_frame.proofs.deframer.Deframer.read_one.Goals as goal
+use Rattle.swp_frame.proofs.deframer.Deframer.read_seventh_one.Goals as goal
 
 pub returns-in-Some-clause-stands : goal.returns-in-Some-clause-stands
 returns-in-Some-clause-stands c = λ seen stands.

@@ -1,0 +1,56 @@
+#!/usr/bin/env python3
+"""Writes two line records of 16 MB: frames on both wires, and noise."""
+
+import random
+import sys
+from pathlib import Path
+
+SIZE = 16_777_216
+BIT_BYTES = bytes([0x40, 0x54, 0xC0, 0xFC])  # by S1 + 2 * S2
+
+
+def crc(data: bytes) -> int:
+    register = 0xFFFF
+    for byte in data:
+        register ^= byte << 8
+        for _ in range(8):
+            register = ((register << 1) ^ 0x1021 if register & 0x8000 else register << 1) & 0xFFFF
+    return register ^ 0xFFFF
+
+
+def frame(lpdu: bytes) -> list[int]:
+    bits = []
+    ones = 0
+    for byte in lpdu + crc(lpdu).to_bytes(2, "big"):
+        for place in range(7, -1, -1):
+            bit = byte >> place & 1
+            bits.append(bit)
+            ones = ones + 1 if bit else 0
+            if ones == 5:
+                bits.append(0)
+                ones = 0
+    return [0, 1, 1, 1, 1, 1, 1, 0] + bits + [0, 1, 1, 1, 1, 1, 1, 1]
+
+
+def wire(random_numbers: random.Random) -> list[int]:
+    """About a megabit of I frames with random information."""
+    bits = []
+    while len(bits) < 1_048_576:
+        length = random_numbers.randrange(2, 31)
+        first = random_numbers.randrange(0x80, 0xC0)
+        bits += frame(bytes([first]) + random_numbers.randbytes(length - 1))
+    return bits[:1_048_576]
+
+
+def main() -> None:
+    folder = Path(sys.argv[1] if len(sys.argv) > 1 else ".")
+    random_numbers = random.Random(102613)
+    periods = bytes(BIT_BYTES[a + 2 * b] for a, b in zip(wire(random_numbers), wire(random_numbers)))
+    (folder / "frames.rec").write_bytes((periods * 16)[:SIZE])
+    noise = random_numbers.randbytes(1_048_576)
+    (folder / "noise.rec").write_bytes(bytes(BIT_BYTES[byte & 3] for byte in noise) * 16)
+    (folder / "bytes.rec").write_bytes(random_numbers.randbytes(SIZE))
+
+
+if __name__ == "__main__":
+    main()

@@ -1,0 +1,20 @@
+#!/bin/sh
+# Times `swp decode` over the records of make_records.py, and counts its instructions where callgrind is there.
+# Run it at the top of the repository: bench/run.sh [FOLDER FOR THE RECORDS]
+set -eu
+folder=${1:-$(mktemp -d)}
+python3 bench/make_records.py "$folder"
+# Proves and builds the program; its own run reads nothing.
+(cd crates/swp && rt run -- decode </dev/null >/dev/null)
+program=crates/swp/out/swp
+for record in frames noise bytes; do
+    start=$(date +%s.%N)
+    "$program" decode <"$folder/$record.rec" >"$folder/$record.out"
+    end=$(date +%s.%N)
+    echo "$record $start $end" | awk '{ printf "%s: %.1f MB/s\n", $1, 16.777216 / ($3 - $2) }'
+    if command -v valgrind >/dev/null; then
+        head -c 1048576 "$folder/$record.rec" >"$folder/$record.part"
+        valgrind --tool=callgrind --callgrind-out-file=/dev/null "$program" decode <"$folder/$record.part" 2>&1 >/dev/null |
+            awk -v record="$record" '/Collected/ { printf "%s: %.0f instructions a byte\n", record, $NF / 1048576 }'
+    fi
+done

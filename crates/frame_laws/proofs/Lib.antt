@@ -1,0 +1,4 @@
+pub mod Runs
+pub mod Unstuffing
+pub mod Existence
+pub mod Places

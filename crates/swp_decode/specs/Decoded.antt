@@ -1,0 +1,28 @@
+-- What is written for a line record.
+use Rattle.std.specs.Prelude.{ℕ, List, [], ◌∷◌, ◌++◌, length, reverse, codes, decimal, Option, Some, None}
+use Rattle.swp_line.specs.Periods.{period_at}
+use Rattle.swp_frame.specs.Signal.{Symbol}
+use Rattle.swp_frame.specs.Verdicts.{verdict}
+use Rattle.swp_decode.specs.declared.line.Wire.{Wire}
+use Rattle.swp_decode.specs.declared.line.Wire.TheVariants.{S1, S2}
+use Rattle.swp_decode.specs.Readings.{Reading, symbol_on, signal, symbols, start_of}
+use Rattle.swp_decode.specs.Texts.{line_of, line_feed}
+
+-- the line that comes with a new reading on a wire, after the older ones
+abbrev pub line_with : Wire → Option Symbol → List Reading → List ℕ
+line_with wire None older = []
+line_with wire (Some symbol) older = line_of wire (start_of older) (verdict (symbol ∷ symbols older))
+
+-- the line that the newest byte of a record, the newest first, gives on a wire, if it gives one
+abbrev pub line_at : Wire → List ℕ → List ℕ
+line_at wire [] = []
+line_at wire (byte ∷ older) = line_with wire (symbol_on wire (period_at byte)) (signal wire older)
+
+-- the lines of a record, the newest byte first: in the order of the byte that ended them, S1 before S2
+abbrev pub transcript : List ℕ → List ℕ
+transcript [] = []
+transcript (byte ∷ older) = transcript older ++ line_at S1 (byte ∷ older) ++ line_at S2 (byte ∷ older)
+
+-- what is written for a record, its oldest byte first: its lines, and how many bytes it has
+abbrev pub decoded : List ℕ → List ℕ
+decoded bytes = transcript (reverse bytes) ++ codes "done " ++ decimal (length bytes) ++ line_feed

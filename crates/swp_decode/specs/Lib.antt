@@ -1,0 +1,4 @@
+pub mod Readings
+pub mod Texts
+pub mod Decoded
+pub mod Kept

@@ -1,0 +1,17 @@
+//! Decodes a recorded line: one line of text for each frame or fault in either direction, this project's own form.
+//!
+//! A line is `s1 START HEX WORDS` for a frame from the CLF and `s2 ..` for one from the UICC, or `s1 START FAULT` for one that
+//! was refused. START is the place, from 0, of the byte that held the first bit of its start of frame.
+#![tactic(auto)]
+
+mod decoder;
+mod line;
+mod signal;
+mod words;
+
+pub use decoder::Decoder;
+pub use line::Wire;
+pub use words::Text;
+
+#[cfg(test)]
+mod tests;

@@ -1,0 +1,53 @@
+//! A line of text.
+ghost use Rattle.std.specs.Prelude.{◌≡◌, ◌+◌, ◌≤◌, ◌++◌, length};
+ghost use Rattle.swp_decode.specs.Texts.{wire_name, whole_line, line_of};
+
+use crate::words::{Text, push_decimal, push_text, push_verdict};
+use swp_frame::Fed;
+
+/// A direction of a line.
+#[derive(Clone, Copy, Debug, PartialEq, Eq)]
+pub enum Wire {
+    /// From the CLF to the UICC.
+    S1,
+    /// From the UICC to the CLF.
+    S2,
+}
+
+/// Appends the line of what was read on a wire, of a frame whose start is at this place; nothing where nothing came.
+#[inline]
+pub fn push_line(text: &mut Text, wire: Wire, start: u32, fed: &Fed)
+    requires { length text.old.items + 128 ≤ 8192 }
+    ensures items { text.new.items ≡ text.old.items ++ line_of wire start fed.now }
+    ensures sized { length text.new.items ≤ length text.old.items + 128 }
+{
+    match fed {
+        Fed::Nothing => {}
+        Fed::Frame(_) | Fed::Refused(_) => push_whole_line(text, wire, start, fed),
+    }
+}
+
+#[cold]
+#[inline(never)]
+fn push_whole_line(text: &mut Text, wire: Wire, start: u32, fed: &Fed)
+    requires { length text.old.items + 128 ≤ 8192 }
+    ensures items { text.new.items ≡ text.old.items ++ whole_line wire start fed.now }
+    ensures sized { length text.new.items ≤ length text.old.items + 128 }
+{
+    push_name(text, wire);
+    push_decimal(text, start);
+    push_text(text, b" ");
+    push_verdict(text, fed);
+    push_text(text, b"\n");
+}
+
+fn push_name(text: &mut Text, wire: Wire)
+    requires { length text.old.items + 3 ≤ 8192 }
+    ensures items { text.new.items ≡ text.old.items ++ wire_name wire }
+    ensures sized { length text.new.items ≤ length text.old.items + 3 }
+{
+    match wire {
+        Wire::S1 => push_text(text, b"s1 "),
+        Wire::S2 => push_text(text, b"s2 "),
+    }
+}
