@@ -1,15 +1,16 @@
 -- Linked blocks: what writes to links, bytes and heads leave of the chains.
-use Rattle.std.proofs.Common.{◌≡◌, ◌≢◌, ℕ, zero, suc, ◌+◌, ◌-◌, ◌*◌, ◌/◌, ◌%◌, ◌^◌, ◌<◌, ◌≤◌, Bool, true, false, cond, eqb, ◌⊎◌, inl, inr, List, [], ◌∷◌, ◌++◌, length, get_or, set, map, refl, sym, ap, ◌∙◌, subst, arith, rules, Fits, w16, w32, length-set, get_or-set_same, get_or-set_other}
+use Rattle.std.proofs.Common.{◌≡◌, ◌≢◌, ℕ, zero, suc, ◌+◌, ◌-◌, ◌*◌, ◌/◌, ◌%◌, ◌^◌, ◌<◌, ◌≤◌, Bool, true, false, cond, eqb, ◌⊎◌, inl, inr, List, [], ◌∷◌, ◌++◌, length, get_or, set, take, drop, replicate, map, refl, sym, ap, ◌∙◌, subst, arith, rules, Fits, w16, w32, length-set, get_or-set_same, get_or-set_other, length-drop, get_or-drop, add-one}
 use Rattle.std.specs.Prelude.{Option, Some, None, IsSome}
 use Rattle.std.specs.List.{range_with_len}
 use Rattle.std.specs.Int.{div_ceil}
-use Rattle.std.proofs.lemmas.List.{same_lists, get_or_past, get_or_default}
+use Rattle.std.proofs.lemmas.List.{same_lists, get_or_past, get_or_default, map-id, length-replicate, get_or-replicate}
 use Rattle.std.proofs.lemmas.Bool.{cases_lt, cases_eq}
-use Rattle.std.proofs.lemmas.List.FromFn.{length-map-range_with_len, get_or-map-range_with_len, map-range_with_len_more}
+use Rattle.std.proofs.lemmas.List.FromFn.{length-map-range_with_len, get_or-map-range_with_len, map-range_with_len_more, take-map-range_with_len, length-range_with_len, get_or-range_with_len}
 use Rattle.std.proofs.lemmas.Grind.{common_steps}
 use Rattle.block_pool.specs.declared.blocks.Head.{Head}
 use Rattle.block_pool.specs.Slots.{Held, blocks_for, slot, put, bytes_in, bytes_of, owner_in, owner_of}
-use Rattle.block_pool.specs.Layout.{block_at, byte_at, chain_bytes, held_by, slots_of, IsMarked, IsChain, IsSound}
+use Rattle.block_pool.specs.Links.{block_at, byte_at}
+use Rattle.block_pool.specs.Layout.{chain_bytes, held_by, slots_of, IsMarked, IsChain, IsSound}
 
 -- ---- links
 
@@ -594,3 +595,139 @@ module _ (region next : List ℕ) (heads : List (Option Head)) (slots : List (Op
       by_head : (h : Option Head) → get_or heads b None ≡ h → IsSome h
       by_head None e = absurd (not_none b some e)
       by_head (Some head) e = search rules
+
+-- ---- another owner
+
+module _ (region next : List ℕ) (heads : List (Option Head)) (free free_len : ℕ) (sound : IsSound region next heads free free_len) where
+  pub set_owner_sound : (b owner : ℕ) (head : Head) → get_or heads b None ≡ Some head → IsSound region next (set heads b (Some (record { owner = owner; last = head.last; len = head.len }))) free free_len
+  set_owner_sound b owner head at =
+      let chain = sound.chains b head at in
+      let low : b < length heads = omega (arith, in_pool next sound.mark sound.count b head chain, sound.counted) in
+      let new : Head = record { owner = owner; last = head.last; len = head.len } in
+      let kept : IsChain next sound.mark sound.count b new = record { some = chain.some; marked = chain.marked; last = chain.last } in
+      record {
+        count = sound.count;
+        counted = length-set heads b (Some new) ∙ sound.counted;
+        links = sound.links;
+        bytes = sound.bytes;
+        few = sound.few;
+        mark = sound.mark;
+        chains = λ c h e. elim (cases_eq c b) [
+            inl same ↦ subst (λ x. IsChain next sound.mark sound.count x h) (sym same)
+                (subst (λ g. IsChain next sound.mark sound.count b g) (sym (this_head region next heads free free_len sound b new h low (subst (λ x. get_or (set heads b (Some new)) x None ≡ Some h) same e))) kept)
+          | inr apart ↦ sound.chains c h (other_head region next heads free free_len sound b (Some new) c (Some h) apart e)
+        ];
+        spare = sound.spare;
+      }
+
+  pub set_owner_slots : (b owner : ℕ) (head : Head) → get_or heads b None ≡ Some head → slots_of region next (set heads b (Some (record { owner = owner; last = head.last; len = head.len }))) ≡ put (slots_of region next heads) b owner (chain_bytes region next b head.len)
+  set_owner_slots b owner head at =
+      let low : b < length heads = omega (arith, in_pool next sound.mark sound.count b head (sound.chains b head at), sound.counted) in
+      let new : Head = record { owner = owner; last = head.last; len = head.len } in
+      slots_set region next region next heads (set heads b (Some new)) b (Some (record { owner = owner; bytes = chain_bytes region next b head.len }))
+          (length-set heads b (Some new)) low
+          (ap (held_by region next b) (get_or-set_same heads b (Some new) None low))
+          (λ c apart. ap (held_by region next c) (get_or-set_other heads b c (Some new) None apart))
+
+  -- ---- bytes copied out
+
+  -- the blocks of a chain lie in the pool
+  pub blocks_low : (b : ℕ) (head : Head) → get_or heads b None ≡ Some head → (k : ℕ) → k * 32 < head.len → block_at next b k < length next
+  blocks_low b head at k low = omega (arith, (sound.chains b head at).marked k (omega arith), sound.links)
+
+-- a part of bytes made by place
+drop-made : (f : ℕ → ℕ) (n from : ℕ) → from ≤ n → drop from (map f (range_with_len 0 n)) ≡ map f (range_with_len from (n - from))
+drop-made f n from low =
+    let made = map f (range_with_len 0 n) in
+    let len = length-map-range_with_len f 0 n in
+    let rest = length-map-range_with_len f from (n - from) in
+    same_lists _ _ (omega (arith, length-drop from made, len, rest))
+    (λ k d h.
+        let inside : k < n - from = omega (arith, length-drop from made, len) in
+        get_or-drop from made k d
+        ∙ (get_or-map-range_with_len f 0 n (from + k) (from + k) d (omega arith) (omega arith)
+        ∙ sym (get_or-map-range_with_len f from (n - from) k (from + k) d inside refl)))
+
+pub copied_bytes : (region next : List ℕ) (b len from count : ℕ) → from ≤ len → count ≤ len - from → map (byte_at region next b) (range_with_len from count) ≡ take count (drop from (chain_bytes region next b len))
+unfolding chain_bytes
+copied_bytes region next b len from count low few =
+    sym (ap (take count) (drop-made (byte_at region next b) len from low) ∙ take-map-range_with_len (byte_at region next b) from (len - from) count few)
+
+-- what the slots say of a chain whose head is known
+module _ (region next : List ℕ) (heads : List (Option Head)) (free free_len : ℕ) (sound : IsSound region next heads free free_len) (slots : List (Option Held)) (view : slots_of region next heads ≡ slots) (b : ℕ) (some : 0 < length (bytes_of slots b)) where
+  pub blocks_reached : (k : ℕ) → k * 32 < length (bytes_of slots b) → block_at next b k < length next
+  blocks_reached k low = by_head (get_or heads b None) refl
+    where
+      by_head : (h : Option Head) → get_or heads b None ≡ h → block_at next b k < length next
+      by_head None e = absurd (not_none region next heads slots view b some e)
+      by_head (Some head) e = blocks_low region next heads free free_len sound b head e k (omega (arith, len_says region next heads slots view b head e))
+
+  pub bytes_copied : (from count : ℕ) → from ≤ length (bytes_of slots b) → count ≤ length (bytes_of slots b) - from → map (byte_at region next b) (range_with_len from count) ≡ take count (drop from (bytes_of slots b))
+  bytes_copied from count low few = by_head (get_or heads b None) refl
+    where
+      by_head : (h : Option Head) → get_or heads b None ≡ h → map (byte_at region next b) (range_with_len from count) ≡ take count (drop from (bytes_of slots b))
+      by_head None e = absurd (not_none region next heads slots view b some e)
+      by_head (Some head) e =
+          let len = len_says region next heads slots view b head e in
+          copied_bytes region next b head.len from count (omega (arith, len)) (omega (arith, len)) ∙ ap (λ bs. take count (drop from bs)) (sym (bytes_say region next heads slots view b head e))
+
+-- ---- walking
+
+pub block_at-more : (next : List ℕ) (first k : ℕ) → get_or next (block_at next first k) 0 ≡ block_at next first (k + 1)
+block_at-more next first k = rw add-one refl
+
+-- the block of the next byte
+pub next_block : (next : List ℕ) (first place block : ℕ) → block ≡ block_at next first (place / 32) → (place + 1) % 32 ≡ 0 → get_or next block 0 ≡ block_at next first ((place + 1) / 32)
+next_block next first place block here full =
+    let e : place / 32 + 1 ≡ (place + 1) / 32 = omega arith in
+    ap (λ b. get_or next b 0) here ∙ (block_at-more next first (place / 32) ∙ ap (block_at next first) e)
+
+pub same_block : (next : List ℕ) (first place block : ℕ) → block ≡ block_at next first (place / 32) → (place + 1) % 32 ≢ 0 → block ≡ block_at next first ((place + 1) / 32)
+same_block next first place block here room =
+    let e : place / 32 ≡ (place + 1) / 32 = omega arith in
+    here ∙ ap (block_at next first) e
+
+-- a list whose elements are known by place
+pub made_from : (f : ℕ → ℕ) (from n : ℕ) (xs : List ℕ) → length xs ≡ n → ((k : ℕ) → k < n → get_or xs k 0 ≡ f (from + k)) → xs ≡ map f (range_with_len from n)
+made_from f from n xs len same =
+    same_lists _ _ (len ∙ sym (length-map-range_with_len f from n))
+    (λ k d h. let low : k < n = omega (arith, len) in
+        get_or_default xs k d 0 h ∙ (same k low ∙ sym (get_or-map-range_with_len f from n k (from + k) d low refl)))
+
+pub range_more : (a n : ℕ) → range_with_len a (n + 1) ≡ range_with_len a n ++ (a + n) ∷ []
+range_more a n =
+    sym (map-id (range_with_len a (n + 1))) ∙ (map-range_with_len_more (λ x. x) a n (a + n) refl ∙ ap (λ xs. xs ++ (a + n) ∷ []) (map-id (range_with_len a n)))
+
+-- ---- a new pool
+
+-- in a new pool each block leads to the one behind it
+in_order : (count k : ℕ) → k < count → block_at (range_with_len 1 count) 0 k ≡ k
+in_order count zero low = refl
+in_order count (suc k) low =
+    ap (λ b. get_or (range_with_len 1 count) b 0) (in_order count k (omega arith)) ∙ (get_or-range_with_len 1 count k 0 (omega arith) ∙ omega arith)
+
+pub make_sound : (region next : List ℕ) (heads : List (Option Head)) (count : ℕ) → count ≤ 16384 → length region ≡ 32 * count → next ≡ range_with_len 1 count → heads ≡ replicate count None → IsSound region next heads 0 count
+make_sound region next heads count few bytes links none = record {
+    count = count;
+    counted = ap length none ∙ length-replicate count None;
+    links = ap length links ∙ length-range_with_len 1 count;
+    bytes = bytes;
+    few = few;
+    mark = λ x. (count, x);
+    chains = λ b head e. absurd (none_is_some head (sym (no_heads b) ∙ e));
+    spare = λ k low. let place : block_at next 0 k ≡ k = ap (λ xs. block_at xs 0 k) links ∙ in_order count k low in (omega (arith, place), ap (λ x. (count, x)) place);
+  }
+  where
+    no_heads : (b : ℕ) → get_or heads b None ≡ None
+    no_heads b = ap (λ hs. get_or hs b None) none ∙ elim (cases_lt b count) [ inl low ↦ get_or-replicate count b None None low | inr high ↦ get_or_past (replicate count None) b None (omega (arith, length-replicate {A = Option Head} count None)) ]
+
+pub make_slots : (region next : List ℕ) (heads : List (Option Head)) (count : ℕ) → heads ≡ replicate count None → slots_of region next heads ≡ replicate count None
+make_slots region next heads count none =
+    same_lists _ _ (length-slots_of region next heads ∙ (ap length none ∙ (length-replicate {A = Option Head} count None ∙ sym (length-replicate {A = Option Held} count None))))
+    (λ k d h.
+        let low : k < count = omega (arith, length-slots_of region next heads, ap length none, length-replicate {A = Option Head} count None) in
+        get_or_default (slots_of region next heads) k d None h
+        ∙ (slot_is region next heads k
+        ∙ (ap (λ hs. held_by region next k (get_or hs k None)) none
+        ∙ (ap (held_by region next k) (get_or-replicate count k None None low)
+        ∙ sym (get_or-replicate count k None d low)))))

@@ -1,2 +1,5 @@
 pub mod Slots
+pub mod Links
 pub mod Layout
+pub mod Pool
+pub mod Counts

@@ -2,3 +2,9 @@
 #![tactic(auto)]
 
 mod blocks;
+mod chain;
+mod owners;
+mod pool;
+
+pub use chain::Chain;
+pub use pool::{NoRoom, Pool};

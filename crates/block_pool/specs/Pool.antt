@@ -1,0 +1,124 @@
+-- What a pool holds: for each block the chain that begins there, and for each owner its quota, its use, and what is set
+-- aside.
+use Rattle.std.specs.Prelude.{◌≡◌, ℕ, ◌+◌, ◌-◌, ◌*◌, ◌<◌, ◌≤◌, if◌then◌else◌, ◌==◌, List, [], ◌∷◌, ◌++◌, length, map, replicate, Option, None, Some, slice_index_or, slice_set}
+use Rattle.std.specs.List.{sum_by}
+use Rattle.block_pool.specs.Slots.{Held, blocks_for, slot, put, bytes_of, owner_of}
+use Rattle.block_pool.specs.declared.owners.Owner.{Owner}
+use Rattle.block_pool.specs.declared.chain.Chain.{Chain}
+
+pub record PoolState : Type 0 where
+  pub slots : List (Option Held)
+  pub owners : List Owner
+
+-- ---- owners
+
+abbrev pub owner_at : List Owner → ℕ → Owner
+owner_at owners owner = slice_index_or owners owner (record { quota = 0; used = 0; aside = 0 })
+
+-- how many blocks an owner may use
+abbrev pub quota_of : PoolState → ℕ → ℕ
+quota_of pool owner = (owner_at pool.owners owner).quota
+
+-- how many blocks it uses, those set aside among them
+abbrev pub used_of : PoolState → ℕ → ℕ
+used_of pool owner = (owner_at pool.owners owner).used
+
+-- how many blocks are set aside for it
+abbrev pub aside_of : PoolState → ℕ → ℕ
+aside_of pool owner = (owner_at pool.owners owner).aside
+
+abbrev pub spare_of : PoolState → ℕ → ℕ
+spare_of pool owner = quota_of pool owner - used_of pool owner
+
+-- the owner has a quota
+abbrev pub HasQuota : PoolState → ℕ → Type 0
+HasQuota pool owner = owner < length pool.owners
+
+-- the owners, where one uses so many blocks
+abbrev pub with_used : List Owner → ℕ → ℕ → List Owner
+with_used owners owner used =
+    slice_set owners owner
+        (record { quota = (owner_at owners owner).quota; used = used; aside = (owner_at owners owner).aside })
+
+-- the owners, where one uses so many blocks and has so many of them set aside
+abbrev pub with_aside : List Owner → ℕ → ℕ → ℕ → List Owner
+with_aside owners owner used aside =
+    slice_set owners owner (record { quota = (owner_at owners owner).quota; used = used; aside = aside })
+
+-- ---- chains
+
+-- the bytes of a chain by its name: a chain without a name is empty
+abbrev pub bytes_at : List (Option Held) → Option ℕ → List ℕ
+bytes_at slots None = []
+bytes_at slots (Some first) = bytes_of slots first
+
+abbrev pub chain_bytes : PoolState → Chain → List ℕ
+chain_bytes pool chain = bytes_at pool.slots chain.first
+
+-- a chain with a name has bytes there, and they are its owner's
+abbrev pub IsLiveAt : List (Option Held) → ℕ → Option ℕ → Type 0
+IsLiveAt slots owner None = Unit {0}
+IsLiveAt slots owner (Some first) = (0 < length (bytes_of slots first)) × (owner_of slots first ≡ owner)
+
+abbrev pub IsLive : PoolState → Chain → Type 0
+IsLive pool chain = HasQuota pool chain.owner × IsLiveAt pool.slots chain.owner chain.first
+
+-- an empty chain of an owner
+abbrev pub IsEmptyChain : ℕ → Chain → Type 0
+IsEmptyChain owner chain = (chain.owner ≡ owner) × (chain.first ≡ None)
+
+-- the chains, where the chain of this name has these bytes
+abbrev pub put_at : List (Option Held) → Option ℕ → ℕ → List ℕ → List (Option Held)
+put_at slots None owner bytes = slots
+put_at slots (Some first) owner bytes = put slots first owner bytes
+
+-- the chains without the one of this name
+abbrev pub removed_at : List (Option Held) → Option ℕ → List (Option Held)
+removed_at slots None = slots
+removed_at slots (Some first) = slice_set slots first None
+
+-- The name of a chain after bytes were appended: it keeps a name, and an empty chain with its first byte gets that of a
+-- block where no chain began.
+abbrev pub IsNamedAfter : List (Option Held) → Option ℕ → List ℕ → Option ℕ → Type 0
+IsNamedAfter slots (Some first) bytes name = name ≡ Some first
+IsNamedAfter slots None [] name = name ≡ None
+IsNamedAfter slots None (byte ∷ bytes) name =
+    (first : ℕ) × (name ≡ Some first) × (first < length slots) × (slot slots first ≡ None)
+
+-- how many more blocks so many further bytes need
+abbrev pub more_blocks : ℕ → ℕ → ℕ
+more_blocks len further = blocks_for (len + further) - blocks_for len
+
+-- ---- what calls do
+
+-- bytes were appended to a chain, and nothing else changed
+pub record Appends (old new : PoolState) (before after : Chain) (bytes : List ℕ) : Type 0 where
+  pub owner : after.owner ≡ before.owner
+  pub name : IsNamedAfter old.slots before.first bytes after.first
+  pub slots : new.slots ≡ put_at old.slots after.first before.owner (chain_bytes old before ++ bytes)
+  pub owners : new.owners
+      ≡ with_used old.owners before.owner (used_of old before.owner + more_blocks (length (chain_bytes old before)) (length bytes))
+
+-- a chain went to another owner with its bytes and its name, and nothing else changed
+pub record Passes (old new : PoolState) (before after : Chain) (owner : ℕ) : Type 0 where
+  pub owner_is : after.owner ≡ owner
+  pub name : after.first ≡ before.first
+  pub slots : new.slots ≡ put_at old.slots before.first owner (chain_bytes old before)
+  pub owners : new.owners
+      ≡ (let n = blocks_for (length (chain_bytes old before)) in
+         let without = with_used old.owners before.owner (used_of old before.owner - n) in
+         with_used without owner ((owner_at without owner).used + n))
+
+-- a chain's blocks were given back, and nothing else changed
+pub record Gives (old new : PoolState) (chain : Chain) : Type 0 where
+  pub slots : new.slots ≡ removed_at old.slots chain.first
+  pub owners : new.owners
+      ≡ with_used old.owners chain.owner (used_of old chain.owner - blocks_for (length (chain_bytes old chain)))
+
+-- a pool without chains, with these quotas
+abbrev pub new_owners : List ℕ → List Owner
+new_owners quotas = map (λ quota. record { quota = quota; used = 0; aside = 0 }) quotas
+
+pub record IsNew (pool : PoolState) (quotas : List ℕ) : Type 0 where
+  pub slots : pool.slots ≡ replicate (sum_by (λ quota. quota) quotas) None
+  pub owners : pool.owners ≡ new_owners quotas
