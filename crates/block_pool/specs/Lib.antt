@@ -1,5 +1,6 @@
 pub mod Slots
 pub mod Links
 pub mod Layout
+pub mod Names
 pub mod Pool
 pub mod Counts

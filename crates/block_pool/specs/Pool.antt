@@ -2,7 +2,8 @@
 -- aside.
 use Rattle.std.specs.Prelude.{◌≡◌, ℕ, ◌+◌, ◌-◌, ◌*◌, ◌<◌, ◌≤◌, if◌then◌else◌, ◌==◌, List, [], ◌∷◌, ◌++◌, length, map, replicate, Option, None, Some, slice_index_or, slice_set}
 use Rattle.std.specs.List.{sum_by}
-use Rattle.block_pool.specs.Slots.{Held, blocks_for, slot, put, bytes_of, owner_of}
+use Rattle.block_pool.specs.Slots.{Held, blocks_for}
+use Rattle.block_pool.specs.Names.{bytes_at, IsLiveAt, put_at, removed_at, IsNamedAfter}
 use Rattle.block_pool.specs.declared.owners.Owner.{Owner}
 use Rattle.block_pool.specs.declared.chain.Chain.{Chain}
 
@@ -47,43 +48,20 @@ with_aside owners owner used aside =
 
 -- ---- chains
 
--- the bytes of a chain by its name: a chain without a name is empty
-abbrev pub bytes_at : List (Option Held) → Option ℕ → List ℕ
-bytes_at slots None = []
-bytes_at slots (Some first) = bytes_of slots first
-
+-- the bytes of a chain
 abbrev pub chain_bytes : PoolState → Chain → List ℕ
 chain_bytes pool chain = bytes_at pool.slots chain.first
-
--- a chain with a name has bytes there, and they are its owner's
-abbrev pub IsLiveAt : List (Option Held) → ℕ → Option ℕ → Type 0
-IsLiveAt slots owner None = Unit {0}
-IsLiveAt slots owner (Some first) = (0 < length (bytes_of slots first)) × (owner_of slots first ≡ owner)
 
 abbrev pub IsLive : PoolState → Chain → Type 0
 IsLive pool chain = HasQuota pool chain.owner × IsLiveAt pool.slots chain.owner chain.first
 
+-- how many more blocks the owner of a chain may use
+abbrev pub chain_spare : PoolState → Chain → ℕ
+chain_spare pool chain = spare_of pool chain.owner
+
 -- an empty chain of an owner
 abbrev pub IsEmptyChain : ℕ → Chain → Type 0
 IsEmptyChain owner chain = (chain.owner ≡ owner) × (chain.first ≡ None)
-
--- the chains, where the chain of this name has these bytes
-abbrev pub put_at : List (Option Held) → Option ℕ → ℕ → List ℕ → List (Option Held)
-put_at slots None owner bytes = slots
-put_at slots (Some first) owner bytes = put slots first owner bytes
-
--- the chains without the one of this name
-abbrev pub removed_at : List (Option Held) → Option ℕ → List (Option Held)
-removed_at slots None = slots
-removed_at slots (Some first) = slice_set slots first None
-
--- The name of a chain after bytes were appended: it keeps a name, and an empty chain with its first byte gets that of a
--- block where no chain began.
-abbrev pub IsNamedAfter : List (Option Held) → Option ℕ → List ℕ → Option ℕ → Type 0
-IsNamedAfter slots (Some first) bytes name = name ≡ Some first
-IsNamedAfter slots None [] name = name ≡ None
-IsNamedAfter slots None (byte ∷ bytes) name =
-    (first : ℕ) × (name ≡ Some first) × (first < length slots) × (slot slots first ≡ None)
 
 -- how many more blocks so many further bytes need
 abbrev pub more_blocks : ℕ → ℕ → ℕ

@@ -1,4 +1,8 @@
 //! The pool: chains with a quota for each owner.
+ghost use Rattle.std.specs.Prelude.{◌≡◌, ◌+◌, ◌^◌, ◌<◌, ◌≤◌, ◌++◌, length};
+ghost use Rattle.block_pool.specs.Slots.{blocks_for};
+ghost use Rattle.block_pool.specs.Names.{bytes_at, IsLiveAt, put_at, removed_at, IsNamedAfter};
+
 use crate::blocks::{BLOCK_BYTES, Blocks};
 use crate::chain::Chain;
 use crate::owners::Owner;
@@ -38,7 +42,7 @@ impl Pool {
     ghost use Rattle.std.specs.Prelude.{◌≡◌, ◌+◌, ◌-◌, ◌≤◌, ◌<◌, ◌↔◌, ◌++◌, length, take, drop, min, IfOk, IfErr, IsOk, OnOk, OnErr};
     ghost use Rattle.std.specs.List.{sum_by};
     ghost use Rattle.block_pool.specs.Slots.{blocks_for};
-    ghost use Rattle.block_pool.specs.Pool.{HasQuota, IsLive, IsEmptyChain, IsNew, Appends, Passes, Gives, chain_bytes, spare_of, quota_of, used_of, aside_of, more_blocks, with_aside};
+    ghost use Rattle.block_pool.specs.Pool.{HasQuota, IsLive, IsEmptyChain, IsNew, Appends, Passes, Gives, chain_bytes, chain_spare, spare_of, quota_of, used_of, aside_of, more_blocks, with_aside};
     ghost use Rattle.block_pool.specs.Counts.{IsCounted};
 
     /// An empty chain of an owner that has a quota. It uses no block.
@@ -121,4 +125,132 @@ impl Pool {
             aside: old.aside - 1,
         };
     }
+
+    /// Appends bytes to a chain. `Err` comes where the further blocks exceed what its owner has left, and changes nothing.
+    pub fn take(&mut self, chain: &mut Chain, bytes: &[u8]) -> Result<(), NoRoom>
+        requires { IsLive self.old chain.old }
+        ensures room { IsOk result
+            ↔ (more_blocks (length (chain_bytes self.old chain.old)) (length bytes.now) ≤ chain_spare self.old chain.old) }
+        ensures ok { OnOk result (Appends self.old self.new chain.old chain.new bytes.now) }
+        ensures no_room { IfErr result (λ e.
+            (e.need ≡ min (more_blocks (length (chain_bytes self.old chain.old)) (length bytes.now)) 65535)
+            × (e.spare ≡ chain_spare self.old chain.old)) }
+        ensures err { OnErr result ((self.new ≡ self.old) × (chain.new ≡ chain.old)) }
+    {
+        let len = self.len(chain) as usize;
+        let need = (len + bytes.len()).div_ceil(BLOCK_BYTES) - len.div_ceil(BLOCK_BYTES);
+        let spare = self.spare(chain.owner);
+        if need > spare as usize {
+            return Err(NoRoom {
+                need: need.min(u16::MAX as usize) as u16,
+                spare,
+            });
+        }
+        let at = chain.owner as usize;
+        let old = self.owners[at];
+        append(&mut self.blocks, chain, bytes);
+        self.owners[at] = Owner {
+            quota: old.quota,
+            used: old.used + need as u16,
+            aside: old.aside,
+        };
+        Ok(())
+    }
+
+    /// Gives a chain to another owner with its bytes, which stay where they are. `Err` comes where its blocks exceed what
+    /// that owner has left, and changes nothing.
+    pub fn pass(&mut self, chain: &mut Chain, owner: u8) -> Result<(), NoRoom>
+        requires live { IsLive self.old chain.old }
+        requires quota { HasQuota self.old owner }
+        ensures room { IsOk result ↔ (blocks_for (length (chain_bytes self.old chain.old)) ≤ spare_of self.old owner) }
+        ensures ok { OnOk result (Passes self.old self.new chain.old chain.new owner) }
+        ensures no_room { IfErr result (λ e.
+            (e.need ≡ blocks_for (length (chain_bytes self.old chain.old))) × (e.spare ≡ spare_of self.old owner)) }
+        ensures err { OnErr result ((self.new ≡ self.old) × (chain.new ≡ chain.old)) }
+    {
+        let need = (self.len(chain) as usize).div_ceil(BLOCK_BYTES) as u16;
+        let spare = self.spare(owner);
+        if need > spare {
+            return Err(NoRoom { need, spare });
+        }
+        let before = self.owners[chain.owner as usize];
+        self.owners[chain.owner as usize] = Owner {
+            quota: before.quota,
+            used: before.used - need,
+            aside: before.aside,
+        };
+        let after = self.owners[owner as usize];
+        self.owners[owner as usize] = Owner {
+            quota: after.quota,
+            used: after.used + need,
+            aside: after.aside,
+        };
+        hand_over(&mut self.blocks, chain, owner);
+        Ok(())
+    }
+
+    /// Gives a chain's blocks back.
+    pub fn give(&mut self, chain: Chain)
+        requires { IsLive self.old chain }
+        ensures { Gives self.old self.new chain }
+    {
+        let need = (self.len(&chain) as usize).div_ceil(BLOCK_BYTES) as u16;
+        let at = chain.owner as usize;
+        let old = self.owners[at];
+        self.owners[at] = Owner {
+            quota: old.quota,
+            used: old.used - need,
+            aside: old.aside,
+        };
+        free_all(&mut self.blocks, &chain);
+    }
+}
+
+/// Frees the blocks of a chain.
+fn free_all(blocks: &mut Blocks, chain: &Chain)
+    requires live { IsLiveAt blocks.old.slots chain.now.owner chain.now.first }
+    requires fits { blocks.old.free + blocks_for (length (bytes_at blocks.old.slots chain.now.first)) < 2 ^ 16 }
+    ensures slots { blocks.new.slots ≡ removed_at blocks.old.slots chain.now.first }
+    ensures free { blocks.new.free ≡ blocks.old.free + blocks_for (length (bytes_at blocks.old.slots chain.now.first)) }
+{
+    if let Some(first) = chain.first {
+        blocks.free_chain(first);
+    }
+}
+
+/// Appends bytes to a chain, with as many free blocks as it needs.
+fn append(blocks: &mut Blocks, chain: &mut Chain, bytes: &[u8])
+    requires live { IsLiveAt blocks.old.slots chain.old.owner chain.old.first }
+    requires short { length (bytes_at blocks.old.slots chain.old.first) + length bytes.now < 2 ^ 24 }
+    requires room { blocks_for (length (bytes_at blocks.old.slots chain.old.first) + length bytes.now)
+        ≤ blocks_for (length (bytes_at blocks.old.slots chain.old.first)) + blocks.old.free }
+    ensures owner { chain.new.owner ≡ chain.old.owner }
+    ensures name { IsNamedAfter blocks.old.slots chain.old.first bytes.now chain.new.first }
+    ensures slots { blocks.new.slots ≡ put_at blocks.old.slots chain.new.first chain.old.owner
+        (bytes_at blocks.old.slots chain.old.first ++ bytes.now) }
+    ensures free { blocks.new.free + blocks_for (length (bytes_at blocks.old.slots chain.old.first) + length bytes.now)
+        ≡ blocks.old.free + blocks_for (length (bytes_at blocks.old.slots chain.old.first)) }
+{
+    if let Some(first) = chain.first {
+        blocks.extend(first, bytes);
+        return;
+    }
+    if let Some((byte, rest)) = bytes.split_first() {
+        let first = blocks.begin(chain.owner, *byte);
+        blocks.extend(first, rest);
+        chain.first = Some(first);
+    }
+}
+
+/// Gives a chain to another owner.
+fn hand_over(blocks: &mut Blocks, chain: &mut Chain, owner: u8)
+    requires { IsLiveAt blocks.old.slots chain.old.owner chain.old.first }
+    ensures chain { chain.new ≡ record { owner = owner; first = chain.old.first } }
+    ensures slots { blocks.new.slots ≡ put_at blocks.old.slots chain.old.first owner (bytes_at blocks.old.slots chain.old.first) }
+    ensures free { blocks.new.free ≡ blocks.old.free }
+{
+    if let Some(first) = chain.first {
+        blocks.set_owner(first, owner);
+    }
+    chain.owner = owner;
 }
