@@ -9,7 +9,8 @@ use Rattle.std.proofs.lemmas.Grind.{common_steps}
 use Rattle.block_pool.specs.declared.owners.Owner.{Owner}
 use Rattle.block_pool.specs.Slots.{Held, blocks_for, slot, put, bytes_in, bytes_of, owner_in, owner_of}
 use Rattle.block_pool.specs.Names.{bytes_at, IsLiveAt, put_at, removed_at, IsNamedAfter}
-use Rattle.block_pool.specs.Pool.{PoolState, owner_at, quota_of, used_of, aside_of, spare_of, HasQuota, with_used, with_aside}
+use Rattle.block_pool.specs.Owners.{owner_at, with_used, with_aside}
+use Rattle.block_pool.specs.Pool.{PoolState, quota_of, used_of, aside_of, spare_of, HasQuota}
 use Rattle.block_pool.specs.Counts.{blocks_in, blocks_held, IsCounted, IsFreeCount}
 use Rattle.block_pool.proofs.SlotLemmas.{slot_low, slot-put, put-put}
 
@@ -204,3 +205,60 @@ module _ (pool : PoolState) (counted : IsCounted pool) (o : ℕ) (has : o < leng
         | inr apart ↦ omega (arith, ap (λ x. x.used) (get_or-set_other pool.owners o p full nobody apart), ap (λ x. x.quota) (get_or-set_other pool.owners o p full nobody apart), counted.within p)
       ]) in
       omega (arith, rest, sums, sum_by-set (λ x. x.quota) pool.owners o full nobody has, sum_by-set (λ x. x.used) pool.owners o full nobody has)
+
+-- ---- whole calls
+
+module _ (pool : PoolState) (counted : IsCounted pool) (free : ℕ) (rest : IsFreeCount pool free) (o : ℕ) (has : o < length pool.owners) where
+  -- bytes were appended to a chain of an owner
+  pub taken_counted : (before : Option ℕ) (bytes : List ℕ) (after : Option ℕ) (slots : List (Option Held)) (left more : ℕ) (old : Owner) → IsLiveAt pool.slots o before → IsNamedAfter pool.slots before bytes after → slots ≡ put_at pool.slots after o (bytes_at pool.slots before ++ bytes) → left + blocks_for (length (bytes_at pool.slots before) + length bytes) ≡ free + blocks_for (length (bytes_at pool.slots before)) → more ≡ blocks_for (length (bytes_at pool.slots before) + length bytes) - blocks_for (length (bytes_at pool.slots before)) → more ≤ spare_of pool o → old ≡ owner_at pool.owners o
+      → IsCounted (record { slots = slots; owners = set pool.owners o (record { quota = old.quota; used = old.used + more; aside = old.aside }) }) × IsFreeCount (record { slots = slots; owners = set pool.owners o (record { quota = old.quota; used = old.used + more; aside = old.aside }) }) left
+  taken_counted before bytes after slots left more old live name slots_are left_is more_is room old_is =
+      let n = length (bytes_at pool.slots before) in
+      let grows : blocks_for n ≤ blocks_for (n + length bytes) = omega arith in
+      let held = append_held pool.slots o before bytes after live name in
+      let held_is : blocks_held slots o ≡ blocks_held pool.slots o + more = ap (λ ss. blocks_held ss o) slots_are ∙ omega (arith, held, more_is, grows) in
+      subst (λ (x : Owner). IsCounted (record { slots = slots; owners = set pool.owners o (record { quota = x.quota; used = x.used + more; aside = x.aside }) }) × IsFreeCount (record { slots = slots; owners = set pool.owners o (record { quota = x.quota; used = x.used + more; aside = x.aside }) }) left) (sym old_is)
+          (counted_after pool counted o has slots (used_of pool o + more) (aside_of pool o) (omega (arith, held_is, counted.used o has)) (omega (arith, counted.within o, room))
+              (λ p apart. ap (λ ss. blocks_held ss p) slots_are ∙ append_others pool.slots o before bytes after p live name apart),
+           free_after pool counted o has slots free (used_of pool o + more) (aside_of pool o) left rest (omega (arith, left_is, more_is, grows)))
+
+  -- a chain's blocks were given back
+  pub given_counted : (name : Option ℕ) (slots : List (Option Held)) (left n : ℕ) (old : Owner) → IsLiveAt pool.slots o name → slots ≡ removed_at pool.slots name → left ≡ free + blocks_for (length (bytes_at pool.slots name)) → n ≡ blocks_for (length (bytes_at pool.slots name)) → old ≡ owner_at pool.owners o
+      → IsCounted (record { slots = slots; owners = set pool.owners o (record { quota = old.quota; used = old.used - n; aside = old.aside }) }) × IsFreeCount (record { slots = slots; owners = set pool.owners o (record { quota = old.quota; used = old.used - n; aside = old.aside }) }) left
+  given_counted name slots left n old live slots_are left_is n_is old_is =
+      let low = chain_low pool counted o has name live in
+      let held = remove_held pool.slots o name live in
+      let held_is : blocks_held slots o + n ≡ blocks_held pool.slots o = ap (λ ss. blocks_held ss o + n) slots_are ∙ omega (arith, held, n_is) in
+      subst (λ (x : Owner). IsCounted (record { slots = slots; owners = set pool.owners o (record { quota = x.quota; used = x.used - n; aside = x.aside }) }) × IsFreeCount (record { slots = slots; owners = set pool.owners o (record { quota = x.quota; used = x.used - n; aside = x.aside }) }) left) (sym old_is)
+          (counted_after pool counted o has slots (used_of pool o - n) (aside_of pool o) (omega (arith, held_is, counted.used o has, low, n_is)) (omega (arith, counted.within o))
+              (λ p apart. ap (λ ss. blocks_held ss p) slots_are ∙ remove_others pool.slots o name p live apart),
+           free_after pool counted o has slots free (used_of pool o - n) (aside_of pool o) left rest (omega (arith, left_is, n_is, low)))
+
+-- a chain went to another owner: as if it was given back and taken again
+pub passed_counted : (pool : PoolState) (counted : IsCounted pool) (free : ℕ) (rest : IsFreeCount pool free) (o q : ℕ) (has : o < length pool.owners) (other : q < length pool.owners) (name : Option ℕ) (slots : List (Option Held)) (n : ℕ) (old new : Owner) → IsLiveAt pool.slots o name → slots ≡ put_at pool.slots name q (bytes_at pool.slots name) → n ≡ blocks_for (length (bytes_at pool.slots name)) → n ≤ spare_of pool q → old ≡ owner_at pool.owners o
+    → new ≡ owner_at (set pool.owners o (record { quota = old.quota; used = old.used - n; aside = old.aside })) q
+    → IsCounted (record { slots = slots; owners = set (set pool.owners o (record { quota = old.quota; used = old.used - n; aside = old.aside })) q (record { quota = new.quota; used = new.used + n; aside = new.aside }) })
+        × IsFreeCount (record { slots = slots; owners = set (set pool.owners o (record { quota = old.quota; used = old.used - n; aside = old.aside })) q (record { quota = new.quota; used = new.used + n; aside = new.aside }) }) free
+passed_counted pool counted free rest o q has other name slots n old new live slots_are n_is room old_is new_is =
+    let lowered : Owner = record { quota = old.quota; used = old.used - n; aside = old.aside } in
+    let between : PoolState = record { slots = removed_at pool.slots name; owners = set pool.owners o lowered } in
+    let nobody : Owner = record { quota = 0; used = 0; aside = 0 } in
+    let one = given_counted pool counted free rest o has name (removed_at pool.slots name) (free + blocks_for (length (bytes_at pool.slots name))) n old live refl refl n_is old_is in
+    let low = chain_low pool counted o has name live in
+    let still : q < length between.owners = omega (arith, other, length-set pool.owners o lowered) in
+    let fits : (get_or between.owners q nobody).used + n ≤ (get_or between.owners q nobody).quota = elim (cases_eq q o) [
+        inl same ↦
+            let here = ap (λ x. get_or between.owners x nobody) same ∙ get_or-set_same pool.owners o lowered nobody has in
+            omega (arith, ap (λ x. x.used) here, ap (λ x. x.quota) here, ap (λ x. x.used) old_is, ap (λ x. x.quota) old_is, counted.within o, low, n_is)
+      | inr apart ↦
+            let there = get_or-set_other pool.owners o q lowered nobody apart in
+            omega (arith, ap (λ x. x.used) there, ap (λ x. x.quota) there, room, counted.within q)
+    ] in
+    let used = (get_or between.owners q nobody).used in
+    let aside = (get_or between.owners q nobody).aside in
+    let held = again_held pool.slots o q name live in
+    let held_is : blocks_held slots q ≡ blocks_held between.slots q + n = ap (λ ss. blocks_held ss q) slots_are ∙ omega (arith, held, n_is) in
+    subst (λ (x : Owner). IsCounted (record { slots = slots; owners = set between.owners q (record { quota = x.quota; used = x.used + n; aside = x.aside }) }) × IsFreeCount (record { slots = slots; owners = set between.owners q (record { quota = x.quota; used = x.used + n; aside = x.aside }) }) free) (sym new_is)
+        (counted_after between one.0 q still slots (used + n) aside (omega (arith, held_is, one.0.used q still)) fits
+            (λ p apart. ap (λ ss. blocks_held ss p) slots_are ∙ again_others pool.slots o q name p live apart),
+         free_after between one.0 q still slots (free + blocks_for (length (bytes_at pool.slots name))) (used + n) aside free one.1 (omega (arith, n_is)))

@@ -4,6 +4,7 @@ use Rattle.std.specs.Prelude.{◌≡◌, ℕ, ◌+◌, ◌-◌, ◌*◌, ◌<◌
 use Rattle.std.specs.List.{sum_by}
 use Rattle.block_pool.specs.Slots.{Held, blocks_for}
 use Rattle.block_pool.specs.Names.{bytes_at, IsLiveAt, put_at, removed_at, IsNamedAfter}
+use Rattle.block_pool.specs.Owners.{owner_at, with_used, new_owners}
 use Rattle.block_pool.specs.declared.owners.Owner.{Owner}
 use Rattle.block_pool.specs.declared.chain.Chain.{Chain}
 
@@ -12,9 +13,6 @@ pub record PoolState : Type 0 where
   pub owners : List Owner
 
 -- ---- owners
-
-abbrev pub owner_at : List Owner → ℕ → Owner
-owner_at owners owner = slice_index_or owners owner (record { quota = 0; used = 0; aside = 0 })
 
 -- how many blocks an owner may use
 abbrev pub quota_of : PoolState → ℕ → ℕ
@@ -34,17 +32,6 @@ spare_of pool owner = quota_of pool owner - used_of pool owner
 -- the owner has a quota
 abbrev pub HasQuota : PoolState → ℕ → Type 0
 HasQuota pool owner = owner < length pool.owners
-
--- the owners, where one uses so many blocks
-abbrev pub with_used : List Owner → ℕ → ℕ → List Owner
-with_used owners owner used =
-    slice_set owners owner
-        (record { quota = (owner_at owners owner).quota; used = used; aside = (owner_at owners owner).aside })
-
--- the owners, where one uses so many blocks and has so many of them set aside
-abbrev pub with_aside : List Owner → ℕ → ℕ → ℕ → List Owner
-with_aside owners owner used aside =
-    slice_set owners owner (record { quota = (owner_at owners owner).quota; used = used; aside = aside })
 
 -- ---- chains
 
@@ -94,9 +81,6 @@ pub record Gives (old new : PoolState) (chain : Chain) : Type 0 where
       ≡ with_used old.owners chain.owner (used_of old chain.owner - blocks_for (length (chain_bytes old chain)))
 
 -- a pool without chains, with these quotas
-abbrev pub new_owners : List ℕ → List Owner
-new_owners quotas = map (λ quota. record { quota = quota; used = 0; aside = 0 }) quotas
-
 pub record IsNew (pool : PoolState) (quotas : List ℕ) : Type 0 where
   pub slots : pool.slots ≡ replicate (sum_by (λ quota. quota) quotas) None
   pub owners : pool.owners ≡ new_owners quotas

@@ -1,7 +1,8 @@
 //! The pool: chains with a quota for each owner.
-ghost use Rattle.std.specs.Prelude.{◌≡◌, ◌+◌, ◌^◌, ◌<◌, ◌≤◌, ◌++◌, length};
+ghost use Rattle.std.specs.Prelude.{◌≡◌, ◌+◌, ◌^◌, ◌<◌, ◌≤◌, ◌++◌, length, IfOk};
 ghost use Rattle.block_pool.specs.Slots.{blocks_for};
 ghost use Rattle.block_pool.specs.Names.{bytes_at, IsLiveAt, put_at, removed_at, IsNamedAfter};
+ghost use Rattle.block_pool.specs.Owners.{new_owners};
 
 use crate::blocks::{BLOCK_BYTES, Blocks};
 use crate::chain::Chain;
@@ -42,8 +43,22 @@ impl Pool {
     ghost use Rattle.std.specs.Prelude.{◌≡◌, ◌+◌, ◌-◌, ◌≤◌, ◌<◌, ◌↔◌, ◌++◌, length, take, drop, min, IfOk, IfErr, IsOk, OnOk, OnErr};
     ghost use Rattle.std.specs.List.{sum_by};
     ghost use Rattle.block_pool.specs.Slots.{blocks_for};
-    ghost use Rattle.block_pool.specs.Pool.{HasQuota, IsLive, IsEmptyChain, IsNew, Appends, Passes, Gives, chain_bytes, chain_spare, spare_of, quota_of, used_of, aside_of, more_blocks, with_aside};
+    ghost use Rattle.block_pool.specs.Pool.{HasQuota, IsLive, IsEmptyChain, IsNew, Appends, Passes, Gives, chain_bytes, chain_spare, spare_of, quota_of, used_of, aside_of, more_blocks};
+    ghost use Rattle.block_pool.specs.Owners.{with_aside};
     ghost use Rattle.block_pool.specs.Counts.{IsCounted};
+
+    /// A pool without chains, with a quota of blocks for each owner: at most 256 quotas, together at most 16,384. Owners are
+    /// numbered from 0.
+    pub fn make(alloc: Global, quotas: &[u16]) -> Result<Pool, AllocError>
+        requires few_owners { length quotas.now ≤ 256 }
+        requires few_blocks { sum_by (λ quota. quota) quotas.now ≤ 16384 }
+        ensures { IfOk result (λ pool. IsNew pool quotas.now) }
+    {
+        let total: u16 = quotas.iter().sum();
+        let blocks = Blocks::make(alloc, total)?;
+        let owners = new_owners(alloc, quotas)?;
+        Ok(Pool { blocks, owners })
+    }
 
     /// An empty chain of an owner that has a quota. It uses no block.
     pub fn chain(&mut self, owner: u8) -> Chain
@@ -204,6 +219,20 @@ impl Pool {
         };
         free_all(&mut self.blocks, &chain);
     }
+}
+
+/// An owner for each quota, with nothing used.
+fn new_owners(alloc: Global, quotas: &[u16]) -> Result<Vec<Owner>, AllocError>
+    ensures { IfOk result (λ v. v.items ≡ new_owners quotas.now) }
+{
+    quotas
+        .iter()
+        .map(|quota| Owner {
+            quota: *quota,
+            used: 0,
+            aside: 0,
+        })
+        .collect(alloc)
 }
 
 /// Frees the blocks of a chain.
