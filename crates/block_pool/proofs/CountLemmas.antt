@@ -1,15 +1,15 @@
 -- How calls change what owners use.
-use Rattle.std.proofs.Common.{◌≡◌, ◌≢◌, ℕ, zero, suc, ◌+◌, ◌-◌, ◌*◌, ◌/◌, ◌<◌, ◌≤◌, ◌⊎◌, inl, inr, Bool, true, false, cond, eqb, List, [], ◌∷◌, ◌++◌, length, get_or, set, refl, sym, ap, ◌∙◌, subst, arith, length-set, length-append, get_or-set_same, get_or-set_other}
+use Rattle.std.proofs.Common.{◌≡◌, ◌≢◌, ℕ, zero, suc, ◌+◌, ◌-◌, ◌*◌, ◌/◌, ◌<◌, ◌≤◌, ◌⊎◌, inl, inr, Bool, true, false, cond, eqb, List, [], ◌∷◌, ◌++◌, length, get_or, set, refl, sym, ap, ◌∙◌, subst, arith, length-set, length-append, replicate, get_or-set_same, get_or-set_other}
 use Rattle.std.specs.Prelude.{Option, Some, None}
 use Rattle.std.specs.List.{sum_by}
-use Rattle.std.proofs.lemmas.List.{get_or_past, set-set, set_past}
+use Rattle.std.proofs.lemmas.List.{get_or_past, set-set, length-map}
 use Rattle.std.proofs.lemmas.List.Sums.{sum_by-cons, sum_by-set, get_or-le-sum_by}
 use Rattle.std.proofs.lemmas.Bool.{cases_lt, cases_eq}
 use Rattle.std.proofs.lemmas.Grind.{common_steps}
 use Rattle.block_pool.specs.declared.owners.Owner.{Owner}
 use Rattle.block_pool.specs.Slots.{Held, blocks_for, slot, put, bytes_in, bytes_of, owner_in, owner_of}
 use Rattle.block_pool.specs.Names.{bytes_at, IsLiveAt, put_at, removed_at, IsNamedAfter}
-use Rattle.block_pool.specs.Owners.{owner_at, with_used, with_aside}
+use Rattle.block_pool.specs.Owners.{owner_at, with_used, with_aside, new_owners}
 use Rattle.block_pool.specs.Pool.{PoolState, quota_of, used_of, aside_of, spare_of, HasQuota}
 use Rattle.block_pool.specs.Counts.{blocks_in, blocks_held, IsCounted, IsFreeCount}
 use Rattle.block_pool.proofs.SlotLemmas.{slot_low, slot-put, put-put}
@@ -262,3 +262,35 @@ passed_counted pool counted free rest o q has other name slots n old new live sl
         (counted_after between one.0 q still slots (used + n) aside (omega (arith, held_is, one.0.used q still)) fits
             (λ p apart. ap (λ ss. blocks_held ss p) slots_are ∙ again_others pool.slots o q name p live apart),
          free_after between one.0 q still slots (free + blocks_for (length (bytes_at pool.slots name))) (used + n) aside free one.1 (omega (arith, n_is)))
+
+-- ---- a new pool
+
+nothing_held : (n p : ℕ) → blocks_held (replicate n None) p ≡ 0
+nothing_held zero p = refl
+nothing_held (suc n) p = sum_by-cons (blocks_in p) None (replicate n None) ∙ (ap (λ k. 0 + k) (nothing_held n p) ∙ omega arith)
+
+new_owner : (quotas : List ℕ) (p : ℕ) → (owner_at (new_owners quotas) p).used ≡ 0 × (owner_at (new_owners quotas) p).aside ≡ 0
+new_owner [] p = (refl, refl)
+new_owner (quota ∷ quotas) zero = (refl, refl)
+new_owner (quota ∷ quotas) (suc p) = new_owner quotas p
+
+new_sums : (quotas : List ℕ) → (sum_by (λ o. o.quota) (new_owners quotas) ≡ sum_by (λ quota. quota) quotas) × (sum_by (λ o. o.used) (new_owners quotas) ≡ 0) × (sum_by (λ o. o.aside) (new_owners quotas) ≡ 0)
+new_sums [] = (refl, refl, refl)
+new_sums (quota ∷ quotas) =
+    let new : Owner = record { quota = quota; used = 0; aside = 0 } in
+    let rest = new_sums quotas in
+    (omega (arith, sum_by-cons (λ (o : Owner). o.quota) new (new_owners quotas), sum_by-cons (λ (q : ℕ). q) quota quotas, rest.0),
+     omega (arith, sum_by-cons (λ (o : Owner). o.used) new (new_owners quotas), rest.1),
+     omega (arith, sum_by-cons (λ (o : Owner). o.aside) new (new_owners quotas), rest.2))
+
+pub new_counted : (quotas : List ℕ) (total : ℕ) (slots : List (Option Held)) (owners : List Owner) → length quotas ≤ 256 → sum_by (λ quota. quota) quotas ≤ 16384 → total ≡ sum_by (λ quota. quota) quotas → slots ≡ replicate total None → owners ≡ new_owners quotas → IsCounted (record { slots = slots; owners = owners }) × IsFreeCount (record { slots = slots; owners = owners }) total
+new_counted quotas total slots owners few_owners few_blocks total_is slots_are owners_are =
+    let sums = new_sums quotas in
+    subst (λ os. IsCounted (record { slots = slots; owners = os }) × IsFreeCount (record { slots = slots; owners = os }) total) (sym owners_are)
+    (record {
+        used = λ p low. (new_owner quotas p).0 ∙ (sym (omega (arith, (new_owner quotas p).1, ap (λ ss. blocks_held ss p) slots_are, nothing_held total p)));
+        within = λ p. omega (arith, (new_owner quotas p).0);
+        few_blocks = omega (arith, sums.0, few_blocks);
+        few_owners = omega (arith, length-map quotas (λ (quota : ℕ). let o : Owner = record { quota = quota; used = 0; aside = 0 } in o), few_owners);
+     },
+     omega (arith, sums.0, sums.1, sums.2, total_is))

@@ -1,7 +1,6 @@
 -- What a pool holds: for each block the chain that begins there, and for each owner its quota, its use, and what is set
 -- aside.
-use Rattle.std.specs.Prelude.{◌≡◌, ℕ, ◌+◌, ◌-◌, ◌*◌, ◌<◌, ◌≤◌, if◌then◌else◌, ◌==◌, List, [], ◌∷◌, ◌++◌, length, map, replicate, Option, None, Some, slice_index_or, slice_set}
-use Rattle.std.specs.List.{sum_by}
+use Rattle.std.specs.Prelude.{◌≡◌, ℕ, ◌+◌, ◌-◌, ◌*◌, ◌<◌, ◌≤◌, if◌then◌else◌, ◌==◌, List, [], ◌∷◌, ◌++◌, length, sum, replicate, Option, None, Some, slice_index_or, slice_set}
 use Rattle.block_pool.specs.Slots.{Held, blocks_for}
 use Rattle.block_pool.specs.Names.{bytes_at, IsLiveAt, put_at, removed_at, IsNamedAfter}
 use Rattle.block_pool.specs.Owners.{owner_at, with_used, new_owners}
@@ -82,5 +81,5 @@ pub record Gives (old new : PoolState) (chain : Chain) : Type 0 where
 
 -- a pool without chains, with these quotas
 pub record IsNew (pool : PoolState) (quotas : List ℕ) : Type 0 where
-  pub slots : pool.slots ≡ replicate (sum_by (λ quota. quota) quotas) None
+  pub slots : pool.slots ≡ replicate (sum quotas) None
   pub owners : pool.owners ≡ new_owners quotas

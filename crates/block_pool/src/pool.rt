@@ -1,5 +1,5 @@
 //! The pool: chains with a quota for each owner.
-ghost use Rattle.std.specs.Prelude.{◌≡◌, ◌+◌, ◌^◌, ◌<◌, ◌≤◌, ◌++◌, length, IfOk};
+ghost use Rattle.std.specs.Prelude.{◌≡◌, ◌+◌, ◌^◌, ◌<◌, ◌≤◌, ◌++◌, length, sum, IfOk};
 ghost use Rattle.block_pool.specs.Slots.{blocks_for};
 ghost use Rattle.block_pool.specs.Names.{bytes_at, IsLiveAt, put_at, removed_at, IsNamedAfter};
 ghost use Rattle.block_pool.specs.Owners.{new_owners};
@@ -40,8 +40,7 @@ impl Model for Pool {
 }
 
 impl Pool {
-    ghost use Rattle.std.specs.Prelude.{◌≡◌, ◌+◌, ◌-◌, ◌≤◌, ◌<◌, ◌↔◌, ◌++◌, length, take, drop, min, IfOk, IfErr, IsOk, OnOk, OnErr};
-    ghost use Rattle.std.specs.List.{sum_by};
+    ghost use Rattle.std.specs.Prelude.{◌≡◌, ◌+◌, ◌-◌, ◌≤◌, ◌<◌, ◌↔◌, ◌++◌, length, sum, take, drop, min, IfOk, IfErr, IsOk, OnOk, OnErr};
     ghost use Rattle.block_pool.specs.Slots.{blocks_for};
     ghost use Rattle.block_pool.specs.Pool.{HasQuota, IsLive, IsEmptyChain, IsNew, Appends, Passes, Gives, chain_bytes, chain_spare, spare_of, quota_of, used_of, aside_of, more_blocks};
     ghost use Rattle.block_pool.specs.Owners.{with_aside};
@@ -51,11 +50,10 @@ impl Pool {
     /// numbered from 0.
     pub fn make(alloc: Global, quotas: &[u16]) -> Result<Pool, AllocError>
         requires few_owners { length quotas.now ≤ 256 }
-        requires few_blocks { sum_by (λ quota. quota) quotas.now ≤ 16384 }
+        requires few_blocks { sum quotas.now ≤ 16384 }
         ensures { IfOk result (λ pool. IsNew pool quotas.now) }
     {
-        let total: u16 = quotas.iter().sum();
-        let blocks = Blocks::make(alloc, total)?;
+        let blocks = Blocks::make(alloc, total_of(quotas))?;
         let owners = new_owners(alloc, quotas)?;
         Ok(Pool { blocks, owners })
     }
@@ -219,6 +217,14 @@ impl Pool {
         };
         free_all(&mut self.blocks, &chain);
     }
+}
+
+/// All quotas together.
+fn total_of(quotas: &[u16]) -> u16
+    requires { sum quotas.now ≤ 16384 }
+    ensures { result ≡ sum quotas.now }
+{
+    quotas.iter().sum()
 }
 
 /// An owner for each quota, with nothing used.
