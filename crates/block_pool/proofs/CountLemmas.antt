@@ -60,7 +60,7 @@ grown_held slots o b bytes live =
     let changed = held_set slots b (Some (record { owner = o; bytes = bytes_of slots b ++ bytes })) o low in
     let before : blocks_in o (slot slots b) ≡ blocks_for (length (bytes_of slots b)) = ap (blocks_in o) (live_slot slots o b live) ∙ in_same o (bytes_of slots b) in
     let after : blocks_in o (Some (record { owner = o; bytes = bytes_of slots b ++ bytes })) ≡ blocks_for (length (bytes_of slots b) + length bytes) =
-        in_same o (bytes_of slots b ++ bytes) ∙ ap blocks_for (length-append (bytes_of slots b) bytes) in
+    in_same o (bytes_of slots b ++ bytes) ∙ ap blocks_for (length-append (bytes_of slots b) bytes) in
     omega (arith, changed, before, after)
 
 grown_others : (slots : List (Option Held)) (o b p : ℕ) (bytes : List ℕ) → IsLiveAt slots o (Some b) → p ≢ o → blocks_held (put slots b o bytes) p ≡ blocks_held slots p
@@ -93,8 +93,8 @@ append_held slots o None [] after live name = ap (λ n. blocks_held (put_at slot
 append_held slots o None (byte ∷ bytes) after live name =
     ap (λ n. blocks_held (put_at slots n o (byte ∷ bytes)) o + blocks_for 0) name.1
     ∙ (let begun = begun_held slots o name.0 (byte ∷ bytes) name.2 name.3 in
-       let plain : 0 + length (byte ∷ bytes) ≡ length (byte ∷ bytes) = omega arith in
-       ap (λ n. n + blocks_for 0) begun ∙ (omega (arith, no_blocks) ∙ ap (λ n. blocks_held slots o + blocks_for n) (sym plain)))
+    let plain : 0 + length (byte ∷ bytes) ≡ length (byte ∷ bytes) = omega arith in
+    ap (λ n. n + blocks_for 0) begun ∙ (omega (arith, no_blocks) ∙ ap (λ n. blocks_held slots o + blocks_for n) (sym plain)))
 
 pub append_others : (slots : List (Option Held)) (o : ℕ) (before : Option ℕ) (bytes : List ℕ) (after : Option ℕ) (p : ℕ) → IsLiveAt slots o before → IsNamedAfter slots before bytes after → p ≢ o → blocks_held (put_at slots after o (bytes_at slots before ++ bytes)) p ≡ blocks_held slots p
 append_others slots o (Some b) bytes after p live name apart =
@@ -173,14 +173,14 @@ module _ (pool : PoolState) (counted : IsCounted pool) (o : ℕ) (has : o < leng
       let len = length-set pool.owners o new in
       record {
         used = λ p low. elim (cases_eq p o) [
-            inl same ↦ subst (λ x. (get_or owners x nobody).used ≡ (get_or owners x nobody).aside + blocks_held slots x) (sym same)
-                (ap (λ x. x.used) here ∙ (is_used ∙ ap (λ n. n + blocks_held slots o) (sym (ap (λ x. x.aside) here))))
+          | inl same ↦ subst (λ x. (get_or owners x nobody).used ≡ (get_or owners x nobody).aside + blocks_held slots x) (sym same)
+              (ap (λ x. x.used) here ∙ (is_used ∙ ap (λ n. n + blocks_held slots o) (sym (ap (λ x. x.aside) here))))
           | inr apart ↦ ap (λ x. x.used) (there p apart) ∙ (counted.used p (omega (arith, len))
-                ∙ (ap (λ n. (get_or pool.owners p nobody).aside + n) (sym (others p apart)) ∙ ap (λ n. n + blocks_held slots p) (sym (ap (λ x. x.aside) (there p apart)))))
+              ∙ (ap (λ n. (get_or pool.owners p nobody).aside + n) (sym (others p apart)) ∙ ap (λ n. n + blocks_held slots p) (sym (ap (λ x. x.aside) (there p apart)))))
         ];
         within = λ p. elim (cases_eq p o) [
-            inl same ↦ subst (λ x. (get_or owners x nobody).used ≤ (get_or owners x nobody).quota) (sym same)
-                (omega (arith, ap (λ x. x.used) here, ap (λ x. x.quota) here, within))
+          | inl same ↦ subst (λ x. (get_or owners x nobody).used ≤ (get_or owners x nobody).quota) (sym same)
+              (omega (arith, ap (λ x. x.used) here, ap (λ x. x.quota) here, within))
           | inr apart ↦ omega (arith, ap (λ x. x.used) (there p apart), ap (λ x. x.quota) (there p apart), counted.within p)
         ];
         few_blocks = omega (arith, sum_by-set (λ x. x.quota) pool.owners o new nobody has, counted.few_blocks);
@@ -200,8 +200,8 @@ module _ (pool : PoolState) (counted : IsCounted pool) (o : ℕ) (has : o < leng
       let nobody : Owner = record { quota = 0; used = 0; aside = 0 } in
       let owners = set pool.owners o full in
       let sums = sum_le (λ x. x.used) (λ x. x.quota) nobody owners (λ p low. elim (cases_eq p o) [
-          inl same ↦ subst (λ x. (get_or owners x nobody).used ≤ (get_or owners x nobody).quota) (sym same)
-              (omega (arith, ap (λ x. x.used) (get_or-set_same pool.owners o full nobody has), ap (λ x. x.quota) (get_or-set_same pool.owners o full nobody has)))
+        | inl same ↦ subst (λ x. (get_or owners x nobody).used ≤ (get_or owners x nobody).quota) (sym same)
+            (omega (arith, ap (λ x. x.used) (get_or-set_same pool.owners o full nobody has), ap (λ x. x.quota) (get_or-set_same pool.owners o full nobody has)))
         | inr apart ↦ omega (arith, ap (λ x. x.used) (get_or-set_other pool.owners o p full nobody apart), ap (λ x. x.quota) (get_or-set_other pool.owners o p full nobody apart), counted.within p)
       ]) in
       omega (arith, rest, sums, sum_by-set (λ x. x.quota) pool.owners o full nobody has, sum_by-set (λ x. x.used) pool.owners o full nobody has)
@@ -217,10 +217,11 @@ module _ (pool : PoolState) (counted : IsCounted pool) (free : ℕ) (rest : IsFr
       let grows : blocks_for n ≤ blocks_for (n + length bytes) = omega arith in
       let held = append_held pool.slots o before bytes after live name in
       let held_is : blocks_held slots o ≡ blocks_held pool.slots o + more = ap (λ ss. blocks_held ss o) slots_are ∙ omega (arith, held, more_is, grows) in
-      subst (λ (x : Owner). IsCounted (record { slots = slots; owners = set pool.owners o (record { quota = x.quota; used = x.used + more; aside = x.aside }) }) × IsFreeCount (record { slots = slots; owners = set pool.owners o (record { quota = x.quota; used = x.used + more; aside = x.aside }) }) left) (sym old_is)
-          (counted_after pool counted o has slots (used_of pool o + more) (aside_of pool o) (omega (arith, held_is, counted.used o has)) (omega (arith, counted.within o, room))
-              (λ p apart. ap (λ ss. blocks_held ss p) slots_are ∙ append_others pool.slots o before bytes after p live name apart),
-           free_after pool counted o has slots free (used_of pool o + more) (aside_of pool o) left rest (omega (arith, left_is, more_is, grows)))
+      subst (λ (x : Owner). IsCounted (record { slots = slots; owners = set pool.owners o (record { quota = x.quota; used = x.used + more; aside = x.aside }) }) × IsFreeCount (record { slots = slots; owners = set pool.owners o (record { quota = x.quota; used = x.used + more; aside = x.aside }) }) left) (sym old_is) (
+        counted_after pool counted o has slots (used_of pool o + more) (aside_of pool o) (omega (arith, held_is, counted.used o has)) (omega (arith, counted.within o, room))
+            (λ p apart. ap (λ ss. blocks_held ss p) slots_are ∙ append_others pool.slots o before bytes after p live name apart),
+        free_after pool counted o has slots free (used_of pool o + more) (aside_of pool o) left rest (omega (arith, left_is, more_is, grows)),
+      )
 
   -- a chain's blocks were given back
   pub given_counted : (name : Option ℕ) (slots : List (Option Held)) (left n : ℕ) (old : Owner) → IsLiveAt pool.slots o name → slots ≡ removed_at pool.slots name → left ≡ free + blocks_for (length (bytes_at pool.slots name)) → n ≡ blocks_for (length (bytes_at pool.slots name)) → old ≡ owner_at pool.owners o
@@ -229,16 +230,17 @@ module _ (pool : PoolState) (counted : IsCounted pool) (free : ℕ) (rest : IsFr
       let low = chain_low pool counted o has name live in
       let held = remove_held pool.slots o name live in
       let held_is : blocks_held slots o + n ≡ blocks_held pool.slots o = ap (λ ss. blocks_held ss o + n) slots_are ∙ omega (arith, held, n_is) in
-      subst (λ (x : Owner). IsCounted (record { slots = slots; owners = set pool.owners o (record { quota = x.quota; used = x.used - n; aside = x.aside }) }) × IsFreeCount (record { slots = slots; owners = set pool.owners o (record { quota = x.quota; used = x.used - n; aside = x.aside }) }) left) (sym old_is)
-          (counted_after pool counted o has slots (used_of pool o - n) (aside_of pool o) (omega (arith, held_is, counted.used o has, low, n_is)) (omega (arith, counted.within o))
-              (λ p apart. ap (λ ss. blocks_held ss p) slots_are ∙ remove_others pool.slots o name p live apart),
-           free_after pool counted o has slots free (used_of pool o - n) (aside_of pool o) left rest (omega (arith, left_is, n_is, low)))
+      subst (λ (x : Owner). IsCounted (record { slots = slots; owners = set pool.owners o (record { quota = x.quota; used = x.used - n; aside = x.aside }) }) × IsFreeCount (record { slots = slots; owners = set pool.owners o (record { quota = x.quota; used = x.used - n; aside = x.aside }) }) left) (sym old_is) (
+        counted_after pool counted o has slots (used_of pool o - n) (aside_of pool o) (omega (arith, held_is, counted.used o has, low, n_is)) (omega (arith, counted.within o))
+            (λ p apart. ap (λ ss. blocks_held ss p) slots_are ∙ remove_others pool.slots o name p live apart),
+        free_after pool counted o has slots free (used_of pool o - n) (aside_of pool o) left rest (omega (arith, left_is, n_is, low)),
+      )
 
 -- a chain went to another owner: as if it was given back and taken again
 pub passed_counted : (pool : PoolState) (counted : IsCounted pool) (free : ℕ) (rest : IsFreeCount pool free) (o q : ℕ) (has : o < length pool.owners) (other : q < length pool.owners) (name : Option ℕ) (slots : List (Option Held)) (n : ℕ) (old new : Owner) → IsLiveAt pool.slots o name → slots ≡ put_at pool.slots name q (bytes_at pool.slots name) → n ≡ blocks_for (length (bytes_at pool.slots name)) → n ≤ spare_of pool q → old ≡ owner_at pool.owners o
     → new ≡ owner_at (set pool.owners o (record { quota = old.quota; used = old.used - n; aside = old.aside })) q
     → IsCounted (record { slots = slots; owners = set (set pool.owners o (record { quota = old.quota; used = old.used - n; aside = old.aside })) q (record { quota = new.quota; used = new.used + n; aside = new.aside }) })
-        × IsFreeCount (record { slots = slots; owners = set (set pool.owners o (record { quota = old.quota; used = old.used - n; aside = old.aside })) q (record { quota = new.quota; used = new.used + n; aside = new.aside }) }) free
+    × IsFreeCount (record { slots = slots; owners = set (set pool.owners o (record { quota = old.quota; used = old.used - n; aside = old.aside })) q (record { quota = new.quota; used = new.used + n; aside = new.aside }) }) free
 passed_counted pool counted free rest o q has other name slots n old new live slots_are n_is room old_is new_is =
     let lowered : Owner = record { quota = old.quota; used = old.used - n; aside = old.aside } in
     let between : PoolState = record { slots = removed_at pool.slots name; owners = set pool.owners o lowered } in
@@ -247,21 +249,22 @@ passed_counted pool counted free rest o q has other name slots n old new live sl
     let low = chain_low pool counted o has name live in
     let still : q < length between.owners = omega (arith, other, length-set pool.owners o lowered) in
     let fits : (get_or between.owners q nobody).used + n ≤ (get_or between.owners q nobody).quota = elim (cases_eq q o) [
-        inl same ↦
-            let here = ap (λ x. get_or between.owners x nobody) same ∙ get_or-set_same pool.owners o lowered nobody has in
-            omega (arith, ap (λ x. x.used) here, ap (λ x. x.quota) here, ap (λ x. x.used) old_is, ap (λ x. x.quota) old_is, counted.within o, low, n_is)
+      | inl same ↦
+          let here = ap (λ x. get_or between.owners x nobody) same ∙ get_or-set_same pool.owners o lowered nobody has in
+          omega (arith, ap (λ x. x.used) here, ap (λ x. x.quota) here, ap (λ x. x.used) old_is, ap (λ x. x.quota) old_is, counted.within o, low, n_is)
       | inr apart ↦
-            let there = get_or-set_other pool.owners o q lowered nobody apart in
-            omega (arith, ap (λ x. x.used) there, ap (λ x. x.quota) there, room, counted.within q)
+          let there = get_or-set_other pool.owners o q lowered nobody apart in
+          omega (arith, ap (λ x. x.used) there, ap (λ x. x.quota) there, room, counted.within q)
     ] in
     let used = (get_or between.owners q nobody).used in
     let aside = (get_or between.owners q nobody).aside in
     let held = again_held pool.slots o q name live in
     let held_is : blocks_held slots q ≡ blocks_held between.slots q + n = ap (λ ss. blocks_held ss q) slots_are ∙ omega (arith, held, n_is) in
-    subst (λ (x : Owner). IsCounted (record { slots = slots; owners = set between.owners q (record { quota = x.quota; used = x.used + n; aside = x.aside }) }) × IsFreeCount (record { slots = slots; owners = set between.owners q (record { quota = x.quota; used = x.used + n; aside = x.aside }) }) free) (sym new_is)
-        (counted_after between one.0 q still slots (used + n) aside (omega (arith, held_is, one.0.used q still)) fits
-            (λ p apart. ap (λ ss. blocks_held ss p) slots_are ∙ again_others pool.slots o q name p live apart),
-         free_after between one.0 q still slots (free + blocks_for (length (bytes_at pool.slots name))) (used + n) aside free one.1 (omega (arith, n_is)))
+    subst (λ (x : Owner). IsCounted (record { slots = slots; owners = set between.owners q (record { quota = x.quota; used = x.used + n; aside = x.aside }) }) × IsFreeCount (record { slots = slots; owners = set between.owners q (record { quota = x.quota; used = x.used + n; aside = x.aside }) }) free) (sym new_is) (
+      counted_after between one.0 q still slots (used + n) aside (omega (arith, held_is, one.0.used q still)) fits
+          (λ p apart. ap (λ ss. blocks_held ss p) slots_are ∙ again_others pool.slots o q name p live apart),
+      free_after between one.0 q still slots (free + blocks_for (length (bytes_at pool.slots name))) (used + n) aside free one.1 (omega (arith, n_is)),
+    )
 
 -- ---- a new pool
 
@@ -278,19 +281,21 @@ new_sums : (quotas : List ℕ) → (sum_by (λ o. o.quota) (new_owners quotas) �
 new_sums [] = (refl, refl, refl)
 new_sums (quota ∷ quotas) =
     let new : Owner = record { quota = quota; used = 0; aside = 0 } in
-    let rest = new_sums quotas in
-    (omega (arith, sum_by-cons (λ (o : Owner). o.quota) new (new_owners quotas), sum_by-cons (λ (q : ℕ). q) quota quotas, rest.0),
-     omega (arith, sum_by-cons (λ (o : Owner). o.used) new (new_owners quotas), rest.1),
-     omega (arith, sum_by-cons (λ (o : Owner). o.aside) new (new_owners quotas), rest.2))
+    let rest = new_sums quotas in (
+      omega (arith, sum_by-cons (λ (o : Owner). o.quota) new (new_owners quotas), sum_by-cons (λ (q : ℕ). q) quota quotas, rest.0),
+      omega (arith, sum_by-cons (λ (o : Owner). o.used) new (new_owners quotas), rest.1),
+      omega (arith, sum_by-cons (λ (o : Owner). o.aside) new (new_owners quotas), rest.2),
+    )
 
 pub new_counted : (quotas : List ℕ) (total : ℕ) (slots : List (Option Held)) (owners : List Owner) → length quotas ≤ 256 → sum_by (λ quota. quota) quotas ≤ 16384 → total ≡ sum_by (λ quota. quota) quotas → slots ≡ replicate total None → owners ≡ new_owners quotas → IsCounted (record { slots = slots; owners = owners }) × IsFreeCount (record { slots = slots; owners = owners }) total
 new_counted quotas total slots owners few_owners few_blocks total_is slots_are owners_are =
     let sums = new_sums quotas in
-    subst (λ os. IsCounted (record { slots = slots; owners = os }) × IsFreeCount (record { slots = slots; owners = os }) total) (sym owners_are)
-    (record {
+    subst (λ os. IsCounted (record { slots = slots; owners = os }) × IsFreeCount (record { slots = slots; owners = os }) total) (sym owners_are) (
+      record {
         used = λ p low. (new_owner quotas p).0 ∙ (sym (omega (arith, (new_owner quotas p).1, ap (λ ss. blocks_held ss p) slots_are, nothing_held total p)));
         within = λ p. omega (arith, (new_owner quotas p).0);
         few_blocks = omega (arith, sums.0, few_blocks);
         few_owners = omega (arith, length-map quotas (λ (quota : ℕ). let o : Owner = record { quota = quota; used = 0; aside = 0 } in o), few_owners);
-     },
-     omega (arith, sums.0, sums.1, sums.2, total_is))
+      },
+      omega (arith, sums.0, sums.1, sums.2, total_is),
+    )

@@ -35,8 +35,8 @@ same_made : (f g : ℕ → ℕ) (n : ℕ) → ((i : ℕ) → i < n → f i ≡ g
 same_made f g n same =
     same_lists _ _ (length-map-range_with_len f 0 n ∙ sym (length-map-range_with_len g 0 n))
     (λ k d h. let low : k < n = omega (arith, length-map-range_with_len f 0 n) in
-        get_or-map-range_with_len f 0 n k k d low (omega arith)
-        ∙ (same k low ∙ sym (get_or-map-range_with_len g 0 n k k d low (omega arith))))
+    get_or-map-range_with_len f 0 n k k d low (omega arith)
+    ∙ (same k low ∙ sym (get_or-map-range_with_len g 0 n k k d low (omega arith))))
 
 same_bytes : (region next region' next' : List ℕ) (first len : ℕ) → ((i : ℕ) → i < len → byte_at region' next' first i ≡ byte_at region next first i) → chain_bytes region' next' first len ≡ chain_bytes region next first len
 unfolding chain_bytes
@@ -66,6 +66,7 @@ slot_is region next heads b = by_place (cases_lt b (length heads))
   where
     made : ℕ → Option Held
     made b = held_by region next b (get_or heads b None)
+
     by_place : (b < length heads) ⊎ (length heads ≤ b) → get_or (map (λ b. held_by region next b (get_or heads b None)) (range_with_len 0 (length heads))) b None ≡ held_by region next b (get_or heads b None)
     by_place (inl low) = get_or-map-range_with_len (λ b. held_by region next b (get_or heads b None)) 0 (length heads) b b None low (omega arith)
     by_place (inr high) =
@@ -78,15 +79,15 @@ slots_set region next region' next' heads heads' b v lens low here others =
     same_lists _ _
     (length-slots_of region' next' heads' ∙ (lens ∙ sym (length-set (slots_of region next heads) b v ∙ length-slots_of region next heads)))
     (λ k d h.
-        let inside : k < length heads' = omega (arith, length-slots_of region' next' heads') in
-        let left = get_or_default (slots_of region' next' heads') k d None h ∙ slot_is region' next' heads' k in
-        elim (cases_eq k b) [
-            inl same ↦ left ∙ (ap (λ c. held_by region' next' c (get_or heads' c None)) same ∙ (here
-                ∙ sym (ap (λ c. get_or (set (slots_of region next heads) b v) c d) same ∙ get_or-set_same (slots_of region next heads) b v d (omega (arith, length-slots_of region next heads)))))
-          | inr other ↦ left ∙ (others k other
-                ∙ sym (get_or-set_other (slots_of region next heads) b k v d other
-                    ∙ (get_or_default (slots_of region next heads) k d None (omega (arith, length-slots_of region next heads)) ∙ slot_is region next heads k)))
-        ])
+    let inside : k < length heads' = omega (arith, length-slots_of region' next' heads') in
+    let left = get_or_default (slots_of region' next' heads') k d None h ∙ slot_is region' next' heads' k in
+    elim (cases_eq k b) [
+      | inl same ↦ left ∙ (ap (λ c. held_by region' next' c (get_or heads' c None)) same ∙ (here
+          ∙ sym (ap (λ c. get_or (set (slots_of region next heads) b v) c d) same ∙ get_or-set_same (slots_of region next heads) b v d (omega (arith, length-slots_of region next heads)))))
+      | inr other ↦ left ∙ (others k other
+          ∙ sym (get_or-set_other (slots_of region next heads) b k v d other
+          ∙ (get_or_default (slots_of region next heads) k d None (omega (arith, length-slots_of region next heads)) ∙ slot_is region next heads k)))
+    ])
 
 -- ---- marks
 
@@ -207,10 +208,10 @@ module _ (region next : List ℕ) (heads : List (Option Head)) (free free_len : 
       let longer : Head = record { owner = head.owner; last = head.last; len = head.len + 1 } in
       let same_blocks : blocks_for (head.len + 1) ≡ blocks_for head.len = omega arith in
       let grown : IsChain next sound.mark sound.count b longer = record {
-          some = omega arith;
-          marked = λ k h. chain.marked k (omega arith);
-          last = ap (λ n. block_at next b (n - 1)) same_blocks ∙ chain.last;
-        } in
+        some = omega arith;
+        marked = λ k h. chain.marked k (omega arith);
+        last = ap (λ n. block_at next b (n - 1)) same_blocks ∙ chain.last;
+      } in
       record {
         count = sound.count;
         counted = length-set heads b (Some longer) ∙ sound.counted;
@@ -219,8 +220,8 @@ module _ (region next : List ℕ) (heads : List (Option Head)) (free free_len : 
         few = sound.few;
         mark = sound.mark;
         chains = λ c h e. elim (cases_eq c b) [
-            inl same ↦ subst (λ x. IsChain next sound.mark sound.count x h) (sym same)
-                (subst (λ g. IsChain next sound.mark sound.count b g) (sym (this_head b longer h low (subst (λ x. get_or (set heads b (Some longer)) x None ≡ Some h) same e))) grown)
+          | inl same ↦ subst (λ x. IsChain next sound.mark sound.count x h) (sym same)
+              (subst (λ g. IsChain next sound.mark sound.count b g) (sym (this_head b longer h low (subst (λ x. get_or (set heads b (Some longer)) x None ≡ Some h) same e))) grown)
           | inr apart ↦ sound.chains c h (other_head b (Some longer) c (Some h) apart e)
         ];
         spare = sound.spare;
@@ -230,9 +231,9 @@ module _ (region next : List ℕ) (heads : List (Option Head)) (free free_len : 
   other_bytes : (b : ℕ) (head : Head) → get_or heads b None ≡ Some head → (block d j offset byte : ℕ) → sound.mark block ≡ (d, j) → d ≢ b → chain_bytes (set region (32 * block + offset % 32) byte) next b head.len ≡ chain_bytes region next b head.len
   other_bytes b head at block d j offset byte marked apart =
       same_bytes region next (set region (32 * block + offset % 32) byte) next b head.len (λ i low.
-          let m = block_of_byte next sound.mark sound.count b head (sound.chains b head at) i low in
-          get_or-set_other region (32 * block + offset % 32) (32 * block_at next b (i / 32) + i % 32) byte 0
-              (other_block (block_at next b (i / 32)) block i offset (λ same. apart (sym (same_mark sound.mark (block_at next b (i / 32)) block b (i / 32) d j m.1 marked same).0))))
+      let m = block_of_byte next sound.mark sound.count b head (sound.chains b head at) i low in
+      get_or-set_other region (32 * block + offset % 32) (32 * block_at next b (i / 32) + i % 32) byte 0
+      (other_block (block_at next b (i / 32)) block i offset (λ same. apart (sym (same_mark sound.mark (block_at next b (i / 32)) block b (i / 32) d j m.1 marked same).0))))
 
   -- the block that has room is the last one
   last_has_room : (b : ℕ) (head : Head) → get_or heads b None ≡ Some head → 0 < head.len % 32 → block_at next b (head.len / 32) ≡ head.last
@@ -248,18 +249,18 @@ module _ (region next : List ℕ) (heads : List (Option Head)) (free free_len : 
       let last_in : head.last < sound.count = (last_marked next sound.mark sound.count b head chain).0 in
       let in_region : place < length region = omega (arith, last_in, sound.bytes) in
       let new_byte : byte_at (set region place byte) next b head.len ≡ byte =
-          ap (λ x. get_or (set region place byte) (32 * x + head.len % 32) 0) (last_has_room b head at room) ∙ get_or-set_same region place byte 0 in_region in
+      ap (λ x. get_or (set region place byte) (32 * x + head.len % 32) 0) (last_has_room b head at room) ∙ get_or-set_same region place byte 0 in_region in
       let before : chain_bytes (set region place byte) next b head.len ≡ chain_bytes region next b head.len =
-          same_bytes region next (set region place byte) next b head.len (λ i low.
-              let m = block_of_byte next sound.mark sound.count b head chain i low in
-              let l = last_marked next sound.mark sound.count b head chain in
-              get_or-set_other region place (32 * block_at next b (i / 32) + i % 32) byte 0
-                  (λ same.
-                      let blocks : block_at next b (i / 32) ≡ head.last = omega arith in
-                      let parts = same_mark sound.mark (block_at next b (i / 32)) head.last b (i / 32) b (blocks_for head.len - 1) m.1 l.1 blocks in
-                      let place_is : i / 32 ≡ blocks_for head.len - 1 = parts.1 in
-                      let offsets : i % 32 ≡ head.len % 32 = omega arith in
-                      absurd (omega arith))) in
+      same_bytes region next (set region place byte) next b head.len (λ i low.
+      let m = block_of_byte next sound.mark sound.count b head chain i low in
+      let l = last_marked next sound.mark sound.count b head chain in
+      get_or-set_other region place (32 * block_at next b (i / 32) + i % 32) byte 0
+      (λ same.
+      let blocks : block_at next b (i / 32) ≡ head.last = omega arith in
+      let parts = same_mark sound.mark (block_at next b (i / 32)) head.last b (i / 32) b (blocks_for head.len - 1) m.1 l.1 blocks in
+      let place_is : i / 32 ≡ blocks_for head.len - 1 = parts.1 in
+      let offsets : i % 32 ≡ head.len % 32 = omega arith in
+      absurd (omega arith))) in
       one_more_byte (set region place byte) next b head.len ∙ (ap (λ bs. bs ++ byte_at (set region place byte) next b head.len ∷ []) before ∙ ap (λ x. chain_bytes region next b head.len ++ x ∷ []) new_byte)
 
   pub push_in_block_slots : (b : ℕ) (head : Head) (byte : ℕ) → get_or heads b None ≡ Some head → 0 < head.len % 32 → slots_of (set region (32 * head.last + head.len % 32) byte) next (set heads b (Some (record { owner = head.owner; last = head.last; len = head.len + 1 }))) ≡ put (slots_of region next heads) b head.owner (chain_bytes region next b head.len ++ byte ∷ [])
@@ -270,10 +271,10 @@ module _ (region next : List ℕ) (heads : List (Option Head)) (free free_len : 
       let place = 32 * head.last + head.len % 32 in
       let l = last_marked next sound.mark sound.count b head chain in
       slots_set region next (set region place byte) next heads (set heads b (Some longer)) b (Some (record { owner = head.owner; bytes = chain_bytes region next b head.len ++ byte ∷ [] }))
-          (length-set heads b (Some longer)) low
-          (ap (held_by (set region place byte) next b) (get_or-set_same heads b (Some longer) None low)
-              ∙ ap (λ bs. Some (record { owner = head.owner; bytes = bs })) (pushed_bytes b head byte at room))
-          (λ c apart. ap (held_by (set region place byte) next c) (get_or-set_other heads b c (Some longer) None apart) ∙ other_held c (get_or heads c None) refl b head l.1 apart)
+      (length-set heads b (Some longer)) low
+      (ap (held_by (set region place byte) next b) (get_or-set_same heads b (Some longer) None low)
+      ∙ ap (λ bs. Some (record { owner = head.owner; bytes = bs })) (pushed_bytes b head byte at room))
+      (λ c apart. ap (held_by (set region place byte) next c) (get_or-set_other heads b c (Some longer) None apart) ∙ other_held c (get_or heads c None) refl b head l.1 apart)
     where
       other_held : (c : ℕ) (h : Option Head) → get_or heads c None ≡ h → (b : ℕ) (head : Head) → sound.mark head.last ≡ (b, blocks_for head.len - 1) → c ≢ b → held_by (set region (32 * head.last + head.len % 32) byte) next c (get_or heads c None) ≡ held_by region next c (get_or heads c None)
       other_held c None e b head m apart = rw e refl
@@ -288,7 +289,7 @@ module _ (region next : List ℕ) (heads : List (Option Head)) (free free_len : 
       let place : block_at next' after i ≡ block_at next free (1 + i) = same i low ∙ (ap (λ x. block_at next x i) is_next ∙ behind next free 1 i) in
       let m = sound.spare (1 + i) (omega arith) in
       subst (λ x. IsMarked (λ y. popped sound.count c k (sound.mark y)) sound.count x sound.count i) (sym place)
-          (m.0, ap (popped sound.count c k) m.1 ∙ popped_rest sound.count c k i)
+      (m.0, ap (popped sound.count c k) m.1 ∙ popped_rest sound.count c k i)
 
   -- a chain that wasn't written
   popped_chain : (c k : ℕ) (next' : List ℕ) (d : ℕ) (head : Head) → get_or heads d None ≡ Some head → ((i : ℕ) → i < blocks_for head.len → block_at next' d i ≡ block_at next d i) → IsChain next' (λ x. popped sound.count c k (sound.mark x)) sound.count d head
@@ -301,7 +302,7 @@ module _ (region next : List ℕ) (heads : List (Option Head)) (free free_len : 
         marked = λ i h.
             let m = chain.marked i h in
             subst (λ x. IsMarked (λ y. popped sound.count c k (sound.mark y)) sound.count x d i) (sym (same i h))
-                (m.0, ap (popped sound.count c k) m.1 ∙ popped_other sound.count c k d i (λ e. absurd (omega arith)));
+            (m.0, ap (popped sound.count c k) m.1 ∙ popped_other sound.count c k d i (λ e. absurd (omega arith)));
         last = same (blocks_for head.len - 1) (omega arith) ∙ chain.last;
       }
 
@@ -312,13 +313,13 @@ module _ (region next : List ℕ) (heads : List (Option Head)) (free free_len : 
       let new : Head = record { owner = owner; last = free; len = 1 } in
       let mark = λ (x : ℕ). popped sound.count free 0 (sound.mark x) in
       let begun : IsChain next mark sound.count free new = record {
-          some = omega arith;
-          marked = λ k h.
-              let zero_place : 0 ≡ k = omega arith in
-              subst (λ i. IsMarked mark sound.count (block_at next free i) free i) zero_place
-                  (first.0, ap (popped sound.count free 0) first.1 ∙ popped_first sound.count free 0);
-          last = refl;
-        } in
+        some = omega arith;
+        marked = λ k h.
+            let zero_place : 0 ≡ k = omega arith in
+            subst (λ i. IsMarked mark sound.count (block_at next free i) free i) zero_place
+            (first.0, ap (popped sound.count free 0) first.1 ∙ popped_first sound.count free 0);
+        last = refl;
+      } in
       record {
         count = sound.count;
         counted = length-set heads free (Some new) ∙ sound.counted;
@@ -327,8 +328,8 @@ module _ (region next : List ℕ) (heads : List (Option Head)) (free free_len : 
         few = sound.few;
         mark = mark;
         chains = λ c h e. elim (cases_eq c free) [
-            inl same ↦ subst (λ x. IsChain next mark sound.count x h) (sym same)
-                (subst (λ g. IsChain next mark sound.count free g) (sym (this_head free new h low (subst (λ x. get_or (set heads free (Some new)) x None ≡ Some h) same e))) begun)
+          | inl same ↦ subst (λ x. IsChain next mark sound.count x h) (sym same)
+              (subst (λ g. IsChain next mark sound.count free g) (sym (this_head free new h low (subst (λ x. get_or (set heads free (Some new)) x None ≡ Some h) same e))) begun)
           | inr apart ↦ popped_chain free 0 next c h (other_head free (Some new) c (Some h) apart e) (λ i low. refl)
         ];
         spare = popped_spare free 0 next after is_next (λ i low. refl);
@@ -342,13 +343,13 @@ module _ (region next : List ℕ) (heads : List (Option Head)) (free free_len : 
       let in_region : 32 * free < length region = omega (arith, first.0, sound.bytes) in
       let plain : 32 * free + 0 ≡ 32 * free = omega arith in
       let one : chain_bytes (set region (32 * free) byte) next free 1 ≡ byte ∷ [] =
-          one_byte (set region (32 * free) byte) next free ∙ ap (λ x. x ∷ []) (ap (λ i. get_or (set region (32 * free) byte) i 0) plain ∙ get_or-set_same region (32 * free) byte 0 in_region) in
+      one_byte (set region (32 * free) byte) next free ∙ ap (λ x. x ∷ []) (ap (λ i. get_or (set region (32 * free) byte) i 0) plain ∙ get_or-set_same region (32 * free) byte 0 in_region) in
       slots_set region next (set region (32 * free) byte) next heads (set heads free (Some new)) free (Some (record { owner = owner; bytes = byte ∷ [] }))
-          (length-set heads free (Some new)) low
-          (ap (held_by (set region (32 * free) byte) next free) (get_or-set_same heads free (Some new) None low)
-              ∙ ap (λ bs. Some (record { owner = owner; bytes = bs })) one)
-          (λ c apart. ap (held_by (set region (32 * free) byte) next c) (get_or-set_other heads free c (Some new) None apart)
-              ∙ (ap (λ i. held_by (set region i byte) next c (get_or heads c None)) (sym plain) ∙ other_held c (get_or heads c None) refl first.1))
+      (length-set heads free (Some new)) low
+      (ap (held_by (set region (32 * free) byte) next free) (get_or-set_same heads free (Some new) None low)
+      ∙ ap (λ bs. Some (record { owner = owner; bytes = bs })) one)
+      (λ c apart. ap (held_by (set region (32 * free) byte) next c) (get_or-set_other heads free c (Some new) None apart)
+      ∙ (ap (λ i. held_by (set region i byte) next c (get_or heads c None)) (sym plain) ∙ other_held c (get_or heads c None) refl first.1))
     where
       other_held : (c : ℕ) (h : Option Head) → get_or heads c None ≡ h → sound.mark free ≡ (sound.count, 0) → held_by (set region (32 * free + 0 % 32) byte) next c (get_or heads c None) ≡ held_by region next c (get_or heads c None)
       other_held c None e m = rw e refl
@@ -374,25 +375,25 @@ module _ (region next : List ℕ) (heads : List (Option Head)) (free free_len : 
       let mark = λ (x : ℕ). popped sound.count b n (sound.mark x) in
       let kept = λ (k : ℕ) (h : k < n). last_link next sound.mark sound.count b head chain head.last free (n - 1) l.1 k h (omega arith) in
       let new_last : block_at next' b n ≡ free =
-          let e : suc (n - 1) ≡ n = omega arith in
-          let step : get_or next' (block_at next' b (n - 1)) 0 ≡ free =
-              ap (λ x. get_or next' x 0) (kept (n - 1) (omega arith) ∙ chain.last) ∙ get_or-set_same next head.last free 0 (omega (arith, l.0, sound.links)) in
-          ap (block_at next' b) (sym e) ∙ step in
+      let e : suc (n - 1) ≡ n = omega arith in
+      let step : get_or next' (block_at next' b (n - 1)) 0 ≡ free =
+      ap (λ x. get_or next' x 0) (kept (n - 1) (omega arith) ∙ chain.last) ∙ get_or-set_same next head.last free 0 (omega (arith, l.0, sound.links)) in
+      ap (block_at next' b) (sym e) ∙ step in
       let grown : IsChain next' mark sound.count b longer = record {
-          some = omega arith;
-          marked = λ k h. elim (cases_lt k n) [
-              inl before ↦
-                let m = chain.marked k before in
-                subst (λ x. IsMarked mark sound.count x b k) (sym (kept k before))
-                    (m.0, ap (popped sound.count b n) m.1 ∙ popped_other sound.count b n b k (λ e. absurd (omega arith)))
-            | inr behind_them ↦
-                let e : n ≡ k = omega (arith, one_more) in
-                subst (λ i. IsMarked mark sound.count (block_at next' b i) b i) e
-                    (subst (λ x. IsMarked mark sound.count x b n) (sym new_last)
-                        (first.0, ap (popped sound.count b n) first.1 ∙ popped_first sound.count b n))
-          ];
-          last = (let e : blocks_for (head.len + 1) - 1 ≡ n = omega (arith, one_more) in ap (block_at next' b) e) ∙ new_last;
-        } in
+        some = omega arith;
+        marked = λ k h. elim (cases_lt k n) [
+          | inl before ↦
+              let m = chain.marked k before in
+              subst (λ x. IsMarked mark sound.count x b k) (sym (kept k before))
+              (m.0, ap (popped sound.count b n) m.1 ∙ popped_other sound.count b n b k (λ e. absurd (omega arith)))
+          | inr behind_them ↦
+              let e : n ≡ k = omega (arith, one_more) in
+              subst (λ i. IsMarked mark sound.count (block_at next' b i) b i) e
+              (subst (λ x. IsMarked mark sound.count x b n) (sym new_last)
+              (first.0, ap (popped sound.count b n) first.1 ∙ popped_first sound.count b n))
+        ];
+        last = (let e : blocks_for (head.len + 1) - 1 ≡ n = omega (arith, one_more) in ap (block_at next' b) e) ∙ new_last;
+      } in
       record {
         count = sound.count;
         counted = length-set heads b (Some longer) ∙ sound.counted;
@@ -401,8 +402,8 @@ module _ (region next : List ℕ) (heads : List (Option Head)) (free free_len : 
         few = sound.few;
         mark = mark;
         chains = λ c h e. elim (cases_eq c b) [
-            inl same ↦ subst (λ x. IsChain next' mark sound.count x h) (sym same)
-                (subst (λ g. IsChain next' mark sound.count b g) (sym (this_head b longer h low (subst (λ x. get_or (set heads b (Some longer)) x None ≡ Some h) same e))) grown)
+          | inl same ↦ subst (λ x. IsChain next' mark sound.count x h) (sym same)
+              (subst (λ g. IsChain next' mark sound.count b g) (sym (this_head b longer h low (subst (λ x. get_or (set heads b (Some longer)) x None ≡ Some h) same e))) grown)
           | inr apart ↦
               let at_c = other_head b (Some longer) c (Some h) apart e in
               popped_chain b n next' c h at_c (λ i i_low. other_link next sound.mark sound.count c h (sound.chains c h at_c) head.last free b (n - 1) l.1 (λ s. apart (sym s)) i i_low)
@@ -430,33 +431,33 @@ module _ (region next : List ℕ) (heads : List (Option Head)) (free free_len : 
       let in_region : 32 * free < length region = omega (arith, first.0, sound.bytes) in
       let kept = λ (k : ℕ) (h : k < n). last_link next sound.mark sound.count b head chain head.last free (n - 1) l.1 k h (omega arith) in
       let new_last : block_at next' b (head.len / 32) ≡ free =
-          let e : suc (n - 1) ≡ head.len / 32 = omega arith in
-          let step : get_or next' (block_at next' b (n - 1)) 0 ≡ free =
-              ap (λ x. get_or next' x 0) (kept (n - 1) (omega arith) ∙ chain.last) ∙ get_or-set_same next head.last free 0 (omega (arith, l.0, sound.links)) in
-          ap (block_at next' b) (sym e) ∙ step in
+      let e : suc (n - 1) ≡ head.len / 32 = omega arith in
+      let step : get_or next' (block_at next' b (n - 1)) 0 ≡ free =
+      ap (λ x. get_or next' x 0) (kept (n - 1) (omega arith) ∙ chain.last) ∙ get_or-set_same next head.last free 0 (omega (arith, l.0, sound.links)) in
+      ap (block_at next' b) (sym e) ∙ step in
       let new_byte : byte_at region' next' b head.len ≡ byte =
-          ap (λ x. get_or region' (32 * x + head.len % 32) 0) new_last
-          ∙ (ap (λ o. get_or region' (32 * free + o) 0) full ∙ (ap (λ i. get_or region' i 0) plain ∙ get_or-set_same region (32 * free) byte 0 in_region)) in
+      ap (λ x. get_or region' (32 * x + head.len % 32) 0) new_last
+      ∙ (ap (λ o. get_or region' (32 * free + o) 0) full ∙ (ap (λ i. get_or region' i 0) plain ∙ get_or-set_same region (32 * free) byte 0 in_region)) in
       let same_links : chain_bytes region next' b head.len ≡ chain_bytes region next b head.len =
-          same_bytes region next region next' b head.len (λ i i_low. ap (λ x. get_or region (32 * x + i % 32) 0) (kept (i / 32) (omega arith))) in
+      same_bytes region next region next' b head.len (λ i i_low. ap (λ x. get_or region (32 * x + i % 32) 0) (kept (i / 32) (omega arith))) in
       let before : chain_bytes region' next' b head.len ≡ chain_bytes region next b head.len =
-          same_bytes region next' region' next' b head.len (λ i i_low.
-              let m = block_of_byte next sound.mark sound.count b head chain i i_low in
-              let block_is : block_at next' b (i / 32) ≡ block_at next b (i / 32) = kept (i / 32) (omega arith) in
-              let apart : block_at next' b (i / 32) ≢ free =
-                  λ same. absurd (let e : b ≡ sound.count = (same_mark sound.mark (block_at next b (i / 32)) free b (i / 32) sound.count 0 m.1 first.1 (sym block_is ∙ same)).0 in omega arith) in
-              get_or-set_other region (32 * free) (32 * block_at next' b (i / 32) + i % 32) byte 0
-                  (λ same. other_block (block_at next' b (i / 32)) free i 0 apart (same ∙ sym plain)))
-          ∙ same_links in
+      same_bytes region next' region' next' b head.len (λ i i_low.
+      let m = block_of_byte next sound.mark sound.count b head chain i i_low in
+      let block_is : block_at next' b (i / 32) ≡ block_at next b (i / 32) = kept (i / 32) (omega arith) in
+      let apart : block_at next' b (i / 32) ≢ free =
+      λ same. absurd (let e : b ≡ sound.count = (same_mark sound.mark (block_at next b (i / 32)) free b (i / 32) sound.count 0 m.1 first.1 (sym block_is ∙ same)).0 in omega arith) in
+      get_or-set_other region (32 * free) (32 * block_at next' b (i / 32) + i % 32) byte 0
+      (λ same. other_block (block_at next' b (i / 32)) free i 0 apart (same ∙ sym plain)))
+      ∙ same_links in
       slots_set region next region' next' heads (set heads b (Some longer)) b (Some (record { owner = head.owner; bytes = chain_bytes region next b head.len ++ byte ∷ [] }))
-          (length-set heads b (Some longer)) low
-          (ap (held_by region' next' b) (get_or-set_same heads b (Some longer) None low)
-              ∙ ap (λ bs. Some (record { owner = head.owner; bytes = bs }))
-                  (one_more_byte region' next' b head.len
-                      ∙ (ap (λ bs. bs ++ byte_at region' next' b head.len ∷ []) before ∙ ap (λ x. chain_bytes region next b head.len ++ x ∷ []) new_byte)))
-          (λ c apart. ap (held_by region' next' c) (get_or-set_other heads b c (Some longer) None apart)
-              ∙ (ap (λ i. held_by (set region i byte) next' c (get_or heads c None)) (sym plain)
-              ∙ other_held c (get_or heads c None) refl b head l.1 first.1 (λ e. apart e)))
+      (length-set heads b (Some longer)) low
+      (ap (held_by region' next' b) (get_or-set_same heads b (Some longer) None low)
+      ∙ ap (λ bs. Some (record { owner = head.owner; bytes = bs }))
+      (one_more_byte region' next' b head.len
+      ∙ (ap (λ bs. bs ++ byte_at region' next' b head.len ∷ []) before ∙ ap (λ x. chain_bytes region next b head.len ++ x ∷ []) new_byte)))
+      (λ c apart. ap (held_by region' next' c) (get_or-set_other heads b c (Some longer) None apart)
+      ∙ (ap (λ i. held_by (set region i byte) next' c (get_or heads c None)) (sym plain)
+      ∙ other_held c (get_or heads c None) refl b head l.1 first.1 (λ e. apart e)))
     where
       other_held : (c : ℕ) (h : Option Head) → get_or heads c None ≡ h → (b : ℕ) (head : Head) → sound.mark head.last ≡ (b, blocks_for head.len - 1) → sound.mark free ≡ (sound.count, 0) → c ≢ b → held_by (set region (32 * free + 0 % 32) byte) (set next head.last free) c (get_or heads c None) ≡ held_by region next c (get_or heads c None)
       other_held c None e b head m m0 apart = rw e refl
@@ -464,9 +465,9 @@ module _ (region next : List ℕ) (heads : List (Option Head)) (free free_len : 
           let c_chain = sound.chains c h e in
           let low = in_pool next sound.mark sound.count c h c_chain in
           let links : chain_bytes (set region (32 * free + 0 % 32) byte) (set next head.last free) c h.len ≡ chain_bytes (set region (32 * free + 0 % 32) byte) next c h.len =
-              same_bytes (set region (32 * free + 0 % 32) byte) next (set region (32 * free + 0 % 32) byte) (set next head.last free) c h.len
-                  (λ i i_low. ap (λ x. get_or (set region (32 * free + 0 % 32) byte) (32 * x + i % 32) 0)
-                      (other_link next sound.mark sound.count c h c_chain head.last free b (blocks_for head.len - 1) m (λ s. apart (sym s)) (i / 32) (omega arith))) in
+          same_bytes (set region (32 * free + 0 % 32) byte) next (set region (32 * free + 0 % 32) byte) (set next head.last free) c h.len
+          (λ i i_low. ap (λ x. get_or (set region (32 * free + 0 % 32) byte) (32 * x + i % 32) 0)
+          (other_link next sound.mark sound.count c h c_chain head.last free b (blocks_for head.len - 1) m (λ s. apart (sym s)) (i / 32) (omega arith))) in
           rw e (ap (λ bs. Some (record { owner = h.owner; bytes = bs })) (links ∙ other_bytes c h e free sound.count 0 0 byte m0 (λ s. absurd (omega arith))))
 
   -- ---- a chain freed
@@ -485,10 +486,10 @@ module _ (region next : List ℕ) (heads : List (Option Head)) (free free_len : 
       let kept = λ (k : ℕ) (h : k < n). last_link next sound.mark sound.count b head chain head.last free (n - 1) l.1 k h (omega arith) in
       let count_apart : sound.count ≢ b = λ e. absurd (omega arith) in
       let behind_last : block_at next' b n ≡ free =
-          let e : suc (n - 1) ≡ n = omega arith in
-          let step : get_or next' (block_at next' b (n - 1)) 0 ≡ free =
-              ap (λ x. get_or next' x 0) (kept (n - 1) (omega arith) ∙ chain.last) ∙ get_or-set_same next head.last free 0 (omega (arith, l.0, sound.links)) in
-          ap (block_at next' b) (sym e) ∙ step in
+      let e : suc (n - 1) ≡ n = omega arith in
+      let step : get_or next' (block_at next' b (n - 1)) 0 ≡ free =
+      ap (λ x. get_or next' x 0) (kept (n - 1) (omega arith) ∙ chain.last) ∙ get_or-set_same next head.last free 0 (omega (arith, l.0, sound.links)) in
+      ap (block_at next' b) (sym e) ∙ step in
       record {
         count = sound.count;
         counted = length-set heads b None ∙ sound.counted;
@@ -497,7 +498,7 @@ module _ (region next : List ℕ) (heads : List (Option Head)) (free free_len : 
         few = sound.few;
         mark = mark;
         chains = λ c h e. elim (cases_eq c b) [
-            inl same ↦ absurd (none_is_some h (sym (ap (λ x. get_or (set heads b None) x None) same ∙ get_or-set_same heads b None None low) ∙ e))
+          | inl same ↦ absurd (none_is_some h (sym (ap (λ x. get_or (set heads b None) x None) same ∙ get_or-set_same heads b None None low) ∙ e))
           | inr apart ↦
               let at_c = other_head b None c (Some h) apart e in
               let c_chain = sound.chains c h at_c in
@@ -509,25 +510,25 @@ module _ (region next : List ℕ) (heads : List (Option Head)) (free free_len : 
                 marked = λ i i_low.
                     let m = c_chain.marked i i_low in
                     subst (λ x. IsMarked mark sound.count x c i) (sym (same i i_low))
-                        (m.0, ap (freed sound.count b n) m.1 ∙ freed_other sound.count b n c i apart (λ s. absurd (omega arith)));
+                    (m.0, ap (freed sound.count b n) m.1 ∙ freed_other sound.count b n c i apart (λ s. absurd (omega arith)));
                 last = same (blocks_for h.len - 1) (omega arith) ∙ c_chain.last;
               }
         ];
         spare = λ k k_low. elim (cases_lt k n) [
-            inl in_chain ↦
+          | inl in_chain ↦
               let m = chain.marked k in_chain in
               subst (λ x. IsMarked mark sound.count x sound.count k) (sym (kept k in_chain))
-                  (m.0, ap (freed sound.count b n) m.1 ∙ freed_chain sound.count b n k)
+              (m.0, ap (freed sound.count b n) m.1 ∙ freed_chain sound.count b n k)
           | inr further ↦
               let j = k - n in
               let m = sound.spare j (omega arith) in
               let sum : n + j ≡ k = omega arith in
               let turned : j + n ≡ k = omega arith in
               let place : block_at next' b k ≡ block_at next free j =
-                  ap (block_at next' b) (sym sum) ∙ (sym (behind next' b n j) ∙ (ap (λ x. block_at next' x j) behind_last
-                  ∙ free_link next sound.mark sound.count free free_len sound.spare head.last free b (n - 1) l.1 (λ s. absurd (omega arith)) j (omega arith))) in
+              ap (block_at next' b) (sym sum) ∙ (sym (behind next' b n j) ∙ (ap (λ x. block_at next' x j) behind_last
+              ∙ free_link next sound.mark sound.count free free_len sound.spare head.last free b (n - 1) l.1 (λ s. absurd (omega arith)) j (omega arith))) in
               subst (λ x. IsMarked mark sound.count x sound.count k) (sym place)
-                  (m.0, ap (freed sound.count b n) m.1 ∙ (freed_free sound.count b n j count_apart ∙ ap (λ i. (sound.count, i)) turned))
+              (m.0, ap (freed sound.count b n) m.1 ∙ (freed_free sound.count b n j count_apart ∙ ap (λ i. (sound.count, i)) turned))
         ];
       }
 
@@ -537,17 +538,17 @@ module _ (region next : List ℕ) (heads : List (Option Head)) (free free_len : 
       let low : b < length heads = omega (arith, in_pool next sound.mark sound.count b head chain, sound.counted) in
       let l = last_marked next sound.mark sound.count b head chain in
       slots_set region next region (set next head.last free) heads (set heads b None) b None
-          (length-set heads b None) low
-          (ap (held_by region (set next head.last free) b) (get_or-set_same heads b None None low))
-          (λ c apart. ap (held_by region (set next head.last free) c) (get_or-set_other heads b c None None apart) ∙ other_held c (get_or heads c None) refl b head l.1 apart)
+      (length-set heads b None) low
+      (ap (held_by region (set next head.last free) b) (get_or-set_same heads b None None low))
+      (λ c apart. ap (held_by region (set next head.last free) c) (get_or-set_other heads b c None None apart) ∙ other_held c (get_or heads c None) refl b head l.1 apart)
     where
       other_held : (c : ℕ) (h : Option Head) → get_or heads c None ≡ h → (b : ℕ) (head : Head) → sound.mark head.last ≡ (b, blocks_for head.len - 1) → c ≢ b → held_by region (set next head.last free) c (get_or heads c None) ≡ held_by region next c (get_or heads c None)
       other_held c None e b head m apart = rw e refl
       other_held c (Some h) e b head m apart =
           rw e (ap (λ bs. Some (record { owner = h.owner; bytes = bs }))
-              (same_bytes region next region (set next head.last free) c h.len
-                  (λ i i_low. ap (λ x. get_or region (32 * x + i % 32) 0)
-                      (other_link next sound.mark sound.count c h (sound.chains c h e) head.last free b (blocks_for head.len - 1) m (λ s. apart (sym s)) (i / 32) (omega arith)))))
+          (same_bytes region next region (set next head.last free) c h.len
+          (λ i i_low. ap (λ x. get_or region (32 * x + i % 32) 0)
+          (other_link next sound.mark sound.count c h (sound.chains c h e) head.last free b (blocks_for head.len - 1) m (λ s. apart (sym s)) (i / 32) (omega arith)))))
 
 -- the last block of a chain lies in the pool
 pub last_in : (region next : List ℕ) (heads : List (Option Head)) (free free_len : ℕ) (sound : IsSound region next heads free free_len) (b : ℕ) (head : Head) → get_or heads b None ≡ Some head → head.last < sound.count
@@ -613,8 +614,8 @@ module _ (region next : List ℕ) (heads : List (Option Head)) (free free_len : 
         few = sound.few;
         mark = sound.mark;
         chains = λ c h e. elim (cases_eq c b) [
-            inl same ↦ subst (λ x. IsChain next sound.mark sound.count x h) (sym same)
-                (subst (λ g. IsChain next sound.mark sound.count b g) (sym (this_head region next heads free free_len sound b new h low (subst (λ x. get_or (set heads b (Some new)) x None ≡ Some h) same e))) kept)
+          | inl same ↦ subst (λ x. IsChain next sound.mark sound.count x h) (sym same)
+              (subst (λ g. IsChain next sound.mark sound.count b g) (sym (this_head region next heads free free_len sound b new h low (subst (λ x. get_or (set heads b (Some new)) x None ≡ Some h) same e))) kept)
           | inr apart ↦ sound.chains c h (other_head region next heads free free_len sound b (Some new) c (Some h) apart e)
         ];
         spare = sound.spare;
@@ -625,9 +626,9 @@ module _ (region next : List ℕ) (heads : List (Option Head)) (free free_len : 
       let low : b < length heads = omega (arith, in_pool next sound.mark sound.count b head (sound.chains b head at), sound.counted) in
       let new : Head = record { owner = owner; last = head.last; len = head.len } in
       slots_set region next region next heads (set heads b (Some new)) b (Some (record { owner = owner; bytes = chain_bytes region next b head.len }))
-          (length-set heads b (Some new)) low
-          (ap (held_by region next b) (get_or-set_same heads b (Some new) None low))
-          (λ c apart. ap (held_by region next c) (get_or-set_other heads b c (Some new) None apart))
+      (length-set heads b (Some new)) low
+      (ap (held_by region next b) (get_or-set_same heads b (Some new) None low))
+      (λ c apart. ap (held_by region next c) (get_or-set_other heads b c (Some new) None apart))
 
   -- ---- bytes copied out
 
@@ -643,10 +644,10 @@ drop-made f n from low =
     let rest = length-map-range_with_len f from (n - from) in
     same_lists _ _ (omega (arith, length-drop from made, len, rest))
     (λ k d h.
-        let inside : k < n - from = omega (arith, length-drop from made, len) in
-        get_or-drop from made k d
-        ∙ (get_or-map-range_with_len f 0 n (from + k) (from + k) d (omega arith) (omega arith)
-        ∙ sym (get_or-map-range_with_len f from (n - from) k (from + k) d inside refl)))
+    let inside : k < n - from = omega (arith, length-drop from made, len) in
+    get_or-drop from made k d
+    ∙ (get_or-map-range_with_len f 0 n (from + k) (from + k) d (omega arith) (omega arith)
+    ∙ sym (get_or-map-range_with_len f from (n - from) k (from + k) d inside refl)))
 
 pub copied_bytes : (region next : List ℕ) (b len from count : ℕ) → from ≤ len → count ≤ len - from → map (byte_at region next b) (range_with_len from count) ≡ take count (drop from (chain_bytes region next b len))
 unfolding chain_bytes
@@ -692,7 +693,7 @@ pub made_from : (f : ℕ → ℕ) (from n : ℕ) (xs : List ℕ) → length xs �
 made_from f from n xs len same =
     same_lists _ _ (len ∙ sym (length-map-range_with_len f from n))
     (λ k d h. let low : k < n = omega (arith, len) in
-        get_or_default xs k d 0 h ∙ (same k low ∙ sym (get_or-map-range_with_len f from n k (from + k) d low refl)))
+    get_or_default xs k d 0 h ∙ (same k low ∙ sym (get_or-map-range_with_len f from n k (from + k) d low refl)))
 
 pub range_more : (a n : ℕ) → range_with_len a (n + 1) ≡ range_with_len a n ++ (a + n) ∷ []
 range_more a n =
@@ -708,15 +709,15 @@ in_order count (suc k) low =
 
 pub make_sound : (region next : List ℕ) (heads : List (Option Head)) (count : ℕ) → count ≤ 16384 → length region ≡ 32 * count → next ≡ range_with_len 1 count → heads ≡ replicate count None → IsSound region next heads 0 count
 make_sound region next heads count few bytes links none = record {
-    count = count;
-    counted = ap length none ∙ length-replicate count None;
-    links = ap length links ∙ length-range_with_len 1 count;
-    bytes = bytes;
-    few = few;
-    mark = λ x. (count, x);
-    chains = λ b head e. absurd (none_is_some head (sym (no_heads b) ∙ e));
-    spare = λ k low. let place : block_at next 0 k ≡ k = ap (λ xs. block_at xs 0 k) links ∙ in_order count k low in (omega (arith, place), ap (λ x. (count, x)) place);
-  }
+  count = count;
+  counted = ap length none ∙ length-replicate count None;
+  links = ap length links ∙ length-range_with_len 1 count;
+  bytes = bytes;
+  few = few;
+  mark = λ x. (count, x);
+  chains = λ b head e. absurd (none_is_some head (sym (no_heads b) ∙ e));
+  spare = λ k low. let place : block_at next 0 k ≡ k = ap (λ xs. block_at xs 0 k) links ∙ in_order count k low in (omega (arith, place), ap (λ x. (count, x)) place);
+}
   where
     no_heads : (b : ℕ) → get_or heads b None ≡ None
     no_heads b = ap (λ hs. get_or hs b None) none ∙ elim (cases_lt b count) [ inl low ↦ get_or-replicate count b None None low | inr high ↦ get_or_past (replicate count None) b None (omega (arith, length-replicate {A = Option Head} count None)) ]
@@ -725,9 +726,9 @@ pub make_slots : (region next : List ℕ) (heads : List (Option Head)) (count : 
 make_slots region next heads count none =
     same_lists _ _ (length-slots_of region next heads ∙ (ap length none ∙ (length-replicate {A = Option Head} count None ∙ sym (length-replicate {A = Option Held} count None))))
     (λ k d h.
-        let low : k < count = omega (arith, length-slots_of region next heads, ap length none, length-replicate {A = Option Head} count None) in
-        get_or_default (slots_of region next heads) k d None h
-        ∙ (slot_is region next heads k
-        ∙ (ap (λ hs. held_by region next k (get_or hs k None)) none
-        ∙ (ap (held_by region next k) (get_or-replicate count k None None low)
-        ∙ sym (get_or-replicate count k None d low)))))
+    let low : k < count = omega (arith, length-slots_of region next heads, ap length none, length-replicate {A = Option Head} count None) in
+    get_or_default (slots_of region next heads) k d None h
+    ∙ (slot_is region next heads k
+    ∙ (ap (λ hs. held_by region next k (get_or hs k None)) none
+    ∙ (ap (held_by region next k) (get_or-replicate count k None None low)
+    ∙ sym (get_or-replicate count k None d low)))))

@@ -9,7 +9,7 @@ module _ (slots : List (Option Held)) (b : ℕ) where
   -- a chain with bytes begins at a block of the pool
   pub slot_low : 0 < length (bytes_of slots b) → b < length slots
   slot_low some = elim (cases_lt b (length slots)) [
-      inl low ↦ low
+    | inl low ↦ low
     | inr high ↦ absurd (let none : length (bytes_of slots b) ≡ 0 = ap (λ s. length (bytes_in s)) (get_or_past slots b None high) in omega arith)
   ]
 

@@ -29,3 +29,7 @@ IsNamedAfter slots (Some first) bytes name = name ≡ Some first
 IsNamedAfter slots None [] name = name ≡ None
 IsNamedAfter slots None (byte ∷ bytes) name =
     (first : ℕ) × (name ≡ Some first) × (first < length slots) × (slot slots first ≡ None)
+
+-- two chains don't have one name
+abbrev pub IsApartAt : Option ℕ → Option ℕ → Type 0
+IsApartAt name other = (first : ℕ) → name ≡ Some first → other ≡ Some first → ⊥

@@ -9,7 +9,7 @@ owner_at owners owner = slice_index_or owners owner (record { quota = 0; used = 
 abbrev pub with_used : List Owner → ℕ → ℕ → List Owner
 with_used owners owner used =
     slice_set owners owner
-        (record { quota = (owner_at owners owner).quota; used = used; aside = (owner_at owners owner).aside })
+    (record { quota = (owner_at owners owner).quota; used = used; aside = (owner_at owners owner).aside })
 
 -- the owners, where one uses so many blocks and has so many of them set aside
 abbrev pub with_aside : List Owner → ℕ → ℕ → ℕ → List Owner

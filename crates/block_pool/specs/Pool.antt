@@ -2,7 +2,7 @@
 -- aside.
 use Rattle.std.specs.Prelude.{◌≡◌, ℕ, ◌+◌, ◌-◌, ◌*◌, ◌<◌, ◌≤◌, if◌then◌else◌, ◌==◌, List, [], ◌∷◌, ◌++◌, length, sum, replicate, Option, None, Some, slice_index_or, slice_set}
 use Rattle.block_pool.specs.Slots.{Held, blocks_for}
-use Rattle.block_pool.specs.Names.{bytes_at, IsLiveAt, put_at, removed_at, IsNamedAfter}
+use Rattle.block_pool.specs.Names.{bytes_at, IsLiveAt, put_at, removed_at, IsNamedAfter, IsApartAt}
 use Rattle.block_pool.specs.Owners.{owner_at, with_used, new_owners}
 use Rattle.block_pool.specs.declared.owners.Owner.{Owner}
 use Rattle.block_pool.specs.declared.chain.Chain.{Chain}
@@ -49,6 +49,16 @@ chain_spare pool chain = spare_of pool chain.owner
 abbrev pub IsEmptyChain : ℕ → Chain → Type 0
 IsEmptyChain owner chain = (chain.owner ≡ owner) × (chain.first ≡ None)
 
+-- two chains don't lie in one place of a pool
+abbrev pub IsApart : Chain → Chain → Type 0
+IsApart chain other = IsApartAt chain.first other.first
+
+-- A call that took one chain from `before` to `after` changed no other live chain.
+abbrev pub KeepsOthers : PoolState → PoolState → Chain → Chain → Type 0
+KeepsOthers old new before after =
+    (other : Chain) → IsLive old other → IsApart other before
+    → IsApart other after × IsLive new other × (chain_bytes new other ≡ chain_bytes old other)
+
 -- how many more blocks so many further bytes need
 abbrev pub more_blocks : ℕ → ℕ → ℕ
 more_blocks len further = blocks_for (len + further) - blocks_for len
@@ -70,8 +80,8 @@ pub record Passes (old new : PoolState) (before after : Chain) (owner : ℕ) : T
   pub slots : new.slots ≡ put_at old.slots before.first owner (chain_bytes old before)
   pub owners : new.owners
       ≡ (let n = blocks_for (length (chain_bytes old before)) in
-         let without = with_used old.owners before.owner (used_of old before.owner - n) in
-         with_used without owner ((owner_at without owner).used + n))
+      let without = with_used old.owners before.owner (used_of old before.owner - n) in
+      with_used without owner ((owner_at without owner).used + n))
 
 -- a chain's blocks were given back, and nothing else changed
 pub record Gives (old new : PoolState) (chain : Chain) : Type 0 where

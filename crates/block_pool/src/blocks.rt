@@ -273,7 +273,13 @@ impl Blocks {
     {
         let left = (self.len(first) - from) as usize;
         let count = left.min(out.len());
-        copy_from(&self.region, &self.next, first, from as usize, &mut out[..count]);
+        copy_from(
+            &self.region,
+            &self.next,
+            first,
+            from as usize,
+            &mut out[..count],
+        );
         count
     }
 }

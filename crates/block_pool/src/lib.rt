@@ -8,3 +8,6 @@ mod pool;
 
 pub use chain::Chain;
 pub use pool::{NoRoom, Pool};
+
+#[cfg(test)]
+mod tests;

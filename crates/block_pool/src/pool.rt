@@ -42,7 +42,7 @@ impl Model for Pool {
 impl Pool {
     ghost use Rattle.std.specs.Prelude.{◌≡◌, ◌+◌, ◌-◌, ◌≤◌, ◌<◌, ◌↔◌, ◌++◌, length, sum, take, drop, min, IfOk, IfErr, IsOk, OnOk, OnErr};
     ghost use Rattle.block_pool.specs.Slots.{blocks_for};
-    ghost use Rattle.block_pool.specs.Pool.{HasQuota, IsLive, IsEmptyChain, IsNew, Appends, Passes, Gives, chain_bytes, chain_spare, spare_of, quota_of, used_of, aside_of, more_blocks};
+    ghost use Rattle.block_pool.specs.Pool.{HasQuota, IsLive, IsEmptyChain, IsNew, Appends, Passes, Gives, KeepsOthers, chain_bytes, chain_spare, spare_of, quota_of, used_of, aside_of, more_blocks};
     ghost use Rattle.block_pool.specs.Owners.{with_aside};
     ghost use Rattle.block_pool.specs.Counts.{IsCounted};
 
@@ -145,6 +145,9 @@ impl Pool {
         ensures room { IsOk result
             ↔ (more_blocks (length (chain_bytes self.old chain.old)) (length bytes.now) ≤ chain_spare self.old chain.old) }
         ensures ok { OnOk result (Appends self.old self.new chain.old chain.new bytes.now) }
+        ensures appended { OnOk result (chain_bytes self.new chain.new ≡ chain_bytes self.old chain.old ++ bytes.now) }
+        ensures live { OnOk result (IsLive self.new chain.new) }
+        ensures others { OnOk result (KeepsOthers self.old self.new chain.old chain.new) }
         ensures no_room { IfErr result (λ e.
             (e.need ≡ min (more_blocks (length (chain_bytes self.old chain.old)) (length bytes.now)) 65535)
             × (e.spare ≡ chain_spare self.old chain.old)) }
@@ -177,6 +180,9 @@ impl Pool {
         requires quota { HasQuota self.old owner }
         ensures room { IsOk result ↔ (blocks_for (length (chain_bytes self.old chain.old)) ≤ spare_of self.old owner) }
         ensures ok { OnOk result (Passes self.old self.new chain.old chain.new owner) }
+        ensures same_bytes { OnOk result (chain_bytes self.new chain.new ≡ chain_bytes self.old chain.old) }
+        ensures live { OnOk result (IsLive self.new chain.new) }
+        ensures others { OnOk result (KeepsOthers self.old self.new chain.old chain.new) }
         ensures no_room { IfErr result (λ e.
             (e.need ≡ blocks_for (length (chain_bytes self.old chain.old))) × (e.spare ≡ spare_of self.old owner)) }
         ensures err { OnErr result ((self.new ≡ self.old) × (chain.new ≡ chain.old)) }
@@ -205,7 +211,8 @@ impl Pool {
     /// Gives a chain's blocks back.
     pub fn give(&mut self, chain: Chain)
         requires { IsLive self.old chain }
-        ensures { Gives self.old self.new chain }
+        ensures given { Gives self.old self.new chain }
+        ensures others { KeepsOthers self.old self.new chain chain }
     {
         let need = (self.len(&chain) as usize).div_ceil(BLOCK_BYTES) as u16;
         let at = chain.owner as usize;

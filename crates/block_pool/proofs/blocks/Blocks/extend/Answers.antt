@@ -20,15 +20,16 @@ loop-byte-preserved c =
     let bytes_are : bytes_of now b ≡ so_far = ap (λ (ss : List (Option Held)). bytes_of ss b) c.loop-byte.invariant.0 ∙ bytes_of-put old b owner so_far low in
     let len : length (bytes_of now b) ≡ length front + i = ap length bytes_are ∙ (length-append front (take i c.args.bytes.now) ∙ omega (arith, length-take i c.args.bytes.now)) in
     let joined : so_far ++ byte ∷ [] ≡ front ++ take (i + 1) c.args.bytes.now =
-        append_assoc front (take i c.args.bytes.now) (byte ∷ []) ∙ ap (λ bs. front ++ bs) (sym (take_more c.args.bytes.now i 0 c.loop-byte-test.true)) in
-    (c.push.ensures.slots
-        ∙ (ap (λ (o : ℕ). put now b o (bytes_of now b ++ byte ∷ [])) owner_is
-        ∙ (ap (λ (bs : List ℕ). put now b owner (bs ++ byte ∷ [])) bytes_are
-        ∙ (ap (λ (ss : List (Option Held)). put ss b owner (so_far ++ byte ∷ [])) c.loop-byte.invariant.0
-        ∙ (put-put old b owner owner so_far (so_far ++ byte ∷ [])
-        ∙ ap (put old b owner) joined)))),
-     (let pushed = c.push.ensures.free in
-      let more : c.push.new.self.free + blocks_for ((length front + i) + 1) ≡ c.loop-byte.self.free + blocks_for (length front + i) =
+    append_assoc front (take i c.args.bytes.now) (byte ∷ []) ∙ ap (λ bs. front ++ bs) (sym (take_more c.args.bytes.now i 0 c.loop-byte-test.true)) in (
+      c.push.ensures.slots
+          ∙ (ap (λ (o : ℕ). put now b o (bytes_of now b ++ byte ∷ [])) owner_is
+          ∙ (ap (λ (bs : List ℕ). put now b owner (bs ++ byte ∷ [])) bytes_are
+          ∙ (ap (λ (ss : List (Option Held)). put ss b owner (so_far ++ byte ∷ [])) c.loop-byte.invariant.0
+          ∙ (put-put old b owner owner so_far (so_far ++ byte ∷ [])
+          ∙ ap (put old b owner) joined)))),
+      (let pushed = c.push.ensures.free in
+          let more : c.push.new.self.free + blocks_for ((length front + i) + 1) ≡ c.loop-byte.self.free + blocks_for (length front + i) =
           subst (λ (n : ℕ). c.push.new.self.free + blocks_for (n + 1) ≡ c.loop-byte.self.free + blocks_for n) len pushed in
-      let regrouped : (length front + i) + 1 ≡ length front + (i + 1) = omega arith in
-      subst (λ (n : ℕ). c.push.new.self.free + blocks_for n ≡ c.args.self.now.free + blocks_for (length front)) regrouped (more ∙ c.loop-byte.invariant.1)))
+          let regrouped : (length front + i) + 1 ≡ length front + (i + 1) = omega arith in
+          subst (λ (n : ℕ). c.push.new.self.free + blocks_for n ≡ c.args.self.now.free + blocks_for (length front)) regrouped (more ∙ c.loop-byte.invariant.1)),
+    )

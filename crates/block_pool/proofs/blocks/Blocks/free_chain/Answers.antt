@@ -10,7 +10,7 @@ pub head_at-head-requires : goal.head_at-head-requires
 head_at-head-requires c =
     let s = c.self.inside in
     subst (λ hs. IsSome (get_or hs c.args.first None)) (sym c.deref.ensures.value)
-        (has_head s.region.items s.next.items s.heads.items c.args.self.now.slots (ap (λ (v : BlocksState). v.slots) c.self.view_is) c.args.first c.requires.some)
+    (has_head s.region.items s.next.items s.heads.items c.args.self.now.slots (ap (λ (v : BlocksState). v.slots) c.self.view_is) c.args.first c.requires.some)
 
 pub index_mut-requires : goal.index_mut-requires
 index_mut-requires c =
@@ -48,7 +48,7 @@ invariant_of-self c =
     let at : get_or s.heads.items c.args.first None ≡ Some head = rw c.deref.ensures.value at c.head_at-head.ensures.head in
     let blocks : c.div_ceil.result ≡ blocks_for head.len = blocks_is c.div_ceil.result head.len c.div_ceil.ensures in
     subst (λ n. IsSound s.region.items (slice_set s.next.items head.last s.free) (slice_set s.heads.items c.args.first None) c.args.first (s.free_len + n)) (sym blocks)
-        (free_chain_sound s.region.items s.next.items s.heads.items s.free s.free_len c.self.invariant c.args.first head at)
+    (free_chain_sound s.region.items s.next.items s.heads.items s.free s.free_len c.self.invariant c.args.first head at)
 
 pub returns-clause-slots : goal.returns-clause-slots
 returns-clause-slots c =

@@ -10,7 +10,7 @@ pub head_at-head-requires : goal.head_at-head-requires
 head_at-head-requires c =
     let s = c.self.inside in
     subst (λ hs. IsSome (get_or hs c.args.first None)) (sym c.deref.ensures.value)
-        (has_head s.region.items s.next.items s.heads.items c.args.self.now.slots (ap (λ (v : BlocksState). v.slots) c.self.view_is) c.args.first (let r = c.requires.room in omega arith))
+    (has_head s.region.items s.next.items s.heads.items c.args.self.now.slots (ap (λ (v : BlocksState). v.slots) c.self.view_is) c.args.first (let r = c.requires.room in omega arith))
 
 pub index_mut-requires : goal.index_mut-requires
 index_mut-requires c =

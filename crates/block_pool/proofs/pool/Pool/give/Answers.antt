@@ -34,8 +34,12 @@ free_all-requires-clause-fits c =
     let s = c.self.inside in
     let pool : PoolState = record { slots = s.blocks.slots; owners = s.owners.items } in
     let live = subst (λ (v : PoolState). IsLive v c.args.chain) (sym c.self.view_is) c.requires in
-    omega (arith, chain_low pool c.self.invariant.0 c.args.chain.owner live.0 c.args.chain.first live.1, used_low pool c.self.invariant.0 c.args.chain.owner live.0,
-        free_low pool c.self.invariant.0 s.blocks.free c.self.invariant.1)
+    omega (
+      arith,
+      chain_low pool c.self.invariant.0 c.args.chain.owner live.0 c.args.chain.first live.1,
+      used_low pool c.self.invariant.0 c.args.chain.owner live.0,
+      free_low pool c.self.invariant.0 s.blocks.free c.self.invariant.1,
+    )
 
 pub invariant_of-self : goal.invariant_of-self
 invariant_of-self c =
@@ -44,5 +48,5 @@ invariant_of-self c =
     let live = subst (λ (v : PoolState). IsLive v c.args.chain) (sym c.self.view_is) c.requires in
     let len : c.len.result ≡ length (bytes_at pool.slots c.args.chain.first) = c.len.ensures ∙ ap (λ (v : PoolState). length (bytes_at v.slots c.args.chain.first)) (sym c.self.view_is) in
     given_counted pool c.self.invariant.0 s.blocks.free c.self.invariant.1 c.args.chain.owner live.0 c.args.chain.first c.free_all.new.blocks.slots c.free_all.new.blocks.free c.div_ceil-need.result c.index-old.result.now
-        live.1 c.free_all.ensures.slots c.free_all.ensures.free (blocks_is c.div_ceil-need.result c.len.result c.div_ceil-need.ensures ∙ ap blocks_for len)
-        (get_or_read s.owners.items c.args.chain.owner c.index-old.result.now live.0 c.index-old.ensures (record { quota = 0; used = 0; aside = 0 }))
+    live.1 c.free_all.ensures.slots c.free_all.ensures.free (blocks_is c.div_ceil-need.result c.len.result c.div_ceil-need.ensures ∙ ap blocks_for len)
+    (get_or_read s.owners.items c.args.chain.owner c.index-old.result.now live.0 c.index-old.ensures (record { quota = 0; used = 0; aside = 0 }))

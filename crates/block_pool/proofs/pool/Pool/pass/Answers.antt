@@ -43,9 +43,9 @@ invariant_of-self c =
     let old = c.index-before.result.now in
     let lowered : Owner = record { quota = old.quota; used = old.used - c.div_ceil-need.result; aside = old.aside } in
     subst (λ (n : ℕ). IsCounted (record { slots = c.hand_over.new.blocks.slots; owners = set (set s.owners.items chain.owner lowered) q (record { quota = c.index-after.result.now.quota; used = c.index-after.result.now.used + c.div_ceil-need.result; aside = c.index-after.result.now.aside }) })
-            × IsFreeCount (record { slots = c.hand_over.new.blocks.slots; owners = set (set s.owners.items chain.owner lowered) q (record { quota = c.index-after.result.now.quota; used = c.index-after.result.now.used + c.div_ceil-need.result; aside = c.index-after.result.now.aside }) }) n)
-        (sym c.hand_over.ensures.free)
-        (passed_counted pool c.self.invariant.0 s.blocks.free c.self.invariant.1 chain.owner q live.0 other chain.first c.hand_over.new.blocks.slots c.div_ceil-need.result old c.index-after.result.now
-            live.1 c.hand_over.ensures.slots (blocks_is c.div_ceil-need.result c.len.result c.div_ceil-need.ensures ∙ ap blocks_for len) (omega (arith, spare, c.if-need-spare.false))
-            (get_or_read s.owners.items chain.owner old live.0 c.index-before.ensures (record { quota = 0; used = 0; aside = 0 }))
-            (get_or_read (set s.owners.items chain.owner lowered) q c.index-after.result.now (omega (arith, other, length-set s.owners.items chain.owner lowered)) c.index-after.ensures (record { quota = 0; used = 0; aside = 0 })))
+    × IsFreeCount (record { slots = c.hand_over.new.blocks.slots; owners = set (set s.owners.items chain.owner lowered) q (record { quota = c.index-after.result.now.quota; used = c.index-after.result.now.used + c.div_ceil-need.result; aside = c.index-after.result.now.aside }) }) n)
+    (sym c.hand_over.ensures.free)
+    (passed_counted pool c.self.invariant.0 s.blocks.free c.self.invariant.1 chain.owner q live.0 other chain.first c.hand_over.new.blocks.slots c.div_ceil-need.result old c.index-after.result.now
+    live.1 c.hand_over.ensures.slots (blocks_is c.div_ceil-need.result c.len.result c.div_ceil-need.ensures ∙ ap blocks_for len) (omega (arith, spare, c.if-need-spare.false))
+    (get_or_read s.owners.items chain.owner old live.0 c.index-before.ensures (record { quota = 0; used = 0; aside = 0 }))
+    (get_or_read (set s.owners.items chain.owner lowered) q c.index-after.result.now (omega (arith, other, length-set s.owners.items chain.owner lowered)) c.index-after.ensures (record { quota = 0; used = 0; aside = 0 })))

@@ -21,7 +21,7 @@ append-requires-clause-room c =
     let had = blocks_is c.div_ceil-2.result c.len-len.result c.div_ceil-2.ensures in
     let enough = enough_free pool c.self.invariant.0 chain.owner live.0 s.blocks.free c.self.invariant.1 in
     subst (λ n. blocks_for (n + length c.args.bytes.now) ≤ blocks_for n + s.blocks.free) len
-        (omega (arith, all, had, spare, enough, c.if-need-spare.false))
+    (omega (arith, all, had, spare, enough, c.if-need-spare.false))
 
 pub invariant_of-self : goal.invariant_of-self
 invariant_of-self c =
@@ -34,7 +34,7 @@ invariant_of-self c =
     let all = blocks_is c.div_ceil.result (c.len-len.result + length c.args.bytes.now) c.div_ceil.ensures in
     let had = blocks_is c.div_ceil-2.result c.len-len.result c.div_ceil-2.ensures in
     let more : c.div_ceil.result - c.div_ceil-2.result ≡ blocks_for (length (bytes_at pool.slots chain.first) + length c.args.bytes.now) - blocks_for (length (bytes_at pool.slots chain.first)) =
-        subst (λ n. c.div_ceil.result - c.div_ceil-2.result ≡ blocks_for (n + length c.args.bytes.now) - blocks_for n) len (omega (arith, all, had)) in
+    subst (λ n. c.div_ceil.result - c.div_ceil-2.result ≡ blocks_for (n + length c.args.bytes.now) - blocks_for n) len (omega (arith, all, had)) in
     taken_counted pool c.self.invariant.0 s.blocks.free c.self.invariant.1 chain.owner live.0 chain.first c.args.bytes.now c.append.new.chain.first c.append.new.blocks.slots c.append.new.blocks.free (c.div_ceil.result - c.div_ceil-2.result) c.index-old.result.now
-        live.1 c.append.ensures.name c.append.ensures.slots c.append.ensures.free more (omega (arith, spare, c.if-need-spare.false))
-        (get_or_read s.owners.items chain.owner c.index-old.result.now live.0 c.index-old.ensures (record { quota = 0; used = 0; aside = 0 }))
+    live.1 c.append.ensures.name c.append.ensures.slots c.append.ensures.free more (omega (arith, spare, c.if-need-spare.false))
+    (get_or_read s.owners.items chain.owner c.index-old.result.now live.0 c.index-old.ensures (record { quota = 0; used = 0; aside = 0 }))
