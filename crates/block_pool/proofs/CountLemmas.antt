@@ -1,18 +1,18 @@
 -- How calls change what owners use.
-use Rattle.std.proofs.Common.{◌≡◌, ◌≢◌, ℕ, zero, suc, ◌+◌, ◌-◌, ◌*◌, ◌/◌, ◌<◌, ◌≤◌, ◌⊎◌, inl, inr, Bool, true, false, cond, eqb, List, [], ◌∷◌, ◌++◌, length, get_or, set, refl, sym, ap, ◌∙◌, subst, arith, length-set, length-append, replicate, get_or-set_same, get_or-set_other}
+use Rattle.std.proofs.Common.{◌≡◌, ◌≢◌, ℕ, zero, suc, ◌+◌, ◌-◌, ◌<◌, ◌≤◌, inl, inr, true, false, cond, eqb, List, [], ◌∷◌, ◌++◌, length, get_or, set, refl, sym, ap, ◌∙◌, subst, arith, length-set, length-append, replicate, get_or-set_same, get_or-set_other}
 use Rattle.std.specs.Prelude.{Option, Some, None}
 use Rattle.std.specs.List.{sum_by}
-use Rattle.std.proofs.lemmas.List.{get_or_past, set-set, length-map}
+use Rattle.std.proofs.lemmas.List.{set-set, length-map}
 use Rattle.std.proofs.lemmas.List.Sums.{sum_by-cons, sum_by-set, get_or-le-sum_by}
-use Rattle.std.proofs.lemmas.Bool.{cases_lt, cases_eq}
+use Rattle.std.proofs.lemmas.Bool.{cases_eq}
 use Rattle.std.proofs.lemmas.Grind.{common_steps}
 use Rattle.block_pool.specs.declared.owners.Owner.{Owner}
-use Rattle.block_pool.specs.Slots.{Held, blocks_for, slot, put, bytes_in, bytes_of, owner_in, owner_of}
+use Rattle.block_pool.specs.Slots.{Held, blocks_for, slot, put, bytes_in, bytes_of, owner_in}
 use Rattle.block_pool.specs.Names.{bytes_at, IsLiveAt, put_at, removed_at, IsNamedAfter}
-use Rattle.block_pool.specs.Owners.{owner_at, with_used, with_aside, new_owners}
-use Rattle.block_pool.specs.Pool.{PoolState, quota_of, used_of, aside_of, spare_of, HasQuota}
+use Rattle.block_pool.specs.Owners.{owner_at, with_aside, new_owners}
+use Rattle.block_pool.specs.Pool.{PoolState, quota_of, used_of, aside_of, spare_of}
 use Rattle.block_pool.specs.Counts.{blocks_in, blocks_held, IsCounted, IsFreeCount}
-use Rattle.block_pool.proofs.SlotLemmas.{slot_low, slot-put, put-put}
+use Rattle.block_pool.proofs.SlotLemmas.{slot_low}
 
 -- ---- sums
 

@@ -1,5 +1,5 @@
 -- How the blocks of chains are counted for their owners.
-use Rattle.std.specs.Prelude.{◌≡◌, ℕ, ◌+◌, ◌<◌, ◌≤◌, if◌then◌else◌, ◌==◌, List, length, Option, None, Some}
+use Rattle.std.specs.Prelude.{◌≡◌, ℕ, ◌+◌, ◌≤◌, if◌then◌else◌, ◌==◌, List, length, Option, None, Some}
 use Rattle.std.specs.List.{sum_by}
 use Rattle.block_pool.specs.Slots.{Held, blocks_for}
 use Rattle.block_pool.specs.Pool.{PoolState, used_of, aside_of, quota_of, HasQuota}

@@ -1,6 +1,6 @@
 -- What a pool holds: for each block the chain that begins there, and for each owner its quota, its use, and what is set
 -- aside.
-use Rattle.std.specs.Prelude.{◌≡◌, ℕ, ◌+◌, ◌-◌, ◌*◌, ◌<◌, ◌≤◌, if◌then◌else◌, ◌==◌, List, [], ◌∷◌, ◌++◌, length, sum, replicate, Option, None, Some, slice_index_or, slice_set}
+use Rattle.std.specs.Prelude.{◌≡◌, ℕ, ◌+◌, ◌-◌, ◌<◌, List, ◌++◌, length, sum, replicate, Option, None}
 use Rattle.block_pool.specs.Slots.{Held, blocks_for}
 use Rattle.block_pool.specs.Names.{bytes_at, IsLiveAt, put_at, removed_at, IsNamedAfter, IsApartAt}
 use Rattle.block_pool.specs.Owners.{owner_at, with_used, new_owners}

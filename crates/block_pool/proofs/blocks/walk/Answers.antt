@@ -1,4 +1,4 @@
-use Rattle.std.proofs.Common.{sym, ap, ◌∙◌, subst, get_or, ◌<◌, length, arith, ℕ}
+use Rattle.std.proofs.Common.{sym, ap, ◌∙◌, subst, get_or, ◌<◌, length, ℕ}
 use Rattle.block_pool.proofs.LayoutLemmas.{block_at-more}
 use Rattle.block_pool.proofs.blocks.walk.Goals as goal
 

@@ -1,7 +1,7 @@
-use Rattle.std.proofs.Common.{◌≡◌, ℕ, ◌+◌, ◌*◌, ◌-◌, ◌<◌, ◌≤◌, sym, ap, ◌∙◌, subst, arith, length, take, drop, map, List, length-take}
+use Rattle.std.proofs.Common.{◌≡◌, ℕ, ◌+◌, ◌*◌, ◌<◌, sym, ap, ◌∙◌, subst, arith, length, take, drop, map, List, length-take}
 use Rattle.std.specs.Prelude.{◌++◌}
 use Rattle.std.specs.List.{range_with_len}
-use Rattle.block_pool.specs.Slots.{BlocksState, bytes_of}
+use Rattle.block_pool.specs.Slots.{BlocksState}
 use Rattle.block_pool.specs.Links.{block_at, byte_at}
 use Rattle.block_pool.proofs.LayoutLemmas.{blocks_reached, bytes_copied}
 use Rattle.block_pool.proofs.blocks.Blocks.copy_out.Goals as goal

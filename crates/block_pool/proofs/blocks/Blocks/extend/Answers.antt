@@ -1,4 +1,4 @@
-use Rattle.std.proofs.Common.{◌≡◌, ◌≢◌, ℕ, ◌+◌, ◌<◌, List, sym, ap, ◌∙◌, subst, arith, length, take, get_or, append_assoc, length-append, length-take}
+use Rattle.std.proofs.Common.{◌≡◌, ℕ, ◌+◌, List, sym, ap, ◌∙◌, subst, arith, length, take, get_or, append_assoc, length-append, length-take}
 use Rattle.std.specs.Prelude.{[], ◌∷◌, ◌++◌, Option}
 use Rattle.std.proofs.lemmas.List.{take_more}
 use Rattle.block_pool.specs.Slots.{Held, put, bytes_of, owner_of, blocks_for}

@@ -1,7 +1,6 @@
-use Rattle.std.proofs.Common.{◌≡◌, ◌<◌, ◌≤◌, ◌+◌, ◌*◌, ◌/◌, ◌%◌, ◌-◌, ◌^◌, ℕ, sym, ap, ◌∙◌, subst, arith, length, get_or, Fits, List}
-use Rattle.std.specs.Prelude.{◌∷◌, [], ◌++◌, None, Some, IsSome, slice_set}
-use Rattle.std.proofs.lemmas.List.{get_or_read}
-use Rattle.block_pool.specs.Slots.{BlocksState, put, bytes_of, owner_of, blocks_for}
+use Rattle.std.proofs.Common.{◌≡◌, ◌<◌, ◌+◌, ◌^◌, sym, ap, ◌∙◌, subst, arith, get_or}
+use Rattle.std.specs.Prelude.{None, Some, IsSome, slice_set}
+use Rattle.block_pool.specs.Slots.{BlocksState, blocks_for}
 use Rattle.block_pool.specs.Layout.{slots_of, IsSound}
 use Rattle.block_pool.proofs.LayoutLemmas.{len_says, has_head, last_in, blocks_is, blocks_fit, free_chain_sound, free_chain_slots}
 use Rattle.block_pool.proofs.blocks.Blocks.free_chain.Goals as goal

@@ -1,7 +1,7 @@
-use Rattle.std.proofs.Common.{◌≡◌, ◌<◌, ◌≤◌, ◌+◌, ◌*◌, ◌/◌, ◌%◌, ◌-◌, ◌^◌, ℕ, sym, ap, ◌∙◌, subst, arith, length, get_or, Fits, List}
+use Rattle.std.proofs.Common.{◌≡◌, ◌<◌, ◌*◌, ◌%◌, sym, ap, ◌∙◌, subst, arith, length, get_or}
 use Rattle.std.specs.Prelude.{◌∷◌, [], ◌++◌, None, Some, IsSome}
 use Rattle.std.proofs.lemmas.List.{get_or_read}
-use Rattle.block_pool.specs.Slots.{BlocksState, put, bytes_of, owner_of, blocks_for}
+use Rattle.block_pool.specs.Slots.{BlocksState, put, bytes_of}
 use Rattle.block_pool.specs.Layout.{slots_of, chain_bytes}
 use Rattle.block_pool.proofs.LayoutLemmas.{bytes_say, owner_says, len_says, has_head, last_in, head_fits, first_free, push_in_new_block_sound, push_in_new_block_slots}
 use Rattle.block_pool.proofs.blocks.Blocks.push_in_new_block.Goals as goal

@@ -1,10 +1,9 @@
-use Rattle.std.proofs.Common.{◌≡◌, ℕ, ◌+◌, ◌-◌, ◌<◌, ◌≤◌, sym, ap, ◌∙◌, subst, arith, length, get_or, Fits}
+use Rattle.std.proofs.Common.{◌≡◌, sym, ap, ◌∙◌, subst, arith, length}
 use Rattle.std.proofs.lemmas.List.{get_or_read}
-use Rattle.std.proofs.lemmas.Grind.{common_steps}
 use Rattle.block_pool.specs.declared.owners.Owner.{Owner}
 use Rattle.block_pool.specs.Slots.{blocks_for}
 use Rattle.block_pool.specs.Names.{bytes_at}
-use Rattle.block_pool.specs.Pool.{PoolState, IsLive, used_of}
+use Rattle.block_pool.specs.Pool.{PoolState, IsLive}
 use Rattle.block_pool.proofs.LayoutLemmas.{blocks_is, blocks_fit}
 use Rattle.block_pool.proofs.CountLemmas.{chain_low, used_low, free_low, given_counted}
 use Rattle.block_pool.proofs.pool.Pool.give.Goals as goal

@@ -1,13 +1,12 @@
-use Rattle.std.proofs.Common.{◌≡◌, ℕ, ◌+◌, ◌-◌, ◌<◌, ◌≤◌, sym, ap, ◌∙◌, subst, arith, length, get_or, set, length-set, Fits}
+use Rattle.std.proofs.Common.{◌≡◌, ℕ, ◌+◌, ◌-◌, ◌<◌, sym, ap, ◌∙◌, subst, arith, length, set, length-set}
 use Rattle.std.proofs.lemmas.List.{get_or_read}
-use Rattle.std.proofs.lemmas.Grind.{common_steps}
 use Rattle.block_pool.specs.declared.owners.Owner.{Owner}
 use Rattle.block_pool.specs.Slots.{blocks_for}
 use Rattle.block_pool.specs.Names.{bytes_at}
-use Rattle.block_pool.specs.Pool.{PoolState, IsLive, used_of, spare_of}
+use Rattle.block_pool.specs.Pool.{PoolState, IsLive, spare_of}
 use Rattle.block_pool.specs.Counts.{IsCounted, IsFreeCount}
 use Rattle.block_pool.proofs.LayoutLemmas.{blocks_is, blocks_fit}
-use Rattle.block_pool.proofs.CountLemmas.{chain_low, used_low, free_low, passed_counted}
+use Rattle.block_pool.proofs.CountLemmas.{chain_low, used_low, passed_counted}
 use Rattle.block_pool.proofs.pool.Pool.pass.Goals as goal
 
 pub overflow_cast-need : goal.overflow_cast-need
