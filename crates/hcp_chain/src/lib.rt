@@ -1,0 +1,8 @@
+//! Messages in chains of blocks: cut into packets, and joined from packets of any pipes mixed (ETSI TS 102 622, message
+//! fragmentation).
+#![tactic(auto)]
+
+mod cutting;
+pub mod laws;
+
+pub use cutting::cut;
