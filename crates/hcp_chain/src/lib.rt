@@ -3,6 +3,8 @@
 #![tactic(auto)]
 
 mod cutting;
+mod joiner;
 pub mod laws;
 
 pub use cutting::cut;
+pub use joiner::{ChainFault, Joined, Joiner, MAX_MESSAGE};
