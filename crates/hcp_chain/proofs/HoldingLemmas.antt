@@ -59,7 +59,7 @@ pub all_map : (P Q : Open → Type 0) (xs : List Open) → ((x : Open) → P x �
 all_map P Q [] f all = tt
 all_map P Q (x ∷ xs) f all = (f x all.0, all_map P Q xs f all.1)
 
-all_both : (P Q : Open → Type 0) (xs : List Open) → AllByRecursion P xs → AllByRecursion Q xs → AllByRecursion (λ x. P x × Q x) xs
+pub all_both : (P Q : Open → Type 0) (xs : List Open) → AllByRecursion P xs → AllByRecursion Q xs → AllByRecursion (λ x. P x × Q x) xs
 all_both P Q [] p q = tt
 all_both P Q (x ∷ xs) p q = ((p.0, q.0), all_both P Q xs p.1 q.1)
 

@@ -44,12 +44,13 @@ pub struct Joiner {
 }
 
 impl Joiner {
-    ghost use Rattle.std.specs.Prelude.{◌≡◌, ◌+◌, ◌-◌, ◌≤◌, ◌<◌, ◌↔◌, [], ◌++◌, length, IsTrue, IsNone, IfSome, IfNone};
+    ghost use Rattle.std.specs.Prelude.{◌≡◌, ◌-◌, ◌↔◌, if◌then◌else◌, [], ◌∷◌, ◌++◌, IsTrue, IsNone, IfSome, IfNone};
+    ghost use Rattle.block_pool.specs.declared.chain.Chain.{Chain};
     ghost use Rattle.block_pool.specs.Owners.{with_used};
-    ghost use Rattle.block_pool.specs.Pool.{HasQuota, used_of, chain_bytes};
-    ghost use Rattle.hcp_chain.specs.Joining.{join_step, is_fifth};
-    ghost use Rattle.hcp_chain.specs.Holding.{Holds, IsReady, KeepsAllOthers, Says, open_messages, held_blocks, whole_in};
-    ghost use Rattle.hcp_chain.specs.TakingOut.{TakesOut};
+    ghost use Rattle.block_pool.specs.Pool.{HasQuota, used_of, IsLive, IsApart, chain_bytes};
+    ghost use Rattle.hcp_chain.specs.Joining.{Nothing, Message, join_step, is_fifth};
+    ghost use Rattle.hcp_chain.specs.Holding.{Holds, IsReady, IsApartFrom, KeepsAllOthers, Says, open_messages, held_blocks, whole_in};
+    ghost use Rattle.hcp_chain.specs.TakingOut.{TakesOut, CanGrow, Grown};
 
     /// A joiner that keeps its chains for an owner. Nothing is received yet.
     pub fn new(owner: u8) -> Joiner
@@ -93,6 +94,67 @@ impl Joiner {
             None if self.open.is_full() => None,
             None => Some(pool.chain(self.owner)),
         }
+    }
+
+    /// Appends a packet's data to the chain of its message. There is room for it.
+    fn append(&self, pool: &mut Pool, chain: Chain, packet: &Packet) -> Chain
+        requires { CanGrow pool.old self.now packet.now chain }
+        ensures { Grown pool.old pool.new self.now.owner packet.now.pipe chain result self.now.open.items
+            (chain_bytes pool.old chain ++ packet.now.bytes.items) }
+    {
+        let mut chain = chain;
+        let _ = pool.take(&mut chain, packet.bytes.as_slice());
+        chain
+    }
+
+    /// Appends a packet's data to the chain of its message, and keeps the chain where more is to come.
+    fn grow(&mut self, pool: &mut Pool, chain: Chain, packet: &Packet) -> Joined
+        requires { CanGrow pool.old self.old packet.now chain }
+        ensures owner { self.new.owner ≡ self.old.owner }
+        ensures says { Says pool.new result (if packet.now.last
+            then Message packet.now.pipe (chain_bytes pool.old chain ++ packet.now.bytes.items) else Nothing) }
+        ensures open { open_messages pool.new self.new ≡ (if packet.now.last then open_messages pool.old self.old
+            else open_messages pool.old self.old ++ (packet.now.pipe, chain_bytes pool.old chain ++ packet.now.bytes.items) ∷ []) }
+        ensures holds { Holds pool.new self.old.owner (self.new.open.items ++ whole_in result) }
+        ensures used { pool.new.owners ≡ with_used pool.old.owners self.old.owner
+            (held_blocks pool.new (self.new.open.items ++ whole_in result)) }
+        ensures others { (other : Chain) → IsLive pool.old other → IsApartFrom self.old.open.items other → IsApart other chain
+            → IsLive pool.new other × (chain_bytes pool.new other ≡ chain_bytes pool.old other)
+                × IsApartFrom (self.new.open.items ++ whole_in result) other }
+    {
+        let chain = self.append(pool, chain, packet);
+        let pipe = packet.pipe;
+        if packet.last {
+            return Joined::Whole { pipe, chain };
+        }
+        self.open.push(Open { pipe, chain });
+        Joined::More
+    }
+
+    /// Takes a packet: what has come of its message is kept until its last packet. After a fault nothing is kept. It asks
+    /// that the joiner's owner has 512 blocks and uses none but those of the joiner's own chains.
+    pub fn take(&mut self, pool: &mut Pool, packet: &Packet) -> Joined
+        requires { IsReady pool.old self.old }
+        ensures owner { self.new.owner ≡ self.old.owner }
+        ensures says { Says pool.new result (join_step (open_messages pool.old self.old) packet.now).0 }
+        ensures open { open_messages pool.new self.new ≡ (join_step (open_messages pool.old self.old) packet.now).1 }
+        ensures holds { Holds pool.new self.old.owner (self.new.open.items ++ whole_in result) }
+        ensures used { pool.new.owners ≡ with_used pool.old.owners self.old.owner
+            (held_blocks pool.new (self.new.open.items ++ whole_in result)) }
+        ensures others { KeepsAllOthers pool.old pool.new self.old.open.items (self.new.open.items ++ whole_in result) }
+    {
+        let pipe = packet.pipe;
+        let Some(chain) = self.take_out(pool, pipe) else {
+            self.clear(pool);
+            return Joined::Fault(ChainFault::TooManyChains { pipe });
+        };
+        let len = pool.len(&chain) + packet.bytes.len() as u32;
+        if len > MAX_MESSAGE {
+            pool.give(chain);
+            self.clear(pool);
+            return Joined::Fault(ChainFault::MessageTooLong { len });
+        }
+        self.grow(pool, chain, packet)
     }
 }
 
