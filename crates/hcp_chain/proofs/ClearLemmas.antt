@@ -103,3 +103,13 @@ clears_more first now next owner owner_now chains left x so_far gives keeps =
           let still = keeps other o.0 parts.1 in
           (still.1, still.2 ∙ o.1, parts.0);
     }
+
+-- a chain was given back, and then those of a joiner: their owner uses nothing
+pub all_given : (pool next last : PoolState) (owner : ℕ) (chain : Chain) (xs : List Open) → HasQuota pool owner → chain.owner ≡ owner → Holds pool owner xs → AllByRecursion (λ x. IsApart x.chain chain) xs → Gives pool next chain → KeepsOthers pool next chain chain → used_of pool owner ≡ blocks_for (length (chain_bytes pool chain)) + held_blocks pool xs → last.owners ≡ with_used next.owners owner (used_of next owner - held_blocks next xs) → last.owners ≡ with_used pool.owners owner 0
+all_given pool next last owner chain xs quota owned holds apart gives keeps used cleared =
+    let k = kept pool next owner chain chain xs keeps holds.own apart in
+    let n = blocks_for (length (chain_bytes pool chain)) in
+    let given : next.owners ≡ with_used pool.owners owner (used_of pool owner - n) = gives.owners ∙ ap (λ o. with_used pool.owners o (used_of pool o - n)) owned in
+    let used_next : used_of next owner ≡ used_of pool owner - n = ap (λ os. (owner_at os owner).used) given ∙ used_of-with_used pool.owners owner (used_of pool owner - n) quota in
+    let none : used_of next owner - held_blocks next xs ≡ 0 = omega (arith, used_next, used, k.blocks) in
+    cleared ∙ (ap (with_used next.owners owner) none ∙ (ap (λ os. with_used os owner 0) given ∙ with_used-with_used pool.owners owner (used_of pool owner - n) 0 quota))
