@@ -2,7 +2,7 @@
 use Rattle.std.proofs.Common.{◌≡◌, ◌≢◌, ℕ, ◌+◌, ◌-◌, ◌<◌, ◌≤◌, List, [], ◌∷◌, ◌++◌, length, get_or, set, map, refl, sym, ap, ◌∙◌, subst, arith, get_or-set_same, length-set}
 use Rattle.std.specs.Prelude.{Option, Some, None}
 use Rattle.std.specs.List.{sum_by, AllByRecursion}
-use Rattle.std.proofs.lemmas.List.{set-set, set-get_or}
+use Rattle.std.proofs.lemmas.List.{set-set, set-get_or, append-nil}
 use Rattle.std.proofs.lemmas.List.Sums.{sum_by-cons, sum_by_push}
 use Rattle.block_pool.specs.declared.chain.Chain.{Chain}
 use Rattle.block_pool.specs.declared.owners.Owner.{Owner}
@@ -10,7 +10,8 @@ use Rattle.block_pool.specs.Slots.{blocks_for}
 use Rattle.block_pool.specs.Owners.{owner_at, with_used}
 use Rattle.block_pool.specs.Pool.{PoolState, HasQuota, used_of, IsLive, IsApart, chain_bytes, KeepsOthers, Gives}
 use Rattle.hcp_chain.specs.declared.joiner.Open.{Open}
-use Rattle.hcp_chain.specs.Holding.{message_of, messages_in, IsOwn, AreApart, ArePairwiseApart, Holds, held_blocks, IsApartFrom, KeepsAllOthers}
+use Rattle.hcp_chain.specs.declared.joiner.Joiner.{Joiner}
+use Rattle.hcp_chain.specs.Holding.{message_of, messages_in, IsReady, IsOwn, AreApart, ArePairwiseApart, Holds, held_blocks, IsApartFrom, KeepsAllOthers}
 use Rattle.hcp_chain.proofs.HoldingLemmas.{all_front, all_map, apart_front}
 
 -- ---- a pool that changed at one chain
@@ -113,3 +114,20 @@ all_given pool next last owner chain xs quota owned holds apart gives keeps used
     let used_next : used_of next owner ≡ used_of pool owner - n = ap (λ os. (owner_at os owner).used) given ∙ used_of-with_used pool.owners owner (used_of pool owner - n) quota in
     let none : used_of next owner - held_blocks next xs ≡ 0 = omega (arith, used_next, used, k.blocks) in
     cleared ∙ (ap (with_used next.owners owner) none ∙ (ap (λ os. with_used os owner 0) given ∙ with_used-with_used pool.owners owner (used_of pool owner - n) 0 quota))
+
+-- a joiner can take the next packet
+pub ready_again : (old new : PoolState) (before after : Joiner) (whole : List Open) → IsReady old before → after.owner ≡ before.owner → whole ≡ [] → Holds new before.owner (after.open.items ++ whole) → new.owners ≡ with_used old.owners before.owner (held_blocks new (after.open.items ++ whole)) → IsReady new after
+ready_again old new before after whole ready owner none holds used =
+    let o = before.owner in
+    let xs = after.open.items in
+    let all : xs ++ whole ≡ xs = ap (λ ys. xs ++ ys) none ∙ append-nil xs in
+    let used_is : new.owners ≡ with_used old.owners o (held_blocks new xs) = used ∙ ap (λ ys. with_used old.owners o (held_blocks new ys)) all in
+    let entry : Owner = record { quota = (owner_at old.owners o).quota; used = held_blocks new xs; aside = (owner_at old.owners o).aside } in
+    let nobody : Owner = record { quota = 0; used = 0; aside = 0 } in
+    let here : owner_at new.owners o ≡ entry = ap (λ os. owner_at os o) used_is ∙ get_or-set_same old.owners o entry nobody ready.has_quota in
+    record {
+      holds = subst (λ q. Holds new q xs) (sym owner) (subst (Holds new o) all holds);
+      has_quota = subst (λ q. q < length new.owners) (sym owner) (subst (λ os. o < length os) (sym used_is) (omega (arith, ready.has_quota, length-set old.owners o entry)));
+      quota = ap (λ q. (owner_at new.owners q).quota) owner ∙ (ap (λ (x : Owner). x.quota) here ∙ ready.quota);
+      used = ap (λ q. (owner_at new.owners q).used) owner ∙ ap (λ (x : Owner). x.used) here;
+    }

@@ -131,6 +131,21 @@ impl Joiner {
         Joined::More
     }
 
+    /// Forgets everything at a fault.
+    fn refuse(&mut self, pool: &mut Pool, fault: ChainFault) -> Joined
+        requires holds { Holds pool.old self.old.owner self.old.open.items }
+        requires quota { HasQuota pool.old self.old.owner }
+        ensures fault { result ≡ Joined.Fault fault }
+        ensures owner { self.new.owner ≡ self.old.owner }
+        ensures open { self.new.open.items ≡ [] }
+        ensures used { pool.new.owners ≡ with_used pool.old.owners self.old.owner
+            (used_of pool.old self.old.owner - held_blocks pool.old self.old.open.items) }
+        ensures others { KeepsAllOthers pool.old pool.new self.old.open.items [] }
+    {
+        self.clear(pool);
+        Joined::Fault(fault)
+    }
+
     /// Takes a packet: what has come of its message is kept until its last packet. After a fault nothing is kept. It asks
     /// that the joiner's owner has 512 blocks and uses none but those of the joiner's own chains.
     pub fn take(&mut self, pool: &mut Pool, packet: &Packet) -> Joined
@@ -142,17 +157,16 @@ impl Joiner {
         ensures used { pool.new.owners ≡ with_used pool.old.owners self.old.owner
             (held_blocks pool.new (self.new.open.items ++ whole_in result)) }
         ensures others { KeepsAllOthers pool.old pool.new self.old.open.items (self.new.open.items ++ whole_in result) }
+        ensures ready { whole_in result ≡ [] → IsReady pool.new self.new }
     {
         let pipe = packet.pipe;
         let Some(chain) = self.take_out(pool, pipe) else {
-            self.clear(pool);
-            return Joined::Fault(ChainFault::TooManyChains { pipe });
+            return self.refuse(pool, ChainFault::TooManyChains { pipe });
         };
         let len = pool.len(&chain) + packet.bytes.len() as u32;
         if len > MAX_MESSAGE {
             pool.give(chain);
-            self.clear(pool);
-            return Joined::Fault(ChainFault::MessageTooLong { len });
+            return self.refuse(pool, ChainFault::MessageTooLong { len });
         }
         self.grow(pool, chain, packet)
     }

@@ -8,3 +8,6 @@ pub mod laws;
 
 pub use cutting::cut;
 pub use joiner::{ChainFault, Joined, Joiner, MAX_MESSAGE};
+
+#[cfg(test)]
+mod tests;
