@@ -1,17 +1,16 @@
 -- Giving a joiner's chains back one by one, and a pool that changed at one chain.
-use Rattle.std.proofs.Common.{◌≡◌, ◌≢◌, ℕ, ◌+◌, ◌-◌, ◌<◌, ◌≤◌, List, [], ◌∷◌, ◌++◌, length, get_or, set, map, refl, sym, ap, ◌∙◌, subst, arith, get_or-set_same, length-set}
-use Rattle.std.specs.Prelude.{Option, Some, None}
-use Rattle.std.specs.List.{sum_by, AllByRecursion}
+use Rattle.std.proofs.Common.{◌≡◌, ℕ, ◌+◌, ◌-◌, ◌<◌, ◌≤◌, List, [], ◌∷◌, ◌++◌, length, set, refl, sym, ap, ◌∙◌, subst, arith, get_or-set_same, length-set}
+use Rattle.std.specs.List.{AllByRecursion}
 use Rattle.std.proofs.lemmas.List.{set-set, set-get_or, append-nil}
 use Rattle.std.proofs.lemmas.List.Sums.{sum_by-cons, sum_by_push}
 use Rattle.block_pool.specs.declared.chain.Chain.{Chain}
 use Rattle.block_pool.specs.declared.owners.Owner.{Owner}
 use Rattle.block_pool.specs.Slots.{blocks_for}
 use Rattle.block_pool.specs.Owners.{owner_at, with_used}
-use Rattle.block_pool.specs.Pool.{PoolState, HasQuota, used_of, IsLive, IsApart, chain_bytes, KeepsOthers, Gives}
+use Rattle.block_pool.specs.Pool.{PoolState, HasQuota, used_of, IsApart, chain_bytes, KeepsOthers, Gives}
 use Rattle.hcp_chain.specs.declared.joiner.Open.{Open}
 use Rattle.hcp_chain.specs.declared.joiner.Joiner.{Joiner}
-use Rattle.hcp_chain.specs.Holding.{message_of, messages_in, IsReady, IsOwn, AreApart, ArePairwiseApart, Holds, held_blocks, IsApartFrom, KeepsAllOthers}
+use Rattle.hcp_chain.specs.Holding.{message_of, messages_in, IsReady, IsOwn, AreApart, Holds, held_blocks, KeepsAllOthers}
 use Rattle.hcp_chain.proofs.HoldingLemmas.{all_front, all_map, apart_front}
 
 -- ---- a pool that changed at one chain
@@ -68,15 +67,15 @@ pub record Clears (first now : PoolState) (owner owner_now : ℕ) (chains left :
 
 pub clears_none : (pool : PoolState) (owner : ℕ) (chains : List Open) → HasQuota pool owner → Holds pool owner chains → Clears pool pool owner owner chains chains
 clears_none pool owner chains quota holds = record {
-    same_owner = refl;
-    quota = quota;
-    holds = holds;
-    fewer = omega arith;
-    used =
-        (let none : used_of pool owner - (held_blocks pool chains - held_blocks pool chains) ≡ used_of pool owner = omega arith in
-         sym (ap (with_used pool.owners owner) none ∙ with_used-same pool.owners owner));
-    others = λ other live apart. (live, refl, apart);
-  }
+  same_owner = refl;
+  quota = quota;
+  holds = holds;
+  fewer = omega arith;
+  used =
+      (let none : used_of pool owner - (held_blocks pool chains - held_blocks pool chains) ≡ used_of pool owner = omega arith in
+      sym (ap (with_used pool.owners owner) none ∙ with_used-same pool.owners owner));
+  others = λ other live apart. (live, refl, apart);
+}
 
 pub clears_more : (first now next : PoolState) (owner owner_now : ℕ) (chains left : List Open) (x : Open) → Clears first now owner owner_now chains (left ++ x ∷ []) → Gives now next x.chain → KeepsOthers now next x.chain x.chain → Clears first next owner owner_now chains left
 clears_more first now next owner owner_now chains left x so_far gives keeps =

@@ -1,12 +1,11 @@
 -- Joining packets one at a time gives the messages of the packets.
-use Rattle.std.proofs.Common.{◌≡◌, ◌≢◌, ℕ, ◌+◌, ◌<◌, ◌≤◌, Bool, true, false, cond, not, ◌&&◌, eqb, leb, ltb, List, [], ◌∷◌, ◌++◌, length, refl, sym, ap, ◌∙◌, subst, arith, rules}
+use Rattle.std.proofs.Common.{◌≡◌, ◌≢◌, ℕ, Bool, true, false, cond, not, ◌&&◌, eqb, ltb, List, [], ◌∷◌, ◌++◌, length, refl, sym, ap, ◌∙◌, subst, arith, rules}
 use Rattle.std.specs.Prelude.{IsTrue}
-use Rattle.std.specs.List.{filter, list_any}
 use Rattle.std.proofs.lemmas.List.{append-nil}
 use Rattle.std.proofs.lemmas.Grind.{common_steps, fold-append}
 use Rattle.hcp_packet.specs.declared.Packet.{Packet}
 use Rattle.hcp_packet.specs.Packets.{under_way, under_way_after, ended_by, messages_after, messages_of}
-use Rattle.hcp_chain.specs.Joining.{Outcome, Nothing, Message, Fifth, Long, is_open, so_far, others, is_fifth, grown, join_step, message_in, is_fault, are_taken, given_by}
+use Rattle.hcp_chain.specs.Joining.{Nothing, Message, Fifth, Long, so_far, others, is_fifth, grown, join_step, message_in, is_fault, are_taken, given_by}
 
 eqb_is : (a b : ℕ) → eqb a b ≡ true → a ≡ b
 eqb_is a b e = grind (arith, common_steps)

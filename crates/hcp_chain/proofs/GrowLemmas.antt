@@ -1,5 +1,5 @@
 -- Appending a packet's data to the chain of its message.
-use Rattle.std.proofs.Common.{◌≡◌, ◌≢◌, ℕ, ◌+◌, ◌-◌, ◌*◌, ◌/◌, ◌<◌, ◌≤◌, List, [], ◌∷◌, ◌++◌, length, map, refl, sym, ap, ◌∙◌, subst, arith, rules, length-append}
+use Rattle.std.proofs.Common.{◌≡◌, ◌≢◌, ℕ, ◌+◌, ◌*◌, ◌≤◌, List, [], ◌∷◌, ◌++◌, length, sym, ap, ◌∙◌, subst, arith, rules, length-append}
 use Rattle.std.specs.Prelude.{Result, Ok, Err, IsOk, OnOk}
 use Rattle.std.specs.List.{AllByRecursion}
 use Rattle.std.proofs.lemmas.List.{map_push}
@@ -7,11 +7,11 @@ use Rattle.std.proofs.lemmas.List.Sums.{sum_by-cons, sum_by_push}
 use Rattle.block_pool.specs.declared.chain.Chain.{Chain}
 use Rattle.block_pool.specs.Slots.{blocks_for}
 use Rattle.block_pool.specs.Owners.{with_used}
-use Rattle.block_pool.specs.Pool.{PoolState, HasQuota, quota_of, used_of, spare_of, chain_spare, IsLive, IsApart, chain_bytes, more_blocks, KeepsOthers, Appends}
+use Rattle.block_pool.specs.Pool.{PoolState, used_of, spare_of, chain_spare, IsLive, IsApart, chain_bytes, more_blocks, KeepsOthers, Appends}
 use Rattle.hcp_packet.specs.declared.Packet.{Packet}
 use Rattle.hcp_chain.specs.declared.joiner.Open.{Open}
 use Rattle.hcp_chain.specs.declared.joiner.Joiner.{Joiner}
-use Rattle.hcp_chain.specs.Holding.{message_of, messages_in, IsOwn, AreApart, Holds, held_blocks, IsApartFrom}
+use Rattle.hcp_chain.specs.Holding.{message_of, messages_in, IsOwn, AreApart, held_blocks}
 use Rattle.hcp_chain.specs.TakingOut.{CanGrow, Grown}
 use Rattle.hcp_chain.proofs.HoldingLemmas.{all_push, all_map, all_both, apart_push}
 use Rattle.hcp_chain.proofs.ClearLemmas.{kept}
@@ -34,7 +34,7 @@ pub room_for : (pool : PoolState) (joiner : Joiner) (p : Packet) (chain : Chain)
 room_for pool joiner p chain can =
     let held = held_low pool joiner.owner joiner.open.items can.holds.own in
     subst (λ o. more_blocks (length (chain_bytes pool chain)) (length p.bytes.items) ≤ spare_of pool o) (sym can.owned)
-        (omega (arith, held, can.room, can.fits, can.quota, can.used))
+    (omega (arith, held, can.room, can.fits, can.quota, can.used))
 
 pub grows : (old new : PoolState) (joiner : Joiner) (p : Packet) (chain after : Chain) → CanGrow old joiner p chain → Appends old new chain after p.bytes.items → chain_bytes new after ≡ chain_bytes old chain ++ p.bytes.items → IsLive new after → KeepsOthers old new chain after → Grown old new joiner.owner p.pipe chain after joiner.open.items (chain_bytes old chain ++ p.bytes.items)
 grows old new joiner p chain after can appends bytes live keeps =
@@ -46,7 +46,7 @@ grows old new joiner p chain after can appends bytes live keeps =
     let own_y : IsOwn new o y = record { live = live; owned = appends.owner ∙ can.owned; short = omega (arith, len, can.fits) } in
     let both = all_both (λ x. (x.pipe ≢ p.pipe) × IsApart x.chain chain) (λ x. IsApart x.chain after) xs can.apart k.apart in
     let apart_y = all_map (λ x. ((x.pipe ≢ p.pipe) × IsApart x.chain chain) × IsApart x.chain after) (AreApart y) xs
-        (λ x a. record { pipes = λ e. a.0.0 (sym e); chains = λ first q r. a.1 first r q }) both in
+    (λ x a. record { pipes = λ e. a.0.0 (sym e); chains = λ first q r. a.1 first r q }) both in
     let sum = sum_by_push (λ (x : Open). blocks_for (length (chain_bytes new x.chain))) xs y in
     let grows : blocks_for (length (chain_bytes old chain)) ≤ blocks_for (length (chain_bytes old chain) + length p.bytes.items) = omega arith in
     let size : blocks_for (length (chain_bytes new after)) ≡ blocks_for (length (chain_bytes old chain) + length p.bytes.items) = ap blocks_for len in

@@ -1,15 +1,15 @@
 -- Chains of messages under way: one taken out, one put behind, and a pool that changed elsewhere.
-use Rattle.std.proofs.Common.{◌≡◌, ◌≢◌, ℕ, zero, suc, ◌+◌, ◌-◌, ◌*◌, ◌<◌, ◌≤◌, ◌⊎◌, inl, inr, Bool, true, false, cond, not, ◌&&◌, ◌||◌, eqb, leb, ltb, List, [], ◌∷◌, ◌++◌, length, get_or, take, drop, map, refl, sym, ap, ◌∙◌, subst, arith}
-use Rattle.std.specs.Prelude.{Option, Some, None, IsTrue, remove}
-use Rattle.std.specs.List.{sum_by, AllByRecursion, filter, list_any, position, prefix_len}
+use Rattle.std.proofs.Common.{◌≡◌, ◌≢◌, ℕ, zero, suc, ◌+◌, ◌<◌, ◌≤◌, Bool, true, false, cond, not, ◌&&◌, ◌||◌, eqb, leb, ltb, List, [], ◌∷◌, ◌++◌, length, get_or, refl, sym, ap, ◌∙◌, subst, arith}
+use Rattle.std.specs.Prelude.{Some, None, remove}
+use Rattle.std.specs.List.{AllByRecursion, position, prefix_len}
 use Rattle.std.proofs.lemmas.List.{length-map}
-use Rattle.std.proofs.lemmas.List.Sums.{sum_by-cons, sum_by-remove, sum_by_push}
+use Rattle.std.proofs.lemmas.List.Sums.{sum_by-remove}
 use Rattle.std.proofs.lemmas.List.Quantifiers.{position-Some}
 use Rattle.std.proofs.lemmas.Grind.{common_steps}
 use Rattle.block_pool.specs.declared.chain.Chain.{Chain}
 use Rattle.block_pool.specs.Slots.{blocks_for}
 use Rattle.block_pool.specs.Names.{bytes_at, IsLiveAt}
-use Rattle.block_pool.specs.Pool.{PoolState, HasQuota, IsLive, IsApart, chain_bytes, KeepsOthers}
+use Rattle.block_pool.specs.Pool.{PoolState, HasQuota, IsApart, chain_bytes}
 use Rattle.hcp_chain.specs.declared.joiner.Open.{Open}
 use Rattle.hcp_chain.specs.declared.joiner.Joiner.{Joiner}
 use Rattle.hcp_chain.specs.TakingOut.{TakesOut}
@@ -97,27 +97,30 @@ none_open : (pool : PoolState) (pipe : ℕ) (xs : List Open) → AllByRecursion 
 none_open pool pipe [] all = (refl, refl, refl)
 none_open pool pipe (x ∷ xs) all =
     let no = test_false x.pipe pipe all.0 in
-    let rest = none_open pool pipe xs all.1 in
-    (ap (λ b. b || is_open (messages_in pool xs) pipe) no ∙ rest.0,
-     ap (λ b. cond b (chain_bytes pool x.chain) (so_far (messages_in pool xs) pipe)) no ∙ rest.1,
-     ap (λ b. cond (not b) (message_of pool x ∷ others (messages_in pool xs) pipe) (others (messages_in pool xs) pipe)) no ∙ ap (λ ms. message_of pool x ∷ ms) rest.2)
+    let rest = none_open pool pipe xs all.1 in (
+      ap (λ b. b || is_open (messages_in pool xs) pipe) no ∙ rest.0,
+      ap (λ b. cond b (chain_bytes pool x.chain) (so_far (messages_in pool xs) pipe)) no ∙ rest.1,
+      ap (λ b. cond (not b) (message_of pool x ∷ others (messages_in pool xs) pipe) (others (messages_in pool xs) pipe)) no ∙ ap (λ ms. message_of pool x ∷ ms) rest.2,
+    )
 
 -- the chain at a place has the pipe
 pub one_open : (pool : PoolState) (pipe : ℕ) (d : Open) (xs : List Open) (i : ℕ) → ArePairwiseApart xs → i < length xs → (get_or xs i d).pipe ≡ pipe → (is_open (messages_in pool xs) pipe ≡ true) × (so_far (messages_in pool xs) pipe ≡ chain_bytes pool (get_or xs i d).chain) × (others (messages_in pool xs) pipe ≡ messages_in pool (remove xs i))
 one_open pool pipe d [] i apart low at = absurd (omega arith)
 one_open pool pipe d (x ∷ xs) zero apart low at =
     let yes = test_true x.pipe pipe at in
-    let rest = none_open pool pipe xs (all_map (AreApart x) (λ y. y.pipe ≢ pipe) xs (λ y a e. a.pipes (at ∙ sym e)) apart.0) in
-    (ap (λ b. b || is_open (messages_in pool xs) pipe) yes,
-     ap (λ b. cond b (chain_bytes pool x.chain) (so_far (messages_in pool xs) pipe)) yes,
-     ap (λ b. cond (not b) (message_of pool x ∷ others (messages_in pool xs) pipe) (others (messages_in pool xs) pipe)) yes ∙ rest.2)
+    let rest = none_open pool pipe xs (all_map (AreApart x) (λ y. y.pipe ≢ pipe) xs (λ y a e. a.pipes (at ∙ sym e)) apart.0) in (
+      ap (λ b. b || is_open (messages_in pool xs) pipe) yes,
+      ap (λ b. cond b (chain_bytes pool x.chain) (so_far (messages_in pool xs) pipe)) yes,
+      ap (λ b. cond (not b) (message_of pool x ∷ others (messages_in pool xs) pipe) (others (messages_in pool xs) pipe)) yes ∙ rest.2,
+    )
 one_open pool pipe d (x ∷ xs) (suc i) apart low at =
     let differs : x.pipe ≢ pipe = λ e. (all_at (AreApart x) d xs i apart.0 (omega arith)).pipes (e ∙ sym at) in
     let no = test_false x.pipe pipe differs in
-    let rest = one_open pool pipe d xs i apart.1 (omega arith) at in
-    (ap (λ b. b || is_open (messages_in pool xs) pipe) no ∙ rest.0,
-     ap (λ b. cond b (chain_bytes pool x.chain) (so_far (messages_in pool xs) pipe)) no ∙ rest.1,
-     ap (λ b. cond (not b) (message_of pool x ∷ others (messages_in pool xs) pipe) (others (messages_in pool xs) pipe)) no ∙ ap (λ ms. message_of pool x ∷ ms) rest.2)
+    let rest = one_open pool pipe d xs i apart.1 (omega arith) at in (
+      ap (λ b. b || is_open (messages_in pool xs) pipe) no ∙ rest.0,
+      ap (λ b. cond b (chain_bytes pool x.chain) (so_far (messages_in pool xs) pipe)) no ∙ rest.1,
+      ap (λ b. cond (not b) (message_of pool x ∷ others (messages_in pool xs) pipe) (others (messages_in pool xs) pipe)) no ∙ ap (λ ms. message_of pool x ∷ ms) rest.2,
+    )
 
 -- a search for the pipe that finds none
 none_far : (pipe : ℕ) (xs : List Open) → length xs ≤ prefix_len (λ x. not (eqb x.pipe pipe)) xs → AllByRecursion (λ x. x.pipe ≢ pipe) xs
@@ -166,16 +169,17 @@ taken_out pool old new pipe i x holds found read owner items room =
       short = own_x.short;
       apart = subst (AllByRecursion (λ y. (y.pipe ≢ pipe) × IsApart y.chain x.chain)) (sym items)
           (all_map (AreApart (get_or xs i x)) (λ y. (y.pipe ≢ pipe) × IsApart y.chain x.chain) (remove xs i)
-              (λ y a. (λ e. a.pipes (pipe_is ∙ sym e), λ first p q. a.chains first (ap (λ z. z.chain.first) (sym read) ∙ q) p)) apart);
+          (λ y a. (λ e. a.pipes (pipe_is ∙ sym e), λ first p q. a.chains first (ap (λ z. z.chain.first) (sym read) ∙ q) p)) apart);
       holds = subst (Holds pool new.owner) (sym items) (subst (λ o. Holds pool o (remove xs i)) (sym owner)
           (record { own = all_remove (IsOwn pool old.owner) xs i holds.own; apart = apart_remove xs i holds.apart }));
       blocks =
           (let sum = sum_by-remove (λ (y : Open). blocks_for (length (chain_bytes pool y.chain))) xs i x low in
-           let here : blocks_for (length (chain_bytes pool x.chain)) ≡ blocks_for (length (chain_bytes pool (get_or xs i x).chain)) = ap (λ y. blocks_for (length (chain_bytes pool y.chain))) read in
-           ap (λ ys. blocks_for (length (chain_bytes pool x.chain)) + held_blocks pool ys) items ∙ omega (arith, sum, here));
-      outside = λ other away.
-          (λ first p q. all_at (λ y. IsApart other y.chain) x xs i away low first p (ap (λ y. y.chain.first) (sym read) ∙ q),
-           subst (λ ys. IsApartFrom ys other) (sym items) (all_remove (λ y. IsApart other y.chain) xs i away));
+          let here : blocks_for (length (chain_bytes pool x.chain)) ≡ blocks_for (length (chain_bytes pool (get_or xs i x).chain)) = ap (λ y. blocks_for (length (chain_bytes pool y.chain))) read in
+          ap (λ ys. blocks_for (length (chain_bytes pool x.chain)) + held_blocks pool ys) items ∙ omega (arith, sum, here));
+      outside = λ other away. (
+        λ first p q. all_at (λ y. IsApart other y.chain) x xs i away low first p (ap (λ y. y.chain.first) (sym read) ∙ q),
+        subst (λ ys. IsApartFrom ys other) (sym items) (all_remove (λ y. IsApart other y.chain) xs i away),
+      );
     }
 
 -- none is, and there is room

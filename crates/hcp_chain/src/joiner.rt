@@ -120,7 +120,7 @@ impl Joiner {
             (held_blocks pool.new (self.new.open.items ++ whole_in result)) }
         ensures others { (other : Chain) → IsLive pool.old other → IsApartFrom self.old.open.items other → IsApart other chain
             → IsLive pool.new other × (chain_bytes pool.new other ≡ chain_bytes pool.old other)
-                × IsApartFrom (self.new.open.items ++ whole_in result) other }
+            × IsApartFrom (self.new.open.items ++ whole_in result) other }
     {
         let chain = self.append(pool, chain, packet);
         let pipe = packet.pipe;

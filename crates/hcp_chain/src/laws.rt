@@ -8,5 +8,4 @@ ghost use Rattle.hcp_chain.specs.Joining.{given_by, are_taken};
 /// Packets that are taken without a fault give their messages, in the order of their last packets.
 pub fn taken_packets_give_their_messages()
     ensures { (packets : List Part) → IsTrue (are_taken [] packets) → given_by [] packets ≡ messages_of packets }
-{
-}
+{}

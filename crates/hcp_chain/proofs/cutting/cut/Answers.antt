@@ -1,4 +1,4 @@
-use Rattle.std.proofs.Common.{◌≡◌, sym, ap, ◌∙◌}
+use Rattle.std.proofs.Common.{sym, ap, ◌∙◌}
 use Rattle.std.specs.Prelude.{Some}
 use Rattle.block_pool.specs.Pool.{chain_bytes}
 use Rattle.hcp_packet.specs.declared.Packet.{Packet}

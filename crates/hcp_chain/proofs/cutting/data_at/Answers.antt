@@ -10,5 +10,5 @@ returns c =
     let count = c.copy_out-count.result in
     let bytes = chain_bytes c.args.pool.now c.args.chain.now in
     let copied : take count c.copy_out-count.new.out ≡ take 28 (drop c.args.from bytes) =
-        ap (take count) c.copy_out-count.ensures.copied ∙ data_is bytes (drop count (replicate 28 0)) c.args.from count c.copy_out-count.ensures.count in
+    ap (take count) c.copy_out-count.ensures.copied ∙ data_is bytes (drop count (replicate 28 0)) c.args.from count c.copy_out-count.ensures.count in
     grind (arith, common_steps, copied)
