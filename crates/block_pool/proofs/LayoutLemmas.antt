@@ -1,15 +1,16 @@
 -- Linked blocks: what writes to links, bytes and heads leave of the chains.
-use Rattle.std.proofs.Common.{◌≡◌, ◌≢◌, ℕ, zero, suc, ◌+◌, ◌-◌, ◌*◌, ◌/◌, ◌%◌, ◌^◌, ◌<◌, ◌≤◌, Bool, true, false, cond, eqb, ◌⊎◌, inl, inr, List, [], ◌∷◌, ◌++◌, length, get_or, set, map, refl, sym, ap, ◌∙◌, subst, arith, rules, Fits, w16, w32, length-set, get_or-set_same, get_or-set_other}
+use Rattle.std.proofs.Common.{◌≡◌, ◌≢◌, ℕ, zero, suc, ◌+◌, ◌-◌, ◌*◌, ◌/◌, ◌%◌, ◌^◌, ◌<◌, ◌≤◌, true, false, cond, eqb, ◌⊎◌, inl, inr, List, [], ◌∷◌, ◌++◌, length, get_or, set, take, drop, replicate, map, refl, sym, ap, ◌∙◌, subst, arith, rules, Fits, w16, w32, length-set, get_or-set_same, get_or-set_other, length-drop, get_or-drop, add-one}
 use Rattle.std.specs.Prelude.{Option, Some, None, IsSome}
 use Rattle.std.specs.List.{range_with_len}
 use Rattle.std.specs.Int.{div_ceil}
-use Rattle.std.proofs.lemmas.List.{same_lists, get_or_past, get_or_default}
+use Rattle.std.proofs.lemmas.List.{same_lists, get_or_past, get_or_default, map-id, length-replicate, get_or-replicate}
 use Rattle.std.proofs.lemmas.Bool.{cases_lt, cases_eq}
-use Rattle.std.proofs.lemmas.List.FromFn.{length-map-range_with_len, get_or-map-range_with_len, map-range_with_len_more}
+use Rattle.std.proofs.lemmas.List.FromFn.{length-map-range_with_len, get_or-map-range_with_len, map-range_with_len_more, take-map-range_with_len, length-range_with_len, get_or-range_with_len}
 use Rattle.std.proofs.lemmas.Grind.{common_steps}
 use Rattle.block_pool.specs.declared.blocks.Head.{Head}
 use Rattle.block_pool.specs.Slots.{Held, blocks_for, slot, put, bytes_in, bytes_of, owner_in, owner_of}
-use Rattle.block_pool.specs.Layout.{block_at, byte_at, chain_bytes, held_by, slots_of, IsMarked, IsChain, IsSound}
+use Rattle.block_pool.specs.Links.{block_at, byte_at}
+use Rattle.block_pool.specs.Layout.{chain_bytes, held_by, slots_of, IsMarked, IsChain, IsSound}
 
 -- ---- links
 
@@ -34,8 +35,8 @@ same_made : (f g : ℕ → ℕ) (n : ℕ) → ((i : ℕ) → i < n → f i ≡ g
 same_made f g n same =
     same_lists _ _ (length-map-range_with_len f 0 n ∙ sym (length-map-range_with_len g 0 n))
     (λ k d h. let low : k < n = omega (arith, length-map-range_with_len f 0 n) in
-        get_or-map-range_with_len f 0 n k k d low (omega arith)
-        ∙ (same k low ∙ sym (get_or-map-range_with_len g 0 n k k d low (omega arith))))
+    get_or-map-range_with_len f 0 n k k d low (omega arith)
+    ∙ (same k low ∙ sym (get_or-map-range_with_len g 0 n k k d low (omega arith))))
 
 same_bytes : (region next region' next' : List ℕ) (first len : ℕ) → ((i : ℕ) → i < len → byte_at region' next' first i ≡ byte_at region next first i) → chain_bytes region' next' first len ≡ chain_bytes region next first len
 unfolding chain_bytes
@@ -65,6 +66,7 @@ slot_is region next heads b = by_place (cases_lt b (length heads))
   where
     made : ℕ → Option Held
     made b = held_by region next b (get_or heads b None)
+
     by_place : (b < length heads) ⊎ (length heads ≤ b) → get_or (map (λ b. held_by region next b (get_or heads b None)) (range_with_len 0 (length heads))) b None ≡ held_by region next b (get_or heads b None)
     by_place (inl low) = get_or-map-range_with_len (λ b. held_by region next b (get_or heads b None)) 0 (length heads) b b None low (omega arith)
     by_place (inr high) =
@@ -77,15 +79,15 @@ slots_set region next region' next' heads heads' b v lens low here others =
     same_lists _ _
     (length-slots_of region' next' heads' ∙ (lens ∙ sym (length-set (slots_of region next heads) b v ∙ length-slots_of region next heads)))
     (λ k d h.
-        let inside : k < length heads' = omega (arith, length-slots_of region' next' heads') in
-        let left = get_or_default (slots_of region' next' heads') k d None h ∙ slot_is region' next' heads' k in
-        elim (cases_eq k b) [
-            inl same ↦ left ∙ (ap (λ c. held_by region' next' c (get_or heads' c None)) same ∙ (here
-                ∙ sym (ap (λ c. get_or (set (slots_of region next heads) b v) c d) same ∙ get_or-set_same (slots_of region next heads) b v d (omega (arith, length-slots_of region next heads)))))
-          | inr other ↦ left ∙ (others k other
-                ∙ sym (get_or-set_other (slots_of region next heads) b k v d other
-                    ∙ (get_or_default (slots_of region next heads) k d None (omega (arith, length-slots_of region next heads)) ∙ slot_is region next heads k)))
-        ])
+    let inside : k < length heads' = omega (arith, length-slots_of region' next' heads') in
+    let left = get_or_default (slots_of region' next' heads') k d None h ∙ slot_is region' next' heads' k in
+    elim (cases_eq k b) [
+      | inl same ↦ left ∙ (ap (λ c. held_by region' next' c (get_or heads' c None)) same ∙ (here
+          ∙ sym (ap (λ c. get_or (set (slots_of region next heads) b v) c d) same ∙ get_or-set_same (slots_of region next heads) b v d (omega (arith, length-slots_of region next heads)))))
+      | inr other ↦ left ∙ (others k other
+          ∙ sym (get_or-set_other (slots_of region next heads) b k v d other
+          ∙ (get_or_default (slots_of region next heads) k d None (omega (arith, length-slots_of region next heads)) ∙ slot_is region next heads k)))
+    ])
 
 -- ---- marks
 
@@ -206,10 +208,10 @@ module _ (region next : List ℕ) (heads : List (Option Head)) (free free_len : 
       let longer : Head = record { owner = head.owner; last = head.last; len = head.len + 1 } in
       let same_blocks : blocks_for (head.len + 1) ≡ blocks_for head.len = omega arith in
       let grown : IsChain next sound.mark sound.count b longer = record {
-          some = omega arith;
-          marked = λ k h. chain.marked k (omega arith);
-          last = ap (λ n. block_at next b (n - 1)) same_blocks ∙ chain.last;
-        } in
+        some = omega arith;
+        marked = λ k h. chain.marked k (omega arith);
+        last = ap (λ n. block_at next b (n - 1)) same_blocks ∙ chain.last;
+      } in
       record {
         count = sound.count;
         counted = length-set heads b (Some longer) ∙ sound.counted;
@@ -218,8 +220,8 @@ module _ (region next : List ℕ) (heads : List (Option Head)) (free free_len : 
         few = sound.few;
         mark = sound.mark;
         chains = λ c h e. elim (cases_eq c b) [
-            inl same ↦ subst (λ x. IsChain next sound.mark sound.count x h) (sym same)
-                (subst (λ g. IsChain next sound.mark sound.count b g) (sym (this_head b longer h low (subst (λ x. get_or (set heads b (Some longer)) x None ≡ Some h) same e))) grown)
+          | inl same ↦ subst (λ x. IsChain next sound.mark sound.count x h) (sym same)
+              (subst (λ g. IsChain next sound.mark sound.count b g) (sym (this_head b longer h low (subst (λ x. get_or (set heads b (Some longer)) x None ≡ Some h) same e))) grown)
           | inr apart ↦ sound.chains c h (other_head b (Some longer) c (Some h) apart e)
         ];
         spare = sound.spare;
@@ -229,9 +231,9 @@ module _ (region next : List ℕ) (heads : List (Option Head)) (free free_len : 
   other_bytes : (b : ℕ) (head : Head) → get_or heads b None ≡ Some head → (block d j offset byte : ℕ) → sound.mark block ≡ (d, j) → d ≢ b → chain_bytes (set region (32 * block + offset % 32) byte) next b head.len ≡ chain_bytes region next b head.len
   other_bytes b head at block d j offset byte marked apart =
       same_bytes region next (set region (32 * block + offset % 32) byte) next b head.len (λ i low.
-          let m = block_of_byte next sound.mark sound.count b head (sound.chains b head at) i low in
-          get_or-set_other region (32 * block + offset % 32) (32 * block_at next b (i / 32) + i % 32) byte 0
-              (other_block (block_at next b (i / 32)) block i offset (λ same. apart (sym (same_mark sound.mark (block_at next b (i / 32)) block b (i / 32) d j m.1 marked same).0))))
+      let m = block_of_byte next sound.mark sound.count b head (sound.chains b head at) i low in
+      get_or-set_other region (32 * block + offset % 32) (32 * block_at next b (i / 32) + i % 32) byte 0
+      (other_block (block_at next b (i / 32)) block i offset (λ same. apart (sym (same_mark sound.mark (block_at next b (i / 32)) block b (i / 32) d j m.1 marked same).0))))
 
   -- the block that has room is the last one
   last_has_room : (b : ℕ) (head : Head) → get_or heads b None ≡ Some head → 0 < head.len % 32 → block_at next b (head.len / 32) ≡ head.last
@@ -247,18 +249,18 @@ module _ (region next : List ℕ) (heads : List (Option Head)) (free free_len : 
       let last_in : head.last < sound.count = (last_marked next sound.mark sound.count b head chain).0 in
       let in_region : place < length region = omega (arith, last_in, sound.bytes) in
       let new_byte : byte_at (set region place byte) next b head.len ≡ byte =
-          ap (λ x. get_or (set region place byte) (32 * x + head.len % 32) 0) (last_has_room b head at room) ∙ get_or-set_same region place byte 0 in_region in
+      ap (λ x. get_or (set region place byte) (32 * x + head.len % 32) 0) (last_has_room b head at room) ∙ get_or-set_same region place byte 0 in_region in
       let before : chain_bytes (set region place byte) next b head.len ≡ chain_bytes region next b head.len =
-          same_bytes region next (set region place byte) next b head.len (λ i low.
-              let m = block_of_byte next sound.mark sound.count b head chain i low in
-              let l = last_marked next sound.mark sound.count b head chain in
-              get_or-set_other region place (32 * block_at next b (i / 32) + i % 32) byte 0
-                  (λ same.
-                      let blocks : block_at next b (i / 32) ≡ head.last = omega arith in
-                      let parts = same_mark sound.mark (block_at next b (i / 32)) head.last b (i / 32) b (blocks_for head.len - 1) m.1 l.1 blocks in
-                      let place_is : i / 32 ≡ blocks_for head.len - 1 = parts.1 in
-                      let offsets : i % 32 ≡ head.len % 32 = omega arith in
-                      absurd (omega arith))) in
+      same_bytes region next (set region place byte) next b head.len (λ i low.
+      let m = block_of_byte next sound.mark sound.count b head chain i low in
+      let l = last_marked next sound.mark sound.count b head chain in
+      get_or-set_other region place (32 * block_at next b (i / 32) + i % 32) byte 0
+      (λ same.
+      let blocks : block_at next b (i / 32) ≡ head.last = omega arith in
+      let parts = same_mark sound.mark (block_at next b (i / 32)) head.last b (i / 32) b (blocks_for head.len - 1) m.1 l.1 blocks in
+      let place_is : i / 32 ≡ blocks_for head.len - 1 = parts.1 in
+      let offsets : i % 32 ≡ head.len % 32 = omega arith in
+      absurd (omega arith))) in
       one_more_byte (set region place byte) next b head.len ∙ (ap (λ bs. bs ++ byte_at (set region place byte) next b head.len ∷ []) before ∙ ap (λ x. chain_bytes region next b head.len ++ x ∷ []) new_byte)
 
   pub push_in_block_slots : (b : ℕ) (head : Head) (byte : ℕ) → get_or heads b None ≡ Some head → 0 < head.len % 32 → slots_of (set region (32 * head.last + head.len % 32) byte) next (set heads b (Some (record { owner = head.owner; last = head.last; len = head.len + 1 }))) ≡ put (slots_of region next heads) b head.owner (chain_bytes region next b head.len ++ byte ∷ [])
@@ -269,10 +271,10 @@ module _ (region next : List ℕ) (heads : List (Option Head)) (free free_len : 
       let place = 32 * head.last + head.len % 32 in
       let l = last_marked next sound.mark sound.count b head chain in
       slots_set region next (set region place byte) next heads (set heads b (Some longer)) b (Some (record { owner = head.owner; bytes = chain_bytes region next b head.len ++ byte ∷ [] }))
-          (length-set heads b (Some longer)) low
-          (ap (held_by (set region place byte) next b) (get_or-set_same heads b (Some longer) None low)
-              ∙ ap (λ bs. Some (record { owner = head.owner; bytes = bs })) (pushed_bytes b head byte at room))
-          (λ c apart. ap (held_by (set region place byte) next c) (get_or-set_other heads b c (Some longer) None apart) ∙ other_held c (get_or heads c None) refl b head l.1 apart)
+      (length-set heads b (Some longer)) low
+      (ap (held_by (set region place byte) next b) (get_or-set_same heads b (Some longer) None low)
+      ∙ ap (λ bs. Some (record { owner = head.owner; bytes = bs })) (pushed_bytes b head byte at room))
+      (λ c apart. ap (held_by (set region place byte) next c) (get_or-set_other heads b c (Some longer) None apart) ∙ other_held c (get_or heads c None) refl b head l.1 apart)
     where
       other_held : (c : ℕ) (h : Option Head) → get_or heads c None ≡ h → (b : ℕ) (head : Head) → sound.mark head.last ≡ (b, blocks_for head.len - 1) → c ≢ b → held_by (set region (32 * head.last + head.len % 32) byte) next c (get_or heads c None) ≡ held_by region next c (get_or heads c None)
       other_held c None e b head m apart = rw e refl
@@ -287,7 +289,7 @@ module _ (region next : List ℕ) (heads : List (Option Head)) (free free_len : 
       let place : block_at next' after i ≡ block_at next free (1 + i) = same i low ∙ (ap (λ x. block_at next x i) is_next ∙ behind next free 1 i) in
       let m = sound.spare (1 + i) (omega arith) in
       subst (λ x. IsMarked (λ y. popped sound.count c k (sound.mark y)) sound.count x sound.count i) (sym place)
-          (m.0, ap (popped sound.count c k) m.1 ∙ popped_rest sound.count c k i)
+      (m.0, ap (popped sound.count c k) m.1 ∙ popped_rest sound.count c k i)
 
   -- a chain that wasn't written
   popped_chain : (c k : ℕ) (next' : List ℕ) (d : ℕ) (head : Head) → get_or heads d None ≡ Some head → ((i : ℕ) → i < blocks_for head.len → block_at next' d i ≡ block_at next d i) → IsChain next' (λ x. popped sound.count c k (sound.mark x)) sound.count d head
@@ -300,7 +302,7 @@ module _ (region next : List ℕ) (heads : List (Option Head)) (free free_len : 
         marked = λ i h.
             let m = chain.marked i h in
             subst (λ x. IsMarked (λ y. popped sound.count c k (sound.mark y)) sound.count x d i) (sym (same i h))
-                (m.0, ap (popped sound.count c k) m.1 ∙ popped_other sound.count c k d i (λ e. absurd (omega arith)));
+            (m.0, ap (popped sound.count c k) m.1 ∙ popped_other sound.count c k d i (λ e. absurd (omega arith)));
         last = same (blocks_for head.len - 1) (omega arith) ∙ chain.last;
       }
 
@@ -311,13 +313,13 @@ module _ (region next : List ℕ) (heads : List (Option Head)) (free free_len : 
       let new : Head = record { owner = owner; last = free; len = 1 } in
       let mark = λ (x : ℕ). popped sound.count free 0 (sound.mark x) in
       let begun : IsChain next mark sound.count free new = record {
-          some = omega arith;
-          marked = λ k h.
-              let zero_place : 0 ≡ k = omega arith in
-              subst (λ i. IsMarked mark sound.count (block_at next free i) free i) zero_place
-                  (first.0, ap (popped sound.count free 0) first.1 ∙ popped_first sound.count free 0);
-          last = refl;
-        } in
+        some = omega arith;
+        marked = λ k h.
+            let zero_place : 0 ≡ k = omega arith in
+            subst (λ i. IsMarked mark sound.count (block_at next free i) free i) zero_place
+            (first.0, ap (popped sound.count free 0) first.1 ∙ popped_first sound.count free 0);
+        last = refl;
+      } in
       record {
         count = sound.count;
         counted = length-set heads free (Some new) ∙ sound.counted;
@@ -326,8 +328,8 @@ module _ (region next : List ℕ) (heads : List (Option Head)) (free free_len : 
         few = sound.few;
         mark = mark;
         chains = λ c h e. elim (cases_eq c free) [
-            inl same ↦ subst (λ x. IsChain next mark sound.count x h) (sym same)
-                (subst (λ g. IsChain next mark sound.count free g) (sym (this_head free new h low (subst (λ x. get_or (set heads free (Some new)) x None ≡ Some h) same e))) begun)
+          | inl same ↦ subst (λ x. IsChain next mark sound.count x h) (sym same)
+              (subst (λ g. IsChain next mark sound.count free g) (sym (this_head free new h low (subst (λ x. get_or (set heads free (Some new)) x None ≡ Some h) same e))) begun)
           | inr apart ↦ popped_chain free 0 next c h (other_head free (Some new) c (Some h) apart e) (λ i low. refl)
         ];
         spare = popped_spare free 0 next after is_next (λ i low. refl);
@@ -341,13 +343,13 @@ module _ (region next : List ℕ) (heads : List (Option Head)) (free free_len : 
       let in_region : 32 * free < length region = omega (arith, first.0, sound.bytes) in
       let plain : 32 * free + 0 ≡ 32 * free = omega arith in
       let one : chain_bytes (set region (32 * free) byte) next free 1 ≡ byte ∷ [] =
-          one_byte (set region (32 * free) byte) next free ∙ ap (λ x. x ∷ []) (ap (λ i. get_or (set region (32 * free) byte) i 0) plain ∙ get_or-set_same region (32 * free) byte 0 in_region) in
+      one_byte (set region (32 * free) byte) next free ∙ ap (λ x. x ∷ []) (ap (λ i. get_or (set region (32 * free) byte) i 0) plain ∙ get_or-set_same region (32 * free) byte 0 in_region) in
       slots_set region next (set region (32 * free) byte) next heads (set heads free (Some new)) free (Some (record { owner = owner; bytes = byte ∷ [] }))
-          (length-set heads free (Some new)) low
-          (ap (held_by (set region (32 * free) byte) next free) (get_or-set_same heads free (Some new) None low)
-              ∙ ap (λ bs. Some (record { owner = owner; bytes = bs })) one)
-          (λ c apart. ap (held_by (set region (32 * free) byte) next c) (get_or-set_other heads free c (Some new) None apart)
-              ∙ (ap (λ i. held_by (set region i byte) next c (get_or heads c None)) (sym plain) ∙ other_held c (get_or heads c None) refl first.1))
+      (length-set heads free (Some new)) low
+      (ap (held_by (set region (32 * free) byte) next free) (get_or-set_same heads free (Some new) None low)
+      ∙ ap (λ bs. Some (record { owner = owner; bytes = bs })) one)
+      (λ c apart. ap (held_by (set region (32 * free) byte) next c) (get_or-set_other heads free c (Some new) None apart)
+      ∙ (ap (λ i. held_by (set region i byte) next c (get_or heads c None)) (sym plain) ∙ other_held c (get_or heads c None) refl first.1))
     where
       other_held : (c : ℕ) (h : Option Head) → get_or heads c None ≡ h → sound.mark free ≡ (sound.count, 0) → held_by (set region (32 * free + 0 % 32) byte) next c (get_or heads c None) ≡ held_by region next c (get_or heads c None)
       other_held c None e m = rw e refl
@@ -373,25 +375,25 @@ module _ (region next : List ℕ) (heads : List (Option Head)) (free free_len : 
       let mark = λ (x : ℕ). popped sound.count b n (sound.mark x) in
       let kept = λ (k : ℕ) (h : k < n). last_link next sound.mark sound.count b head chain head.last free (n - 1) l.1 k h (omega arith) in
       let new_last : block_at next' b n ≡ free =
-          let e : suc (n - 1) ≡ n = omega arith in
-          let step : get_or next' (block_at next' b (n - 1)) 0 ≡ free =
-              ap (λ x. get_or next' x 0) (kept (n - 1) (omega arith) ∙ chain.last) ∙ get_or-set_same next head.last free 0 (omega (arith, l.0, sound.links)) in
-          ap (block_at next' b) (sym e) ∙ step in
+      let e : suc (n - 1) ≡ n = omega arith in
+      let step : get_or next' (block_at next' b (n - 1)) 0 ≡ free =
+      ap (λ x. get_or next' x 0) (kept (n - 1) (omega arith) ∙ chain.last) ∙ get_or-set_same next head.last free 0 (omega (arith, l.0, sound.links)) in
+      ap (block_at next' b) (sym e) ∙ step in
       let grown : IsChain next' mark sound.count b longer = record {
-          some = omega arith;
-          marked = λ k h. elim (cases_lt k n) [
-              inl before ↦
-                let m = chain.marked k before in
-                subst (λ x. IsMarked mark sound.count x b k) (sym (kept k before))
-                    (m.0, ap (popped sound.count b n) m.1 ∙ popped_other sound.count b n b k (λ e. absurd (omega arith)))
-            | inr behind_them ↦
-                let e : n ≡ k = omega (arith, one_more) in
-                subst (λ i. IsMarked mark sound.count (block_at next' b i) b i) e
-                    (subst (λ x. IsMarked mark sound.count x b n) (sym new_last)
-                        (first.0, ap (popped sound.count b n) first.1 ∙ popped_first sound.count b n))
-          ];
-          last = (let e : blocks_for (head.len + 1) - 1 ≡ n = omega (arith, one_more) in ap (block_at next' b) e) ∙ new_last;
-        } in
+        some = omega arith;
+        marked = λ k h. elim (cases_lt k n) [
+          | inl before ↦
+              let m = chain.marked k before in
+              subst (λ x. IsMarked mark sound.count x b k) (sym (kept k before))
+              (m.0, ap (popped sound.count b n) m.1 ∙ popped_other sound.count b n b k (λ e. absurd (omega arith)))
+          | inr behind_them ↦
+              let e : n ≡ k = omega (arith, one_more) in
+              subst (λ i. IsMarked mark sound.count (block_at next' b i) b i) e
+              (subst (λ x. IsMarked mark sound.count x b n) (sym new_last)
+              (first.0, ap (popped sound.count b n) first.1 ∙ popped_first sound.count b n))
+        ];
+        last = (let e : blocks_for (head.len + 1) - 1 ≡ n = omega (arith, one_more) in ap (block_at next' b) e) ∙ new_last;
+      } in
       record {
         count = sound.count;
         counted = length-set heads b (Some longer) ∙ sound.counted;
@@ -400,8 +402,8 @@ module _ (region next : List ℕ) (heads : List (Option Head)) (free free_len : 
         few = sound.few;
         mark = mark;
         chains = λ c h e. elim (cases_eq c b) [
-            inl same ↦ subst (λ x. IsChain next' mark sound.count x h) (sym same)
-                (subst (λ g. IsChain next' mark sound.count b g) (sym (this_head b longer h low (subst (λ x. get_or (set heads b (Some longer)) x None ≡ Some h) same e))) grown)
+          | inl same ↦ subst (λ x. IsChain next' mark sound.count x h) (sym same)
+              (subst (λ g. IsChain next' mark sound.count b g) (sym (this_head b longer h low (subst (λ x. get_or (set heads b (Some longer)) x None ≡ Some h) same e))) grown)
           | inr apart ↦
               let at_c = other_head b (Some longer) c (Some h) apart e in
               popped_chain b n next' c h at_c (λ i i_low. other_link next sound.mark sound.count c h (sound.chains c h at_c) head.last free b (n - 1) l.1 (λ s. apart (sym s)) i i_low)
@@ -429,33 +431,33 @@ module _ (region next : List ℕ) (heads : List (Option Head)) (free free_len : 
       let in_region : 32 * free < length region = omega (arith, first.0, sound.bytes) in
       let kept = λ (k : ℕ) (h : k < n). last_link next sound.mark sound.count b head chain head.last free (n - 1) l.1 k h (omega arith) in
       let new_last : block_at next' b (head.len / 32) ≡ free =
-          let e : suc (n - 1) ≡ head.len / 32 = omega arith in
-          let step : get_or next' (block_at next' b (n - 1)) 0 ≡ free =
-              ap (λ x. get_or next' x 0) (kept (n - 1) (omega arith) ∙ chain.last) ∙ get_or-set_same next head.last free 0 (omega (arith, l.0, sound.links)) in
-          ap (block_at next' b) (sym e) ∙ step in
+      let e : suc (n - 1) ≡ head.len / 32 = omega arith in
+      let step : get_or next' (block_at next' b (n - 1)) 0 ≡ free =
+      ap (λ x. get_or next' x 0) (kept (n - 1) (omega arith) ∙ chain.last) ∙ get_or-set_same next head.last free 0 (omega (arith, l.0, sound.links)) in
+      ap (block_at next' b) (sym e) ∙ step in
       let new_byte : byte_at region' next' b head.len ≡ byte =
-          ap (λ x. get_or region' (32 * x + head.len % 32) 0) new_last
-          ∙ (ap (λ o. get_or region' (32 * free + o) 0) full ∙ (ap (λ i. get_or region' i 0) plain ∙ get_or-set_same region (32 * free) byte 0 in_region)) in
+      ap (λ x. get_or region' (32 * x + head.len % 32) 0) new_last
+      ∙ (ap (λ o. get_or region' (32 * free + o) 0) full ∙ (ap (λ i. get_or region' i 0) plain ∙ get_or-set_same region (32 * free) byte 0 in_region)) in
       let same_links : chain_bytes region next' b head.len ≡ chain_bytes region next b head.len =
-          same_bytes region next region next' b head.len (λ i i_low. ap (λ x. get_or region (32 * x + i % 32) 0) (kept (i / 32) (omega arith))) in
+      same_bytes region next region next' b head.len (λ i i_low. ap (λ x. get_or region (32 * x + i % 32) 0) (kept (i / 32) (omega arith))) in
       let before : chain_bytes region' next' b head.len ≡ chain_bytes region next b head.len =
-          same_bytes region next' region' next' b head.len (λ i i_low.
-              let m = block_of_byte next sound.mark sound.count b head chain i i_low in
-              let block_is : block_at next' b (i / 32) ≡ block_at next b (i / 32) = kept (i / 32) (omega arith) in
-              let apart : block_at next' b (i / 32) ≢ free =
-                  λ same. absurd (let e : b ≡ sound.count = (same_mark sound.mark (block_at next b (i / 32)) free b (i / 32) sound.count 0 m.1 first.1 (sym block_is ∙ same)).0 in omega arith) in
-              get_or-set_other region (32 * free) (32 * block_at next' b (i / 32) + i % 32) byte 0
-                  (λ same. other_block (block_at next' b (i / 32)) free i 0 apart (same ∙ sym plain)))
-          ∙ same_links in
+      same_bytes region next' region' next' b head.len (λ i i_low.
+      let m = block_of_byte next sound.mark sound.count b head chain i i_low in
+      let block_is : block_at next' b (i / 32) ≡ block_at next b (i / 32) = kept (i / 32) (omega arith) in
+      let apart : block_at next' b (i / 32) ≢ free =
+      λ same. absurd (let e : b ≡ sound.count = (same_mark sound.mark (block_at next b (i / 32)) free b (i / 32) sound.count 0 m.1 first.1 (sym block_is ∙ same)).0 in omega arith) in
+      get_or-set_other region (32 * free) (32 * block_at next' b (i / 32) + i % 32) byte 0
+      (λ same. other_block (block_at next' b (i / 32)) free i 0 apart (same ∙ sym plain)))
+      ∙ same_links in
       slots_set region next region' next' heads (set heads b (Some longer)) b (Some (record { owner = head.owner; bytes = chain_bytes region next b head.len ++ byte ∷ [] }))
-          (length-set heads b (Some longer)) low
-          (ap (held_by region' next' b) (get_or-set_same heads b (Some longer) None low)
-              ∙ ap (λ bs. Some (record { owner = head.owner; bytes = bs }))
-                  (one_more_byte region' next' b head.len
-                      ∙ (ap (λ bs. bs ++ byte_at region' next' b head.len ∷ []) before ∙ ap (λ x. chain_bytes region next b head.len ++ x ∷ []) new_byte)))
-          (λ c apart. ap (held_by region' next' c) (get_or-set_other heads b c (Some longer) None apart)
-              ∙ (ap (λ i. held_by (set region i byte) next' c (get_or heads c None)) (sym plain)
-              ∙ other_held c (get_or heads c None) refl b head l.1 first.1 (λ e. apart e)))
+      (length-set heads b (Some longer)) low
+      (ap (held_by region' next' b) (get_or-set_same heads b (Some longer) None low)
+      ∙ ap (λ bs. Some (record { owner = head.owner; bytes = bs }))
+      (one_more_byte region' next' b head.len
+      ∙ (ap (λ bs. bs ++ byte_at region' next' b head.len ∷ []) before ∙ ap (λ x. chain_bytes region next b head.len ++ x ∷ []) new_byte)))
+      (λ c apart. ap (held_by region' next' c) (get_or-set_other heads b c (Some longer) None apart)
+      ∙ (ap (λ i. held_by (set region i byte) next' c (get_or heads c None)) (sym plain)
+      ∙ other_held c (get_or heads c None) refl b head l.1 first.1 (λ e. apart e)))
     where
       other_held : (c : ℕ) (h : Option Head) → get_or heads c None ≡ h → (b : ℕ) (head : Head) → sound.mark head.last ≡ (b, blocks_for head.len - 1) → sound.mark free ≡ (sound.count, 0) → c ≢ b → held_by (set region (32 * free + 0 % 32) byte) (set next head.last free) c (get_or heads c None) ≡ held_by region next c (get_or heads c None)
       other_held c None e b head m m0 apart = rw e refl
@@ -463,9 +465,9 @@ module _ (region next : List ℕ) (heads : List (Option Head)) (free free_len : 
           let c_chain = sound.chains c h e in
           let low = in_pool next sound.mark sound.count c h c_chain in
           let links : chain_bytes (set region (32 * free + 0 % 32) byte) (set next head.last free) c h.len ≡ chain_bytes (set region (32 * free + 0 % 32) byte) next c h.len =
-              same_bytes (set region (32 * free + 0 % 32) byte) next (set region (32 * free + 0 % 32) byte) (set next head.last free) c h.len
-                  (λ i i_low. ap (λ x. get_or (set region (32 * free + 0 % 32) byte) (32 * x + i % 32) 0)
-                      (other_link next sound.mark sound.count c h c_chain head.last free b (blocks_for head.len - 1) m (λ s. apart (sym s)) (i / 32) (omega arith))) in
+          same_bytes (set region (32 * free + 0 % 32) byte) next (set region (32 * free + 0 % 32) byte) (set next head.last free) c h.len
+          (λ i i_low. ap (λ x. get_or (set region (32 * free + 0 % 32) byte) (32 * x + i % 32) 0)
+          (other_link next sound.mark sound.count c h c_chain head.last free b (blocks_for head.len - 1) m (λ s. apart (sym s)) (i / 32) (omega arith))) in
           rw e (ap (λ bs. Some (record { owner = h.owner; bytes = bs })) (links ∙ other_bytes c h e free sound.count 0 0 byte m0 (λ s. absurd (omega arith))))
 
   -- ---- a chain freed
@@ -484,10 +486,10 @@ module _ (region next : List ℕ) (heads : List (Option Head)) (free free_len : 
       let kept = λ (k : ℕ) (h : k < n). last_link next sound.mark sound.count b head chain head.last free (n - 1) l.1 k h (omega arith) in
       let count_apart : sound.count ≢ b = λ e. absurd (omega arith) in
       let behind_last : block_at next' b n ≡ free =
-          let e : suc (n - 1) ≡ n = omega arith in
-          let step : get_or next' (block_at next' b (n - 1)) 0 ≡ free =
-              ap (λ x. get_or next' x 0) (kept (n - 1) (omega arith) ∙ chain.last) ∙ get_or-set_same next head.last free 0 (omega (arith, l.0, sound.links)) in
-          ap (block_at next' b) (sym e) ∙ step in
+      let e : suc (n - 1) ≡ n = omega arith in
+      let step : get_or next' (block_at next' b (n - 1)) 0 ≡ free =
+      ap (λ x. get_or next' x 0) (kept (n - 1) (omega arith) ∙ chain.last) ∙ get_or-set_same next head.last free 0 (omega (arith, l.0, sound.links)) in
+      ap (block_at next' b) (sym e) ∙ step in
       record {
         count = sound.count;
         counted = length-set heads b None ∙ sound.counted;
@@ -496,7 +498,7 @@ module _ (region next : List ℕ) (heads : List (Option Head)) (free free_len : 
         few = sound.few;
         mark = mark;
         chains = λ c h e. elim (cases_eq c b) [
-            inl same ↦ absurd (none_is_some h (sym (ap (λ x. get_or (set heads b None) x None) same ∙ get_or-set_same heads b None None low) ∙ e))
+          | inl same ↦ absurd (none_is_some h (sym (ap (λ x. get_or (set heads b None) x None) same ∙ get_or-set_same heads b None None low) ∙ e))
           | inr apart ↦
               let at_c = other_head b None c (Some h) apart e in
               let c_chain = sound.chains c h at_c in
@@ -508,25 +510,25 @@ module _ (region next : List ℕ) (heads : List (Option Head)) (free free_len : 
                 marked = λ i i_low.
                     let m = c_chain.marked i i_low in
                     subst (λ x. IsMarked mark sound.count x c i) (sym (same i i_low))
-                        (m.0, ap (freed sound.count b n) m.1 ∙ freed_other sound.count b n c i apart (λ s. absurd (omega arith)));
+                    (m.0, ap (freed sound.count b n) m.1 ∙ freed_other sound.count b n c i apart (λ s. absurd (omega arith)));
                 last = same (blocks_for h.len - 1) (omega arith) ∙ c_chain.last;
               }
         ];
         spare = λ k k_low. elim (cases_lt k n) [
-            inl in_chain ↦
+          | inl in_chain ↦
               let m = chain.marked k in_chain in
               subst (λ x. IsMarked mark sound.count x sound.count k) (sym (kept k in_chain))
-                  (m.0, ap (freed sound.count b n) m.1 ∙ freed_chain sound.count b n k)
+              (m.0, ap (freed sound.count b n) m.1 ∙ freed_chain sound.count b n k)
           | inr further ↦
               let j = k - n in
               let m = sound.spare j (omega arith) in
               let sum : n + j ≡ k = omega arith in
               let turned : j + n ≡ k = omega arith in
               let place : block_at next' b k ≡ block_at next free j =
-                  ap (block_at next' b) (sym sum) ∙ (sym (behind next' b n j) ∙ (ap (λ x. block_at next' x j) behind_last
-                  ∙ free_link next sound.mark sound.count free free_len sound.spare head.last free b (n - 1) l.1 (λ s. absurd (omega arith)) j (omega arith))) in
+              ap (block_at next' b) (sym sum) ∙ (sym (behind next' b n j) ∙ (ap (λ x. block_at next' x j) behind_last
+              ∙ free_link next sound.mark sound.count free free_len sound.spare head.last free b (n - 1) l.1 (λ s. absurd (omega arith)) j (omega arith))) in
               subst (λ x. IsMarked mark sound.count x sound.count k) (sym place)
-                  (m.0, ap (freed sound.count b n) m.1 ∙ (freed_free sound.count b n j count_apart ∙ ap (λ i. (sound.count, i)) turned))
+              (m.0, ap (freed sound.count b n) m.1 ∙ (freed_free sound.count b n j count_apart ∙ ap (λ i. (sound.count, i)) turned))
         ];
       }
 
@@ -536,17 +538,17 @@ module _ (region next : List ℕ) (heads : List (Option Head)) (free free_len : 
       let low : b < length heads = omega (arith, in_pool next sound.mark sound.count b head chain, sound.counted) in
       let l = last_marked next sound.mark sound.count b head chain in
       slots_set region next region (set next head.last free) heads (set heads b None) b None
-          (length-set heads b None) low
-          (ap (held_by region (set next head.last free) b) (get_or-set_same heads b None None low))
-          (λ c apart. ap (held_by region (set next head.last free) c) (get_or-set_other heads b c None None apart) ∙ other_held c (get_or heads c None) refl b head l.1 apart)
+      (length-set heads b None) low
+      (ap (held_by region (set next head.last free) b) (get_or-set_same heads b None None low))
+      (λ c apart. ap (held_by region (set next head.last free) c) (get_or-set_other heads b c None None apart) ∙ other_held c (get_or heads c None) refl b head l.1 apart)
     where
       other_held : (c : ℕ) (h : Option Head) → get_or heads c None ≡ h → (b : ℕ) (head : Head) → sound.mark head.last ≡ (b, blocks_for head.len - 1) → c ≢ b → held_by region (set next head.last free) c (get_or heads c None) ≡ held_by region next c (get_or heads c None)
       other_held c None e b head m apart = rw e refl
       other_held c (Some h) e b head m apart =
           rw e (ap (λ bs. Some (record { owner = h.owner; bytes = bs }))
-              (same_bytes region next region (set next head.last free) c h.len
-                  (λ i i_low. ap (λ x. get_or region (32 * x + i % 32) 0)
-                      (other_link next sound.mark sound.count c h (sound.chains c h e) head.last free b (blocks_for head.len - 1) m (λ s. apart (sym s)) (i / 32) (omega arith)))))
+          (same_bytes region next region (set next head.last free) c h.len
+          (λ i i_low. ap (λ x. get_or region (32 * x + i % 32) 0)
+          (other_link next sound.mark sound.count c h (sound.chains c h e) head.last free b (blocks_for head.len - 1) m (λ s. apart (sym s)) (i / 32) (omega arith)))))
 
 -- the last block of a chain lies in the pool
 pub last_in : (region next : List ℕ) (heads : List (Option Head)) (free free_len : ℕ) (sound : IsSound region next heads free free_len) (b : ℕ) (head : Head) → get_or heads b None ≡ Some head → head.last < sound.count
@@ -594,3 +596,139 @@ module _ (region next : List ℕ) (heads : List (Option Head)) (slots : List (Op
       by_head : (h : Option Head) → get_or heads b None ≡ h → IsSome h
       by_head None e = absurd (not_none b some e)
       by_head (Some head) e = search rules
+
+-- ---- another owner
+
+module _ (region next : List ℕ) (heads : List (Option Head)) (free free_len : ℕ) (sound : IsSound region next heads free free_len) where
+  pub set_owner_sound : (b owner : ℕ) (head : Head) → get_or heads b None ≡ Some head → IsSound region next (set heads b (Some (record { owner = owner; last = head.last; len = head.len }))) free free_len
+  set_owner_sound b owner head at =
+      let chain = sound.chains b head at in
+      let low : b < length heads = omega (arith, in_pool next sound.mark sound.count b head chain, sound.counted) in
+      let new : Head = record { owner = owner; last = head.last; len = head.len } in
+      let kept : IsChain next sound.mark sound.count b new = record { some = chain.some; marked = chain.marked; last = chain.last } in
+      record {
+        count = sound.count;
+        counted = length-set heads b (Some new) ∙ sound.counted;
+        links = sound.links;
+        bytes = sound.bytes;
+        few = sound.few;
+        mark = sound.mark;
+        chains = λ c h e. elim (cases_eq c b) [
+          | inl same ↦ subst (λ x. IsChain next sound.mark sound.count x h) (sym same)
+              (subst (λ g. IsChain next sound.mark sound.count b g) (sym (this_head region next heads free free_len sound b new h low (subst (λ x. get_or (set heads b (Some new)) x None ≡ Some h) same e))) kept)
+          | inr apart ↦ sound.chains c h (other_head region next heads free free_len sound b (Some new) c (Some h) apart e)
+        ];
+        spare = sound.spare;
+      }
+
+  pub set_owner_slots : (b owner : ℕ) (head : Head) → get_or heads b None ≡ Some head → slots_of region next (set heads b (Some (record { owner = owner; last = head.last; len = head.len }))) ≡ put (slots_of region next heads) b owner (chain_bytes region next b head.len)
+  set_owner_slots b owner head at =
+      let low : b < length heads = omega (arith, in_pool next sound.mark sound.count b head (sound.chains b head at), sound.counted) in
+      let new : Head = record { owner = owner; last = head.last; len = head.len } in
+      slots_set region next region next heads (set heads b (Some new)) b (Some (record { owner = owner; bytes = chain_bytes region next b head.len }))
+      (length-set heads b (Some new)) low
+      (ap (held_by region next b) (get_or-set_same heads b (Some new) None low))
+      (λ c apart. ap (held_by region next c) (get_or-set_other heads b c (Some new) None apart))
+
+  -- ---- bytes copied out
+
+  -- the blocks of a chain lie in the pool
+  pub blocks_low : (b : ℕ) (head : Head) → get_or heads b None ≡ Some head → (k : ℕ) → k * 32 < head.len → block_at next b k < length next
+  blocks_low b head at k low = omega (arith, (sound.chains b head at).marked k (omega arith), sound.links)
+
+-- a part of bytes made by place
+drop-made : (f : ℕ → ℕ) (n from : ℕ) → from ≤ n → drop from (map f (range_with_len 0 n)) ≡ map f (range_with_len from (n - from))
+drop-made f n from low =
+    let made = map f (range_with_len 0 n) in
+    let len = length-map-range_with_len f 0 n in
+    let rest = length-map-range_with_len f from (n - from) in
+    same_lists _ _ (omega (arith, length-drop from made, len, rest))
+    (λ k d h.
+    let inside : k < n - from = omega (arith, length-drop from made, len) in
+    get_or-drop from made k d
+    ∙ (get_or-map-range_with_len f 0 n (from + k) (from + k) d (omega arith) (omega arith)
+    ∙ sym (get_or-map-range_with_len f from (n - from) k (from + k) d inside refl)))
+
+pub copied_bytes : (region next : List ℕ) (b len from count : ℕ) → from ≤ len → count ≤ len - from → map (byte_at region next b) (range_with_len from count) ≡ take count (drop from (chain_bytes region next b len))
+unfolding chain_bytes
+copied_bytes region next b len from count low few =
+    sym (ap (take count) (drop-made (byte_at region next b) len from low) ∙ take-map-range_with_len (byte_at region next b) from (len - from) count few)
+
+-- what the slots say of a chain whose head is known
+module _ (region next : List ℕ) (heads : List (Option Head)) (free free_len : ℕ) (sound : IsSound region next heads free free_len) (slots : List (Option Held)) (view : slots_of region next heads ≡ slots) (b : ℕ) (some : 0 < length (bytes_of slots b)) where
+  pub blocks_reached : (k : ℕ) → k * 32 < length (bytes_of slots b) → block_at next b k < length next
+  blocks_reached k low = by_head (get_or heads b None) refl
+    where
+      by_head : (h : Option Head) → get_or heads b None ≡ h → block_at next b k < length next
+      by_head None e = absurd (not_none region next heads slots view b some e)
+      by_head (Some head) e = blocks_low region next heads free free_len sound b head e k (omega (arith, len_says region next heads slots view b head e))
+
+  pub bytes_copied : (from count : ℕ) → from ≤ length (bytes_of slots b) → count ≤ length (bytes_of slots b) - from → map (byte_at region next b) (range_with_len from count) ≡ take count (drop from (bytes_of slots b))
+  bytes_copied from count low few = by_head (get_or heads b None) refl
+    where
+      by_head : (h : Option Head) → get_or heads b None ≡ h → map (byte_at region next b) (range_with_len from count) ≡ take count (drop from (bytes_of slots b))
+      by_head None e = absurd (not_none region next heads slots view b some e)
+      by_head (Some head) e =
+          let len = len_says region next heads slots view b head e in
+          copied_bytes region next b head.len from count (omega (arith, len)) (omega (arith, len)) ∙ ap (λ bs. take count (drop from bs)) (sym (bytes_say region next heads slots view b head e))
+
+-- ---- walking
+
+pub block_at-more : (next : List ℕ) (first k : ℕ) → get_or next (block_at next first k) 0 ≡ block_at next first (k + 1)
+block_at-more next first k = rw add-one refl
+
+-- the block of the next byte
+pub next_block : (next : List ℕ) (first place block : ℕ) → block ≡ block_at next first (place / 32) → (place + 1) % 32 ≡ 0 → get_or next block 0 ≡ block_at next first ((place + 1) / 32)
+next_block next first place block here full =
+    let e : place / 32 + 1 ≡ (place + 1) / 32 = omega arith in
+    ap (λ b. get_or next b 0) here ∙ (block_at-more next first (place / 32) ∙ ap (block_at next first) e)
+
+pub same_block : (next : List ℕ) (first place block : ℕ) → block ≡ block_at next first (place / 32) → (place + 1) % 32 ≢ 0 → block ≡ block_at next first ((place + 1) / 32)
+same_block next first place block here room =
+    let e : place / 32 ≡ (place + 1) / 32 = omega arith in
+    here ∙ ap (block_at next first) e
+
+-- a list whose elements are known by place
+pub made_from : (f : ℕ → ℕ) (from n : ℕ) (xs : List ℕ) → length xs ≡ n → ((k : ℕ) → k < n → get_or xs k 0 ≡ f (from + k)) → xs ≡ map f (range_with_len from n)
+made_from f from n xs len same =
+    same_lists _ _ (len ∙ sym (length-map-range_with_len f from n))
+    (λ k d h. let low : k < n = omega (arith, len) in
+    get_or_default xs k d 0 h ∙ (same k low ∙ sym (get_or-map-range_with_len f from n k (from + k) d low refl)))
+
+pub range_more : (a n : ℕ) → range_with_len a (n + 1) ≡ range_with_len a n ++ (a + n) ∷ []
+range_more a n =
+    sym (map-id (range_with_len a (n + 1))) ∙ (map-range_with_len_more (λ x. x) a n (a + n) refl ∙ ap (λ xs. xs ++ (a + n) ∷ []) (map-id (range_with_len a n)))
+
+-- ---- a new pool
+
+-- in a new pool each block leads to the one behind it
+in_order : (count k : ℕ) → k < count → block_at (range_with_len 1 count) 0 k ≡ k
+in_order count zero low = refl
+in_order count (suc k) low =
+    ap (λ b. get_or (range_with_len 1 count) b 0) (in_order count k (omega arith)) ∙ (get_or-range_with_len 1 count k 0 (omega arith) ∙ omega arith)
+
+pub make_sound : (region next : List ℕ) (heads : List (Option Head)) (count : ℕ) → count ≤ 16384 → length region ≡ 32 * count → next ≡ range_with_len 1 count → heads ≡ replicate count None → IsSound region next heads 0 count
+make_sound region next heads count few bytes links none = record {
+  count = count;
+  counted = ap length none ∙ length-replicate count None;
+  links = ap length links ∙ length-range_with_len 1 count;
+  bytes = bytes;
+  few = few;
+  mark = λ x. (count, x);
+  chains = λ b head e. absurd (none_is_some head (sym (no_heads b) ∙ e));
+  spare = λ k low. let place : block_at next 0 k ≡ k = ap (λ xs. block_at xs 0 k) links ∙ in_order count k low in (omega (arith, place), ap (λ x. (count, x)) place);
+}
+  where
+    no_heads : (b : ℕ) → get_or heads b None ≡ None
+    no_heads b = ap (λ hs. get_or hs b None) none ∙ elim (cases_lt b count) [ inl low ↦ get_or-replicate count b None None low | inr high ↦ get_or_past (replicate count None) b None (omega (arith, length-replicate {A = Option Head} count None)) ]
+
+pub make_slots : (region next : List ℕ) (heads : List (Option Head)) (count : ℕ) → heads ≡ replicate count None → slots_of region next heads ≡ replicate count None
+make_slots region next heads count none =
+    same_lists _ _ (length-slots_of region next heads ∙ (ap length none ∙ (length-replicate {A = Option Head} count None ∙ sym (length-replicate {A = Option Held} count None))))
+    (λ k d h.
+    let low : k < count = omega (arith, length-slots_of region next heads, ap length none, length-replicate {A = Option Head} count None) in
+    get_or_default (slots_of region next heads) k d None h
+    ∙ (slot_is region next heads k
+    ∙ (ap (λ hs. held_by region next k (get_or hs k None)) none
+    ∙ (ap (held_by region next k) (get_or-replicate count k None None low)
+    ∙ sym (get_or-replicate count k None d low)))))

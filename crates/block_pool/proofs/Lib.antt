@@ -1,1 +1,3 @@
 pub mod LayoutLemmas
+pub mod SlotLemmas
+pub mod CountLemmas

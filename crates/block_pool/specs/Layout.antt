@@ -1,17 +1,9 @@
 -- How blocks lie in a region and are linked. No public clause cites this module.
-use Rattle.std.specs.Prelude.{◌≡◌, ℕ, zero, suc, ◌+◌, ◌-◌, ◌*◌, ◌/◌, ◌%◌, ◌<◌, ◌≤◌, List, map, length, Option, None, Some, slice_index, slice_index_or}
+use Rattle.std.specs.Prelude.{◌≡◌, ℕ, ◌-◌, ◌*◌, ◌<◌, ◌≤◌, List, map, length, Option, None, Some, slice_index_or}
 use Rattle.std.specs.List.{range_with_len}
 use Rattle.block_pool.specs.Slots.{Held, blocks_for}
+use Rattle.block_pool.specs.Links.{block_at, byte_at}
 use Rattle.block_pool.specs.declared.blocks.Head.{Head}
-
--- the k-th block of the list of blocks that begins at a block
-abbrev pub block_at : List ℕ → ℕ → ℕ → ℕ
-block_at next first zero = first
-block_at next first (suc k) = slice_index next (block_at next first k)
-
--- byte i of the chain that begins at a block
-abbrev pub byte_at : List ℕ → List ℕ → ℕ → ℕ → ℕ
-byte_at region next first i = slice_index region (32 * block_at next first (i / 32) + i % 32)
 
 -- the bytes of a chain
 unfoldable pub chain_bytes : List ℕ → List ℕ → ℕ → ℕ → List ℕ

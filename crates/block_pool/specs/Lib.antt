@@ -1,2 +1,7 @@
 pub mod Slots
+pub mod Links
 pub mod Layout
+pub mod Names
+pub mod Owners
+pub mod Pool
+pub mod Counts

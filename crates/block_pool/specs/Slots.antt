@@ -1,5 +1,5 @@
 -- The chains of a pool: for each block the chain that begins there, with its owner and its bytes.
-use Rattle.std.specs.Prelude.{◌≡◌, ℕ, ◌+◌, ◌/◌, ◌<◌, List, [], ◌∷◌, length, Option, None, Some, slice_index_or, slice_set}
+use Rattle.std.specs.Prelude.{ℕ, ◌+◌, ◌/◌, List, [], Option, None, Some, slice_index_or, slice_set}
 
 -- what a chain holds, and for whom
 pub record Held : Type 0 where

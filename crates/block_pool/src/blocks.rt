@@ -1,5 +1,7 @@
 //! Blocks of memory in one region, linked into chains and a list of free blocks.
-ghost use Rattle.std.specs.Prelude.{◌≡◌, ◌<◌, length, None, Some, IsSome, slice_index_or};
+ghost use Rattle.std.specs.Prelude.{◌≡◌, ℕ, ◌+◌, ◌*◌, ◌^◌, ◌<◌, ◌≤◌, length, map, replicate, None, Some, IsSome, IfOk, slice_index_or};
+ghost use Rattle.std.specs.List.{range_with_len};
+ghost use Rattle.block_pool.specs.Links.{block_at, byte_at};
 
 use std::alloc::{AllocError, Global};
 use std::marker::Model;
@@ -27,6 +29,59 @@ fn head_at(heads: &[Option<Head>], block: u16) -> Head
         Some(Some(head)) => *head,
         _ => unreachable!(),
     }
+}
+
+/// The block `steps` links behind a block.
+fn walk(next: &[u16], first: u16, steps: usize) -> u16
+    requires { (k : ℕ) → k < steps → block_at next.now first k < length next.now }
+    ensures { result ≡ block_at next.now first steps }
+{
+    let mut block = first;
+    for _step in 0..steps {
+        block = next[block as usize];
+    }
+    block
+}
+
+/// Fills `out` with bytes of the chain that begins at `first`, from place `from` on.
+fn copy_from(region: &[u8], next: &[u16], first: u16, from: usize, out: &mut [u8])
+    requires whole { length region.now ≡ 32 * length next.now }
+    requires reached { (k : ℕ) → k * 32 < from + length out.old → block_at next.now first k < length next.now }
+    requires short { from + length out.old < 2 ^ 32 }
+    ensures { out.new ≡ map (byte_at region.now next.now first) (range_with_len from (length out.old)) }
+{
+    let mut block = walk(next, first, from / BLOCK_BYTES);
+    let mut place = from;
+    for byte in out.iter_mut() {
+        *byte = region[BLOCK_BYTES * block as usize + place % BLOCK_BYTES];
+        place += 1;
+        if place % BLOCK_BYTES == 0 {
+            block = next[block as usize];
+        }
+    }
+}
+
+/// Links from each of so many blocks to the one behind it.
+fn in_a_row(alloc: Global, count: u16) -> Result<Vec<u16>, AllocError>
+    requires { count ≤ 16384 }
+    ensures { IfOk result (λ v. v.items ≡ range_with_len 1 count) }
+{
+    let mut next = Vec::with_capacity(alloc, count as usize)?;
+    for block in 0..count {
+        next.push(block + 1)?;
+    }
+    Ok(next)
+}
+
+/// So many blocks at which no chain begins.
+fn no_heads(alloc: Global, count: u16) -> Result<Vec<Option<Head>>, AllocError>
+    ensures { IfOk result (λ v. v.items ≡ replicate count None) }
+{
+    let mut heads = Vec::with_capacity(alloc, count as usize)?;
+    for _block in 0..count {
+        heads.push(None)?;
+    }
+    Ok(heads)
 }
 
 /// Blocks of 32 bytes, each in a chain or free.
@@ -57,8 +112,33 @@ impl Model for Blocks {
 }
 
 impl Blocks {
-    ghost use Rattle.std.specs.Prelude.{◌≡◌, ◌+◌, ◌%◌, ◌^◌, ◌<◌, [], ◌∷◌, ◌++◌, length, None, slice_set};
+    ghost use Rattle.std.specs.Prelude.{◌≡◌, ◌+◌, ◌-◌, ◌%◌, ◌^◌, ◌<◌, ◌≤◌, [], ◌∷◌, ◌++◌, length, replicate, take, drop, min, None, IfOk, slice_set};
     ghost use Rattle.block_pool.specs.Slots.{slot, put, bytes_of, owner_of, blocks_for};
+
+    /// So many free blocks, at most 16,384.
+    pub fn make(alloc: Global, count: u16) -> Result<Blocks, AllocError>
+        requires { count ≤ 16384 }
+        ensures { IfOk result (λ blocks. (blocks.slots ≡ replicate count None) × (blocks.free ≡ count)) }
+    {
+        let region = vec![in alloc; 0; BLOCK_BYTES * count as usize]?;
+        let next = in_a_row(alloc, count)?;
+        let heads = no_heads(alloc, count)?;
+        Ok(Blocks {
+            region,
+            next,
+            heads,
+            free: 0,
+            free_len: count,
+        })
+    }
+
+    /// The length of a chain in bytes.
+    pub fn len(&self, first: u16) -> u32
+        requires { 0 < length (bytes_of self.now.slots first) }
+        ensures { result ≡ length (bytes_of self.now.slots first) }
+    {
+        head_at(&self.heads, first).len
+    }
 
     /// Begins a chain with one byte, in the first free block.
     pub fn begin(&mut self, owner: u8, byte: u8) -> u16
@@ -133,5 +213,73 @@ impl Blocks {
         self.free = first;
         self.free_len += head.len.div_ceil(BLOCK_BYTES as u32) as u16;
         self.heads[first as usize] = None;
+    }
+
+    /// Appends a byte to a chain.
+    fn push(&mut self, first: u16, byte: u8)
+        requires some { 0 < length (bytes_of self.old.slots first) }
+        requires short { length (bytes_of self.old.slots first) < 2 ^ 24 }
+        requires room { blocks_for (length (bytes_of self.old.slots first) + 1)
+            ≤ blocks_for (length (bytes_of self.old.slots first)) + self.old.free }
+        ensures slots { self.new.slots
+            ≡ put self.old.slots first (owner_of self.old.slots first) (bytes_of self.old.slots first ++ byte ∷ []) }
+        ensures free { self.new.free + blocks_for (length (bytes_of self.old.slots first) + 1)
+            ≡ self.old.free + blocks_for (length (bytes_of self.old.slots first)) }
+    {
+        if self.len(first) as usize % BLOCK_BYTES == 0 {
+            self.push_in_new_block(first, byte);
+        } else {
+            self.push_in_block(first, byte);
+        }
+    }
+
+    /// Appends bytes to a chain.
+    pub fn extend(&mut self, first: u16, bytes: &[u8])
+        requires some { 0 < length (bytes_of self.old.slots first) }
+        requires short { length (bytes_of self.old.slots first) + length bytes.now < 2 ^ 24 }
+        requires room { blocks_for (length (bytes_of self.old.slots first) + length bytes.now)
+            ≤ blocks_for (length (bytes_of self.old.slots first)) + self.old.free }
+        ensures slots { self.new.slots
+            ≡ put self.old.slots first (owner_of self.old.slots first) (bytes_of self.old.slots first ++ bytes.now) }
+        ensures free { self.new.free + blocks_for (length (bytes_of self.old.slots first) + length bytes.now)
+            ≡ self.old.free + blocks_for (length (bytes_of self.old.slots first)) }
+    {
+        for byte in bytes {
+            self.push(first, *byte);
+        }
+    }
+
+    /// Gives a chain to another owner. No byte moves.
+    pub fn set_owner(&mut self, first: u16, owner: u8)
+        requires { 0 < length (bytes_of self.old.slots first) }
+        ensures slots { self.new.slots ≡ put self.old.slots first owner (bytes_of self.old.slots first) }
+        ensures free { self.new.free ≡ self.old.free }
+    {
+        let head = head_at(&self.heads, first);
+        self.heads[first as usize] = Some(Head {
+            owner,
+            last: head.last,
+            len: head.len,
+        });
+    }
+
+    /// Copies the bytes of a chain from a place on into the front of `out`, as many as are there and fit, and says how
+    /// many.
+    pub fn copy_out(&self, first: u16, from: u32, out: &mut [u8]) -> usize
+        requires some { 0 < length (bytes_of self.now.slots first) }
+        requires in_chain { from ≤ length (bytes_of self.now.slots first) }
+        ensures count { result ≡ min (length (bytes_of self.now.slots first) - from) (length out.old) }
+        ensures copied { out.new ≡ take result (drop from (bytes_of self.now.slots first)) ++ drop result out.old }
+    {
+        let left = (self.len(first) - from) as usize;
+        let count = left.min(out.len());
+        copy_from(
+            &self.region,
+            &self.next,
+            first,
+            from as usize,
+            &mut out[..count],
+        );
+        count
     }
 }

@@ -2,3 +2,12 @@
 #![tactic(auto)]
 
 mod blocks;
+mod chain;
+mod owners;
+mod pool;
+
+pub use chain::Chain;
+pub use pool::{NoRoom, Pool};
+
+#[cfg(test)]
+mod tests;

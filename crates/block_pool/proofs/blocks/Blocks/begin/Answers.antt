@@ -1,4 +1,4 @@
-use Rattle.std.proofs.Common.{◌≡◌, ◌<◌, ◌*◌, sym, ap, ◌∙◌, subst, arith, length, get_or}
+use Rattle.std.proofs.Common.{◌≡◌, ◌<◌, ◌*◌, sym, ap, ◌∙◌, subst, arith, length}
 use Rattle.std.specs.Prelude.{[], ◌∷◌, None}
 use Rattle.std.proofs.lemmas.List.{get_or_read}
 use Rattle.block_pool.specs.Slots.{BlocksState, slot, put}
@@ -14,21 +14,21 @@ invariant_of-self c =
     let s = c.self.inside in
     let first = first_free s.region.items s.next.items s.heads.items s.free s.free_len c.self.invariant (some_free c) in
     begin_sound s.region.items s.next.items s.heads.items s.free s.free_len c.self.invariant c.args.owner c.args.byte (32 * s.free) c.index.result.now (some_free c)
-        (get_or_read s.next.items s.free c.index.result.now (omega (arith, first.0, c.self.invariant.links)) c.index.ensures 0)
+    (get_or_read s.next.items s.free c.index.result.now (omega (arith, first.0, c.self.invariant.links)) c.index.ensures 0)
 
 pub returns-clause-fits : goal.returns-clause-fits
 returns-clause-fits c =
     let s = c.self.inside in
     let first = first_free s.region.items s.next.items s.heads.items s.free s.free_len c.self.invariant (some_free c) in
     subst (λ (v : BlocksState). s.free < length v.slots) c.self.view_is
-        (omega (arith, first.0, c.self.invariant.counted, length-slots_of s.region.items s.next.items s.heads.items))
+    (omega (arith, first.0, c.self.invariant.counted, length-slots_of s.region.items s.next.items s.heads.items))
 
 pub returns-clause-fresh : goal.returns-clause-fresh
 returns-clause-fresh c =
     let s = c.self.inside in
     subst (λ (v : BlocksState). slot v.slots s.free ≡ None) c.self.view_is
-        (slot_is s.region.items s.next.items s.heads.items s.free
-            ∙ ap (held_by s.region.items s.next.items s.free) (no_head s.region.items s.next.items s.heads.items s.free s.free_len c.self.invariant (some_free c)))
+    (slot_is s.region.items s.next.items s.heads.items s.free
+    ∙ ap (held_by s.region.items s.next.items s.free) (no_head s.region.items s.next.items s.heads.items s.free s.free_len c.self.invariant (some_free c)))
 
 pub returns-clause-slots : goal.returns-clause-slots
 returns-clause-slots c =

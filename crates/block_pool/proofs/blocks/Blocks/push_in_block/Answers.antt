@@ -1,16 +1,15 @@
-use Rattle.std.proofs.Common.{◌≡◌, ◌<◌, ◌≤◌, ◌+◌, ◌*◌, ◌/◌, ◌%◌, ◌-◌, ◌^◌, ℕ, sym, ap, ◌∙◌, subst, arith, length, get_or, Fits, List}
+use Rattle.std.proofs.Common.{◌≡◌, ◌<◌, ◌+◌, ◌*◌, ◌%◌, sym, ap, ◌∙◌, subst, arith, length, get_or}
 use Rattle.std.specs.Prelude.{◌∷◌, [], ◌++◌, None, Some, IsSome}
-use Rattle.std.proofs.lemmas.List.{get_or_read}
-use Rattle.block_pool.specs.Slots.{BlocksState, put, bytes_of, owner_of, blocks_for}
+use Rattle.block_pool.specs.Slots.{BlocksState, put, bytes_of}
 use Rattle.block_pool.specs.Layout.{slots_of, chain_bytes}
-use Rattle.block_pool.proofs.LayoutLemmas.{bytes_say, owner_says, len_says, has_head, last_in, head_fits, first_free, push_in_block_sound, push_in_block_slots}
+use Rattle.block_pool.proofs.LayoutLemmas.{bytes_say, owner_says, len_says, has_head, last_in, head_fits, push_in_block_sound, push_in_block_slots}
 use Rattle.block_pool.proofs.blocks.Blocks.push_in_block.Goals as goal
 
 pub head_at-head-requires : goal.head_at-head-requires
 head_at-head-requires c =
     let s = c.self.inside in
     subst (λ hs. IsSome (get_or hs c.args.first None)) (sym c.deref.ensures.value)
-        (has_head s.region.items s.next.items s.heads.items c.args.self.now.slots (ap (λ (v : BlocksState). v.slots) c.self.view_is) c.args.first (let r = c.requires.room in omega arith))
+    (has_head s.region.items s.next.items s.heads.items c.args.self.now.slots (ap (λ (v : BlocksState). v.slots) c.self.view_is) c.args.first (let r = c.requires.room in omega arith))
 
 pub index_mut-requires : goal.index_mut-requires
 index_mut-requires c =

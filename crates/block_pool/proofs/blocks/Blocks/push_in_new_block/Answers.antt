@@ -1,7 +1,7 @@
-use Rattle.std.proofs.Common.{◌≡◌, ◌<◌, ◌≤◌, ◌+◌, ◌*◌, ◌/◌, ◌%◌, ◌-◌, ◌^◌, ℕ, sym, ap, ◌∙◌, subst, arith, length, get_or, Fits, List}
+use Rattle.std.proofs.Common.{◌≡◌, ◌<◌, ◌*◌, ◌%◌, sym, ap, ◌∙◌, subst, arith, length, get_or}
 use Rattle.std.specs.Prelude.{◌∷◌, [], ◌++◌, None, Some, IsSome}
 use Rattle.std.proofs.lemmas.List.{get_or_read}
-use Rattle.block_pool.specs.Slots.{BlocksState, put, bytes_of, owner_of, blocks_for}
+use Rattle.block_pool.specs.Slots.{BlocksState, put, bytes_of}
 use Rattle.block_pool.specs.Layout.{slots_of, chain_bytes}
 use Rattle.block_pool.proofs.LayoutLemmas.{bytes_say, owner_says, len_says, has_head, last_in, head_fits, first_free, push_in_new_block_sound, push_in_new_block_slots}
 use Rattle.block_pool.proofs.blocks.Blocks.push_in_new_block.Goals as goal
@@ -10,7 +10,7 @@ pub head_at-head-requires : goal.head_at-head-requires
 head_at-head-requires c =
     let s = c.self.inside in
     subst (λ hs. IsSome (get_or hs c.args.first None)) (sym c.deref.ensures.value)
-        (has_head s.region.items s.next.items s.heads.items c.args.self.now.slots (ap (λ (v : BlocksState). v.slots) c.self.view_is) c.args.first c.requires.some)
+    (has_head s.region.items s.next.items s.heads.items c.args.self.now.slots (ap (λ (v : BlocksState). v.slots) c.self.view_is) c.args.first c.requires.some)
 
 pub index_mut-requires : goal.index_mut-requires
 index_mut-requires c =
@@ -39,7 +39,7 @@ invariant_of-self c =
     let full : head.len % 32 ≡ 0 = subst (λ n. n % 32 ≡ 0) len_is c.requires.full in
     let first = first_free s.region.items s.next.items s.heads.items s.free s.free_len c.self.invariant some in
     push_in_new_block_sound s.region.items s.next.items s.heads.items s.free s.free_len c.self.invariant c.args.first head (32 * s.free) c.args.byte c.index.result.now at full some
-        (get_or_read s.next.items s.free c.index.result.now (omega (arith, first.0, c.self.invariant.links)) c.index.ensures 0)
+    (get_or_read s.next.items s.free c.index.result.now (omega (arith, first.0, c.self.invariant.links)) c.index.ensures 0)
 
 pub returns-clause-slots : goal.returns-clause-slots
 returns-clause-slots c =

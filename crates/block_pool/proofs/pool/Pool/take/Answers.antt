@@ -1,0 +1,38 @@
+use Rattle.std.proofs.Common.{◌≡◌, ◌+◌, ◌-◌, ◌≤◌, sym, ap, ◌∙◌, subst, arith, length}
+use Rattle.std.proofs.lemmas.List.{get_or_read}
+use Rattle.block_pool.specs.Slots.{blocks_for}
+use Rattle.block_pool.specs.Names.{bytes_at}
+use Rattle.block_pool.specs.Pool.{PoolState, IsLive, spare_of}
+use Rattle.block_pool.proofs.LayoutLemmas.{blocks_is}
+use Rattle.block_pool.proofs.CountLemmas.{enough_free, taken_counted}
+use Rattle.block_pool.proofs.pool.Pool.take.Goals as goal
+
+pub append-requires-clause-room : goal.append-requires-clause-room
+append-requires-clause-room c =
+    let s = c.self.inside in
+    let pool : PoolState = record { slots = s.blocks.slots; owners = s.owners.items } in
+    let chain = c.args.chain.now in
+    let live = subst (λ (v : PoolState). IsLive v chain) (sym c.self.view_is) c.requires in
+    let len : c.len-len.result ≡ length (bytes_at pool.slots chain.first) = c.len-len.ensures ∙ ap (λ (v : PoolState). length (bytes_at v.slots chain.first)) (sym c.self.view_is) in
+    let spare : c.spare-spare.result ≡ spare_of pool chain.owner = c.spare-spare.ensures.spare ∙ ap (λ (v : PoolState). spare_of v chain.owner) (sym c.self.view_is) in
+    let all = blocks_is c.div_ceil.result (c.len-len.result + length c.args.bytes.now) c.div_ceil.ensures in
+    let had = blocks_is c.div_ceil-2.result c.len-len.result c.div_ceil-2.ensures in
+    let enough = enough_free pool c.self.invariant.0 chain.owner live.0 s.blocks.free c.self.invariant.1 in
+    subst (λ n. blocks_for (n + length c.args.bytes.now) ≤ blocks_for n + s.blocks.free) len
+    (omega (arith, all, had, spare, enough, c.if-need-spare.false))
+
+pub invariant_of-self : goal.invariant_of-self
+invariant_of-self c =
+    let s = c.self.inside in
+    let pool : PoolState = record { slots = s.blocks.slots; owners = s.owners.items } in
+    let chain = c.args.chain.now in
+    let live = subst (λ (v : PoolState). IsLive v chain) (sym c.self.view_is) c.requires in
+    let len : c.len-len.result ≡ length (bytes_at pool.slots chain.first) = c.len-len.ensures ∙ ap (λ (v : PoolState). length (bytes_at v.slots chain.first)) (sym c.self.view_is) in
+    let spare : c.spare-spare.result ≡ spare_of pool chain.owner = c.spare-spare.ensures.spare ∙ ap (λ (v : PoolState). spare_of v chain.owner) (sym c.self.view_is) in
+    let all = blocks_is c.div_ceil.result (c.len-len.result + length c.args.bytes.now) c.div_ceil.ensures in
+    let had = blocks_is c.div_ceil-2.result c.len-len.result c.div_ceil-2.ensures in
+    let more : c.div_ceil.result - c.div_ceil-2.result ≡ blocks_for (length (bytes_at pool.slots chain.first) + length c.args.bytes.now) - blocks_for (length (bytes_at pool.slots chain.first)) =
+    subst (λ n. c.div_ceil.result - c.div_ceil-2.result ≡ blocks_for (n + length c.args.bytes.now) - blocks_for n) len (omega (arith, all, had)) in
+    taken_counted pool c.self.invariant.0 s.blocks.free c.self.invariant.1 chain.owner live.0 chain.first c.args.bytes.now c.append.new.chain.first c.append.new.blocks.slots c.append.new.blocks.free (c.div_ceil.result - c.div_ceil-2.result) c.index-old.result.now
+    live.1 c.append.ensures.name c.append.ensures.slots c.append.ensures.free more (omega (arith, spare, c.if-need-spare.false))
+    (get_or_read s.owners.items chain.owner c.index-old.result.now live.0 c.index-old.ensures (record { quota = 0; used = 0; aside = 0 }))

@@ -1,0 +1,63 @@
+-- Appending a packet's data to the chain of its message.
+use Rattle.std.proofs.Common.{◌≡◌, ◌≢◌, ℕ, ◌+◌, ◌*◌, ◌≤◌, List, [], ◌∷◌, ◌++◌, length, sym, ap, ◌∙◌, subst, arith, rules, length-append}
+use Rattle.std.specs.Prelude.{Result, Ok, Err, IsOk, OnOk}
+use Rattle.std.specs.List.{AllByRecursion}
+use Rattle.std.proofs.lemmas.List.{map_push}
+use Rattle.std.proofs.lemmas.List.Sums.{sum_by-cons, sum_by_push}
+use Rattle.block_pool.specs.declared.chain.Chain.{Chain}
+use Rattle.block_pool.specs.Slots.{blocks_for}
+use Rattle.block_pool.specs.Owners.{with_used}
+use Rattle.block_pool.specs.Pool.{PoolState, used_of, spare_of, chain_spare, IsLive, IsApart, chain_bytes, more_blocks, KeepsOthers, Appends}
+use Rattle.hcp_packet.specs.declared.Packet.{Packet}
+use Rattle.hcp_chain.specs.declared.joiner.Open.{Open}
+use Rattle.hcp_chain.specs.declared.joiner.Joiner.{Joiner}
+use Rattle.hcp_chain.specs.Holding.{message_of, messages_in, IsOwn, AreApart, held_blocks}
+use Rattle.hcp_chain.specs.TakingOut.{CanGrow, Grown}
+use Rattle.hcp_chain.proofs.HoldingLemmas.{all_push, all_map, all_both, apart_push}
+use Rattle.hcp_chain.proofs.ClearLemmas.{kept}
+
+-- what holds of an Ok
+pub on_ok : {T E : Type 0} (r : Result T E) (P : Type 0) → IsOk r → OnOk r P → P
+on_ok (Ok x) P ok p = p
+on_ok (Err e) P ok p = absurd (search rules)
+
+-- a message has at most 128 blocks
+held_low : (pool : PoolState) (owner : ℕ) (xs : List Open) → AllByRecursion (IsOwn pool owner) xs → held_blocks pool xs ≤ 128 * length xs
+held_low pool owner [] own = omega arith
+held_low pool owner (x ∷ xs) own =
+    let rest = held_low pool owner xs own.1 in
+    let short = own.0.short in
+    omega (arith, rest, short, sum_by-cons (λ (y : Open). blocks_for (length (chain_bytes pool y.chain))) x xs)
+
+-- there is room for each packet
+pub room_for : (pool : PoolState) (joiner : Joiner) (p : Packet) (chain : Chain) → CanGrow pool joiner p chain → more_blocks (length (chain_bytes pool chain)) (length p.bytes.items) ≤ chain_spare pool chain
+room_for pool joiner p chain can =
+    let held = held_low pool joiner.owner joiner.open.items can.holds.own in
+    subst (λ o. more_blocks (length (chain_bytes pool chain)) (length p.bytes.items) ≤ spare_of pool o) (sym can.owned)
+    (omega (arith, held, can.room, can.fits, can.quota, can.used))
+
+pub grows : (old new : PoolState) (joiner : Joiner) (p : Packet) (chain after : Chain) → CanGrow old joiner p chain → Appends old new chain after p.bytes.items → chain_bytes new after ≡ chain_bytes old chain ++ p.bytes.items → IsLive new after → KeepsOthers old new chain after → Grown old new joiner.owner p.pipe chain after joiner.open.items (chain_bytes old chain ++ p.bytes.items)
+grows old new joiner p chain after can appends bytes live keeps =
+    let xs = joiner.open.items in
+    let o = joiner.owner in
+    let y : Open = record { pipe = p.pipe; chain = after } in
+    let len : length (chain_bytes new after) ≡ length (chain_bytes old chain) + length p.bytes.items = ap length bytes ∙ length-append (chain_bytes old chain) p.bytes.items in
+    let k = kept old new o chain after xs keeps can.holds.own (all_map (λ x. (x.pipe ≢ p.pipe) × IsApart x.chain chain) (λ x. IsApart x.chain chain) xs (λ x a. a.1) can.apart) in
+    let own_y : IsOwn new o y = record { live = live; owned = appends.owner ∙ can.owned; short = omega (arith, len, can.fits) } in
+    let both = all_both (λ x. (x.pipe ≢ p.pipe) × IsApart x.chain chain) (λ x. IsApart x.chain after) xs can.apart k.apart in
+    let apart_y = all_map (λ x. ((x.pipe ≢ p.pipe) × IsApart x.chain chain) × IsApart x.chain after) (AreApart y) xs
+    (λ x a. record { pipes = λ e. a.0.0 (sym e); chains = λ first q r. a.1 first r q }) both in
+    let sum = sum_by_push (λ (x : Open). blocks_for (length (chain_bytes new x.chain))) xs y in
+    let grows : blocks_for (length (chain_bytes old chain)) ≤ blocks_for (length (chain_bytes old chain) + length p.bytes.items) = omega arith in
+    let size : blocks_for (length (chain_bytes new after)) ≡ blocks_for (length (chain_bytes old chain) + length p.bytes.items) = ap blocks_for len in
+    let total : used_of old o + more_blocks (length (chain_bytes old chain)) (length p.bytes.items) ≡ held_blocks new (xs ++ y ∷ []) = omega (arith, sum, size, k.blocks, can.used, grows) in
+    record {
+      holds = record { own = all_push (IsOwn new o) xs y k.own own_y; apart = apart_push xs y can.holds.apart apart_y };
+      used = appends.owners ∙ (ap (λ q. with_used old.owners q (used_of old q + more_blocks (length (chain_bytes old chain)) (length p.bytes.items))) can.owned ∙ ap (with_used old.owners o) total);
+      others = λ other other_live away apart.
+          let s = keeps other other_live apart in
+          (s.1, s.2, all_push (λ x. IsApart other x.chain) xs y away s.0);
+      bytes_are = bytes;
+      rest = k.messages;
+      more = map_push (message_of new) xs y ∙ (ap (λ ms. ms ++ (p.pipe, chain_bytes new after) ∷ []) k.messages ∙ ap (λ bs. messages_in old xs ++ (p.pipe, bs) ∷ []) bytes);
+    }

@@ -1,0 +1,5 @@
+pub mod GivenLemmas
+pub mod CutLemmas
+pub mod HoldingLemmas
+pub mod ClearLemmas
+pub mod GrowLemmas

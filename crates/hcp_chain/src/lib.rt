@@ -1,0 +1,13 @@
+//! Messages in chains of blocks: cut into packets, and joined from packets of any pipes mixed (ETSI TS 102 622, message
+//! fragmentation).
+#![tactic(auto)]
+
+mod cutting;
+mod joiner;
+pub mod laws;
+
+pub use cutting::cut;
+pub use joiner::{ChainFault, Joined, Joiner, MAX_MESSAGE};
+
+#[cfg(test)]
+mod tests;
