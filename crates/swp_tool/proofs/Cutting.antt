@@ -1,6 +1,6 @@
 -- Cutting a stream of bytes into lines.
-use Rattle.std.proofs.Common.{◌≡◌, ℕ, ◌+◌, ◌-◌, ◌<◌, ◌≤◌, Bool, true, false, cond, eqb, List, [], ◌∷◌, ◌++◌, length, map, take, get_or, zero, suc, refl, sym, ap, ◌∙◌, append_assoc, arith, length-append, length-take}
-use Rattle.std.specs.List.{flat_map, All, slice_split, onto_first}
+use Rattle.std.proofs.Common.{◌≡◌, ℕ, ◌+◌, ◌-◌, ◌<◌, Bool, true, false, cond, eqb, List, [], ◌∷◌, ◌++◌, length, map, take, get_or, zero, suc, refl, sym, ap, ◌∙◌, append_assoc, arith, length-append, length-take}
+use Rattle.std.specs.List.{flat_map, slice_split, onto_first}
 use Rattle.std.specs.Str.Lines.{lines, lines_of_parts, strip_carriage_return}
 use Rattle.std.proofs.lemmas.List.Splits.{slice_split_at, slice_split_none}
 use Rattle.std.proofs.lemmas.List.Elements.{All-append}

@@ -1,5 +1,5 @@
 -- What a replay that ends has written.
-use Rattle.std.proofs.Common.{◌≡◌, ℕ, ◌+◌, Bool, true, false, List, [], ◌∷◌, ◌++◌, length, take, refl, sym, ap, ◌∙◌, append_assoc, subst, ◌⊎◌}
+use Rattle.std.proofs.Common.{◌≡◌, ℕ, ◌+◌, Bool, true, false, List, [], ◌++◌, length, take, refl, sym, ap, ◌∙◌, append_assoc, subst}
 use Rattle.std.proofs.Common.{inl, inr}
 use Rattle.std.specs.Prelude.{Option, Some, None, Result, Ok, Err, OnOk, OnErr, IfErr, is_err}
 use Rattle.std.specs.Str.Lines.{lines}
@@ -10,12 +10,10 @@ use Rattle.trace_model.specs.declared.line.Line.{Line}
 use Rattle.swp_tool.specs.declared.replay.Halt.{Halt}
 use Rattle.swp_tool.specs.declared.replay.Halt.TheVariants as halt
 use Rattle.swp_tool.specs.declared.pieces.Pieces.{Pieces}
-use Rattle.swp_tool.specs.declared.status.Status.{Status}
-use Rattle.swp_tool.specs.declared.status.Status.TheVariants as status
-use Rattle.swp_tool.specs.Schedules.{Stop, AtFault, Too_many, Schedule, nothing_read, with_lines, ended, schedule_of}
-use Rattle.swp_tool.specs.Transcripts.{IsTextOf, IsTranscript}
+use Rattle.swp_tool.specs.Schedules.{Stop, AtFault, Too_many, Schedule, ended}
+use Rattle.swp_tool.specs.Transcripts.{IsTextOf}
 use Rattle.swp_tool.specs.Pieces.{HasRead, IsFrontTranscript, IsCompleteTranscript, StopsAt, Halts, HaltsAtEnd, schedule_read, schedule_so_far}
-use Rattle.swp_tool.specs.Runs.{status_of, Appends, IsSomeTranscript, IsFrontOfTranscript, Replayed, IsUnderWay}
+use Rattle.swp_tool.specs.Runs.{status_of, Appends, IsSomeTranscript, IsFrontOfTranscript, Replayed}
 use Rattle.swp_tool.proofs.Reading.{front_so_far, played_transcript}
 
 -- the end of a schedule adds no line

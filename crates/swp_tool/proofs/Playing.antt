@@ -1,5 +1,5 @@
 -- What a line adds to a replay.
-use Rattle.std.proofs.Common.{◌≡◌, ℕ, ◌+◌, ◌<◌, ◌≤◌, List, [], ◌∷◌, ◌++◌, length, refl, sym, ap, ◌∙◌, append_assoc, arith, subst}
+use Rattle.std.proofs.Common.{◌≡◌, ℕ, ◌+◌, ◌<◌, List, [], ◌++◌, sym, ap, ◌∙◌, append_assoc, arith, subst}
 use Rattle.std.specs.Prelude.{Option, Some, None, Ok}
 use Rattle.trace_model.specs.declared.line.Header.{Header}
 use Rattle.trace_model.specs.declared.line.Line.{Line}
@@ -10,7 +10,7 @@ use Rattle.schedule_text.specs.declared.read.Read.TheVariants as read
 use Rattle.swp_tool.specs.declared.replay.Replay.{Replay}
 use Rattle.swp_tool.specs.Schedules.{Schedule, with_said}
 use Rattle.swp_tool.specs.Transcripts.{text_of}
-use Rattle.swp_tool.specs.Replays.{Runs, IsAt, WasStepped, HasPlayed, HasFew}
+use Rattle.swp_tool.specs.Replays.{IsAt, WasStepped, HasPlayed}
 
 -- a world that was stepped by few lines has room for one more
 pub has_room : (w : World) (most : ℕ) → WasStepped w most → most < 20000 → HasRoom w

@@ -4,9 +4,7 @@ use Rattle.std.proofs.Common.{◌≡◌, ◌<◌, Bool, true, false, eqb, length
 use Rattle.std.specs.Prelude.{Result, Ok, Err, OnOk, OnErr}
 use Rattle.std.specs.List.{flat_map}
 use Rattle.std.proofs.lemmas.List.{append-nil}
-use Rattle.trace_model.specs.declared.line.Header.{Header}
 use Rattle.trace_model.specs.declared.line.Line.{Line}
-use Rattle.trace_model.specs.declared.entry.Entry.{Entry}
 use Rattle.trace_model.specs.declared.entry.Entry.TheVariants as entry
 use Rattle.schedule_text.specs.Entries.{entry_line}
 use Rattle.schedule_text.specs.Growth.{IsFront}

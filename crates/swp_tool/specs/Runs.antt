@@ -1,13 +1,12 @@
 -- What a run of the program has read and written, by the status with which it ended.
 use Rattle.std.specs.Prelude.{◌≡◌, ℕ, ◌+◌, ◌⊎◌, List, [], ◌∷◌, ◌++◌, take, codes}
-use Rattle.schedule_text.specs.declared.fault.LineFault.{LineFault}
 use Rattle.swp_tool.specs.declared.pieces.Pieces.{Pieces}
 use Rattle.swp_tool.specs.declared.status.Status.{Status}
 use Rattle.swp_tool.specs.declared.status.Status.TheVariants as status
 use Rattle.swp_tool.specs.declared.replay.Halt.{Halt}
 use Rattle.swp_tool.specs.declared.replay.Halt.TheVariants as halt
 use Rattle.swp_tool.specs.Schedules.{AtFault, Too_many}
-use Rattle.swp_tool.specs.Pieces.{HasRead, IsReading, IsFrontTranscript, IsWholeTranscript, IsCompleteTranscript, StopsAt}
+use Rattle.swp_tool.specs.Pieces.{HasRead, IsFrontTranscript, IsWholeTranscript, IsCompleteTranscript, StopsAt}
 
 -- the status of a replay that halts behind so many whole lines
 abbrev pub status_of : Halt → ℕ → Status

@@ -2,7 +2,7 @@
 use Rattle.std.proofs.Common.{◌≡◌, ◌++◌, List, ℕ, [], sym, ap, ◌∙◌, append_assoc, subst, take, refl}
 use Rattle.std.proofs.lemmas.List.{append-nil}
 use Rattle.swp_tool.specs.declared.status.Status.{Status}
-use Rattle.swp_tool.specs.Pieces.{HasRead, IsCompleteTranscript}
+use Rattle.swp_tool.specs.Pieces.{IsCompleteTranscript}
 use Rattle.swp_tool.specs.Runs.{Appends, IsFrontOfTranscript, Replayed}
 use Rattle.swp_tool.proofs.Ending.{of_err, of_ok, cut_off, finished_front, halted_at_end}
 use Rattle.swp_tool.proofs.top.close.Goals as goal

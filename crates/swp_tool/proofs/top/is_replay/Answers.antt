@@ -1,5 +1,5 @@
 -- One word is the list of that word.
-use Rattle.std.proofs.Common.{◌≡◌, ◌<◌, ◌≤◌, List, [], ◌∷◌, ℕ, length, get_or, zero, suc, map, ap, sym, ◌∙◌, arith, IsTrue, subst}
+use Rattle.std.proofs.Common.{◌≡◌, ◌<◌, ◌≤◌, List, [], ◌∷◌, ℕ, length, get_or, map, ap, sym, ◌∙◌, arith, IsTrue}
 use Rattle.std.specs.Prelude.{codes, string_bytes}
 use Rattle.swp_tool.specs.Runs.{IsReplay}
 use Rattle.swp_tool.proofs.top.is_replay.Goals as goal

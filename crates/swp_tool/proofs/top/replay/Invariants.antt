@@ -1,4 +1,4 @@
-use Rattle.std.proofs.Common.{◌≡◌, ◌≤◌, List, ℕ, IsTrue}
+use Rattle.std.proofs.Common.{◌≤◌, IsTrue}
 use Rattle.swp_tool.specs.Runs.{IsUnderWay}
 use Rattle.swp_tool.specs.Pieces.{IsReading, bytes_left}
 use Rattle.swp_tool.proofs.top.replay.Given as goal

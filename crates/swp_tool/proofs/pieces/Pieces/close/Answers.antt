@@ -1,5 +1,4 @@
 -- The last line was gathered, or there is no header, or no memory.
-use Rattle.std.proofs.Common.{◌≡◌, ◌++◌, List, ℕ}
 use Rattle.swp_tool.proofs.Reading.{closed, halts_closing}
 use Rattle.swp_tool.proofs.pieces.Pieces.close.Goals as goal
 

@@ -1,5 +1,5 @@
 -- The line that has ended was played, or the replay halts at it however the bytes go on.
-use Rattle.std.proofs.Common.{◌≡◌, ◌++◌, List, ℕ, ◌∙◌, ap, subst, sym}
+use Rattle.std.proofs.Common.{◌≡◌, List, ℕ, ◌∙◌, ap, subst}
 use Rattle.std.specs.Str.Lines.{strip_carriage_return}
 use Rattle.swp_tool.specs.Schedules.{Schedule, with_line}
 use Rattle.swp_tool.specs.Replays.{HasPlayed, HaltsAt}

@@ -1,4 +1,4 @@
-use Rattle.std.proofs.Common.{◌≡◌, ◌+◌, ◌≤◌, ◌++◌, take, List, ℕ}
+use Rattle.std.proofs.Common.{◌+◌, ◌≤◌, ◌++◌, take, List, ℕ}
 use Rattle.swp_tool.specs.Pieces.{HasRead, IsReading, bytes_left}
 use Rattle.swp_tool.proofs.pieces.Pieces.feed.Given as goal
 

@@ -1,5 +1,5 @@
 -- All lines were played, and the last line was gathered.
-use Rattle.std.proofs.Common.{◌≡◌, ◌++◌, List, ℕ}
+use Rattle.std.proofs.Common.{◌++◌, List, ℕ}
 use Rattle.swp_tool.specs.Replays.{HasPlayed}
 use Rattle.swp_tool.specs.Pieces.{HasRead, schedule_read, IsCompleteTranscript}
 use Rattle.swp_tool.proofs.Texts.{on_ok}

@@ -1,6 +1,5 @@
 -- The line that no LF has ended was played, or the replay halts at it.
-use Rattle.std.proofs.Common.{◌≡◌, ◌<◌, ◌++◌, List, ℕ, [], length, ◌∙◌, ap, subst, sym, arith}
-use Rattle.std.proofs.lemmas.Grind.{common_steps}
+use Rattle.std.proofs.Common.{◌≡◌, ◌<◌, List, ℕ, [], length, ◌∙◌, subst, sym}
 use Rattle.swp_tool.specs.Schedules.{Schedule, with_line}
 use Rattle.swp_tool.specs.Replays.{HasPlayed, HaltsAt}
 use Rattle.swp_tool.proofs.Texts.{tests_empty, tests_some}

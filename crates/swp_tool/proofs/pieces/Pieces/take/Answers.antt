@@ -1,4 +1,4 @@
-use Rattle.std.proofs.Common.{◌≡◌, arith}
+use Rattle.std.proofs.Common.{arith}
 use Rattle.swp_tool.proofs.Reading.{halts_too_many}
 use Rattle.swp_tool.proofs.pieces.Pieces.take.Goals as goal
 

@@ -1,4 +1,4 @@
-use Rattle.std.proofs.Common.{◌≡◌, refl}
+use Rattle.std.proofs.Common.{refl}
 use Rattle.swp_tool.proofs.Playing.{began}
 use Rattle.swp_tool.proofs.replay.Replay.begin.Goals as goal
 
