@@ -37,10 +37,12 @@ steps_grow o (x ∷ lines) [] line follows = absurd follows
 steps_grow o (x ∷ lines) (step ∷ steps) line follows =
     let now = o ++ entries_of (events_of step.outcome) in
     let last = λ (l : List Entry). steps ++ record { line = line; outcome = outcome_of l line } ∷ [] in
-    let P : List Entry → Type 0 = λ l. StepsFollow now (lines ++ line ∷ []) (last l) in
-    (follows.0, follows.1,
+    let P : List Entry → Type 0 = λ l. StepsFollow now (lines ++ line ∷ []) (last l) in (
+      follows.0,
+      follows.1,
       subst P (append_assoc o (entries_of (events_of step.outcome)) (entries_of (events_in steps)) ∙ ap (λ l. o ++ l) (sym (entries_of-append (events_of step.outcome) (events_in steps))))
-        (steps_grow now lines steps line follows.2))
+          (steps_grow now lines steps line follows.2),
+    )
 
 pub follows_grow : (header : Header) (lines : List Line) (t : History) (line : Line) → Follows header lines t → Follows header (lines ++ line ∷ []) (with_step t line)
 follows_grow header lines t line h =

@@ -78,12 +78,15 @@ frames_calm (suc n) e [] calm fits =
     frame : Option Fragment → Option Control
     frame None = None
     frame (Some info) = Some (I (e.session.next % 8) (expected e.session) info)
+
     sent : Option Fragment → EndState
     sent None = record e { due = [] }
     sent (Some _) = record e { due = []; session = sent_next e.session }
+
     first : Option Control → List Control → List Control
     first None later = []
     first (Some c) later = c ∷ later
+
     frames_then : Option Fragment → List Control
     frames_then o = first (frame o) (frames_of n (sent o))
 
@@ -130,6 +133,7 @@ place_of_cases P s nr none some = go ((place % 8 == nr) && nat_le place s.reache
   where
     place : ℕ
     place = s.acked + (nr + (8 - s.acked % 8)) % 8
+
     go : (b : Bool) → P (if b then Some place else None)
     go true = some place (omega arith)
     go false = none
@@ -156,6 +160,7 @@ received_calm e f ns info grows out acc fits = go (ahead f.session ns == 0) (nat
   where
     gap : EndState
     gap = record (calm_form f) { due = Rej_due ∷ []; session = record f.session { gap_open = true } }
+
     kept : (g : EndState) → g.phase ≡ Up → g.ready ≡ true → AllByRecursion IsCalmDue g.due → length g.due ≤ 1 → g.session.out ≡ f.session.out → g.session.acked ≡ f.session.acked → IsFrontOf f.session.acc g.session.acc → TakesOn e g
     kept g p r d few o a more =
         record {
@@ -164,6 +169,7 @@ received_calm e f ns info grows out acc fits = go (ahead f.session ns == 0) (nat
           out_is = o ∙ out;
           accepts = (let P : List Fragment → Type 0 = λ l. IsFrontOf l g.session.acc in subst P acc more);
         }
+
     go : (b c d : Bool) → TakesOn e (if b then accepted (calm_form f) info else (if c then (if d then calm_form f else gap) else repeated (calm_form f)))
     go true c d = kept (accepted (calm_form f) info) refl refl (tt, tt) (omega arith) refl refl (info ∷ [], refl)
     go false true true = kept (calm_form f) refl refl tt (omega arith) refl refl ([], append-nil f.session.acc)
@@ -179,6 +185,7 @@ taken_form e (I ns nr info) calm fits =
     received_at : Option ℕ → EndState
     received_at None = calm_form e
     received_at (Some x) = received (acknowledged (calm_form e) x) ns info
+
     same : (f : EndState) → All IsInfo f.session.out → TakesOn (calm_form f) (calm_form f)
     same f fits = record { calm = record { up = refl; ready = refl; calm_due = tt; few_due = omega arith; fits = fits }; grows = omega arith; out_is = refl; accepts = ([], append-nil f.session.acc) }
 taken_form e (S Rr nr) calm fits =
@@ -250,7 +257,8 @@ all_fetched_calm e calm =
     let same = after_frames_same 12 e e.due in
     let none : (all_fetched e).due ≡ [] = after_frames_due 12 e e.due (omega (arith, calm.few_due)) in
     record {
-      up = same.phase_is ∙ calm.up; ready = same.ready_is ∙ calm.ready;
+      up = same.phase_is ∙ calm.up;
+      ready = same.ready_is ∙ calm.ready;
       calm_due = (let P : List Due → Type 0 = λ d. AllByRecursion IsCalmDue d in subst P (sym none) tt);
       few_due = (let P : List Due → Type 0 = λ d. length d ≤ 0 in subst P (sym none) (omega arith));
       fits = (let P : List Fragment → Type 0 = λ l. All IsInfo l in subst P (sym same.out_is) calm.fits);

@@ -51,7 +51,9 @@ calm_put : (l : Link) (c : Control) (few : ℕ) → IsCalmLink l few → IsCalmF
 calm_put l c few h frame =
     let pushed = calm_push l.to_host c h.to_host frame in
     record {
-      controller = h.controller; host = h.host; to_controller = h.to_controller;
+      controller = h.controller;
+      host = h.host;
+      to_controller = h.to_controller;
       to_host = go (is_full (with_frame l.to_host c)) pushed;
       not_ended = h.not_ended;
       no_rnr = or_false l.rnr (is_rnr c) h.no_rnr (calm_is_no_rnr c frame);
@@ -69,8 +71,8 @@ calm_put_all l (c ∷ cs) few h frames = calm_put_all (put l c) cs few (calm_put
 calm_becomes : (l : Link) (e : EndState) → IsCalm e 1 → IsCalmLink l 0 → IsCalmLink (becomes l e) 0
 calm_becomes l e calm h =
     calm_put_all (record l { controller = all_fetched e }) (all_frames e) 0
-      (record { controller = all_fetched_calm e calm; host = h.host; to_controller = h.to_controller; to_host = h.to_host; not_ended = h.not_ended; no_rnr = h.no_rnr })
-      (all_frames_calm e calm)
+    (record { controller = all_fetched_calm e calm; host = h.host; to_controller = h.to_controller; to_host = h.to_host; not_ended = h.not_ended; no_rnr = h.no_rnr })
+    (all_frames_calm e calm)
 
 more_due : (e : EndState) → IsCalm e 0 → IsCalm e 1
 more_due e h = record { up = h.up; ready = h.ready; calm_due = h.calm_due; few_due = omega (arith, h.few_due); fits = h.fits }
@@ -83,7 +85,7 @@ pub calm_offer : (l : Link) (fragments : List Fragment) → All IsInfo fragments
 calm_offer l fragments fits h =
     let P : Link → Type 0 = λ x. IsCalmLink x 0 in
     subst P (sym (offer_is l fragments h.controller.up))
-      (calm_becomes l (put_out l.controller fragments) (put_out_calm l.controller fragments 1 (more_due l.controller h.controller) fits) h)
+    (calm_becomes l (put_out l.controller fragments) (put_out_calm l.controller fragments 1 (more_due l.controller h.controller) fits) h)
 
 -- it takes the first frame on its way to it
 pub calm_deliver : (l : Link) → IsCalmLink l 0 → IsCalmLink (happens_here l Deliver) 0
@@ -92,10 +94,11 @@ calm_deliver l h = go l.to_controller h.to_controller
     ended_false : (x : Carried) → IsCalmFrame x.frame → (l.ended || is_some (take_answer l.controller x.frame).ended) ≡ false
     ended_false x frame =
         or_false l.ended (is_some (take_answer l.controller x.frame).ended) h.not_ended
-          (ap (λ o. is_some o) (taken_ends_nothing l.controller x.frame h.controller frame))
+        (ap (λ o. is_some o) (taken_ends_nothing l.controller x.frame h.controller frame))
+
     go : (wire : List Carried) → AreCalm wire → IsCalmLink (happens_here (record l { to_controller = wire }) Deliver) 0
     go [] calm = record { controller = h.controller; host = h.host; to_controller = tt; to_host = h.to_host; not_ended = h.not_ended; no_rnr = h.no_rnr }
     go (x ∷ wire) calm =
         calm_becomes (record l { to_controller = wire; ended = l.ended || is_some (take_answer l.controller x.frame).ended }) (taken l.controller x.frame)
-          (taken_calm l.controller x.frame h.controller calm.0).calm
-          (record { controller = h.controller; host = h.host; to_controller = calm.1; to_host = h.to_host; not_ended = ended_false x calm.0; no_rnr = h.no_rnr })
+        (taken_calm l.controller x.frame h.controller calm.0).calm
+        (record { controller = h.controller; host = h.host; to_controller = calm.1; to_host = h.to_host; not_ended = ended_false x calm.0; no_rnr = h.no_rnr })

@@ -65,8 +65,8 @@ fold-took_first f t e lpdu acks gets s =
     let m = taken_lpdu (machine_at t e) lpdu in
     fold-took f t e lpdu s
     ∙ ap (λ a. fold f a (emits t e m))
-      (ap (λ a. fold f a (got_notes t e m)) (fold-acked f t e m acks (f s (Took e lpdu)))
-      ∙ fold-got f e (number_at t e) (λ a pid message. gets a (number_at t e) pid message) (f s (Took e lpdu)) (drop (length (messages_got (machine_at t e))) (messages_got m)))
+    (ap (λ a. fold f a (got_notes t e m)) (fold-acked f t e m acks (f s (Took e lpdu)))
+    ∙ fold-got f e (number_at t e) (λ a pid message. gets a (number_at t e) pid message) (f s (Took e lpdu)) (drop (length (messages_got (machine_at t e))) (messages_got m)))
 
 -- the machine of the end that takes it, and those of all others
 pub machine-took : (t : List Entry) (e : End) (lpdu : List ℕ) → machine_at (t ++ took_event t e lpdu) e ≡ all_fetched (taken_lpdu (machine_at t e) lpdu)
@@ -176,7 +176,7 @@ sent_in-sent t e x n pid message =
     let m = given (machine_at t e) pid message in
     filter_map-append (sent_by x n) t (sent_event t e pid message)
     ∙ ap (λ l. sent_in t x n ++ cons_option (if same_end e x && eqb (number_at t e) n then Some (pid, message) else None) l)
-      (filter_map-puts (sent_by x n) e (λ l. refl) (λ l. refl) (wire_to t (other_end e)) (lpdus_of m))
+    (filter_map-puts (sent_by x n) e (λ l. refl) (λ l. refl) (wire_to t (other_end e)) (lpdus_of m))
 
 pub got_in-sent : (t : List Entry) (e x : End) (n pid : ℕ) (message : List ℕ) → got_in (t ++ sent_event t e pid message) x n ≡ got_in t x n
 got_in-sent t e x n pid message =
@@ -199,11 +199,11 @@ sent_in-took t e x n lpdu =
     let m = taken_lpdu (machine_at t e) lpdu in
     filter_map-append (sent_by x n) t (took_event t e lpdu)
     ∙ (ap (λ l. sent_in t x n ++ l)
-      (filter_map-append (sent_by x n) (acked_note t e m) (got_notes t e m ++ emits t e m)
-      ∙ (ap (λ l. l ++ filter_map (sent_by x n) (got_notes t e m ++ emits t e m)) (filter_map-acked (sent_by x n) t e m (λ k count. refl))
-      ∙ (filter_map-append (sent_by x n) (got_notes t e m) (emits t e m)
-      ∙ (ap (λ l. l ++ filter_map (sent_by x n) (emits t e m)) (filter_map-got (sent_by x n) e (number_at t e) (λ pid message. refl) (new_messages t e lpdu))
-      ∙ filter_map-puts (sent_by x n) e (λ l. refl) (λ l. refl) (wire_to t (other_end e)) (lpdus_of m)))))
+    (filter_map-append (sent_by x n) (acked_note t e m) (got_notes t e m ++ emits t e m)
+    ∙ (ap (λ l. l ++ filter_map (sent_by x n) (got_notes t e m ++ emits t e m)) (filter_map-acked (sent_by x n) t e m (λ k count. refl))
+    ∙ (filter_map-append (sent_by x n) (got_notes t e m) (emits t e m)
+    ∙ (ap (λ l. l ++ filter_map (sent_by x n) (emits t e m)) (filter_map-got (sent_by x n) e (number_at t e) (λ pid message. refl) (new_messages t e lpdu))
+    ∙ filter_map-puts (sent_by x n) e (λ l. refl) (λ l. refl) (wire_to t (other_end e)) (lpdus_of m)))))
     ∙ append-nil (sent_in t x n))
 
 -- what a filter for messages that came finds in their notes
@@ -222,11 +222,11 @@ got_in-took t e x n lpdu b is =
     let here = filter_map (got_by x n) (notes_of e (number_at t e) (new_messages t e lpdu)) in
     filter_map-append (got_by x n) t (took_event t e lpdu)
     ∙ ap (λ l. got_in t x n ++ l)
-      (filter_map-append (got_by x n) (acked_note t e m) (got_notes t e m ++ emits t e m)
-      ∙ (ap (λ l. l ++ filter_map (got_by x n) (got_notes t e m ++ emits t e m)) (filter_map-acked (got_by x n) t e m (λ k count. refl))
-      ∙ (filter_map-append (got_by x n) (got_notes t e m) (emits t e m)
-      ∙ (ap (λ l. here ++ l) (filter_map-puts (got_by x n) e (λ l. refl) (λ l. refl) (wire_to t (other_end e)) (lpdus_of m))
-      ∙ (append-nil here ∙ got_found e x (number_at t e) n (new_messages t e lpdu) b is)))))
+    (filter_map-append (got_by x n) (acked_note t e m) (got_notes t e m ++ emits t e m)
+    ∙ (ap (λ l. l ++ filter_map (got_by x n) (got_notes t e m ++ emits t e m)) (filter_map-acked (got_by x n) t e m (λ k count. refl))
+    ∙ (filter_map-append (got_by x n) (got_notes t e m) (emits t e m)
+    ∙ (ap (λ l. here ++ l) (filter_map-puts (got_by x n) e (λ l. refl) (λ l. refl) (wire_to t (other_end e)) (lpdus_of m))
+    ∙ (append-nil here ∙ got_found e x (number_at t e) n (new_messages t e lpdu) b is)))))
 
 -- how many messages are whole before and after the frame
 abbrev pub whole_before : List Entry → End → ℕ

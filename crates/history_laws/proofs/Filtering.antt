@@ -49,6 +49,7 @@ filter_map-puts {M} f e emits loses wire (lpdu ∷ lpdus) =
   where
     one : (o : Option M) → o ≡ None → (ms : List M) → cons_option o ms ≡ ms
     one o none ms = ap (λ p. cons_option p ms) none
+
     pushed : (lost : List (List ℕ)) → filter_map f (map (λ l. Lost (other_end e) l Pushed_out) lost) ≡ []
     pushed [] = refl
     pushed (l ∷ lost) = one (f (Lost (other_end e) l Pushed_out)) (loses l) (filter_map f (map (λ k. Lost (other_end e) k Pushed_out) lost)) ∙ pushed lost

@@ -52,7 +52,7 @@ sound_sent_here laws t link s pid message sendable h =
     let calm = calm_seen was s h.calm in
     let events = h.events ++ event_at s (Offer fragments) ∷ [] in
     let is : seen_from s (after start events) ≡ happens_here l (Offer fragments) =
-        ap (seen_from s) (after-more start h.events (event_at s (Offer fragments))) ∙ seen_event s was (Offer fragments) in
+    ap (seen_from s) (after-more start h.events (event_at s (Offer fragments))) ∙ seen_event s was (Offer fragments) in
     let P : Link → Type 0 = λ x. Mirrors x t' e in
     let Q : Link → Type 0 = λ x. IsCalmLink x 0 in
     let R : End → Type 0 = λ x. SoundEnd t' x in
@@ -61,8 +61,8 @@ sound_sent_here laws t link s pid message sendable h =
       mirrors = mirrors_unseen t' link (after start events) s (subst P (sym (is ∙ offer_is l fragments calm.controller.up)) (mirrors_sent t e l pid message m));
       calm = calm_unseen (after start events) s (subst Q (sym is) (calm_offer l fragments (fragments_fit (pid, message)) calm));
       ends = two_ends R link s
-        (sound_end_sent t e pid message sendable (order_at laws t link s h) (h.ends s))
-        (sound_end_sent_elsewhere t e (other_end e) pid message (same_end_other e) (other_sound t link s h));
+          (sound_end_sent t e pid message sendable (order_at laws t link s h) (h.ends s))
+          (sound_end_sent_elsewhere t e (other_end e) pid message (same_end_other e) (other_sound t link s h));
     }
 
 sound_sent_elsewhere : (t : List Entry) (e : End) (link pid : ℕ) (message : List ℕ) → eqb e.link link ≡ false → Sound t link → Sound (t ++ sent_event t e pid message) link
@@ -99,13 +99,15 @@ pub sound_sent : (laws : Laws) (t : List Entry) (e : End) (pid : ℕ) (message :
     → (link : ℕ) → Sound (t ++ sent_event t e pid message) link
 sound_sent laws t e pid message sendable h link =
     each_link (λ x. Sound (t ++ sent_event t e pid message) x) e.link
-      (sound_sent_here laws t e.link e.at_host pid message sendable (h e.link))
-      (λ x other. sound_sent_elsewhere t e x pid message other (h x)) link
+    (sound_sent_here laws t e.link e.at_host pid message sendable (h e.link))
+    (λ x other. sound_sent_elsewhere t e x pid message other (h x)) link
 
 pub order_sent_event : (t : List Entry) (e : End) (pid : ℕ) (message : List ℕ) → InOrder0 t → InOrderAlong t (sent_event t e pid message)
-order_sent_event t e pid message h =
-    (h, along_puts (t ++ Sent e (number_at t e) pid message ∷ []) e (wire_to t (other_end e)) (lpdus_of (given (machine_at t e) pid message))
-      (order_sent t e (number_at t e) pid message h))
+order_sent_event t e pid message h = (
+  h,
+  along_puts (t ++ Sent e (number_at t e) pid message ∷ []) e (wire_to t (other_end e)) (lpdus_of (given (machine_at t e) pid message))
+      (order_sent t e (number_at t e) pid message h),
+)
 
 -- ## An end takes a frame
 
@@ -123,12 +125,12 @@ link_takes reads l t e lpdu rest m calm stands = go l.to_controller (m.near_wire
         let first : lpdu_of x.frame ≡ lpdu = cc in
         let later : lpdus_on wire ≡ rest = cc in
         let taken_is : taken_lpdu (machine_at t e) lpdu ≡ taken l.controller x.frame =
-            taken_lpdu-written reads (machine_at t e) x.frame lpdu calm_wire.0 first ∙ ap (λ n. taken n x.frame) (sym m.near) in
+        taken_lpdu-written reads (machine_at t e) x.frame lpdu calm_wire.0 first ∙ ap (λ n. taken n x.frame) (sym m.near) in
         let P : EndState → Type 0 = λ n. TakesOn n (taken n x.frame) in
         let Q : EndState → Type 0 = λ n. TakesOn (machine_at t e) n in
         record {
           mirrors = mirrors_took t e l x wire (l.ended || is_some (take_answer l.controller x.frame).ended) lpdu taken_is
-            (stands ∙ ap (λ r. lpdu ∷ r) (sym later)) m.far m.far_wire m.lossless;
+              (stands ∙ ap (λ r. lpdu ∷ r) (sym later)) m.far m.far_wire m.lossless;
           takes = subst Q (ap (λ n. taken n x.frame) (sym m.near) ∙ sym taken_is) (subst P m.near (taken_calm l.controller x.frame calm.controller calm_wire.0));
         }
 
@@ -143,7 +145,7 @@ sound_took_here laws t link s lpdu rest stands h =
     let k = link_takes laws.reads l t e lpdu rest (mirrors_seen t link was s h.mirrors) calm stands in
     let events = h.events ++ event_at s Deliver ∷ [] in
     let is : seen_from s (after start events) ≡ happens_here l Deliver =
-        ap (seen_from s) (after-more start h.events (event_at s Deliver)) ∙ seen_event s was Deliver in
+    ap (seen_from s) (after-more start h.events (event_at s Deliver)) ∙ seen_event s was Deliver in
     let P : Link → Type 0 = λ x. Mirrors x t' e in
     let Q : Link → Type 0 = λ x. IsCalmLink x 0 in
     let R : End → Type 0 = λ x. SoundEnd t' x in
@@ -152,8 +154,8 @@ sound_took_here laws t link s lpdu rest stands h =
       mirrors = mirrors_unseen t' link (after start events) s (subst P (sym is) k.mirrors);
       calm = calm_unseen (after start events) s (subst Q (sym is) (calm_deliver l calm));
       ends = two_ends R link s
-        (sound_end_took t e lpdu laws.grow k.takes (h.ends s))
-        (sound_end_took_elsewhere t e (other_end e) lpdu (same_end_other e) (other_sound t link s h));
+          (sound_end_took t e lpdu laws.grow k.takes (h.ends s))
+          (sound_end_took_elsewhere t e (other_end e) lpdu (same_end_other e) (other_sound t link s h));
     }
 
 sound_took_elsewhere : (t : List Entry) (e : End) (link : ℕ) (lpdu : List ℕ) → eqb e.link link ≡ false → Sound t link → Sound (t ++ took_event t e lpdu) link
@@ -178,5 +180,5 @@ pub sound_took : (laws : Laws) (t : List Entry) (e : End) (lpdu : List ℕ) (res
     → (link : ℕ) → Sound (t ++ took_event t e lpdu) link
 sound_took laws t e lpdu rest stands h link =
     each_link (λ x. Sound (t ++ took_event t e lpdu) x) e.link
-      (sound_took_here laws t e.link e.at_host lpdu rest stands (h e.link))
-      (λ x other. sound_took_elsewhere t e x lpdu other (h x)) link
+    (sound_took_here laws t e.link e.at_host lpdu rest stands (h e.link))
+    (λ x other. sound_took_elsewhere t e x lpdu other (h x)) link

@@ -46,6 +46,7 @@ put_wire l c = go (is_full (with_frame l.to_host c)) (nat_lt wire_limit (length 
   where
     now : List Carried
     now = with_frame l.to_host c
+
     go : (a b : Bool) → a ≡ b → lpdus_on (cond a (drop 1 now) now) ≡ cond b (drop 1 (lpdus_on l.to_host ++ lpdu_of c ∷ [])) (lpdus_on l.to_host ++ lpdu_of c ∷ [])
     go true b same = rw (← same) (lpdus_on-drop now ∙ ap (λ l. drop 1 l) (lpdus_on-push l.to_host c))
     go false b same = rw (← same) (lpdus_on-push l.to_host c)
@@ -65,9 +66,11 @@ put_keeps l c none kept = go (is_full (with_frame l.to_host c)) (nat_lt wire_lim
   where
     now : List (List ℕ)
     now = lpdus_on l.to_host ++ lpdu_of c ∷ []
+
     some : (w : List (List ℕ)) (x : List ℕ) → take 1 (w ++ x ∷ []) ≡ [] → ⊥
     some [] x e = cc
     some (y ∷ w) x e = cc
+
     go : (a b : Bool) → a ≡ b → cond b (take 1 now) [] ≡ [] → (l.lost || a) ≡ false
     go false b same e = ap (λ x. x || false) kept
     go true true same e = absurd (some (lpdus_on l.to_host) (lpdu_of c) e)

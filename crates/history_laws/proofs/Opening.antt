@@ -37,7 +37,7 @@ number-ups : (e : End) (session : Option ℕ) (hosts : List ℕ) → unwrap_or s
 number-ups e session [] zero_ = zero_
 number-ups e session (h ∷ hosts) zero_ =
     number-ups e (session_after e (session_after e session (Up (end_at h false) 0)) (Up (end_at h true) 0)) hosts
-      (one (same_end (end_at h true) e) (session_after e session (Up (end_at h false) 0)) (one (same_end (end_at h false) e) session zero_))
+    (one (same_end (end_at h true) e) (session_after e session (Up (end_at h false) 0)) (one (same_end (end_at h false) e) session zero_))
   where
     one : (b : Bool) (s : Option ℕ) → unwrap_or s 0 ≡ 0 → unwrap_or (if b then Some 0 else s) 0 ≡ 0
     one true s z = refl
@@ -51,6 +51,7 @@ losses-ups e (h ∷ hosts) =
   where
     no_losses : Bool → List (List ℕ)
     no_losses b = if b then [] else []
+
     one : (b : Bool) → no_losses b ≡ []
     one true = refl
     one false = refl
@@ -142,10 +143,10 @@ every_history_is_legal laws header lines t valid follows =
     let numbered = session0_events [] (all_events t) all in
     record {
       in_order = λ front back is.
-        let R : List Entry → Type 0 = λ l. InOrderAlong [] l in
-        let S : List Entry → Type 0 = λ l. AreOfSession0 l in
-        in_order_of front (all_front front back (subst S is numbered)) (along_front [] front back (subst R is order));
+          let R : List Entry → Type 0 = λ l. InOrderAlong [] l in
+          let S : List Entry → Type 0 = λ l. AreOfSession0 l in
+          in_order_of front (all_front front back (subst S is numbered)) (along_front [] front back (subst R is order));
       complete = λ front back is.
-        let U : List Event → Type 0 = λ l. EventsKeep [] l in
-        complete_events [] front back empty_complete (subst U is all);
+          let U : List Event → Type 0 = λ l. EventsKeep [] l in
+          complete_events [] front back empty_complete (subst U is all);
     }

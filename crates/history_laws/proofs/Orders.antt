@@ -84,10 +84,10 @@ nothing_more xs o none = ap (λ p. xs ++ cons_option p []) none ∙ append-nil x
 pub order_quiet : (t : List Entry) (x : Entry) → IsQuiet x → InOrder0 t → InOrder0 (t ++ x ∷ [])
 order_quiet t x quiet h e =
     in_order_same (sent_in t e 0) _ (acked_in t e 0) _ (got_in t (other_end e) 0) _
-      (sent_in-more t x e 0 ∙ nothing_more (sent_in t e 0) (sent_by e 0 x) (quiet_sent x e 0 quiet))
-      (acked_in-more t x e 0 ∙ quiet_acked x e 0 (acked_in t e 0) quiet)
-      (got_in-more t x (other_end e) 0 ∙ nothing_more (got_in t (other_end e) 0) (got_by (other_end e) 0 x) (quiet_got x (other_end e) 0 quiet))
-      (h e)
+    (sent_in-more t x e 0 ∙ nothing_more (sent_in t e 0) (sent_by e 0 x) (quiet_sent x e 0 quiet))
+    (acked_in-more t x e 0 ∙ quiet_acked x e 0 (acked_in t e 0) quiet)
+    (got_in-more t x (other_end e) 0 ∙ nothing_more (got_in t (other_end e) 0) (got_by (other_end e) 0 x) (quiet_got x (other_end e) 0 quiet))
+    (h e)
 
 -- a message more is sent
 sent_more : (sent : List Message) (acked : ℕ) (got : List Message) (o : Option Message) → AreInOrder sent acked got → AreInOrder (sent ++ cons_option o []) acked got
@@ -103,28 +103,30 @@ pub order_sent : (t : List Entry) (f : End) (n pid : ℕ) (message : List ℕ) �
 order_sent t f n pid message h e =
     let x = Sent f n pid message in
     in_order_same (sent_in t e 0 ++ cons_option (sent_by e 0 x) []) _ (acked_in t e 0) _ (got_in t (other_end e) 0) _
-      (sent_in-more t x e 0) (acked_in-more t x e 0)
-      (got_in-more t x (other_end e) 0 ∙ append-nil (got_in t (other_end e) 0))
-      (sent_more (sent_in t e 0) (acked_in t e 0) (got_in t (other_end e) 0) (sent_by e 0 x) (h e))
+    (sent_in-more t x e 0) (acked_in-more t x e 0)
+    (got_in-more t x (other_end e) 0 ∙ append-nil (got_in t (other_end e) 0))
+    (sent_more (sent_in t e 0) (acked_in t e 0) (got_in t (other_end e) 0) (sent_by e 0 x) (h e))
 
 -- a number of messages is noted as acknowledged at the end f: what the other end got holds the good ones among them
 pub order_acked : (t : List Entry) (f : End) (count : ℕ) → count ≤ length (sent_in t f 0) → IsFrontOf (good_of (take count (sent_in t f 0))) (got_in t (other_end f) 0)
     → InOrder0 t → InOrder0 (t ++ Acked f 0 count ∷ [])
 order_acked t f count within front h e =
     in_order_same (sent_in t e 0) _ (cond (same_end f e && eqb 0 0) (max (acked_in t e 0) count) (acked_in t e 0)) _ (got_in t (other_end e) 0) _
-      (sent_in-more t (Acked f 0 count) e 0 ∙ append-nil (sent_in t e 0))
-      (acked_in-more t (Acked f 0 count) e 0)
-      (got_in-more t (Acked f 0 count) (other_end e) 0 ∙ append-nil (got_in t (other_end e) 0))
-      (go (same_end f e) refl)
+    (sent_in-more t (Acked f 0 count) e 0 ∙ append-nil (sent_in t e 0))
+    (acked_in-more t (Acked f 0 count) e 0)
+    (got_in-more t (Acked f 0 count) (other_end e) 0 ∙ append-nil (got_in t (other_end e) 0))
+    (go (same_end f e) refl)
   where
     larger : (a b : ℕ) → (max a b ≡ a) ⊎ (max a b ≡ b)
     larger a b = grind arith
+
     counted : AreInOrder (sent_in t f 0) (max (acked_in t f 0) count) (got_in t (other_end f) 0)
     counted =
         let P : ℕ → Type 0 = λ n. AreInOrder (sent_in t f 0) n (got_in t (other_end f) 0) in
         ⊎_elim (λ one. subst P (sym one) (h f))
-          (λ two. subst P (sym two) (record { delivered = (h f).delivered; acknowledged = front; counted = within }))
-          (larger (acked_in t f 0) count)
+        (λ two. subst P (sym two) (record { delivered = (h f).delivered; acknowledged = front; counted = within }))
+        (larger (acked_in t f 0) count)
+
     go : (b : Bool) → same_end f e ≡ b → AreInOrder (sent_in t e 0) (cond (b && eqb 0 0) (max (acked_in t e 0) count) (acked_in t e 0)) (got_in t (other_end e) 0)
     go true is =
         let P : End → Type 0 = λ x. AreInOrder (sent_in t x 0) (max (acked_in t x 0) count) (got_in t (other_end x) 0) in
@@ -136,17 +138,18 @@ pub order_got : (t : List Entry) (f : End) (m : Message) → IsFrontOf (got_in t
     → InOrder0 t → InOrder0 (t ++ Got f 0 m.0 m.1 ∷ [])
 order_got t f m front h e =
     in_order_same (sent_in t e 0) _ (acked_in t e 0) _ (got_in t (other_end e) 0 ++ cons_option (got_by (other_end e) 0 (Got f 0 m.0 m.1)) []) _
-      (sent_in-more t (Got f 0 m.0 m.1) e 0 ∙ append-nil (sent_in t e 0))
-      (acked_in-more t (Got f 0 m.0 m.1) e 0)
-      (got_in-more t (Got f 0 m.0 m.1) (other_end e) 0)
-      (go (same_end f (other_end e)) refl)
+    (sent_in-more t (Got f 0 m.0 m.1) e 0 ∙ append-nil (sent_in t e 0))
+    (acked_in-more t (Got f 0 m.0 m.1) e 0)
+    (got_in-more t (Got f 0 m.0 m.1) (other_end e) 0)
+    (go (same_end f (other_end e)) refl)
   where
     come : AreInOrder (sent_in t (other_end f) 0) (acked_in t (other_end f) 0) (got_in t f 0 ++ m ∷ [])
     come =
         let was : AreInOrder (sent_in t (other_end f) 0) (acked_in t (other_end f) 0) (got_in t f 0) =
-            let P : End → Type 0 = λ x. AreInOrder (sent_in t (other_end f) 0) (acked_in t (other_end f) 0) (got_in t x 0) in
-            subst P (other_other f) (h (other_end f)) in
+        let P : End → Type 0 = λ x. AreInOrder (sent_in t (other_end f) 0) (acked_in t (other_end f) 0) (got_in t x 0) in
+        subst P (other_other f) (h (other_end f)) in
         record { delivered = front; acknowledged = front_more (good_of (take (acked_in t (other_end f) 0) (sent_in t (other_end f) 0))) (got_in t f 0) (m ∷ []) was.acknowledged; counted = was.counted }
+
     go : (b : Bool) → same_end f (other_end e) ≡ b → AreInOrder (sent_in t e 0) (acked_in t e 0) (got_in t (other_end e) 0 ++ cons_option (if b && eqb 0 0 then Some m else None) [])
     go true is =
         let at_f : f ≡ other_end e = same_end_is f (other_end e) is in
@@ -190,15 +193,17 @@ along_got t f [] front h = h
 along_got t f (m ∷ messages) front h =
     let x = Got f 0 m.0 m.1 in
     let rest : IsFrontOf ((got_in t f 0 ++ m ∷ []) ++ messages) (good_of (sent_in t (other_end f) 0)) =
-        (front.0, ap (λ l. l ++ front.0) (append_assoc (got_in t f 0) (m ∷ []) messages) ∙ front.1) in
+    (front.0, ap (λ l. l ++ front.0) (append_assoc (got_in t f 0) (m ∷ []) messages) ∙ front.1) in
     let got : got_in (t ++ x ∷ []) f 0 ≡ got_in t f 0 ++ m ∷ [] =
-        got_in-more t x f 0 ∙ ap (λ b. got_in t f 0 ++ cons_option (if b && eqb 0 0 then Some m else None) []) (same_end_self f) in
+    got_in-more t x f 0 ∙ ap (λ b. got_in t f 0 ++ cons_option (if b && eqb 0 0 then Some m else None) []) (same_end_self f) in
     let sent : sent_in (t ++ x ∷ []) (other_end f) 0 ≡ sent_in t (other_end f) 0 =
-        sent_in-more t x (other_end f) 0 ∙ append-nil (sent_in t (other_end f) 0) in
+    sent_in-more t x (other_end f) 0 ∙ append-nil (sent_in t (other_end f) 0) in
     let P : List Message → Type 0 = λ l. IsFrontOf (l ++ messages) (good_of (sent_in t (other_end f) 0)) in
-    let Q : List Message → Type 0 = λ l. IsFrontOf (got_in (t ++ x ∷ []) f 0 ++ messages) (good_of l) in
-    (h, along_got (t ++ x ∷ []) f messages (subst Q (sym sent) (subst P (sym got) rest))
-      (order_got t f m (front_of_front (got_in t f 0 ++ m ∷ []) (good_of (sent_in t (other_end f) 0)) messages rest) h))
+    let Q : List Message → Type 0 = λ l. IsFrontOf (got_in (t ++ x ∷ []) f 0 ++ messages) (good_of l) in (
+      h,
+      along_got (t ++ x ∷ []) f messages (subst Q (sym sent) (subst P (sym got) rest))
+          (order_got t f m (front_of_front (got_in t f 0 ++ m ∷ []) (good_of (sent_in t (other_end f) 0)) messages rest) h),
+    )
 
 quiet_puts : (e : End) (wire lpdus : List (List ℕ)) → AllByRecursion IsQuiet (puts e wire lpdus)
 quiet_puts e wire [] = tt

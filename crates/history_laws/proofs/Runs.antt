@@ -64,13 +64,16 @@ session0_sent t e pid message number = (number, session0_puts e (wire_to t (othe
 
 session0_took : (t : List Entry) (e : End) (lpdu : List ℕ) → number_at t e ≡ 0 → AreOfSession0 (took_event t e lpdu)
 session0_took t e lpdu number =
-    let m = taken_lpdu (machine_at t e) lpdu in
-    (tt, all_both (acked_note t e m) (got_notes t e m ++ puts e (wire_to t (other_end e)) (lpdus_of m)) (note (nat_lt (whole_before t e) (whole_after t e lpdu)))
-      (all_both (got_notes t e m) (puts e (wire_to t (other_end e)) (lpdus_of m)) (notes (new_messages t e lpdu)) (session0_puts e (wire_to t (other_end e)) (lpdus_of m))))
+    let m = taken_lpdu (machine_at t e) lpdu in (
+      tt,
+      all_both (acked_note t e m) (got_notes t e m ++ puts e (wire_to t (other_end e)) (lpdus_of m)) (note (nat_lt (whole_before t e) (whole_after t e lpdu)))
+          (all_both (got_notes t e m) (puts e (wire_to t (other_end e)) (lpdus_of m)) (notes (new_messages t e lpdu)) (session0_puts e (wire_to t (other_end e)) (lpdus_of m))),
+    )
   where
     note : (b : Bool) → AreOfSession0 (cond b (Acked e (number_at t e) (whole_after t e lpdu) ∷ []) [])
     note true = (number, tt)
     note false = tt
+
     notes : (ms : List Message) → AreOfSession0 (notes_of e (number_at t e) ms)
     notes [] = tt
     notes (m ∷ ms) = (number, notes ms)
@@ -111,6 +114,7 @@ in_order_of t numbered h =
   where
     empty : AreInOrder [] 0 []
     empty = record { delivered = ([], refl); acknowledged = ([], refl); counted = omega arith }
+
     parts : (e : End) (n : ℕ) → AreInOrder (sent_in t e n) (acked_in t e n) (got_in t (other_end e) n)
     parts e zero = h e
     parts e (suc j) =
@@ -153,7 +157,7 @@ keep_sent laws t e pid message low some h =
     let sound = sound_sent laws t e pid message (low, some) h.sound in
     let along = order_sent_event t e pid message h.order in
     keep_first t event [] along (session0_sent t e pid message ((h.sound e.link).ends e.at_host).number) (sound_complete laws (t ++ event) sound)
-      (keep_none (t ++ event) (record { sound = sound; order = along_end t event along }))
+    (keep_none (t ++ event) (record { sound = sound; order = along_end t event along }))
 
 -- frames are taken, one after another
 keep_took : (laws : Laws) (t : List Entry) (e : End) (lpdus rest : List (List ℕ)) → wire_to t e ≡ lpdus ++ rest → Between t → Keep t (took_events t e lpdus)
@@ -163,7 +167,7 @@ keep_took laws t e (lpdu ∷ lpdus) rest stands h =
     let sound = sound_took laws t e lpdu (lpdus ++ rest) stands h.sound in
     let along = order_took_event laws t e.link e.at_host lpdu (lpdus ++ rest) stands h.sound h.order in
     keep_first t event (took_events (t ++ event) e lpdus) along (session0_took t e lpdu ((h.sound e.link).ends e.at_host).number) (sound_complete laws (t ++ event) sound)
-      (keep_took laws (t ++ event) e lpdus rest (wire-took t e lpdu ∙ ap (λ w. drop 1 w) stands) (record { sound = sound; order = along_end t event along }))
+    (keep_took laws (t ++ event) e lpdus rest (wire-took t e lpdu ∙ ap (λ w. drop 1 w) stands) (record { sound = sound; order = along_end t event along }))
 
 -- ## Lines
 
@@ -174,9 +178,11 @@ keep_line laws header t line valid h = go (refusal t line)
     caused (Send e pid message) valid' = keep_sent laws t e pid message valid'.pipe valid'.some h
     caused (Deliver e None) valid' = keep_took laws t e (wire_to t e) [] (sym (append-nil (wire_to t e))) h
     caused (Deliver e (Some n)) valid' = keep_took laws t e (take n (wire_to t e)) (drop n (wire_to t e)) (sym (take-append-drop n (wire_to t e))) h
+
     decided : Option NoCause → Outcome
     decided (Some cause) = Refused cause
     decided None = Caused (caused_by t line)
+
     go : (o : Option NoCause) → Keep t (events_of (decided o))
     go (Some cause) = keep_none t h
     go None = caused line valid
@@ -198,4 +204,4 @@ keep_steps laws header t (line ∷ lines) (step ∷ steps) valid follows h =
     let P : Outcome → Type 0 = λ o. Keep t (events_of o) in
     let k = subst P (sym follows.1) (keep_line laws header t line valid.0 h) in
     events_both t (events_of step.outcome) (events_in steps) k.each
-      (keep_steps laws header (t ++ entries_of (events_of step.outcome)) lines steps valid.1 follows.2 k.then_)
+    (keep_steps laws header (t ++ entries_of (events_of step.outcome)) lines steps valid.1 follows.2 k.then_)

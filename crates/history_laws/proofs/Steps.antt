@@ -48,8 +48,8 @@ mirrors_becomes l x t t' e near far near_wire far_wire far_wire' lossless near_l
       near_wire = ap (λ w. lpdus_on w) same.2 ∙ near_wire;
       far_wire = put_all_wire now (all_frames x) ∙ (ap (λ w. put_on w (lpdus_of x)) far_wire ∙ sym far_wire');
       lossless = λ none_near none_far.
-        let parts = append_none (losses_to t (other_end e)) (pushed_off (wire_to t (other_end e)) (lpdus_of x)) (sym far_losses ∙ none_far) in
-        put_all_keeps now (all_frames x) (ap (λ w. pushed_off w (lpdus_of x)) far_wire ∙ parts.1) (lossless (sym near_losses ∙ none_near) parts.0);
+          let parts = append_none (losses_to t (other_end e)) (pushed_off (wire_to t (other_end e)) (lpdus_of x)) (sym far_losses ∙ none_far) in
+          put_all_keeps now (all_frames x) (ap (λ w. pushed_off w (lpdus_of x)) far_wire ∙ parts.1) (lossless (sym near_losses ∙ none_near) parts.0);
     }
 
 -- the fragments of a message
@@ -62,14 +62,14 @@ mirrors_sent t e l pid message h =
     let x = put_out l.controller (fragments_put pid message) in
     let is : given (machine_at t e) pid message ≡ x = ap (λ m. given m pid message) (sym h.near) in
     mirrors_becomes l x t (t ++ sent_event t e pid message) e
-      (machine-sent t e pid message ∙ ap all_fetched is)
-      (h.far ∙ sym (machine-sent-elsewhere t e (other_end e) pid message (same_end_other e)))
-      (h.near_wire ∙ sym (wire-sent t e pid message))
-      h.far_wire
-      (wire-sent-back t e pid message ∙ ap (λ m. put_on (wire_to t (other_end e)) (lpdus_of m)) is)
-      h.lossless
-      (losses-sent t e pid message)
-      (losses-sent-back t e pid message ∙ ap (λ m. losses_to t (other_end e) ++ pushed_off (wire_to t (other_end e)) (lpdus_of m)) is)
+    (machine-sent t e pid message ∙ ap all_fetched is)
+    (h.far ∙ sym (machine-sent-elsewhere t e (other_end e) pid message (same_end_other e)))
+    (h.near_wire ∙ sym (wire-sent t e pid message))
+    h.far_wire
+    (wire-sent-back t e pid message ∙ ap (λ m. put_on (wire_to t (other_end e)) (lpdus_of m)) is)
+    h.lossless
+    (losses-sent t e pid message)
+    (losses-sent-back t e pid message ∙ ap (λ m. losses_to t (other_end e) ++ pushed_off (wire_to t (other_end e)) (lpdus_of m)) is)
 
 -- an LPDU that was written for a frame is taken as that frame
 pub taken_lpdu-written : ReadsAgain → (m : EndState) (c : Control) (lpdu : List ℕ) → IsCalmFrame c → lpdu_of c ≡ lpdu → taken_lpdu m lpdu ≡ taken m c
@@ -85,14 +85,14 @@ pub mirrors_took : (t : List Entry) (e : End) (l : Link) (x : Carried) (wire : L
     → Mirrors (becomes (record l { to_controller = wire; ended = ended }) (taken l.controller x.frame)) (t ++ took_event t e lpdu) e
 mirrors_took t e l x wire ended lpdu is stood far far_wire lossless =
     mirrors_becomes (record l { to_controller = wire; ended = ended }) (taken l.controller x.frame) t (t ++ took_event t e lpdu) e
-      (machine-took t e lpdu ∙ ap all_fetched is)
-      (far ∙ sym (machine-took-elsewhere t e (other_end e) lpdu (same_end_other e)))
-      (sym (wire-took t e lpdu ∙ ap (λ w. drop 1 w) stood))
-      far_wire
-      (wire-took-back t e lpdu ∙ ap (λ m. put_on (wire_to t (other_end e)) (lpdus_of m)) is)
-      lossless
-      (losses-took t e lpdu)
-      (losses-took-back t e lpdu ∙ ap (λ m. losses_to t (other_end e) ++ pushed_off (wire_to t (other_end e)) (lpdus_of m)) is)
+    (machine-took t e lpdu ∙ ap all_fetched is)
+    (far ∙ sym (machine-took-elsewhere t e (other_end e) lpdu (same_end_other e)))
+    (sym (wire-took t e lpdu ∙ ap (λ w. drop 1 w) stood))
+    far_wire
+    (wire-took-back t e lpdu ∙ ap (λ m. put_on (wire_to t (other_end e)) (lpdus_of m)) is)
+    lossless
+    (losses-took t e lpdu)
+    (losses-took-back t e lpdu ∙ ap (λ m. losses_to t (other_end e) ++ pushed_off (wire_to t (other_end e)) (lpdus_of m)) is)
 
 -- ## What an end has
 
@@ -123,39 +123,39 @@ sound_end_sent t e pid message sendable order h =
     let same = all_fetched_same m in
     let is = machine-sent t e pid message in
     let sent : sent_in t' e 0 ≡ sent_in t e 0 ++ (pid, message) ∷ [] =
-        sent_in-sent t e e 0 pid message
-        ∙ (ap (λ b. sent_in t e 0 ++ cons_option (if b && eqb (number_at t e) 0 then Some (pid, message) else None) []) (same_end_self e)
-        ∙ ap (λ n. sent_in t e 0 ++ cons_option (if eqb n 0 then Some (pid, message) else None) []) h.number) in
+    sent_in-sent t e e 0 pid message
+    ∙ (ap (λ b. sent_in t e 0 ++ cons_option (if b && eqb (number_at t e) 0 then Some (pid, message) else None) []) (same_end_self e)
+    ∙ ap (λ n. sent_in t e 0 ++ cons_option (if eqb n 0 then Some (pid, message) else None) []) h.number) in
     let within : (machine_at t e).session.acked ≤ length (fragments_of (sent_in t e 0)) =
-        (let P : List Fragment → Type 0 = λ l. (machine_at t e).session.acked ≤ length l in
-        subst P h.out (acked_within (machine_at t e).session (machine_at t (other_end e)).session order)) in
+    (let P : List Fragment → Type 0 = λ l. (machine_at t e).session.acked ≤ length l in
+    subst P h.out (acked_within (machine_at t e).session (machine_at t (other_end e)).session order)) in
     record {
       number = ap (λ s. unwrap_or s 0) (session-sent t e e pid message) ∙ h.number;
       out = ap (λ x. x.session.out) is ∙ (same.out_is ∙ (ap (λ l. l ++ fragments_of_one (pid, message)) h.out ∙ (sym (fragments_of-push (sent_in t e 0) (pid, message)) ∙ ap fragments_of (sym sent))));
       sendable = (let P : List Message → Type 0 = λ l. AreSendable l in subst P (sym sent) (sendable-push (sent_in t e 0) (pid, message) h.sendable sendable));
       got = got_in-sent t e e 0 pid message ∙ (h.got ∙ (ap good_messages_of (sym same.acc_is) ∙ ap messages_got (sym is)));
       acked = acked_in-sent t e e 0 pid message ∙ (h.acked
-        ∙ (sym (whole_among-push (sent_in t e 0) (pid, message) (machine_at t e).session.acked within sendable)
-        ∙ (ap (λ l. whole_among l (machine_at t e).session.acked) (sym sent)
-        ∙ (ap (λ n. whole_among (sent_in t' e 0) n) (sym same.acked_is) ∙ ap (λ x. whole_among (sent_in t' e 0) x.session.acked) (sym is)))));
+          ∙ (sym (whole_among-push (sent_in t e 0) (pid, message) (machine_at t e).session.acked within sendable)
+          ∙ (ap (λ l. whole_among l (machine_at t e).session.acked) (sym sent)
+          ∙ (ap (λ n. whole_among (sent_in t' e 0) n) (sym same.acked_is) ∙ ap (λ x. whole_among (sent_in t' e 0) x.session.acked) (sym is)))));
     }
 
 -- another end than the one that is given a message
 pub sound_end_sent_elsewhere : (t : List Entry) (e x : End) (pid : ℕ) (message : List ℕ) → same_end e x ≡ false → SoundEnd t x → SoundEnd (t ++ sent_event t e pid message) x
 sound_end_sent_elsewhere t e x pid message other h =
     same_sound_end t (t ++ sent_event t e pid message) x
-      (session-sent t e x pid message) (machine-sent-elsewhere t e x pid message other)
-      (sent_in-sent t e x 0 pid message
-        ∙ (ap (λ b. sent_in t x 0 ++ cons_option (if b && eqb (number_at t e) 0 then Some (pid, message) else None) []) other ∙ append-nil (sent_in t x 0)))
-      (got_in-sent t e x 0 pid message) (acked_in-sent t e x 0 pid message) h
+    (session-sent t e x pid message) (machine-sent-elsewhere t e x pid message other)
+    (sent_in-sent t e x 0 pid message
+    ∙ (ap (λ b. sent_in t x 0 ++ cons_option (if b && eqb (number_at t e) 0 then Some (pid, message) else None) []) other ∙ append-nil (sent_in t x 0)))
+    (got_in-sent t e x 0 pid message) (acked_in-sent t e x 0 pid message) h
 
 -- another end than the one that takes a frame
 pub sound_end_took_elsewhere : (t : List Entry) (e x : End) (lpdu : List ℕ) → same_end e x ≡ false → SoundEnd t x → SoundEnd (t ++ took_event t e lpdu) x
 sound_end_took_elsewhere t e x lpdu other h =
     same_sound_end t (t ++ took_event t e lpdu) x
-      (session-took t e x lpdu) (machine-took-elsewhere t e x lpdu other) (sent_in-took t e x 0 lpdu)
-      (got_in-took t e x 0 lpdu false (ap (λ b. b && eqb (number_at t e) 0) other) ∙ append-nil (got_in t x 0))
-      (acked_in-took-elsewhere t e x 0 lpdu other) h
+    (session-took t e x lpdu) (machine-took-elsewhere t e x lpdu other) (sent_in-took t e x 0 lpdu)
+    (got_in-took t e x 0 lpdu false (ap (λ b. b && eqb (number_at t e) 0) other) ∙ append-nil (got_in t x 0))
+    (acked_in-took-elsewhere t e x 0 lpdu other) h
 
 -- what was there and the new ones are all
 pub drop_front : {X : Type 0} (xs ys : List X) → IsFrontOf xs ys → xs ++ drop (length xs) ys ≡ ys
@@ -172,19 +172,19 @@ sound_end_took t e lpdu grow takes h =
     let is = machine-took t e lpdu in
     let sent = sent_in-took t e e 0 lpdu in
     let whole_was : acked_in t e 0 ≡ whole_before t e =
-        h.acked ∙ ap (λ n. whole_among (sent_in t e n) (machine_at t e).session.acked) (sym h.number) in
+    h.acked ∙ ap (λ n. whole_among (sent_in t e n) (machine_at t e).session.acked) (sym h.number) in
     let grows : whole_before t e ≤ whole_after t e lpdu =
-        whole_among-grows (sent_in t e (number_at t e)) (machine_at t e).session.acked m.session.acked takes.grows in
+    whole_among-grows (sent_in t e (number_at t e)) (machine_at t e).session.acked m.session.acked takes.grows in
     record {
       number = ap (λ s. unwrap_or s 0) (session-took t e e lpdu) ∙ h.number;
       out = ap (λ x. x.session.out) is ∙ (same.out_is ∙ (takes.out_is ∙ (h.out ∙ ap fragments_of (sym sent))));
       sendable = (let P : List Message → Type 0 = λ l. AreSendable l in subst P (sym sent) h.sendable);
       got = got_in-took t e e 0 lpdu true (ap (λ b. b && eqb (number_at t e) 0) (same_end_self e) ∙ ap (λ n. eqb n 0) h.number)
-        ∙ (ap (λ l. l ++ new_messages t e lpdu) h.got
-        ∙ (drop_front (messages_got (machine_at t e)) (messages_got m) (grow (machine_at t e).session.acc m.session.acc takes.accepts)
-        ∙ (ap good_messages_of (sym same.acc_is) ∙ ap messages_got (sym is))));
+          ∙ (ap (λ l. l ++ new_messages t e lpdu) h.got
+          ∙ (drop_front (messages_got (machine_at t e)) (messages_got m) (grow (machine_at t e).session.acc m.session.acc takes.accepts)
+          ∙ (ap good_messages_of (sym same.acc_is) ∙ ap messages_got (sym is))));
       acked = acked_in-took-here t e lpdu h.number whole_was grows
-        ∙ (ap (λ n. whole_among (sent_in t e n) m.session.acked) h.number
-        ∙ (ap (λ l. whole_among l m.session.acked) (sym sent)
-        ∙ (ap (λ n. whole_among (sent_in t' e 0) n) (sym same.acked_is) ∙ ap (λ x. whole_among (sent_in t' e 0) x.session.acked) (sym is))));
+          ∙ (ap (λ n. whole_among (sent_in t e n) m.session.acked) h.number
+          ∙ (ap (λ l. whole_among l m.session.acked) (sym sent)
+          ∙ (ap (λ n. whole_among (sent_in t' e 0) n) (sym same.acked_is) ∙ ap (λ x. whole_among (sent_in t' e 0) x.session.acked) (sym is))));
     }

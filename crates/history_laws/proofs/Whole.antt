@@ -28,6 +28,7 @@ fragments_fit m = parts_fit m.0 (packet_count (length m.1)) m.1
     one : (pipe n : ℕ) (left : List ℕ) → All IsInfo (bytes_of (packet (Rattle.std.specs.Prelude.nat_eq n 0) pipe (take 28 left)) ∷ [])
     one pipe n left zero d within = (omega arith, omega (arith, length-take 28 left))
     one pipe n left (suc k) d within = absurd (omega arith)
+
     parts_fit : (pipe n : ℕ) (left : List ℕ) → All IsInfo (map bytes_of (parts_of pipe n left))
     parts_fit pipe zero left = λ k d within. absurd (omega arith)
     parts_fit pipe (suc n) left = All-append IsInfo (bytes_of (packet (Rattle.std.specs.Prelude.nat_eq n 0) pipe (take 28 left)) ∷ []) (map bytes_of (parts_of pipe n (drop 28 left))) (one pipe n left) (parts_fit pipe n (drop 28 left))
@@ -80,7 +81,7 @@ whole_fit (m ∷ sent) places = go (nat_le (packet_count (length m.1)) places) (
     go true fits rest =
         let later = take (whole_among sent (places - packet_count (length m.1))) sent in
         let one : length (fragments_of_one m ++ fragments_of later) ≤ places =
-            omega (arith, length-append (fragments_of_one m) (fragments_of later), length-fragments m, fits refl, rest) in
+        omega (arith, length-append (fragments_of_one m) (fragments_of later), length-fragments m, fits refl, rest) in
         let P : ℕ → Type 0 = λ n. length (fragments_of (take n (m ∷ sent))) ≤ places in
         let e : suc (whole_among sent (places - packet_count (length m.1))) ≡ 1 + whole_among sent (places - packet_count (length m.1)) = omega arith in
         subst P e one
@@ -93,13 +94,14 @@ whole_among-push [] m places few sendable = go (nat_le (packet_count (length m.1
   where
     some : 0 < packet_count (length m.1)
     some = let n : 0 < length m.1 = sendable.1 in omega arith
+
     go : (b : Bool) → (b ≡ true → packet_count (length m.1) ≤ places) → cond b (1 + 0) 0 ≡ 0
     go true fits = absurd (omega (arith, fits refl, some, few))
     go false fits = refl
 whole_among-push (x ∷ sent) m places few sendable =
     let n = packet_count (length x.1) in
     let within : places - n ≤ length (fragments_of sent) =
-        omega (arith, length-append (fragments_of_one x) (fragments_of sent), length-fragments x, few) in
+    omega (arith, length-append (fragments_of_one x) (fragments_of sent), length-fragments x, few) in
     ap (λ k. cond (nat_le n places) (1 + k) 0) (whole_among-push sent m (places - n) within sendable)
 
 -- among all their fragments all messages are whole
@@ -109,7 +111,7 @@ whole_among-all (m ∷ sent) =
     let n = packet_count (length m.1) in
     let all = length (fragments_of (m ∷ sent)) in
     let sum : all ≡ n + length (fragments_of sent) =
-        length-append (fragments_of_one m) (fragments_of sent) ∙ ap (λ k. k + length (fragments_of sent)) (length-fragments m) in
+    length-append (fragments_of_one m) (fragments_of sent) ∙ ap (λ k. k + length (fragments_of sent)) (length-fragments m) in
     let rest : all - n ≡ length (fragments_of sent) = omega arith in
     let fits : nat_le n all ≡ true = grind (arith, common_steps) in
     ap (λ b. cond b (1 + whole_among sent (all - n)) 0) fits
