@@ -5,8 +5,8 @@ use Rattle.std.proofs.lemmas.List.{append-nil}
 use Rattle.trace_model.specs.declared.entry.Entry.{Entry}
 use Rattle.trace_model.specs.declared.line.Header.{Header}
 use Rattle.trace_model.specs.declared.line.Line.{Line}
-use Rattle.history.specs.Histories.{Event, Outcome, Step, History, events_of, entries_of, all_events, all_entries}
-use Rattle.history.specs.Follows.{outcome_of, opening_of, StepsFollow, Follows, opened, with_step}
+use Rattle.history.specs.Histories.{Event, Step, History, events_of, entries_of, all_entries}
+use Rattle.history.specs.Follows.{outcome_of, StepsFollow, Follows, opened, with_step}
 
 -- the events of steps
 abbrev events_in : List Step → List Event

@@ -1,5 +1,5 @@
 -- What each line of a schedule causes, and when a history follows a schedule.
-use Rattle.std.specs.Prelude.{◌≡◌, ℕ, zero, suc, ◌+◌, ◌-◌, ◌<◌, ◌==◌, nat_lt, Bool, true, false, if◌then◌else◌, List, [], ◌∷◌, ◌++◌, length, take, drop, map, Option, Some, None, unwrap_or}
+use Rattle.std.specs.Prelude.{◌≡◌, ℕ, nat_lt, Bool, true, false, if◌then◌else◌, List, [], ◌∷◌, ◌++◌, length, take, drop, map, Option, Some, None, unwrap_or}
 use Rattle.std.specs.List.{fold, flat_map}
 use Rattle.trace_model.specs.declared.entry.Entry.{Entry}
 use Rattle.trace_model.specs.declared.entry.Entry.TheVariants.{Up, Sent, Got, Acked, Emit, Took, Lost}
@@ -13,7 +13,7 @@ use Rattle.trace_model.specs.declared.line.Line.TheVariants.{Send, Deliver}
 use Rattle.trace_model.specs.Ends.{other_end}
 use Rattle.shdlc_core.specs.Machine.{EndState, all_fetched}
 use Rattle.history.specs.Histories.{Event, Outcome, Step, History, Refused, Caused, events_of, entries_of, all_entries}
-use Rattle.history.specs.Filters.{same_end, sent_in, acked_in, wire_to, session_of, blocks_of, spare_in}
+use Rattle.history.specs.Filters.{same_end, sent_in, wire_to, session_of, blocks_of, spare_in}
 use Rattle.history.specs.LinkMachine.{bare_end, given, taken_lpdu, lpdus_of, whole_among, messages_got}
 
 -- ## The machine of an end, read off a history

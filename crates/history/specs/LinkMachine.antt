@@ -1,11 +1,11 @@
 -- The machine of one end of a link over whole messages: the SHDLC machine, whose fragments are the packets of the messages
 -- that the end sends, one message after another, and whose frames go as LPDUs.
-use Rattle.std.specs.Prelude.{ℕ, ◌+◌, ◌-◌, nat_le, if◌then◌else◌, List, [], ◌∷◌, ◌++◌, length, map, Result, Ok, Err}
+use Rattle.std.specs.Prelude.{ℕ, ◌+◌, ◌-◌, nat_le, if◌then◌else◌, List, [], ◌∷◌, length, map, Result, Ok, Err}
 use Rattle.swp_base.specs.declared.control_frames.Control.{Control}
 use Rattle.swp_lpdu.specs.Controls.{control_of, bytes_of as lpdu_of}
 use Rattle.swp_lpdu.specs.declared.LpduFault.{LpduFault}
 use Rattle.hcp_packet.specs.Packets.{packets_of, packet_count, bytes_of, good_messages_of}
-use Rattle.shdlc_core.specs.Machine.{EndState, new_end, begun, put_out, taken, all_frames, all_fetched}
+use Rattle.shdlc_core.specs.Machine.{EndState, new_end, begun, put_out, taken, all_frames}
 
 -- a message with its pipe
 abbrev pub Message : Type 0

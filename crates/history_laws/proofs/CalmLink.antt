@@ -1,16 +1,15 @@
 -- A link on which fragments are given and frames are taken, and nothing else happens, stays calm.
-use Rattle.std.proofs.Common.{◌≡◌, ℕ, Bool, true, false, cond, List, [], ◌∷◌, ◌++◌, length, drop, refl, sym, ap, ◌∙◌, arith, subst, ◌≤◌}
-use Rattle.std.specs.Prelude.{Option, Some, None, ◌||◌, is_some}
+use Rattle.std.proofs.Common.{◌≡◌, ℕ, Bool, true, false, cond, List, [], ◌∷◌, drop, refl, sym, ap, ◌∙◌, arith, subst}
+use Rattle.std.specs.Prelude.{◌||◌, is_some}
 use Rattle.std.specs.List.{All, AllByRecursion}
 use Rattle.swp_base.specs.DataUnits.{IsInfo}
 use Rattle.swp_base.specs.declared.control_frames.Control.{Control}
 use Rattle.swp_base.specs.declared.control_frames.Control.TheVariants.{I, S, Rset, Ua, Act, Clt}
 use Rattle.swp_base.specs.declared.control_frames.Kind.TheVariants.{Rr, Rej, Rnr, Srej}
-use Rattle.shdlc_core.specs.declared.answers.LinkState.{LinkState}
-use Rattle.shdlc_core.specs.declared.answers.LinkState.TheVariants.{Down, Waiting, Up}
+use Rattle.shdlc_core.specs.declared.answers.LinkState.TheVariants.{Up}
 use Rattle.shdlc_core.specs.Machine.{EndState, Fragment, put_out, taken, take_answer, all_frames, all_fetched}
-use Rattle.link_laws.specs.Link.{Link, Carried, LinkEvent, AtController, AtHost, Offer, Deliver, EndEvent, start, exchanged, is_full, is_rnr, with_frame, put, put_all, becomes, happens_here, happens, after}
-use Rattle.history_laws.proofs.Calm.{IsCalm, IsCalmFrame, TakesOn, SentFrom, taken_calm, taken_ends_nothing, put_out_calm, all_frames_calm, all_fetched_calm, all_fetched_same}
+use Rattle.link_laws.specs.Link.{Link, Carried, Offer, Deliver, is_full, is_rnr, with_frame, put, put_all, becomes, happens_here}
+use Rattle.history_laws.proofs.Calm.{IsCalm, IsCalmFrame, taken_calm, taken_ends_nothing, put_out_calm, all_frames_calm, all_fetched_calm}
 
 abbrev pub AreCalm : List Carried → Type 0
 AreCalm wire = AllByRecursion (λ x. IsCalmFrame x.frame) wire

@@ -1,12 +1,12 @@
 -- What an event does to what is read off a history.
-use Rattle.std.proofs.Common.{◌≡◌, ℕ, ◌+◌, Bool, true, false, cond, eqb, ltb, List, [], ◌∷◌, ◌++◌, length, take, drop, map, refl, sym, ap, ◌∙◌, append_assoc, arith, subst, ◌≤◌}
+use Rattle.std.proofs.Common.{◌≡◌, ℕ, Bool, true, false, cond, eqb, List, [], ◌∷◌, ◌++◌, length, drop, map, refl, ap, ◌∙◌, arith, ◌≤◌}
 use Rattle.std.proofs.lemmas.Grind.{common_steps}
 use Rattle.std.specs.Prelude.{Option, Some, None, not, ◌&&◌, max, nat_lt, if◌then◌else◌}
 use Rattle.std.specs.List.{cons_option, filter_map, fold}
 use Rattle.std.proofs.lemmas.List.{append-nil}
 use Rattle.std.proofs.lemmas.List.Elements.{filter_map-append}
 use Rattle.trace_model.specs.declared.entry.Entry.{Entry}
-use Rattle.trace_model.specs.declared.entry.Entry.TheVariants.{Up, Sent, Got, Acked, Emit, Took, Lost}
+use Rattle.trace_model.specs.declared.entry.Entry.TheVariants.{Sent, Got, Acked, Took}
 use Rattle.trace_model.specs.declared.line.End.{End}
 use Rattle.trace_model.specs.Ends.{other_end}
 use Rattle.shdlc_core.specs.Machine.{EndState, all_fetched}
@@ -14,7 +14,7 @@ use Rattle.history.specs.Histories.{Event}
 use Rattle.history.specs.Filters.{same_end, Message, sent_by, sent_in, got_by, got_in, acked_after, acked_in, wire_after, wire_to, session_after, session_of, losses_after, losses_to}
 use Rattle.history.specs.LinkMachine.{given, taken_lpdu, lpdus_of, whole_among, messages_got}
 use Rattle.history.specs.Follows.{machine_after, machine_at, number_at, emits, acked_note, got_notes, sent_event, took_event}
-use Rattle.history_laws.proofs.Ends.{same_end_self, same_end_other, same_end_other_left, other_other}
+use Rattle.history_laws.proofs.Ends.{same_end_self, same_end_other, same_end_other_left}
 use Rattle.history_laws.proofs.Filtering.{fold_both, fold-puts, filter_map-puts, put_on, pushed_off, wire-puts, losses-puts, wire-puts-elsewhere, losses-puts-elsewhere}
 
 -- ## Notes

@@ -1,19 +1,18 @@
 -- What the entries of an event do to what is read off a history.
-use Rattle.std.proofs.Common.{◌≡◌, ℕ, ◌+◌, Bool, true, false, cond, eqb, ltb, List, [], ◌∷◌, ◌++◌, length, take, drop, map, refl, sym, ap, ◌∙◌, append_assoc, arith}
-use Rattle.std.specs.Prelude.{Option, Some, None, not, ◌&&◌, max, nat_lt}
-use Rattle.std.specs.List.{cons_option, filter_map, fold, flat_map}
+use Rattle.std.proofs.Common.{◌≡◌, ℕ, Bool, true, false, cond, List, [], ◌∷◌, ◌++◌, length, take, drop, map, refl, sym, ap, ◌∙◌, append_assoc}
+use Rattle.std.specs.Prelude.{Option, None, nat_lt}
+use Rattle.std.specs.List.{cons_option, filter_map, fold}
 use Rattle.std.proofs.lemmas.List.{append-nil}
 use Rattle.std.proofs.lemmas.List.Elements.{filter_map-append}
-use Rattle.std.proofs.lemmas.Grind.{common_steps, fold-append}
+use Rattle.std.proofs.lemmas.Grind.{fold-append}
 use Rattle.trace_model.specs.declared.entry.Entry.{Entry}
-use Rattle.trace_model.specs.declared.entry.Entry.TheVariants.{Up, Sent, Got, Acked, Emit, Took, Lost}
-use Rattle.trace_model.specs.declared.entry.LostCause.{LostCause}
+use Rattle.trace_model.specs.declared.entry.Entry.TheVariants.{Emit, Lost}
 use Rattle.trace_model.specs.declared.entry.LostCause.TheVariants.{Full as Pushed_out}
 use Rattle.trace_model.specs.declared.line.End.{End}
 use Rattle.trace_model.specs.Ends.{other_end}
-use Rattle.history.specs.Filters.{same_end, Message, wire_after, losses_after}
+use Rattle.history.specs.Filters.{same_end, wire_after, losses_after}
 use Rattle.history.specs.Follows.{puts, pushed_out, kept_on, wire_limit}
-use Rattle.history_laws.proofs.Ends.{same_end_self, same_end_other, same_end_other_left, other_other}
+use Rattle.history_laws.proofs.Ends.{same_end_self, other_other}
 
 -- ## Entries that a filter or a fold passes over
 

@@ -1,31 +1,27 @@
 -- A sound history stays sound with each event, and deliveries stay in order at each of its entries.
-use Rattle.std.proofs.Common.{◌≡◌, ℕ, ◌+◌, ◌<◌, ◌≤◌, Bool, true, false, cond, eqb, ltb, List, [], ◌∷◌, ◌++◌, length, take, drop, map, max, refl, sym, ap, ◌∙◌, append_assoc, arith, subst, length-append}
-use Rattle.std.specs.Prelude.{Option, Some, None, Result, Ok, Err, not, ◌&&◌, ◌||◌, unwrap_or, if◌then◌else◌, nat_lt, is_some}
-use Rattle.std.specs.List.{cons_option, fold, All, AllByRecursion}
-use Rattle.std.proofs.lemmas.List.{append-nil}
+use Rattle.std.proofs.Common.{◌≡◌, ℕ, Bool, true, false, eqb, List, [], ◌∷◌, ◌++◌, refl, sym, ap, ◌∙◌, arith, subst}
+use Rattle.std.specs.Prelude.{◌||◌, is_some}
 use Rattle.std.proofs.lemmas.Grind.{common_steps}
-use Rattle.swp_lpdu.specs.Controls.{control_of, bytes_of as lpdu_of}
+use Rattle.swp_lpdu.specs.Controls.{bytes_of as lpdu_of}
 use Rattle.trace_model.specs.declared.entry.Entry.{Entry}
-use Rattle.trace_model.specs.declared.entry.Entry.TheVariants.{Up, Sent, Got, Acked, Emit, Took, Lost}
+use Rattle.trace_model.specs.declared.entry.Entry.TheVariants.{Sent}
 use Rattle.trace_model.specs.declared.line.End.{End}
 use Rattle.trace_model.specs.Ends.{other_end}
-use Rattle.hcp_packet.specs.Packets.{good_of, good_messages_of, fragments_of, AreSendable, IsSendable, IsFrontOf}
-use Rattle.shdlc_core.specs.Machine.{EndState, Session, Fragment, put_out, taken, take_answer, all_frames, all_fetched}
-use Rattle.link_laws.specs.Link.{Link, Carried, LinkEvent, EndEvent, Offer, Deliver, start, exchanged, becomes, happens_here, happens, after}
-use Rattle.link_laws.specs.Order.{InOrder, AllDelivered}
-use Rattle.history.specs.Filters.{same_end, Message, sent_in, got_in, acked_in, wire_to, session_of, losses_to}
-use Rattle.history.specs.LinkMachine.{given, taken_lpdu, lpdus_of, whole_among, messages_got}
-use Rattle.history.specs.Follows.{machine_at, number_at, emits, acked_note, got_notes, sent_event, took_event}
-use Rattle.history.specs.Legal.{IsComplete}
-use Rattle.history_laws.proofs.Ends.{end_at, same_end_self, same_end_other, same_end_other_left, other_other}
-use Rattle.history_laws.proofs.Calm.{IsCalm, IsCalmFrame, TakesOn, SentFrom, taken_calm, all_fetched_same}
+use Rattle.hcp_packet.specs.Packets.{IsSendable}
+use Rattle.shdlc_core.specs.Machine.{EndState, taken, take_answer}
+use Rattle.link_laws.specs.Link.{Link, Carried, Offer, Deliver, start, happens_here, after}
+use Rattle.history.specs.Filters.{wire_to}
+use Rattle.history.specs.LinkMachine.{given, taken_lpdu, lpdus_of}
+use Rattle.history.specs.Follows.{machine_at, number_at, sent_event, took_event}
+use Rattle.history_laws.proofs.Ends.{end_at, same_end_other}
+use Rattle.history_laws.proofs.Calm.{TakesOn, taken_calm}
 use Rattle.history_laws.proofs.CalmLink.{IsCalmLink, AreCalm, offer_is, calm_offer, calm_deliver}
 use Rattle.history_laws.proofs.Mirror.{ReadsAgain, lpdus_on, Mirrors, seen_from, event_at, seen_event, after-more}
-use Rattle.history_laws.proofs.Whole.{fragments_of_one, fragments_fit, sendable-take, whole_among-le, whole_fit, whole_among-all, fragments_of-take, front_of_longer}
-use Rattle.history_laws.proofs.Events.{machine-took, machine-took-elsewhere, machine-sent, machine-sent-elsewhere, session-took, session-sent, sent_in-sent, got_in-sent, acked_in-sent, new_messages, sent_in-took, got_in-took, acked_in-took-elsewhere, whole_before, whole_after, notes_of, IsElsewhere, elsewhere, wire-took-elsewhere, losses-took-elsewhere, wire-sent-elsewhere, losses-sent-elsewhere}
-use Rattle.history_laws.proofs.Orders.{InOrder0, InOrderAlong, order_quiet, order_sent, order_acked, along_both, along_got, along_puts, along_start, along_end, sent_in-more, got_in-more}
-use Rattle.history_laws.proofs.Sound.{Laws, SoundEnd, Sound, mirrors_seen, mirrors_unseen, calm_seen, calm_unseen, order_at, quiet_seen}
-use Rattle.history_laws.proofs.Steps.{mirrors_sent, mirrors_took, taken_lpdu-written, sound_end_sent, sound_end_sent_elsewhere, sound_end_took, sound_end_took_elsewhere, drop_front}
+use Rattle.history_laws.proofs.Whole.{fragments_of_one, fragments_fit}
+use Rattle.history_laws.proofs.Events.{machine-took-elsewhere, machine-sent-elsewhere, elsewhere, wire-took-elsewhere, losses-took-elsewhere, wire-sent-elsewhere, losses-sent-elsewhere}
+use Rattle.history_laws.proofs.Orders.{InOrder0, InOrderAlong, order_sent, along_puts}
+use Rattle.history_laws.proofs.Sound.{Laws, SoundEnd, Sound, mirrors_seen, mirrors_unseen, calm_seen, calm_unseen, order_at}
+use Rattle.history_laws.proofs.Steps.{mirrors_sent, mirrors_took, taken_lpdu-written, sound_end_sent, sound_end_sent_elsewhere, sound_end_took, sound_end_took_elsewhere}
 
 -- what holds of an end and of its other end holds of both ends of the link
 two_ends : (P : End → Type 0) (link : ℕ) (s : Bool) → P (end_at link s) → P (other_end (end_at link s)) → (s' : Bool) → P (end_at link s')

@@ -1,29 +1,28 @@
 -- A sound history is in order at each entry of its next event, and complete.
-use Rattle.std.proofs.Common.{◌≡◌, ℕ, ◌+◌, ◌<◌, ◌≤◌, Bool, true, false, cond, eqb, ltb, List, [], ◌∷◌, ◌++◌, length, take, drop, map, max, refl, sym, ap, ◌∙◌, append_assoc, arith, subst, length-append}
-use Rattle.std.specs.Prelude.{Option, Some, None, not, ◌&&◌, unwrap_or, if◌then◌else◌, nat_lt}
-use Rattle.std.specs.List.{cons_option}
+use Rattle.std.proofs.Common.{◌≡◌, ℕ, ◌≤◌, Bool, true, false, cond, List, [], ◌∷◌, ◌++◌, length, take, refl, sym, ap, ◌∙◌, arith, subst}
+use Rattle.std.specs.Prelude.{unwrap_or, nat_lt}
 use Rattle.std.proofs.lemmas.List.{append-nil}
 use Rattle.trace_model.specs.declared.entry.Entry.{Entry}
-use Rattle.trace_model.specs.declared.entry.Entry.TheVariants.{Up, Sent, Got, Acked, Emit, Took, Lost}
+use Rattle.trace_model.specs.declared.entry.Entry.TheVariants.{Acked, Took}
 use Rattle.trace_model.specs.declared.line.End.{End}
 use Rattle.trace_model.specs.Ends.{other_end}
 use Rattle.hcp_packet.specs.Packets.{good_of, good_messages_of, fragments_of, IsFrontOf}
-use Rattle.shdlc_core.specs.Machine.{EndState, Session, Fragment, all_fetched}
-use Rattle.link_laws.specs.Link.{Link, Carried, start, after}
-use Rattle.link_laws.specs.Order.{InOrder, AllDelivered}
+use Rattle.shdlc_core.specs.Machine.{EndState, Fragment, all_fetched}
+use Rattle.link_laws.specs.Link.{Carried, start, after}
+use Rattle.link_laws.specs.Order.{InOrder}
 use Rattle.history.specs.Filters.{same_end, Message, sent_in, got_in, acked_in, wire_to, session_of, losses_to}
 use Rattle.history.specs.LinkMachine.{taken_lpdu, lpdus_of, whole_among, messages_got}
 use Rattle.history.specs.Follows.{machine_at, number_at, emits, acked_note, got_notes, took_event}
 use Rattle.history.specs.Legal.{IsComplete}
-use Rattle.history_laws.proofs.Ends.{end_at, same_end_other, other_other}
+use Rattle.history_laws.proofs.Ends.{end_at, same_end_other}
 use Rattle.history_laws.proofs.Calm.{TakesOn, all_fetched_same}
 use Rattle.history_laws.proofs.Mirror.{lpdus_on, Mirrors, seen_from}
 use Rattle.history_laws.proofs.Whole.{sendable-take, whole_among-le, whole_fit, whole_among-all, fragments_of-take, front_of_longer}
-use Rattle.history_laws.proofs.Events.{machine-took, machine-took-elsewhere, new_messages, whole_before, whole_after, notes_of, fold-acked, filter_map-acked}
+use Rattle.history_laws.proofs.Events.{machine-took, machine-took-elsewhere, new_messages, whole_before, whole_after, notes_of, filter_map-acked}
 use Rattle.history_laws.proofs.Orders.{InOrder0, InOrderAlong, order_quiet, order_acked, along_both, along_got, along_puts, along_end, sent_in-more, got_in-more}
 use Rattle.history_laws.proofs.Sound.{Laws, SoundEnd, Sound, mirrors_seen, order_at, quiet_seen}
 use Rattle.history_laws.proofs.Steps.{drop_front}
-use Rattle.history_laws.proofs.Keeps.{other_sound, link_takes, Takes, sound_took}
+use Rattle.history_laws.proofs.Keeps.{other_sound, link_takes, sound_took}
 
 -- What an event that takes a frame has to do with the ends before it: by the law after it.
 record TookFacts (t : List Entry) (e : End) (lpdu : List ℕ) : Type 0 where

@@ -1,16 +1,13 @@
 -- A link of the law and what is read off a history: the same ends and the same wires.
-use Rattle.std.proofs.Common.{◌≡◌, ℕ, ◌+◌, Bool, true, false, cond, ltb, List, [], ◌∷◌, ◌++◌, length, drop, take, map, refl, sym, ap, ◌∙◌, arith, subst, length-append, append_assoc}
-use Rattle.std.specs.Prelude.{Result, Ok, Err, ◌||◌, not, nat_lt}
+use Rattle.std.proofs.Common.{◌≡◌, ℕ, Bool, true, false, cond, List, [], ◌∷◌, ◌++◌, length, drop, take, map, refl, sym, ap, ◌∙◌, arith}
+use Rattle.std.specs.Prelude.{Ok, ◌||◌, nat_lt}
 use Rattle.swp_base.specs.declared.control_frames.Control.{Control}
-use Rattle.swp_lpdu.specs.declared.LpduFault.{LpduFault}
 use Rattle.swp_lpdu.specs.Controls.{control_of, bytes_of as lpdu_of}
 use Rattle.trace_model.specs.declared.entry.Entry.{Entry}
 use Rattle.trace_model.specs.declared.line.End.{End}
 use Rattle.trace_model.specs.Ends.{other_end}
-use Rattle.shdlc_core.specs.Machine.{EndState, Fragment, put_out, taken, all_frames, all_fetched}
-use Rattle.link_laws.specs.Link.{Link, Carried, LinkEvent, AtController, AtHost, Offer, Deliver, EndEvent, start, exchanged, is_full, with_frame, put, put_all, becomes, happens_here, happens, after}
+use Rattle.link_laws.specs.Link.{Link, Carried, LinkEvent, AtController, AtHost, EndEvent, exchanged, is_full, with_frame, put, put_all, happens_here, happens, after}
 use Rattle.history.specs.Filters.{wire_to, losses_to}
-use Rattle.history.specs.LinkMachine.{taken_lpdu, lpdus_of}
 use Rattle.history.specs.Follows.{machine_at, pushed_out, kept_on, wire_limit}
 use Rattle.history_laws.proofs.Ends.{other_other}
 use Rattle.history_laws.proofs.Filtering.{put_on, pushed_off}

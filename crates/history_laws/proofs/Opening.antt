@@ -1,7 +1,7 @@
 -- A history at its opening, and the law of histories.
-use Rattle.std.proofs.Common.{◌≡◌, ℕ, zero, suc, ◌+◌, ◌<◌, ◌≤◌, Bool, true, false, cond, eqb, List, [], ◌∷◌, ◌++◌, length, refl, sym, ap, ◌∙◌, append_assoc, arith, subst}
+use Rattle.std.proofs.Common.{◌≡◌, ℕ, Bool, true, false, List, [], ◌∷◌, ◌++◌, refl, sym, ap, ◌∙◌, append_assoc, arith, subst}
 use Rattle.std.specs.Prelude.{Option, Some, None, unwrap_or, if◌then◌else◌}
-use Rattle.std.specs.List.{filter_map, fold, flat_map, AllByRecursion}
+use Rattle.std.specs.List.{fold, flat_map, AllByRecursion}
 use Rattle.std.proofs.lemmas.List.{append-nil}
 use Rattle.trace_model.specs.declared.entry.Entry.{Entry}
 use Rattle.trace_model.specs.declared.entry.Entry.TheVariants.{Up}
@@ -10,17 +10,17 @@ use Rattle.trace_model.specs.declared.line.Header.{Header}
 use Rattle.trace_model.specs.declared.line.Line.{Line}
 use Rattle.trace_model.specs.Lines.{IsLineOf}
 use Rattle.hcp_packet.specs.Packets.{IsFrontOf}
-use Rattle.history.specs.Histories.{Event, Step, History, events_of, entries_of, all_events, all_entries}
+use Rattle.history.specs.Histories.{Event, History, entries_of, all_events}
 use Rattle.history.specs.Filters.{same_end, sent_by, got_by, acked_after, wire_after, session_after, losses_after, sent_in, got_in, acked_in, wire_to, session_of, losses_to}
 use Rattle.history.specs.LinkMachine.{bare_end}
-use Rattle.history.specs.Follows.{machine_after, machine_at, number_at, opening_of, StepsFollow, Follows}
-use Rattle.history.specs.Legal.{IsInOrder, Prefix, IsComplete, Complete, Legal}
+use Rattle.history.specs.Follows.{machine_after, machine_at, StepsFollow, Follows}
+use Rattle.history.specs.Legal.{IsComplete, Legal}
 use Rattle.history_laws.proofs.Ends.{end_at}
 use Rattle.history_laws.proofs.Calm.{IsCalm}
-use Rattle.history_laws.proofs.Orders.{AreInOrder, InOrder0, InOrderAlong, IsQuiet, along_both, along_quiet, along_front, along_end}
+use Rattle.history_laws.proofs.Orders.{InOrder0, InOrderAlong, IsQuiet, along_both, along_quiet, along_front, along_end}
 use Rattle.history_laws.proofs.Sound.{Laws, SoundEnd, Sound}
 use Rattle.history_laws.proofs.Legal.{sound_complete}
-use Rattle.history_laws.proofs.Runs.{AreOfSession0, in_order_of, EventsKeep, Between, events_in, keep_steps, events_both, all_front, all_both}
+use Rattle.history_laws.proofs.Runs.{AreOfSession0, in_order_of, EventsKeep, Between, events_in, keep_steps, all_front, all_both}
 
 -- the ends of links that are up in session 0
 abbrev ups : List ℕ → List Entry

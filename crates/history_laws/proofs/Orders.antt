@@ -1,20 +1,19 @@
 -- Deliveries in order at each prefix of a history, entry by entry.
-use Rattle.std.proofs.Common.{◌≡◌, ℕ, ◌+◌, ◌≤◌, Bool, true, false, cond, eqb, ltb, List, [], ◌∷◌, ◌++◌, length, take, drop, map, max, refl, sym, ap, ◌∙◌, append_assoc, arith, subst, length-append, ◌⊎◌, ⊎_elim}
-use Rattle.std.specs.Prelude.{Option, Some, None, not, ◌&&◌, if◌then◌else◌}
+use Rattle.std.proofs.Common.{◌≡◌, ℕ, ◌≤◌, Bool, true, false, cond, eqb, List, [], ◌∷◌, ◌++◌, length, take, map, max, refl, sym, ap, ◌∙◌, append_assoc, arith, subst, length-append, ◌⊎◌, ⊎_elim}
+use Rattle.std.specs.Prelude.{Option, Some, None, ◌&&◌, if◌then◌else◌}
 use Rattle.trace_model.specs.declared.entry.LostCause.TheVariants.{Full as Pushed_out}
-use Rattle.std.specs.List.{cons_option, filter, filter_map, fold, AllByRecursion}
+use Rattle.std.specs.List.{cons_option, AllByRecursion}
 use Rattle.std.proofs.lemmas.List.{append-nil, take-append-le}
 use Rattle.std.proofs.lemmas.List.Elements.{filter_map-append, filter-append}
 use Rattle.std.proofs.lemmas.Grind.{fold-append}
 use Rattle.trace_model.specs.declared.entry.Entry.{Entry}
-use Rattle.trace_model.specs.declared.entry.Entry.TheVariants.{Head, Echo, Up, Sent, Got, Acked, Emit, Took, Lost, No}
+use Rattle.trace_model.specs.declared.entry.Entry.TheVariants.{Sent, Got, Acked, Lost}
 use Rattle.trace_model.specs.declared.line.End.{End}
 use Rattle.trace_model.specs.Ends.{other_end}
 use Rattle.hcp_packet.specs.Packets.{is_good, good_of, IsFrontOf}
 use Rattle.history.specs.Filters.{same_end, Message, sent_by, sent_in, got_by, got_in, acked_after, acked_in}
 use Rattle.history.specs.Follows.{puts, pushed_out, kept_on}
-use Rattle.history.specs.Legal.{IsInOrder}
-use Rattle.history_laws.proofs.Ends.{same_end_self, same_end_other, same_end_other_left, same_end_is, other_other}
+use Rattle.history_laws.proofs.Ends.{same_end_self, same_end_is, other_other}
 use Rattle.history_laws.proofs.Events.{notes_of}
 
 -- ## Fronts of lists

@@ -1,11 +1,11 @@
 -- Whatever follows a schedule is legal.
-use Rattle.std.proofs.Common.{◌≡◌, ℕ, zero, suc, ◌+◌, ◌<◌, ◌≤◌, Bool, true, false, cond, eqb, ltb, List, [], ◌∷◌, ◌++◌, length, take, drop, map, max, refl, sym, ap, ◌∙◌, append_assoc, arith, subst, length-append}
-use Rattle.std.specs.Prelude.{Option, Some, None, not, ◌&&◌, unwrap_or, if◌then◌else◌, nat_lt, All}
-use Rattle.std.specs.List.{cons_option, filter_map, fold, flat_map, AllByRecursion}
+use Rattle.std.proofs.Common.{◌≡◌, ℕ, zero, suc, ◌<◌, Bool, true, false, cond, eqb, List, [], ◌∷◌, ◌++◌, length, take, drop, map, max, refl, sym, ap, ◌∙◌, append_assoc, arith, subst}
+use Rattle.std.specs.Prelude.{Option, Some, None, ◌&&◌, if◌then◌else◌, nat_lt}
+use Rattle.std.specs.List.{cons_option, fold, flat_map, AllByRecursion}
 use Rattle.std.proofs.lemmas.List.{append-nil, take-append-drop}
-use Rattle.std.proofs.lemmas.Grind.{common_steps, fold-append}
+use Rattle.std.proofs.lemmas.Grind.{common_steps}
 use Rattle.trace_model.specs.declared.entry.Entry.{Entry}
-use Rattle.trace_model.specs.declared.entry.Entry.TheVariants.{Up, Sent, Got, Acked, Emit, Took, Lost}
+use Rattle.trace_model.specs.declared.entry.Entry.TheVariants.{Sent, Got, Acked, Lost}
 use Rattle.trace_model.specs.declared.entry.LostCause.TheVariants.{Full as Pushed_out}
 use Rattle.trace_model.specs.declared.entry.NoCause.{NoCause}
 use Rattle.trace_model.specs.declared.line.End.{End}
@@ -14,19 +14,14 @@ use Rattle.trace_model.specs.declared.line.Line.{Line}
 use Rattle.trace_model.specs.declared.line.Line.TheVariants.{Send, Deliver}
 use Rattle.trace_model.specs.Ends.{other_end}
 use Rattle.trace_model.specs.Lines.{IsLineOf}
-use Rattle.hcp_packet.specs.Packets.{good_of, IsFrontOf}
-use Rattle.shdlc_core.specs.Machine.{EndState}
-use Rattle.link_laws.specs.Link.{start}
-use Rattle.history.specs.Histories.{Event, Outcome, Step, History, Refused, Caused, events_of, entries_of, all_events, all_entries}
-use Rattle.history.specs.Filters.{same_end, Message, sent_by, sent_in, got_by, got_in, acked_after, acked_in, wire_after, wire_to, session_after, session_of, losses_after, losses_to}
-use Rattle.history.specs.LinkMachine.{bare_end, taken_lpdu, lpdus_of, messages_got, given}
-use Rattle.history.specs.Follows.{machine_after, machine_at, number_at, acked_note, got_notes, puts, pushed_out, kept_on, sent_event, took_event, took_events, refusal, first_of, caused_by, outcome_of, opening_of, StepsFollow, Follows}
-use Rattle.history.specs.Legal.{IsInOrder, Prefix, IsComplete, Complete, Legal}
-use Rattle.history_laws.proofs.Ends.{end_at}
-use Rattle.history_laws.proofs.CalmLink.{IsCalmLink}
+use Rattle.history.specs.Histories.{Event, Outcome, Step, Refused, Caused, events_of, entries_of}
+use Rattle.history.specs.Filters.{same_end, Message, sent_in, got_in, acked_after, acked_in, wire_to}
+use Rattle.history.specs.LinkMachine.{taken_lpdu, lpdus_of, given}
+use Rattle.history.specs.Follows.{machine_at, number_at, acked_note, got_notes, puts, pushed_out, kept_on, sent_event, took_event, took_events, refusal, caused_by, outcome_of, StepsFollow}
+use Rattle.history.specs.Legal.{IsInOrder, IsComplete}
 use Rattle.history_laws.proofs.Events.{new_messages, notes_of, wire-took, whole_before, whole_after}
-use Rattle.history_laws.proofs.Orders.{AreInOrder, InOrder0, InOrderAlong, IsQuiet, along_both, along_quiet, along_front, along_end}
-use Rattle.history_laws.proofs.Sound.{Laws, SoundEnd, Sound}
+use Rattle.history_laws.proofs.Orders.{AreInOrder, InOrder0, InOrderAlong, along_end}
+use Rattle.history_laws.proofs.Sound.{Laws, Sound}
 use Rattle.history_laws.proofs.Keeps.{sound_sent, sound_took, order_sent_event}
 use Rattle.history_laws.proofs.Legal.{order_took_event, sound_complete}
 

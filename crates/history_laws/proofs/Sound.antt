@@ -1,33 +1,18 @@
 -- What is true of a history at the end of each event.
-use Rattle.std.proofs.Common.{◌≡◌, ℕ, ◌+◌, ◌<◌, ◌≤◌, Bool, true, false, cond, eqb, ltb, List, [], ◌∷◌, ◌++◌, length, take, drop, map, max, refl, sym, ap, ◌∙◌, append_assoc, arith, subst, length-append}
-use Rattle.std.specs.Prelude.{Option, Some, None, Result, Ok, Err, not, ◌&&◌, ◌||◌, unwrap_or, if◌then◌else◌, nat_lt, is_some}
-use Rattle.std.specs.List.{cons_option, fold, All, AllByRecursion}
-use Rattle.std.proofs.lemmas.List.{append-nil}
-use Rattle.std.proofs.Math.Seq.{drop-append_seam}
-use Rattle.swp_base.specs.declared.control_frames.Control.{Control}
-use Rattle.swp_lpdu.specs.declared.LpduFault.{LpduFault}
-use Rattle.swp_lpdu.specs.Controls.{control_of, bytes_of as lpdu_of}
+use Rattle.std.proofs.Common.{◌≡◌, ℕ, Bool, true, false, List, [], subst}
 use Rattle.trace_model.specs.declared.entry.Entry.{Entry}
-use Rattle.trace_model.specs.declared.entry.Entry.TheVariants.{Up, Sent, Got, Acked, Emit, Took, Lost}
 use Rattle.trace_model.specs.declared.line.End.{End}
 use Rattle.trace_model.specs.Ends.{other_end}
-use Rattle.hcp_packet.specs.Packets.{good_of, good_messages_of, fragments_of, AreSendable, IsSendable, IsFrontOf}
-use Rattle.shdlc_core.specs.Machine.{EndState, Session, Fragment, put_out, taken, take_answer, all_frames, all_fetched}
-use Rattle.link_laws.specs.Link.{Link, Carried, LinkEvent, EndEvent, Offer, Deliver, start, exchanged, put_all, becomes, happens_here, happens, after}
+use Rattle.hcp_packet.specs.Packets.{good_of, good_messages_of, fragments_of, AreSendable, IsFrontOf}
+use Rattle.shdlc_core.specs.Machine.{EndState}
+use Rattle.link_laws.specs.Link.{Link, LinkEvent, start, exchanged, after}
 use Rattle.link_laws.specs.Order.{InOrder, AllDelivered}
-use Rattle.history.specs.Histories.{Event}
-use Rattle.history.specs.Filters.{same_end, Message, sent_in, got_in, acked_after, acked_in, wire_to, session_of, losses_to}
-use Rattle.history.specs.LinkMachine.{given, taken_lpdu, lpdus_of, whole_among, messages_got}
-use Rattle.history.specs.Follows.{machine_at, number_at, emits, acked_note, got_notes, sent_event, took_event}
-use Rattle.history.specs.Legal.{IsComplete}
-use Rattle.history_laws.proofs.Ends.{end_at, same_end_self, same_end_other, same_end_other_left, other_other}
-use Rattle.history_laws.proofs.Filtering.{put_on, pushed_off}
-use Rattle.history_laws.proofs.Calm.{IsCalm, IsCalmFrame, TakesOn, SentFrom, taken_calm, all_fetched_same}
-use Rattle.history_laws.proofs.CalmLink.{IsCalmLink, AreCalm, offer_is, calm_offer, calm_deliver}
-use Rattle.history_laws.proofs.Mirror.{ReadsAgain, lpdus_on, Mirrors, mirrors_exchanged, put_all_wire, put_all_keeps, put_all_controller, seen_from, event_at, seen_event, after-more, append_none}
-use Rattle.history_laws.proofs.Whole.{fragments_of_one, fragments_fit, fragments_of-push, sendable-push, sendable-take, whole_among-le, whole_among-grows, whole_fit, whole_among-push, whole_among-all, fragments_of-take, front_of_longer}
-use Rattle.history_laws.proofs.Events.{machine-took, machine-took-elsewhere, wire-took, wire-took-back, losses-took, losses-took-back, session-took, machine-sent, machine-sent-elsewhere, wire-sent, wire-sent-back, losses-sent, losses-sent-back, session-sent, sent_in-sent, got_in-sent, acked_in-sent, new_messages, sent_in-took, got_in-took, acked_in-took, whole_before, whole_after, notes_of}
-use Rattle.history_laws.proofs.Orders.{AreInOrder, InOrder0, InOrderAlong, order_quiet, order_sent, order_acked, along_both, along_quiet, along_got, along_puts, along_start}
+use Rattle.history.specs.Filters.{sent_in, got_in, acked_in}
+use Rattle.history.specs.LinkMachine.{whole_among, messages_got}
+use Rattle.history.specs.Follows.{machine_at, number_at}
+use Rattle.history_laws.proofs.Ends.{end_at}
+use Rattle.history_laws.proofs.CalmLink.{IsCalmLink}
+use Rattle.history_laws.proofs.Mirror.{ReadsAgain, Mirrors, mirrors_exchanged, seen_from}
 
 -- The laws that this one stands on: of links, of cut and joined messages, and of written frames.
 pub record Laws : Type 0 where

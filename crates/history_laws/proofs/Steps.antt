@@ -1,33 +1,29 @@
 -- Each event keeps a history sound.
-use Rattle.std.proofs.Common.{◌≡◌, ℕ, ◌+◌, ◌<◌, ◌≤◌, Bool, true, false, cond, eqb, ltb, List, [], ◌∷◌, ◌++◌, length, take, drop, map, max, refl, sym, ap, ◌∙◌, append_assoc, arith, subst, length-append}
-use Rattle.std.specs.Prelude.{Option, Some, None, Result, Ok, Err, not, ◌&&◌, ◌||◌, unwrap_or, if◌then◌else◌, nat_lt, is_some}
-use Rattle.std.specs.List.{cons_option, fold, All, AllByRecursion}
+use Rattle.std.proofs.Common.{◌≡◌, ℕ, ◌+◌, ◌≤◌, Bool, true, false, eqb, List, [], ◌∷◌, ◌++◌, length, drop, sym, ap, ◌∙◌, arith, subst, length-append}
+use Rattle.std.specs.Prelude.{Some, None, Result, Ok, Err, ◌&&◌, unwrap_or, if◌then◌else◌}
+use Rattle.std.specs.List.{cons_option}
 use Rattle.std.proofs.lemmas.List.{append-nil}
 use Rattle.std.proofs.Math.Seq.{drop-append_seam}
 use Rattle.swp_base.specs.declared.control_frames.Control.{Control}
 use Rattle.swp_lpdu.specs.declared.LpduFault.{LpduFault}
-use Rattle.swp_lpdu.specs.Controls.{control_of, bytes_of as lpdu_of}
+use Rattle.swp_lpdu.specs.Controls.{bytes_of as lpdu_of}
 use Rattle.trace_model.specs.declared.entry.Entry.{Entry}
-use Rattle.trace_model.specs.declared.entry.Entry.TheVariants.{Up, Sent, Got, Acked, Emit, Took, Lost}
 use Rattle.trace_model.specs.declared.line.End.{End}
 use Rattle.trace_model.specs.Ends.{other_end}
-use Rattle.hcp_packet.specs.Packets.{good_of, good_messages_of, fragments_of, AreSendable, IsSendable, IsFrontOf}
-use Rattle.shdlc_core.specs.Machine.{EndState, Session, Fragment, put_out, taken, take_answer, all_frames, all_fetched}
-use Rattle.link_laws.specs.Link.{Link, Carried, LinkEvent, EndEvent, Offer, Deliver, start, exchanged, put_all, becomes, happens_here, happens, after}
-use Rattle.link_laws.specs.Order.{InOrder, AllDelivered}
-use Rattle.history.specs.Histories.{Event}
-use Rattle.history.specs.Filters.{same_end, Message, sent_in, got_in, acked_after, acked_in, wire_to, session_of, losses_to}
+use Rattle.hcp_packet.specs.Packets.{good_messages_of, fragments_of, AreSendable, IsSendable, IsFrontOf}
+use Rattle.shdlc_core.specs.Machine.{EndState, Session, Fragment, put_out, taken, all_frames, all_fetched}
+use Rattle.link_laws.specs.Link.{Link, Carried, becomes}
+use Rattle.link_laws.specs.Order.{InOrder}
+use Rattle.history.specs.Filters.{same_end, Message, sent_in, got_in, acked_in, wire_to, session_of, losses_to}
 use Rattle.history.specs.LinkMachine.{given, taken_lpdu, lpdus_of, whole_among, messages_got}
-use Rattle.history.specs.Follows.{machine_at, number_at, emits, acked_note, got_notes, sent_event, took_event}
-use Rattle.history_laws.proofs.Ends.{end_at, same_end_self, same_end_other, same_end_other_left, other_other}
+use Rattle.history.specs.Follows.{machine_at, number_at, sent_event, took_event}
+use Rattle.history_laws.proofs.Ends.{same_end_self, same_end_other}
 use Rattle.history_laws.proofs.Filtering.{put_on, pushed_off}
-use Rattle.history_laws.proofs.Calm.{IsCalm, IsCalmFrame, TakesOn, SentFrom, taken_calm, all_fetched_same}
-use Rattle.history_laws.proofs.CalmLink.{IsCalmLink, AreCalm, offer_is, calm_offer, calm_deliver}
-use Rattle.history_laws.proofs.Mirror.{ReadsAgain, lpdus_on, Mirrors, mirrors_exchanged, put_all_wire, put_all_keeps, put_all_controller, seen_from, event_at, seen_event, after-more, append_none}
-use Rattle.history_laws.proofs.Whole.{fragments_of_one, fragments_fit, fragments_of-push, sendable-push, sendable-take, whole_among-le, whole_among-grows, whole_fit, whole_among-push, whole_among-all, fragments_of-take, front_of_longer}
-use Rattle.history_laws.proofs.Events.{machine-took, machine-took-elsewhere, wire-took, wire-took-back, losses-took, losses-took-back, session-took, machine-sent, machine-sent-elsewhere, wire-sent, wire-sent-back, losses-sent, losses-sent-back, session-sent, sent_in-sent, got_in-sent, acked_in-sent, new_messages, sent_in-took, got_in-took, acked_in-took, acked_in-took-elsewhere, acked_in-took-here, whole_before, whole_after, notes_of, IsElsewhere, elsewhere, wire-took-elsewhere, losses-took-elsewhere, wire-sent-elsewhere, losses-sent-elsewhere}
-use Rattle.history_laws.proofs.Orders.{AreInOrder, InOrder0, InOrderAlong, order_quiet, order_sent, order_acked, along_both, along_quiet, along_got, along_puts, along_start}
-use Rattle.history_laws.proofs.Sound.{Laws, SoundEnd, Sound, mirrors_seen, mirrors_unseen, calm_seen, calm_unseen, order_at}
+use Rattle.history_laws.proofs.Calm.{IsCalmFrame, TakesOn, all_fetched_same}
+use Rattle.history_laws.proofs.Mirror.{ReadsAgain, lpdus_on, Mirrors, put_all_wire, put_all_keeps, put_all_controller, append_none}
+use Rattle.history_laws.proofs.Whole.{fragments_of_one, fragments_of-push, sendable-push, whole_among-grows, whole_among-push}
+use Rattle.history_laws.proofs.Events.{machine-took, machine-took-elsewhere, wire-took, wire-took-back, losses-took, losses-took-back, session-took, machine-sent, machine-sent-elsewhere, wire-sent, wire-sent-back, losses-sent, losses-sent-back, session-sent, sent_in-sent, got_in-sent, acked_in-sent, new_messages, sent_in-took, got_in-took, acked_in-took-elsewhere, acked_in-took-here, whole_before, whole_after}
+use Rattle.history_laws.proofs.Sound.{SoundEnd}
 
 -- ## The link after an event
 

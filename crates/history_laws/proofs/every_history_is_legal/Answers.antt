@@ -1,6 +1,6 @@
 -- The laws of links, of messages and of written frames are put together.
-use Rattle.std.proofs.Common.{◌≡◌, ℕ, List, ap, ◌∙◌}
-use Rattle.hcp_packet.specs.Packets.{good_of, good_messages_of, fragments_of, AreSendable}
+use Rattle.std.proofs.Common.{ap}
+use Rattle.hcp_packet.specs.Packets.{good_of}
 use Rattle.history_laws.proofs.Sound.{Laws}
 use Rattle.history_laws.proofs.Written.{calm_reads}
 use Rattle.history_laws.proofs.Opening.{every_history_is_legal}

@@ -1,0 +1,62 @@
+//! The program `swp`: it makes the adapters to the operating system, runs the top call, says on standard error how the
+//! run ended unless all is done, and ends with the exit status.
+#![tactic(auto)]
+
+mod adapters;
+
+use adapters::{StdinSource, StdoutSink};
+use std::env::{self, Env};
+use std::io;
+use std::process::ExitCode;
+use std::rt::Runtime;
+use swp_base::MemNv;
+use swp_tool::{Ended, Status, exit_code, run, status_text};
+
+/// The size of a node's memory, in bytes (this project's own).
+const MEMORY: u32 = 65_536;
+
+fn main(rt: HostRuntime) -> ExitCode {
+    let status = status_of_run(&rt);
+    if status != Status::Done {
+        // Where even this can't be said, the exit status still tells.
+        let _ = tell(&rt, &status);
+    }
+    ExitCode::from(exit_code(&status))
+}
+
+/// Runs the program over standard input and output.
+fn status_of_run<R: Runtime + Input + Print + AllocGlobal>(rt: &R) -> Status {
+    let Ok(nv) = MemNv::new(rt.alloc(), MEMORY) else {
+        return Status::NoMemory;
+    };
+    let words = match words_of(rt) {
+        Ok(words) => words,
+        Err(error) if error.kind() == io::ErrorKind::OutOfMemory => return Status::NoMemory,
+        Err(_) => return Status::BadWords,
+    };
+    let mut source = StdinSource::new(rt.reader());
+    let mut sink = StdoutSink::new(io::writer(rt));
+    let Ended { status, nv: _ } = run(rt.alloc(), words.as_slice(), &mut source, &mut sink, nv);
+    status
+}
+
+/// The words behind the program's name.
+fn words_of<R: Env + AllocGlobal>(rt: &R) -> io::Result<Vec<String>> {
+    let mut words = Vec::new(rt.alloc());
+    for word in env::args(rt)?.skip(1) {
+        words.push(word)?;
+    }
+    Ok(words)
+}
+
+/// Says on standard error how the run ended.
+fn tell<R: Eprint + AllocGlobal>(rt: &R, status: &Status) -> io::Result<()> {
+    let mut text = Vec::new(rt.alloc());
+    if status_text(rt.alloc(), status, &mut text).is_err() {
+        return Ok(());
+    }
+    match String::from_utf8(text) {
+        Ok(text) => rt.eprintln(text),
+        Err(_) => Ok(()),
+    }
+}
