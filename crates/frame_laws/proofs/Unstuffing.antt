@@ -8,7 +8,7 @@ use Rattle.swp_frame.specs.Stuffing.{stuffed, stuffed_after}
 use Rattle.frame_laws.specs.Spelling.{Spells, content_read}
 
 -- bits put in front, one after another
-abbrev onto : List Symbol → List Bool → List Symbol
+abbrev pub onto : List Symbol → List Bool → List Symbol
 onto seen [] = seen
 onto seen (b ∷ bits) = onto (symbol_of b ∷ seen) bits
 
@@ -46,7 +46,7 @@ onto-push seen [] b = refl
 onto-push seen (x ∷ bits) b = onto-push (symbol_of x ∷ seen) bits b
 
 -- stuffed content, read from the newest bit
-reads : (content : List Bool) → unstuffed (onto [] (stuffed content)) ≡ reverse content
+pub reads : (content : List Bool) → unstuffed (onto [] (stuffed content)) ≡ reverse content
 reads content = stuffed_reads 0 content [] refl (omega arith) ∙ bits_onto-aux [] content
 
 last_one : (fifth : Bool) (bits rest : List Bool) → cond fifth bits (false ∷ bits) ≡ true ∷ rest → bits ≡ true ∷ rest

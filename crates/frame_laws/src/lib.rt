@@ -1,9 +1,14 @@
 //! Laws of frames: what the definitions of marks and of the content of a frame say in the words of the standard. No code.
 #![tactic(auto)]
 
-ghost use Rattle.std.specs.Prelude.{List, Bool, Some, ◌≡◌, ◌↔◌};
+ghost use Rattle.std.specs.Prelude.{ℕ, List, [], ◌∷◌, Bool, Some, ◌≡◌, ◌↔◌};
+ghost use Rattle.swp_base.specs.DataUnits.{IsLpdu};
+ghost use Rattle.swp_frame.specs.declared.fed.Fed.TheVariants.{Frame};
+ghost use Rattle.swp_frame.specs.Kept.{AreBytes};
+ghost use Rattle.swp_frame.specs.Verdicts.{verdicts};
 ghost use Rattle.swp_frame.specs.Signal.{Symbol, mark_of, start_mark, end_mark, since_start};
 ghost use Rattle.frame_laws.specs.Marks.{EndsStart, EndsEnd, IsOpenSince};
+ghost use Rattle.frame_laws.specs.Whole.{sent};
 ghost use Rattle.frame_laws.specs.Spelling.{Spells, NoSixOnes, content_read};
 
 /// A start of frame ends exactly where the last eight elements are 0, six 1 and 0, and an end of frame exactly where they are
@@ -26,4 +31,9 @@ pub fn bits_spell_what_is_read()
 /// A frame is open exactly where the last mark is a start of frame, and what is read of it is what came after this mark.
 pub fn open_frame_by_places()
     ensures { (seen since : List Symbol) → (since_start seen ≡ Some since) ↔ IsOpenSince seen since }
+{}
+
+/// The frame of an LPDU, alone on a line, is read as this LPDU, and nothing else is.
+pub fn written_frame_is_read()
+    ensures { (lpdu : List ℕ) → IsLpdu lpdu → AreBytes lpdu → verdicts (sent lpdu) ≡ Frame lpdu ∷ [] }
 {}

@@ -1,0 +1,80 @@
+-- The content that is written is judged right.
+use Rattle.std.proofs.Common.{◌≡◌, ℕ, suc, ◌+◌, ◌-◌, ◌*◌, ◌/◌, ◌%◌, ◌^◌, ◌<◌, List, [], ◌∷◌, ◌++◌, not, map, length, take, get_or, refl, sym, ap, ◌∙◌, subst, arith, append-nil, length-append}
+use Rattle.std.proofs.lemmas.List.{length-map}
+use Rattle.swp_base.specs.Bits.{bits_of}
+use Rattle.swp_base.specs.DataUnits.{IsLpdu}
+use Rattle.swp_crc.specs.Crc.{remainder_of, crc_of}
+use Rattle.swp_crc.specs.Running.{running_of}
+use Rattle.swp_crc.proofs.Numbers.{number_of-lt}
+use Rattle.swp_crc.proofs.Steps.{length-remainder}
+use Rattle.swp_frame.specs.declared.fed.Fed.TheVariants.{Frame}
+use Rattle.swp_frame.specs.Stuffing.{with_crc}
+use Rattle.swp_frame.specs.Content.{judged, judged_bytes}
+use Rattle.swp_frame.specs.Kept.{AreBytes, KeepsBits}
+use Rattle.swp_frame.proofs.ContentLemmas.{length-bits_of, whole_bytes, judged_whole, crc_is_right}
+
+crc_small : (lpdu : List ℕ) → crc_of lpdu < 65536
+crc_small lpdu =
+    subst (λ n. crc_of lpdu < 2 ^ n) (length-map (remainder_of lpdu) not ∙ length-remainder lpdu) (number_of-lt (map not (remainder_of lpdu)))
+
+bytes_with : (lpdu : List ℕ) (high low : ℕ) → AreBytes lpdu → high < 256 → low < 256 → AreBytes (lpdu ++ high ∷ low ∷ [])
+bytes_with [] high low h a b = (a, (b, tt))
+bytes_with (x ∷ lpdu) high low h a b = (h.0, bytes_with lpdu high low h.1 a b)
+
+body_of : (lpdu : List ℕ) (high low : ℕ) → take (length lpdu) (lpdu ++ high ∷ low ∷ []) ≡ lpdu
+body_of [] high low = refl
+body_of (x ∷ lpdu) high low = ap (λ xs. x ∷ xs) (body_of lpdu high low)
+
+first_of : (lpdu : List ℕ) (high low : ℕ) → get_or (lpdu ++ high ∷ low ∷ []) (length lpdu) 0 ≡ high
+first_of [] high low = refl
+first_of (x ∷ lpdu) high low = first_of lpdu high low
+
+second_of : (lpdu : List ℕ) (high low : ℕ) → get_or (lpdu ++ high ∷ low ∷ []) (suc (length lpdu)) 0 ≡ low
+second_of [] high low = refl
+second_of (x ∷ lpdu) high low = second_of lpdu high low
+
+-- the bytes of an LPDU with its CRC are judged to be this LPDU
+right_bytes : (lpdu : List ℕ) (crc : ℕ) → crc ≡ crc_of lpdu → judged_bytes (lpdu ++ crc / 256 ∷ crc % 256 ∷ []) ≡ Frame lpdu
+right_bytes lpdu crc is =
+    sym (crc_is_right (lpdu ++ crc / 256 ∷ crc % 256 ∷ []) crc crc (is ∙ ap crc_of (sym body)) value refl) ∙ ap Frame body
+  where
+    long : length (lpdu ++ crc / 256 ∷ crc % 256 ∷ []) ≡ length lpdu + 2
+    long = length-append lpdu (crc / 256 ∷ crc % 256 ∷ [])
+
+    body : take (length (lpdu ++ crc / 256 ∷ crc % 256 ∷ []) - 2) (lpdu ++ crc / 256 ∷ crc % 256 ∷ []) ≡ lpdu
+    body = ap (λ n. take n (lpdu ++ crc / 256 ∷ crc % 256 ∷ [])) (omega (arith, long)) ∙ body_of lpdu (crc / 256) (crc % 256)
+
+    first : get_or (lpdu ++ crc / 256 ∷ crc % 256 ∷ []) (length (lpdu ++ crc / 256 ∷ crc % 256 ∷ []) - 2) 0 ≡ crc / 256
+    first = ap (λ n. get_or (lpdu ++ crc / 256 ∷ crc % 256 ∷ []) n 0) (omega (arith, long)) ∙ first_of lpdu (crc / 256) (crc % 256)
+
+    second : get_or (lpdu ++ crc / 256 ∷ crc % 256 ∷ []) (length (lpdu ++ crc / 256 ∷ crc % 256 ∷ []) - 1) 0 ≡ crc % 256
+    second = ap (λ n. get_or (lpdu ++ crc / 256 ∷ crc % 256 ∷ []) n 0) (omega (arith, long)) ∙ second_of lpdu (crc / 256) (crc % 256)
+
+    value : crc ≡ 256 * get_or (lpdu ++ crc / 256 ∷ crc % 256 ∷ []) (length (lpdu ++ crc / 256 ∷ crc % 256 ∷ []) - 2) 0
+        + get_or (lpdu ++ crc / 256 ∷ crc % 256 ∷ []) (length (lpdu ++ crc / 256 ∷ crc % 256 ∷ []) - 1) 0
+    value = omega (arith, first, second)
+
+pub right_content : (lpdu : List ℕ) → IsLpdu lpdu → AreBytes lpdu → judged (bits_of (with_crc lpdu)) ≡ Frame lpdu
+right_content lpdu sized bytes =
+    judged_whole (bits_of (with_crc lpdu)) (omega (arith, long, sized.0)) (omega (arith, long, sized.1)) whole
+    ∙ ap judged_bytes (whole_bytes (with_crc lpdu) 0 (running_of (take (length (with_crc lpdu) - 2) (with_crc lpdu))) (bits_of (with_crc lpdu)) kept whole)
+    ∙ right_bytes lpdu (crc_of lpdu) refl
+  where
+    long : length (bits_of (with_crc lpdu)) ≡ 8 * (length lpdu + 2)
+    long = length-bits_of (with_crc lpdu) ∙ ap (λ n. 8 * n) (length-append lpdu (crc_of lpdu / 256 ∷ crc_of lpdu % 256 ∷ []))
+
+    whole : length (bits_of (with_crc lpdu)) % 8 ≡ 0
+    whole = omega (arith, long)
+
+    high_small : crc_of lpdu / 256 < 256
+    high_small = omega (arith, crc_small lpdu)
+
+    kept : KeepsBits (with_crc lpdu) 0 (running_of (take (length (with_crc lpdu) - 2) (with_crc lpdu))) (bits_of (with_crc lpdu))
+    kept = record {
+      rest = [];
+      whole = sym (append-nil (bits_of (with_crc lpdu)));
+      short = omega arith;
+      number = refl;
+      in_range = bytes_with lpdu (crc_of lpdu / 256) (crc_of lpdu % 256) bytes high_small (omega arith);
+      running = refl;
+    }
