@@ -4,6 +4,8 @@
 mod pieces;
 mod replay;
 mod status;
+#[cfg(test)]
+mod tests;
 mod top;
 mod transcript;
 
