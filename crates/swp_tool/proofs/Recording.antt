@@ -1,5 +1,5 @@
 -- What a decoding has written and gathered.
-use Rattle.std.proofs.Common.{◌≡◌, ℕ, ◌+◌, ◌≤◌, List, [], ◌∷◌, ◌++◌, length, take, refl, sym, ap, ◌∙◌, append_assoc, subst}
+use Rattle.std.proofs.Common.{◌≡◌, ℕ, ◌+◌, ◌≤◌, List, [], ◌∷◌, ◌++◌, length, take, sym, ap, ◌∙◌, append_assoc, subst}
 use Rattle.std.specs.Prelude.{reverse, Result, Ok, Err, OnErr}
 use Rattle.std.proofs.lemmas.List.{append-nil, reverse-append, length-reverse}
 use Rattle.std.proofs.Math.Seq.{take-append-add}
@@ -7,8 +7,7 @@ use Rattle.swp_decode.specs.Decoded.{record_lines, decoded, last_line, line_at, 
 use Rattle.swp_tool.specs.declared.decoding.Decoding.{Decoding}
 use Rattle.swp_decode.specs.declared.line.Wire.TheVariants.{S1, S2}
 use Rattle.swp_decode.specs.Kept.{StandsFor}
-use Rattle.swp_tool.specs.Decodings.{IsDecoding, HasDecoded, DecodedBy, IsFrontOfLines, IsFrontOfWhole, IsTooLong}
-use Rattle.swp_tool.specs.declared.status.Status.TheVariants as status
+use Rattle.swp_tool.specs.Decodings.{IsDecoding, IsFrontOfLines, IsFrontOfWhole}
 
 -- a front of what is gathered was written
 pub cut_lines : (d : Decoding) (bytes before was after : List ℕ) → IsDecoding d bytes before was

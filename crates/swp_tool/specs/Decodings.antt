@@ -1,5 +1,5 @@
 -- What a decoding has read and written, by the status with which it ended.
-use Rattle.std.specs.Prelude.{◌≡◌, ℕ, ◌≤◌, ◌⊎◌, List, [], ◌∷◌, ◌++◌, length, reverse, take, codes}
+use Rattle.std.specs.Prelude.{◌≡◌, ℕ, ◌≤◌, ◌⊎◌, List, [], ◌∷◌, ◌++◌, length, reverse, take}
 use Rattle.swp_decode.specs.Decoded.{record_lines, decoded}
 use Rattle.swp_decode.specs.Kept.{StandsFor}
 use Rattle.swp_tool.specs.declared.decoding.Decoding.{Decoding}

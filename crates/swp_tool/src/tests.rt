@@ -502,17 +502,16 @@ fn a_long_record_is_decoded_in_order(rt: HostRuntime) -> Result<(), Fail> {
     // The frame on S1, then the same bits on both wires, over and over: more text than is gathered at once.
     let mut record = Vec::new(rt.alloc());
     let mut text = Vec::new(rt.alloc());
-    for at in 0..400 {
+    for _ in 0..400 {
+        let first = record.len();
         record.extend_from_slice(&RECORD)?;
+        let second = record.len();
         for byte in RECORD {
             record.push(if byte == 0x54 { 0xFC } else { byte })?;
         }
-        let first = at * 80;
-        let second = first + 40;
-        text.extend_from_slice(
-            format!(in rt.alloc(); "s1 {first} C1 rr 1\ns1 {second} C1 rr 1\ns2 {second} C1 rr 1\n")?
-                .as_bytes(),
-        )?;
+        text.extend_from_slice(format!(in rt.alloc();
+            "s1 {first} C1 rr 1\ns1 {second} C1 rr 1\ns2 {second} C1 rr 1\n"
+        )?.as_bytes())?;
     }
     text.extend_from_slice(b"done 32000\n")?;
     let (status, written) = outcome(rt.alloc(), &DECODE, record.as_slice(), NONE, 4096)?;

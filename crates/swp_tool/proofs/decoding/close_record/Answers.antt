@@ -1,7 +1,6 @@
-use Rattle.std.proofs.Common.{◌≡◌, ◌≤◌, ◌∙◌, ◌++◌, [], List, ℕ, length, take, refl, sym, ap, subst, inl, inr, arith}
+use Rattle.std.proofs.Common.{◌≡◌, ◌≤◌, ◌∙◌, ◌++◌, [], List, ℕ, length, take, refl, sym, ap, subst, inr, arith}
 use Rattle.std.proofs.lemmas.List.{append-nil}
-use Rattle.swp_decode.specs.Decoded.{last_line, decoded}
-use Rattle.swp_tool.specs.Decodings.{IsDecoding, IsFrontOfSome, IsFrontOfWhole, IsFrontOfLines, DecodedBy}
+use Rattle.swp_tool.specs.Decodings.{IsDecoding, DecodedBy}
 use Rattle.swp_tool.specs.declared.status.Status.TheVariants as status
 use Rattle.swp_tool.proofs.Ending.{of_ok, of_err}
 use Rattle.swp_tool.proofs.Recording.{cut_whole, whole_written, count_read}

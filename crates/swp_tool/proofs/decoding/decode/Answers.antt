@@ -1,4 +1,4 @@
-use Rattle.std.proofs.Common.{◌≡◌, ◌≤◌, refl, sym, [], arith}
+use Rattle.std.proofs.Common.{refl, sym, [], arith}
 use Rattle.std.proofs.lemmas.List.{append-nil}
 use Rattle.swp_tool.proofs.decoding.decode.Goals as goal
 

@@ -1,4 +1,4 @@
-use Rattle.std.proofs.Common.{◌≡◌, ◌++◌, ◌∙◌, ap, take, ℕ, List}
+use Rattle.std.proofs.Common.{◌++◌, ◌∙◌, ap, take, ℕ, List}
 use Rattle.swp_tool.specs.Decodings.{IsDecoding, IsFrontOfLines}
 use Rattle.swp_tool.proofs.Recording.{on_err, cut_lines}
 use Rattle.swp_tool.proofs.decoding.flush_lines.Goals as goal

@@ -1,6 +1,5 @@
-use Rattle.std.proofs.Common.{◌≡◌, ◌+◌, ◌∷◌, [], ◌++◌, List, ℕ, take, drop, get_or, arith, subst, sym, ap, ◌∙◌, append_assoc}
+use Rattle.std.proofs.Common.{◌≡◌, ◌+◌, ◌∷◌, [], ◌++◌, take, drop, get_or, arith, subst, sym, ap, ◌∙◌, append_assoc}
 use Rattle.std.proofs.lemmas.List.{take_more}
-use Rattle.std.proofs.lemmas.Grind.{common_steps}
 use Rattle.swp_tool.specs.Decodings.{IsDecoding, DecodedBy}
 use Rattle.swp_tool.proofs.Cutting.{whole_piece}
 use Rattle.swp_tool.proofs.decoding.take_each.Goals as goal

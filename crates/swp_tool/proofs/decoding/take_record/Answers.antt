@@ -1,4 +1,4 @@
-use Rattle.std.proofs.Common.{◌≡◌, ◌∙◌, ◌++◌, sym, append_assoc, subst, inl}
+use Rattle.std.proofs.Common.{◌∙◌, ◌++◌, sym, append_assoc, subst, inl}
 use Rattle.swp_tool.specs.Decodings.{DecodedBy}
 use Rattle.swp_tool.proofs.decoding.take_record.Goals as goal
 

@@ -1,5 +1,5 @@
 -- Where a byte halts the replay, it halts however the piece goes on.
-use Rattle.std.proofs.Common.{◌≡◌, ◌+◌, ◌<◌, ◌++◌, ◌∷◌, [], List, ℕ, length, take, drop, get_or, ◌∙◌, ap, subst, sym, append_assoc, arith}
+use Rattle.std.proofs.Common.{◌+◌, ◌++◌, ◌∷◌, [], List, ℕ, take, drop, get_or, subst, arith}
 use Rattle.swp_tool.specs.Pieces.{Halts}
 use Rattle.swp_tool.proofs.Cutting.{whole_piece}
 use Rattle.swp_tool.proofs.Reading.{halts_more}
