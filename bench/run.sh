@@ -3,6 +3,7 @@
 # Run it at the top of the repository: bench/run.sh [FOLDER FOR THE RECORDS]
 set -eu
 folder=${1:-$(mktemp -d)}
+mkdir -p "$folder"
 python3 bench/make_records.py "$folder"
 # Proves and builds the program; its own run reads nothing.
 (cd crates/swp && rt run -- decode </dev/null >/dev/null)

@@ -23,6 +23,14 @@ abbrev pub transcript : List ℕ → List ℕ
 transcript [] = []
 transcript (byte ∷ older) = transcript older ++ line_at S1 (byte ∷ older) ++ line_at S2 (byte ∷ older)
 
+-- the lines of a record, its oldest byte first
+abbrev pub record_lines : List ℕ → List ℕ
+record_lines bytes = transcript (reverse bytes)
+
+-- how many bytes were read
+abbrev pub last_line : ℕ → List ℕ
+last_line count = codes "done " ++ decimal count ++ line_feed
+
 -- what is written for a record, its oldest byte first: its lines, and how many bytes it has
 abbrev pub decoded : List ℕ → List ℕ
-decoded bytes = transcript (reverse bytes) ++ codes "done " ++ decimal (length bytes) ++ line_feed
+decoded bytes = record_lines bytes ++ last_line (length bytes)

@@ -3,7 +3,7 @@ ghost use Rattle.std.specs.Prelude.{ℕ, List, [], ◌∷◌, ◌++◌, ◌≡�
 
 use crate::line::Wire;
 use crate::signal::SignalReader;
-use crate::words::Text;
+use crate::words::{Text, push_decimal, push_text};
 use swp_line::{Period, period_of};
 
 /// Decodes a line record byte by byte. It takes no memory, however long the record is.
@@ -18,7 +18,7 @@ pub struct Decoder {
 impl Decoder {
     ghost use Rattle.swp_frame.specs.Signal.{break};
     ghost use Rattle.swp_decode.specs.Readings.{Reading, with_reading};
-    ghost use Rattle.swp_decode.specs.Decoded.{line_at, line_with};
+    ghost use Rattle.swp_decode.specs.Decoded.{line_at, line_with, last_line};
     ghost use Rattle.swp_decode.specs.Kept.{ReadsSignal, StandsFor};
 
     /// The most bytes of a record.
@@ -62,6 +62,16 @@ impl Decoder {
             Some(Period::Deactivated) => self.read_breaks(text),
             None => self.read_breaks(text),
         }
+    }
+
+    /// Appends the last line of what is written for a record: how many bytes were read.
+    pub fn finish(&self, text: &mut Text)
+        requires room { length text.old.items + Self.ROOM ≤ 8192 }
+        ensures line { text.new.items ≡ text.old.items ++ last_line self.now.count }
+    {
+        push_text(text, b"done ");
+        push_decimal(text, self.count);
+        push_text(text, b"\n");
     }
 
     /// Reads a break in both directions.

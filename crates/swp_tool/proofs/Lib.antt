@@ -3,3 +3,4 @@ pub mod Texts
 pub mod Reading
 pub mod Ending
 pub mod Playing
+pub mod Recording

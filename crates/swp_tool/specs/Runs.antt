@@ -56,3 +56,11 @@ pub record IsUnderWay (p : Pieces) (input left before after : List ℕ) : Type 0
 -- the one word `replay`
 abbrev pub IsReplay : List (List ℕ) → Type 0
 IsReplay words = words ≡ codes "replay" ∷ []
+
+-- the one word `decode`
+abbrev pub IsDecode : List (List ℕ) → Type 0
+IsDecode words = words ≡ codes "decode" ∷ []
+
+-- the words that ask for something
+abbrev pub IsCommand : List (List ℕ) → Type 0
+IsCommand words = IsReplay words ⊎ IsDecode words

@@ -1,6 +1,8 @@
 //! The top call of the program `swp`: words, input and output in, a status out.
 #![tactic(auto)]
 
+mod decoding;
+mod output;
 mod pieces;
 mod replay;
 mod status;

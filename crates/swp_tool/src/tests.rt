@@ -468,3 +468,69 @@ fn statuses_are_told(rt: HostRuntime) -> Result<(), Fail> {
     }
     Ok(())
 }
+
+/// The frame of `C1` on S1.
+const RECORD: [u8; 40] = [
+    0x40, 0x54, 0x54, 0x54, 0x54, 0x54, 0x54, 0x40, 0x54, 0x54, 0x40, 0x40, 0x40, 0x40, 0x40, 0x54,
+    0x54, 0x54, 0x40, 0x54, 0x40, 0x54, 0x54, 0x54, 0x40, 0x54, 0x54, 0x40, 0x40, 0x40, 0x54, 0x40,
+    0x40, 0x54, 0x54, 0x54, 0x54, 0x54, 0x54, 0x54,
+];
+
+const DECODE: [&str; 1] = ["decode"];
+
+#[test]
+fn records_are_decoded(rt: HostRuntime) -> Result<(), Fail> {
+    let mut broken = RECORD;
+    broken[11] = 0x7F;
+    for (record, text) in [
+        (RECORD.as_slice(), "s1 0 C1 rr 1\ndone 40\n"),
+        (broken.as_slice(), "s1 0 broken\ndone 40\n"),
+        (&RECORD[..20], "done 20\n"),
+        (&RECORD[..0], "done 0\n"),
+    ] {
+        for piece in [1, 7, 4096] {
+            let (status, written) = outcome(rt.alloc(), &DECODE, record, NONE, piece)?;
+            assert_eq!(rt; status, Status::Done);
+            assert_eq!(rt; written.as_slice(), text.as_bytes());
+        }
+    }
+    Ok(())
+}
+
+#[test]
+fn a_long_record_is_decoded_in_order(rt: HostRuntime) -> Result<(), Fail> {
+    // The frame on S1, then the same bits on both wires, over and over: more text than is gathered at once.
+    let mut record = Vec::new(rt.alloc());
+    let mut text = Vec::new(rt.alloc());
+    for at in 0..400 {
+        record.extend_from_slice(&RECORD)?;
+        for byte in RECORD {
+            record.push(if byte == 0x54 { 0xFC } else { byte })?;
+        }
+        let first = at * 80;
+        let second = first + 40;
+        text.extend_from_slice(
+            format!(in rt.alloc(); "s1 {first} C1 rr 1\ns1 {second} C1 rr 1\ns2 {second} C1 rr 1\n")?
+                .as_bytes(),
+        )?;
+    }
+    text.extend_from_slice(b"done 32000\n")?;
+    let (status, written) = outcome(rt.alloc(), &DECODE, record.as_slice(), NONE, 4096)?;
+    assert_eq!(rt; status, Status::Done);
+    assert_eq!(rt; written.as_slice(), text.as_slice());
+    Ok(())
+}
+
+#[test]
+fn a_decoding_that_is_cut_off_leaves_the_lines_before_it(rt: HostRuntime) -> Result<(), Fail> {
+    let (status, written) = outcome(rt.alloc(), &DECODE, &RECORD, (&[2], &[]), 4096)?;
+    assert_eq!(rt; status, Status::ReadFault);
+    assert_eq!(rt; written.as_slice(), b"s1 0 C1 rr 1\n".as_slice());
+    let (status, written) = outcome(rt.alloc(), &DECODE, &RECORD, (&[], &[2]), 7)?;
+    assert_eq!(rt; status, Status::WriteFault);
+    assert_eq!(rt; written.as_slice(), b"s1 0 C1".as_slice());
+    let (status, written) = outcome(rt.alloc(), &DECODE, &RECORD, (&[], &[2]), 4096)?;
+    assert_eq!(rt; status, Status::WriteFault);
+    assert_eq!(rt; written.as_slice(), b"s1 0 C1 rr 1\n".as_slice());
+    Ok(())
+}

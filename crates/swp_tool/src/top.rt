@@ -1,10 +1,13 @@
 //! The top call.
-ghost use Rattle.std.specs.Prelude.{◌≡◌, ◌≢◌, ◌≤◌, ◌<◌, ◌++◌, ◌↔◌, ◌⊎◌, [], List, ℕ, length, map, string_bytes, codes, None, IsTrue, OnOk, OnErr, IfErr, Ok, Err, take, true, false};
+ghost use Rattle.std.specs.Prelude.{◌≡◌, ◌≢◌, ◌≤◌, ◌<◌, ◌++◌, ◌∷◌, ◌↔◌, ◌⊎◌, [], List, ℕ, length, map, string_bytes, codes, None, IsTrue, OnOk, OnErr, IfErr, Ok, Err, take, true, false};
 ghost use Rattle.swp_base.specs.Outside.{Rose};
 ghost use Rattle.swp_tool.specs.Schedules.{schedule_of};
-ghost use Rattle.swp_tool.specs.Runs.{status_of, Replayed, IsUnderWay, IsReplay};
+ghost use Rattle.swp_tool.specs.Runs.{status_of, Replayed, IsUnderWay, IsReplay, IsDecode, IsCommand};
+ghost use Rattle.swp_tool.specs.Decodings.{DecodedBy, most_bytes};
 ghost use Rattle.swp_tool.specs.Pieces.{HasRead, IsReading, bytes_left};
 
+use crate::decoding::decode;
+use crate::output::write_all;
 use crate::pieces::Pieces;
 use crate::replay::Halt;
 use crate::status::Status;
@@ -20,21 +23,6 @@ pub struct Ended<N> {
     pub status: Status,
     /// The memory that was handed in.
     pub nv: N,
-}
-
-/// Writes the whole piece, in as many calls as it takes. Where a call fails, a front of the piece was written.
-fn write_all<K: Sink>(sink: &mut K, bytes: &[u8]) -> Result<(), Failed>
-    ensures count { K.faults sink.old ≤ K.faults sink.new }
-    ensures fault { OnErr result (Rose (K.faults sink.old) (K.faults sink.new)) }
-    ensures wrote { IsTrue K.tells → OnOk result (K.written sink.new ≡ K.written sink.old ++ bytes.now) }
-    ensures front { IsTrue K.tells →
-        OnErr result ((n : ℕ) × (K.written sink.new ≡ K.written sink.old ++ take n bytes.now)) }
-{
-    let mut at = 0;
-    while at < bytes.len() {
-        at += sink.write(&bytes[at..])?;
-    }
-    Ok(())
 }
 
 /// The status of a replay that halts behind `count` whole lines.
@@ -171,8 +159,9 @@ fn replay<S: Source, K: Sink>(alloc: Global, source: &mut S, sink: &mut K) -> St
     }
 }
 
-/// Runs the program: the words are those behind its name. Of its commands `replay` is built: it reads a schedule to its
-/// end or to its first fault, line by line, and writes its transcript. The memory is handed back as it was.
+/// Runs the program: the words are those behind its name. Of its commands two are built. `replay` reads a schedule to its
+/// end or to its first fault, line by line, and writes its transcript. `decode` reads the record of a line and writes a
+/// line of text for each frame or fault in it. The memory is handed back as it was.
 pub fn run<S: Source, K: Sink, N: Nv>(
     alloc: Global,
     words: &[String],
@@ -186,40 +175,51 @@ pub fn run<S: Source, K: Sink, N: Nv>(
     ensures replayed { IsReplay (map string_bytes words.now) → IsTrue S.tells → IsTrue K.tells →
         Replayed result.status (S.left source.old) (S.left source.new) (K.written sink.old) (K.written sink.new) }
 
+    ensures decoded { IsDecode (map string_bytes words.now) → IsTrue S.tells → IsTrue K.tells →
+        DecodedBy result.status (S.left source.old) (S.left source.new) (K.written sink.old) (K.written sink.new) }
+
     // Other words are refused exactly, and then nothing is read or written.
-    ensures bad_words { (result.status ≡ Status.BadWords) ↔ ¬ IsReplay (map string_bytes words.now) }
+    ensures bad_words { (result.status ≡ Status.BadWords) ↔ ¬ IsCommand (map string_bytes words.now) }
     ensures untouched { result.status ≡ Status.BadWords → (source.new ≡ source.old) × (sink.new ≡ sink.old) }
 
     // A fault of the outside comes only where its count rose.
     ensures read_fault { result.status ≡ Status.ReadFault → Rose (S.faults source.old) (S.faults source.new) }
     ensures write_fault { result.status ≡ Status.WriteFault → Rose (K.faults sink.old) (K.faults sink.new) }
 
-    // With the word, a whole schedule and no fault of the outside, the run is done, unless there is no memory.
+    // With a whole schedule and no fault of the outside, a replay is done, unless there is no memory.
     ensures complete { IsReplay (map string_bytes words.now) → IsTrue S.tells → IsTrue K.tells →
         (schedule_of (S.left source.old)).stop ≡ None →
         ¬ Rose (S.faults source.old) (S.faults source.new) → ¬ Rose (K.faults sink.old) (K.faults sink.new) →
         (result.status ≡ Status.Done) ⊎ (result.status ≡ Status.NoMemory) }
+    // With a record that isn't too long and no fault of the outside, a decoding is done.
+    ensures complete_record { IsDecode (map string_bytes words.now) → IsTrue S.tells → IsTrue K.tells →
+        length (S.left source.old) ≤ most_bytes →
+        ¬ Rose (S.faults source.old) (S.faults source.new) → ¬ Rose (K.faults sink.old) (K.faults sink.new) →
+        result.status ≡ Status.Done }
     ensures nv { result.nv ≡ nv }
 {
-    let status = if is_replay(words) {
+    let status = if is_word(words, b"replay") {
         replay(alloc, source, sink)
+    } else if is_word(words, b"decode") {
+        decode(source, sink)
     } else {
         Status::BadWords
     };
     Ended { status, nv }
 }
 
-fn is_replay(words: &[String]) -> bool
-    ensures { IsTrue result ↔ IsReplay (map string_bytes words.now) }
+/// Whether the words are this one.
+fn is_word(words: &[String], word: &[u8]) -> bool
+    ensures { IsTrue result ↔ (map string_bytes words.now ≡ word.now ∷ []) }
 {
     match words {
-        [word] => is_replay_word(word.as_bytes()),
+        [given] => is_same(given.as_bytes(), word),
         _ => false,
     }
 }
 
-fn is_replay_word(word: &[u8]) -> bool
-    ensures { IsTrue result ↔ (word.now ≡ codes "replay") }
+fn is_same(given: &[u8], word: &[u8]) -> bool
+    ensures { IsTrue result ↔ (given.now ≡ word.now) }
 {
-    word == b"replay".as_slice()
+    given == word
 }

@@ -1,8 +1,7 @@
 -- One word is the list of that word.
 use Rattle.std.proofs.Common.{◌≡◌, ◌<◌, ◌≤◌, List, [], ◌∷◌, ℕ, length, get_or, map, ap, sym, ◌∙◌, arith, IsTrue}
-use Rattle.std.specs.Prelude.{codes, string_bytes}
-use Rattle.swp_tool.specs.Runs.{IsReplay}
-use Rattle.swp_tool.proofs.top.is_replay.Goals as goal
+use Rattle.std.specs.Prelude.{string_bytes}
+use Rattle.swp_tool.proofs.top.is_word.Goals as goal
 
 one_word : {X : Type 0} (f : X → List ℕ) (ws : List X) (w : X) → 1 ≤ length ws → length ws < 2 → w ≡ get_or ws 0 w → map f ws ≡ f w ∷ []
 one_word f [] w low high is = absurd (omega arith)
@@ -14,10 +13,10 @@ head_is a b xs p q = cc
 
 pub returns-in-len1 : goal.returns-in-len1
 returns-in-len1 c =
-    let w = c.word-item.result in
+    let given = c.given-item.result in
     let words = map string_bytes c.args.words.now in
-    let is : words ≡ string_bytes w ∷ [] = one_word string_bytes c.args.words.now w c.in-len1.len_at_least c.in-len1.len_below c.word-item.is in
-    let bytes : c.as_bytes.result.now ≡ string_bytes w = c.as_bytes.ensures.value in (
-      (λ (h : IsTrue c.is_replay_word.result). is ∙ ap (λ l. l ∷ []) (sym bytes ∙ c.is_replay_word.ensures.0 h)),
-      (λ (h : IsReplay words). c.is_replay_word.ensures.1 (bytes ∙ head_is (string_bytes w) (codes "replay") words is h)),
+    let is : words ≡ string_bytes given ∷ [] = one_word string_bytes c.args.words.now given c.in-len1.len_at_least c.in-len1.len_below c.given-item.is in
+    let bytes : c.as_bytes.result.now ≡ string_bytes given = c.as_bytes.ensures.value in (
+      (λ (h : IsTrue c.is_same.result). is ∙ ap (λ l. l ∷ []) (sym bytes ∙ c.is_same.ensures.0 h)),
+      (λ (h : words ≡ c.args.word.now ∷ []). c.is_same.ensures.1 (bytes ∙ head_is (string_bytes given) c.args.word.now words is h)),
     )

@@ -1,5 +1,5 @@
 use Rattle.std.proofs.Common.{length, ◌-◌, ◌≡◌, ◌≤◌, ◌++◌, take, IsTrue}
-use Rattle.swp_tool.proofs.top.write_all.Given as goal
+use Rattle.swp_tool.proofs.output.write_all.Given as goal
 
 -- a front of the piece was written
 abbrev pub invariant-loop-at : goal.invariant-loop-at

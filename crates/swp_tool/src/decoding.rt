@@ -1,0 +1,216 @@
+//! The command `decode`: a record of a line in, a line of text for each frame or fault out.
+ghost use Rattle.std.specs.Prelude.{◌≡◌, ◌≢◌, ◌≤◌, ◌<◌, ◌+◌, ◌++◌, [], ◌∷◌, List, ℕ, length, take, IsTrue, OnOk, OnErr, IfErr, Ok, Err, true, false};
+ghost use Rattle.swp_base.specs.Outside.{Rose};
+ghost use Rattle.swp_tool.specs.Decodings.{IsDecoding, HasDecoded, DecodedBy, IsFrontOfLines};
+
+use crate::output::write_all;
+use crate::status::Status;
+use swp_base::{Failed, Sink, Source};
+use swp_decode::{Decoder, Text};
+
+/// The most bytes that are read at once.
+const PIECE: usize = 4096;
+
+/// A decoding under way: what is kept of the record, and the lines that aren't written yet.
+#[derive(Drop)]
+struct Decoding {
+    decoder: Decoder,
+    text: Text,
+}
+
+/// Writes the lines that are gathered. Where a call fails, a front of them was written.
+fn flush_lines<K: Sink>(sink: &mut K, decoding: &mut Decoding) -> Result<(), Failed>
+    ensures count { K.faults sink.old ≤ K.faults sink.new }
+    ensures fault { OnErr result (Rose (K.faults sink.old) (K.faults sink.new)) }
+    ensures read { decoding.new.decoder ≡ decoding.old.decoder }
+    ensures room { OnOk result (decoding.new.text.items ≡ []) }
+    ensures goes { IsTrue K.tells → OnOk result ((bytes before : List ℕ) → IsDecoding decoding.old bytes before (K.written sink.old)
+        → IsDecoding decoding.new bytes before (K.written sink.new)) }
+    ensures ends { IsTrue K.tells → OnErr result ((bytes before : List ℕ) → IsDecoding decoding.old bytes before (K.written sink.old)
+        → IsFrontOfLines bytes before (K.written sink.new)) }
+{
+    write_all(sink, decoding.text.as_slice())?;
+    decoding.text.clear();
+    Ok(())
+}
+
+/// Writes the lines that are gathered where a step could want more room than there is.
+fn make_room<K: Sink>(sink: &mut K, decoding: &mut Decoding) -> Result<(), Failed>
+    ensures count { K.faults sink.old ≤ K.faults sink.new }
+    ensures fault { OnErr result (Rose (K.faults sink.old) (K.faults sink.new)) }
+    ensures read { decoding.new.decoder ≡ decoding.old.decoder }
+    ensures room { OnOk result (length decoding.new.text.items + 256 ≤ 8192) }
+    ensures goes { IsTrue K.tells → OnOk result ((bytes before : List ℕ) → IsDecoding decoding.old bytes before (K.written sink.old)
+        → IsDecoding decoding.new bytes before (K.written sink.new)) }
+    ensures ends { IsTrue K.tells → OnErr result ((bytes before : List ℕ) → IsDecoding decoding.old bytes before (K.written sink.old)
+        → IsFrontOfLines bytes before (K.written sink.new)) }
+{
+    if decoding.text.len() > 7936 {
+        flush_lines(sink, decoding)?;
+    }
+    Ok(())
+}
+
+/// Reads a byte of the record.
+fn take_byte<K: Sink>(sink: &mut K, decoding: &mut Decoding, byte: u8) -> Result<(), Failed>
+    requires few { decoding.old.decoder.count < 16777216 }
+    ensures count { K.faults sink.old ≤ K.faults sink.new }
+    ensures fault { OnErr result (Rose (K.faults sink.old) (K.faults sink.new)) }
+    ensures read { OnOk result (decoding.new.decoder.count ≡ decoding.old.decoder.count + 1) }
+    ensures goes { IsTrue K.tells → OnOk result ((bytes before : List ℕ) → IsDecoding decoding.old bytes before (K.written sink.old)
+        → IsDecoding decoding.new (bytes ++ byte ∷ []) before (K.written sink.new)) }
+    ensures ends { IsTrue K.tells → OnErr result ((bytes before : List ℕ) → IsDecoding decoding.old bytes before (K.written sink.old)
+        → IsFrontOfLines bytes before (K.written sink.new)) }
+{
+    make_room(sink, decoding)?;
+    decoding.decoder.step(byte, &mut decoding.text);
+    Ok(())
+}
+
+/// Reads a byte of the record, unless the record has its most bytes already.
+fn take_next<K: Sink>(sink: &mut K, decoding: &mut Decoding, byte: u8) -> Result<(), Status>
+    requires few { decoding.old.decoder.count ≤ 16777216 }
+    ensures count { K.faults sink.old ≤ K.faults sink.new }
+    ensures write_fault { result ≡ Err Status.WriteFault → Rose (K.faults sink.old) (K.faults sink.new) }
+    ensures read_fault { result ≢ Err Status.ReadFault }
+    ensures words { result ≢ Err Status.BadWords }
+    ensures few { OnOk result (decoding.new.decoder.count ≤ 16777216) }
+    ensures progress { OnOk result (decoding.new.decoder.count ≡ decoding.old.decoder.count + 1) }
+    ensures goes { IsTrue K.tells → OnOk result ((bytes before : List ℕ) → IsDecoding decoding.old bytes before (K.written sink.old)
+        → IsDecoding decoding.new (bytes ++ byte ∷ []) before (K.written sink.new)) }
+    ensures ends { IsTrue K.tells → IfErr result (λ status. (bytes left ahead before : List ℕ) → IsDecoding decoding.old bytes before (K.written sink.old)
+        → DecodedBy status (bytes ++ byte ∷ ahead) left before (K.written sink.new)) }
+{
+    if decoding.decoder.count == Decoder::MAX_BYTES {
+        if flush_lines(sink, decoding).is_err() {
+            return Err(Status::WriteFault);
+        }
+        return Err(Status::TooMany { count: 16_777_217 });
+    }
+    match take_byte(sink, decoding, byte) {
+        Ok(()) => Ok(()),
+        Err(Failed) => Err(Status::WriteFault),
+    }
+}
+
+/// Reads the bytes of a piece of the record, one after another.
+fn take_each<K: Sink>(sink: &mut K, decoding: &mut Decoding, piece: &[u8]) -> Result<(), Status>
+    requires few { decoding.old.decoder.count ≤ 16777216 }
+    ensures count { K.faults sink.old ≤ K.faults sink.new }
+    ensures write_fault { result ≡ Err Status.WriteFault → Rose (K.faults sink.old) (K.faults sink.new) }
+    ensures read_fault { result ≢ Err Status.ReadFault }
+    ensures words { result ≢ Err Status.BadWords }
+    ensures few { OnOk result (decoding.new.decoder.count ≤ 16777216) }
+    ensures progress { OnOk result (decoding.new.decoder.count ≡ decoding.old.decoder.count + length piece.now) }
+    ensures goes { IsTrue K.tells → OnOk result ((bytes before : List ℕ) → IsDecoding decoding.old bytes before (K.written sink.old)
+        → IsDecoding decoding.new (bytes ++ piece.now) before (K.written sink.new)) }
+    ensures ends { IsTrue K.tells → IfErr result (λ status. (bytes left rest before : List ℕ) → IsDecoding decoding.old bytes before (K.written sink.old)
+        → DecodedBy status (bytes ++ piece.now ++ rest) left before (K.written sink.new)) }
+{
+    for byte in piece {
+        if let Err(status) = take_next(sink, decoding, *byte) {
+            return Err(status);
+        }
+    }
+    Ok(())
+}
+
+/// Reads a piece of the record, and writes the lines that it gave.
+fn take_record<K: Sink>(sink: &mut K, decoding: &mut Decoding, piece: &[u8]) -> Result<(), Status>
+    requires few { decoding.old.decoder.count ≤ 16777216 }
+    ensures count { K.faults sink.old ≤ K.faults sink.new }
+    ensures write_fault { result ≡ Err Status.WriteFault → Rose (K.faults sink.old) (K.faults sink.new) }
+    ensures read_fault { result ≢ Err Status.ReadFault }
+    ensures words { result ≢ Err Status.BadWords }
+    ensures few { OnOk result (decoding.new.decoder.count ≤ 16777216) }
+    ensures progress { OnOk result (decoding.new.decoder.count ≡ decoding.old.decoder.count + length piece.now) }
+    ensures goes { IsTrue K.tells → OnOk result ((input rest before : List ℕ) →
+        HasDecoded decoding.old input (piece.now ++ rest) before (K.written sink.old)
+        → HasDecoded decoding.new input rest before (K.written sink.new)) }
+    ensures ends { IsTrue K.tells → IfErr result (λ status. (input rest before : List ℕ) →
+        HasDecoded decoding.old input (piece.now ++ rest) before (K.written sink.old)
+        → DecodedBy status input rest before (K.written sink.new)) }
+{
+    if let Err(status) = take_each(sink, decoding, piece) {
+        return Err(status);
+    }
+    match flush_lines(sink, decoding) {
+        Ok(()) => Ok(()),
+        Err(Failed) => Err(Status::WriteFault),
+    }
+}
+
+/// The record has ended: writes the lines that are gathered, and the last line.
+fn close_record<K: Sink>(sink: &mut K, decoding: &mut Decoding) -> Status
+    requires few { decoding.old.decoder.count ≤ 16777216 }
+    ensures write_fault { result ≡ Status.WriteFault → Rose (K.faults sink.old) (K.faults sink.new) }
+    ensures read_fault { result ≢ Status.ReadFault }
+    ensures words { result ≢ Status.BadWords }
+    ensures ends { IsTrue K.tells → (input before : List ℕ) → HasDecoded decoding.old input [] before (K.written sink.old)
+        → DecodedBy result input [] before (K.written sink.new) }
+{
+    if make_room(sink, decoding).is_err() {
+        return Status::WriteFault;
+    }
+    decoding.decoder.finish(&mut decoding.text);
+    if write_all(sink, decoding.text.as_slice()).is_err() {
+        return Status::WriteFault;
+    }
+    Status::Done
+}
+
+/// Reads a piece of the record and decodes it. `Ok(false)` says that the record has ended.
+fn pump_record<S: Source, K: Sink>(
+    source: &mut S,
+    sink: &mut K,
+    decoding: &mut Decoding,
+    buffer: &mut [u8],
+) -> Result<bool, Status>
+    requires few { decoding.old.decoder.count ≤ 16777216 }
+    requires room { 0 < length buffer.old }
+    ensures reads { S.faults source.old ≤ S.faults source.new }
+    ensures writes { K.faults sink.old ≤ K.faults sink.new }
+    ensures read_fault { result ≡ Err Status.ReadFault → Rose (S.faults source.old) (S.faults source.new) }
+    ensures write_fault { result ≡ Err Status.WriteFault → Rose (K.faults sink.old) (K.faults sink.new) }
+    ensures words { result ≢ Err Status.BadWords }
+    ensures few { OnOk result (decoding.new.decoder.count ≤ 16777216) }
+    ensures progress { result ≡ Ok true → decoding.old.decoder.count < decoding.new.decoder.count }
+    ensures end { IsTrue S.tells → result ≡ Ok false → S.left source.new ≡ [] }
+    ensures goes { IsTrue S.tells → IsTrue K.tells → OnOk result ((input before : List ℕ) →
+        HasDecoded decoding.old input (S.left source.old) before (K.written sink.old)
+        → HasDecoded decoding.new input (S.left source.new) before (K.written sink.new)) }
+    ensures ends { IsTrue S.tells → IsTrue K.tells → IfErr result (λ status. (input before : List ℕ) →
+        HasDecoded decoding.old input (S.left source.old) before (K.written sink.old)
+        → DecodedBy status input (S.left source.new) before (K.written sink.new)) }
+{
+    match source.read(buffer) {
+        Err(Failed) => Err(Status::ReadFault),
+        Ok(0) => Ok(false),
+        Ok(n) => match take_record(sink, decoding, &buffer[..n]) {
+            Ok(()) => Ok(true),
+            Err(status) => Err(status),
+        },
+    }
+}
+
+/// Decodes the record that the source has left.
+pub fn decode<S: Source, K: Sink>(source: &mut S, sink: &mut K) -> Status
+    ensures read_fault { result ≡ Status.ReadFault → Rose (S.faults source.old) (S.faults source.new) }
+    ensures write_fault { result ≡ Status.WriteFault → Rose (K.faults sink.old) (K.faults sink.new) }
+    ensures decoded { IsTrue S.tells → IsTrue K.tells →
+        DecodedBy result (S.left source.old) (S.left source.new) (K.written sink.old) (K.written sink.new) }
+    ensures words { result ≢ Status.BadWords }
+{
+    let mut decoding = Decoding {
+        decoder: Decoder::new(),
+        text: Text::new(),
+    };
+    let mut buffer = [0; PIECE];
+    'input: loop {
+        match pump_record(source, sink, &mut decoding, &mut buffer) {
+            Ok(true) => {}
+            Ok(false) => return close_record(sink, &mut decoding),
+            Err(status) => return status,
+        }
+    }
+}
