@@ -1,5 +1,5 @@
 #!/usr/bin/env python3
-"""Writes two line records of 16 MB: frames on both wires, and noise."""
+"""Writes three line records of 16 MB: frames on both wires, random bits on both wires, and random bytes."""
 
 import random
 import sys

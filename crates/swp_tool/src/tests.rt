@@ -246,14 +246,22 @@ const ECHO_IS_NORMALISED: [&str; 2] = [
     "\
 swp 1 bare 02\n\
 # spaces, comments and digits of either case\n\
+\x20 send   02h 1f 0a0B \n\
 \n\
-\n\
+deliver  02c\n\
 ",
     "\
 > swp 1 bare 02\n\
 up 02c 0\n\
 up 02h 0\n\
-done 4\n\
+> send 02h 1F 0A0B\n\
+sent 02h 0 1F 0A0B\n\
+emit 02h 809F0A0B\n\
+> deliver 02c\n\
+took 02c 809F0A0B\n\
+got 02c 0 1F 0A0B\n\
+emit 02c C1\n\
+done 5\n\
 ",
 ];
 
