@@ -1,6 +1,6 @@
 -- A link on which fragments are given and frames are taken, and nothing else happens: no session ends, and only I frames, RR
 -- and REJ are made.
-use Rattle.std.proofs.Common.{◌≡◌, ℕ, zero, suc, ◌+◌, ◌-◌, ◌%◌, ◌<◌, ◌≤◌, ◌==◌, Bool, true, false, List, [], ◌∷◌, length, refl, sym, ap, ◌∙◌, arith, subst}
+use Rattle.std.proofs.Common.{◌≡◌, ℕ, zero, suc, ◌+◌, ◌-◌, ◌%◌, ◌≤◌, ◌==◌, Bool, true, false, List, [], ◌∷◌, length, refl, sym, ap, ◌∙◌, arith, subst}
 use Rattle.std.specs.Prelude.{Option, Some, None, not, ◌&&◌, ◌||◌, slice_get, nat_lt, nat_le, if◌then◌else◌}
 use Rattle.std.specs.List.{All, AllByRecursion}
 use Rattle.std.proofs.lemmas.Option.{slice_get_within, get_or_from_slice_get}
@@ -15,34 +15,7 @@ use Rattle.shdlc_core.specs.declared.answers.LinkState.TheVariants.{Up}
 use Rattle.shdlc_core.specs.declared.answers.Due.{Due}
 use Rattle.shdlc_core.specs.declared.answers.Due.TheVariants.{Rr as Rr_due, Rej as Rej_due, Rnr as Rnr_due, Rset as Rset_due, Ua as Ua_due}
 use Rattle.shdlc_core.specs.Machine.{EndState, Session, Fragment, taken, take_answer, fragment_due, sent_next, expected, frames_of, after_frames, all_frames, all_fetched, put_out, place_of, ahead, accepted, repeated, acknowledged, ready_again, rejected, received}
-
--- a control frame that is due is RR or REJ
-abbrev pub IsCalmDue : Due → Type 0
-IsCalmDue Rr_due = Unit {0}
-IsCalmDue Rej_due = Unit {0}
-IsCalmDue Rnr_due = ⊥
-IsCalmDue Rset_due = ⊥
-IsCalmDue Ua_due = ⊥
-
--- a frame is an I frame, RR or REJ, with its numbers modulo 8
-abbrev pub IsCalmFrame : Control → Type 0
-IsCalmFrame (I ns nr info) = (ns < 8) × (nr < 8) × IsInfo info
-IsCalmFrame (S Rr nr) = nr < 8
-IsCalmFrame (S Rej nr) = nr < 8
-IsCalmFrame (S Rnr nr) = ⊥
-IsCalmFrame (S Srej nr) = ⊥
-IsCalmFrame (Rset window caps) = ⊥
-IsCalmFrame Ua = ⊥
-IsCalmFrame (Act act again) = ⊥
-IsCalmFrame Clt = ⊥
-
--- an end is Up and takes fragments; what waits to be sent are fragments and at most this many control frames
-pub record IsCalm (e : EndState) (few : ℕ) : Type 0 where
-  pub up : e.phase ≡ Up
-  pub ready : e.ready ≡ true
-  pub calm_due : AllByRecursion IsCalmDue e.due
-  pub few_due : length e.due ≤ few
-  pub fits : All IsInfo e.session.out
+use Rattle.history_laws.specs.Calm.{IsCalm, IsCalmDue, IsCalmFrame}
 
 -- ## What an end sends
 

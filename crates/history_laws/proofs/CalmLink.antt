@@ -9,7 +9,8 @@ use Rattle.swp_base.specs.declared.control_frames.Kind.TheVariants.{Rr, Rej, Rnr
 use Rattle.shdlc_core.specs.declared.answers.LinkState.TheVariants.{Up}
 use Rattle.shdlc_core.specs.Machine.{EndState, Fragment, put_out, taken, take_answer, all_frames, all_fetched}
 use Rattle.link_laws.specs.Link.{Link, Carried, Offer, Deliver, is_full, is_rnr, with_frame, put, put_all, becomes, happens_here}
-use Rattle.history_laws.proofs.Calm.{IsCalm, IsCalmFrame, taken_calm, taken_ends_nothing, put_out_calm, all_frames_calm, all_fetched_calm}
+use Rattle.history_laws.specs.Calm.{IsCalm, IsCalmFrame}
+use Rattle.history_laws.proofs.Calm.{taken_calm, taken_ends_nothing, put_out_calm, all_frames_calm, all_fetched_calm}
 
 abbrev pub AreCalm : List Carried → Type 0
 AreCalm wire = AllByRecursion (λ x. IsCalmFrame x.frame) wire

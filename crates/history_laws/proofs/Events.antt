@@ -15,7 +15,8 @@ use Rattle.history.specs.Filters.{same_end, Message, sent_by, sent_in, got_by, g
 use Rattle.history.specs.LinkMachine.{given, taken_lpdu, lpdus_of, whole_among, messages_got}
 use Rattle.history.specs.Follows.{machine_after, machine_at, number_at, emits, acked_note, got_notes, sent_event, took_event}
 use Rattle.history_laws.proofs.Ends.{same_end_self, same_end_other, same_end_other_left}
-use Rattle.history_laws.proofs.Filtering.{fold_both, fold-puts, filter_map-puts, put_on, pushed_off, wire-puts, losses-puts, wire-puts-elsewhere, losses-puts-elsewhere}
+use Rattle.history_laws.specs.Calm.{put_on}
+use Rattle.history_laws.proofs.Filtering.{fold_both, fold-puts, filter_map-puts, pushed_off, wire-puts, losses-puts, wire-puts-elsewhere, losses-puts-elsewhere}
 
 -- ## Notes
 

@@ -13,6 +13,7 @@ use Rattle.trace_model.specs.Ends.{other_end}
 use Rattle.history.specs.Filters.{same_end, wire_after, losses_after}
 use Rattle.history.specs.Follows.{puts, pushed_out, kept_on, wire_limit}
 use Rattle.history_laws.proofs.Ends.{same_end_self, other_other}
+use Rattle.history_laws.specs.Calm.{put_on}
 
 -- ## Entries that a filter or a fold passes over
 
@@ -54,11 +55,6 @@ filter_map-puts {M} f e emits loses wire (lpdu ∷ lpdus) =
     pushed (l ∷ lost) = one (f (Lost (other_end e) l Pushed_out)) (loses l) (filter_map f (map (λ k. Lost (other_end e) k Pushed_out) lost)) ∙ pushed lost
 
 -- ## The wire that an end puts frames on
-
--- a wire after frames were put on it
-abbrev pub put_on : List (List ℕ) → List (List ℕ) → List (List ℕ)
-put_on wire [] = wire
-put_on wire (lpdu ∷ lpdus) = put_on (kept_on (wire ++ lpdu ∷ [])) lpdus
 
 -- the frames that were pushed out of it
 abbrev pub pushed_off : List (List ℕ) → List (List ℕ) → List (List ℕ)

@@ -10,8 +10,8 @@ use Rattle.link_laws.specs.Link.{Link, Carried, LinkEvent, AtController, AtHost,
 use Rattle.history.specs.Filters.{wire_to, losses_to}
 use Rattle.history.specs.Follows.{machine_at, pushed_out, kept_on, wire_limit}
 use Rattle.history_laws.proofs.Ends.{other_other}
-use Rattle.history_laws.proofs.Filtering.{put_on, pushed_off}
-use Rattle.history_laws.proofs.Calm.{IsCalmFrame}
+use Rattle.history_laws.specs.Calm.{IsCalmFrame, put_on}
+use Rattle.history_laws.proofs.Filtering.{pushed_off}
 
 -- what is written for a calm frame is read again
 abbrev pub ReadsAgain : Type 0

@@ -16,7 +16,7 @@ use Rattle.history.specs.LinkMachine.{bare_end}
 use Rattle.history.specs.Follows.{machine_after, machine_at, StepsFollow, Follows}
 use Rattle.history.specs.Legal.{IsComplete, Legal}
 use Rattle.history_laws.proofs.Ends.{end_at}
-use Rattle.history_laws.proofs.Calm.{IsCalm}
+use Rattle.history_laws.specs.Calm.{IsCalm}
 use Rattle.history_laws.proofs.Orders.{InOrder0, InOrderAlong, IsQuiet, along_both, along_quiet, along_front, along_end}
 use Rattle.history_laws.proofs.Sound.{Laws, SoundEnd, Sound}
 use Rattle.history_laws.proofs.Legal.{sound_complete}

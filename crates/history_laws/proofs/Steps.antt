@@ -18,8 +18,9 @@ use Rattle.history.specs.Filters.{same_end, Message, sent_in, got_in, acked_in, 
 use Rattle.history.specs.LinkMachine.{given, taken_lpdu, lpdus_of, whole_among, messages_got}
 use Rattle.history.specs.Follows.{machine_at, number_at, sent_event, took_event}
 use Rattle.history_laws.proofs.Ends.{same_end_self, same_end_other}
-use Rattle.history_laws.proofs.Filtering.{put_on, pushed_off}
-use Rattle.history_laws.proofs.Calm.{IsCalmFrame, TakesOn, all_fetched_same}
+use Rattle.history_laws.specs.Calm.{IsCalmFrame, put_on}
+use Rattle.history_laws.proofs.Filtering.{pushed_off}
+use Rattle.history_laws.proofs.Calm.{TakesOn, all_fetched_same}
 use Rattle.history_laws.proofs.Mirror.{ReadsAgain, lpdus_on, Mirrors, put_all_wire, put_all_keeps, put_all_controller, append_none}
 use Rattle.history_laws.proofs.Whole.{fragments_of_one, fragments_of-push, sendable-push, whole_among-grows, whole_among-push}
 use Rattle.history_laws.proofs.Events.{machine-took, machine-took-elsewhere, wire-took, wire-took-back, losses-took, losses-took-back, session-took, machine-sent, machine-sent-elsewhere, wire-sent, wire-sent-back, losses-sent, losses-sent-back, session-sent, sent_in-sent, got_in-sent, acked_in-sent, new_messages, sent_in-took, got_in-took, acked_in-took-elsewhere, acked_in-took-here, whole_before, whole_after}

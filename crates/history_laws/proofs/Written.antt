@@ -6,7 +6,7 @@ use Rattle.swp_base.specs.declared.control_frames.Control.{Control}
 use Rattle.swp_base.specs.declared.control_frames.Control.TheVariants.{I, S, Rset, Ua, Act, Clt}
 use Rattle.swp_base.specs.declared.control_frames.Kind.TheVariants.{Rr, Rej, Rnr, Srej}
 use Rattle.swp_lpdu.specs.Controls.{control_of, bytes_of as lpdu_of}
-use Rattle.history_laws.proofs.Calm.{IsCalmFrame}
+use Rattle.history_laws.specs.Calm.{IsCalmFrame}
 
 reads_rr : (nr : ℕ) → nr < 8 → control_of (lpdu_of (S Rr nr)) ≡ Ok (S Rr nr)
 reads_rr nr low = grind (arith, common_steps)

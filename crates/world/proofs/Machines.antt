@@ -16,7 +16,8 @@ use Rattle.shdlc_core.specs.declared.answers.Taken.{Taken}
 use Rattle.shdlc_core.specs.declared.answers.Due.{Due}
 use Rattle.shdlc_core.specs.declared.answers.Due.TheVariants.{Rr as Rr_due, Rej as Rej_due, Rnr as Rnr_due, Rset as Rset_due, Ua as Ua_due}
 use Rattle.shdlc_core.specs.Machine.{EndState, Session, Fragment, taken, take_answer, nothing_taken, fetched, frame_due, fragment_due, fragment_accepted, newly_acked, sent_next, expected, place_of, ahead, accepted, repeated, acknowledged, ready_again, rejected, received}
-use Rattle.history_laws.proofs.Calm.{IsCalm, IsCalmFrame, IsCalmDue, calm_form}
+use Rattle.history_laws.specs.Calm.{IsCalm, IsCalmDue, IsCalmFrame}
+use Rattle.history_laws.proofs.Calm.{calm_form}
 use Rattle.world.specs.Ends.{with_out, IsLast, IsLastIn}
 
 -- ## The frame that is sent now

@@ -18,8 +18,7 @@ use Rattle.trace_model.specs.Ends.{other_end}
 use Rattle.shdlc_core.specs.Machine.{EndState, Fragment, frame_due, fetched, frames_of, after_frames}
 use Rattle.shdlc_core.specs.Kept.{Kept}
 use Rattle.history.specs.Follows.{puts, pushed_out, kept_on, wire_limit}
-use Rattle.history_laws.proofs.Filtering.{put_on}
-use Rattle.history_laws.proofs.Calm.{IsCalmFrame}
+use Rattle.history_laws.specs.Calm.{IsCalmFrame, put_on}
 use Rattle.world.specs.Ends.{EndStandsFor, CanSend, IsLast, IsLastIn}
 use Rattle.world.specs.Wires.{IsFrame, Sends}
 use Rattle.world.proofs.Machines.{all_append, all_drop, fetched-none, fetched-keeps, frame-calm}

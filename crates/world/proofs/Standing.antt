@@ -16,8 +16,8 @@ use Rattle.history.specs.Filters.{Message, same_end, sent_in, acked_after, acked
 use Rattle.history.specs.LinkMachine.{given, taken_lpdu, lpdus_of, whole_among, messages_got}
 use Rattle.history.specs.Follows.{machine_at, number_at, emits, puts, acked_note, got_notes, sent_event, took_event, took_events}
 use Rattle.history_laws.proofs.Ends.{same_end_self, same_end_other}
-use Rattle.history_laws.proofs.Filtering.{put_on}
-use Rattle.history_laws.proofs.Calm.{IsCalm, SentFrom, put_out_calm, all_fetched_same, all_fetched_calm}
+use Rattle.history_laws.specs.Calm.{IsCalm, put_on}
+use Rattle.history_laws.proofs.Calm.{SentFrom, put_out_calm, all_fetched_same, all_fetched_calm}
 use Rattle.history_laws.proofs.Events.{machine-took, machine-took-elsewhere, wire-took, wire-took-back, session-took, machine-sent, machine-sent-elsewhere, wire-sent, wire-sent-back, session-sent, sent_in-sent, acked_in-sent, sent_in-took, acked_in-took}
 use Rattle.world.specs.declared.side.Side.{Side}
 use Rattle.world.specs.Ends.{EndStandsFor, IsLast, CanSend}

@@ -13,7 +13,8 @@ use Rattle.shdlc_core.specs.Kept.{Kept}
 use Rattle.trace_model.specs.declared.entry.Entry.{Entry}
 use Rattle.trace_model.specs.declared.line.End.{End}
 use Rattle.history.specs.LinkMachine.{taken_lpdu, messages_got}
-use Rattle.history_laws.proofs.Calm.{IsCalm, IsCalmFrame, TakesOn, taken_calm}
+use Rattle.history_laws.specs.Calm.{IsCalm, IsCalmFrame}
+use Rattle.history_laws.proofs.Calm.{TakesOn, taken_calm}
 use Rattle.world.specs.declared.side.Side.{Side}
 use Rattle.world.specs.Ends.{EndStandsFor, IsLast, IsLastIn}
 use Rattle.world.specs.Wires.{IsFrame}

@@ -21,7 +21,7 @@ use Rattle.world.specs.declared.side.Side.{Side}
 use Rattle.world.specs.declared.world_steps.World.{World}
 use Rattle.world.specs.Ends.{EndStandsFor, IsLast}
 use Rattle.world.specs.Wires.{IsFrame}
-use Rattle.history_laws.proofs.Calm.{IsCalm}
+use Rattle.history_laws.specs.Calm.{IsCalm}
 use Rattle.shdlc_core.specs.Machine.{EndState}
 use Rattle.world.specs.Sides.{IsShort, SideStandsFor, BothStandFor}
 use Rattle.world.specs.Steps.{Does, end_of_line}

@@ -5,7 +5,7 @@ use Rattle.std.specs.List.{All, AllByRecursion}
 use Rattle.swp_base.specs.DataUnits.{IsInfo}
 use Rattle.swp_base.specs.declared.control_frames.Control.{Control}
 use Rattle.swp_base.specs.declared.control_frames.Control.TheVariants.{I}
-use Rattle.history_laws.proofs.Calm.{IsCalmDue}
+use Rattle.history_laws.specs.Calm.{IsCalmDue}
 use Rattle.shdlc_core.specs.Machine.{EndState, Fragment}
 use Rattle.shdlc_core.specs.Kept.{Kept, StandsFor}
 

@@ -6,7 +6,7 @@ use Rattle.trace_model.specs.declared.line.End.{End}
 use Rattle.trace_model.specs.Ends.{other_end}
 use Rattle.history.specs.Filters.{Message, sent_in, acked_in, wire_to, session_of}
 use Rattle.history.specs.Follows.{machine_at}
-use Rattle.history_laws.proofs.Calm.{IsCalm}
+use Rattle.history_laws.specs.Calm.{IsCalm}
 use Rattle.world.specs.declared.side.Side.{Side}
 use Rattle.world.specs.Ends.{EndStandsFor, IsLast}
 use Rattle.world.specs.Wires.{IsFrame}

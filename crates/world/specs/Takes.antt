@@ -7,7 +7,7 @@ use Rattle.trace_model.specs.declared.entry.Entry.TheVariants.{Acked, Got}
 use Rattle.trace_model.specs.declared.line.End.{End}
 use Rattle.history.specs.Filters.{Message}
 use Rattle.history.specs.LinkMachine.{taken_lpdu, messages_got}
-use Rattle.history_laws.proofs.Calm.{IsCalm}
+use Rattle.history_laws.specs.Calm.{IsCalm}
 use Rattle.world.specs.declared.side.Side.{Side}
 use Rattle.world.specs.Ends.{EndStandsFor, IsLast}
 

@@ -8,8 +8,7 @@ use Rattle.shdlc_core.specs.Kept.{Kept}
 use Rattle.trace_model.specs.declared.entry.Entry.{Entry}
 use Rattle.trace_model.specs.declared.line.End.{End}
 use Rattle.history.specs.Follows.{puts}
-use Rattle.history_laws.proofs.Calm.{IsCalmFrame}
-use Rattle.history_laws.proofs.Filtering.{put_on}
+use Rattle.history_laws.specs.Calm.{IsCalmFrame, put_on}
 use Rattle.world.specs.Ends.{EndStandsFor, IsLastIn}
 
 -- a frame on a wire is an I frame with the last packet of a message, RR or REJ

@@ -6,7 +6,7 @@ ghost use Rattle.std.specs.Option.{option_to_list};
 ghost use Rattle.shdlc_core.specs.declared.LinkState.{LinkState};
 ghost use Rattle.shdlc_core.specs.Machine.{EndState, Fragment, put_out, taken, take_answer, frame_due, fetched};
 ghost use Rattle.history.specs.LinkMachine.{bare_end};
-ghost use Rattle.history_laws.proofs.Calm.{IsCalm, IsCalmFrame};
+ghost use Rattle.history_laws.specs.Calm.{IsCalm, IsCalmFrame};
 ghost use Rattle.world.specs.Ends.{EndStandsFor, Offers};
 
 use shdlc_core::{LinkState, Shdlc, Taken};
