@@ -1,8 +1,8 @@
 -- Bits kept as whole bytes and a rest.
-use Rattle.std.proofs.Common.{◌≡◌, ℕ, suc, zero, ◌+◌, ◌-◌, ◌*◌, ◌/◌, ◌%◌, ◌^◌, ◌≤◌, ◌<◌, Bool, true, false, List, [], ◌∷◌, ◌++◌, length, take, drop, replicate, get_or, refl, sym, ap, ◌∙◌, subst, arith, length-append, length-take, length-drop, append_assoc, append-nil, take-append-drop}
+use Rattle.std.proofs.Common.{◌≡◌, ℕ, suc, ◌+◌, ◌-◌, ◌*◌, ◌/◌, ◌%◌, ◌^◌, ◌≤◌, ◌<◌, Bool, true, false, List, [], ◌∷◌, ◌++◌, length, take, drop, get_or, refl, sym, ap, ◌∙◌, subst, arith, length-append, length-take, length-drop, append_assoc, append-nil, take-append-drop}
 use mir.Val.{bool_byte}
-use Rattle.std.proofs.Math.Nat.{pow-suc}
 use Rattle.std.proofs.Math.ListN.{length-replicate}
+use Rattle.std.proofs.Math.Seq.{take-append_seam}
 use Rattle.std.proofs.lemmas.List.{take_more, take-append-le}
 use Rattle.std.proofs.lemmas.Nat.{div-mul-add, mod-mul-add}
 use Rattle.swp_base.specs.Bits.{bits_of, bits_of_byte}
@@ -163,15 +163,10 @@ pub length-run_bits : (held : Bool) (ones : ℕ) → length (run_bits held ones)
 length-run_bits true ones = ap suc (length-replicate ones true) ∙ omega arith
 length-run_bits false ones = length-replicate ones true ∙ omega arith
 
-pub number_of-ones : (n : ℕ) → number_of (replicate n true) + 1 ≡ 2 ^ n
-number_of-ones zero = refl
-number_of-ones (suc n) =
-    let power : 2 ^ length (replicate n true) ≡ 2 ^ n = ap (λ m. 2 ^ m) (length-replicate n true) in
-    omega (arith, number_of-ones n, power, pow-suc 2 n)
-
-pub number_of-run_bits : (held : Bool) (ones : ℕ) → number_of (run_bits held ones) + 1 ≡ 2 ^ ones
-number_of-run_bits true ones = number_of-ones ones
-number_of-run_bits false ones = number_of-ones ones
+-- what is read of the end of a frame before its last 1 bit
+pub length-end : (counts : Bool) → (length (run_bits counts 6) ≡ 6 + bool_byte counts) × (length (run_bits counts 6) < 8)
+length-end true = (length-run_bits true 6, omega (arith, length-run_bits true 6))
+length-end false = (length-run_bits false 6, omega (arith, length-run_bits false 6))
 
 -- the verdict on a content of a right length
 pub judged_whole : (bits : List Bool) → 24 ≤ length bits → length bits ≤ 256 → length bits % 8 ≡ 0 → judged bits ≡ judged_bytes (bytes_of bits)
@@ -198,3 +193,21 @@ last_two result n bytes slice back is at same count long =
     let second : get_or back 1 0 ≡ get_or bytes (length bytes - 1) 0 =
     at 1 0 ∙ ap (λ xs. get_or xs (n - 2 + 1) 0) same ∙ ap (λ i. get_or bytes i 0) (omega (arith, count, long)) in
     omega (arith, is, first, second)
+
+-- whole bytes, and less than a byte behind them
+pub without_end : (bytes : List ℕ) (partial register : ℕ) (bits end : List Bool) → KeepsBits bytes partial register (bits ++ end) → length bits % 8 ≡ 0 → length end < 8
+    → KeepsBits bytes 0 register bits
+without_end bytes partial register bits end kept whole short = record {
+  rest = [];
+  whole = sym (take-append_seam bits end) ∙ ap (λ xs. take (length bits) xs) kept.whole ∙ ap (λ n. take n (bits_of bytes ++ kept.rest)) same ∙ take-append_seam (bits_of bytes) kept.rest ∙ sym (append-nil (bits_of bytes));
+  short = omega arith;
+  number = refl;
+  in_range = kept.in_range;
+  running = kept.running;
+}
+  where
+    lengths : length bits + length end ≡ 8 * length bytes + length kept.rest
+    lengths = sym (length-append bits end) ∙ ap length kept.whole ∙ length-append (bits_of bytes) kept.rest ∙ ap (λ n. n + length kept.rest) (length-bits_of bytes)
+
+    same : length bits ≡ length (bits_of bytes)
+    same = omega (arith, lengths, whole, short, kept.short, length-bits_of bytes)

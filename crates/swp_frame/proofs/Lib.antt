@@ -2,3 +2,5 @@ pub mod Shifts
 pub mod ContentLemmas
 pub mod Runs
 pub mod WritingLemmas
+pub mod ShortRuns
+pub mod EightBits

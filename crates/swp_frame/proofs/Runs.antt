@@ -1,11 +1,10 @@
 -- Runs of 1 bits, and what was read since the start of a frame.
-use Rattle.std.proofs.Common.{◌≡◌, ◌≢◌, ℕ, suc, zero, ◌≤◌, Bool, true, false, not, cond, eqb, List, [], ◌∷◌, ◌++◌, drop, replicate, reverse, Option, Some, None, refl, sym, ap, ◌∙◌, subst, arith, append_assoc}
-use Rattle.std.proofs.lemmas.Bool.{eq-eqb, ne_eqb}
+use Rattle.std.proofs.Common.{◌≡◌, ◌≢◌, ℕ, suc, zero, ◌≤◌, Bool, true, false, not, cond, eqb, List, [], ◌∷◌, ◌++◌, drop, replicate, reverse, Option, Some, None, refl, sym, ap, ◌∙◌, subst, arith, append_assoc, append-nil}
+use Rattle.std.proofs.lemmas.Bool.{eq-eqb}
 use Rattle.std.proofs.lemmas.List.{reverse-append}
-use Rattle.std.specs.Prelude.{IsTrue, ◌↔◌}
 use Rattle.swp_frame.specs.declared.content.Content.{Content}
 use Rattle.swp_frame.specs.Signal.{Symbol, bit_0, bit_1, break, run_of, start_mark, end_mark, no_mark, since_mark, since_start, unstuffed}
-use Rattle.swp_frame.specs.Kept.{before_run, run_bits, with_held, KeepsContent, KeepsSince, KeepsOpen}
+use Rattle.swp_frame.specs.Kept.{before_run, run_bits, with_zero, CountsLastZero, KeepsSince, KeepsOpen}
 
 zero_run : (starts : Bool) (before : Option (List Symbol)) (since : List Symbol) → since_mark (cond starts start_mark no_mark) bit_0 before ≡ Some since → run_of since ≡ 0
 zero_run true before [] e = refl
@@ -55,7 +54,7 @@ reverse-ones zero = refl
 reverse-ones (suc n) =
     reverse-append (true ∷ []) (replicate n true) ∙ ap (λ xs. xs ++ true ∷ []) (reverse-ones n) ∙ ones-push n
 
-reverse-run : (held : Bool) (n : ℕ) (bits : List Bool) → reverse (replicate n true ++ with_held held bits) ≡ reverse bits ++ run_bits held n
+pub reverse-run : (counts : Bool) (n : ℕ) (bits : List Bool) → reverse (replicate n true ++ with_zero counts bits) ≡ reverse bits ++ run_bits counts n
 reverse-run true n bits =
     reverse-append (replicate n true) (false ∷ bits)
     ∙ ap (λ xs. xs ++ reverse (replicate n true)) (reverse-append (false ∷ []) bits)
@@ -70,33 +69,36 @@ opened None since content h e = absurd (cc)
 opened (Some k) None content h e = absurd h
 opened (Some k) (Some s) content h e = let same : k ≡ content = cc in (s, (refl, subst (λ x. KeepsSince x s) same h))
 
-held_next : (fives : Bool) (held : Bool) (bits : List Bool) → held ≡ not fives → cond fives bits (false ∷ bits) ≡ with_held held bits
-held_next true held bits e = rw e refl
-held_next false held bits e = rw e refl
-
--- a 0 is read, where no frame starts
-pub zero_read : (kept after : Content) (since : List Symbol) → KeepsSince kept since
-    → KeepsContent after (reverse (unstuffed (drop 1 (before_run since))) ++ run_bits kept.held (run_of since))
-    → after.held ≡ not (eqb (run_of since) 5) → KeepsSince after (bit_0 ∷ since)
-zero_read kept after since old new held = record {
-  bits = subst (KeepsContent after) (sym (ap reverse (unstuffed_run since ∙ ap (λ xs. replicate (run_of since) true ++ xs) old.held)
-      ∙ reverse-run kept.held (run_of since) (unstuffed (drop 1 (before_run since))))) new;
-  held = held_next (eqb (run_of since) 5) after.held (unstuffed since) held;
-}
-
-pub held_is : (held : Bool) (n : ℕ) → (IsTrue held ↔ (n ≢ 5)) → held ≡ not (eqb n 5)
-held_is true n h = ap not (sym (ne_eqb n 5 (h.0 refl)))
-held_is false n h = tells (eqb n 5) refl
-  where
-    tells : (b : Bool) → eqb n 5 ≡ b → false ≡ not (eqb n 5)
-    tells true e = rw e refl
-    tells false e = absurd (differ (h.1 (λ five. differ (sym e ∙ eq-eqb n 5 five))))
-      where
-        differ : false ≡ true → ⊥
-        differ d = cc
-
 pub closed : (kept : Option Content) (since : Option (List Symbol)) → KeepsOpen kept since → ((content : Content) → kept ≡ Some content → ⊥)
     → (kept ≡ None) × (since ≡ None)
 closed None None h n = (refl, refl)
 closed None (Some s) h n = absurd h
 closed (Some k) since h n = absurd (n k refl)
+
+-- all bits since the start of a frame, from those before the last run of 1 bits
+pub since_bits : (counts : Bool) (since : List Symbol) → CountsLastZero counts since
+    → reverse (unstuffed since) ≡ reverse (unstuffed (drop 1 (before_run since))) ++ run_bits counts (run_of since)
+since_bits counts since h =
+    ap reverse (unstuffed_run since ∙ ap (λ xs. replicate (run_of since) true ++ xs) h)
+    ∙ reverse-run counts (run_of since) (unstuffed (drop 1 (before_run since)))
+
+-- the bit that a bit adds to the content, where it is content
+abbrev pub added : Bool → Bool → List Bool
+added bit true = bit ∷ []
+added bit false = []
+
+-- a 0 is read, which was put in where it stands behind five 1 bits
+pub zero_content : (since : List Symbol) (content : Bool) → content ≡ not (eqb (run_of since) 5)
+    → reverse (unstuffed since) ++ added false content ≡ reverse (unstuffed (bit_0 ∷ since))
+zero_content since content is = go (eqb (run_of since) 5) content is
+  where
+    go : (put_in content : Bool) → content ≡ not put_in → reverse (unstuffed since) ++ added false content ≡ reverse (cond put_in (unstuffed since) (false ∷ unstuffed since))
+    go true content e = rw e (append-nil (reverse (unstuffed since)))
+    go false content e = rw e (sym (reverse-append (false ∷ []) (unstuffed since)))
+
+pub zero_counts : (since : List Symbol) (content : Bool) → content ≡ not (eqb (run_of since) 5) → CountsLastZero content (bit_0 ∷ since)
+zero_counts since content is = go (eqb (run_of since) 5) content is
+  where
+    go : (put_in content : Bool) → content ≡ not put_in → cond put_in (unstuffed since) (false ∷ unstuffed since) ≡ with_zero content (unstuffed since)
+    go true content e = rw e refl
+    go false content e = rw e refl

@@ -28,26 +28,30 @@ pub record KeepsBits (bytes : List ℕ) (partial register : ℕ) (bits : List Bo
   pub in_range : AreBytes bytes
   pub running : register ≡ running_of (take (length bytes - 2) bytes)
 
--- the content stands for these bits; of more than 256 only their number is kept, up to 65,535
+-- the content stands for these bits; of more than 263 only their number is kept, up to 4,294,967,295
 pub record KeepsContent (kept : Content) (bits : List Bool) : Type 0 where
-  pub count : kept.bits ≡ min 65535 (length bits)
-  pub few : length bits ≤ 256 → KeepsBits kept.bytes.items kept.partial kept.register bits
+  pub count : kept.bits ≡ min 4294967295 (length bits)
+  pub few : length bits ≤ 263 → KeepsBits kept.bytes.items kept.partial kept.register bits
 
--- a run of 1 bits, and a 0 in front of it where one was held back
+-- a run of 1 bits, and the 0 in front of it where that is content
 abbrev pub run_bits : Bool → ℕ → List Bool
 run_bits true ones = false ∷ replicate ones true
 run_bits false ones = replicate ones true
 
--- bits with a 0 behind them, the newest first, where one is held back
-abbrev pub with_held : Bool → List Bool → List Bool
-with_held true bits = false ∷ bits
-with_held false bits = bits
+-- bits, the newest first, and the 0 behind them where that is content
+abbrev pub with_zero : Bool → List Bool → List Bool
+with_zero true bits = false ∷ bits
+with_zero false bits = bits
 
--- The content stands for what was read since the start of the frame: all bits before the last 0 and the run of 1 bits
--- behind it, which may belong to the end of the frame.
+-- Whether the last 0 that was read is content: it isn't where it was put in, or where none was read.
+abbrev pub CountsLastZero : Bool → List Symbol → Type 0
+CountsLastZero zero since = unstuffed (before_run since) ≡ with_zero zero (unstuffed (drop 1 (before_run since)))
+
+-- The content stands for what was read since the start of the frame: all its bits without those put in, the last of which
+-- may belong to the end of the frame.
 pub record KeepsSince (kept : Content) (since : List Symbol) : Type 0 where
-  pub bits : KeepsContent kept (reverse (unstuffed (drop 1 (before_run since))))
-  pub held : unstuffed (before_run since) ≡ with_held kept.held (unstuffed (drop 1 (before_run since)))
+  pub bits : KeepsContent kept (reverse (unstuffed since))
+  pub zero : CountsLastZero kept.zero since
 
 abbrev pub KeepsOpen : Option Content → Option (List Symbol) → Type 0
 KeepsOpen None None = Unit {0}

@@ -1,5 +1,5 @@
 -- What is read from one direction of a line, bits and breaks, and the marks in it. A list has the newest first.
-use Rattle.std.specs.Prelude.{ℕ, suc, ◌==◌, Bool, true, false, List, [], ◌∷◌, Option, Some, None, option_map, if◌then◌else◌}
+use Rattle.std.specs.Prelude.{ℕ, suc, ◌==◌, ◌&&◌, nat_lt, ◌≡◌, Bool, true, false, List, [], ◌∷◌, Option, Some, None, option_map, if◌then◌else◌}
 
 pub data Symbol : Type 0 where
   bit_0 : Symbol
@@ -49,3 +49,20 @@ unstuffed [] = []
 unstuffed (bit_0 ∷ older) = if run_of older == 5 then unstuffed older else false ∷ unstuffed older
 unstuffed (bit_1 ∷ older) = true ∷ unstuffed older
 unstuffed (break ∷ older) = unstuffed older
+
+-- what was read, the newest first, after these further bits, the oldest first
+abbrev pub read_on : List Symbol → List Bool → List Symbol
+read_on seen [] = seen
+read_on seen (next ∷ bits) = read_on (symbol_of next ∷ seen) bits
+
+-- no mark ends with any of these further bits, the oldest first
+abbrev pub HasNoMark : List Symbol → List Bool → Type 0
+HasNoMark seen [] = Unit {0}
+HasNoMark seen (next ∷ bits) = (mark_of (symbol_of next ∷ seen) ≡ no_mark) × HasNoMark (symbol_of next ∷ seen) bits
+
+-- Each run of 1 bits in these bits, the oldest first, is shorter than five, where so many 1 bits stood before them: no mark
+-- ends with one of them, and none was put in.
+abbrev pub has_short_runs : ℕ → List Bool → Bool
+has_short_runs ones [] = nat_lt ones 5
+has_short_runs ones (true ∷ bits) = has_short_runs (suc ones) bits
+has_short_runs ones (false ∷ bits) = nat_lt ones 5 && has_short_runs 0 bits

@@ -8,59 +8,70 @@ use swp_base::{FrameFault, Lpdu};
 use swp_crc::Register;
 
 /// The most bits of a content: those of 30 bytes and of the CRC.
-const MAX_BITS: u16 = 256;
+const MAX_BITS: u32 = 256;
 
 /// The fewest bits of a content: those of one byte and of the CRC.
-const MIN_BITS: u16 = 24;
+const MIN_BITS: u32 = 24;
 
-/// The bits of a content without those put in, up to the last 0 that was read.
+/// The most bits that are kept: those of the longest content, and seven of the end of its frame.
+const MAX_KEPT: u32 = 263;
+
+/// The 1 bits of the end of a frame, but for the one with which it ends.
+const END_ONES: u32 = 6;
+
+/// The greatest number of bits that is told; it stands for any greater number too.
+const MOST_TOLD: u32 = 65_535;
+
+/// The bits that were read since the start of the frame, without those put in. What stands at the end of the frame is among
+/// them.
 #[derive(Debug, Drop)]
 pub struct Content {
     /// The whole bytes.
     pub bytes: ArrayVec<u8, 32>,
     /// The bits of the byte under way, as a number.
     pub partial: u8,
-    /// How many bits there are; 65,535 stands for any greater number too.
-    pub bits: u16,
+    /// How many bits there are; 4,294,967,295 stands for any greater number too.
+    pub bits: u32,
     /// The CRC of all bytes but the last two.
     pub register: Register,
-    /// Whether the last 0 that was read is content, if it is no part of the end of the frame.
-    pub held: bool,
-    ghost whole_bytes: { bits ≤ 256 → length bytes.items ≡ bits / 8 },
-    ghost within_byte: { bits ≤ 256 → partial < 2 ^ (bits % 8) },
+    /// Whether the last 0 that was read is among the bits: it isn't where it was put in, or where none was read.
+    pub zero: bool,
+    ghost whole_bytes: { bits ≤ 263 → length bytes.items ≡ bits / 8 },
+    ghost within_byte: { bits ≤ 263 → partial < 2 ^ (bits % 8) },
 }
 
 impl Content {
-    ghost use Rattle.swp_frame.specs.Kept.{KeepsContent, run_bits};
+    ghost use Rattle.swp_frame.specs.Kept.{KeepsContent, KeepsSince, run_bits};
+    ghost use Rattle.swp_frame.specs.Signal.{Symbol, symbol_of, run_of, read_on, has_short_runs};
     ghost use Rattle.swp_crc.specs.Division.{number_of};
+    ghost use Rattle.swp_base.specs.Bits.{bits_of_byte};
     ghost use Rattle.swp_frame.specs.Content.{judged};
 
     /// A content of no bits.
     pub fn new() -> Self
-        ensures empty { KeepsContent result [] }
-        ensures held { result.held ≡ false }
+        ensures { KeepsSince result [] }
     {
         Self {
             bytes: ArrayVec::new(),
             partial: 0,
             bits: 0,
             register: Register::new(),
-            held: false,
+            zero: false,
         }
     }
 
     /// Appends the bits of a number, at most eight of them, the most significant first.
-    #[inline]
+    #[inline(always)]
     fn push_bits(&mut self, value: u8, width: u8)
         requires width { width ≤ 8 }
         requires value { value < 2 ^ width }
         ensures bits { (bits more : List Bool) → KeepsContent self.old bits → length more ≡ width → number_of more ≡ value
             → KeepsContent self.new (bits ++ more) }
-        ensures held { self.new.held ≡ self.old.held }
+        ensures zero { self.new.zero ≡ self.old.zero }
     {
-        let filled = self.bits % 8 + u16::from(width);
-        self.bits = self.bits.saturating_add(u16::from(width));
-        if self.bits > MAX_BITS {
+        let filled = self.bits % 8 + u32::from(width);
+        self.bits = self.bits.saturating_add(u32::from(width));
+        if self.bits > MAX_KEPT {
             return;
         }
         let partial = (u16::from(self.partial) << width) + u16::from(value);
@@ -73,29 +84,39 @@ impl Content {
         self.partial = (partial % (1 << rest)) as u8;
     }
 
-    /// Appends the 0 that is held back, if there is one, and the run of 1 bits behind it; a further 0 follows, which is
-    /// content unless five 1 bits stand before it.
-    #[inline]
-    pub fn push_run(&mut self, ones: u8)
-        requires { ones ≤ 7 }
-        ensures bits { (bits : List Bool) → KeepsContent self.old bits
-            → KeepsContent self.new (bits ++ run_bits self.old.held ones) }
-        ensures held { IsTrue self.new.held ↔ (ones ≢ 5) }
+    /// Appends a bit that comes behind so many 1 bits in a row, unless it is a 0 that was put in: one behind five.
+    #[inline(always)]
+    pub fn push_bit(&mut self, bit: bool, ones: u8)
+        ensures { (since : List Symbol) → KeepsSince self.old since → run_of since ≡ ones → KeepsSince self.new (symbol_of bit ∷ since) }
     {
-        self.push_bits((1 << ones) - 1, ones + u8::from(self.held));
-        self.held = ones != 5;
+        let is_content = bit || ones != 5;
+        self.push_bits(u8::from(bit), u8::from(is_content));
+        if !bit {
+            self.zero = is_content;
+        }
     }
 
-    /// The verdict on a content that has ended.
+    /// Appends the bits of a byte, where each run of 1 bits is shorter than five.
+    #[inline(always)]
+    pub fn push_eight(&mut self, bits: u8)
+        ensures { (since : List Symbol) → KeepsSince self.old since → IsTrue (has_short_runs (run_of since) (bits_of_byte bits))
+            → KeepsSince self.new (read_on since (bits_of_byte bits)) }
+    {
+        self.push_bits(bits, 8);
+        self.zero = true;
+    }
+
+    /// The verdict on a content behind which six 1 bits of the end of its frame were read, and the 0 in front of these.
     #[inline(never)]
     pub fn judge(&self) -> Fed
-        ensures { (bits : List Bool) → KeepsContent self.now bits → result ≡ judged bits }
+        ensures { (bits : List Bool) → KeepsContent self.now (bits ++ run_bits self.now.zero 6) → result ≡ judged bits }
     {
-        let bits = u32::from(self.bits);
-        if self.bits < MIN_BITS || self.bits > MAX_BITS {
+        let end = END_ONES + u32::from(self.zero);
+        let bits = self.bits.saturating_sub(end).min(MOST_TOLD);
+        if bits < MIN_BITS || bits > MAX_BITS {
             return Fed::Refused(FrameFault::Length { bits });
         }
-        if self.bits % 8 != 0 {
+        if bits % 8 != 0 {
             return Fed::Refused(FrameFault::Alignment { bits });
         }
         let (body, crc) = self.bytes.as_slice().split_at(self.bytes.len() - 2);

@@ -1,9 +1,11 @@
 //! Finds the frames in what is read bit by bit.
-ghost use Rattle.std.specs.Prelude.{IsTrue, ◌↔◌, List, ◌≡◌, ◌<◌, ◌≤◌, ◌∷◌, []};
+ghost use Rattle.std.specs.Prelude.{IsTrue, ◌↔◌, List, ◌≡◌, ◌≢◌, ◌<◌, ◌≤◌, ◌∷◌, []};
+ghost use Rattle.std.specs.Bool.{OnTrue, OnFalse};
+ghost use Rattle.swp_base.specs.Bits.{bits_of_byte};
 
 use crate::content::Content;
+use crate::eight::too_many_before;
 use crate::fed::Fed;
-use std::mem;
 use swp_base::FrameFault;
 
 /// The length of a start of frame's run of 1 bits; one more ends a frame.
@@ -26,7 +28,7 @@ pub struct Deframer {
 impl Deframer {
     ghost use Rattle.swp_base.specs.declared.link_terms.FrameFault.TheVariants.{Broken};
     ghost use Rattle.swp_frame.specs.declared.fed.Fed.TheVariants.{Nothing, Refused};
-    ghost use Rattle.swp_frame.specs.Signal.{Symbol, bit_0, bit_1, break, symbol_of, mark_of, start_mark};
+    ghost use Rattle.swp_frame.specs.Signal.{Symbol, bit_0, bit_1, break, symbol_of, mark_of, start_mark, run_of, read_on, HasNoMark, has_short_runs};
     ghost use Rattle.swp_frame.specs.Verdicts.{verdict};
     ghost use Rattle.swp_frame.specs.Kept.{StandsFor};
 
@@ -47,11 +49,31 @@ impl Deframer {
         ensures stands { (seen : List Symbol) → StandsFor self.old seen → StandsFor self.new (symbol_of bit ∷ seen) }
         ensures answer { (seen : List Symbol) → StandsFor self.old seen → result ≡ verdict (symbol_of bit ∷ seen) }
     {
-        if bit {
-            self.read_one()
-        } else {
-            self.read_zero()
+        if self.ones == START_ONES {
+            return self.read_mark(bit);
         }
+        self.read_plain(bit);
+        Fed::Nothing
+    }
+
+    /// Reads eight bits at once, the most significant first, where each run of 1 bits among them is shorter than five, with
+    /// those that stand before them: none of these bits ends a mark, and none was put in. Else it reads nothing.
+    #[inline(always)]
+    pub fn feed_eight(&mut self, bits: u8) -> bool
+        ensures short { (seen : List Symbol) → StandsFor self.old seen → IsTrue result ↔ IsTrue (has_short_runs (run_of seen) (bits_of_byte bits)) }
+        ensures stands { OnTrue result ((seen : List Symbol) → StandsFor self.old seen → StandsFor self.new (read_on seen (bits_of_byte bits))) }
+        ensures quiet { OnTrue result ((seen : List Symbol) → StandsFor self.old seen → HasNoMark seen (bits_of_byte bits)) }
+        ensures zero { OnTrue result (bits < 255) }
+        ensures unread { OnFalse result (self.new ≡ self.old) }
+    {
+        if self.ones >= too_many_before(bits) {
+            return false;
+        }
+        self.ones = bits.trailing_ones() as u8;
+        if let Some(content) = &mut self.content {
+            content.push_eight(bits);
+        }
+        true
     }
 
     /// Reads a break: an open frame is refused as broken, and a start of frame is awaited.
@@ -60,7 +82,7 @@ impl Deframer {
         ensures stands { (seen : List Symbol) → StandsFor self.old seen → StandsFor self.new (break ∷ seen) }
         ensures answer { (seen : List Symbol) → StandsFor self.old seen → result ≡ verdict (break ∷ seen) }
     {
-        self.ones = 0;
+        self.ones = 0; // A 0 is read in behind a break.
         match self.content.take() {
             Some(_) => Fed::Refused(FrameFault::Broken),
             None => Fed::Nothing,
@@ -75,24 +97,42 @@ impl Deframer {
         self.ones == START_ONES
     }
 
-    /// Reads a 1 bit.
+    /// Reads a bit that ends no mark.
     #[inline(always)]
-    fn read_one(&mut self) -> Fed
-        ensures stands { (seen : List Symbol) → StandsFor self.old seen → StandsFor self.new (bit_1 ∷ seen) }
-        ensures answer { (seen : List Symbol) → StandsFor self.old seen → result ≡ verdict (bit_1 ∷ seen) }
+    fn read_plain(&mut self, bit: bool)
+        requires { self.old.ones ≢ 6 }
+        ensures stands { (seen : List Symbol) → StandsFor self.old seen → StandsFor self.new (symbol_of bit ∷ seen) }
+        ensures quiet { (seen : List Symbol) → StandsFor self.old seen → verdict (symbol_of bit ∷ seen) ≡ Nothing }
     {
-        if self.ones < START_ONES {
-            self.ones += 1;
-            return Fed::Nothing;
+        let ones = self.ones;
+        self.ones = if bit {
+            (ones + 1).min(START_ONES + 1)
+        } else {
+            0
+        };
+        if let Some(content) = &mut self.content {
+            content.push_bit(bit, ones);
         }
-        self.read_seventh_one()
     }
 
-    /// Reads a 1 bit behind six 1 bits: a frame that is open ends.
+    /// Reads a bit behind six 1 bits, which ends a mark.
     #[cold]
     #[inline(never)]
-    fn read_seventh_one(&mut self) -> Fed
-        requires { 6 ≤ self.old.ones }
+    fn read_mark(&mut self, bit: bool) -> Fed
+        requires { self.old.ones ≡ 6 }
+        ensures stands { (seen : List Symbol) → StandsFor self.old seen → StandsFor self.new (symbol_of bit ∷ seen) }
+        ensures answer { (seen : List Symbol) → StandsFor self.old seen → result ≡ verdict (symbol_of bit ∷ seen) }
+    {
+        if bit {
+            self.read_end()
+        } else {
+            self.read_start()
+        }
+    }
+
+    /// Reads the seventh 1 bit in a row: a frame that is open ends.
+    fn read_end(&mut self) -> Fed
+        requires { self.old.ones ≡ 6 }
         ensures stands { (seen : List Symbol) → StandsFor self.old seen → StandsFor self.new (bit_1 ∷ seen) }
         ensures answer { (seen : List Symbol) → StandsFor self.old seen → result ≡ verdict (bit_1 ∷ seen) }
     {
@@ -103,22 +143,16 @@ impl Deframer {
         }
     }
 
-    /// Reads a 0 bit.
-    #[inline(always)]
-    fn read_zero(&mut self) -> Fed
+    /// Reads a 0 behind six 1 bits: a frame starts, and one that is open is refused.
+    fn read_start(&mut self) -> Fed
+        requires { self.old.ones ≡ 6 }
         ensures stands { (seen : List Symbol) → StandsFor self.old seen → StandsFor self.new (bit_0 ∷ seen) }
         ensures answer { (seen : List Symbol) → StandsFor self.old seen → result ≡ verdict (bit_0 ∷ seen) }
     {
-        let ones = mem::replace(&mut self.ones, 0);
-        if ones == START_ONES {
-            return match self.content.replace(Content::new()) {
-                Some(_) => Fed::Refused(FrameFault::Broken),
-                None => Fed::Nothing,
-            };
+        self.ones = 0;
+        match self.content.replace(Content::new()) {
+            Some(_) => Fed::Refused(FrameFault::Broken),
+            None => Fed::Nothing,
         }
-        if let Some(content) = &mut self.content {
-            content.push_run(ones);
-        }
-        Fed::Nothing
     }
 }

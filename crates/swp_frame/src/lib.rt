@@ -6,6 +6,7 @@
 
 mod content;
 mod deframer;
+mod eight;
 mod fed;
 mod frame_bits;
 

@@ -13,6 +13,27 @@ fn last_of(bits: &[u8]) -> Fed {
     last
 }
 
+/// The same, where eight bits are read at once wherever they can be; how often they were is counted.
+fn last_by_eights(bits: &[u8]) -> (Fed, u32) {
+    let mut deframer = Deframer::new();
+    let mut last = Fed::Nothing;
+    let mut at_once = 0u32;
+    for eight in bits.chunks(8) {
+        let mut byte = 0u8;
+        for bit in eight {
+            byte = (byte % 128) * 2 + u8::from(*bit == b'1');
+        }
+        if eight.len() == 8 && deframer.feed_eight(byte) {
+            at_once = at_once.saturating_add(1);
+            continue;
+        }
+        for bit in eight {
+            last = deframer.feed(*bit == b'1');
+        }
+    }
+    (last, at_once)
+}
+
 fn is_spelled(frame: &FrameBits, bits: &[u8]) -> bool {
     let spelled = frame.bits.as_slice();
     spelled.len() == bits.len()
@@ -52,6 +73,21 @@ fn frames_are_read(rt: HostRuntime) -> Result<(), Fail> {
     assert_eq!(rt;
         last_of(b"01111110110111010000010011011111001111111"),
         Fed::Frame(dd)
+    );
+    Ok(())
+}
+
+#[test]
+fn frames_are_read_eight_bits_at_once(rt: HostRuntime) -> Result<(), Fail> {
+    let fragment = Lpdu::from_bytes(&[0x80, 0x81, 0x03]).ok_or("short")?;
+    assert_eq!(rt;
+        last_by_eights(b"01111110100000001000000100000011000100001111001101111111"),
+        (Fed::Frame(fragment), 5)
+    );
+    let e6 = Lpdu::from_bytes(&[0xE6]).ok_or("short")?;
+    assert_eq!(rt;
+        last_by_eights(b"01111110111001101000001111100011101111111"),
+        (Fed::Frame(e6), 2)
     );
     Ok(())
 }

@@ -22,7 +22,7 @@ overflow_cast-self c =
 pub invariant_of-self-then-filled-lt8 : goal.invariant_of-self-then-filled-lt8
 invariant_of-self-then-filled-lt8 c =
     let old = c.args.self.now in
-    let few : old.bits ≤ 256 = omega arith in
+    let few : old.bits ≤ 263 = omega arith in
     let fits : old.partial < 2 ^ (old.bits % 8) = old.within_byte few in
     let whole : c.from-3.result * 2 ^ c.args.width % 65536 + c.from-4.result ≡ old.partial * 2 ^ c.args.width + c.args.value =
     as_joined old.partial c.from-3.result (old.bits % 8) c.args.width c.args.value c.from-4.result c.from-3.ensures c.from-4.ensures fits (omega arith) in
@@ -66,7 +66,7 @@ returns-clause-bits c = λ bits more kept l n.
     record {
       count = omega (arith, kept.count, length-append bits more, l);
       few = λ h.
-          let before : length bits ≤ 256 = omega (arith, length-append bits more) in
+          let before : length bits ≤ 263 = omega (arith, length-append bits more) in
           let same : old.bits ≡ length bits = omega (arith, kept.count) in
           let kept_bits = kept.few before in
           after_byte old.bytes.items c.push_byte.new.bytes.items old.partial old.register c.push_byte.new.register bits more c.args.value c.args.width
