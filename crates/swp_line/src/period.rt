@@ -16,25 +16,20 @@ pub enum Period {
 }
 
 /// The period that a byte stands for; none for a byte outside the table of the line record.
+///
+/// In a period with bits the second quarter tells S1 and the first tells S2. So those two are read first, and one
+/// comparison tells whether the byte has these bits: over a record of bits it comes out the same at each byte.
 #[inline]
 pub fn period_of(byte: u8) -> Option<Period>
     ensures value { result ≡ period_at byte }
     ensures table { (p : Period) → (result ≡ Some p) ↔ (byte ≡ byte_of_period p) }
 {
+    let s1 = byte & 0x10 != 0;
+    let s2 = byte & 0x80 != 0;
+    if byte == byte_of_bits(s1, s2) {
+        return Some(Period::Bits { s1, s2 });
+    }
     match byte {
-        0x40 => Some(Period::Bits {
-            s1: false,
-            s2: false,
-        }),
-        0x54 => Some(Period::Bits {
-            s1: true,
-            s2: false,
-        }),
-        0xC0 => Some(Period::Bits {
-            s1: false,
-            s2: true,
-        }),
-        0xFC => Some(Period::Bits { s1: true, s2: true }),
         0x55 => Some(Period::Suspended),
         0xFF => Some(Period::ResumeAsked),
         0x00 => Some(Period::Deactivated),
@@ -49,22 +44,24 @@ pub fn byte_of(period: &Period) -> u8
     ensures read_again { period_at result ≡ Some period.now }
 {
     match period {
-        Period::Bits {
-            s1: false,
-            s2: false,
-        } => 0x40,
-        Period::Bits {
-            s1: true,
-            s2: false,
-        } => 0x54,
-        Period::Bits {
-            s1: false,
-            s2: true,
-        } => 0xC0,
-        Period::Bits { s1: true, s2: true } => 0xFC,
+        Period::Bits { s1, s2 } => byte_of_bits(*s1, *s2),
         Period::Suspended => 0x55,
         Period::ResumeAsked => 0xFF,
         Period::Deactivated => 0x00,
+    }
+}
+
+/// The byte of a period with these bits. It only chooses between numbers, so that it needs no jump.
+#[inline]
+fn byte_of_bits(s1: bool, s2: bool) -> u8
+    ensures { result ≡ byte_of_period (Period.Bits s1 s2) }
+{
+    if s2 {
+        if s1 { 0xFC } else { 0xC0 }
+    } else if s1 {
+        0x54
+    } else {
+        0x40
     }
 }
 
