@@ -1,1 +1,3 @@
 pub mod Hexadecimal
+pub mod FurtherBits
+pub mod FurtherLines

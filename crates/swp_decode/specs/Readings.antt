@@ -1,5 +1,5 @@
 -- What a line record is in one direction: symbols, each at the place of its byte. A list has the newest first.
-use Rattle.std.specs.Prelude.{ℕ, List, [], ◌∷◌, length, Option, Some, None, unwrap_or}
+use Rattle.std.specs.Prelude.{ℕ, ◌+◌, ◌≡◌, Bool, List, [], ◌∷◌, length, Option, Some, None, unwrap_or}
 use Rattle.swp_line.specs.declared.period.Period.{Period}
 use Rattle.swp_line.specs.declared.period.Period.TheVariants.{Bits, Suspended, ResumeAsked, Deactivated}
 use Rattle.swp_line.specs.Periods.{period_at}
@@ -24,6 +24,18 @@ symbol_on wire None = Some break
 abbrev pub with_reading : Option Symbol → ℕ → List Reading → List Reading
 with_reading None place older = older
 with_reading (Some symbol) place older = record { place = place; symbol = symbol } ∷ older
+
+-- what is read in one direction with further bits, the oldest first, at this place and those behind it
+abbrev pub readings_on : ℕ → List Bool → List Reading → List Reading
+readings_on place [] older = older
+readings_on place (bit ∷ bits) older = readings_on (place + 1) bits (with_reading (Some (symbol_of bit)) place older)
+
+-- each of these bytes is a period with bits, and in one direction they are these bits, in the same order
+abbrev pub AreBits : Wire → List ℕ → List Bool → Type 0
+AreBits wire [] [] = Unit {0}
+AreBits wire [] (bit ∷ bits) = ⊥
+AreBits wire (byte ∷ bytes) [] = ⊥
+AreBits wire (byte ∷ bytes) (bit ∷ bits) = (symbol_on wire (period_at byte) ≡ Some (symbol_of bit)) × AreBits wire bytes bits
 
 -- what the bytes of a record, the newest first, are in one direction
 abbrev pub signal : Wire → List ℕ → List Reading
