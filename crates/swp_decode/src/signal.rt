@@ -1,5 +1,7 @@
 //! The frames of one direction, and where they start.
-ghost use Rattle.std.specs.Prelude.{ℕ, List, [], ◌∷◌, ◌++◌, ◌≡◌, ◌+◌, ◌≤◌, length};
+ghost use Rattle.std.specs.Prelude.{ℕ, List, [], ◌∷◌, ◌++◌, ◌≡◌, ◌+◌, ◌^◌, ◌<◌, ◌≤◌, length};
+ghost use Rattle.std.specs.Bool.{OnTrue, OnFalse};
+ghost use Rattle.swp_base.specs.Bits.{bits_of_byte};
 
 use crate::line::{Wire, push_line};
 use crate::words::Text;
@@ -16,10 +18,10 @@ pub struct SignalReader {
 }
 
 impl SignalReader {
-    ghost use Rattle.swp_frame.specs.Signal.{break, symbol_of};
+    ghost use Rattle.swp_frame.specs.Signal.{break, symbol_of, HasNoMark};
     ghost use Rattle.swp_frame.specs.Verdicts.{verdict};
-    ghost use Rattle.swp_decode.specs.Readings.{Reading, symbols, with_reading};
-    ghost use Rattle.swp_decode.specs.Decoded.{line_with};
+    ghost use Rattle.swp_decode.specs.Readings.{Reading, symbols, with_reading, readings_on};
+    ghost use Rattle.swp_decode.specs.Decoded.{line_with, lines_on};
     ghost use Rattle.swp_decode.specs.Kept.{ReadsSignal};
 
     pub fn new() -> Self
@@ -47,6 +49,22 @@ impl SignalReader {
             self.front = Some(place);
         }
         self.deframer.feed(bit)
+    }
+
+    /// Reads the bits of eight places at once, the most significant first, where the deframer can; no line comes with them
+    /// then. Else it reads nothing.
+    #[inline(always)]
+    pub fn read_eight(&mut self, bits: u8, place: u32) -> bool
+        requires { place + 7 < 2 ^ 32 }
+        ensures reads { OnTrue result ((older : List Reading) → ReadsSignal self.old older → ReadsSignal self.new (readings_on place (bits_of_byte bits) older)) }
+        ensures quiet { OnTrue result ((older : List Reading) → ReadsSignal self.old older → HasNoMark (symbols older) (bits_of_byte bits)) }
+        ensures unread { OnFalse result (self.new ≡ self.old) }
+    {
+        if !self.deframer.feed_eight(bits) {
+            return false;
+        }
+        self.front = Some(place + 7 - bits.trailing_ones());
+        true
     }
 
     /// Reads a break.
@@ -89,6 +107,21 @@ impl SignalReader {
         let start = self.start;
         let fed = self.read_bit(bit, place);
         push_line(text, wire, start, &fed);
+    }
+
+    /// Reads the bits of eight places bit by bit, the most significant first, and appends the lines of what came with them.
+    #[inline(never)]
+    pub fn decode_eight(&mut self, text: &mut Text, wire: Wire, bits: u8, place: u32)
+        requires place { place + 7 < 2 ^ 32 }
+        requires room { length text.old.items + 1024 ≤ 8192 }
+        ensures reads { (older : List Reading) → ReadsSignal self.old older → ReadsSignal self.new (readings_on place (bits_of_byte bits) older) }
+        ensures items { (older : List Reading) → ReadsSignal self.old older
+            → text.new.items ≡ text.old.items ++ lines_on wire place (bits_of_byte bits) older }
+        ensures sized { length text.new.items ≤ length text.old.items + 1024 }
+    {
+        for i in 0..8u32 {
+            self.decode_bit(text, wire, (bits >> (7 - i)) & 1 == 1, place + i);
+        }
     }
 
     /// Reads a break, and appends the line of what came with it.
