@@ -1,3 +1,4 @@
 pub mod Hexadecimal
 pub mod FurtherBits
+pub mod Gathering
 pub mod FurtherLines

@@ -5,6 +5,7 @@
 #![tactic(auto)]
 
 mod decoder;
+mod eight;
 mod line;
 mod signal;
 mod words;
