@@ -1,12 +1,14 @@
-//! Decodes a record byte by byte.
-ghost use Rattle.std.specs.Prelude.{ℕ, List, [], ◌∷◌, ◌++◌, ◌≡◌, ◌+◌, ◌<◌, ◌≤◌, length};
+//! Decodes a record, byte by byte or eight bytes at once.
+ghost use Rattle.std.specs.Prelude.{ℕ, List, [], ◌∷◌, ◌++◌, ◌≡◌, ◌+◌, ◌<◌, ◌≤◌, length, reverse};
+ghost use Rattle.swp_base.specs.Bits.{bits_of_byte};
 
+use crate::eight::{EightBits, eight_bits};
 use crate::line::Wire;
 use crate::signal::SignalReader;
 use crate::words::{Text, push_decimal, push_text};
 use swp_line::{Period, period_of};
 
-/// Decodes a line record byte by byte. It takes no memory, however long the record is.
+/// Decodes a line record, byte by byte or eight bytes at once. It takes no memory, however long the record is.
 #[derive(Debug, Drop)]
 pub struct Decoder {
     /// The bytes read.
@@ -17,8 +19,8 @@ pub struct Decoder {
 
 impl Decoder {
     ghost use Rattle.swp_frame.specs.Signal.{break};
-    ghost use Rattle.swp_decode.specs.Readings.{Reading, with_reading};
-    ghost use Rattle.swp_decode.specs.Decoded.{line_at, line_with, last_line};
+    ghost use Rattle.swp_decode.specs.Readings.{Reading, with_reading, AreBits};
+    ghost use Rattle.swp_decode.specs.Decoded.{line_at, line_with, lines_behind, last_line};
     ghost use Rattle.swp_decode.specs.Kept.{ReadsSignal, StandsFor};
 
     /// The most bytes of a record.
@@ -26,6 +28,9 @@ impl Decoder {
 
     /// How much room in a text a step asks for.
     pub const ROOM: usize = 256;
+
+    /// How much room in a text a step of eight bytes asks for.
+    pub const ROOM_OF_EIGHT: usize = 2048;
 
     /// A decoder that has read nothing.
     pub fn new() -> Self
@@ -61,6 +66,67 @@ impl Decoder {
             Some(Period::Suspended | Period::ResumeAsked) => {}
             Some(Period::Deactivated) => self.read_breaks(text),
             None => self.read_breaks(text),
+        }
+    }
+
+    /// Reads eight bytes of the record, and appends the lines that they give, as eight steps would.
+    #[inline]
+    pub fn step_eight(&mut self, bytes: &[u8; 8], text: &mut Text)
+        requires few { self.old.count + 8 ≤ Self.MAX_BYTES }
+        requires room { length text.old.items + Self.ROOM_OF_EIGHT ≤ 8192 }
+        ensures count { self.new.count ≡ self.old.count + 8 }
+        ensures stands { (older : List ℕ) → StandsFor self.old older → StandsFor self.new (reverse bytes.now ++ older) }
+        ensures lines { (older : List ℕ) → StandsFor self.old older → text.new.items ≡ text.old.items ++ lines_behind older bytes.now }
+        ensures sized { length text.new.items ≤ length text.old.items + Self.ROOM_OF_EIGHT }
+    {
+        match eight_bits(bytes) {
+            Some(bits) => self.step_bits(bits, bytes, text),
+            None => self.step_each(bytes, text),
+        }
+    }
+
+    /// Reads eight periods with bits. A wire is read at once where its reader can, and bit by bit else. Where neither can,
+    /// both are read period by period, since the lines of both are in the order of the bytes.
+    #[inline(always)]
+    fn step_bits(&mut self, bits: EightBits, bytes: &[u8; 8], text: &mut Text)
+        requires s1 { AreBits Wire.S1 bytes.now (bits_of_byte bits.s1) }
+        requires s2 { AreBits Wire.S2 bytes.now (bits_of_byte bits.s2) }
+        requires few { self.old.count + 8 ≤ Self.MAX_BYTES }
+        requires room { length text.old.items + Self.ROOM_OF_EIGHT ≤ 8192 }
+        ensures count { self.new.count ≡ self.old.count + 8 }
+        ensures stands { (older : List ℕ) → StandsFor self.old older → StandsFor self.new (reverse bytes.now ++ older) }
+        ensures lines { (older : List ℕ) → StandsFor self.old older → text.new.items ≡ text.old.items ++ lines_behind older bytes.now }
+        ensures sized { length text.new.items ≤ length text.old.items + Self.ROOM_OF_EIGHT }
+    {
+        let place = self.count;
+        let s1_read = self.s1.read_eight(bits.s1, place);
+        let s2_read = self.s2.read_eight(bits.s2, place);
+        match (s1_read, s2_read) {
+            (true, true) => self.count += 8,
+            (true, false) => {
+                self.s2.decode_eight(text, Wire::S2, bits.s2, place);
+                self.count += 8;
+            }
+            (false, true) => {
+                self.s1.decode_eight(text, Wire::S1, bits.s1, place);
+                self.count += 8;
+            }
+            (false, false) => self.step_each(bytes, text),
+        }
+    }
+
+    /// Reads eight bytes of the record one after another.
+    #[inline(never)]
+    fn step_each(&mut self, bytes: &[u8; 8], text: &mut Text)
+        requires few { self.old.count + 8 ≤ Self.MAX_BYTES }
+        requires room { length text.old.items + Self.ROOM_OF_EIGHT ≤ 8192 }
+        ensures count { self.new.count ≡ self.old.count + 8 }
+        ensures stands { (older : List ℕ) → StandsFor self.old older → StandsFor self.new (reverse bytes.now ++ older) }
+        ensures lines { (older : List ℕ) → StandsFor self.old older → text.new.items ≡ text.old.items ++ lines_behind older bytes.now }
+        ensures sized { length text.new.items ≤ length text.old.items + Self.ROOM_OF_EIGHT }
+    {
+        for byte in bytes {
+            self.step(*byte, text);
         }
     }
 

@@ -22,6 +22,35 @@ fn decoded(rt: &impl Abort, record: &[u8]) -> Text {
     text
 }
 
+/// The same of a record of whole eights, eight bytes at once.
+fn decoded_by_eights(rt: &impl Abort, record: &[u8]) -> Text {
+    let mut decoder = Decoder::new();
+    let mut text = Text::new();
+    let (eights, rest) = record.as_chunks::<8>();
+    assert!(rt; rest.is_empty());
+    for eight in eights {
+        assert!(rt; decoder.count <= Decoder::MAX_BYTES - 8);
+        assert!(rt; text.len() < 256);
+        decoder.step_eight(eight, &mut text);
+    }
+    text
+}
+
+/// The bits of a record on S1, and on S2 those of so many bytes before; 0 bits where there are none.
+fn on_both_wires(record: &[u8; 40], later: usize) -> [u8; 40] {
+    let mut both = [0; 40];
+    for (i, byte) in both.iter_mut().enumerate() {
+        let s2 = i >= later && record[i - later] == 0x54;
+        *byte = match (record[i] == 0x54, s2) {
+            (false, false) => 0x40,
+            (true, false) => 0x54,
+            (false, true) => 0xC0,
+            (true, true) => 0xFC,
+        };
+    }
+    both
+}
+
 #[test]
 fn frame_is_decoded(rt: HostRuntime) -> Result<(), Fail> {
     let text = decoded(&rt, &RECORD);
@@ -55,6 +84,26 @@ fn both_wires_are_decoded(rt: HostRuntime) -> Result<(), Fail> {
         }
     }
     let text = decoded(&rt, &record[1..]);
+    assert_eq!(rt; text.as_slice(), b"s1 0 C1 rr 1\ns2 0 C1 rr 1\n".as_slice());
+    Ok(())
+}
+
+#[test]
+fn eights_are_decoded_as_bytes_are(rt: HostRuntime) -> Result<(), Fail> {
+    let mut invalid = RECORD;
+    invalid[11] = 0x7F;
+    let mut suspended = RECORD;
+    suspended[19] = 0x55;
+    let same = on_both_wires(&RECORD, 0);
+    let shifted = on_both_wires(&RECORD, 5);
+    for record in [RECORD, invalid, suspended, same, shifted] {
+        // Twice in a row, so that there is a frame open on S2 when the first record ends.
+        let twice = [record, record];
+        let record = twice.as_flattened();
+        let text = decoded_by_eights(&rt, record);
+        assert_eq!(rt; text.as_slice(), decoded(&rt, record).as_slice());
+    }
+    let text = decoded_by_eights(&rt, &same);
     assert_eq!(rt; text.as_slice(), b"s1 0 C1 rr 1\ns2 0 C1 rr 1\n".as_slice());
     Ok(())
 }
