@@ -1,5 +1,5 @@
 -- What a replay that ends has written.
-use Rattle.std.proofs.Common.{◌≡◌, ℕ, ◌+◌, Bool, true, false, List, [], ◌++◌, length, take, refl, sym, ap, ◌∙◌, append_assoc, subst}
+use Rattle.std.proofs.Common.{◌≡◌, ℕ, ◌+◌, Bool, true, false, IsTrue, List, [], ◌++◌, length, take, refl, sym, ap, ◌∙◌, append_assoc, subst}
 use Rattle.std.proofs.Common.{inl, inr}
 use Rattle.std.specs.Prelude.{Option, Some, None, Result, Ok, Err, OnOk, OnErr, IfErr, is_err}
 use Rattle.std.specs.Str.Lines.{lines}
@@ -45,17 +45,17 @@ halts_end_front halt.TooMany count bytes text h = absurd h
 halts_end_front halt.NoMemory count bytes text h = h
 
 -- the status of a halt says what was written
-pub halted_replayed : (why : Halt) (count : ℕ) (bytes text rest before after : List ℕ) → Halts why count bytes text → after ≡ before ++ text
-    → Replayed (status_of why count) (bytes ++ rest) rest before after
-halted_replayed (halt.Fault f) count bytes text rest before after h is = (text, h rest, is)
-halted_replayed halt.TooMany count bytes text rest before after h is = (text, h rest, is)
-halted_replayed halt.NoMemory count bytes text rest before after h is = (text, h rest, is)
+pub halted_replayed : (tells : Bool) (why : Halt) (count : ℕ) (bytes text rest before after : List ℕ) → Halts why count bytes text
+    → (IsTrue tells → after ≡ before ++ text) → Replayed tells (status_of why count) (bytes ++ rest) rest before after
+halted_replayed tells (halt.Fault f) count bytes text rest before after h is = (text, h rest, is)
+halted_replayed tells halt.TooMany count bytes text rest before after h is = (text, h rest, is)
+halted_replayed tells halt.NoMemory count bytes text rest before after h is = (text, h rest, is)
 
-pub halted_at_end : (why : Halt) (count : ℕ) (bytes text before after : List ℕ) → HaltsAtEnd why count bytes text → after ≡ before ++ text
-    → Replayed (status_of why count) bytes [] before after
-halted_at_end (halt.Fault f) count bytes text before after h is = (text, h, is)
-halted_at_end halt.TooMany count bytes text before after h is = absurd h
-halted_at_end halt.NoMemory count bytes text before after h is = (text, h, is)
+pub halted_at_end : (tells : Bool) (why : Halt) (count : ℕ) (bytes text before after : List ℕ) → HaltsAtEnd why count bytes text
+    → (IsTrue tells → after ≡ before ++ text) → Replayed tells (status_of why count) bytes [] before after
+halted_at_end tells (halt.Fault f) count bytes text before after h is = (text, h, is)
+halted_at_end tells halt.TooMany count bytes text before after h is = absurd h
+halted_at_end tells halt.NoMemory count bytes text before after h is = (text, h, is)
 
 -- ## Fronts of transcripts
 
@@ -68,13 +68,20 @@ pub of_ok : {T E : Type 0} (P : Type 0) (r : Result T E) (b : Bool) → b ≡ is
 of_ok P (Ok x) b is holds h = h
 of_ok P (Err e) b is holds h = absurd (cc)
 
+-- text that was written behind text, by a sink that tells it
+pub behind : (tells : Bool) (before text items written after : List ℕ) → (IsTrue tells → written ≡ before ++ text)
+    → (IsTrue tells → after ≡ written ++ items) → IsTrue tells → after ≡ before ++ (text ++ items)
+behind tells before text items written after was now told =
+    now told ∙ (ap (λ l. l ++ items) (was told) ∙ append_assoc before text items)
+
 -- a front of what was gathered stands behind what was written
-pub cut_off : (input text items before written after : List ℕ) → IsSomeTranscript input (text ++ items) → written ≡ before ++ text
-    → (n : ℕ) × (after ≡ written ++ take n items) → Appends (IsFrontOfTranscript input) before after
-cut_off input text items before written after some is front = (
+pub cut_off : (tells : Bool) (input text items before written after : List ℕ) → IsSomeTranscript input (text ++ items)
+    → (IsTrue tells → written ≡ before ++ text) → (n : ℕ) × (IsTrue tells → after ≡ written ++ take n items)
+    → Appends tells (IsFrontOfTranscript input) before after
+cut_off tells input text items before written after some is front = (
   text ++ take front.0 items,
   (text ++ items, length text + front.0, some, sym (take-append-add text items front.0)),
-  front.1 ∙ (ap (λ l. l ++ take front.0 items) is ∙ append_assoc before text (take front.0 items)),
+  behind tells before text (take front.0 items) written after is front.1,
 )
 
 -- what was gathered of a piece is the transcript of some of the first lines, whether the replay goes on or not

@@ -1,5 +1,5 @@
 -- What a run of the program has read and written, by the status with which it ended.
-use Rattle.std.specs.Prelude.{◌≡◌, ℕ, ◌+◌, ◌⊎◌, List, [], ◌∷◌, ◌++◌, take, codes}
+use Rattle.std.specs.Prelude.{◌≡◌, ℕ, ◌+◌, ◌⊎◌, Bool, IsTrue, List, [], ◌∷◌, ◌++◌, take, codes}
 use Rattle.swp_tool.specs.declared.pieces.Pieces.{Pieces}
 use Rattle.swp_tool.specs.declared.status.Status.{Status}
 use Rattle.swp_tool.specs.declared.status.Status.TheVariants as status
@@ -14,9 +14,9 @@ status_of (halt.Fault why) count = status.BadSchedule (count + 1) why
 status_of halt.TooMany count = status.TooMany (count + 1)
 status_of halt.NoMemory count = status.NoMemory
 
--- text was appended to what was written
-abbrev pub Appends : (List ℕ → Type 0) → List ℕ → List ℕ → Type 0
-Appends P before after = (text : List ℕ) × P text × (after ≡ before ++ text)
+-- there is a text of this kind, and a sink that tells what was written says that it was appended
+abbrev pub Appends : Bool → (List ℕ → Type 0) → List ℕ → List ℕ → Type 0
+Appends tells P before after = (text : List ℕ) × P text × (IsTrue tells → after ≡ before ++ text)
 
 -- a text that the program may write on the way: the transcript of some of the first lines, or the whole one
 abbrev pub IsSomeTranscript : List ℕ → List ℕ → Type 0
@@ -31,25 +31,26 @@ abbrev pub IsTranscriptOfRead : List ℕ → List ℕ → List ℕ → Type 0
 IsTranscriptOfRead input left text = (bytes : List ℕ) × (input ≡ bytes ++ left) × IsWholeTranscript bytes text
 
 -- How a replay of this input ended. The transcript of the lines before the fault was written, on Done all of it; on a
--- fault of writing, a front of it.
-abbrev pub Replayed : Status → List ℕ → List ℕ → List ℕ → List ℕ → Type 0
-Replayed status.Done input left before after = (left ≡ []) × Appends (IsCompleteTranscript input) before after
-Replayed (status.BadSchedule line why) input left before after = Appends (StopsAt input (AtFault why) line) before after
-Replayed (status.TooMany count) input left before after = Appends (StopsAt input Too_many count) before after
-Replayed status.ReadFault input left before after = Appends (IsTranscriptOfRead input left) before after
-Replayed status.WriteFault input left before after = Appends (IsFrontOfTranscript input) before after
-Replayed status.NoMemory input left before after = Appends (IsFrontTranscript input) before after
-Replayed status.BadWords input left before after = ⊥
-Replayed (status.Undetected line) input left before after = ⊥
-Replayed status.NvFault input left before after = ⊥
-Replayed (status.BadImage why) input left before after = ⊥
+-- fault of writing, a front of it. Whether the sink tells what was written comes first: without it there is such a text, and
+-- nothing is said of where it went.
+abbrev pub Replayed : Bool → Status → List ℕ → List ℕ → List ℕ → List ℕ → Type 0
+Replayed tells status.Done input left before after = (left ≡ []) × Appends tells (IsCompleteTranscript input) before after
+Replayed tells (status.BadSchedule line why) input left before after = Appends tells (StopsAt input (AtFault why) line) before after
+Replayed tells (status.TooMany count) input left before after = Appends tells (StopsAt input Too_many count) before after
+Replayed tells status.ReadFault input left before after = Appends tells (IsTranscriptOfRead input left) before after
+Replayed tells status.WriteFault input left before after = Appends tells (IsFrontOfTranscript input) before after
+Replayed tells status.NoMemory input left before after = Appends tells (IsFrontTranscript input) before after
+Replayed tells status.BadWords input left before after = ⊥
+Replayed tells (status.Undetected line) input left before after = ⊥
+Replayed tells status.NvFault input left before after = ⊥
+Replayed tells (status.BadImage why) input left before after = ⊥
 
 -- A replay under way: it has read a front of the input and written the transcript of its whole lines.
-pub record IsUnderWay (p : Pieces) (input left before after : List ℕ) : Type 0 where
+pub record IsUnderWay (tells : Bool) (p : Pieces) (input left before after : List ℕ) : Type 0 where
   pub bytes : List ℕ
   pub text : List ℕ
   pub input_is : input ≡ bytes ++ left
-  pub after_is : after ≡ before ++ text
+  pub after_is : IsTrue tells → after ≡ before ++ text
   pub read : HasRead p bytes text
   pub gathered : p.replay.text.items ≡ []
 

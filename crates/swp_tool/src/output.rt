@@ -9,8 +9,7 @@ pub fn write_all<K: Sink>(sink: &mut K, bytes: &[u8]) -> Result<(), Failed>
     ensures count { K.faults sink.old ≤ K.faults sink.new }
     ensures fault { OnErr result (Rose (K.faults sink.old) (K.faults sink.new)) }
     ensures wrote { IsTrue K.tells → OnOk result (K.written sink.new ≡ K.written sink.old ++ bytes.now) }
-    ensures front { IsTrue K.tells →
-        OnErr result ((n : ℕ) × (K.written sink.new ≡ K.written sink.old ++ take n bytes.now)) }
+    ensures front { OnErr result ((n : ℕ) × (IsTrue K.tells → K.written sink.new ≡ K.written sink.old ++ take n bytes.now)) }
 {
     let mut at = 0;
     while at < bytes.len() {

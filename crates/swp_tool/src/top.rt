@@ -45,8 +45,8 @@ fn flush<K: Sink>(sink: &mut K, pieces: &mut Pieces) -> Result<(), Failed>
     ensures count { K.faults sink.old ≤ K.faults sink.new }
     ensures fault { OnErr result (Rose (K.faults sink.old) (K.faults sink.new)) }
     ensures wrote { IsTrue K.tells → OnOk result (K.written sink.new ≡ K.written sink.old ++ pieces.old.replay.text.items) }
-    ensures front { IsTrue K.tells →
-        OnErr result ((n : ℕ) × (K.written sink.new ≡ K.written sink.old ++ take n pieces.old.replay.text.items)) }
+    ensures front { OnErr result ((n : ℕ) ×
+        (IsTrue K.tells → K.written sink.new ≡ K.written sink.old ++ take n pieces.old.replay.text.items)) }
     ensures reading { IsReading pieces.old → IsReading pieces.new }
     ensures same { OnOk result ((bytes text : List ℕ) → HasRead pieces.old bytes text → HasRead pieces.new bytes (text ++ pieces.old.replay.text.items)) }
     ensures gathered { OnOk result (pieces.new.replay.text.items ≡ []) }
@@ -73,10 +73,10 @@ fn take_piece<K: Sink>(
     ensures words { result ≢ Err Status.BadWords }
     ensures reading { OnOk result (IsReading pieces.new) }
     ensures progress { OnOk result (bytes_left pieces.new < bytes_left pieces.old) }
-    ensures goes { IsTrue K.tells → OnOk result ((input rest before : List ℕ) → IsUnderWay pieces.old input (piece.now ++ rest) before (K.written sink.old)
-        → IsUnderWay pieces.new input rest before (K.written sink.new)) }
-    ensures ends { IsTrue K.tells → IfErr result (λ status. (input rest before : List ℕ) → IsUnderWay pieces.old input (piece.now ++ rest) before (K.written sink.old)
-        → Replayed status input rest before (K.written sink.new)) }
+    ensures goes { OnOk result ((input rest before : List ℕ) → IsUnderWay K.tells pieces.old input (piece.now ++ rest) before (K.written sink.old)
+        → IsUnderWay K.tells pieces.new input rest before (K.written sink.new)) }
+    ensures ends { IfErr result (λ status. (input rest before : List ℕ) → IsUnderWay K.tells pieces.old input (piece.now ++ rest) before (K.written sink.old)
+        → Replayed K.tells status input rest before (K.written sink.new)) }
 {
     let fed = pieces.feed(alloc, piece);
     if flush(sink, pieces).is_err() {
@@ -94,8 +94,8 @@ fn close<K: Sink>(alloc: Global, sink: &mut K, pieces: &mut Pieces) -> Status
     ensures write_fault { result ≡ Status.WriteFault → Rose (K.faults sink.old) (K.faults sink.new) }
     ensures read_fault { result ≢ Status.ReadFault }
     ensures words { result ≢ Status.BadWords }
-    ensures ends { IsTrue K.tells → (input before : List ℕ) → IsUnderWay pieces.old input [] before (K.written sink.old)
-        → Replayed result input [] before (K.written sink.new) }
+    ensures ends { (input before : List ℕ) → IsUnderWay K.tells pieces.old input [] before (K.written sink.old)
+        → Replayed K.tells result input [] before (K.written sink.new) }
 {
     let finished = pieces.finish(alloc);
     if write_all(sink, pieces.replay.text.as_slice()).is_err() {
@@ -125,10 +125,10 @@ fn pump<S: Source, K: Sink>(
     ensures reading { OnOk result (IsReading pieces.new) }
     ensures progress { result ≡ Ok true → bytes_left pieces.new < bytes_left pieces.old }
     ensures end { IsTrue S.tells → result ≡ Ok false → S.left source.new ≡ [] }
-    ensures goes { IsTrue S.tells → IsTrue K.tells → OnOk result ((input before : List ℕ) →
-        IsUnderWay pieces.old input (S.left source.old) before (K.written sink.old) → IsUnderWay pieces.new input (S.left source.new) before (K.written sink.new)) }
-    ensures ends { IsTrue S.tells → IsTrue K.tells → IfErr result (λ status. (input before : List ℕ) →
-        IsUnderWay pieces.old input (S.left source.old) before (K.written sink.old) → Replayed status input (S.left source.new) before (K.written sink.new)) }
+    ensures goes { IsTrue S.tells → OnOk result ((input before : List ℕ) →
+        IsUnderWay K.tells pieces.old input (S.left source.old) before (K.written sink.old) → IsUnderWay K.tells pieces.new input (S.left source.new) before (K.written sink.new)) }
+    ensures ends { IsTrue S.tells → IfErr result (λ status. (input before : List ℕ) →
+        IsUnderWay K.tells pieces.old input (S.left source.old) before (K.written sink.old) → Replayed K.tells status input (S.left source.new) before (K.written sink.new)) }
 {
     match source.read(buffer) {
         Err(Failed) => Err(Status::ReadFault),
@@ -144,8 +144,8 @@ fn pump<S: Source, K: Sink>(
 fn replay<S: Source, K: Sink>(alloc: Global, source: &mut S, sink: &mut K) -> Status
     ensures read_fault { result ≡ Status.ReadFault → Rose (S.faults source.old) (S.faults source.new) }
     ensures write_fault { result ≡ Status.WriteFault → Rose (K.faults sink.old) (K.faults sink.new) }
-    ensures replayed { IsTrue S.tells → IsTrue K.tells →
-        Replayed result (S.left source.old) (S.left source.new) (K.written sink.old) (K.written sink.new) }
+    ensures replayed { IsTrue S.tells →
+        Replayed K.tells result (S.left source.old) (S.left source.new) (K.written sink.old) (K.written sink.new) }
     ensures words { result ≢ Status.BadWords }
 {
     let mut pieces = Pieces::new(alloc);
@@ -171,9 +171,10 @@ pub fn run<S: Source, K: Sink, N: Nv>(
 ) -> Ended<N>
     requires { N.capacity nv ≡ 65536 }
 
-    // What was read and written, for a source that tells what it has left and a sink that tells what it holds.
-    ensures replayed { IsReplay (map string_bytes words.now) → IsTrue S.tells → IsTrue K.tells →
-        Replayed result.status (S.left source.old) (S.left source.new) (K.written sink.old) (K.written sink.new) }
+    // Why the run ended and what was read and written, for a source that tells what it has left. Only the equation about the
+    // bytes written asks for a sink that tells what it holds.
+    ensures replayed { IsReplay (map string_bytes words.now) → IsTrue S.tells →
+        Replayed K.tells result.status (S.left source.old) (S.left source.new) (K.written sink.old) (K.written sink.new) }
 
     ensures decoded { IsDecode (map string_bytes words.now) → IsTrue S.tells → IsTrue K.tells →
         DecodedBy result.status (S.left source.old) (S.left source.new) (K.written sink.old) (K.written sink.new) }
@@ -187,7 +188,7 @@ pub fn run<S: Source, K: Sink, N: Nv>(
     ensures write_fault { result.status ≡ Status.WriteFault → Rose (K.faults sink.old) (K.faults sink.new) }
 
     // With a whole schedule and no fault of the outside, a replay is done, unless there is no memory.
-    ensures complete { IsReplay (map string_bytes words.now) → IsTrue S.tells → IsTrue K.tells →
+    ensures complete { IsReplay (map string_bytes words.now) → IsTrue S.tells →
         (schedule_of (S.left source.old)).stop ≡ None →
         ¬ Rose (S.faults source.old) (S.faults source.new) → ¬ Rose (K.faults sink.old) (K.faults sink.new) →
         (result.status ≡ Status.Done) ⊎ (result.status ≡ Status.NoMemory) }

@@ -1,4 +1,4 @@
-use Rattle.std.proofs.Common.{◌≡◌, ◌≤◌, ◌∙◌, ◌++◌, [], List, ℕ, length, take, refl, sym, ap, subst, inr, arith}
+use Rattle.std.proofs.Common.{◌≡◌, IsTrue, ◌≤◌, ◌∙◌, ◌++◌, [], List, ℕ, length, take, refl, sym, ap, subst, inr, arith}
 use Rattle.std.proofs.lemmas.List.{append-nil}
 use Rattle.swp_tool.specs.Decodings.{IsDecoding, DecodedBy}
 use Rattle.swp_tool.specs.declared.status.Status.TheVariants as status
@@ -17,9 +17,9 @@ returns-then-is_err-2-clause-ends g c tells input before h =
     let k = goes h.bytes before h.decoding in
     let few : length h.bytes ≤ 16777216 = omega (arith, c.requires.few, count_read c.args.decoding.now h.bytes before was h.decoding) in
     let input_is : h.bytes ≡ input = sym (h.input_is ∙ append-nil h.bytes) in
-    let front = of_err ((n : ℕ) × (after ≡ mid ++ take n c.as_slice.result.now)) c.write_all.result c.is_err-2.result c.is_err-2.ensures.value c.if-is_err-2.true (c.write_all.ensures.front tells) in
+    let front = of_err ((n : ℕ) × (IsTrue g.K.Sink.tells → after ≡ mid ++ take n c.as_slice.result.now)) c.write_all.result c.is_err-2.result c.is_err-2.ensures.value c.if-is_err-2.true c.write_all.ensures.front in
     subst (λ l. DecodedBy status.WriteFault l [] before after) input_is
-    (inr (cut_whole d h.bytes before mid after text k c.finish.ensures.line few (front.0, front.1 ∙ ap (λ l. mid ++ take front.0 l) c.as_slice.ensures.value)))
+    (inr (cut_whole d h.bytes before mid after text k c.finish.ensures.line few (front.0, front.1 tells ∙ ap (λ l. mid ++ take front.0 l) c.as_slice.ensures.value)))
 
 pub returns-clause-ends : goal.returns-clause-ends
 returns-clause-ends g c tells input before h =

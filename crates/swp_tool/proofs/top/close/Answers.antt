@@ -1,53 +1,52 @@
 -- What was gathered at the end stands behind what was written.
-use Rattle.std.proofs.Common.{◌≡◌, ◌++◌, List, ℕ, [], sym, ap, ◌∙◌, append_assoc, subst, take, refl}
+use Rattle.std.proofs.Common.{◌≡◌, ◌++◌, List, ℕ, IsTrue, [], sym, ap, ◌∙◌, subst, take, refl}
 use Rattle.std.proofs.lemmas.List.{append-nil}
 use Rattle.swp_tool.specs.declared.status.Status.{Status}
 use Rattle.swp_tool.specs.Pieces.{IsCompleteTranscript}
 use Rattle.swp_tool.specs.Runs.{Appends, IsFrontOfTranscript, Replayed}
-use Rattle.swp_tool.proofs.Ending.{of_err, of_ok, cut_off, finished_front, halted_at_end}
+use Rattle.swp_tool.proofs.Ending.{of_err, of_ok, behind, cut_off, finished_front, halted_at_end}
 use Rattle.swp_tool.proofs.top.close.Goals as goal
 
--- text that was written behind text
-behind : (before text items written after : List ℕ) → written ≡ before ++ text → after ≡ written ++ items → after ≡ before ++ (text ++ items)
-behind before text items written after was now = now ∙ (ap (λ l. l ++ items) was ∙ append_assoc before text items)
-
 pub returns-then-is_err-clause-ends : goal.returns-then-is_err-clause-ends
-returns-then-is_err-clause-ends g c tells input before under =
+returns-then-is_err-clause-ends g c input before under =
+    let tells = g.K.Sink.tells in
     let now = c.finish-finished.new.self.replay.text.items in
     let items = c.as_slice.result.now in
-    let front = of_err ((n : ℕ) × (g.K.Sink.written c.write_all.new.sink ≡ g.K.Sink.written c.args.sink.now ++ take n items)) c.write_all.result c.is_err.result c.is_err.ensures.value c.if-is_err.true (c.write_all.ensures.front tells) in
+    let front = of_err ((n : ℕ) × (IsTrue tells → g.K.Sink.written c.write_all.new.sink ≡ g.K.Sink.written c.args.sink.now ++ take n items)) c.write_all.result c.is_err.result c.is_err.ensures.value c.if-is_err.true c.write_all.ensures.front in
     let input_is : input ≡ under.bytes = under.input_is ∙ append-nil under.bytes in
-    let P : List ℕ → Type 0 = λ i. Appends (IsFrontOfTranscript i) before (g.K.Sink.written c.write_all.new.sink) in
+    let P : List ℕ → Type 0 = λ i. Appends tells (IsFrontOfTranscript i) before (g.K.Sink.written c.write_all.new.sink) in
     let some = finished_front c.args.pieces.now c.finish-finished.new.self c.finish-finished.result under.bytes under.text c.finish-finished.ensures.done c.finish-finished.ensures.halts under.read in
     subst P (sym input_is)
-    (cut_off under.bytes under.text now before (g.K.Sink.written c.args.sink.now) (g.K.Sink.written c.write_all.new.sink) some under.after_is
-    (front.0, front.1 ∙ ap (λ l. g.K.Sink.written c.args.sink.now ++ take front.0 l) c.as_slice.ensures.value))
+    (cut_off tells under.bytes under.text now before (g.K.Sink.written c.args.sink.now) (g.K.Sink.written c.write_all.new.sink) some under.after_is
+    (front.0, λ told. front.1 told ∙ ap (λ l. g.K.Sink.written c.args.sink.now ++ take front.0 l) c.as_slice.ensures.value))
 
 pub returns-in-Ok-clause-ends : goal.returns-in-Ok-clause-ends
-returns-in-Ok-clause-ends g c tells input before under =
+returns-in-Ok-clause-ends g c input before under =
+    let tells = g.K.Sink.tells in
     let now = c.finish-finished.new.self.replay.text.items in
     let after = g.K.Sink.written c.write_all.new.sink in
-    let wrote : after ≡ g.K.Sink.written c.args.sink.now ++ c.as_slice.result.now =
-    of_ok (after ≡ g.K.Sink.written c.args.sink.now ++ c.as_slice.result.now) c.write_all.result c.is_err.result c.is_err.ensures.value c.if-is_err.false (c.write_all.ensures.wrote tells) in
+    let wrote : IsTrue tells → after ≡ g.K.Sink.written c.args.sink.now ++ c.as_slice.result.now =
+    λ told. of_ok (after ≡ g.K.Sink.written c.args.sink.now ++ c.as_slice.result.now) c.write_all.result c.is_err.result c.is_err.ensures.value c.if-is_err.false (c.write_all.ensures.wrote told) in
     let input_is : input ≡ under.bytes = under.input_is ∙ append-nil under.bytes in
     let P : List ℕ → Type 0 = λ i. IsCompleteTranscript i (under.text ++ now) in (
       refl,
       (
         under.text ++ now,
         subst P (sym input_is) (c.in-Ok.ensures.done under.bytes under.text under.read),
-        behind before under.text now (g.K.Sink.written c.args.sink.now) after under.after_is (wrote ∙ ap (λ l. g.K.Sink.written c.args.sink.now ++ l) c.as_slice.ensures.value),
+        behind tells before under.text now (g.K.Sink.written c.args.sink.now) after under.after_is (λ told. wrote told ∙ ap (λ l. g.K.Sink.written c.args.sink.now ++ l) c.as_slice.ensures.value),
       ),
     )
 
 pub returns-in-Err-clause-ends : goal.returns-in-Err-clause-ends
-returns-in-Err-clause-ends g c tells input before under =
+returns-in-Err-clause-ends g c input before under =
+    let tells = g.K.Sink.tells in
     let now = c.finish-finished.new.self.replay.text.items in
     let after = g.K.Sink.written c.write_all.new.sink in
-    let wrote : after ≡ g.K.Sink.written c.args.sink.now ++ c.as_slice.result.now =
-    of_ok (after ≡ g.K.Sink.written c.args.sink.now ++ c.as_slice.result.now) c.write_all.result c.is_err.result c.is_err.ensures.value c.if-is_err.false (c.write_all.ensures.wrote tells) in
+    let wrote : IsTrue tells → after ≡ g.K.Sink.written c.args.sink.now ++ c.as_slice.result.now =
+    λ told. of_ok (after ≡ g.K.Sink.written c.args.sink.now ++ c.as_slice.result.now) c.write_all.result c.is_err.result c.is_err.ensures.value c.if-is_err.false (c.write_all.ensures.wrote told) in
     let input_is : input ≡ under.bytes = under.input_is ∙ append-nil under.bytes in
-    let P : List ℕ → Type 0 = λ i. Replayed c.halted.result i [] before after in
-    let Q : Status → Type 0 = λ s. Replayed s under.bytes [] before after in
+    let P : List ℕ → Type 0 = λ i. Replayed tells c.halted.result i [] before after in
+    let Q : Status → Type 0 = λ s. Replayed tells s under.bytes [] before after in
     subst P (sym input_is) (subst Q (sym c.halted.ensures)
-    (halted_at_end c.in-Err.why c.finish-finished.new.self.replay.count under.bytes (under.text ++ now) before after (c.in-Err.ensures.halts under.bytes under.text under.read)
-    (behind before under.text now (g.K.Sink.written c.args.sink.now) after under.after_is (wrote ∙ ap (λ l. g.K.Sink.written c.args.sink.now ++ l) c.as_slice.ensures.value))))
+    (halted_at_end tells c.in-Err.why c.finish-finished.new.self.replay.count under.bytes (under.text ++ now) before after (c.in-Err.ensures.halts under.bytes under.text under.read)
+    (behind tells before under.text now (g.K.Sink.written c.args.sink.now) after under.after_is (λ told. wrote told ∙ ap (λ l. g.K.Sink.written c.args.sink.now ++ l) c.as_slice.ensures.value))))

@@ -9,8 +9,8 @@ invariant-input g l = record {
   reading : IsReading l.pieces;
   reads : g.S.Source.faults l.fn.source ≤ g.S.Source.faults l.source;
   writes : g.K.Sink.faults l.fn.sink ≤ g.K.Sink.faults l.sink;
-  under_way : IsTrue g.S.Source.tells → IsTrue g.K.Sink.tells →
-      IsUnderWay l.pieces (g.S.Source.left l.fn.source) (g.S.Source.left l.source) (g.K.Sink.written l.fn.sink) (g.K.Sink.written l.sink);
+  under_way : IsTrue g.S.Source.tells →
+      IsUnderWay g.K.Sink.tells l.pieces (g.S.Source.left l.fn.source) (g.S.Source.left l.source) (g.K.Sink.written l.fn.sink) (g.K.Sink.written l.sink);
 }
 
 abbrev pub decreases-input : goal.decreases-input
