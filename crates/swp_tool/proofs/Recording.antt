@@ -1,5 +1,5 @@
 -- What a decoding has written and gathered.
-use Rattle.std.proofs.Common.{◌≡◌, ℕ, ◌+◌, ◌≤◌, List, [], ◌∷◌, ◌++◌, length, take, sym, ap, ◌∙◌, append_assoc, subst}
+use Rattle.std.proofs.Common.{◌≡◌, ℕ, ◌+◌, ◌≤◌, Bool, IsTrue, List, [], ◌∷◌, ◌++◌, length, take, sym, ap, ◌∙◌, append_assoc, subst}
 use Rattle.std.specs.Prelude.{reverse, Result, Ok, Err, OnErr}
 use Rattle.std.proofs.lemmas.List.{append-nil, reverse-append, length-reverse}
 use Rattle.std.proofs.Math.Seq.{take-append-add}
@@ -8,20 +8,26 @@ use Rattle.swp_tool.specs.declared.decoding.Decoding.{Decoding}
 use Rattle.swp_decode.specs.declared.line.Wire.TheVariants.{S1, S2}
 use Rattle.swp_decode.specs.Kept.{StandsFor}
 use Rattle.swp_tool.specs.Decodings.{IsDecoding, IsFrontOfLines, IsFrontOfWhole}
+use Rattle.swp_tool.proofs.Ending.{behind}
 
 -- a front of what is gathered was written
-pub cut_lines : (d : Decoding) (bytes before was after : List ℕ) → IsDecoding d bytes before was
-    → (n : ℕ) × (after ≡ was ++ take n d.text.items) → IsFrontOfLines bytes before after
-cut_lines d bytes before was after h front = record {
+pub cut_lines : (tells : Bool) (d : Decoding) (bytes before was after : List ℕ) → IsDecoding tells d bytes before was
+    → (n : ℕ) × (IsTrue tells → after ≡ was ++ take n d.text.items) → IsFrontOfLines tells bytes before after
+cut_lines tells d bytes before was after h front = record {
   n = length h.written + front.0;
-  after_is = front.1 ∙ (ap (λ l. l ++ take front.0 d.text.items) h.after_is ∙ (append_assoc before h.written (take front.0 d.text.items)
-      ∙ ap (λ l. before ++ l) (sym (take-append-add h.written d.text.items front.0) ∙ ap (λ l. take (length h.written + front.0) l) h.lines)));
+  after_is = λ told. behind tells before h.written (take front.0 d.text.items) was after h.after_is front.1 told
+      ∙ ap (λ l. before ++ l) (sym (take-append-add h.written d.text.items front.0) ∙ ap (λ l. take (length h.written + front.0) l) h.lines);
 }
 
--- all that is gathered was written
-pub all_lines : (d : Decoding) (bytes before was after : List ℕ) → (h : IsDecoding d bytes before was) → after ≡ was ++ d.text.items → after ≡ before ++ record_lines bytes
-all_lines d bytes before was after h wrote =
-    wrote ∙ (ap (λ l. l ++ d.text.items) h.after_is ∙ (append_assoc before h.written d.text.items ∙ ap (λ l. before ++ l) h.lines))
+-- all that was gathered was written, and nothing is gathered
+pub flushed : (tells : Bool) (d e : Decoding) (bytes before was after : List ℕ) → IsDecoding tells d bytes before was
+    → e.decoder ≡ d.decoder → e.text.items ≡ [] → (IsTrue tells → after ≡ was ++ d.text.items) → IsDecoding tells e bytes before after
+flushed tells d e bytes before was after h same none wrote = record {
+  stands = subst (λ x. StandsFor x (reverse bytes)) (sym same) h.stands;
+  written = h.written ++ d.text.items;
+  after_is = behind tells before h.written d.text.items was after h.after_is wrote;
+  lines = ap (λ l. (h.written ++ d.text.items) ++ l) none ∙ (append-nil (h.written ++ d.text.items) ∙ h.lines);
+}
 
 -- the newest byte of a record that goes on
 pub newest : (bytes : List ℕ) (byte : ℕ) → reverse (bytes ++ byte ∷ []) ≡ byte ∷ reverse bytes
@@ -33,16 +39,17 @@ on_err P (Ok x) h = tt
 on_err P (Err e) h = h
 
 -- where nothing is gathered, all lines were written
-pub none_gathered : (d : Decoding) (bytes before after : List ℕ) → IsDecoding d bytes before after → d.text.items ≡ [] → after ≡ before ++ record_lines bytes
-none_gathered d bytes before after h none =
-    h.after_is ∙ ap (λ l. before ++ l) (sym (append-nil h.written) ∙ (ap (λ l. h.written ++ l) (sym none) ∙ h.lines))
+pub none_gathered : (tells : Bool) (d : Decoding) (bytes before after : List ℕ) → IsDecoding tells d bytes before after → d.text.items ≡ []
+    → IsTrue tells → after ≡ before ++ record_lines bytes
+none_gathered tells d bytes before after h none told =
+    h.after_is told ∙ ap (λ l. before ++ l) (sym (append-nil h.written) ∙ (ap (λ l. h.written ++ l) (sym none) ∙ h.lines))
 
 -- a step adds the lines of its byte
-pub step_decodes : (d e : Decoding) (byte : ℕ) (bytes before after : List ℕ) → IsDecoding d bytes before after
+pub step_decodes : (tells : Bool) (d e : Decoding) (byte : ℕ) (bytes before after : List ℕ) → IsDecoding tells d bytes before after
     → StandsFor e.decoder (byte ∷ reverse bytes)
     → e.text.items ≡ (d.text.items ++ line_at S1 (byte ∷ reverse bytes)) ++ line_at S2 (byte ∷ reverse bytes)
-    → IsDecoding e (bytes ++ byte ∷ []) before after
-step_decodes d e byte bytes before after h stands items =
+    → IsDecoding tells e (bytes ++ byte ∷ []) before after
+step_decodes tells d e byte bytes before after h stands items =
     let first = line_at S1 (byte ∷ reverse bytes) in
     let second = line_at S2 (byte ∷ reverse bytes) in
     record {
@@ -55,27 +62,29 @@ step_decodes d e byte bytes before after h stands items =
     }
 
 -- how many bytes were read
-pub count_read : (d : Decoding) (bytes before after : List ℕ) → IsDecoding d bytes before after → d.decoder.count ≡ length bytes
-count_read d bytes before after h = h.stands.count ∙ length-reverse bytes
+pub count_read : (tells : Bool) (d : Decoding) (bytes before after : List ℕ) → IsDecoding tells d bytes before after → d.decoder.count ≡ length bytes
+count_read tells d bytes before after h = h.stands.count ∙ length-reverse bytes
 
 -- with the last line behind the lines, the whole text is there
-pub whole_text : (d : Decoding) (bytes before after text : List ℕ) → (h : IsDecoding d bytes before after) → text ≡ d.text.items ++ last_line d.decoder.count
-    → h.written ++ text ≡ decoded bytes
-whole_text d bytes before after text h is =
+pub whole_text : (tells : Bool) (d : Decoding) (bytes before after text : List ℕ) → (h : IsDecoding tells d bytes before after)
+    → text ≡ d.text.items ++ last_line d.decoder.count → h.written ++ text ≡ decoded bytes
+whole_text tells d bytes before after text h is =
     ap (λ l. h.written ++ l) is ∙ (sym (append_assoc h.written d.text.items (last_line d.decoder.count))
-    ∙ (ap (λ l. l ++ last_line d.decoder.count) h.lines ∙ ap (λ n. record_lines bytes ++ last_line n) (count_read d bytes before after h)))
+    ∙ (ap (λ l. l ++ last_line d.decoder.count) h.lines ∙ ap (λ n. record_lines bytes ++ last_line n) (count_read tells d bytes before after h)))
 
-pub whole_written : (d : Decoding) (bytes before was after text : List ℕ) → (h : IsDecoding d bytes before was) → text ≡ d.text.items ++ last_line d.decoder.count
-    → after ≡ was ++ text → after ≡ before ++ decoded bytes
-whole_written d bytes before was after text h is wrote =
-    wrote ∙ (ap (λ l. l ++ text) h.after_is ∙ (append_assoc before h.written text ∙ ap (λ l. before ++ l) (whole_text d bytes before was text h is)))
+pub whole_written : (tells : Bool) (d : Decoding) (bytes before was after text : List ℕ) → (h : IsDecoding tells d bytes before was)
+    → text ≡ d.text.items ++ last_line d.decoder.count → (IsTrue tells → after ≡ was ++ text) → IsTrue tells → after ≡ before ++ decoded bytes
+whole_written tells d bytes before was after text h is wrote told =
+    behind tells before h.written text was after h.after_is wrote told ∙ ap (λ l. before ++ l) (whole_text tells d bytes before was text h is)
 
 -- a front of the last piece was written
-pub cut_whole : (d : Decoding) (bytes before was after text : List ℕ) → (h : IsDecoding d bytes before was) → text ≡ d.text.items ++ last_line d.decoder.count
-    → length bytes ≤ 16777216 → (n : ℕ) × (after ≡ was ++ take n text) → IsFrontOfWhole bytes before after
-cut_whole d bytes before was after text h is few front = record {
+pub cut_whole : (tells : Bool) (d : Decoding) (bytes before was after text : List ℕ) → (h : IsDecoding tells d bytes before was)
+    → text ≡ d.text.items ++ last_line d.decoder.count → length bytes ≤ 16777216
+    → (n : ℕ) × (IsTrue tells → after ≡ was ++ take n text) → IsFrontOfWhole tells bytes before after
+cut_whole tells d bytes before was after text h is few front = record {
   n = length h.written + front.0;
   few = few;
-  after_is = front.1 ∙ (ap (λ l. l ++ take front.0 text) h.after_is ∙ (append_assoc before h.written (take front.0 text)
-      ∙ ap (λ l. before ++ l) (sym (take-append-add h.written text front.0) ∙ ap (λ l. take (length h.written + front.0) l) (whole_text d bytes before was text h is))));
+  after_is = λ told. behind tells before h.written (take front.0 text) was after h.after_is front.1 told
+      ∙ ap (λ l. before ++ l) (sym (take-append-add h.written text front.0)
+      ∙ ap (λ l. take (length h.written + front.0) l) (whole_text tells d bytes before was text h is));
 }

@@ -24,10 +24,10 @@ fn flush_lines<K: Sink>(sink: &mut K, decoding: &mut Decoding) -> Result<(), Fai
     ensures fault { OnErr result (Rose (K.faults sink.old) (K.faults sink.new)) }
     ensures read { decoding.new.decoder ≡ decoding.old.decoder }
     ensures room { OnOk result (decoding.new.text.items ≡ []) }
-    ensures goes { IsTrue K.tells → OnOk result ((bytes before : List ℕ) → IsDecoding decoding.old bytes before (K.written sink.old)
-        → IsDecoding decoding.new bytes before (K.written sink.new)) }
-    ensures ends { IsTrue K.tells → OnErr result ((bytes before : List ℕ) → IsDecoding decoding.old bytes before (K.written sink.old)
-        → IsFrontOfLines bytes before (K.written sink.new)) }
+    ensures goes { OnOk result ((bytes before : List ℕ) → IsDecoding K.tells decoding.old bytes before (K.written sink.old)
+        → IsDecoding K.tells decoding.new bytes before (K.written sink.new)) }
+    ensures ends { OnErr result ((bytes before : List ℕ) → IsDecoding K.tells decoding.old bytes before (K.written sink.old)
+        → IsFrontOfLines K.tells bytes before (K.written sink.new)) }
 {
     write_all(sink, decoding.text.as_slice())?;
     decoding.text.clear();
@@ -40,10 +40,10 @@ fn make_room<K: Sink>(sink: &mut K, decoding: &mut Decoding) -> Result<(), Faile
     ensures fault { OnErr result (Rose (K.faults sink.old) (K.faults sink.new)) }
     ensures read { decoding.new.decoder ≡ decoding.old.decoder }
     ensures room { OnOk result (length decoding.new.text.items + 256 ≤ 8192) }
-    ensures goes { IsTrue K.tells → OnOk result ((bytes before : List ℕ) → IsDecoding decoding.old bytes before (K.written sink.old)
-        → IsDecoding decoding.new bytes before (K.written sink.new)) }
-    ensures ends { IsTrue K.tells → OnErr result ((bytes before : List ℕ) → IsDecoding decoding.old bytes before (K.written sink.old)
-        → IsFrontOfLines bytes before (K.written sink.new)) }
+    ensures goes { OnOk result ((bytes before : List ℕ) → IsDecoding K.tells decoding.old bytes before (K.written sink.old)
+        → IsDecoding K.tells decoding.new bytes before (K.written sink.new)) }
+    ensures ends { OnErr result ((bytes before : List ℕ) → IsDecoding K.tells decoding.old bytes before (K.written sink.old)
+        → IsFrontOfLines K.tells bytes before (K.written sink.new)) }
 {
     if decoding.text.len() > 7936 {
         flush_lines(sink, decoding)?;
@@ -57,10 +57,10 @@ fn take_byte<K: Sink>(sink: &mut K, decoding: &mut Decoding, byte: u8) -> Result
     ensures count { K.faults sink.old ≤ K.faults sink.new }
     ensures fault { OnErr result (Rose (K.faults sink.old) (K.faults sink.new)) }
     ensures read { OnOk result (decoding.new.decoder.count ≡ decoding.old.decoder.count + 1) }
-    ensures goes { IsTrue K.tells → OnOk result ((bytes before : List ℕ) → IsDecoding decoding.old bytes before (K.written sink.old)
-        → IsDecoding decoding.new (bytes ++ byte ∷ []) before (K.written sink.new)) }
-    ensures ends { IsTrue K.tells → OnErr result ((bytes before : List ℕ) → IsDecoding decoding.old bytes before (K.written sink.old)
-        → IsFrontOfLines bytes before (K.written sink.new)) }
+    ensures goes { OnOk result ((bytes before : List ℕ) → IsDecoding K.tells decoding.old bytes before (K.written sink.old)
+        → IsDecoding K.tells decoding.new (bytes ++ byte ∷ []) before (K.written sink.new)) }
+    ensures ends { OnErr result ((bytes before : List ℕ) → IsDecoding K.tells decoding.old bytes before (K.written sink.old)
+        → IsFrontOfLines K.tells bytes before (K.written sink.new)) }
 {
     make_room(sink, decoding)?;
     decoding.decoder.step(byte, &mut decoding.text);
@@ -76,10 +76,10 @@ fn take_next<K: Sink>(sink: &mut K, decoding: &mut Decoding, byte: u8) -> Result
     ensures words { result ≢ Err Status.BadWords }
     ensures few { OnOk result (decoding.new.decoder.count ≤ 16777216) }
     ensures progress { OnOk result (decoding.new.decoder.count ≡ decoding.old.decoder.count + 1) }
-    ensures goes { IsTrue K.tells → OnOk result ((bytes before : List ℕ) → IsDecoding decoding.old bytes before (K.written sink.old)
-        → IsDecoding decoding.new (bytes ++ byte ∷ []) before (K.written sink.new)) }
-    ensures ends { IsTrue K.tells → IfErr result (λ status. (bytes left ahead before : List ℕ) → IsDecoding decoding.old bytes before (K.written sink.old)
-        → DecodedBy status (bytes ++ byte ∷ ahead) left before (K.written sink.new)) }
+    ensures goes { OnOk result ((bytes before : List ℕ) → IsDecoding K.tells decoding.old bytes before (K.written sink.old)
+        → IsDecoding K.tells decoding.new (bytes ++ byte ∷ []) before (K.written sink.new)) }
+    ensures ends { IfErr result (λ status. (bytes left ahead before : List ℕ) → IsDecoding K.tells decoding.old bytes before (K.written sink.old)
+        → DecodedBy K.tells status (bytes ++ byte ∷ ahead) left before (K.written sink.new)) }
 {
     if decoding.decoder.count == Decoder::MAX_BYTES {
         if flush_lines(sink, decoding).is_err() {
@@ -102,10 +102,10 @@ fn take_each<K: Sink>(sink: &mut K, decoding: &mut Decoding, piece: &[u8]) -> Re
     ensures words { result ≢ Err Status.BadWords }
     ensures few { OnOk result (decoding.new.decoder.count ≤ 16777216) }
     ensures progress { OnOk result (decoding.new.decoder.count ≡ decoding.old.decoder.count + length piece.now) }
-    ensures goes { IsTrue K.tells → OnOk result ((bytes before : List ℕ) → IsDecoding decoding.old bytes before (K.written sink.old)
-        → IsDecoding decoding.new (bytes ++ piece.now) before (K.written sink.new)) }
-    ensures ends { IsTrue K.tells → IfErr result (λ status. (bytes left rest before : List ℕ) → IsDecoding decoding.old bytes before (K.written sink.old)
-        → DecodedBy status (bytes ++ piece.now ++ rest) left before (K.written sink.new)) }
+    ensures goes { OnOk result ((bytes before : List ℕ) → IsDecoding K.tells decoding.old bytes before (K.written sink.old)
+        → IsDecoding K.tells decoding.new (bytes ++ piece.now) before (K.written sink.new)) }
+    ensures ends { IfErr result (λ status. (bytes left rest before : List ℕ) → IsDecoding K.tells decoding.old bytes before (K.written sink.old)
+        → DecodedBy K.tells status (bytes ++ piece.now ++ rest) left before (K.written sink.new)) }
 {
     for byte in piece {
         if let Err(status) = take_next(sink, decoding, *byte) {
@@ -124,12 +124,12 @@ fn take_record<K: Sink>(sink: &mut K, decoding: &mut Decoding, piece: &[u8]) -> 
     ensures words { result ≢ Err Status.BadWords }
     ensures few { OnOk result (decoding.new.decoder.count ≤ 16777216) }
     ensures progress { OnOk result (decoding.new.decoder.count ≡ decoding.old.decoder.count + length piece.now) }
-    ensures goes { IsTrue K.tells → OnOk result ((input rest before : List ℕ) →
-        HasDecoded decoding.old input (piece.now ++ rest) before (K.written sink.old)
-        → HasDecoded decoding.new input rest before (K.written sink.new)) }
-    ensures ends { IsTrue K.tells → IfErr result (λ status. (input rest before : List ℕ) →
-        HasDecoded decoding.old input (piece.now ++ rest) before (K.written sink.old)
-        → DecodedBy status input rest before (K.written sink.new)) }
+    ensures goes { OnOk result ((input rest before : List ℕ) →
+        HasDecoded K.tells decoding.old input (piece.now ++ rest) before (K.written sink.old)
+        → HasDecoded K.tells decoding.new input rest before (K.written sink.new)) }
+    ensures ends { IfErr result (λ status. (input rest before : List ℕ) →
+        HasDecoded K.tells decoding.old input (piece.now ++ rest) before (K.written sink.old)
+        → DecodedBy K.tells status input rest before (K.written sink.new)) }
 {
     if let Err(status) = take_each(sink, decoding, piece) {
         return Err(status);
@@ -146,8 +146,8 @@ fn close_record<K: Sink>(sink: &mut K, decoding: &mut Decoding) -> Status
     ensures write_fault { result ≡ Status.WriteFault → Rose (K.faults sink.old) (K.faults sink.new) }
     ensures read_fault { result ≢ Status.ReadFault }
     ensures words { result ≢ Status.BadWords }
-    ensures ends { IsTrue K.tells → (input before : List ℕ) → HasDecoded decoding.old input [] before (K.written sink.old)
-        → DecodedBy result input [] before (K.written sink.new) }
+    ensures ends { (input before : List ℕ) → HasDecoded K.tells decoding.old input [] before (K.written sink.old)
+        → DecodedBy K.tells result input [] before (K.written sink.new) }
 {
     if make_room(sink, decoding).is_err() {
         return Status::WriteFault;
@@ -176,12 +176,12 @@ fn pump_record<S: Source, K: Sink>(
     ensures few { OnOk result (decoding.new.decoder.count ≤ 16777216) }
     ensures progress { result ≡ Ok true → decoding.old.decoder.count < decoding.new.decoder.count }
     ensures end { IsTrue S.tells → result ≡ Ok false → S.left source.new ≡ [] }
-    ensures goes { IsTrue S.tells → IsTrue K.tells → OnOk result ((input before : List ℕ) →
-        HasDecoded decoding.old input (S.left source.old) before (K.written sink.old)
-        → HasDecoded decoding.new input (S.left source.new) before (K.written sink.new)) }
-    ensures ends { IsTrue S.tells → IsTrue K.tells → IfErr result (λ status. (input before : List ℕ) →
-        HasDecoded decoding.old input (S.left source.old) before (K.written sink.old)
-        → DecodedBy status input (S.left source.new) before (K.written sink.new)) }
+    ensures goes { IsTrue S.tells → OnOk result ((input before : List ℕ) →
+        HasDecoded K.tells decoding.old input (S.left source.old) before (K.written sink.old)
+        → HasDecoded K.tells decoding.new input (S.left source.new) before (K.written sink.new)) }
+    ensures ends { IsTrue S.tells → IfErr result (λ status. (input before : List ℕ) →
+        HasDecoded K.tells decoding.old input (S.left source.old) before (K.written sink.old)
+        → DecodedBy K.tells status input (S.left source.new) before (K.written sink.new)) }
 {
     match source.read(buffer) {
         Err(Failed) => Err(Status::ReadFault),
@@ -197,8 +197,8 @@ fn pump_record<S: Source, K: Sink>(
 pub fn decode<S: Source, K: Sink>(source: &mut S, sink: &mut K) -> Status
     ensures read_fault { result ≡ Status.ReadFault → Rose (S.faults source.old) (S.faults source.new) }
     ensures write_fault { result ≡ Status.WriteFault → Rose (K.faults sink.old) (K.faults sink.new) }
-    ensures decoded { IsTrue S.tells → IsTrue K.tells →
-        DecodedBy result (S.left source.old) (S.left source.new) (K.written sink.old) (K.written sink.new) }
+    ensures decoded { IsTrue S.tells →
+        DecodedBy K.tells result (S.left source.old) (S.left source.new) (K.written sink.old) (K.written sink.new) }
     ensures words { result ≢ Status.BadWords }
 {
     let mut decoding = Decoding {

@@ -176,8 +176,8 @@ pub fn run<S: Source, K: Sink, N: Nv>(
     ensures replayed { IsReplay (map string_bytes words.now) → IsTrue S.tells →
         Replayed K.tells result.status (S.left source.old) (S.left source.new) (K.written sink.old) (K.written sink.new) }
 
-    ensures decoded { IsDecode (map string_bytes words.now) → IsTrue S.tells → IsTrue K.tells →
-        DecodedBy result.status (S.left source.old) (S.left source.new) (K.written sink.old) (K.written sink.new) }
+    ensures decoded { IsDecode (map string_bytes words.now) → IsTrue S.tells →
+        DecodedBy K.tells result.status (S.left source.old) (S.left source.new) (K.written sink.old) (K.written sink.new) }
 
     // Other words are refused exactly, and then nothing is read or written.
     ensures bad_words { (result.status ≡ Status.BadWords) ↔ ¬ IsCommand (map string_bytes words.now) }
@@ -193,7 +193,7 @@ pub fn run<S: Source, K: Sink, N: Nv>(
         ¬ Rose (S.faults source.old) (S.faults source.new) → ¬ Rose (K.faults sink.old) (K.faults sink.new) →
         (result.status ≡ Status.Done) ⊎ (result.status ≡ Status.NoMemory) }
     // With a record that isn't too long and no fault of the outside, a decoding is done.
-    ensures complete_record { IsDecode (map string_bytes words.now) → IsTrue S.tells → IsTrue K.tells →
+    ensures complete_record { IsDecode (map string_bytes words.now) → IsTrue S.tells →
         length (S.left source.old) ≤ most_bytes →
         ¬ Rose (S.faults source.old) (S.faults source.new) → ¬ Rose (K.faults sink.old) (K.faults sink.new) →
         result.status ≡ Status.Done }

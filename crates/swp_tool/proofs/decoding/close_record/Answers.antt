@@ -7,31 +7,33 @@ use Rattle.swp_tool.proofs.Recording.{cut_whole, whole_written, count_read}
 use Rattle.swp_tool.proofs.decoding.close_record.Goals as goal
 
 pub returns-then-is_err-2-clause-ends : goal.returns-then-is_err-2-clause-ends
-returns-then-is_err-2-clause-ends g c tells input before h =
+returns-then-is_err-2-clause-ends g c input before h =
+    let tells = g.K.Sink.tells in
     let d = c.make_room.new.decoding in
     let was = g.K.Sink.written c.args.sink.now in
     let mid = g.K.Sink.written c.make_room.new.sink in
     let after = g.K.Sink.written c.write_all.new.sink in
     let text = c.finish.new.text.items in
-    let goes = of_ok ((b f : List ℕ) → IsDecoding c.args.decoding.now b f was → IsDecoding d b f mid) c.make_room.result c.is_err.result c.is_err.ensures.value c.if-is_err.false (c.make_room.ensures.goes tells) in
+    let goes = of_ok ((b f : List ℕ) → IsDecoding tells c.args.decoding.now b f was → IsDecoding tells d b f mid) c.make_room.result c.is_err.result c.is_err.ensures.value c.if-is_err.false c.make_room.ensures.goes in
     let k = goes h.bytes before h.decoding in
-    let few : length h.bytes ≤ 16777216 = omega (arith, c.requires.few, count_read c.args.decoding.now h.bytes before was h.decoding) in
+    let few : length h.bytes ≤ 16777216 = omega (arith, c.requires.few, count_read tells c.args.decoding.now h.bytes before was h.decoding) in
     let input_is : h.bytes ≡ input = sym (h.input_is ∙ append-nil h.bytes) in
-    let front = of_err ((n : ℕ) × (IsTrue g.K.Sink.tells → after ≡ mid ++ take n c.as_slice.result.now)) c.write_all.result c.is_err-2.result c.is_err-2.ensures.value c.if-is_err-2.true c.write_all.ensures.front in
-    subst (λ l. DecodedBy status.WriteFault l [] before after) input_is
-    (inr (cut_whole d h.bytes before mid after text k c.finish.ensures.line few (front.0, front.1 tells ∙ ap (λ l. mid ++ take front.0 l) c.as_slice.ensures.value)))
+    let front = of_err ((n : ℕ) × (IsTrue tells → after ≡ mid ++ take n c.as_slice.result.now)) c.write_all.result c.is_err-2.result c.is_err-2.ensures.value c.if-is_err-2.true c.write_all.ensures.front in
+    subst (λ l. DecodedBy tells status.WriteFault l [] before after) input_is
+    (inr (cut_whole tells d h.bytes before mid after text k c.finish.ensures.line few (front.0, λ told. front.1 told ∙ ap (λ l. mid ++ take front.0 l) c.as_slice.ensures.value)))
 
 pub returns-clause-ends : goal.returns-clause-ends
-returns-clause-ends g c tells input before h =
+returns-clause-ends g c input before h =
+    let tells = g.K.Sink.tells in
     let d = c.make_room.new.decoding in
     let was = g.K.Sink.written c.args.sink.now in
     let mid = g.K.Sink.written c.make_room.new.sink in
     let after = g.K.Sink.written c.write_all.new.sink in
     let text = c.finish.new.text.items in
-    let goes = of_ok ((b f : List ℕ) → IsDecoding c.args.decoding.now b f was → IsDecoding d b f mid) c.make_room.result c.is_err.result c.is_err.ensures.value c.if-is_err.false (c.make_room.ensures.goes tells) in
+    let goes = of_ok ((b f : List ℕ) → IsDecoding tells c.args.decoding.now b f was → IsDecoding tells d b f mid) c.make_room.result c.is_err.result c.is_err.ensures.value c.if-is_err.false c.make_room.ensures.goes in
     let k = goes h.bytes before h.decoding in
-    let few : length h.bytes ≤ 16777216 = omega (arith, c.requires.few, count_read c.args.decoding.now h.bytes before was h.decoding) in
+    let few : length h.bytes ≤ 16777216 = omega (arith, c.requires.few, count_read tells c.args.decoding.now h.bytes before was h.decoding) in
     let input_is : h.bytes ≡ input = sym (h.input_is ∙ append-nil h.bytes) in
-    let wrote = of_ok (after ≡ mid ++ c.as_slice.result.now) c.write_all.result c.is_err-2.result c.is_err-2.ensures.value c.if-is_err-2.false (c.write_all.ensures.wrote tells) in
-    subst (λ l. DecodedBy status.Done l [] before after) input_is
-    (refl, few, whole_written d h.bytes before mid after text k c.finish.ensures.line (wrote ∙ ap (λ l. mid ++ l) c.as_slice.ensures.value))
+    let wrote : IsTrue tells → after ≡ mid ++ c.as_slice.result.now = λ told. of_ok (after ≡ mid ++ c.as_slice.result.now) c.write_all.result c.is_err-2.result c.is_err-2.ensures.value c.if-is_err-2.false (c.write_all.ensures.wrote told) in
+    subst (λ l. DecodedBy tells status.Done l [] before after) input_is
+    (refl, few, whole_written tells d h.bytes before mid after text k c.finish.ensures.line (λ told. wrote told ∙ ap (λ l. mid ++ l) c.as_slice.ensures.value))

@@ -8,10 +8,10 @@ input-init g c = record {
   few = omega (arith, c.new.ensures.count);
   reads = omega arith;
   writes = omega arith;
-  decoded = λ reads writes. record {
+  decoded = λ reads. record {
     bytes = [];
     input_is = refl;
-    decoding = record { stands = c.new.ensures; written = []; after_is = sym (append-nil (g.K.Sink.written c.args.sink.now)); lines = c.new-2.ensures };
+    decoding = record { stands = c.new.ensures; written = []; after_is = λ told. sym (append-nil (g.K.Sink.written c.args.sink.now)); lines = c.new-2.ensures };
     gathered = c.new-2.ensures;
   };
 }

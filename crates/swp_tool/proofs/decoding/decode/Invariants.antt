@@ -8,8 +8,8 @@ invariant-input g l = record {
   few : l.decoding.decoder.count ≤ 16777216;
   reads : g.S.Source.faults l.fn.source ≤ g.S.Source.faults l.source;
   writes : g.K.Sink.faults l.fn.sink ≤ g.K.Sink.faults l.sink;
-  decoded : IsTrue g.S.Source.tells → IsTrue g.K.Sink.tells →
-      HasDecoded l.decoding (g.S.Source.left l.fn.source) (g.S.Source.left l.source) (g.K.Sink.written l.fn.sink) (g.K.Sink.written l.sink);
+  decoded : IsTrue g.S.Source.tells →
+      HasDecoded g.K.Sink.tells l.decoding (g.S.Source.left l.fn.source) (g.S.Source.left l.source) (g.K.Sink.written l.fn.sink) (g.K.Sink.written l.sink);
 }
 
 abbrev pub decreases-input : goal.decreases-input

@@ -1,4 +1,4 @@
-use Rattle.std.proofs.Common.{◌≡◌, ◌+◌, ◌≤◌, ◌++◌, take, List, ℕ, IsTrue}
+use Rattle.std.proofs.Common.{◌≡◌, ◌+◌, ◌≤◌, ◌++◌, take, List, ℕ}
 use Rattle.swp_tool.specs.Decodings.{IsDecoding}
 use Rattle.swp_tool.proofs.decoding.take_each.Given as goal
 
@@ -8,6 +8,6 @@ invariant-loop-byte g l = record {
   few : l.decoding.decoder.count ≤ 16777216;
   counted : l.decoding.decoder.count ≡ l.fn.decoding.decoder.count + l.byte-index;
   writes : g.K.Sink.faults l.fn.sink ≤ g.K.Sink.faults l.sink;
-  read : IsTrue g.K.Sink.tells → (bytes before : List ℕ) → IsDecoding l.fn.decoding bytes before (g.K.Sink.written l.fn.sink)
-      → IsDecoding l.decoding (bytes ++ take l.byte-index l.piece) before (g.K.Sink.written l.sink);
+  read : (bytes before : List ℕ) → IsDecoding g.K.Sink.tells l.fn.decoding bytes before (g.K.Sink.written l.fn.sink)
+      → IsDecoding g.K.Sink.tells l.decoding (bytes ++ take l.byte-index l.piece) before (g.K.Sink.written l.sink);
 }
