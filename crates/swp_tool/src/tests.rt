@@ -1,12 +1,15 @@
 //! The worked examples of the program, over sources and sinks in memory.
-ghost use Rattle.std.specs.Prelude.{◌≤◌};
+ghost use Rattle.std.specs.Prelude.{◌≡◌, ◌≤◌, ◌⊎◌, ◌∷◌, [], ℕ, length, map, string_bytes, codes, Some, None, IfOk};
+ghost use Rattle.schedule_text.specs.declared.fault.LineFault.{LineFault};
+ghost use Rattle.swp_tool.specs.Schedules.{AtFault, Too_many, schedule_of};
+ghost use Rattle.swp_tool.specs.Decodings.{most_bytes};
 
 use super::*;
 use nv_journal::JournalFault;
 use schedule_text::LineFault;
 use std::alloc::{AllocError, Global};
 use std::test::Fail;
-use swp_base::{MemNv, MemSink, MemSource, NoMemory};
+use swp_base::{MemNv, MemSink, MemSource, NoMemory, SureNv, SureSink, SureSource};
 
 const ONE_MESSAGE: [&str; 2] = [
     "\
@@ -309,6 +312,38 @@ fn outcome(
     Ok((status, Vec::from_slice(alloc, sink.bytes())?))
 }
 
+/// The words that are this one.
+fn one_word(alloc: Global, word: &str) -> Result<Vec<String>, NoMemory>
+    ensures { IfOk result (λ words. map string_bytes words.items ≡ word.now ∷ []) }
+{
+    let mut words = Vec::new(alloc);
+    words
+        .push(String::from_str(alloc, word)?)
+        .map_err(AllocError::from)?;
+    Ok(words)
+}
+
+/// What a run over this word and these bytes ended with, where nothing outside ever fails. The sink tells nothing, so the
+/// clauses follow from what `run` says of any sink.
+fn status_over_sure(alloc: Global, word: &str, bytes: &[u8]) -> Result<Status, NoMemory>
+    ensures done { word.now ≡ codes "replay" → (schedule_of bytes.now).stop ≡ None →
+        IfOk result (λ status. (status ≡ Status.Done) ⊎ (status ≡ Status.NoMemory)) }
+    ensures fault { word.now ≡ codes "replay" → IfOk result (λ status. (line : ℕ) (why : LineFault) →
+        status ≡ Status.BadSchedule line why →
+        ((schedule_of bytes.now).stop ≡ Some (AtFault why)) × ((schedule_of bytes.now).count ≡ line)) }
+    ensures too_many { word.now ≡ codes "replay" → IfOk result (λ status. (count : ℕ) →
+        status ≡ Status.TooMany count → (schedule_of bytes.now).stop ≡ Some Too_many) }
+    ensures decoded { word.now ≡ codes "decode" → length bytes.now ≤ most_bytes →
+        IfOk result (λ status. status ≡ Status.Done) }
+{
+    let words = one_word(alloc, word)?;
+    let mut source = SureSource::new(Vec::from_slice(alloc, bytes)?);
+    let mut sink = SureSink::new();
+    let nv = SureNv::new(alloc, 65_536)?;
+    let Ended { status, nv: _ } = run(alloc, words.as_slice(), &mut source, &mut sink, nv);
+    Ok(status)
+}
+
 const REPLAY: [&str; 1] = ["replay"];
 
 const NONE: (&[u64], &[u64]) = (&[], &[]);
@@ -555,5 +590,26 @@ fn a_decoding_that_is_cut_off_leaves_the_lines_before_it(rt: HostRuntime) -> Res
     let (status, written) = outcome(rt.alloc(), &DECODE, &RECORD, (&[], &[2]), 4096)?;
     assert_eq!(rt; status, Status::WriteFault);
     assert_eq!(rt; written.as_slice(), b"s1 0 C1 rr 1\n".as_slice());
+    Ok(())
+}
+
+#[test]
+fn worked_examples_end_alike_over_a_sink_that_tells_nothing(rt: HostRuntime) -> Result<(), Fail> {
+    let [schedule, _] = ONE_MESSAGE;
+    for (word, bytes, wanted) in [
+        ("replay", schedule.as_bytes(), Status::Done),
+        (
+            "replay",
+            b"".as_slice(),
+            Status::BadSchedule {
+                line: 1,
+                fault: LineFault::Order,
+            },
+        ),
+        ("decode", RECORD.as_slice(), Status::Done),
+    ] {
+        let status = status_over_sure(rt.alloc(), word, bytes)?;
+        assert_eq!(rt; status, wanted, "{word}");
+    }
     Ok(())
 }
