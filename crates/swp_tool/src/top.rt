@@ -126,9 +126,11 @@ fn pump<S: Source, K: Sink>(
     ensures progress { result ≡ Ok true → bytes_left pieces.new < bytes_left pieces.old }
     ensures end { IsTrue S.tells → result ≡ Ok false → S.left source.new ≡ [] }
     ensures goes { IsTrue S.tells → OnOk result ((input before : List ℕ) →
-        IsUnderWay K.tells pieces.old input (S.left source.old) before (K.written sink.old) → IsUnderWay K.tells pieces.new input (S.left source.new) before (K.written sink.new)) }
+        IsUnderWay K.tells pieces.old input (S.left source.old) before (K.written sink.old)
+        → IsUnderWay K.tells pieces.new input (S.left source.new) before (K.written sink.new)) }
     ensures ends { IsTrue S.tells → IfErr result (λ status. (input before : List ℕ) →
-        IsUnderWay K.tells pieces.old input (S.left source.old) before (K.written sink.old) → Replayed K.tells status input (S.left source.new) before (K.written sink.new)) }
+        IsUnderWay K.tells pieces.old input (S.left source.old) before (K.written sink.old)
+        → Replayed K.tells status input (S.left source.new) before (K.written sink.new)) }
 {
     match source.read(buffer) {
         Err(Failed) => Err(Status::ReadFault),
