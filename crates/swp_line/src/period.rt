@@ -51,18 +51,15 @@ pub fn byte_of(period: &Period) -> u8
     }
 }
 
-/// The byte of a period with these bits. It only chooses between numbers, so that it needs no jump.
+/// The bytes of the periods with bits, by S1 and twice S2.
+static BYTES_WITH_BITS: [u8; 4] = [0x40, 0x54, 0xC0, 0xFC];
+
+/// The byte of a period with these bits.
 #[inline]
 fn byte_of_bits(s1: bool, s2: bool) -> u8
     ensures { result ≡ byte_of_period (Period.Bits s1 s2) }
 {
-    if s2 {
-        if s1 { 0xFC } else { 0xC0 }
-    } else if s1 {
-        0x54
-    } else {
-        0x40
-    }
+    BYTES_WITH_BITS[usize::from(s1) + 2 * usize::from(s2)]
 }
 
 #[cfg(test)]
