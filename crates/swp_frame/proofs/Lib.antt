@@ -4,3 +4,4 @@ pub mod Runs
 pub mod WritingLemmas
 pub mod ShortRuns
 pub mod EightBits
+pub mod Gatherings

@@ -60,9 +60,9 @@ abbrev pub HasNoMark : List Symbol → List Bool → Type 0
 HasNoMark seen [] = Unit {0}
 HasNoMark seen (next ∷ bits) = (mark_of (symbol_of next ∷ seen) ≡ no_mark) × HasNoMark (symbol_of next ∷ seen) bits
 
--- Each run of 1 bits in these bits, the oldest first, is shorter than five, where so many 1 bits stood before them: no mark
--- ends with one of them, and none was put in.
-abbrev pub has_short_runs : ℕ → List Bool → Bool
-has_short_runs ones [] = nat_lt ones 5
-has_short_runs ones (true ∷ bits) = has_short_runs (suc ones) bits
-has_short_runs ones (false ∷ bits) = nat_lt ones 5 && has_short_runs 0 bits
+-- Each run of 1 bits in these bits, the oldest first, is shorter than this, where so many 1 bits stood before them. Where it is
+-- shorter than six, no mark ends with one of them; where it is shorter than five, none was put in.
+abbrev pub has_runs_below : ℕ → ℕ → List Bool → Bool
+has_runs_below limit ones [] = nat_lt ones limit
+has_runs_below limit ones (true ∷ bits) = has_runs_below limit (suc ones) bits
+has_runs_below limit ones (false ∷ bits) = nat_lt ones limit && has_runs_below limit 0 bits

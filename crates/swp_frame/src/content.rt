@@ -2,7 +2,9 @@
 ghost use Rattle.std.specs.Prelude.{ℕ, Bool, List, ◌≡◌, ◌+◌, ◌-◌, ◌*◌, ◌/◌, ◌%◌, ◌^◌, ◌<◌, ◌≤◌, ◌++◌, [], ◌∷◌, length, true, false, take, IsTrue, ◌↔◌, ◌≢◌};
 ghost use Rattle.swp_crc.specs.Running.{running_of};
 
+use crate::eight::ones_to_five;
 use crate::fed::Fed;
+use crate::gathered::Gathered;
 use arrayvec::ArrayVec;
 use swp_base::{FrameFault, Lpdu};
 use swp_crc::Register;
@@ -42,7 +44,7 @@ pub struct Content {
 
 impl Content {
     ghost use Rattle.swp_frame.specs.Kept.{KeepsContent, KeepsSince, run_bits};
-    ghost use Rattle.swp_frame.specs.Signal.{Symbol, symbol_of, run_of, read_on, has_short_runs};
+    ghost use Rattle.swp_frame.specs.Signal.{Symbol, symbol_of, run_of, read_on, has_runs_below};
     ghost use Rattle.swp_crc.specs.Division.{number_of};
     ghost use Rattle.swp_base.specs.Bits.{bits_of_byte};
     ghost use Rattle.swp_frame.specs.Content.{judged};
@@ -96,14 +98,42 @@ impl Content {
         }
     }
 
-    /// Appends the bits of a byte, where each run of 1 bits is shorter than five.
+    /// Appends the bits of a byte, the most significant first, where so many 1 bits in a row stand before them. Those that were
+    /// put in are left out.
     #[inline(always)]
-    pub fn push_eight(&mut self, bits: u8)
-        ensures { (since : List Symbol) → KeepsSince self.old since → IsTrue (has_short_runs (run_of since) (bits_of_byte bits))
+    pub fn push_eight(&mut self, bits: u8, ones: u8)
+        requires { ones ≤ 7 }
+        ensures { (since : List Symbol) → KeepsSince self.old since → run_of since ≡ ones → KeepsSince self.new (read_on since (bits_of_byte bits)) }
+    {
+        if ones < ones_to_five(bits) {
+            self.push_whole(bits);
+        } else {
+            self.push_unstuffed(bits, ones);
+        }
+    }
+
+    /// Appends the bits of a byte at once, where each run of 1 bits is shorter than five.
+    #[inline(always)]
+    fn push_whole(&mut self, bits: u8)
+        ensures { (since : List Symbol) → KeepsSince self.old since → IsTrue (has_runs_below 5 (run_of since) (bits_of_byte bits))
             → KeepsSince self.new (read_on since (bits_of_byte bits)) }
     {
         self.push_bits(bits, 8);
         self.zero = true;
+    }
+
+    /// Appends the bits of a byte without those that were put in.
+    #[inline(never)]
+    fn push_unstuffed(&mut self, bits: u8, ones: u8)
+        requires { ones ≤ 7 }
+        ensures { (since : List Symbol) → KeepsSince self.old since → run_of since ≡ ones → KeepsSince self.new (read_on since (bits_of_byte bits)) }
+    {
+        let mut gathered = Gathered::new(ones, self.zero);
+        for place in 0..8u8 {
+            gathered = gathered.with((bits >> (7 - place)) & 1 == 1);
+        }
+        self.push_bits(gathered.value, gathered.width);
+        self.zero = gathered.zero;
     }
 
     /// The verdict on a content behind which six 1 bits of the end of its frame were read, and the 0 in front of these.

@@ -4,8 +4,9 @@ ghost use Rattle.std.specs.Bool.{OnTrue, OnFalse};
 ghost use Rattle.swp_base.specs.Bits.{bits_of_byte};
 
 use crate::content::Content;
-use crate::eight::too_many_before;
+use crate::eight::ones_to_six;
 use crate::fed::Fed;
+use std::mem;
 use swp_base::FrameFault;
 
 /// The length of a start of frame's run of 1 bits; one more ends a frame.
@@ -28,7 +29,7 @@ pub struct Deframer {
 impl Deframer {
     ghost use Rattle.swp_base.specs.declared.link_terms.FrameFault.TheVariants.{Broken};
     ghost use Rattle.swp_frame.specs.declared.fed.Fed.TheVariants.{Nothing, Refused};
-    ghost use Rattle.swp_frame.specs.Signal.{Symbol, bit_0, bit_1, break, symbol_of, mark_of, start_mark, run_of, read_on, HasNoMark, has_short_runs};
+    ghost use Rattle.swp_frame.specs.Signal.{Symbol, bit_0, bit_1, break, symbol_of, mark_of, start_mark, run_of, read_on, HasNoMark, has_runs_below};
     ghost use Rattle.swp_frame.specs.Verdicts.{verdict};
     ghost use Rattle.swp_frame.specs.Kept.{StandsFor};
 
@@ -56,22 +57,22 @@ impl Deframer {
         Fed::Nothing
     }
 
-    /// Reads eight bits at once, the most significant first, where each run of 1 bits among them is shorter than five, with
-    /// those that stand before them: none of these bits ends a mark, and none was put in. Else it reads nothing.
+    /// Reads eight bits at once, the most significant first, where fewer than six 1 bits in a row stand at each place, with
+    /// those before them: so none of these bits ends a mark. Else it reads nothing.
     #[inline(always)]
     pub fn feed_eight(&mut self, bits: u8) -> bool
-        ensures short { (seen : List Symbol) → StandsFor self.old seen → IsTrue result ↔ IsTrue (has_short_runs (run_of seen) (bits_of_byte bits)) }
+        ensures read { (seen : List Symbol) → StandsFor self.old seen → IsTrue result ↔ IsTrue (has_runs_below 6 (run_of seen) (bits_of_byte bits)) }
         ensures stands { OnTrue result ((seen : List Symbol) → StandsFor self.old seen → StandsFor self.new (read_on seen (bits_of_byte bits))) }
         ensures quiet { OnTrue result ((seen : List Symbol) → StandsFor self.old seen → HasNoMark seen (bits_of_byte bits)) }
         ensures zero { OnTrue result (bits < 255) }
         ensures unread { OnFalse result (self.new ≡ self.old) }
     {
-        if self.ones >= too_many_before(bits) {
+        if self.ones >= ones_to_six(bits) {
             return false;
         }
-        self.ones = bits.trailing_ones() as u8;
+        let ones = mem::replace(&mut self.ones, bits.trailing_ones() as u8);
         if let Some(content) = &mut self.content {
-            content.push_eight(bits);
+            content.push_eight(bits, ones);
         }
         true
     }
@@ -83,10 +84,11 @@ impl Deframer {
         ensures answer { (seen : List Symbol) → StandsFor self.old seen → result ≡ verdict (break ∷ seen) }
     {
         self.ones = 0; // A 0 is read in behind a break.
-        match self.content.take() {
-            Some(_) => Fed::Refused(FrameFault::Broken),
-            None => Fed::Nothing,
+        if self.content.is_none() {
+            return Fed::Nothing;
         }
+        self.content = None;
+        Fed::Refused(FrameFault::Broken)
     }
 
     /// Whether a 0 bit now would end a start of frame.

@@ -9,6 +9,7 @@ mod deframer;
 mod eight;
 mod fed;
 mod frame_bits;
+mod gathered;
 
 pub use deframer::Deframer;
 pub use fed::Fed;

@@ -87,7 +87,7 @@ fn frames_are_read_eight_bits_at_once(rt: HostRuntime) -> Result<(), Fail> {
     let e6 = Lpdu::from_bytes(&[0xE6]).ok_or("short")?;
     assert_eq!(rt;
         last_by_eights(b"01111110111001101000001111100011101111111"),
-        (Fed::Frame(e6), 2)
+        (Fed::Frame(e6), 3)
     );
     Ok(())
 }

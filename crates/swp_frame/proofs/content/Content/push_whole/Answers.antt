@@ -5,7 +5,7 @@ use Rattle.swp_crc.proofs.Steps.{length-byte}
 use Rattle.swp_frame.specs.Signal.{unstuffed}
 use Rattle.swp_frame.specs.Kept.{KeepsContent}
 use Rattle.swp_frame.proofs.ShortRuns.{short_content, short_zero}
-use Rattle.swp_frame.proofs.content.Content.push_eight.Goals as goal
+use Rattle.swp_frame.proofs.content.Content.push_whole.Goals as goal
 
 -- none of the bits was put in, and the last 0 is one of them
 pub returns : goal.returns
