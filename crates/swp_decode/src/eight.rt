@@ -6,7 +6,7 @@ ghost use Rattle.swp_line.specs.Periods.{period_at};
 ghost use Rattle.swp_decode.specs.Readings.{AreBits};
 
 use crate::line::Wire;
-use swp_line::{Period, byte_of};
+use swp_line::{Period, period_of};
 
 /// The bits of eight periods in both directions, the oldest the most significant.
 #[derive(Clone, Copy, Debug)]
@@ -31,17 +31,14 @@ pub fn eight_bits(bytes: &[u8; 8]) -> Option<EightBits>
     Some(eight)
 }
 
-/// The bits of a byte, that of S1 first; none where it is no period with bits. Each is one bit of the byte, so that there is
-/// no branch on a bit: a processor would guess it wrong half of the time.
+/// The bits of a byte, that of S1 first; none where it is no period with bits.
 #[inline(always)]
 fn bits_at(byte: u8) -> Option<(bool, bool)>
     ensures bits { IfSome result (λ bits. period_at byte ≡ Some (Period.Bits bits.0 bits.1)) }
     ensures none { IfNone result ((s1 s2 : Bool) → period_at byte ≢ Some (Period.Bits s1 s2)) }
 {
-    let (s1, s2) = (byte & 0x10 != 0, byte & 0x80 != 0);
-    if byte_of(&Period::Bits { s1, s2 }) == byte {
-        Some((s1, s2))
-    } else {
-        None
+    match period_of(byte) {
+        Some(Period::Bits { s1, s2 }) => Some((s1, s2)),
+        _ => None,
     }
 }

@@ -41,11 +41,14 @@ fn push_digits(text: &mut Text, n: u32)
     push_text(text, &[b'0' + (n % 10) as u8]);
 }
 
+/// The digits of hexadecimal numbers.
+static DIGITS: [u8; 16] = *b"0123456789ABCDEF";
+
 fn hex_digit(n: u8) -> u8
     requires { n < 16 }
     ensures { result ≡ digit_glyph true n }
 {
-    if n < 10 { b'0' + n } else { b'A' + (n - 10) }
+    DIGITS[n as usize]
 }
 
 /// Appends bytes in hexadecimal, two digits each.
