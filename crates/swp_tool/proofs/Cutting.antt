@@ -1,5 +1,5 @@
 -- Cutting a stream of bytes into lines.
-use Rattle.std.proofs.Common.{◌≡◌, ℕ, ◌+◌, ◌-◌, ◌<◌, Bool, true, false, cond, eqb, List, [], ◌∷◌, ◌++◌, length, map, take, drop, get_or, zero, suc, refl, sym, ap, ◌∙◌, append_assoc, arith, length-append, length-take}
+use Rattle.std.proofs.Common.{◌≡◌, ℕ, ◌+◌, ◌-◌, ◌<◌, ◌≤◌, Bool, true, false, cond, eqb, List, [], ◌∷◌, ◌++◌, length, map, take, drop, get_or, zero, suc, refl, sym, ap, ◌∙◌, append_assoc, arith, length-append, length-take}
 use Rattle.std.specs.List.{flat_map, slice_split, onto_first}
 use Rattle.std.specs.Str.Lines.{lines, lines_of_parts, strip_carriage_return}
 use Rattle.std.proofs.lemmas.List.{take_more, take-append-drop}
@@ -111,3 +111,12 @@ pub whole_piece : (bytes piece : List ℕ) (i : ℕ) → i < length piece → ((
 whole_piece bytes piece i within =
     ap (λ l. l ++ drop (i + 1) piece) (append_assoc bytes (take i piece) (get_or piece i 0 ∷ []) ∙ ap (λ l. bytes ++ l) (sym (take_more piece i 0 within)))
     ∙ (append_assoc bytes (take (i + 1) piece) (drop (i + 1) piece) ∙ ap (λ l. bytes ++ l) (take-append-drop (i + 1) piece))
+
+-- a piece is what was read of it, and what is left of it
+pub whole_after : (bytes piece rest : List ℕ) (n : ℕ) → (bytes ++ piece) ++ rest ≡ (bytes ++ take n piece) ++ (drop n piece ++ rest)
+whole_after bytes piece rest n =
+    ap (λ l. l ++ rest) (ap (λ l. bytes ++ l) (sym (take-append-drop n piece)) ∙ sym (append_assoc bytes (take n piece) (drop n piece)))
+    ∙ append_assoc (bytes ++ take n piece) (drop n piece) rest
+
+pub left_of : (piece : List ℕ) (n : ℕ) → n ≤ length piece → take (length piece - n) (drop n piece) ≡ drop n piece
+left_of piece n h = grind (arith, common_steps)

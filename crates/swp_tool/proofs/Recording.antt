@@ -3,7 +3,8 @@ use Rattle.std.proofs.Common.{◌≡◌, ℕ, ◌+◌, ◌≤◌, Bool, IsTrue, 
 use Rattle.std.specs.Prelude.{reverse, Result, Ok, Err, OnErr}
 use Rattle.std.proofs.lemmas.List.{append-nil, reverse-append, length-reverse}
 use Rattle.std.proofs.Math.Seq.{take-append-add}
-use Rattle.swp_decode.specs.Decoded.{record_lines, decoded, last_line, line_at, transcript}
+use Rattle.swp_decode.specs.Decoded.{record_lines, decoded, last_line, line_at, lines_behind, transcript}
+use Rattle.swp_decode.proofs.FurtherLines.{record_lines-append}
 use Rattle.swp_tool.specs.declared.decoding.Decoding.{Decoding}
 use Rattle.swp_decode.specs.declared.line.Wire.TheVariants.{S1, S2}
 use Rattle.swp_decode.specs.Kept.{StandsFor}
@@ -87,4 +88,16 @@ cut_whole tells d bytes before was after text h is few front = record {
   after_is = λ told. behind tells before h.written (take front.0 text) was after h.after_is front.1 told
       ∙ ap (λ l. before ++ l) (sym (take-append-add h.written text front.0)
       ∙ ap (λ l. take (length h.written + front.0) l) (whole_text tells d bytes before was text h is));
+}
+
+-- a step adds the lines of all its bytes
+pub more_decoded : (tells : Bool) (d e : Decoding) (more bytes before after : List ℕ) → IsDecoding tells d bytes before after
+    → StandsFor e.decoder (reverse more ++ reverse bytes) → e.text.items ≡ d.text.items ++ lines_behind (reverse bytes) more
+    → IsDecoding tells e (bytes ++ more) before after
+more_decoded tells d e more bytes before after h stands items = record {
+  stands = subst (λ l. StandsFor e.decoder l) (sym (reverse-append bytes more)) stands;
+  written = h.written;
+  after_is = h.after_is;
+  lines = ap (λ l. h.written ++ l) items ∙ (sym (append_assoc h.written d.text.items (lines_behind (reverse bytes) more))
+      ∙ (ap (λ l. l ++ lines_behind (reverse bytes) more) h.lines ∙ sym (record_lines-append bytes more)));
 }

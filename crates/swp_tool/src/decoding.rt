@@ -1,7 +1,7 @@
 //! The command `decode`: a record of a line in, a line of text for each frame or fault out.
-ghost use Rattle.std.specs.Prelude.{◌≡◌, ◌≢◌, ◌≤◌, ◌<◌, ◌+◌, ◌++◌, [], ◌∷◌, List, ℕ, length, take, IsTrue, OnOk, OnErr, IfErr, Ok, Err, true, false};
+ghost use Rattle.std.specs.Prelude.{◌≡◌, ◌≢◌, ◌≤◌, ◌<◌, ◌+◌, ◌++◌, [], ◌∷◌, List, ℕ, length, take, IsTrue, OnOk, OnErr, IfOk, IfErr, Ok, Err, true, false};
 ghost use Rattle.swp_base.specs.Outside.{Rose};
-ghost use Rattle.swp_tool.specs.Decodings.{IsDecoding, HasDecoded, DecodedBy, IsFrontOfLines};
+ghost use Rattle.swp_tool.specs.Decodings.{IsDecoding, HasDecoded, DecodedBy, IsFrontOfLines, IsFrontOfSome};
 
 use crate::output::write_all;
 use crate::status::Status;
@@ -10,6 +10,9 @@ use swp_decode::{Decoder, Text};
 
 /// The most bytes that are read at once.
 const PIECE: usize = 4096;
+
+/// The most text that is gathered before a step: behind it there is room for the lines of eight bytes.
+const MOST_GATHERED: usize = 6144;
 
 /// A decoding under way: what is kept of the record, and the lines that aren't written yet.
 #[derive(Drop)]
@@ -39,13 +42,13 @@ fn make_room<K: Sink>(sink: &mut K, decoding: &mut Decoding) -> Result<(), Faile
     ensures count { K.faults sink.old ≤ K.faults sink.new }
     ensures fault { OnErr result (Rose (K.faults sink.old) (K.faults sink.new)) }
     ensures read { decoding.new.decoder ≡ decoding.old.decoder }
-    ensures room { OnOk result (length decoding.new.text.items + 256 ≤ 8192) }
+    ensures room { OnOk result (length decoding.new.text.items + 2048 ≤ 8192) }
     ensures goes { OnOk result ((bytes before : List ℕ) → IsDecoding K.tells decoding.old bytes before (K.written sink.old)
         → IsDecoding K.tells decoding.new bytes before (K.written sink.new)) }
     ensures ends { OnErr result ((bytes before : List ℕ) → IsDecoding K.tells decoding.old bytes before (K.written sink.old)
         → IsFrontOfLines K.tells bytes before (K.written sink.new)) }
 {
-    if decoding.text.len() > 7936 {
+    if decoding.text.len() > MOST_GATHERED {
         flush_lines(sink, decoding)?;
     }
     Ok(())
@@ -65,6 +68,51 @@ fn take_byte<K: Sink>(sink: &mut K, decoding: &mut Decoding, byte: u8) -> Result
     make_room(sink, decoding)?;
     decoding.decoder.step(byte, &mut decoding.text);
     Ok(())
+}
+
+/// Reads eight bytes of the record.
+fn take_eight<K: Sink>(sink: &mut K, decoding: &mut Decoding, bytes: &[u8; 8]) -> Result<(), Failed>
+    requires few { decoding.old.decoder.count + 8 ≤ 16777216 }
+    ensures count { K.faults sink.old ≤ K.faults sink.new }
+    ensures fault { OnErr result (Rose (K.faults sink.old) (K.faults sink.new)) }
+    ensures read { OnOk result (decoding.new.decoder.count ≡ decoding.old.decoder.count + 8) }
+    ensures goes { OnOk result ((read before : List ℕ) → IsDecoding K.tells decoding.old read before (K.written sink.old)
+        → IsDecoding K.tells decoding.new (read ++ bytes.now) before (K.written sink.new)) }
+    ensures ends { OnErr result ((read before : List ℕ) → IsDecoding K.tells decoding.old read before (K.written sink.old)
+        → IsFrontOfLines K.tells read before (K.written sink.new)) }
+{
+    make_room(sink, decoding)?;
+    decoding.decoder.step_eight(bytes, &mut decoding.text);
+    Ok(())
+}
+
+/// Reads the bytes of a piece of the record eight at a time, as far as so many are left of it and the record may have so many
+/// more. It answers how many were read.
+fn take_eights<K: Sink>(
+    sink: &mut K,
+    decoding: &mut Decoding,
+    piece: &[u8],
+) -> Result<usize, Failed>
+    requires few { decoding.old.decoder.count ≤ 16777216 }
+    ensures count { K.faults sink.old ≤ K.faults sink.new }
+    ensures fault { OnErr result (Rose (K.faults sink.old) (K.faults sink.new)) }
+    ensures within { IfOk result (λ n. n ≤ length piece.now) }
+    ensures few { OnOk result (decoding.new.decoder.count ≤ 16777216) }
+    ensures progress { IfOk result (λ n. decoding.new.decoder.count ≡ decoding.old.decoder.count + n) }
+    ensures goes { IfOk result (λ n. (bytes before : List ℕ) → IsDecoding K.tells decoding.old bytes before (K.written sink.old)
+        → IsDecoding K.tells decoding.new (bytes ++ take n piece.now) before (K.written sink.new)) }
+    ensures ends { OnErr result ((bytes rest before : List ℕ) → IsDecoding K.tells decoding.old bytes before (K.written sink.old)
+        → IsFrontOfSome K.tells (bytes ++ piece.now ++ rest) before (K.written sink.new)) }
+{
+    let mut read = 0;
+    'eights: while let Some((eight, _)) = piece[read..].split_first_chunk::<8>() {
+        if decoding.decoder.count > Decoder::MAX_BYTES - 8 {
+            break;
+        }
+        take_eight(sink, decoding, eight)?;
+        read += 8;
+    }
+    Ok(read)
 }
 
 /// Reads a byte of the record, unless the record has its most bytes already.
@@ -93,7 +141,7 @@ fn take_next<K: Sink>(sink: &mut K, decoding: &mut Decoding, byte: u8) -> Result
     }
 }
 
-/// Reads the bytes of a piece of the record, one after another.
+/// Reads the bytes of a piece of the record one after another.
 fn take_each<K: Sink>(sink: &mut K, decoding: &mut Decoding, piece: &[u8]) -> Result<(), Status>
     requires few { decoding.old.decoder.count ≤ 16777216 }
     ensures count { K.faults sink.old ≤ K.faults sink.new }
@@ -115,6 +163,26 @@ fn take_each<K: Sink>(sink: &mut K, decoding: &mut Decoding, piece: &[u8]) -> Re
     Ok(())
 }
 
+/// Reads the bytes of a piece of the record.
+fn take_all<K: Sink>(sink: &mut K, decoding: &mut Decoding, piece: &[u8]) -> Result<(), Status>
+    requires few { decoding.old.decoder.count ≤ 16777216 }
+    ensures count { K.faults sink.old ≤ K.faults sink.new }
+    ensures write_fault { result ≡ Err Status.WriteFault → Rose (K.faults sink.old) (K.faults sink.new) }
+    ensures read_fault { result ≢ Err Status.ReadFault }
+    ensures words { result ≢ Err Status.BadWords }
+    ensures few { OnOk result (decoding.new.decoder.count ≤ 16777216) }
+    ensures progress { OnOk result (decoding.new.decoder.count ≡ decoding.old.decoder.count + length piece.now) }
+    ensures goes { OnOk result ((bytes before : List ℕ) → IsDecoding K.tells decoding.old bytes before (K.written sink.old)
+        → IsDecoding K.tells decoding.new (bytes ++ piece.now) before (K.written sink.new)) }
+    ensures ends { IfErr result (λ status. (bytes left rest before : List ℕ) → IsDecoding K.tells decoding.old bytes before (K.written sink.old)
+        → DecodedBy K.tells status (bytes ++ piece.now ++ rest) left before (K.written sink.new)) }
+{
+    match take_eights(sink, decoding, piece) {
+        Ok(read) => take_each(sink, decoding, &piece[read..]),
+        Err(Failed) => Err(Status::WriteFault),
+    }
+}
+
 /// Reads a piece of the record, and writes the lines that it gave.
 fn take_record<K: Sink>(sink: &mut K, decoding: &mut Decoding, piece: &[u8]) -> Result<(), Status>
     requires few { decoding.old.decoder.count ≤ 16777216 }
@@ -131,7 +199,7 @@ fn take_record<K: Sink>(sink: &mut K, decoding: &mut Decoding, piece: &[u8]) -> 
         HasDecoded K.tells decoding.old input (piece.now ++ rest) before (K.written sink.old)
         → DecodedBy K.tells status input rest before (K.written sink.new)) }
 {
-    if let Err(status) = take_each(sink, decoding, piece) {
+    if let Err(status) = take_all(sink, decoding, piece) {
         return Err(status);
     }
     match flush_lines(sink, decoding) {

@@ -15,7 +15,7 @@ returns-in-Ok-clause-goes g c input rest before h =
 pub returns-in-Err-clause-ends : goal.returns-in-Err-clause-ends
 returns-in-Err-clause-ends g c input rest before h =
     let piece = c.args.piece.now in
-    subst (λ l. DecodedBy g.K.Sink.tells c.in-Err.status l rest before (g.K.Sink.written c.take_each.new.sink)) (append_assoc h.bytes piece rest ∙ sym h.input_is)
+    subst (λ l. DecodedBy g.K.Sink.tells c.in-Err.status l rest before (g.K.Sink.written c.take_all.new.sink)) (append_assoc h.bytes piece rest ∙ sym h.input_is)
     (c.in-Err.ensures.ends h.bytes rest rest before h.decoding)
 
 pub returns-in-Err-flush_lines-clause-ends : goal.returns-in-Err-flush_lines-clause-ends
