@@ -1,5 +1,5 @@
 //! The frames of one direction, and where they start.
-ghost use Rattle.std.specs.Prelude.{ℕ, List, [], ◌∷◌, ◌++◌, ◌≡◌, ◌+◌, ◌^◌, ◌<◌, ◌≤◌, length};
+ghost use Rattle.std.specs.Prelude.{ℕ, List, [], ◌∷◌, ◌++◌, ◌≡◌, ◌↔◌, ◌+◌, ◌^◌, ◌<◌, ◌≤◌, length, IsTrue};
 ghost use Rattle.std.specs.Bool.{OnTrue, OnFalse};
 ghost use Rattle.swp_base.specs.Bits.{bits_of_byte};
 
@@ -18,7 +18,7 @@ pub struct SignalReader {
 }
 
 impl SignalReader {
-    ghost use Rattle.swp_frame.specs.Signal.{break, symbol_of, HasNoMark};
+    ghost use Rattle.swp_frame.specs.Signal.{break, symbol_of, run_of, HasNoMark, has_runs_below};
     ghost use Rattle.swp_frame.specs.Verdicts.{verdict};
     ghost use Rattle.swp_decode.specs.Readings.{Reading, symbols, with_reading, readings_on};
     ghost use Rattle.swp_decode.specs.Decoded.{line_with, lines_on};
@@ -56,6 +56,7 @@ impl SignalReader {
     #[inline(always)]
     pub fn read_eight(&mut self, bits: u8, place: u32) -> bool
         requires { place + 7 < 2 ^ 32 }
+        ensures whole { (older : List Reading) → ReadsSignal self.old older → IsTrue result ↔ IsTrue (has_runs_below 6 (run_of (symbols older)) (bits_of_byte bits)) }
         ensures reads { OnTrue result ((older : List Reading) → ReadsSignal self.old older → ReadsSignal self.new (readings_on place (bits_of_byte bits) older)) }
         ensures quiet { OnTrue result ((older : List Reading) → ReadsSignal self.old older → HasNoMark (symbols older) (bits_of_byte bits)) }
         ensures unread { OnFalse result (self.new ≡ self.old) }
