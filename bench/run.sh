@@ -9,10 +9,13 @@ python3 bench/make_records.py "$folder"
 (cd crates/swp && rt run -- decode </dev/null >/dev/null)
 program=crates/swp/out/swp
 for record in frames noise bytes; do
-    start=$(date +%s.%N)
-    "$program" decode <"$folder/$record.rec" >"$folder/$record.out"
-    end=$(date +%s.%N)
-    echo "$record $start $end" | awk '{ printf "%s: %.1f MB/s\n", $1, 16.777216 / ($3 - $2) }'
+    for run in 1 2 3 4 5 6 7 8 9; do
+        start=$(date +%s.%N)
+        "$program" decode <"$folder/$record.rec" >/dev/null
+        end=$(date +%s.%N)
+        echo "$start $end" | awk '{ printf "%.4f\n", $2 - $1 }'
+    done | sort -n | awk -v record="$record" \
+        '{ t[NR] = $1 } END { printf "%s: best %.0f MB/s, middle %.0f MB/s of %d runs\n", record, 16.777216 / t[1], 16.777216 / t[int((NR + 1) / 2)], NR }'
     if command -v valgrind >/dev/null; then
         head -c 1048576 "$folder/$record.rec" >"$folder/$record.part"
         valgrind --tool=callgrind --callgrind-out-file=/dev/null "$program" decode <"$folder/$record.part" 2>&1 >/dev/null |
