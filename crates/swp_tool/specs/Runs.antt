@@ -5,7 +5,7 @@ use Rattle.swp_tool.specs.declared.status.Status.{Status}
 use Rattle.swp_tool.specs.declared.status.Status.TheVariants as status
 use Rattle.swp_tool.specs.declared.replay.Halt.{Halt}
 use Rattle.swp_tool.specs.declared.replay.Halt.TheVariants as halt
-use Rattle.swp_tool.specs.Schedules.{AtFault, Too_many}
+use Rattle.swp_tool.specs.Schedules.{Stop, AtFault, Too_many}
 use Rattle.swp_tool.specs.Pieces.{HasRead, IsFrontTranscript, IsWholeTranscript, IsCompleteTranscript, StopsAt}
 
 -- the status of a replay that halts behind so many whole lines
@@ -13,6 +13,11 @@ abbrev pub status_of : Halt → ℕ → Status
 status_of (halt.Fault why) count = status.BadSchedule (count + 1) why
 status_of halt.TooMany count = status.TooMany (count + 1)
 status_of halt.NoMemory count = status.NoMemory
+
+-- the status of a schedule that stops at this line
+abbrev pub status_at : Stop → ℕ → Status
+status_at (AtFault why) line = status.BadSchedule line why
+status_at Too_many line = status.TooMany line
 
 -- there is a text of this kind, and a sink that tells what was written says that it was appended
 abbrev pub Appends : Bool → (List ℕ → Type 0) → List ℕ → List ℕ → Type 0

@@ -1,8 +1,8 @@
 //! The top call.
-ghost use Rattle.std.specs.Prelude.{◌≡◌, ◌≢◌, ◌≤◌, ◌<◌, ◌++◌, ◌∷◌, ◌↔◌, ◌⊎◌, [], List, ℕ, length, map, string_bytes, codes, None, IsTrue, OnOk, OnErr, IfErr, Ok, Err, take, true, false};
+ghost use Rattle.std.specs.Prelude.{◌≡◌, ◌≢◌, ◌≤◌, ◌<◌, ◌++◌, ◌∷◌, ◌↔◌, ◌⊎◌, [], List, ℕ, length, map, string_bytes, codes, Some, None, IsTrue, OnOk, OnErr, IfErr, Ok, Err, take, true, false};
 ghost use Rattle.swp_base.specs.Outside.{Rose};
-ghost use Rattle.swp_tool.specs.Schedules.{schedule_of};
-ghost use Rattle.swp_tool.specs.Runs.{status_of, Replayed, IsUnderWay, IsReplay, IsDecode, IsCommand};
+ghost use Rattle.swp_tool.specs.Schedules.{Stop, schedule_of};
+ghost use Rattle.swp_tool.specs.Runs.{status_of, status_at, Replayed, IsUnderWay, IsReplay, IsDecode, IsCommand};
 ghost use Rattle.swp_tool.specs.Decodings.{DecodedBy, most_bytes};
 ghost use Rattle.swp_tool.specs.Pieces.{HasRead, IsReading, bytes_left};
 
@@ -194,11 +194,25 @@ pub fn run<S: Source, K: Sink, N: Nv>(
         (schedule_of (S.left source.old)).stop ≡ None →
         ¬ Rose (S.faults source.old) (S.faults source.new) → ¬ Rose (K.faults sink.old) (K.faults sink.new) →
         (result.status ≡ Status.Done) ⊎ (result.status ≡ Status.NoMemory) }
+
+    // A schedule that stops is refused at the line where it does, unless there is no memory or the outside failed before.
+    ensures refused { IsReplay (map string_bytes words.now) → IsTrue S.tells →
+        (why : Stop) → (schedule_of (S.left source.old)).stop ≡ Some why →
+        ¬ Rose (S.faults source.old) (S.faults source.new) → ¬ Rose (K.faults sink.old) (K.faults sink.new) →
+        (result.status ≡ status_at why (schedule_of (S.left source.old)).count) ⊎ (result.status ≡ Status.NoMemory) }
+
     // With a record that isn't too long and no fault of the outside, a decoding is done.
     ensures complete_record { IsDecode (map string_bytes words.now) → IsTrue S.tells →
         length (S.left source.old) ≤ most_bytes →
         ¬ Rose (S.faults source.old) (S.faults source.new) → ¬ Rose (K.faults sink.old) (K.faults sink.new) →
         result.status ≡ Status.Done }
+
+    // A longer one is refused at the first byte too many, unless the outside failed before.
+    ensures refused_record { IsDecode (map string_bytes words.now) → IsTrue S.tells →
+        most_bytes < length (S.left source.old) →
+        ¬ Rose (S.faults source.old) (S.faults source.new) → ¬ Rose (K.faults sink.old) (K.faults sink.new) →
+        result.status ≡ Status.TooMany 16777217 }
+
     ensures nv { result.nv ≡ nv }
 {
     let status = if is_word(words, b"replay") {
