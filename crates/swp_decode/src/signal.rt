@@ -64,6 +64,7 @@ impl SignalReader {
         if !self.deframer.feed_eight(bits) {
             return false;
         }
+        // The last 0 stands in front of the 1 bits at the end.
         self.front = Some(place + 7 - bits.trailing_ones());
         true
     }

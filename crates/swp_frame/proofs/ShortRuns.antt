@@ -1,23 +1,19 @@
 -- Bits whose runs of 1 bits are short.
-use Rattle.std.proofs.Common.{◌≡◌, ◌≢◌, ℕ, suc, ◌+◌, ◌<◌, ◌≤◌, Bool, true, false, ◌&&◌, ltb, List, [], ◌∷◌, ◌++◌, length, reverse, Option, Some, None, refl, sym, ap, ◌∙◌, arith, append_assoc}
+use Rattle.std.proofs.Common.{◌≡◌, ◌≢◌, ℕ, suc, ◌+◌, ◌<◌, ◌≤◌, Bool, true, false, ltb, List, [], ◌∷◌, ◌++◌, length, reverse, Option, Some, None, refl, sym, ap, ◌∙◌, arith, append_assoc}
 use Rattle.std.specs.Prelude.{option_map}
-use Rattle.std.proofs.lemmas.Bool.{ne_eqb, ltb-true}
+use Rattle.std.proofs.lemmas.Bool.{ne_eqb, ltb-true, and_parts}
 use Rattle.std.proofs.lemmas.List.{reverse-append, reverse-reverse}
 use Rattle.swp_frame.specs.Signal.{Symbol, bit_0, bit_1, symbol_of, run_of, mark_of, no_mark, since_start, unstuffed, read_on, HasNoMark, has_runs_below}
 use Rattle.swp_frame.specs.Kept.{CountsLastZero}
-
-both : (a b : Bool) → (a && b) ≡ true → (a ≡ true) × (b ≡ true)
-both true b e = (refl, e)
-both false b e = absurd (cc)
 
 -- short runs begin short
 pub short_now : (limit ones : ℕ) (bits : List Bool) → has_runs_below limit ones bits ≡ true → ones < limit
 short_now limit ones [] h = ltb-true ones limit h
 short_now limit ones (true ∷ bits) h = omega (arith, short_now limit (suc ones) bits h)
-short_now limit ones (false ∷ bits) h = ltb-true ones limit (both (ltb ones limit) (has_runs_below limit 0 bits) h).0
+short_now limit ones (false ∷ bits) h = ltb-true ones limit (and_parts (ltb ones limit) (has_runs_below limit 0 bits) h).0
 
 after_zero : (limit ones : ℕ) (bits : List Bool) → has_runs_below limit ones (false ∷ bits) ≡ true → has_runs_below limit 0 bits ≡ true
-after_zero limit ones bits h = (both (ltb ones limit) (has_runs_below limit 0 bits) h).1
+after_zero limit ones bits h = (and_parts (ltb ones limit) (has_runs_below limit 0 bits) h).1
 
 -- no mark ends with them
 pub short_quiet : (seen : List Symbol) (bits : List Bool) → has_runs_below 6 (run_of seen) bits ≡ true → HasNoMark seen bits

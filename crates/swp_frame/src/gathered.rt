@@ -1,4 +1,4 @@
-//! Bits without those that were put in, less than a byte and one more.
+//! Bits that are gathered before they are appended to a content.
 ghost use Rattle.std.specs.Prelude.{List, Bool, [], ◌∷◌, ◌++◌, ◌≡◌, ◌+◌, ◌^◌, ◌<◌, ◌≤◌};
 
 /// Up to eight bits that are read one after another, without those that were put in.
