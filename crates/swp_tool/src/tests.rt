@@ -1,7 +1,7 @@
 //! The worked examples of the program, over sources and sinks in memory.
 ghost use Rattle.std.specs.Prelude.{◌≡◌, ◌≤◌, ◌⊎◌, ◌∷◌, [], ℕ, length, map, string_bytes, codes, Some, None, IfOk};
-ghost use Rattle.schedule_text.specs.declared.fault.LineFault.{LineFault};
-ghost use Rattle.swp_tool.specs.Schedules.{AtFault, Too_many, schedule_of};
+ghost use Rattle.swp_tool.specs.Schedules.{Stop, schedule_of};
+ghost use Rattle.swp_tool.specs.Runs.{status_at};
 ghost use Rattle.swp_tool.specs.Decodings.{most_bytes};
 
 use super::*;
@@ -328,11 +328,8 @@ fn one_word(alloc: Global, word: &str) -> Result<Vec<String>, NoMemory>
 fn status_over_sure(alloc: Global, word: &str, bytes: &[u8]) -> Result<Status, NoMemory>
     ensures done { word.now ≡ codes "replay" → (schedule_of bytes.now).stop ≡ None →
         IfOk result (λ status. (status ≡ Status.Done) ⊎ (status ≡ Status.NoMemory)) }
-    ensures fault { word.now ≡ codes "replay" → IfOk result (λ status. (line : ℕ) (why : LineFault) →
-        status ≡ Status.BadSchedule line why →
-        ((schedule_of bytes.now).stop ≡ Some (AtFault why)) × ((schedule_of bytes.now).count ≡ line)) }
-    ensures too_many { word.now ≡ codes "replay" → IfOk result (λ status. (count : ℕ) →
-        status ≡ Status.TooMany count → (schedule_of bytes.now).stop ≡ Some Too_many) }
+    ensures refused { word.now ≡ codes "replay" → (why : Stop) → (schedule_of bytes.now).stop ≡ Some why →
+        IfOk result (λ status. (status ≡ status_at why (schedule_of bytes.now).count) ⊎ (status ≡ Status.NoMemory)) }
     ensures decoded { word.now ≡ codes "decode" → length bytes.now ≤ most_bytes →
         IfOk result (λ status. status ≡ Status.Done) }
 {
