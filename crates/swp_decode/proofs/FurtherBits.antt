@@ -9,6 +9,7 @@ use lib.Count.{count_trailing_zeros}
 use Rattle.swp_base.specs.Bits.{bits_of_byte}
 use Rattle.swp_base.proofs.BitLemmas.{length-bits_of_byte}
 use Rattle.swp_frame.specs.Signal.{Symbol, symbol_of, no_mark, mark_of, since_start, read_on, HasNoMark}
+use Rattle.swp_frame.proofs.ShortRuns.{run_after}
 use Rattle.swp_frame.proofs.WritingLemmas.{next_bit}
 use Rattle.swp_frame.specs.Verdicts.{verdict_after}
 use Rattle.swp_frame.specs.declared.fed.Fed.TheVariants.{Nothing}
@@ -99,33 +100,27 @@ front_of-readings_on : (place : ℕ) (bits : List Bool) (older : List Reading) �
 front_of-readings_on place [] older = refl
 front_of-readings_on place (bit ∷ bits) older = front_of-readings_on (place + 1) bits (with_reading (Some (symbol_of bit)) place older)
 
--- how many 1 bits stand behind the last 0, where so many stood before
-abbrev last_ones : ℕ → List Bool → ℕ
-last_ones ones [] = ones
-last_ones ones (true ∷ bits) = last_ones (suc ones) bits
-last_ones ones (false ∷ bits) = last_ones 0 bits
-
 abbrev has_zero : List Bool → Bool
 has_zero [] = false
 has_zero (true ∷ bits) = has_zero bits
 has_zero (false ∷ bits) = true
 
-front_behind_zero : (place front ones at : ℕ) (bits : List Bool) → place ≡ front + 1 + ones → at + last_ones ones bits + 1 ≡ place + length bits
+front_behind_zero : (place front ones at : ℕ) (bits : List Bool) → place ≡ front + 1 + ones → at + run_after ones bits + 1 ≡ place + length bits
     → front_on place bits (Some front) ≡ Some at
 front_behind_zero place front ones at [] h e = ap (λ n. Some n) (omega arith)
 front_behind_zero place front ones at (true ∷ bits) h e = front_behind_zero (place + 1) front (suc ones) at bits (omega arith) (omega arith)
 front_behind_zero place front ones at (false ∷ bits) h e = front_behind_zero (place + 1) place 0 at bits (omega arith) (omega arith)
 
 -- where a 0 is among the bits, the front is the place of the last
-front_at_last_zero : (place ones at : ℕ) (bits : List Bool) (before : Option ℕ) → has_zero bits ≡ true → at + last_ones ones bits + 1 ≡ place + length bits
+front_at_last_zero : (place ones at : ℕ) (bits : List Bool) (before : Option ℕ) → has_zero bits ≡ true → at + run_after ones bits + 1 ≡ place + length bits
     → front_on place bits before ≡ Some at
 front_at_last_zero place ones at [] before z e = absurd (cc)
 front_at_last_zero place ones at (true ∷ bits) before z e = front_at_last_zero (place + 1) (suc ones) at bits (front_after (symbol_of true) place before) z (omega arith)
 front_at_last_zero place ones at (false ∷ bits) before z e = front_behind_zero (place + 1) place 0 at bits (omega arith) (omega arith)
 
-byte_has_zero : (b : ℕ) → b < 255 → (eqb (last_ones 0 (bits_of_byte b)) (trailing_ones w8 b) && has_zero (bits_of_byte b)) ≡ true
+byte_has_zero : (b : ℕ) → b < 255 → (eqb (run_after 0 (bits_of_byte b)) (trailing_ones w8 b) && has_zero (bits_of_byte b)) ≡ true
 unfolding bits_of_byte count_trailing_zeros
-byte_has_zero b h = agree_below_at (λ n. eqb (last_ones 0 (bits_of_byte n)) (trailing_ones w8 n) && has_zero (bits_of_byte n)) (λ n. true) 255 b refl h
+byte_has_zero b h = agree_below_at (λ n. eqb (run_after 0 (bits_of_byte n)) (trailing_ones w8 n) && has_zero (bits_of_byte n)) (λ n. true) 255 b refl h
 
 -- the place of the last 0 among eight bits
 pub front_of-eight : (place b : ℕ) (older : List Reading) → b < 255
@@ -133,6 +128,6 @@ pub front_of-eight : (place b : ℕ) (older : List Reading) → b < 255
 front_of-eight place b older h =
     let few : trailing_ones w8 b < 8 = (bit_at-trailing_ones w8 b (omega arith)).0 in
     let parts = and_parts _ _ (byte_has_zero b h) in
-    let ones : last_ones 0 (bits_of_byte b) ≡ trailing_ones w8 b = eqb-true _ _ parts.0 in
+    let ones : run_after 0 (bits_of_byte b) ≡ trailing_ones w8 b = eqb-true _ _ parts.0 in
     front_of-readings_on place (bits_of_byte b) older
     ∙ front_at_last_zero place 0 (place + 7 - trailing_ones w8 b) (bits_of_byte b) (front_of older) parts.1 (omega (arith, ones, length-bits_of_byte b))
