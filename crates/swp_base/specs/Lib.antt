@@ -2,3 +2,4 @@ pub mod Bits
 pub mod DataUnits
 pub mod Outside
 pub mod InMemory
+pub mod Told

@@ -1,5 +1,5 @@
 -- What calls to the outside world do: to their counts of faults, and to the bytes of a memory.
-use Rattle.std.specs.Prelude.{◌≡◌, ℕ, ◌+◌, ◌-◌, ◌^◌, ◌≤◌, min, List, ◌++◌, length, take, drop}
+use Rattle.std.specs.Prelude.{◌≡◌, Bool, true, false, ℕ, ◌+◌, ◌-◌, ◌^◌, ◌≤◌, min, List, ◌++◌, length, take, drop}
 
 -- a count, one more: it stands still at the last value of a counter
 abbrev pub one_more : ℕ → ℕ
@@ -16,3 +16,8 @@ overwritten content at bytes = take at content ++ bytes ++ drop (at + length byt
 -- a memory after a write from place `at` on that was torn: any bytes stand in the range, all others stayed
 abbrev pub IsTorn : List ℕ → List ℕ → ℕ → ℕ → Type 0
 IsTorn old new at len = (torn : List ℕ) × (length torn ≡ len) × (new ≡ overwritten old at torn)
+
+-- what a write of these bytes from place `at` on made of a memory: they stand there where it went through, else it was torn
+abbrev pub IsWritten : Bool → List ℕ → List ℕ → ℕ → List ℕ → Type 0
+IsWritten true old new at bytes = new ≡ overwritten old at bytes
+IsWritten false old new at bytes = IsTorn old new at (length bytes)

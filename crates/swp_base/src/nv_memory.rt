@@ -1,7 +1,8 @@
 //! Memories that keep their bytes over a power cut, themselves kept in memory.
-ghost use Rattle.std.specs.Prelude.{◌≡◌, ◌+◌, ◌<◌, ◌≤◌, ◌↔◌, length, replicate, slice_index, slice_range, true, None, Some, Ok, IsTrue, IsErr, IsOk, IfOk, OnOk, OnErr};
+ghost use Rattle.std.specs.Prelude.{◌≡◌, ◌+◌, ◌^◌, ◌<◌, ◌≤◌, ◌↔◌, length, replicate, slice_index, slice_range, true, refl, is_ok, None, Some, Ok, IsTrue, IsErr, IsOk, IfOk, OnOk, OnErr};
 ghost use Rattle.swp_base.specs.Outside.{one_more, overwritten};
-ghost use Rattle.swp_base.specs.InMemory.{is_next, plan_after, torn_bytes, cycled};
+ghost use Rattle.swp_base.specs.Told.{planned_is_told, sure_is_told};
+ghost use Rattle.swp_base.specs.InMemory.{cycled, read_plan_after, ReadsAsPlanned, ReadsSurely, WritesAsPlanned, WritesSurely};
 
 use crate::{Failed, NoMemory, Nv};
 use arrayvec::ArrayVec;
@@ -27,12 +28,14 @@ impl Model for WritePlan {
     ghost invariant = { λ p. (0 < p.nth) × (0 < length p.fill.items) };
 }
 
-/// A memory that tells its content, and whose write fails where that was planned: the bytes of the range are then
-/// filled as planned. No other call fails.
+/// A memory that tells its content, and whose write or read fails where that was planned: the bytes of the write's range
+/// are then filled as planned, and a read leaves the memory as it was. No other call fails.
 #[derive(Debug, Drop)]
 pub struct MemNv {
     bytes: Vec<u8>,
     plan: Option<WritePlan>,
+    /// The number of the read that fails, where 1 is the next.
+    failing_read: Option<u32>,
     faults: u64,
 }
 
@@ -42,7 +45,12 @@ impl Model for MemNv {
 
     ghost Value = { Memory };
 
-    ghost view = { λ m. record { content = m.bytes.items; plan = m.plan; faults = m.faults } };
+    ghost view = { λ m. record {
+      content = m.bytes.items;
+      plan = m.plan;
+      failing_read = m.failing_read;
+      faults = m.faults;
+    } };
 
     ghost invariant = { λ m. length m.bytes.items < 2 ^ 32 };
 }
@@ -50,11 +58,17 @@ impl Model for MemNv {
 impl MemNv {
     /// A memory of `size` bytes, all FF, with no fault planned. It fails only where there is no memory for it.
     pub fn new(alloc: Global, size: u32) -> Result<Self, NoMemory>
-        ensures { IfOk result (λ m. m ≡ record { content = replicate size 255; plan = None; faults = 0 }) }
+        ensures { IfOk result (λ m. m ≡ record {
+          content = replicate size 255;
+          plan = None;
+          failing_read = None;
+          faults = 0;
+        }) }
     {
         Ok(Self {
             bytes: vec![in alloc; 0xFF; size as usize]?,
             plan: None,
+            failing_read: None,
             faults: 0,
         })
     }
@@ -68,6 +82,22 @@ impl MemNv {
     {
         self.plan = Some(WritePlan { nth, fill });
     }
+
+    /// Plans that the `nth` read from now fails, where 1 is the next. It fails once. An earlier plan for reads is given up.
+    pub fn arm_read(&mut self, nth: u32)
+        requires { 0 < nth }
+        ensures { self.new ≡ record self.old { failing_read = Some nth } }
+    {
+        self.failing_read = Some(nth);
+    }
+
+    /// Counts a call that fails.
+    fn count_fault(&mut self) -> Failed
+        ensures { self.new ≡ record self.old { faults = one_more self.old.faults } }
+    {
+        self.faults = self.faults.saturating_add(1);
+        Failed
+    }
 }
 
 impl Nv for MemNv {
@@ -79,16 +109,30 @@ impl Nv for MemNv {
 
     ghost content = { λ m. m.content };
 
+    ghost reads = { ReadsAsPlanned };
+
+    ghost writes = { WritesAsPlanned };
+
+    ghost sized = { λ m tells. refl };
+
+    ghost told = { λ old at bytes ok new tells made. planned_is_told old at bytes ok new made };
+
     fn size(&self) -> u32 {
         self.bytes.len() as u32
     }
 
     fn read(&mut self, at: u32, buf: &mut [u8]) -> Result<(), Failed>
         requires { at + length buf.old ≤ length self.old.content }
-        ensures ok { IsOk result }
-        ensures read { buf.new ≡ slice_range self.old.content at (at + length buf.old) }
-        ensures kept { self.new ≡ self.old }
+        ensures count { self.old.faults ≤ self.new.faults }
+        ensures bounded { length self.old.content < 2 ^ 32 }
+        ensures read { OnOk result (buf.new ≡ slice_range self.old.content at (at + length buf.old)) }
+        ensures step { ReadsAsPlanned self.old (is_ok result) self.new }
     {
+        let planned = self.failing_read.take();
+        self.failing_read = later(planned);
+        if planned == Some(1) {
+            return Err(self.count_fault());
+        }
         let from = at as usize;
         buf.copy_from_slice(&self.bytes[from..from + buf.len()]);
         Ok(())
@@ -98,30 +142,19 @@ impl Nv for MemNv {
         requires { at + length bytes.now ≤ length self.old.content }
         ensures count { self.old.faults ≤ self.new.faults }
         ensures size { length self.new.content ≡ length self.old.content }
-        ensures planned { IsErr result ↔ IsTrue (is_next self.old.plan) }
-        ensures wrote { OnOk result (self.new ≡ record self.old {
-          content = overwritten self.old.content at bytes.now;
-          plan = plan_after self.old.plan;
-        }) }
-        ensures torn { OnErr result (self.new ≡ record self.old {
-          content = overwritten self.old.content at (torn_bytes self.old.plan (length bytes.now));
-          plan = None;
-          faults = one_more self.old.faults;
-        }) }
-        ensures torn_len { OnErr result
-            (length (torn_bytes self.old.plan (length bytes.now)) ≡ length bytes.now) }
+        ensures bounded { length self.old.content < 2 ^ 32 }
+        ensures step { WritesAsPlanned self.old at bytes.now (is_ok result) self.new }
     {
         let from = at as usize;
         match self.plan.take() {
             Some(plan) if plan.nth == 1 => {
-                self.faults = self.faults.saturating_add(1);
                 fill(
                     self.bytes.as_mut_slice(),
                     from,
                     bytes.len(),
                     plan.fill.as_slice(),
                 );
-                return Err(Failed);
+                return Err(self.count_fault());
             }
             Some(plan) => {
                 self.plan = Some(WritePlan {
@@ -172,15 +205,23 @@ impl Nv for SureNv {
 
     ghost content = { λ m. m };
 
+    ghost reads = { ReadsSurely };
+
+    ghost writes = { WritesSurely };
+
+    ghost sized = { λ m tells. refl };
+
+    ghost told = { λ old at bytes ok new tells made. sure_is_told old at bytes ok new made };
+
     fn size(&self) -> u32 {
         self.bytes.len() as u32
     }
 
     fn read(&mut self, at: u32, buf: &mut [u8]) -> Result<(), Failed>
         requires { at + length buf.old ≤ length self.old }
-        ensures ok { IsOk result }
+        ensures bounded { length self.old < 2 ^ 32 }
         ensures read { buf.new ≡ slice_range self.old at (at + length buf.old) }
-        ensures kept { self.new ≡ self.old }
+        ensures step { ReadsSurely self.old (is_ok result) self.new }
     {
         let from = at as usize;
         buf.copy_from_slice(&self.bytes[from..from + buf.len()]);
@@ -189,12 +230,22 @@ impl Nv for SureNv {
 
     fn write(&mut self, at: u32, bytes: &[u8]) -> Result<(), Failed>
         requires { at + length bytes.now ≤ length self.old }
-        ensures ok { IsOk result }
         ensures size { length self.new ≡ length self.old }
-        ensures wrote { self.new ≡ overwritten self.old at bytes.now }
+        ensures bounded { length self.old < 2 ^ 32 }
+        ensures step { WritesSurely self.old at bytes.now (is_ok result) self.new }
     {
         overwrite(self.bytes.as_mut_slice(), at as usize, bytes);
         Ok(())
+    }
+}
+
+/// The plan for reads after a read: it is spent by the read that fails, and else one nearer.
+fn later(planned: Option<u32>) -> Option<u32>
+    ensures { result ≡ read_plan_after planned }
+{
+    match planned {
+        Some(1) | None => None,
+        Some(nth) => Some(nth.saturating_sub(1)),
     }
 }
 

@@ -1,8 +1,8 @@
 //! The outside world as traits. Each object has a count of faults that never falls, and a call answers `Failed` only
 //! where the count rose in that call: it is then greater than before, or stands at the last value of a `u64`. An object
 //! may also tell what it holds; its calls then say what they do to that.
-ghost use Rattle.std.specs.Prelude.{◌≡◌, ℕ, ◌+◌, ◌<◌, ◌≤◌, Bool, List, [], ◌++◌, length, take, IsTrue, IfOk, OnOk, OnErr, slice_range};
-ghost use Rattle.swp_base.specs.Outside.{Rose, overwritten, IsTorn};
+ghost use Rattle.std.specs.Prelude.{◌≡◌, ℕ, ◌+◌, ◌^◌, ◌<◌, ◌≤◌, Bool, List, [], ◌++◌, length, take, IsTrue, is_ok, IfOk, OnOk, OnErr, slice_range};
+ghost use Rattle.swp_base.specs.Outside.{Rose, IsWritten};
 
 use std::alloc::AllocError;
 
@@ -81,6 +81,12 @@ pub trait Nv {
     // its bytes
     ghost content: { Self → List ℕ };
 
+    // what a read does: whether it goes through, and the memory after it
+    ghost reads: { Self → Bool → Self → Type 0 };
+
+    // what a write does, of these bytes from this place on: whether it goes through, and the memory after it
+    ghost writes: { Self → ℕ → List ℕ → Bool → Self → Type 0 };
+
     /// How many bytes it has.
     fn size(&self) -> u32
         ensures size { result ≡ capacity self.now }
@@ -92,9 +98,11 @@ pub trait Nv {
         ensures count { faults self.old ≤ faults self.new }
         ensures fault { OnErr result (Rose (faults self.old) (faults self.new)) }
         ensures size { capacity self.new ≡ capacity self.old }
+        ensures bounded { capacity self.old < 2 ^ 32 }
         ensures read { IsTrue tells →
             OnOk result (buf.new ≡ slice_range (content self.old) at (at + length buf.old)) }
-        ensures kept { IsTrue tells → content self.new ≡ content self.old };
+        ensures kept { IsTrue tells → content self.new ≡ content self.old }
+        ensures step { reads self.old (is_ok result) self.new };
 
     /// Puts the bytes there from place `at` on. A call that fails leaves any bytes in that range, and no others change.
     fn write(&mut self, at: u32, bytes: &[u8]) -> Result<(), Failed>
@@ -102,8 +110,13 @@ pub trait Nv {
         ensures count { faults self.old ≤ faults self.new }
         ensures fault { OnErr result (Rose (faults self.old) (faults self.new)) }
         ensures size { capacity self.new ≡ capacity self.old }
-        ensures wrote { IsTrue tells →
-            OnOk result (content self.new ≡ overwritten (content self.old) at bytes.now) }
-        ensures torn { IsTrue tells →
-            OnErr result (IsTorn (content self.old) (content self.new) at (length bytes.now)) };
+        ensures bounded { capacity self.old < 2 ^ 32 }
+        ensures step { writes self.old at bytes.now (is_ok result) self.new };
+
+    // it tells as many bytes as it has
+    ghost sized: { (m : Self) → IsTrue tells → length (content m) ≡ capacity m };
+
+    // and what its writes leave
+    ghost told: { (old : Self) (at : ℕ) (bytes : List ℕ) (ok : Bool) (new : Self) → IsTrue tells → writes old at bytes ok new
+        → IsWritten ok (content old) (content new) at bytes };
 }

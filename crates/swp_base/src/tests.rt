@@ -100,6 +100,18 @@ fn a_planned_write_of_a_memory_is_torn(rt: HostRuntime) {
 }
 
 #[test]
+fn a_planned_read_of_a_memory_fails_once(rt: HostRuntime) {
+    let mut nv = MemNv::new(rt.alloc(), 4).expect(&rt, "there is memory");
+    nv.arm_read(2);
+    let mut first = [0; 2];
+    for want in [Ok(()), Err(Failed), Ok(())] {
+        assert_eq!(rt; nv.size(), 4);
+        assert_eq!(rt; nv.read(1, &mut first), want);
+        assert_eq!(rt; first, [0xFF, 0xFF]);
+    }
+}
+
+#[test]
 fn a_sure_memory_never_fails(rt: HostRuntime) {
     let mut nv = SureNv::new(rt.alloc(), 4).expect(&rt, "there is memory");
     assert_eq!(rt; first_bytes(&mut nv, &[1, 2]), (Ok(()), [0xFF, 1, 2, 0xFF]));
