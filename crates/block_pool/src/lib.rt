@@ -8,6 +8,3 @@ mod pool;
 
 pub use chain::Chain;
 pub use pool::{NoRoom, Pool};
-
-#[cfg(test)]
-mod tests;

@@ -8,6 +8,3 @@ pub mod laws;
 
 pub use cutting::cut;
 pub use joiner::{ChainFault, Joined, Joiner, MAX_MESSAGE};
-
-#[cfg(test)]
-mod tests;

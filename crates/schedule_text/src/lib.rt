@@ -15,6 +15,3 @@ pub use fault::LineFault;
 pub use laws::texts_are_read_again;
 pub use read::{Read, read_line};
 pub use write::write_entry;
-
-#[cfg(test)]
-mod tests;

@@ -125,6 +125,3 @@ impl Phase {
         }
     }
 }
-
-#[cfg(test)]
-mod tests;

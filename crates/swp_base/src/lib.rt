@@ -15,6 +15,3 @@ pub use in_memory::{MemSink, MemSource, SureSink, SureSource};
 pub use link_terms::{Cause, FrameFault, Role};
 pub use nv_memory::{MemNv, SureNv};
 pub use outside::{Failed, NoMemory, Nv, Sink, Source};
-
-#[cfg(test)]
-mod tests;

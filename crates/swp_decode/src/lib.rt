@@ -13,6 +13,3 @@ mod words;
 pub use decoder::Decoder;
 pub use line::Wire;
 pub use words::Text;
-
-#[cfg(test)]
-mod tests;

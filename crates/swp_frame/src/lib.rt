@@ -14,6 +14,3 @@ mod gathered;
 pub use deframer::Deframer;
 pub use fed::Fed;
 pub use frame_bits::{FrameBits, write_frame};
-
-#[cfg(test)]
-mod tests;

@@ -158,6 +158,3 @@ fn write_act(act: Act, again: bool) -> Lpdu
         Act::PowerMode(power) => Lpdu::new(&[0x62 + repeat, power]),
     }
 }
-
-#[cfg(test)]
-mod tests;

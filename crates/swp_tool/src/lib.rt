@@ -6,8 +6,6 @@ mod output;
 mod pieces;
 mod replay;
 mod status;
-#[cfg(test)]
-mod tests;
 mod top;
 mod transcript;
 

@@ -10,6 +10,3 @@ mod wire;
 mod world_steps;
 
 pub use world_steps::{World, WorldFault};
-
-#[cfg(test)]
-mod tests;

@@ -1,5 +1,0 @@
-use Rattle.hcp_chain.specs.Holding.{IsReady}
-use Rattle.hcp_chain.proofs.tests.a_message_too_long_is_refused.Given as goal
-
-abbrev pub invariant-loop-packet : goal.invariant-loop-packet
-invariant-loop-packet g l = IsReady l.pool l.joiner

@@ -1,0 +1,33 @@
+//! Worked examples of the public calls of all crates, as tests: what no contract says, and examples from outside.
+#![tactic(auto)]
+
+#[cfg(test)]
+mod activation;
+#[cfg(test)]
+mod blocks;
+#[cfg(test)]
+mod chains;
+#[cfg(test)]
+mod checksums;
+#[cfg(test)]
+mod decodings;
+#[cfg(test)]
+mod frames;
+#[cfg(test)]
+mod line_states;
+#[cfg(test)]
+mod lpdus;
+#[cfg(test)]
+mod outside;
+#[cfg(test)]
+mod packets;
+#[cfg(test)]
+mod periods;
+#[cfg(test)]
+mod runs;
+#[cfg(test)]
+mod texts;
+#[cfg(test)]
+mod units;
+#[cfg(test)]
+mod worlds;

@@ -1,0 +1,46 @@
+use byte_link::{ByteLink, Unit, write_unit};
+use std::test::Fail;
+use swp_base::{FrameFault, Lpdu};
+
+/// What the last of these bytes gives to a new link.
+fn last_of(bytes: &[u8]) -> Unit {
+    let mut link = ByteLink::new();
+    let mut last = Unit::Nothing;
+    for byte in bytes {
+        last = link.feed(*byte);
+    }
+    last
+}
+
+#[test]
+fn units_are_read(rt: HostRuntime) -> Result<(), Fail> {
+    let c1 = Lpdu::from_bytes(&[0xC1]).ok_or("short")?;
+    assert_eq!(rt; last_of(&[0x00, 0x01, 0xC1, 0xD7, 0x62]), Unit::Frame(c1));
+    assert_eq!(rt; last_of(&[0x00, 0x00]), Unit::Tick);
+    assert_eq!(rt;
+        last_of(&[0x00, 0x1F]),
+        Unit::Refused(FrameFault::Length { bits: 248 })
+    );
+    assert_eq!(rt; last_of(&[0x00, 0x1F, 0x00, 0x00]), Unit::Nothing);
+    let differs = FrameFault::Crc {
+        want: 0xD762,
+        got: 0xD763,
+    };
+    assert_eq!(rt;
+        last_of(&[0x00, 0x01, 0xC1, 0xD7, 0x63]),
+        Unit::Refused(differs)
+    );
+    assert_eq!(rt;
+        last_of(&[0x00, 0x01, 0xC1, 0xD7, 0x63, 0x00, 0x00]),
+        Unit::Tick
+    );
+    Ok(())
+}
+
+#[test]
+fn unit_is_spelled(rt: HostRuntime) -> Result<(), Fail> {
+    let sync = Lpdu::from_bytes(&[0x61, 0x00, 0x01]).ok_or("short")?;
+    let unit = [0x00, 0x03, 0x61, 0x00, 0x01, 0x8F, 0x19];
+    assert_eq!(rt; write_unit(&sync).as_slice(), unit.as_slice());
+    Ok(())
+}
