@@ -157,7 +157,8 @@ pub record Pair (s r : Session) (here : List OnWire) (there : Option (List OnWir
   pub goes : OnLive there r s
 
 -- a session with the same fragments and places
-pub pair_same : (s t r : Session) (here : List OnWire) (there : Option (List OnWire)) → t.out ≡ s.out → t.acc ≡ s.acc → t.acked ≡ s.acked → t.next ≡ s.next → t.reached ≡ s.reached → t.window ≡ s.window
+pub pair_same : (s t r : Session) (here : List OnWire) (there : Option (List OnWire))
+    → t.out ≡ s.out → t.acc ≡ s.acc → t.acked ≡ s.acked → t.next ≡ s.next → t.reached ≡ s.reached → t.window ≡ s.window
     → Pair s r here there → Pair t r here there
 pair_same s t r here there a b c d e f h =
     record {
@@ -223,7 +224,8 @@ pair_put s r more here there h =
     go (Some w) g = record { marks = g.marks; shows = g.shows; places = places_grow s.out more (length r.acc) s.reached g.marks g.places; counts = g.counts }
 
 -- all that isn't acknowledged is to be sent again
-pub pair_again : (s t r : Session) (here : List OnWire) (there : Option (List OnWire)) → t.out ≡ s.out → t.acc ≡ s.acc → t.acked ≡ s.acked → t.next ≡ s.acked → t.reached ≡ s.reached → t.window ≡ s.window
+pub pair_again : (s t r : Session) (here : List OnWire) (there : Option (List OnWire))
+    → t.out ≡ s.out → t.acc ≡ s.acc → t.acked ≡ s.acked → t.next ≡ s.acked → t.reached ≡ s.reached → t.window ≡ s.window
     → Pair s r here there → Pair t r here there
 pair_again s t r here there a b c d e f h =
     let u : Session = record s { next = s.acked } in
@@ -258,16 +260,20 @@ pair_again s t r here there a b c d e f h =
     go (Some w) g = record { marks = g.marks; shows = g.shows; places = g.places; counts = g.counts }
 
 -- the marks of a part of a wire without an RSET go on
-pub shows_push : (w : List OnWire) (ms : List Control) (x : OnWire) (m : Control) → x.frame ≡ reduced m → rsets w ≡ [] → ShowsAct w ms → ShowsAct (w ++ x ∷ []) (ms ++ m ∷ [])
+pub shows_push : (w : List OnWire) (ms : List Control) (x : OnWire) (m : Control) → x.frame ≡ reduced m → rsets w ≡ [] → ShowsAct w ms
+    → ShowsAct (w ++ x ∷ []) (ms ++ m ∷ [])
 shows_push [] [] x m e none h = (e, tt)
 shows_push [] (_ ∷ _) x m e none h = absurd h
-shows_push (y ∷ w) [] x m e none h = absurd (let q : add_rset (Rset h.0.0 h.0.1) y.age (rsets w) ≡ [] = rw h.0.2 at none in let z : y.age ∷ rsets w ≡ [] = q in cc)
+shows_push (y ∷ w) [] x m e none h =
+    absurd (let q : add_rset (Rset h.0.0 h.0.1) y.age (rsets w) ≡ [] = rw h.0.2 at none in let z : y.age ∷ rsets w ≡ [] = q in cc)
 shows_push (y ∷ w) (k ∷ ms) x m e none h = (h.0, shows_push w ms x m e (no_rset_step y.frame y.age (rsets w) none).0 h.1)
 
-pub shows_push_rset : (w : List OnWire) (ms : List Control) (x : OnWire) (v c : ℕ) → x.frame ≡ Rset v c → rsets w ≡ [] → ShowsAct w ms → ShowsAct (w ++ x ∷ []) ms
+pub shows_push_rset : (w : List OnWire) (ms : List Control) (x : OnWire) (v c : ℕ) → x.frame ≡ Rset v c → rsets w ≡ [] → ShowsAct w ms
+    → ShowsAct (w ++ x ∷ []) ms
 shows_push_rset [] [] x v c e none h = ((v, c, e), refl)
 shows_push_rset [] (_ ∷ _) x v c e none h = absurd h
-shows_push_rset (y ∷ w) [] x v c e none h = absurd (let q : add_rset (Rset h.0.0 h.0.1) y.age (rsets w) ≡ [] = rw h.0.2 at none in let z : y.age ∷ rsets w ≡ [] = q in cc)
+shows_push_rset (y ∷ w) [] x v c e none h =
+    absurd (let q : add_rset (Rset h.0.0 h.0.1) y.age (rsets w) ≡ [] = rw h.0.2 at none in let z : y.age ∷ rsets w ≡ [] = q in cc)
 shows_push_rset (y ∷ w) (k ∷ ms) x v c e none h = (h.0, shows_push_rset w ms x v c e (no_rset_step y.frame y.age (rsets w) none).0 h.1)
 
 pub shows_older : (w : List OnWire) (ms : List Control) → ShowsAct w ms → ShowsAct (older w) ms
@@ -280,7 +286,8 @@ shows_older (x ∷ xs) (_ ∷ ms) h = (h.0, shows_older xs ms h.1)
 pub active_lost : (x : OnWire) (w : List OnWire) (mine theirs : Session) → Base mine theirs → Active (x ∷ w) mine theirs → Active w mine theirs
 active_lost x w mine theirs b h = go h.marks h.shows h.places h.counts
   where
-    go : (ms : List Control) → ShowsAct (x ∷ w) ms → Places theirs.out (length mine.acc) theirs.reached ms → Counts mine.acked (length theirs.acc) ms → Active w mine theirs
+    go : (ms : List Control) → ShowsAct (x ∷ w) ms → Places theirs.out (length mine.acc) theirs.reached ms → Counts mine.acked (length theirs.acc) ms
+        → Active w mine theirs
     go [] s p c = rw s.1 (active_empty mine theirs b)
     go (m ∷ ms) s p c =
         record {
@@ -407,7 +414,8 @@ number_of_mark s r (S kind k) n ms b e c =
     (omega (arith, c.0), omega (arith, b.fits), omega arith, counts_lower k n (length r.acc) ms (omega arith) c.1)
 number_of_mark s r (_) n ms b e c = absurd e
 
-base_acked : (s r : Session) (n next : ℕ) → Base s r → s.acked ≤ n → n ≤ length r.acc → n ≤ next → next ≤ s.reached → Base (record s { acked = n; next = next }) r
+base_acked : (s r : Session) (n next : ℕ) → Base s r → s.acked ≤ n → n ≤ length r.acc → n ≤ next → next ≤ s.reached
+    → Base (record s { acked = n; next = next }) r
 base_acked s r n next b i j k l =
     record {
       from = k;
@@ -472,11 +480,14 @@ taken_up e r x here there up data' h = go h.comes.marks h.comes.shows h.comes.pl
         let high : p ≤ length s.acc + 3 = omega (arith, places.1, h.theirs.within, h.theirs.most, h.theirs.acked) in
         let upper : max s.next n ≤ s.reached = omega (arith, h.mine.sent, number.1) in
         let same : (g : EndState) → g.phase ≡ e.phase → g.own_window ≡ e.own_window → g.peer_window ≡ e.peer_window
-        → g.session.out ≡ s.out → g.session.acc ≡ s.acc → g.session.acked ≡ n → g.session.next ≡ max s.next n → g.session.reached ≡ s.reached → g.session.window ≡ s.window
+        → g.session.out ≡ s.out → g.session.acc ≡ s.acc → g.session.acked ≡ n → g.session.next ≡ max s.next n
+        → g.session.reached ≡ s.reached → g.session.window ≡ s.window
         → (g.due ≡ e.due) ⊎ ((d : Due) × IsAnswer d × (g.due ≡ e.due ++ d ∷ [])) → TakenUp e g r here there =
         λ g ph own peer a b c d k l due. record {
           up = ph ∙ up;
-          pair = pair_of s r g.session n (max s.next n) here there ms h.mine h.theirs number.0 number.2 (omega arith) upper a b c d k l shows.1 places.4 number.3 h.goes;
+          pair =
+              pair_of s r g.session n (max s.next n) here there ms h.mine h.theirs number.0 number.2 (omega arith) upper a b c d k l shows.1 places.4
+              number.3 h.goes;
           due = due;
           own = own;
           peer = peer;
@@ -485,7 +496,8 @@ taken_up e r x here there up data' h = go h.comes.marks h.comes.shows h.comes.pl
               (received_cases (λ g. TakenUp e g r here there) f (p % 8) info
               (λ z. accept p n info ms shows.1 places number (ahead_other f.session p places.0 high z))
               (λ z g. same f refl refl refl refl refl refl refl refl refl (inl refl))
-              (λ z g. same (record f { due = f.due ++ Rej_due ∷ []; session = record f.session { gap_open = true } }) refl refl refl refl refl refl refl refl refl (inr (Rej_due, tt, refl)))
+              (λ z g. same (record f { due = f.due ++ Rej_due ∷ []; session = record f.session { gap_open = true } }) refl refl refl refl refl refl
+              refl refl refl (inr (Rej_due, tt, refl)))
               (λ z g. same (repeated f) refl refl refl refl refl refl refl refl refl (inr (Rr_due, tt, refl)))
               (same (discarded f) refl refl refl refl refl refl refl refl refl (inr (Rnr_due, tt, refl))))),
           rw shows.0 (answer_I e (p % 8) (n % 8) info up),
@@ -534,17 +546,25 @@ taken_up e r x here there up data' h = go h.comes.marks h.comes.shows h.comes.pl
               peer = refl;
             }
           where
-            goes : (o : Option (List OnWire)) → OnLive o r s → length (s.acc ++ info ∷ []) ≡ length s.acc + 1 → OnLive o r (accepted (acknowledged e n) info).session
+            goes : (o : Option (List OnWire)) → OnLive o r s → length (s.acc ++ info ∷ []) ≡ length s.acc + 1
+                → OnLive o r (accepted (acknowledged e n) info).session
             goes None g one = tt
             goes (Some w) g one =
                 let more : length s.acc ≤ length (s.acc ++ info ∷ []) = omega arith in
-                record { marks = g.marks; shows = g.shows; places = g.places; counts = counts_higher r.acked (length s.acc) (length (s.acc ++ info ∷ [])) g.marks more g.counts }
+                record {
+                  marks = g.marks;
+                  shows = g.shows;
+                  places = g.places;
+                  counts = counts_higher r.acked (length s.acc)
+                      (length (s.acc ++ info ∷ [])) g.marks more g.counts;
+                }
     go (S k n ∷ ms) shows places counts =
         let number = number_of_mark s r (S k n) n ms h.mine refl counts in
         let place : place_of s (n % 8) ≡ Some n = place_found s n number.0 number.1 (omega (arith, h.mine.within, h.mine.most)) in
         let upper : max s.next n ≤ s.reached = omega (arith, h.mine.sent, number.1) in
         let at : (g : EndState) (next : ℕ) → n ≤ next → next ≤ s.reached → g.phase ≡ e.phase → g.own_window ≡ e.own_window → g.peer_window ≡ e.peer_window
-        → g.session.out ≡ s.out → g.session.acc ≡ s.acc → g.session.acked ≡ n → g.session.next ≡ next → g.session.reached ≡ s.reached → g.session.window ≡ s.window
+        → g.session.out ≡ s.out → g.session.acc ≡ s.acc → g.session.acked ≡ n → g.session.next ≡ next → g.session.reached ≡ s.reached
+        → g.session.window ≡ s.window
         → g.due ≡ e.due → TakenUp e g r here there =
         λ g next i j ph own peer a b c d k l due. record {
           up = ph ∙ up;

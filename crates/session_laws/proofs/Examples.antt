@@ -1,17 +1,20 @@
 -- The two machines, the wires and the numbers compute the worked examples with resets.
-use Rattle.std.proofs.Common.{◌≡◌, refl, ℕ, suc, zero, List, [], ◌∷◌, ◌++◌}
-use Rattle.shdlc_core.specs.declared.answers.LinkState.TheVariants.{Waiting, Up}
-use Rattle.session_laws.specs.Sessions.{start, number_of, LinkEvent, after}
-use Rattle.session_laws.specs.Sessions.EndEvent.{Deliver, Lose, Reset}
+use Rattle.std.proofs.Common.{true, false, ◌≡◌, refl, Some, ℕ, suc, zero, List, [], ◌∷◌, ◌++◌}
+use Rattle.shdlc_core.specs.declared.answers.LinkState.TheVariants.{Waiting, Up, Down}
+use Rattle.session_laws.specs.Losses.{no_losses, losses_after, IsQuiet}
+use Rattle.session_laws.specs.Settled.{sure_after, IsSettled}
+use Rattle.session_laws.specs.Sessions.Turn.{Offer}
+use Rattle.session_laws.specs.Sessions.{start, start_down, number_of, LinkEvent, after}
+use Rattle.session_laws.specs.Sessions.EndEvent.{Turns, Deliver, Ignore, Lose, Reset, Cut, Stop}
 use Rattle.session_laws.specs.Sessions.LinkEvent.{AtController, AtHost, Tick}
 
 abbrev ticks : ℕ → List LinkEvent
 ticks zero = []
-ticks (suc n) = Tick ∷ ticks n
+ticks (suc n) = Tick (Some []) [] (Some []) ∷ ticks n
 
 -- a reset whose first RSET is lost
 abbrev resent : List LinkEvent
-resent = AtHost (Reset 4) ∷ AtController Lose ∷ ticks 10 ++ (AtController Deliver ∷ AtHost Deliver ∷ [])
+resent = AtHost (Reset 4 []) ∷ AtController Lose ∷ ticks 10 ++ (AtController (Deliver []) ∷ AtHost (Deliver []) ∷ [])
 
 resent_controller : number_of (after start resent).controller ≡ 2
 resent_controller = refl
@@ -24,7 +27,8 @@ resent_is_up = refl
 
 -- two resets that cross
 abbrev crossed : List LinkEvent
-crossed = AtController (Reset 4) ∷ AtHost (Reset 4) ∷ AtController Deliver ∷ AtHost Deliver ∷ AtHost Deliver ∷ AtController Deliver ∷ []
+crossed =
+    AtController (Reset 4 []) ∷ AtHost (Reset 4 []) ∷ AtController (Deliver []) ∷ AtHost (Deliver []) ∷ AtHost (Deliver []) ∷ AtController (Deliver []) ∷ []
 
 crossed_controller : number_of (after start crossed).controller ≡ 2
 crossed_controller = refl
@@ -37,7 +41,7 @@ crossed_is_up = refl
 
 -- two that cross, of which one is lost: one end comes up alone, and both after the next RSET
 abbrev one_lost : List LinkEvent
-one_lost = AtController (Reset 4) ∷ AtHost (Reset 4) ∷ AtController Lose ∷ AtHost Deliver ∷ AtController Deliver ∷ []
+one_lost = AtController (Reset 4 []) ∷ AtHost (Reset 4 []) ∷ AtController Lose ∷ AtHost (Deliver []) ∷ AtController (Deliver []) ∷ []
 
 one_lost_controller : number_of (after start one_lost).controller ≡ 1
 one_lost_controller = refl
@@ -45,5 +49,94 @@ one_lost_controller = refl
 one_lost_host : (after start one_lost).host.side.phase ≡ Waiting
 one_lost_host = refl
 
-one_lost_later : number_of (after start (one_lost ++ ticks 10 ++ (AtController Deliver ∷ AtHost Deliver ∷ []))).host ≡ 3
+one_lost_later : number_of (after start (one_lost ++ ticks 10 ++ (AtController (Deliver []) ∷ AtHost (Deliver []) ∷ []))).host ≡ 3
 one_lost_later = refl
+
+-- a cut of the controller, while the host goes on; then an activation, and a reset
+abbrev cut : List LinkEvent
+cut = AtController (Reset 4 []) ∷ AtHost (Deliver []) ∷ AtController (Deliver []) ∷ AtController Cut ∷ []
+
+cut_is_down : (after start cut).controller.side.phase ≡ Down
+cut_is_down = refl
+
+cut_goes_on : (after start cut).host.side.phase ≡ Up
+cut_goes_on = refl
+
+abbrev active_again : List LinkEvent
+active_again = cut ++ (AtController Stop ∷ AtHost Stop ∷ AtHost (Reset 2 []) ∷ AtController (Deliver []) ∷ AtHost (Deliver []) ∷ [])
+
+again_is_up : number_of (after start active_again).controller ≡ 2
+again_is_up = refl
+
+-- the controller, which is inactive, takes an RSET; once it is started it comes up with the next one, or by its own
+abbrev ignored : List LinkEvent
+ignored = AtHost (Reset 4 []) ∷ AtController (Ignore []) ∷ []
+
+ignored_is_down : (after start_down ignored).controller.side.phase ≡ Down
+ignored_is_down = refl
+
+ignored_number : number_of (after start_down ignored).controller ≡ 1
+ignored_number = refl
+
+abbrev started : List LinkEvent
+started = ignored ++ ticks 10 ++ (AtController (Deliver []) ∷ AtHost (Deliver []) ∷ [])
+
+started_is_up : (after start_down started).controller.side.phase ≡ Up
+started_is_up = refl
+
+started_controller : number_of (after start_down started).controller ≡ 2
+started_controller = refl
+
+started_host : number_of (after start_down started).host ≡ 2
+started_host = refl
+
+abbrev asks_itself : List LinkEvent
+asks_itself = ignored ++ (AtController (Reset 4 []) ∷ AtHost (Deliver []) ∷ AtController (Deliver []) ∷ [])
+
+asks_is_up : (after start_down asks_itself).controller.side.phase ≡ Up
+asks_is_up = refl
+
+asks_number : number_of (after start_down asks_itself).controller ≡ 2
+asks_number = refl
+
+-- an end that is Up ignores nothing
+up_ignores_nothing : after start (AtHost (Reset 4 []) ∷ AtController (Ignore []) ∷ []) ≡ after start (AtHost (Reset 4 []) ∷ [])
+up_ignores_nothing = refl
+
+-- a reset that is answered: both wires are empty, and it is known to be answered
+abbrev answered : List LinkEvent
+answered = AtHost (Reset 4 []) ∷ AtController (Deliver []) ∷ AtHost (Deliver []) ∷ []
+
+answered_is_settled : IsSettled (after start answered) (sure_after false start answered)
+answered_is_settled = record { sure = refl; to_controller = refl; to_host = refl }
+
+-- one whose RSET was lost, and two that crossed, aren't known to be answered
+resent_not_sure : sure_after false start resent ≡ false
+resent_not_sure = refl
+
+crossed_not_sure : sure_after false start crossed ≡ false
+crossed_not_sure = refl
+
+-- a frame is lost in session 0
+abbrev broken : List LinkEvent
+broken = AtController (Turns (Offer ((1 ∷ []) ∷ []) ∷ [])) ∷ AtHost Lose ∷ []
+
+broken_lost : (losses_after no_losses start broken).lost ≡ true
+broken_lost = refl
+
+-- in the next session nothing is, and fragments go both ways
+abbrev told : List LinkEvent
+told =
+    broken ++ answered
+    ++ (AtController (Turns (Offer ((2 ∷ []) ∷ (3 ∷ []) ∷ []) ∷ [])) ∷ AtHost (Turns (Offer ((4 ∷ []) ∷ []) ∷ [])) ∷ [])
+    ++ (AtHost (Deliver []) ∷ AtHost (Deliver []) ∷ AtController (Deliver []) ∷ AtController (Deliver []) ∷ AtController (Deliver [])
+    ∷ AtHost (Deliver []) ∷ [])
+
+told_is_quiet : IsQuiet (after start told) (losses_after no_losses start told)
+told_is_quiet = record { controller = refl; host = refl; lost = refl; rnr = refl; to_controller = refl; to_host = refl }
+
+told_session : number_of (after start told).controller ≡ 1
+told_session = refl
+
+told_fragments : (after start told).host.side.session.acc ≡ (2 ∷ []) ∷ (3 ∷ []) ∷ []
+told_fragments = refl

@@ -128,7 +128,8 @@ one_ua k p t a [] (b ∷ u) h = absurd h
 one_ua k p t a (b ∷ []) u h = absurd h
 one_ua k p t a (b ∷ c ∷ r) u h = absurd h
 
-pub ahead_still : (k k' : ℕ) (n n' : Peer) (emitted : ℕ) (r : List ℕ) → n'.took ≡ n.took → n'.emitted ≡ n.emitted → n'.phase ≡ n.phase → (n.phase ≡ Waiting → n'.timer + k' ≡ n.timer + k)
+pub ahead_still : (k k' : ℕ) (n n' : Peer) (emitted : ℕ) (r : List ℕ)
+    → n'.took ≡ n.took → n'.emitted ≡ n.emitted → n'.phase ≡ n.phase → (n.phase ≡ Waiting → n'.timer + k' ≡ n.timer + k)
     → Ahead k n emitted r → Ahead k' n' emitted r
 ahead_still k k' n n' emitted [] a b c d h = tt
 ahead_still k k' n n' emitted (x ∷ r) a b c d h = (omega (arith, h.0), go h.1)
@@ -138,7 +139,8 @@ ahead_still k k' n n' emitted (x ∷ r) a b c d h = (omega (arith, h.0), go h.1)
     go (inr g) = inr (c ∙ g.0, omega (arith, g.1, d g.0))
 
 -- an end that doesn't wait has sent less
-pub ahead_not_waiting : (k : ℕ) (n : Peer) (emitted a : ℕ) (r : List ℕ) → (n.phase ≡ Waiting → ⊥) → Ahead k n emitted (a ∷ r) → (n.took < emitted) × (n.emitted < emitted)
+pub ahead_not_waiting : (k : ℕ) (n : Peer) (emitted a : ℕ) (r : List ℕ) → (n.phase ≡ Waiting → ⊥) → Ahead k n emitted (a ∷ r)
+    → (n.took < emitted) × (n.emitted < emitted)
 ahead_not_waiting k n emitted a r w h = (h.0, go h.1)
   where
     go : (n.emitted < emitted) ⊎ ((n.phase ≡ Waiting) × (n.timer + k ≤ a)) → n.emitted < emitted
@@ -171,7 +173,7 @@ agrees_right_none None None P e = tt
 agrees_right_none (Some a) None P e = tt
 agrees_right_none a (Some b) P e = cc
 
-agrees_from : (a b : Option (List OnWire)) (P : Type 0) → P → Agrees a b P
+pub agrees_from : (a b : Option (List OnWire)) (P : Type 0) → P → Agrees a b P
 agrees_from None None P p = tt
 agrees_from None (Some b) P p = tt
 agrees_from (Some a) None P p = tt
@@ -186,6 +188,32 @@ agrees_alike : (a b c d : Option (List OnWire)) (P : Type 0) → Alike a c → A
 agrees_alike a b c d P NoneAlike y h = agrees_left_none None d P refl
 agrees_alike a b c d P (SomeAlike _ _) NoneAlike h = tt
 agrees_alike a b c d P (SomeAlike _ _) (SomeAlike _ _) h = h
+
+-- nothing stands on the wires
+pub hand_empty : (kn kf : ℕ) (n f : Peer) (r : ℕ) → n.took ≤ f.emitted → f.took ≤ n.emitted → n.emitted ≤ r → f.emitted ≤ r
+    → Agrees (live n.phase []) (live f.phase []) (number n ≡ number f) → Hand kn kf n f [] [] r
+hand_empty kn kf n f r n_took f_took n_bound f_bound agree =
+    record {
+      n_out = tt;
+      f_out = tt;
+      n_numbered = tt;
+      f_numbered = tt;
+      n_ahead = tt;
+      f_ahead = tt;
+      n_took = n_took;
+      f_took = f_took;
+      n_sure = tt;
+      f_sure = tt;
+      n_behind = tt;
+      f_behind = tt;
+      n_tail = tt;
+      f_tail = tt;
+      n_young = tt;
+      f_young = tt;
+      agree = agree;
+      n_bound = n_bound;
+      f_bound = f_bound;
+    }
 
 -- ## What one end does
 
@@ -392,7 +420,8 @@ hand_down kn kf n f to_n to_f r none empty late h =
       f_bound = h.f_bound;
     }
   where
-    ahead : (rs : List ℕ) → rsets to_n ≡ rs → Ahead kn n f.emitted rs → Ahead 0 (record { phase = Down; timer = 0; emitted = n.emitted; took = n.took }) f.emitted rs
+    ahead : (rs : List ℕ) → rsets to_n ≡ rs → Ahead kn n f.emitted rs
+        → Ahead 0 (record { phase = Down; timer = 0; emitted = n.emitted; took = n.took }) f.emitted rs
     ahead [] e g = tt
     ahead (a ∷ rs) e g = (g.0, inl (pick g.1))
       where
@@ -434,13 +463,15 @@ hand_up_ua kn kf n f x to_n to_f r frame h =
       f_bound = h.f_bound;
     }
   where
-    ahead : (rs : List ℕ) → Sure rs (n.emitted < f.emitted) → Ahead kn n f.emitted rs → Ahead kn (record { phase = Up; timer = 0; emitted = n.emitted; took = n.took }) f.emitted rs
+    ahead : (rs : List ℕ) → Sure rs (n.emitted < f.emitted) → Ahead kn n f.emitted rs
+        → Ahead kn (record { phase = Up; timer = 0; emitted = n.emitted; took = n.took }) f.emitted rs
     ahead [] s g = tt
     ahead (a ∷ rs) s g = (g.0, inl s)
 
 -- what an RSET in front tells: its sender waits, and nothing else of it is out
 pub rset_tells : (kn : ℕ) (n f : Peer) (x : OnWire) (w c : ℕ) (to_n to_f : List OnWire) (r : ℕ) → x.frame ≡ Rset w c
-    → Hand kn 0 n f (x ∷ to_n) to_f r → (rsets to_n ≡ []) × (uas to_f ≡ []) × (f.phase ≡ Waiting) × (f.timer ≤ 4) × (x.number ≡ f.emitted) × (0 < w) × AfterRset to_n
+    → Hand kn 0 n f (x ∷ to_n) to_f r → (rsets to_n ≡ []) × (uas to_f ≡ []) × (f.phase ≡ Waiting) × (f.timer ≤ 4) × (x.number ≡ f.emitted) × (0 < w)
+    × AfterRset to_n
 rset_tells kn n f x w c to_n to_f r frame h =
     let a : rsets (x ∷ to_n) ≡ x.age ∷ rsets to_n = rw frame refl in
     let out = one_rset 0 f.phase f.timer x.age (rsets to_n) (uas to_f) (rw a at h.f_out) in
@@ -492,7 +523,8 @@ hand_up_rset n f x y w c to_n to_f r frame busy ua age h =
       f_bound = h.f_bound;
     }
   where
-    behind : (behind_ua (to_f ++ y ∷ []) ≡ None) ⊎ ((behind_ua (to_f ++ y ∷ []) ≡ Some []) × (rsets to_f ≡ [])) → Behind (behind_ua (to_f ++ y ∷ [])) (f.emitted < n.emitted)
+    behind : (behind_ua (to_f ++ y ∷ []) ≡ None) ⊎ ((behind_ua (to_f ++ y ∷ []) ≡ Some []) × (rsets to_f ≡ []))
+        → Behind (behind_ua (to_f ++ y ∷ [])) (f.emitted < n.emitted)
     behind (inl e) = behind_none_fact (behind_ua (to_f ++ y ∷ [])) (f.emitted < n.emitted) e
     behind (inr e) = rw e.0 tt
 
@@ -536,7 +568,8 @@ hand_wait_rset n f x y w c to_n to_f r frame waiting ua age h =
     n_behind (z ∷ []) g = let e : behind_ua (z ∷ []) ≡ Some [] = rw g refl in rw e tt
     n_behind (z ∷ v ∷ w) g = absurd g
 
-    f_behind : (behind_ua (to_f ++ y ∷ []) ≡ None) ⊎ ((behind_ua (to_f ++ y ∷ []) ≡ Some []) × (rsets to_f ≡ [])) → Behind (behind_ua (to_f ++ y ∷ [])) (f.emitted < n.emitted)
+    f_behind : (behind_ua (to_f ++ y ∷ []) ≡ None) ⊎ ((behind_ua (to_f ++ y ∷ []) ≡ Some []) × (rsets to_f ≡ []))
+        → Behind (behind_ua (to_f ++ y ∷ [])) (f.emitted < n.emitted)
     f_behind (inl e) = behind_none_fact (behind_ua (to_f ++ y ∷ [])) (f.emitted < n.emitted) e
     f_behind (inr e) = rw e.0 tt
 
@@ -580,6 +613,33 @@ hand_lose_rset kn n f x w c to_n to_f r frame h =
     behind : (o : Option (List OnWire)) → behind_ua to_n ≡ o → rsets to_n ≡ [] → Behind (behind_ua to_n) (n.emitted < f.emitted)
     behind None e g = behind_none_fact (behind_ua to_n) (n.emitted < f.emitted) e
     behind (Some ys) e g = rw e (sure_none (rsets ys) (n.emitted < f.emitted) (sym (behind_rsets to_n ys e).0 ∙ g))
+
+-- the near end, which is Down, has taken the RSET that was sent last, and comes into no session by it
+pub hand_ignore : (kn kf : ℕ) (n f : Peer) (to_n to_f : List OnWire) (r : ℕ) → n.phase ≡ Down → rsets to_n ≡ [] → uas to_f ≡ []
+    → Hand kn kf n f to_n to_f r → Hand kn kf (record n { took = f.emitted }) f to_n to_f r
+hand_ignore kn kf n f to_n to_f r down none empty h =
+    let p : Peer = record n { took = f.emitted } in
+    record {
+      n_out = h.n_out;
+      f_out = h.f_out;
+      n_numbered = h.n_numbered;
+      f_numbered = h.f_numbered;
+      n_ahead = ahead_none kn p f.emitted (rsets to_n) none;
+      f_ahead = h.f_ahead;
+      n_took = omega arith;
+      f_took = h.f_took;
+      n_sure = h.n_sure;
+      f_sure = sure_none (uas to_f) (f.emitted ≡ f.emitted) empty;
+      n_behind = h.n_behind;
+      f_behind = h.f_behind;
+      n_tail = h.n_tail;
+      f_tail = h.f_tail;
+      n_young = h.n_young;
+      f_young = h.f_young;
+      agree = agrees_left_none (live n.phase to_n) (live f.phase to_f) (number p ≡ number f) (rw down refl);
+      n_bound = h.n_bound;
+      f_bound = h.f_bound;
+    }
 
 -- a UA on its way to the near end is lost
 pub hand_lose_ua : (kn kf : ℕ) (n f : Peer) (x : OnWire) (to_n to_f : List OnWire) (r : ℕ) → x.frame ≡ Ua
@@ -668,7 +728,8 @@ hand_older n f to_n to_f r yn yf h =
     agrees (Some a) (Some b) g = g
 
 -- an end that waited longer than a frame lives has nothing out
-pub nothing_out : (kn kf : ℕ) (n f : Peer) (to_n to_f : List OnWire) (r : ℕ) → 8 < n.timer + kn → Hand kn kf n f to_n to_f r → (rsets to_f ≡ []) × (uas to_n ≡ [])
+pub nothing_out : (kn kf : ℕ) (n f : Peer) (to_n to_f : List OnWire) (r : ℕ) → 8 < n.timer + kn → Hand kn kf n f to_n to_f r
+    → (rsets to_f ≡ []) × (uas to_n ≡ [])
 nothing_out kn kf n f to_n to_f r late h = go (rsets to_f) (uas to_n) refl refl h.n_out
   where
     go : (rs us : List ℕ) → rsets to_f ≡ rs → uas to_n ≡ us → OneOut kn n.phase n.timer rs us → (rsets to_f ≡ []) × (uas to_n ≡ [])

@@ -8,7 +8,7 @@ use Rattle.shdlc_core.specs.Machine.{EndState, Session, new_session, no_session}
 use Rattle.std.proofs.lemmas.Bool.{eqb-true}
 use Rattle.session_laws.specs.Sessions.{OnWire, Half, older, number_of, session_of, ended_session}
 use Rattle.session_laws.proofs.Wire.{IsData, rsets, uas, AfterRset, behind_ua, live, Young, behind_none, behind_push, behind_push_none, behind_new, behind_rsets, data_behind, after_rset_empty, live-older, older_part}
-use Rattle.session_laws.proofs.Hand.{peer_of, Hand, Agrees, hand_swap, none_out, one_ua, rset_tells, hand_past, hand_ask, hand_down, hand_up_ua, hand_up_rset, hand_wait_rset, hand_lose_rset, hand_lose_ua, hand_older}
+use Rattle.session_laws.proofs.Hand.{peer_of, Hand, Agrees, hand_swap, hand_empty, none_out, one_ua, rset_tells, hand_past, hand_ask, hand_down, hand_up_ua, hand_up_rset, hand_wait_rset, hand_lose_rset, hand_lose_ua, hand_ignore, hand_older}
 use Rattle.session_laws.proofs.Data.{Base, Active, OnLive, active_empty, active_lost, Below, below_more, none_ended, bound, of_up, of_update, of_none, base_begins, base_begins_there, Pair, shows_push_rset, shows_older}
 
 -- the windows that an end may ask for
@@ -85,18 +85,21 @@ pair_from kn kf n f to_n to_f r up h =
       comes =
           let a : OnLive (live Up to_n) (session_of n (number_of n)) (session_of f (number_of n)) =
           live_to n.side.phase Up to_n (session_of n (number_of n)) (session_of f (number_of n)) up h.n_live in
-          on_live_same (Some to_n) (session_of n (number_of n)) n.side.session (session_of f (number_of n)) (session_of f (number_of n)) (sym (of_up n up)) refl a;
+          on_live_same (Some to_n) (session_of n (number_of n)) n.side.session (session_of f (number_of n)) (session_of f (number_of n))
+          (sym (of_up n up)) refl a;
       goes = goes (live f.side.phase to_f) refl h.f_live;
     }
   where
     moved : (k m : ℕ) (w : List OnWire) → k ≡ m → OnLive (Some w) (session_of f k) (session_of n k) → OnLive (Some w) (session_of f m) (session_of n m)
     moved k m w e g = let P : ℕ → Type 0 = λ j. OnLive (Some w) (session_of f j) (session_of n j) in subst P e g
 
-    goes : (o : Option (List OnWire)) → live f.side.phase to_f ≡ o → OnLive o (session_of f (number_of f)) (session_of n (number_of f)) → OnLive o (session_of f (number_of n)) n.side.session
+    goes : (o : Option (List OnWire)) → live f.side.phase to_f ≡ o → OnLive o (session_of f (number_of f)) (session_of n (number_of f))
+        → OnLive o (session_of f (number_of n)) n.side.session
     goes None e g = tt
     goes (Some w) e g =
         let lives : live n.side.phase to_n ≡ Some to_n = rw up refl in
-        let same : number_of n ≡ number_of f = agreed (live n.side.phase to_n) (live f.side.phase to_f) to_n w (number_of n ≡ number_of f) lives e h.hand.agree in
+        let same : number_of n ≡ number_of f = agreed (live n.side.phase to_n) (live f.side.phase to_f) to_n w (number_of n ≡ number_of f) lives e
+        h.hand.agree in
         let b : OnLive (Some w) (session_of f (number_of n)) (session_of n (number_of n)) = moved (number_of f) (number_of n) w (sym same) g in
         on_live_same (Some w) (session_of f (number_of n)) (session_of f (number_of n)) (session_of n (number_of n)) n.side.session refl (sym (of_up n up)) b
 
@@ -128,7 +131,8 @@ safe_up kn kn' kf n f q to_n to_f to_n' to_f' r up qup due own peer hand pair h 
     n_live =
         let is : session_of (record n { side = q }) (number_of n) ≡ q.session = of_up (record n { side = q }) qup in
         let a : OnLive (live Up to_n') (session_of (record n { side = q }) (number_of n)) (session_of f (number_of n)) =
-        on_live_same (Some to_n') q.session (session_of (record n { side = q }) (number_of n)) (session_of f (number_of n)) (session_of f (number_of n)) is refl pair.comes in
+        on_live_same (Some to_n') q.session (session_of (record n { side = q }) (number_of n)) (session_of f (number_of n))
+        (session_of f (number_of n)) is refl pair.comes in
         live_to Up q.phase to_n' (session_of (record n { side = q }) (number_of n)) (session_of f (number_of n)) (sym qup) a
 
     past : Below (bound (record n { side = q })) n.past
@@ -146,7 +150,8 @@ safe_up kn kn' kf n f q to_n to_f to_n' to_f' r up qup due own peer hand pair h 
         let same : number_of n ≡ number_of f = agreed (live q.phase to_n') (live f.side.phase to_f') to_n' w (number_of n ≡ number_of f) lives e hand.agree in
         let is : session_of (record n { side = q }) (number_of n) ≡ q.session = of_up (record n { side = q }) qup in
         let a : OnLive (Some w) (session_of f (number_of n)) (session_of (record n { side = q }) (number_of n)) =
-        on_live_same (Some w) (session_of f (number_of n)) (session_of f (number_of n)) q.session (session_of (record n { side = q }) (number_of n)) refl is g in
+        on_live_same (Some w) (session_of f (number_of n)) (session_of f (number_of n)) q.session (session_of (record n { side = q }) (number_of n))
+        refl is g in
         moved (number_of n) (number_of f) w same a
 
 -- ## Parts of wires with one frame more or less
@@ -193,7 +198,8 @@ at_number Q m g h move given = move (λ k t. k ≡ m → Q t) (λ k e. rw e give
 -- ## The near end isn't Up
 
 -- it goes on as it is, and a frame of a session on its way to it is passed over
-pub safe_idle : (kn kn' kf : ℕ) (n f : Half) (q : EndState) (to_n to_f to_n' : List OnWire) (r : ℕ) → (n.side.phase ≡ Up → ⊥) → q.phase ≡ n.side.phase → q.due ≡ []
+pub safe_idle : (kn kn' kf : ℕ) (n f : Half) (q : EndState) (to_n to_f to_n' : List OnWire) (r : ℕ) → (n.side.phase ≡ Up → ⊥)
+    → q.phase ≡ n.side.phase → q.due ≡ []
     → q.own_window ≡ n.side.own_window → q.peer_window ≡ n.side.peer_window → q.session ≡ no_session
     → live n.side.phase to_n' ≡ live n.side.phase to_n
     → Hand kn' kf (peer_of (record n { side = q })) (peer_of f) to_n' to_f r
@@ -253,7 +259,8 @@ safe_asks kn kf n f e x w c past to_n to_f r none empty frame wide age num windo
       f_base = move (λ k t. Base (session_of f k) t) h.f_base;
       n_live = on_live_part None (behind_ua to_n) (session_of g (number_of g)) (session_of f (number_of g)) (behind_none to_n empty) tt;
       f_live = move (λ k t. k ≡ number_of f → OnLive (live f.side.phase l) (session_of f (number_of f)) t)
-          (λ k q. at k q (live_push_rset f.side.phase to_f x w c (session_of f (number_of f)) (session_of n (number_of f)) frame none h.f_live)) (number_of f) refl;
+          (λ k q. at k q (live_push_rset f.side.phase to_f x w c (session_of f (number_of f)) (session_of n (number_of f)) frame none h.f_live))
+          (number_of f) refl;
       n_past = below;
       f_past = h.f_past;
       n_none = λ _. refl;
@@ -269,7 +276,8 @@ safe_asks kn kf n f e x w c past to_n to_f r none empty frame wide age num windo
     at k q a = let P : ℕ → Type 0 = λ j. OnLive (live f.side.phase (to_f ++ x ∷ [])) (session_of f (number_of f)) (session_of n j) in subst P (sym q) a
 
 -- it waited, and gives up
-pub safe_down : (kn kf : ℕ) (n f : Half) (e : EndState) (to_n to_f : List OnWire) (r : ℕ) → n.side.phase ≡ Waiting → rsets to_f ≡ [] → uas to_n ≡ [] → 4 < n.side.timer + kn
+pub safe_down : (kn kf : ℕ) (n f : Half) (e : EndState) (to_n to_f : List OnWire) (r : ℕ)
+    → n.side.phase ≡ Waiting → rsets to_f ≡ [] → uas to_n ≡ [] → 4 < n.side.timer + kn
     → HasWindows e → Safe kn kf n f to_n to_f r
     → Safe 0 kf (record n { side = record e { phase = Down; due = []; timer = 0; session = no_session } }) f to_n to_f r
 safe_down kn kf n f e to_n to_f r waiting none empty late windows h =
@@ -303,7 +311,8 @@ on_live_begins : (o : Option (List OnWire)) (m : Session) (w : ℕ) → OnLive o
 on_live_begins None m w h = tt
 on_live_begins (Some l) m w h = record { marks = h.marks; shows = h.shows; places = h.places; counts = h.counts }
 
-begins_at : (P : ℕ → Session → Type 0) (g : Half) → g.side.phase ≡ Up → ((k : ℕ) → P k (ended_session g.past k)) → P (number_of g) g.side.session → (k : ℕ) → P k (session_of g k)
+begins_at : (P : ℕ → Session → Type 0) (g : Half) → g.side.phase ≡ Up → ((k : ℕ) → P k (ended_session g.past k)) → P (number_of g) g.side.session
+    → (k : ℕ) → P k (session_of g k)
 begins_at P g up all new k = go (k == number_of g) refl
   where
     go : (b : Bool) → (k == number_of g) ≡ b → P k (session_of g k)
@@ -327,10 +336,12 @@ safe_begins kn kf f g w to_n to_f r up new due windows fits hand n_base f_base b
       n_base = begins_at (λ k t. Base t (session_of f k)) g up n_base (rw new mine);
       f_base = begins_at (λ k t. Base (session_of f k) t) g up f_base (rw new theirs);
       n_live = live_to Up g.side.phase to_n (session_of g (number_of g)) (session_of f (number_of g)) (sym up)
-          (on_live_same (Some to_n) (new_session w) (session_of g (number_of g)) (session_of f (number_of g)) (session_of f (number_of g)) (of_up g up ∙ new) refl
+          (on_live_same (Some to_n) (new_session w) (session_of g (number_of g)) (session_of f (number_of g)) (session_of f (number_of g))
+          (of_up g up ∙ new) refl
           (record { marks = active.marks; shows = active.shows; places = active.places; counts = active.counts }));
       f_live = begins_at (λ k t. k ≡ number_of f → OnLive (live f.side.phase to_f) (session_of f (number_of f)) t) g up (λ k q. at k q there)
-          (λ q. rw new (on_live_begins (live f.side.phase to_f) (session_of f (number_of f)) w (rw (sym (ap (ended_session g.past) q) ∙ gone) at there))) (number_of f) refl;
+          (λ q. rw new (on_live_begins (live f.side.phase to_f) (session_of f (number_of f)) w
+          (rw (sym (ap (ended_session g.past) q) ∙ gone) at there))) (number_of f) refl;
       n_past = rw up below;
       f_past = f_past;
       n_none = λ no. absurd (no up);
@@ -367,7 +378,8 @@ safe_up_ua kn kf n f w x to_n to_f r frame waiting fits h =
     (on_live_same (Some to_n) (ended_session n.past (number_of n)) no_session (session_of f (number_of n)) (session_of f (number_of n)) (sym gone) refl d)
     (move (λ k t. k ≡ number_of f → OnLive (live f.side.phase to_f) (session_of f (number_of f)) t) (λ k q. there k q h.f_live) (number_of f) refl)
   where
-    at : (k : ℕ) → k ≡ number_of n → OnLive (Some to_n) (session_of n (number_of n)) (session_of f (number_of n)) → OnLive (Some to_n) (session_of n k) (session_of f (number_of n))
+    at : (k : ℕ) → k ≡ number_of n → OnLive (Some to_n) (session_of n (number_of n)) (session_of f (number_of n))
+        → OnLive (Some to_n) (session_of n k) (session_of f (number_of n))
     at k q a = let P : ℕ → Type 0 = λ j. OnLive (Some to_n) (session_of n j) (session_of f (number_of n)) in subst P (sym q) a
 
     there : (k : ℕ) → k ≡ number_of f → OnLive (live f.side.phase to_f) (session_of f (number_of f)) (session_of n (number_of f))
@@ -375,7 +387,8 @@ safe_up_ua kn kf n f w x to_n to_f r frame waiting fits h =
     there k q a = let P : ℕ → Type 0 = λ j. OnLive (live f.side.phase to_f) (session_of f (number_of f)) (session_of n j) in subst P (sym q) a
 
 -- by an RSET, which it answers by UA; where a session went on it has ended and is kept
-pub safe_up_rset : (n f : Half) (w v c : ℕ) (x y : OnWire) (past : List (ℕ × Session)) (to_n to_f : List OnWire) (r : ℕ) → x.frame ≡ Rset v c → (n.side.phase ≡ Waiting → ⊥)
+pub safe_up_rset : (n f : Half) (w v c : ℕ) (x y : OnWire) (past : List (ℕ × Session)) (to_n to_f : List OnWire) (r : ℕ) → x.frame ≡ Rset v c
+    → (n.side.phase ≡ Waiting → ⊥)
     → y.frame ≡ Ua → y.age ≡ 0 → w ≤ 4 → Moves n past → Below f.emitted past
     → Safe 0 0 n f (x ∷ to_n) to_f r
     → Safe 0 0 (record { side = up_end n.side w; emitted = n.emitted; took = f.emitted; past = past }) f to_n (to_f ++ y ∷ []) r
@@ -443,7 +456,8 @@ frame_cases x = go x.frame refl
 pub safe_lose : (kn : ℕ) (n f : Half) (x : OnWire) (to_n to_f : List OnWire) (r : ℕ) → Safe kn 0 n f (x ∷ to_n) to_f r → Safe kn 0 n f to_n to_f r
 safe_lose kn n f x to_n to_f r h = go (frame_cases x)
   where
-    with : Hand kn 0 (peer_of n) (peer_of f) to_n to_f r → OnLive (live n.side.phase to_n) (session_of n (number_of n)) (session_of f (number_of n)) → Safe kn 0 n f to_n to_f r
+    with : Hand kn 0 (peer_of n) (peer_of f) to_n to_f r → OnLive (live n.side.phase to_n) (session_of n (number_of n)) (session_of f (number_of n))
+        → Safe kn 0 n f to_n to_f r
     with hand lives =
         record {
           hand = hand;
@@ -477,13 +491,15 @@ safe_lose kn n f x to_n to_f r h = go (frame_cases x)
     data_live d Down e = live_to Down n.side.phase to_n s t (sym e) tt
     data_live d Waiting e =
         let a : OnLive (behind_ua (x ∷ to_n)) s t = live_to n.side.phase Waiting (x ∷ to_n) s t e h.n_live in
-        live_to Waiting n.side.phase to_n s t (sym e) (on_live_part (behind_ua (x ∷ to_n)) (behind_ua to_n) s t (sym (data_behind x.frame to_n (behind_ua to_n) d)) a)
+        live_to Waiting n.side.phase to_n s t (sym e)
+        (on_live_part (behind_ua (x ∷ to_n)) (behind_ua to_n) s t (sym (data_behind x.frame to_n (behind_ua to_n) d)) a)
 
     rset_live : (w c : ℕ) → x.frame ≡ Rset w c → (p : LinkState) → n.side.phase ≡ p → OnLive (live n.side.phase to_n) s t
     rset_live w c q Up e = up e
     rset_live w c q Down e = live_to Down n.side.phase to_n s t (sym e) tt
     rset_live w c q Waiting e =
-        live_after_rset n.side.phase to_n s t (not_up n.side.phase e) (rset_tells kn (peer_of n) (peer_of f) x w c to_n to_f r q h.hand).6 (h.n_base (number_of n))
+        live_after_rset n.side.phase to_n s t (not_up n.side.phase e) (rset_tells kn (peer_of n) (peer_of f) x w c to_n to_f r q h.hand).6
+        (h.n_base (number_of n))
 
     go : IsData x.frame ⊎ (((w : ℕ) × (c : ℕ) × (x.frame ≡ Rset w c)) ⊎ (x.frame ≡ Ua)) → Safe kn 0 n f to_n to_f r
     go (inl d) = with (hand_past kn 0 (peer_of n) (peer_of f) x to_n to_f r d h.hand) (data_live d n.side.phase refl)
@@ -493,6 +509,32 @@ safe_lose kn n f x to_n to_f r h = go (frame_cases x)
         let out = one_ua kn n.side.phase n.side.timer x.age (rsets to_f) (uas to_n) (rw b at h.hand.n_out) in
         with (hand_lose_ua kn 0 (peer_of n) (peer_of f) x to_n to_f r q h.hand)
         (live_to Waiting n.side.phase to_n s t (sym out.2) (on_live_part None (behind_ua to_n) s t (behind_none to_n out.1) tt))
+
+-- an end that is Down takes an RSET, and stays as it is
+pub safe_ignore : (n f : Half) (x : OnWire) (v c : ℕ) (to_n to_f : List OnWire) (r : ℕ) → x.frame ≡ Rset v c → n.side.phase ≡ Down
+    → Safe 0 0 n f (x ∷ to_n) to_f r → Safe 0 0 (record n { took = f.emitted }) f to_n to_f r
+safe_ignore n f x v c to_n to_f r frame down h =
+    let g : Half = record n { took = f.emitted } in
+    let t = rset_tells 0 (peer_of n) (peer_of f) x v c to_n to_f r frame h.hand in
+    let s : Safe 0 0 n f to_n to_f r = safe_lose 0 n f x to_n to_f r h in
+    let no_up : n.side.phase ≡ Up → ⊥ = down_not_up n.side.phase down in
+    let m : (P : ℕ → Session → Type 0) → ((k : ℕ) → P k (session_of n k)) → (k : ℕ) → P k (session_of g k) = λ P all k. of_none P n g no_up no_up refl all k in
+    let early : Below (number_of n + 1) n.past = rw down at s.n_past in
+    record {
+      hand = hand_ignore 0 0 (peer_of n) (peer_of f) to_n to_f r down t.0 t.1 s.hand;
+      n_base = m (λ k t. Base t (session_of f k)) s.n_base;
+      f_base = m (λ k t. Base (session_of f k) t) s.f_base;
+      n_live = live_to Down n.side.phase to_n (session_of g (number_of g)) (session_of f (number_of g)) (sym down) tt;
+      f_live = at_number (λ t. OnLive (live f.side.phase to_f) (session_of f (number_of f)) t) (number_of f) g n m s.f_live;
+      n_past = rw down (below_more (number_of n + 1) (number_of g + 1) n.past (omega (arith, h.hand.n_took)) early);
+      f_past = s.f_past;
+      n_none = s.n_none;
+      f_none = s.f_none;
+      n_due = s.n_due;
+      f_due = s.f_due;
+      n_windows = s.n_windows;
+      f_windows = s.f_windows;
+    }
 
 -- all frames grow older
 pub safe_older : (n f : Half) (to_n to_f : List OnWire) (r : ℕ) → Young 4 (older to_n) → Young 4 (older to_f)
@@ -520,3 +562,39 @@ safe_older n f to_n to_f r yn yf h =
 
     part : (p : LinkState) (w : List OnWire) (s t : Session) → OnLive (live p w) s t → OnLive (live p (older w)) s t
     part p w s t g = on_live_part (older_part (live p w)) (live p (older w)) s t (live-older p w) (grown (live p w) s t g)
+
+-- ## The near end is Down, and nothing stands on either wire
+
+pub live_empty : (p : LinkState) (mine theirs : Session) → Base mine theirs → OnLive (live p []) mine theirs
+live_empty Up mine theirs b = active_empty mine theirs b
+live_empty Waiting mine theirs b = tt
+live_empty Down mine theirs b = tt
+
+agrees_down : (p : LinkState) (P : Type 0) → Agrees None (live p []) P
+agrees_down Up P = tt
+agrees_down Waiting P = tt
+agrees_down Down P = tt
+
+pub safe_silent : (kn kn' kf : ℕ) (n f : Half) (q : EndState) (past : List (ℕ × Session)) (to_n to_f : List OnWire) (r : ℕ)
+    → q.due ≡ [] → HasWindows q → Moves n past → Below (number_of n + 1) past → Safe kn kf n f to_n to_f r
+    → Safe kn' kf (record { side = record q { phase = Down; session = no_session }; emitted = n.emitted; took = n.took; past = past }) f [] [] r
+safe_silent kn kn' kf n f q past to_n to_f r due windows move below h =
+    let g : Half = record { side = record q { phase = Down; session = no_session }; emitted = n.emitted; took = n.took; past = past } in
+    let base : (k : ℕ) → Base (session_of f k) (session_of g k) = move (λ k t. Base (session_of f k) t) h.f_base in
+    record {
+      hand =
+          hand_empty kn' kf (peer_of g) (peer_of f) r h.hand.n_took h.hand.f_took h.hand.n_bound h.hand.f_bound
+          (agrees_down f.side.phase (number_of g ≡ number_of f));
+      n_base = move (λ k t. Base t (session_of f k)) h.n_base;
+      f_base = base;
+      n_live = tt;
+      f_live = live_empty f.side.phase (session_of f (number_of f)) (session_of g (number_of f)) (base (number_of f));
+      n_past = below;
+      f_past = h.f_past;
+      n_none = λ _. refl;
+      f_none = h.f_none;
+      n_due = due;
+      f_due = h.f_due;
+      n_windows = record { own = windows.own; peer = windows.peer };
+      f_windows = h.f_windows;
+    }

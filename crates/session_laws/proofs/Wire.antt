@@ -233,7 +233,8 @@ behind_push_none [] x n h = behind_step_none x.frame [] None n refl
 behind_push_none (y ∷ w) x n h = behind_step_push_none y.frame w x (behind_ua w) (behind_ua (w ++ x ∷ [])) (behind_push_none w x n) h
 
 -- a new UA leads into a session where no RSET stands before it
-pub behind_new : (w : List OnWire) (x : OnWire) → x.frame ≡ Ua → uas w ≡ [] → (behind_ua (w ++ x ∷ []) ≡ None) ⊎ ((behind_ua (w ++ x ∷ []) ≡ Some []) × (rsets w ≡ []))
+pub behind_new : (w : List OnWire) (x : OnWire) → x.frame ≡ Ua → uas w ≡ [] → (behind_ua (w ++ x ∷ []) ≡ None)
+    ⊎ ((behind_ua (w ++ x ∷ []) ≡ Some []) × (rsets w ≡ []))
 behind_new [] x e u = inr (rw e refl, refl)
 behind_new (y ∷ w) x e u = go y.frame y.age u (behind_new w x e)
   where

@@ -1,0 +1,8 @@
+pub mod Ends
+pub mod Calm
+pub mod Project
+pub mod Steps
+pub mod Runs
+pub mod Whole
+pub mod Quiet
+mod Examples

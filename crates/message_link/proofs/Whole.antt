@@ -1,0 +1,279 @@
+-- What is true of every run of a link over messages.
+use Rattle.std.proofs.Common.{◌≡◌, ℕ, zero, suc, ◌≤◌, ◌-◌, Bool, true, false, List, [], ◌∷◌, ◌++◌, length, take, map, inl, refl, ap, sym, subst, ◌∙◌, arith, length-append, append_assoc}
+use Rattle.std.proofs.lemmas.List.{length-map}
+use Rattle.std.specs.Prelude.{Some, nat_le, ◌==◌}
+use Rattle.std.proofs.lemmas.Bool.{leb-true, ne_eqb, true≢false}
+use Rattle.swp_base.specs.declared.link_terms.Cause.TheVariants.{Chain}
+use Rattle.swp_base.specs.declared.control_frames.Control.{Control}
+use Rattle.swp_base.specs.declared.control_frames.Control.TheVariants.{I, S, Rset, Ua, Act, Clt}
+use Rattle.shdlc_core.specs.declared.answers.LinkState.{LinkState}
+use Rattle.shdlc_core.specs.declared.answers.LinkState.TheVariants.{Down, Waiting, Up}
+use Rattle.shdlc_core.specs.Machine.{EndState, taken, take_answer}
+use Rattle.hcp_packet.specs.Packets.{packets_of, packet_count, bytes_of, fragments_of, good_of, good_messages_of, AreSendable, IsFrontOf}
+use Rattle.hcp_packet.proofs.Joining.{packets_are_counted, good_messages_are_a_front, whole_messages_have_come}
+use Rattle.message_laws.specs.Sending.{AreShort}
+use Rattle.message_laws.proofs.TakenLemmas.{all_given}
+use Rattle.link_laws.specs.Order.{InOrder as CoreInOrder}
+use Rattle.session_laws.specs.Sessions.{OnWire, AllAllowed as CoreAllAllowed, IsStart as CoreIsStart, after as core_after, session_of}
+use Rattle.session_laws.specs.Sessions.IsStart.{BothUp, BothDown}
+use Rattle.link_machine.specs.Machine.{Message, LinkEnd, is_faulty, messages_got, whole_among, ended_by, ended_by_act, act_answer, is_open, new_link_end}
+use Rattle.link_machine.specs.Machine.Role.{Bare, Clf, Uicc}
+use Rattle.link_machine.specs.Machine.LinkInput.{Take}
+use Rattle.message_link.specs.Links.{Talk, Half, Link, LinkEvent, IsStart, new_half, exchanged, after, talk_of, AllAllowed}
+use Rattle.message_link.specs.Links.IsStart.{IsBare, IsLine}
+use Rattle.swp_act.specs.declared.ActEvent.{ActEvent}
+use Rattle.swp_act.specs.declared.ActEvent.TheVariants.{Take as ActTake}
+use Rattle.swp_act.specs.Activation.{new_clf, new_uicc}
+use Rattle.session_laws.specs.Sessions.{Link as CoreLink, number_of as core_number_of}
+use Rattle.session_laws.proofs.Data.{Below, bound}
+use Rattle.session_laws.proofs.Steps.{agree, safe}
+use Rattle.message_link.specs.Links.{no_talk, ended_talk, number_of}
+use Rattle.message_link.specs.Projection.{core_past}
+use Rattle.message_link.specs.Order.{InOrder}
+use Rattle.message_link.specs.Projection.{core_of, core_half, core_events}
+use Rattle.message_link.proofs.Project.{Says, Tells}
+use Rattle.message_link.proofs.Steps.{FromHost, says_of, session-core, core_first, no_fault_first}
+use Rattle.message_link.proofs.Calm.{Line}
+use Rattle.message_link.proofs.Runs.{Reached, Run, run, ordered, from_host, from_controller, events_allowed}
+
+bare_tells : Tells (new_half (new_link_end Bare))
+bare_tells =
+    record {
+      now = record { acts = refl; idle = λ n. absurd (n refl); closed = λ q. absurd (true≢false q); says = record { out = refl; short = tt } };
+      past = tt;
+    }
+
+clf_tells : Tells (new_half (new_link_end (Clf new_clf)))
+clf_tells = record { now = record { acts = refl; idle = λ _. (refl, refl); closed = λ _. refl; says = record { out = refl; short = tt } }; past = tt }
+
+uicc_tells : Tells (new_half (new_link_end (Uicc new_uicc)))
+uicc_tells = record { now = record { acts = refl; idle = λ _. (refl, refl); closed = λ _. refl; says = record { out = refl; short = tt } }; past = tt }
+
+new_calm : Line new_clf new_uicc [] []
+new_calm = record { clf = λ a. absurd (true≢false (sym a)); ready = inl tt; tail = tt; plain = tt; last = λ a. absurd (true≢false (sym a)) }
+
+pub from_start : (l : Link) → IsStart l → (events : List LinkEvent) → AllAllowed l events
+    → Run l (after l events) (core_after (core_of l) (core_events l events))
+from_start l IsBare events a =
+    run events l a (record { controller = bare_tells; host = bare_tells; calm = tt })
+    (record { start = core_of l; starts = BothUp; events = []; allowed = tt; is = refl })
+from_start l IsLine events a =
+    run events l a (record { controller = clf_tells; host = uicc_tells; calm = new_calm })
+    (record { start = core_of l; starts = BothDown; events = []; allowed = tt; is = refl })
+
+pub core_starts : (l : Link) → IsStart l → CoreIsStart (core_of l)
+core_starts l IsBare = BothUp
+core_starts l IsLine = BothDown
+
+pub allowed : (l : Link) → IsStart l → (events : List LinkEvent) → AllAllowed l events → CoreAllAllowed (core_events l events)
+allowed l s events a = events_allowed l events a
+
+pub projected : (l : Link) → IsStart l → (events : List LinkEvent) → AllAllowed l events
+    → core_of (after l events) ≡ core_after (core_of l) (core_events l events)
+projected l s events a = (from_start l s events a).core
+
+reached : (l : Link) → IsStart l → (events : List LinkEvent) (a : AllAllowed l events) → Reached (core_of (after l events))
+reached l s events a = let r = from_start l s events a in subst Reached (sym r.core) r.reached
+
+-- ## In order
+
+pub sendable : (ms : List Message) → AreShort ms → AreSendable ms
+sendable [] h = tt
+sendable (m ∷ ms) h = (h.0.0, sendable ms h.1)
+
+-- of two fronts the shorter one is a front of the other
+front_of_front : {X : Type 0} (xs ys all : List X) → IsFrontOf xs all → IsFrontOf ys all → length xs ≤ length ys → IsFrontOf xs ys
+front_of_front [] ys all a b i = (ys, refl)
+front_of_front (x ∷ xs) [] all a b i = absurd (omega (arith, i))
+front_of_front (x ∷ xs) (y ∷ ys) [] a b i = absurd (let z = a.1 in cc)
+front_of_front (x ∷ xs) (y ∷ ys) (z ∷ all) a b i =
+    let p = a.1 in
+    let q = b.1 in
+    let same : x ≡ y = cc in
+    let s : xs ++ a.0 ≡ all = cc in
+    let t : ys ++ b.0 ≡ all = cc in
+    let f = front_of_front xs ys all (a.0, s) (b.0, t) (omega (arith, i)) in
+    (f.0, ap (λ w. w ∷ (xs ++ f.0)) same ∙ ap (λ ws. y ∷ ws) f.1)
+
+taken_front : (n : ℕ) (ms : List Message) → IsFrontOf (fragments_of (take n ms)) (fragments_of ms)
+taken_front zero ms = (fragments_of ms, refl)
+taken_front (suc n) [] = ([], refl)
+taken_front (suc n) (m ∷ ms) =
+    let f = taken_front n ms in
+    (f.0, append_assoc (map bytes_of (packets_of m.0 m.1)) (fragments_of (take n ms)) f.0 ∙ ap (λ fs. map bytes_of (packets_of m.0 m.1) ++ fs) f.1)
+
+whole_fits : (ms : List Message) (n : ℕ) → length (fragments_of (take (whole_among ms n) ms)) ≤ n
+whole_fits [] n = omega arith
+whole_fits (m ∷ ms) n = go (nat_le (packet_count (length m.1)) n) refl (whole_fits ms (n - packet_count (length m.1)))
+  where
+    go : (b : Bool) → nat_le (packet_count (length m.1)) n ≡ b → length (fragments_of (take (whole_among ms (n - packet_count (length m.1))) ms)) ≤ n
+        - packet_count (length m.1)
+        → length (fragments_of (take (whole_among (m ∷ ms) n) (m ∷ ms))) ≤ n
+    go false q later = rw q (omega arith)
+    go true q later =
+        let i = leb-true (packet_count (length m.1)) n q in
+        let a = length-append (map bytes_of (packets_of m.0 m.1)) (fragments_of (take (whole_among ms (n - packet_count (length m.1))) ms)) in
+        let b = length-map (packets_of m.0 m.1) bytes_of ∙ packets_are_counted m.0 m.1 in
+        rw q (omega (arith, i, a, b, later))
+
+in_messages : (s r : Talk) → Says s → CoreInOrder s.session r.session → InOrder s r
+in_messages s r says o =
+    let front : IsFrontOf r.session.acc (fragments_of s.sent) = (o.front.0, o.front.1 ∙ says.out) in
+    let given : messages_got r.session ≡ good_messages_of r.session.acc = ap good_of (all_given s.sent r.session.acc says.short front) in
+    let k : ℕ = whole_among s.sent s.session.acked in
+    let part : IsFrontOf (fragments_of (take k s.sent)) r.session.acc =
+    front_of_front (fragments_of (take k s.sent)) r.session.acc (fragments_of s.sent) (taken_front k s.sent) front
+    (omega (arith, whole_fits s.sent s.session.acked, o.acked)) in
+    record {
+      got = let f = good_messages_are_a_front s.sent r.session.acc (sendable s.sent says.short) front in (f.0, ap (λ ms. ms ++ f.0) given ∙ f.1);
+      acked =
+          let f = whole_messages_have_come (take k s.sent) r.session.acc (sendable (take k s.sent) (short_take k s.sent says.short)) part in
+          (f.0, f.1 ∙ sym given);
+    }
+  where
+    short_take : (n : ℕ) (ms : List Message) → AreShort ms → AreShort (take n ms)
+    short_take zero ms h = tt
+    short_take (suc n) [] h = tt
+    short_take (suc n) (m ∷ ms) h = (h.0, short_take n ms h.1)
+
+pub in_order_here : (l : Link) → IsStart l → (events : List LinkEvent) → AllAllowed l events → (n : ℕ)
+    → InOrder (talk_of (after l events).controller n) (talk_of (after l events).host n)
+in_order_here l s events a n =
+    let m = after l events in
+    let o = (ordered (core_of m) (reached l s events a)).there n in
+    let g = (from_start l s events a).good in
+    in_messages (talk_of m.controller n) (talk_of m.host n) (says_of m.controller n g.controller)
+    (subst (λ z. CoreInOrder z (talk_of m.host n).session) (session-core m.controller n)
+    (subst (λ r. CoreInOrder (session_of (core_half m.controller) n) r) (session-core m.host n) o))
+
+pub in_order_there : (l : Link) → IsStart l → (events : List LinkEvent) → AllAllowed l events → (n : ℕ)
+    → InOrder (talk_of (after l events).host n) (talk_of (after l events).controller n)
+in_order_there l s events a n =
+    let m = after l events in
+    let o = (ordered (core_of m) (reached l s events a)).here n in
+    let g = (from_start l s events a).good in
+    in_messages (talk_of m.host n) (talk_of m.controller n) (says_of m.host n g.host)
+    (subst (λ z. CoreInOrder z (talk_of m.controller n).session) (session-core m.host n)
+    (subst (λ r. CoreInOrder (session_of (core_half m.host) n) r) (session-core m.controller n) o))
+
+-- ## No chain fault
+
+never_chain : (e : EndState) (c : Control) → (take_answer e c).ended ≡ Some Chain → ⊥
+never_chain e c h = go e.phase refl c h
+  where
+    go : (p : LinkState) → e.phase ≡ p → (c : Control) → (take_answer e c).ended ≡ Some Chain → ⊥
+    go Up p (Rset w caps) h = by (w == 0) refl
+      where
+        by : (b : Bool) → (w == 0) ≡ b → ⊥
+        by true q = let z = rw (p, q) at h in cc
+        by false q = let z = rw (p, q) at h in cc
+    go Up p (I _ _ _) h = let z = rw p at h in cc
+    go Up p (S _ _) h = let z = rw p at h in cc
+    go Up p Ua h = let z = rw p at h in cc
+    go Up p (Act _ _) h = let z = rw p at h in cc
+    go Up p Clt h = let z = rw p at h in cc
+    go Waiting p (Rset w caps) h = let z = rw p at h in cc
+    go Waiting p (I _ _ _) h = let z = rw p at h in cc
+    go Waiting p (S _ _) h = let z = rw p at h in cc
+    go Waiting p Ua h = let z = rw p at h in cc
+    go Waiting p (Act _ _) h = let z = rw p at h in cc
+    go Waiting p Clt h = let z = rw p at h in cc
+    go Down p (Rset w caps) h = by (w == 0) refl
+      where
+        by : (b : Bool) → (w == 0) ≡ b → ⊥
+        by true q = let z = rw (p, q) at h in cc
+        by false q = let z = rw (p, q) at h in cc
+    go Down p (I _ _ _) h = let z = rw p at h in cc
+    go Down p (S _ _) h = let z = rw p at h in cc
+    go Down p Ua h = let z = rw p at h in cc
+    go Down p (Act _ _) h = let z = rw p at h in cc
+    go Down p Clt h = let z = rw p at h in cc
+
+act_not_chain : (e : LinkEnd) (event : ActEvent) → ended_by_act e event ≡ Some Chain → ⊥
+act_not_chain e event h = go (act_answer e.role event).ended_link e.shdlc.phase refl refl
+  where
+    go : (b : Bool) (p : LinkState) → (act_answer e.role event).ended_link ≡ b → e.shdlc.phase ≡ p → ⊥
+    go false p q r = let z = rw q at h in cc
+    go true Up q r = let z = rw (q, r) at h in cc
+    go true Waiting q r = let z = rw (q, r) at h in cc
+    go true Down q r = let z = rw (q, r) at h in cc
+
+not_chain : (e : LinkEnd) (c : Control) → (is_open e.role ≡ true → is_faulty (taken e.shdlc c).session ≡ false) → ended_by e (Take c) ≡ Some Chain → ⊥
+not_chain e (Act a b) f q = act_not_chain e (ActTake a b) q
+not_chain e (I ns nr info) f q = shdlc (is_open e.role) refl
+  where
+    shdlc : (b : Bool) → is_open e.role ≡ b → ⊥
+    shdlc true o = never_chain e.shdlc (I ns nr info) (let z = q in rw (o, f o) at z)
+    shdlc false o = let z = rw o at q in cc
+not_chain e (S kind nr) f q = shdlc (is_open e.role) refl
+  where
+    shdlc : (b : Bool) → is_open e.role ≡ b → ⊥
+    shdlc true o = never_chain e.shdlc (S kind nr) (let z = q in rw (o, f o) at z)
+    shdlc false o = let z = rw o at q in cc
+not_chain e (Rset w caps) f q = shdlc (is_open e.role) refl
+  where
+    shdlc : (b : Bool) → is_open e.role ≡ b → ⊥
+    shdlc true o = never_chain e.shdlc (Rset w caps) (let z = q in rw (o, f o) at z)
+    shdlc false o = let z = rw o at q in cc
+not_chain e Ua f q = shdlc (is_open e.role) refl
+  where
+    shdlc : (b : Bool) → is_open e.role ≡ b → ⊥
+    shdlc true o = never_chain e.shdlc Ua (let z = q in rw (o, f o) at z)
+    shdlc false o = let z = rw o at q in cc
+not_chain e Clt f q = shdlc (is_open e.role) refl
+  where
+    shdlc : (b : Bool) → is_open e.role ≡ b → ⊥
+    shdlc true o = never_chain e.shdlc Clt (let z = q in rw (o, f o) at z)
+    shdlc false o = let z = rw o at q in cc
+
+pub no_chain_here : (l : Link) → IsStart l → (events : List LinkEvent) → AllAllowed l events → (x : OnWire) (xs : List OnWire)
+    → (after l events).to_controller ≡ x ∷ xs
+    → ended_by (after l events).controller.side (Take x.frame) ≡ Some Chain → ⊥
+no_chain_here l s events a x xs q =
+    let m = after l events in
+    let g = (from_start l s events a).good in
+    not_chain m.controller.side x.frame
+    (λ o. no_fault_first m x xs q g.controller g.host o (subst FromHost (core_first (core_of m) [] x xs q) (from_host (core_of m) (reached l s events a))))
+
+pub no_chain_there : (l : Link) → IsStart l → (events : List LinkEvent) → AllAllowed l events → (x : OnWire) (xs : List OnWire)
+    → (after l events).to_host ≡ x ∷ xs
+    → ended_by (after l events).host.side (Take x.frame) ≡ Some Chain → ⊥
+no_chain_there l s events a x xs q =
+    let m = after l events in
+    let k : Link = exchanged m in
+    let g = (from_start l s events a).good in
+    not_chain m.host.side x.frame
+    (λ o. no_fault_first k x xs q g.host g.controller o
+    (subst FromHost (core_first (core_of k) [] x xs q) (from_controller (core_of m) (reached l s events a))))
+
+-- ## One number
+
+pub one_number : (l : Link) → IsStart l → (events : List LinkEvent) → AllAllowed l events
+    → (after l events).controller.side.shdlc.phase ≡ Up → (after l events).host.side.shdlc.phase ≡ Up
+    → number_of (after l events).controller ≡ number_of (after l events).host
+one_number l s events a p q =
+    let r = reached l s events a in
+    let P : CoreLink → Type 0 = λ c. c.controller.side.phase ≡ Up → c.host.side.phase ≡ Up → core_number_of c.controller ≡ core_number_of c.host in
+    subst P r.is (agree r.start r.starts r.events r.allowed) p q
+
+-- a session that goes on has a number that no ended one has
+fresh_past : (past : List (ℕ × Talk)) (n : ℕ) → Below n (core_past past) → ended_talk past n ≡ no_talk
+fresh_past [] n b = refl
+fresh_past (x ∷ xs) n b = let d : (n == x.0) ≡ false = ne_eqb n x.0 (λ z. omega (arith, z, b.0)) in rw d (fresh_past xs n b.1)
+
+new_number : (h : Half) → h.side.shdlc.phase ≡ Up → Below (bound (core_half h)) (core_past h.past) → ended_talk h.past (number_of h) ≡ no_talk
+new_number h up b = fresh_past h.past (number_of h) (rw up at b)
+
+pub new_number_here : (l : Link) → IsStart l → (events : List LinkEvent) → AllAllowed l events → (after l events).controller.side.shdlc.phase ≡ Up
+    → ended_talk (after l events).controller.past (number_of (after l events).controller) ≡ no_talk
+new_number_here l s events a up =
+    let r = reached l s events a in
+    let P : CoreLink → Type 0 = λ c. Below (bound c.controller) c.controller.past in
+    new_number (after l events).controller up (subst P r.is (safe r.start r.starts r.events r.allowed).n_past)
+
+pub new_number_there : (l : Link) → IsStart l → (events : List LinkEvent) → AllAllowed l events → (after l events).host.side.shdlc.phase ≡ Up
+    → ended_talk (after l events).host.past (number_of (after l events).host) ≡ no_talk
+new_number_there l s events a up =
+    let r = reached l s events a in
+    let P : CoreLink → Type 0 = λ c. Below (bound c.host) c.host.past in
+    new_number (after l events).host up (subst P r.is (safe r.start r.starts r.events r.allowed).f_past)
