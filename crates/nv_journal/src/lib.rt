@@ -1,6 +1,13 @@
 //! What is wrong with a node's memory image. The journal of two banks that finds it is not built yet.
 #![tactic(auto)]
 
+mod banks;
+mod journal;
+mod records;
+
+pub use banks::{open_bank, replace_bank};
+pub use journal::Journal;
+pub use records::write_record;
 use thiserror::Error;
 
 /// Why a memory image can't be used. All of it is this project's own.
@@ -19,3 +26,6 @@ pub enum JournalFault {
     #[error("generations spent")]
     GenerationsSpent,
 }
+
+#[cfg(test)]
+mod tests;
