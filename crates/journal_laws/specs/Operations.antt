@@ -8,7 +8,7 @@ use Rattle.journal_laws.specs.declared.state.State.{State}
 use Rattle.journal_laws.specs.Writes.{Write, write, after, IsCut, FitIn, last_place}
 use Rattle.journal_laws.specs.Banks.{other, place, is_open, current}
 use Rattle.journal_laws.specs.Records.{IsBody, record_bytes, records_bytes, used}
-use Rattle.journal_laws.specs.Journal.{next_place, left, count_of, journal, state_of}
+use Rattle.journal_laws.specs.Journal.{next_place, left, count_of, journal}
 
 -- ---- writes
 
@@ -87,6 +87,12 @@ compacted s bodies = record {
 abbrev pub outcome : ℕ → List Write → List ℕ → List ℕ → List ℕ
 outcome k writes content left =
     if k + 1 == length writes && is_open (slice_index left (last_place writes)) then after writes content else content
+
+-- what a cut leaves: which of the writes it came in, and for which memory that stands
+pub record LeftByCut (writes : List Write) (content left : List ℕ) : Type 0 where
+  pub whole : ℕ
+  pub cut : IsCut whole writes content left
+  pub says : journal left ≡ journal (outcome whole writes content left)
 
 -- These writes lie in the memory, and wherever they are cut, it says what it said before them, or what it says after all of
 -- them.

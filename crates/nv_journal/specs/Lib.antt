@@ -1,2 +1,3 @@
 pub mod Faults
-pub mod Stands
+pub mod Kept
+pub mod Snapshots

@@ -1,47 +1,158 @@
 //! A journal over a memory.
-ghost use Rattle.std.specs.Prelude.{◌≡◌, ◌+◌, ◌≤◌, ◌++◌, ℕ, [], ◌∷◌, length, IsTrue, is_ok, OnOk, OnErr};
-ghost use Rattle.journal_laws.specs.Records.{IsBody};
-ghost use Rattle.journal_laws.specs.Writes.{AreMade, IsCut};
-ghost use Rattle.journal_laws.specs.Journal.{records};
-ghost use Rattle.journal_laws.specs.Operations.{record_writes, append_writes};
+ghost use Rattle.std.specs.Prelude.{◌≡◌, ◌+◌, ◌≤◌, ◌<◌, ◌++◌, ◌↔◌, ℕ, ◌⊎◌, [], ◌∷◌, length, Err, Some, false, IsTrue, IsSome, is_ok, OnOk, OnErr, IfErr};
+ghost use Rattle.swp_base.specs.Outside.{Rose};
+ghost use Rattle.journal_laws.specs.Writes.{AreMade};
+ghost use Rattle.journal_laws.specs.Journal.{records, count_of, count, left};
+ghost use Rattle.journal_laws.specs.Operations.{append_writes, compact_writes, HasRoom, appended, compacted, LeftByCut};
 
 use crate::records::write_record;
-use swp_base::{Failed, Nv};
+use crate::{JournalFault, Snapshot, banks};
+use arrayvec::ArrayVec;
+use journal_laws::State;
+use std::marker::Model;
+use swp_base::{MemNv, Nv};
 
-/// A journal in use.
+/// A journal over a memory of 65,536 bytes. Contracts see the memory, what is known of it, and whether the journal may be
+/// used: a live journal over a memory that tells its content knows what that says, and nothing is wrong with it.
 #[derive(Drop)]
-pub struct Journal<N: Drop> {
-    /// The memory.
-    pub nv: N,
-    /// Where the bank in use begins.
-    pub bank: u32,
-    pub version: u8,
-    /// The place of the first closed gate in that bank.
-    pub next: u32,
-    /// How many records stand there.
-    pub position: u16,
+pub struct Journal<N: Nv + Drop> {
+    nv: N,
+    state: State,
+    live: bool,
+}
+
+impl<N: Nv + Drop> Model for Journal<N> {
+    ghost use Rattle.nv_journal.specs.Kept.{Kept, IsKept};
+
+    ghost Value = { Kept N };
+
+    ghost view = { λ j. record { nv = j.nv; state = j.state; live = j.live } };
+
+    ghost invariant = { λ j. IsKept N.tells N.capacity N.content (record { nv = j.nv; state = j.state; live = j.live }) };
 }
 
 impl<N: Nv + Drop> Journal<N> {
-    ghost use Rattle.nv_journal.specs.Stands.{Stands};
+    ghost use Rattle.nv_journal.specs.Kept.{Says};
 
-    /// Appends a record.
-    pub fn append(&mut self, body: &[u8]) -> Result<(), Failed>
-        requires stands { Stands N.tells N.capacity N.content self.old }
-        requires version { self.old.version ≡ 2 }
-        requires short { IsBody body.now }
-        requires room { self.old.next + length body.now + 5 ≤ 32768 }
-        ensures made { AreMade N.writes (record_writes (self.old.bank + self.old.next) self.old.position body.now) self.old.nv
-            (is_ok result) self.new.nv }
-        ensures stands { OnOk result (Stands N.tells N.capacity N.content self.new) }
+    /// Appends a record of 1 to 61 bytes. The body is written before its gate, in a write of its own. Where a write fails, the
+    /// journal is not live any more: a start on its memory gives the records from before, or these and the new one.
+    pub fn append(&mut self, body: &[u8]) -> Result<(), JournalFault>
+        requires live { IsTrue self.old.live }
+        requires room { HasRoom self.old.state body.now }
+        ensures made { AreMade N.writes (append_writes self.old.state body.now) self.old.nv (is_ok result) self.new.nv }
+        ensures state { OnOk result (self.new.state ≡ appended self.old.state body.now) }
+        ensures live { self.new.live ≡ is_ok result }
+
+        // Only a failing write is a cause of a fault.
+        ensures fault { IfErr result (λ f. f ≡ JournalFault.NvFault) }
+        ensures count { N.faults self.old.nv ≤ N.faults self.new.nv }
+        ensures rose { OnErr result (Rose (N.faults self.old.nv) (N.faults self.new.nv)) }
+
+        // What a memory says that tells its content.
+        ensures said { IsTrue N.tells → Says (N.content self.old.nv) self.old.state }
         ensures records { IsTrue N.tells
             → OnOk result (records (N.content self.new.nv) ≡ records (N.content self.old.nv) ++ body.now ∷ []) }
-        ensures cut { IsTrue N.tells → OnErr result ((k : ℕ)
-            × IsCut k (append_writes (N.content self.old.nv) body.now) (N.content self.old.nv) (N.content self.new.nv)) }
+        ensures cut { IsTrue N.tells → OnErr result
+            (LeftByCut (append_writes self.old.state body.now) (N.content self.old.nv) (N.content self.new.nv)) }
     {
-        write_record(&mut self.nv, self.bank + self.next, self.position, body)?;
-        self.next += body.len() as u32 + 4;
-        self.position += 1;
+        let at = self.state.next_place();
+        self.live = false;
+        write_record(&mut self.nv, at, self.state.many, body)?;
+        self.state.many += 1;
+        self.state.size += 4 + body.len() as u32;
+        self.live = true;
         Ok(())
+    }
+
+    /// Goes on in the other bank with these records in the place of all records so far, and with the same count. Where a write
+    /// fails, the journal is not live any more: a start on its memory gives the records from before, or those of the snapshot.
+    pub fn compact(&mut self, snapshot: &Snapshot) -> Result<(), JournalFault>
+        requires live { IsTrue self.old.live }
+        requires started { IsSome self.old.state.in_use }
+        ensures spent { (result ≡ Err JournalFault.GenerationsSpent) ↔ (self.old.state.generation ≡ 4294967295) }
+        ensures unchanged { result ≡ Err JournalFault.GenerationsSpent → self.new ≡ self.old }
+        ensures made { self.old.state.generation < 4294967295 → AreMade N.writes
+            (compact_writes self.old.state snapshot.now) self.old.nv (is_ok result) self.new.nv }
+        ensures state { OnOk result (self.new.state ≡ compacted self.old.state snapshot.now) }
+        ensures live { OnOk result (IsTrue self.new.live) }
+
+        // Only a failing write is a cause of the other fault.
+        ensures fault { IfErr result (λ f. (f ≡ JournalFault.NvFault) ⊎ (f ≡ JournalFault.GenerationsSpent)) }
+        ensures dead { result ≡ Err JournalFault.NvFault → self.new.live ≡ false }
+        ensures count { N.faults self.old.nv ≤ N.faults self.new.nv }
+        ensures rose { result ≡ Err JournalFault.NvFault → Rose (N.faults self.old.nv) (N.faults self.new.nv) }
+
+        // What a memory says that tells its content.
+        ensures said { IsTrue N.tells → Says (N.content self.old.nv) self.old.state }
+        ensures records { IsTrue N.tells → OnOk result (records (N.content self.new.nv) ≡ snapshot.now) }
+        ensures cut { IsTrue N.tells → result ≡ Err JournalFault.NvFault → LeftByCut
+            (compact_writes self.old.state snapshot.now) (N.content self.old.nv) (N.content self.new.nv) }
+    {
+        if self.state.generation == u32::MAX {
+            return Err(JournalFault::GenerationsSpent);
+        }
+        self.live = false;
+        self.state = banks::write_snapshot(&mut self.nv, &self.state, snapshot)?;
+        self.live = true;
+        Ok(())
+    }
+
+    /// Whether the journal may be used: no write of it failed.
+    pub fn live(&self) -> bool
+        ensures { result ≡ self.now.live }
+    {
+        self.live
+    }
+
+    /// How many commands were kept, from 0 to 4,294,967,295.
+    pub fn count(&self) -> u32
+        ensures count { result ≡ count_of self.now.state }
+        ensures told { IsTrue self.now.live → IsTrue N.tells → result ≡ count (N.content self.now.nv) }
+    {
+        self.state.count()
+    }
+
+    /// The generation of the bank in use; 0 for a peeked memory that has no bank with an open gate.
+    pub fn generation(&self) -> u32
+        ensures { result ≡ self.now.state.generation }
+    {
+        self.state.generation
+    }
+
+    /// The version of the bank in use, 01 or 02; 02 for a peeked memory that has no bank with an open gate.
+    pub fn version(&self) -> u8
+        ensures version { result ≡ self.now.state.version }
+    {
+        self.state.version
+    }
+
+    /// How many bytes are left in the bank in use, from the next gate on. A record takes its body's length and 4, and the gate
+    /// behind it one more.
+    pub fn left(&self) -> u32
+        ensures { result ≡ left self.now.state }
+    {
+        self.state.left()
+    }
+
+    /// The memory.
+    pub fn into_nv(self) -> N
+        ensures { result ≡ self.nv }
+    {
+        let Journal { nv, .. } = self;
+        nv
+    }
+}
+
+impl Journal<MemNv> {
+    /// Plans that the `nth` write of the memory from now fails, where 1 is the next. Byte i of its range becomes byte i of `fill`,
+    /// modulo its length. An earlier plan is given up. Nothing else changes.
+    pub fn arm(&mut self, nth: u32, fill: ArrayVec<u8, 64>)
+        requires nth { 0 < nth }
+        requires fill { 0 < length fill.items }
+        ensures { self.new ≡ record self.old {
+          nv = record self.old.nv { plan = Some (record { nth = nth; fill = fill.items }) };
+        } }
+    {
+        self.nv.arm(nth, fill);
     }
 }

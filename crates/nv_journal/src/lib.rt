@@ -1,16 +1,18 @@
-//! What is wrong with a node's memory image. The journal of two banks that finds it is not built yet.
+//! The journal of a node: records in a memory of 65,536 bytes with two banks, so that a power cut inside any write leaves the
+//! records from before it or those from after it. All of it is this project's own.
 #![tactic(auto)]
 
 mod banks;
 mod journal;
 mod records;
+mod snapshot;
 
-pub use banks::{open_bank, replace_bank};
 pub use journal::Journal;
-pub use records::write_record;
+pub use snapshot::Snapshot;
+use swp_base::Failed;
 use thiserror::Error;
 
-/// Why a memory image can't be used. All of it is this project's own.
+/// Why a memory image can't be used, or a record not kept. All of it is this project's own.
 #[derive(Clone, Copy, Debug, PartialEq, Eq, Error)]
 pub enum JournalFault {
     /// A read or a write of the memory failed.
@@ -27,5 +29,13 @@ pub enum JournalFault {
     GenerationsSpent,
 }
 
-#[cfg(test)]
-mod tests;
+impl From<Failed> for JournalFault {
+    ghost use Rattle.std.specs.Prelude.{◌≡◌};
+    ghost use Rattle.nv_journal.specs.declared.JournalFault.TheVariants.{NvFault};
+
+    ghost from_gives = { λ _ f. f ≡ NvFault };
+
+    fn from(_: Failed) -> Self {
+        JournalFault::NvFault
+    }
+}

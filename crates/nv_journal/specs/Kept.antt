@@ -1,0 +1,22 @@
+-- What a journal keeps, and what its memory says of that.
+use Rattle.std.specs.Prelude.{◌≡◌, ℕ, ◌*◌, ◌<◌, ◌≤◌, Bool, List, length, IsTrue}
+use Rattle.journal_laws.specs.declared.state.State.{State}
+use Rattle.journal_laws.specs.Journal.{journal, state_of, IsSound}
+
+-- its memory, what it knows of that, and whether it may be used
+pub record Kept (N : Type 0) : Type 0 where
+  pub nv : N
+  pub state : State
+  pub live : Bool
+
+-- the memory says this, and nothing is wrong with it
+pub record Says (content : List ℕ) (state : State) : Type 0 where
+  pub size : 65536 ≤ length content
+  pub state_is : state_of content ≡ state
+  pub sound : IsSound (journal content)
+
+pub record IsKept {N : Type 0} (tells : Bool) (capacity : N → ℕ) (content : N → List ℕ) (kept : Kept N) : Type 0 where
+  pub size : capacity kept.nv ≡ 65536
+  pub inside : kept.state.size < 32756
+  pub few : 3 * kept.state.many ≤ kept.state.size
+  pub says : IsTrue kept.live → IsTrue tells → Says (content kept.nv) kept.state
