@@ -92,15 +92,15 @@ lines_on-quiet wire place (bit ∷ bits) older quiet =
     ∙ lines_on-quiet wire (place + 1) bits (with_reading (Some (symbol_of bit)) place older) quiet.1
 
 -- the front after further bits
-abbrev front_on : ℕ → List Bool → Option ℕ → Option ℕ
+abbrev pub front_on : ℕ → List Bool → Option ℕ → Option ℕ
 front_on place [] before = before
 front_on place (bit ∷ bits) before = front_on (place + 1) bits (front_after (symbol_of bit) place before)
 
-front_of-readings_on : (place : ℕ) (bits : List Bool) (older : List Reading) → front_of (readings_on place bits older) ≡ front_on place bits (front_of older)
+pub front_of-readings_on : (place : ℕ) (bits : List Bool) (older : List Reading) → front_of (readings_on place bits older) ≡ front_on place bits (front_of older)
 front_of-readings_on place [] older = refl
 front_of-readings_on place (bit ∷ bits) older = front_of-readings_on (place + 1) bits (with_reading (Some (symbol_of bit)) place older)
 
-abbrev has_zero : List Bool → Bool
+abbrev pub has_zero : List Bool → Bool
 has_zero [] = false
 has_zero (true ∷ bits) = has_zero bits
 has_zero (false ∷ bits) = true
@@ -112,7 +112,7 @@ front_behind_zero place front ones at (true ∷ bits) h e = front_behind_zero (p
 front_behind_zero place front ones at (false ∷ bits) h e = front_behind_zero (place + 1) place 0 at bits (omega arith) (omega arith)
 
 -- where a 0 is among the bits, the front is the place of the last
-front_at_last_zero : (place ones at : ℕ) (bits : List Bool) (before : Option ℕ) → has_zero bits ≡ true → at + run_after ones bits + 1 ≡ place + length bits
+pub front_at_last_zero : (place ones at : ℕ) (bits : List Bool) (before : Option ℕ) → has_zero bits ≡ true → at + run_after ones bits + 1 ≡ place + length bits
     → front_on place bits before ≡ Some at
 front_at_last_zero place ones at [] before z e = absurd (cc)
 front_at_last_zero place ones at (true ∷ bits) before z e = front_at_last_zero (place + 1) (suc ones) at bits (front_after (symbol_of true) place before) z (omega arith)

@@ -2,3 +2,5 @@ pub mod Hexadecimal
 pub mod FurtherBits
 pub mod Gathering
 pub mod FurtherLines
+pub mod Lanes
+pub mod FewBits

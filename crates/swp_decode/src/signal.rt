@@ -1,7 +1,8 @@
 //! The frames of one direction, and where they start.
-ghost use Rattle.std.specs.Prelude.{ℕ, List, [], ◌∷◌, ◌++◌, ◌≡◌, ◌↔◌, ◌+◌, ◌^◌, ◌<◌, ◌≤◌, length, IsTrue};
+ghost use Rattle.std.specs.Prelude.{ℕ, Bool, List, take, [], ◌∷◌, ◌++◌, ◌≡◌, ◌↔◌, ◌+◌, ◌^◌, ◌<◌, ◌≤◌, length, IsTrue};
 ghost use Rattle.std.specs.Bool.{OnTrue, OnFalse};
 ghost use Rattle.swp_base.specs.Bits.{bits_of_byte};
+ghost use Rattle.swp_crc.specs.Division.{number_of};
 
 use crate::line::{Wire, push_line};
 use crate::words::Text;
@@ -40,14 +41,11 @@ impl SignalReader {
         ensures reads { (older : List Reading) → ReadsSignal self.old older → ReadsSignal self.new (with_reading (Some (symbol_of bit)) place older) }
         ensures answer { (older : List Reading) → ReadsSignal self.old older → result ≡ verdict (symbol_of bit ∷ symbols older) }
     {
-        if bit {
-            self.front = Some(self.front.unwrap_or(place));
-        } else {
-            if self.deframer.is_before_start() {
-                self.start = self.front.unwrap_or(0);
-            }
-            self.front = Some(place);
+        if !bit && self.deframer.is_before_start() {
+            self.start = self.front.unwrap_or(0);
         }
+        let first = self.front.unwrap_or(place);
+        self.front = Some(if bit { first } else { place });
         self.deframer.feed(bit)
     }
 
@@ -111,18 +109,71 @@ impl SignalReader {
         push_line(text, wire, start, &fed);
     }
 
-    /// Reads the bits of eight places bit by bit, the most significant first, and appends the lines of what came with them.
+    /// Reads a few bits, the most significant of this number first, up to the first one with which a mark ends. It answers how
+    /// many it read.
+    #[inline(always)]
+    fn read_quiet(&mut self, bits: u8, width: u8, place: u32) -> u8
+        requires width { width ≤ 8 }
+        requires bits { bits < 2 ^ width }
+        requires place { place + width < 2 ^ 32 }
+        ensures few { result ≤ width }
+        ensures reads { (older : List Reading) (more : List Bool) → ReadsSignal self.old older → length more ≡ width → number_of more ≡ bits
+            → ReadsSignal self.new (readings_on place (take result more) older) }
+        ensures quiet { (older : List Reading) (more : List Bool) → ReadsSignal self.old older → length more ≡ width → number_of more ≡ bits
+            → HasNoMark (symbols older) (take result more) }
+    {
+        let quiet = self.deframer.bits_before_mark(bits, width);
+        if quiet > 0 {
+            self.read_some(bits >> (width - quiet), quiet, place);
+        }
+        quiet
+    }
+
+    /// Reads a few bits at once, the most significant of this number first, where no mark ends with one of them.
+    #[inline(always)]
+    fn read_some(&mut self, bits: u8, width: u8, place: u32)
+        requires some { 0 < width }
+        requires width { width ≤ 8 }
+        requires bits { bits < 2 ^ width }
+        requires place { place + width < 2 ^ 32 }
+        ensures { (older : List Reading) (more : List Bool) → ReadsSignal self.old older → length more ≡ width → number_of more ≡ bits → HasNoMark (symbols older) more
+            → ReadsSignal self.new (readings_on place more older) }
+    {
+        self.deframer.feed_some(bits, width);
+        self.front = Some(if u16::from(bits) + 1 == 1 << width {
+            self.front.unwrap_or(place)
+        } else {
+            // The last 0 stands in front of the 1 bits at the end.
+            place + u32::from(width) - 1 - bits.trailing_ones()
+        });
+    }
+
+    /// Reads the bits of eight places, the most significant first, and appends the lines of what came with them. Those before a
+    /// bit with which a mark ends are read at once, and so are those behind it.
     #[inline(never)]
     pub fn decode_eight(&mut self, text: &mut Text, wire: Wire, bits: u8, place: u32)
-        requires place { place + 7 < 2 ^ 32 }
+        requires place { place + 8 < 2 ^ 32 }
         requires room { length text.old.items + 1024 ≤ 8192 }
         ensures reads { (older : List Reading) → ReadsSignal self.old older → ReadsSignal self.new (readings_on place (bits_of_byte bits) older) }
         ensures items { (older : List Reading) → ReadsSignal self.old older
             → text.new.items ≡ text.old.items ++ lines_on wire place (bits_of_byte bits) older }
         ensures sized { length text.new.items ≤ length text.old.items + 1024 }
     {
-        for i in 0..8u32 {
-            self.decode_bit(text, wire, (bits >> (7 - i)) & 1 == 1, place + i);
+        let mut left = bits;
+        let mut width = 8;
+        while width > 0 {
+            width -= self.read_quiet(left, width, place + (8 - u32::from(width)));
+            left = (u16::from(left) % (1 << width)) as u8;
+            if width > 0 {
+                width -= 1;
+                self.decode_bit(
+                    text,
+                    wire,
+                    left >> width == 1,
+                    place + (7 - u32::from(width)),
+                );
+                left %= 1 << width;
+            }
         }
     }
 

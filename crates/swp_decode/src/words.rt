@@ -34,11 +34,11 @@ fn push_digits(text: &mut Text, n: u32)
     ensures { text.new.items ≡ text.old.items ++ decimal n }
 {
     if n < 10 {
-        push_text(text, &[b'0' + n as u8]);
+        text.push(b'0' + n as u8);
         return;
     }
     push_digits(text, n / 10);
-    push_text(text, &[b'0' + (n % 10) as u8]);
+    text.push(b'0' + (n % 10) as u8);
 }
 
 /// The digits of hexadecimal numbers.

@@ -5,3 +5,4 @@ pub mod WritingLemmas
 pub mod ShortRuns
 pub mod EightBits
 pub mod Gatherings
+pub mod FewBits

@@ -5,6 +5,7 @@ use Rattle.std.proofs.lemmas.Bool.{ne_eqb, ltb-true, and_parts}
 use Rattle.std.proofs.lemmas.List.{reverse-append, reverse-reverse}
 use Rattle.swp_frame.specs.Signal.{Symbol, bit_0, bit_1, symbol_of, run_of, mark_of, no_mark, since_start, unstuffed, read_on, HasNoMark, has_runs_below}
 use Rattle.swp_frame.specs.Kept.{CountsLastZero}
+pub use Rattle.swp_frame.specs.Gathering.{run_after}
 
 -- short runs begin short
 pub short_now : (limit ones : ℕ) (bits : List Bool) → has_runs_below limit ones bits ≡ true → ones < limit
@@ -71,12 +72,6 @@ short_zero since (true ∷ bits) h long = short_zero (bit_1 ∷ since) bits h (o
 short_zero since (false ∷ bits) h long =
     let other : run_of since ≢ 5 = omega (arith, short_now 5 (run_of since) (false ∷ bits) h) in
     counts_on (bit_0 ∷ since) bits (after_zero 5 (run_of since) bits h) (rw (ne_eqb (run_of since) 5 other) refl)
-
--- the run of 1 bits after these bits, where so many stood before
-abbrev pub run_after : ℕ → List Bool → ℕ
-run_after ones [] = ones
-run_after ones (true ∷ bits) = run_after (suc ones) bits
-run_after ones (false ∷ bits) = run_after 0 bits
 
 pub run_of-read_on : (seen : List Symbol) (bits : List Bool) → run_of (read_on seen bits) ≡ run_after (run_of seen) bits
 run_of-read_on seen [] = refl

@@ -4,7 +4,7 @@ ghost use Rattle.swp_crc.specs.Running.{running_of};
 
 use crate::eight::ones_to_five;
 use crate::fed::Fed;
-use crate::gathered::Gathered;
+use crate::gathered::gather;
 use arrayvec::ArrayVec;
 use swp_base::{FrameFault, Lpdu};
 use swp_crc::Register;
@@ -93,9 +93,7 @@ impl Content {
     {
         let is_content = bit || ones != 5;
         self.push_bits(u8::from(bit), u8::from(is_content));
-        if !bit {
-            self.zero = is_content;
-        }
+        self.zero = if bit { self.zero } else { is_content };
     }
 
     /// Appends the bits of a byte, the most significant first, where so many 1 bits in a row stand before them. Those that were
@@ -108,7 +106,7 @@ impl Content {
         if ones < ones_to_five(bits) {
             self.push_whole(bits);
         } else {
-            self.push_unstuffed(bits, ones);
+            self.push_some(bits, 8, ones);
         }
     }
 
@@ -122,16 +120,17 @@ impl Content {
         self.zero = true;
     }
 
-    /// Appends the bits of a byte without those that were put in.
+    /// Appends the bits of a number, at most eight of them, the most significant first, where so many 1 bits in a row stand
+    /// before them. Those that were put in are left out.
     #[inline(never)]
-    fn push_unstuffed(&mut self, bits: u8, ones: u8)
-        requires { ones ≤ 7 }
-        ensures { (since : List Symbol) → KeepsSince self.old since → run_of since ≡ ones → KeepsSince self.new (read_on since (bits_of_byte bits)) }
+    pub fn push_some(&mut self, bits: u8, width: u8, ones: u8)
+        requires width { width ≤ 8 }
+        requires bits { bits < 2 ^ width }
+        requires ones { ones ≤ 7 }
+        ensures { (since : List Symbol) (more : List Bool) → KeepsSince self.old since → length more ≡ width → number_of more ≡ bits → run_of since ≡ ones
+            → KeepsSince self.new (read_on since more) }
     {
-        let mut gathered = Gathered::new(ones, self.zero);
-        for place in 0..8u8 {
-            gathered = gathered.with((bits >> (7 - place)) & 1 == 1);
-        }
+        let gathered = gather(bits, width, ones, self.zero);
         self.push_bits(gathered.value, gathered.width);
         self.zero = gathered.zero;
     }
@@ -171,8 +170,8 @@ fn push_byte(bytes: &mut ArrayVec<u8, 32>, register: &mut Register, byte: u8)
         → register.new ≡ running_of (take (length bytes.new.items - 2) bytes.new.items) }
 {
     let whole = bytes.len();
-    if whole >= 2 {
-        register.push(bytes.as_slice()[whole - 2]);
-    }
     bytes.push(byte);
+    let mut further = *register;
+    further.push(bytes.as_slice()[whole.saturating_sub(2)]);
+    *register = if whole >= 2 { further } else { *register };
 }

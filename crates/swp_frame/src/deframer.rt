@@ -1,11 +1,13 @@
 //! Finds the frames in what is read bit by bit.
-ghost use Rattle.std.specs.Prelude.{IsTrue, ◌↔◌, List, ◌≡◌, ◌≢◌, ◌<◌, ◌≤◌, ◌∷◌, []};
+ghost use Rattle.std.specs.Prelude.{IsTrue, ◌↔◌, List, Bool, length, take, ◌≡◌, ◌≢◌, ◌<◌, ◌≤◌, ◌^◌, ◌∷◌, []};
 ghost use Rattle.std.specs.Bool.{OnTrue, OnFalse};
 ghost use Rattle.swp_base.specs.Bits.{bits_of_byte};
+ghost use Rattle.swp_crc.specs.Division.{number_of};
 
 use crate::content::Content;
 use crate::eight::ones_to_six;
 use crate::fed::Fed;
+use crate::gathered::{before_mark, run_behind};
 use std::mem;
 use swp_base::FrameFault;
 
@@ -75,6 +77,33 @@ impl Deframer {
             content.push_eight(bits, ones);
         }
         true
+    }
+
+    /// How many of a few bits, the most significant of this number first, can be read before one with which a mark ends.
+    #[inline(always)]
+    pub fn bits_before_mark(&self, bits: u8, width: u8) -> u8
+        requires width { width ≤ 8 }
+        requires bits { bits < 2 ^ width }
+        ensures few { result ≤ width }
+        ensures quiet { (seen : List Symbol) (more : List Bool) → StandsFor self.now seen → length more ≡ width → number_of more ≡ bits
+            → HasNoMark seen (take result more) }
+    {
+        before_mark(bits, width, self.ones)
+    }
+
+    /// Reads a few bits at once, the most significant of this number first, where no mark ends with one of them.
+    #[inline(always)]
+    pub fn feed_some(&mut self, bits: u8, width: u8)
+        requires width { width ≤ 8 }
+        requires bits { bits < 2 ^ width }
+        ensures { (seen : List Symbol) (more : List Bool) → StandsFor self.old seen → length more ≡ width → number_of more ≡ bits → HasNoMark seen more
+            → StandsFor self.new (read_on seen more) }
+    {
+        let ones = self.ones;
+        self.ones = run_behind(bits, width, ones);
+        if let Some(content) = &mut self.content {
+            content.push_some(bits, width, ones);
+        }
     }
 
     /// Reads a break: an open frame is refused as broken, and a start of frame is awaited.

@@ -1,15 +1,18 @@
 //! The command `decode`: a record of a line in, a line of text for each frame or fault out.
 ghost use Rattle.std.specs.Prelude.{◌≡◌, ◌≢◌, ◌≤◌, ◌<◌, ◌+◌, ◌++◌, [], ◌∷◌, List, ℕ, length, take, IsTrue, OnOk, OnErr, IfOk, IfErr, Ok, Err, true, false};
 ghost use Rattle.swp_base.specs.Outside.{Rose};
-ghost use Rattle.swp_tool.specs.Decodings.{IsDecoding, HasDecoded, DecodedBy, IsFrontOfLines, IsFrontOfSome};
+ghost use Rattle.swp_tool.specs.Decodings.{most_bytes, IsDecoding, HasDecoded, DecodedBy, IsFrontOfLines, IsFrontOfSome};
 
 use crate::output::write_all;
 use crate::status::Status;
 use swp_base::{Failed, Sink, Source};
 use swp_decode::{Decoder, Text};
 
-/// The most bytes that are read at once.
-const PIECE: usize = 4096;
+/// The most bytes that are read at once: few enough for the processor's first cache.
+const PIECE: usize = 8192;
+
+/// The most bytes that are read at once where the end of the longest record is near.
+const LAST_PIECE: usize = 4096;
 
 /// The most text that is gathered before a step: behind it there is room for the lines of eight bytes.
 const MOST_GATHERED: usize = 6144;
@@ -227,6 +230,20 @@ fn close_record<K: Sink>(sink: &mut K, decoding: &mut Decoding) -> Status
     Status::Done
 }
 
+/// How many bytes are read at once behind so many of the record: at most 4,096 behind the last byte that a record may have.
+fn piece_behind(count: u32) -> usize
+    requires { count ≤ 16777216 }
+    ensures some { 0 < result }
+    ensures most { result ≤ 8192 }
+    ensures ahead { count + result ≤ 16777216 + 4096 }
+{
+    if count as usize + PIECE > Decoder::MAX_BYTES as usize {
+        LAST_PIECE
+    } else {
+        PIECE
+    }
+}
+
 /// Reads a piece of the record and decodes it. `Ok(false)` says that the record has ended.
 fn pump_record<S: Source, K: Sink>(
     source: &mut S,
@@ -235,7 +252,7 @@ fn pump_record<S: Source, K: Sink>(
     buffer: &mut [u8],
 ) -> Result<bool, Status>
     requires few { decoding.old.decoder.count ≤ 16777216 }
-    requires room { 0 < length buffer.old }
+    requires room { length buffer.old ≡ 8192 }
     ensures reads { S.faults source.old ≤ S.faults source.new }
     ensures writes { K.faults sink.old ≤ K.faults sink.new }
     ensures read_fault { result ≡ Err Status.ReadFault → Rose (S.faults source.old) (S.faults source.new) }
@@ -250,11 +267,14 @@ fn pump_record<S: Source, K: Sink>(
     ensures ends { IsTrue S.tells → IfErr result (λ status. (input before : List ℕ) →
         HasDecoded K.tells decoding.old input (S.left source.old) before (K.written sink.old)
         → DecodedBy K.tells status input (S.left source.new) before (K.written sink.new)) }
+    ensures ahead { IsTrue S.tells →
+        decoding.old.decoder.count + length (S.left source.old) ≤ 16777216 + 4096 + length (S.left source.new) }
 {
-    match source.read(buffer) {
+    let piece = &mut buffer[..piece_behind(decoding.decoder.count)];
+    match source.read(piece) {
         Err(Failed) => Err(Status::ReadFault),
         Ok(0) => Ok(false),
-        Ok(n) => match take_record(sink, decoding, &buffer[..n]) {
+        Ok(n) => match take_record(sink, decoding, &piece[..n]) {
             Ok(()) => Ok(true),
             Err(status) => Err(status),
         },
@@ -267,6 +287,7 @@ pub fn decode<S: Source, K: Sink>(source: &mut S, sink: &mut K) -> Status
     ensures write_fault { result ≡ Status.WriteFault → Rose (K.faults sink.old) (K.faults sink.new) }
     ensures decoded { IsTrue S.tells →
         DecodedBy K.tells result (S.left source.old) (S.left source.new) (K.written sink.old) (K.written sink.new) }
+    ensures ahead { IsTrue S.tells → length (S.left source.old) ≤ most_bytes + 4096 + length (S.left source.new) }
     ensures words { result ≢ Status.BadWords }
 {
     let mut decoding = Decoding {

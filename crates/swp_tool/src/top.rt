@@ -1,5 +1,5 @@
 //! The top call.
-ghost use Rattle.std.specs.Prelude.{◌≡◌, ◌≢◌, ◌≤◌, ◌<◌, ◌++◌, ◌∷◌, ◌↔◌, ◌⊎◌, [], List, ℕ, length, map, string_bytes, codes, Some, None, IsTrue, OnOk, OnErr, IfErr, Ok, Err, take, true, false};
+ghost use Rattle.std.specs.Prelude.{◌≡◌, ◌≢◌, ◌≤◌, ◌<◌, ◌+◌, ◌++◌, ◌∷◌, ◌↔◌, ◌⊎◌, [], List, ℕ, length, map, string_bytes, codes, Some, None, IsTrue, OnOk, OnErr, IfErr, Ok, Err, take, true, false};
 ghost use Rattle.swp_base.specs.Outside.{Rose};
 ghost use Rattle.swp_tool.specs.Schedules.{Stop, schedule_of};
 ghost use Rattle.swp_tool.specs.Runs.{status_of, status_at, Replayed, IsUnderWay, IsReplay, IsDecode, IsCommand};
@@ -212,6 +212,10 @@ pub fn run<S: Source, K: Sink, N: Nv>(
         most_bytes < length (S.left source.old) →
         ¬ Rose (S.faults source.old) (S.faults source.new) → ¬ Rose (K.faults sink.old) (K.faults sink.new) →
         result.status ≡ Status.TooMany 16777217 }
+
+    // Of a record at most 4,096 bytes are read behind the last one that it may have.
+    ensures record_ahead { IsDecode (map string_bytes words.now) → IsTrue S.tells →
+        length (S.left source.old) ≤ most_bytes + 4096 + length (S.left source.new) }
 
     ensures nv { result.nv ≡ nv }
 {

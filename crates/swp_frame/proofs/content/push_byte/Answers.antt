@@ -1,16 +1,21 @@
-use Rattle.std.proofs.Common.{sym, ap, ◌∙◌, ◌-◌, length, take, arith}
+use Rattle.std.proofs.Common.{◌≡◌, ℕ, sym, ap, ◌∙◌, ◌+◌, ◌-◌, ◌<◌, ◌≤◌, ◌++◌, ◌∷◌, [], List, get_or, length, take, arith, length-append}
+use Rattle.std.proofs.lemmas.List.{take_more, take-append-le}
 use Rattle.swp_crc.specs.Running.{running_of}
-use Rattle.swp_frame.proofs.ContentLemmas.{body_more, body_none}
 use Rattle.swp_frame.proofs.content.push_byte.Goals as goal
-use Rattle.swp_frame.proofs.content.push_byte.Goals.{then-whole-ge2, else-whole-ge2}
 
-pub returns-clause-register : goal.returns-clause-register
-returns-clause-register c = λ running.
+-- the body of a list of bytes and one more
+body_further : (bytes : List ℕ) (b n : ℕ) → 2 ≤ length bytes → n ≡ length bytes - 2
+    → take (length bytes - 2) bytes ++ get_or (bytes ++ b ∷ []) n 0 ∷ [] ≡ take (length (bytes ++ b ∷ []) - 2) (bytes ++ b ∷ [])
+body_further bytes b n h is =
+    let places : length (bytes ++ b ∷ []) - 2 ≡ n + 1 = omega (arith, is, length-append bytes (b ∷ [])) in
+    let inside : n < length (bytes ++ b ∷ []) = omega (arith, is, length-append bytes (b ∷ [])) in
+    ap (λ k. take k bytes ++ get_or (bytes ++ b ∷ []) n 0 ∷ []) (sym is)
+    ∙ ap (λ l. l ++ get_or (bytes ++ b ∷ []) n 0 ∷ []) (sym (take-append-le n bytes (b ∷ []) (omega arith)))
+    ∙ sym (take_more (bytes ++ b ∷ []) n 0 inside)
+    ∙ ap (λ k. take k (bytes ++ b ∷ [])) (sym places)
+
+pub returns-then-whole-ge2-clause-register : goal.returns-then-whole-ge2-clause-register
+returns-then-whole-ge2-clause-register c running =
     let old = c.args.bytes.now.items in
-    rw c.push-2.ensures.items
-    (elim c.if-whole-ge2.branch [
-      | then-whole-ge2 w ↦ w.register-is
-          ∙ w.push.ensures (take (length old - 2) old) running
-          ∙ ap running_of (rw (w.as_slice.ensures.value, c.len-whole.ensures.value) (sym (body_more old c.args.byte (omega arith))))
-      | else-whole-ge2 w ↦ w.register-is ∙ running ∙ ap running_of (sym (body_none old c.args.byte (omega arith)))
-    ])
+    c.push-2.ensures (take (length old - 2) old) running
+    ∙ ap running_of (rw (c.as_slice.ensures.value, c.push.ensures.items) (body_further old c.args.byte c.saturating_sub.result (omega arith) (omega arith)))
