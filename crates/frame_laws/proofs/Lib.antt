@@ -4,3 +4,4 @@ pub mod Existence
 pub mod Places
 pub mod Whole
 pub mod Content
+pub mod Remainder

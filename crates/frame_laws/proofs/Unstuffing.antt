@@ -33,7 +33,7 @@ stuffed_reads ones (true ∷ content) seen run few =
         five ∙ ap (λ xs. bits_onto xs content) (rw (eq-eqb (suc (run_of seen)) 5 (omega (arith, eqb-true ones 4 e))) refl)
     by_count false e five other = other (let differ = eqb-false ones 4 e in omega (arith, differ))
 
-onto-aux : (seen : List Symbol) (bits : List Bool) → onto seen bits ≡ reverse_aux (map symbol_of bits) seen
+pub onto-aux : (seen : List Symbol) (bits : List Bool) → onto seen bits ≡ reverse_aux (map symbol_of bits) seen
 onto-aux seen [] = refl
 onto-aux seen (b ∷ bits) = onto-aux (symbol_of b ∷ seen) bits
 

@@ -1,17 +1,20 @@
 -- A frame that was written is read.
-use Rattle.std.proofs.Common.{◌≡◌, ◌≢◌, ℕ, ◌+◌, ◌≤◌, List, [], ◌∷◌, ◌++◌, Bool, true, false, eqb, cond, map, reverse, Option, Some, None, option_map, refl, ap, ◌∙◌, subst, arith}
-use Rattle.std.specs.Prelude.{filter}
-use Rattle.std.proofs.lemmas.List.{reverse-reverse, map-append}
+use Rattle.std.proofs.Common.{◌≡◌, ◌≢◌, ℕ, ◌+◌, ◌-◌, ◌*◌, ◌%◌, ◌≤◌, length, take, List, [], ◌∷◌, ◌++◌, Bool, true, false, eqb, cond, map, reverse, Option, Some, None, option_map, refl, sym, ap, ◌∙◌, subst, inl, inr, arith, append_assoc, append-nil}
+use Rattle.std.specs.Prelude.{filter, nat_lt, ◌||◌, min, slice_index}
+use Rattle.swp_base.specs.declared.link_terms.FrameFault.TheVariants.{Length, Alignment, Crc}
+use Rattle.swp_crc.specs.Crc.{crc_of}
+use Rattle.std.proofs.lemmas.List.{map-append}
 use Rattle.std.proofs.lemmas.Bool.{eqb-false, ne_eqb}
 use Rattle.swp_base.specs.Bits.{bits_of}
 use Rattle.swp_frame.specs.declared.fed.Fed.{Fed}
-use Rattle.swp_frame.specs.declared.fed.Fed.TheVariants.{Nothing, Frame}
-use Rattle.swp_frame.specs.Signal.{Symbol, bit_0, bit_1, symbol_of, run_of, end_mark, no_mark, mark_of, since_mark, since_start, unstuffed}
-use Rattle.swp_frame.specs.Stuffing.{end_of_frame, stuffed, stuffed_after, with_crc, frame_of}
-use Rattle.swp_frame.specs.Content.{judged}
+use Rattle.swp_frame.specs.declared.fed.Fed.TheVariants.{Nothing, Frame, Refused}
+use Rattle.swp_frame.specs.Signal.{Symbol, bit_0, bit_1, symbol_of, run_of, start_mark, end_mark, no_mark, mark_of, since_mark, since_start, unstuffed}
+use Rattle.swp_frame.specs.Stuffing.{start_of_frame, end_of_frame, stuffed, stuffed_after, with_crc, frame_of}
+use Rattle.swp_frame.specs.Content.{bytes_of, judged_bytes, judged}
 use Rattle.swp_frame.specs.Verdicts.{verdict, verdict_after, answers_after, is_verdict, verdicts}
-use Rattle.frame_laws.specs.Spelling.{NoSixOnes}
-use Rattle.frame_laws.proofs.Unstuffing.{onto, reads}
+use Rattle.frame_laws.specs.Spelling.{Spells, NoSixOnes}
+use Rattle.frame_laws.specs.Whole.{framed, all_framed, SpellAll, verdicts_behind, IsBetweenFrames}
+use Rattle.frame_laws.proofs.Unstuffing.{onto, onto-aux, spelled_is_read}
 
 no_mark_with : (b : Bool) (seen : List Symbol) → run_of seen ≢ 6 → mark_of (symbol_of b ∷ seen) ≡ no_mark
 no_mark_with true seen h = rw (ne_eqb (run_of seen) 6 h) refl
@@ -63,20 +66,20 @@ stuffed_few (true ∷ content) ones h = by_count (eqb ones 4) refl (stuffed_few 
     by_count false e zeroes next = (omega arith, next (let differ = eqb-false ones 4 e in omega (arith, differ)))
 
 -- what was read with the 0 and the six 1 bits of an end of frame
-to_end : List Symbol → List Symbol
+pub to_end : List Symbol → List Symbol
 to_end seen = bit_1 ∷ bit_1 ∷ bit_1 ∷ bit_1 ∷ bit_1 ∷ bit_1 ∷ bit_0 ∷ seen
 
-end_is_quiet : (seen : List Symbol) → run_of seen ≤ 5
-    → filter is_verdict (answers_after seen (bit_0 ∷ bit_1 ∷ bit_1 ∷ bit_1 ∷ bit_1 ∷ bit_1 ∷ bit_1 ∷ bit_1 ∷ [])) ≡ filter is_verdict (answers_after (to_end seen) (bit_1 ∷ []))
+end_is_quiet : (seen later : List Symbol) → run_of seen ≤ 5
+    → filter is_verdict (answers_after seen (map symbol_of end_of_frame ++ later)) ≡ filter is_verdict (answers_after (to_end seen) (bit_1 ∷ later))
 unfolding to_end
-end_is_quiet seen h =
-    quiet false seen (bit_1 ∷ bit_1 ∷ bit_1 ∷ bit_1 ∷ bit_1 ∷ bit_1 ∷ bit_1 ∷ []) (not_six (run_of seen) h)
-    ∙ quiet true (bit_0 ∷ seen) (bit_1 ∷ bit_1 ∷ bit_1 ∷ bit_1 ∷ bit_1 ∷ bit_1 ∷ []) (not_six 0 (omega arith))
-    ∙ quiet true (bit_1 ∷ bit_0 ∷ seen) (bit_1 ∷ bit_1 ∷ bit_1 ∷ bit_1 ∷ bit_1 ∷ []) (not_six 1 (omega arith))
-    ∙ quiet true (bit_1 ∷ bit_1 ∷ bit_0 ∷ seen) (bit_1 ∷ bit_1 ∷ bit_1 ∷ bit_1 ∷ []) (not_six 2 (omega arith))
-    ∙ quiet true (bit_1 ∷ bit_1 ∷ bit_1 ∷ bit_0 ∷ seen) (bit_1 ∷ bit_1 ∷ bit_1 ∷ []) (not_six 3 (omega arith))
-    ∙ quiet true (bit_1 ∷ bit_1 ∷ bit_1 ∷ bit_1 ∷ bit_0 ∷ seen) (bit_1 ∷ bit_1 ∷ []) (not_six 4 (omega arith))
-    ∙ quiet true (bit_1 ∷ bit_1 ∷ bit_1 ∷ bit_1 ∷ bit_1 ∷ bit_0 ∷ seen) (bit_1 ∷ []) (not_six 5 (omega arith))
+end_is_quiet seen later h =
+    quiet false seen (bit_1 ∷ bit_1 ∷ bit_1 ∷ bit_1 ∷ bit_1 ∷ bit_1 ∷ bit_1 ∷ later) (not_six (run_of seen) h)
+    ∙ quiet true (bit_0 ∷ seen) (bit_1 ∷ bit_1 ∷ bit_1 ∷ bit_1 ∷ bit_1 ∷ bit_1 ∷ later) (not_six 0 (omega arith))
+    ∙ quiet true (bit_1 ∷ bit_0 ∷ seen) (bit_1 ∷ bit_1 ∷ bit_1 ∷ bit_1 ∷ bit_1 ∷ later) (not_six 1 (omega arith))
+    ∙ quiet true (bit_1 ∷ bit_1 ∷ bit_0 ∷ seen) (bit_1 ∷ bit_1 ∷ bit_1 ∷ bit_1 ∷ later) (not_six 2 (omega arith))
+    ∙ quiet true (bit_1 ∷ bit_1 ∷ bit_1 ∷ bit_0 ∷ seen) (bit_1 ∷ bit_1 ∷ bit_1 ∷ later) (not_six 3 (omega arith))
+    ∙ quiet true (bit_1 ∷ bit_1 ∷ bit_1 ∷ bit_1 ∷ bit_0 ∷ seen) (bit_1 ∷ bit_1 ∷ later) (not_six 4 (omega arith))
+    ∙ quiet true (bit_1 ∷ bit_1 ∷ bit_1 ∷ bit_1 ∷ bit_1 ∷ bit_0 ∷ seen) (bit_1 ∷ later) (not_six 5 (omega arith))
 
 end_is_open : (seen since : List Symbol) → since_start seen ≡ Some since → run_of seen ≤ 5 → since_start (to_end seen) ≡ Some (to_end since)
 unfolding to_end
@@ -92,21 +95,136 @@ last_bit : (seen since : List Symbol) → since_start (to_end seen) ≡ Some (to
 unfolding to_end
 last_bit seen since e = ap (verdict_after end_mark) e
 
--- the end of a frame gives the verdict on the content
-read_end : (seen since : List Symbol) → since_start seen ≡ Some since → run_of seen ≤ 5
-    → filter is_verdict (answers_after seen (map symbol_of end_of_frame)) ≡ filter is_verdict (judged (reverse (unstuffed since)) ∷ [])
-read_end seen since e h =
-    end_is_quiet seen h ∙ ap (λ answer. filter is_verdict (answer ∷ [])) (last_bit seen since (end_is_open seen since e h))
+either_verdict : (b : Bool) (first second : Fed) → is_verdict first ≡ true → is_verdict second ≡ true → is_verdict (cond b first second) ≡ true
+either_verdict true first second h k = h
+either_verdict false first second h k = k
 
-started : List Symbol
-started = bit_0 ∷ bit_1 ∷ bit_1 ∷ bit_1 ∷ bit_1 ∷ bit_1 ∷ bit_1 ∷ bit_0 ∷ []
+-- a content is always judged
+judged_is_verdict : (content : List Bool) → is_verdict (judged content) ≡ true
+judged_is_verdict content =
+    either_verdict (nat_lt (length content) 24 || nat_lt 256 (length content)) (Refused (Length (min 65535 (length content))))
+    (cond (eqb (length content % 8) 0) (judged_bytes (bytes_of content)) (Refused (Alignment (length content)))) refl
+    (either_verdict (eqb (length content % 8) 0) (judged_bytes (bytes_of content)) (Refused (Alignment (length content))) whole refl)
+  where
+    bytes : List ℕ
+    bytes = bytes_of content
+
+    want : ℕ
+    want = crc_of (take (length bytes - 2) bytes)
+
+    got : ℕ
+    got = 256 * slice_index bytes (length bytes - 2) + slice_index bytes (length bytes - 1)
+
+    whole : is_verdict (judged_bytes (bytes_of content)) ≡ true
+    whole = either_verdict (eqb want got) (Frame (take (length bytes - 2) bytes)) (Refused (Crc want got)) refl refl
+
+keep : (answer : Fed) (answers : List Fed) → is_verdict answer ≡ true → filter is_verdict (answer ∷ answers) ≡ answer ∷ filter is_verdict answers
+keep answer answers e = rw e refl
+
+-- what was read with an end of frame
+abbrev pub ended : List Symbol → List Symbol
+ended seen = bit_1 ∷ to_end seen
+
+-- the end of a frame gives the verdict on the content
+read_end : (seen since later : List Symbol) → since_start seen ≡ Some since → run_of seen ≤ 5
+    → filter is_verdict (answers_after seen (map symbol_of end_of_frame ++ later))
+    ≡ judged (reverse (unstuffed since)) ∷ filter is_verdict (answers_after (ended seen) later)
+read_end seen since later e h =
+    end_is_quiet seen later h
+    ∙ ap (λ answer. filter is_verdict (answer ∷ answers_after (ended seen) later)) (last_bit seen since (end_is_open seen since e h))
+    ∙ keep (judged (reverse (unstuffed since))) (answers_after (ended seen) later) (judged_is_verdict (reverse (unstuffed since)))
+
+-- what was read with a start of frame
+unfoldable pub started : List Symbol → List Symbol
+started seen = bit_0 ∷ bit_1 ∷ bit_1 ∷ bit_1 ∷ bit_1 ∷ bit_1 ∷ bit_1 ∷ bit_0 ∷ seen
+
+front_few : (bits more : List Bool) (ones : ℕ) → NoSixOnes ones (bits ++ more) → NoSixOnes ones bits
+front_few [] more ones h = tt
+front_few (false ∷ bits) more ones h = front_few bits more 0 h
+front_few (true ∷ bits) more ones h = (h.0, front_few bits more (ones + 1) h.1)
+
+spelled_few : (spelling content : List Bool) → Spells spelling content → NoSixOnes 0 spelling
+spelled_few spelling content (inl same) = subst (NoSixOnes 0) (sym same) (stuffed_few content 0 (omega arith))
+spelled_few spelling content (inr ends) =
+    front_few spelling (false ∷ []) 0 (subst (NoSixOnes 0) ends.2 (stuffed_few content 0 (omega arith)))
+
+-- behind a start of frame, bits that spell a content and an end of frame give the verdict on this content
+pub spelled_is_judged : (seen : List Symbol) (spelling content : List Bool) (later : List Symbol) → Spells spelling content
+    → filter is_verdict (answers_after (started seen) (map symbol_of (spelling ++ end_of_frame) ++ later))
+    ≡ judged content ∷ filter is_verdict (answers_after (ended (onto (started seen) spelling)) later)
+unfolding started
+spelled_is_judged seen spelling content later spells =
+    let inner = read_quietly spelling (started seen) [] (map symbol_of end_of_frame ++ later) refl (omega arith) (spelled_few spelling content spells) in
+    ap (λ xs. filter is_verdict (answers_after (started seen) xs))
+    (ap (λ xs. xs ++ later) (map-append symbol_of spelling end_of_frame) ∙ append_assoc (map symbol_of spelling) (map symbol_of end_of_frame) later)
+    ∙ inner.0
+    ∙ read_end (onto (started seen) spelling) (onto [] spelling) later inner.1 inner.2
+    ∙ ap (λ bits. judged bits ∷ filter is_verdict (answers_after (ended (onto (started seen) spelling)) later))
+    (ap (λ xs. reverse (unstuffed xs)) (onto-aux [] spelling) ∙ spelled_is_read spelling content spells)
+
+-- ## Frames one behind another
+
+still_closed : (b : Bool) (seen : List Symbol) → run_of seen ≢ 6 → since_start seen ≡ None → since_start (symbol_of b ∷ seen) ≡ None
+still_closed b seen h e =
+    ap (λ m. since_mark m (symbol_of b) (since_start seen)) (no_mark_with b seen h) ∙ ap (option_map (λ s. symbol_of b ∷ s)) e
+
+-- what was read with the 0 and the six 1 bits of a start of frame
+to_start : List Symbol → List Symbol
+to_start seen = bit_1 ∷ bit_1 ∷ bit_1 ∷ bit_1 ∷ bit_1 ∷ bit_1 ∷ bit_0 ∷ seen
+
+to_start_closed : (seen : List Symbol) → IsBetweenFrames seen → since_start (to_start seen) ≡ None
+unfolding to_start
+to_start_closed seen between =
+    still_closed true (bit_1 ∷ bit_1 ∷ bit_1 ∷ bit_1 ∷ bit_1 ∷ bit_0 ∷ seen) (not_six 5 (omega arith))
+    (still_closed true (bit_1 ∷ bit_1 ∷ bit_1 ∷ bit_1 ∷ bit_0 ∷ seen) (not_six 4 (omega arith))
+    (still_closed true (bit_1 ∷ bit_1 ∷ bit_1 ∷ bit_0 ∷ seen) (not_six 3 (omega arith))
+    (still_closed true (bit_1 ∷ bit_1 ∷ bit_0 ∷ seen) (not_six 2 (omega arith))
+    (still_closed true (bit_1 ∷ bit_0 ∷ seen) (not_six 1 (omega arith))
+    (still_closed true (bit_0 ∷ seen) (not_six 0 (omega arith)) (still_closed false seen between.apart between.closed))))))
+
+start_bit : (seen : List Symbol) → since_start (to_start seen) ≡ None → verdict (bit_0 ∷ to_start seen) ≡ Nothing
+unfolding to_start
+start_bit seen e = ap (verdict_after start_mark) e
+
+start_is_quiet : (seen later : List Symbol) → IsBetweenFrames seen
+    → filter is_verdict (answers_after seen (map symbol_of start_of_frame ++ later)) ≡ filter is_verdict (answers_after (started seen) later)
+unfolding to_start started
+start_is_quiet seen later between =
+    quiet false seen (bit_1 ∷ bit_1 ∷ bit_1 ∷ bit_1 ∷ bit_1 ∷ bit_1 ∷ bit_0 ∷ later) between.apart
+    ∙ quiet true (bit_0 ∷ seen) (bit_1 ∷ bit_1 ∷ bit_1 ∷ bit_1 ∷ bit_1 ∷ bit_0 ∷ later) (not_six 0 (omega arith))
+    ∙ quiet true (bit_1 ∷ bit_0 ∷ seen) (bit_1 ∷ bit_1 ∷ bit_1 ∷ bit_1 ∷ bit_0 ∷ later) (not_six 1 (omega arith))
+    ∙ quiet true (bit_1 ∷ bit_1 ∷ bit_0 ∷ seen) (bit_1 ∷ bit_1 ∷ bit_1 ∷ bit_0 ∷ later) (not_six 2 (omega arith))
+    ∙ quiet true (bit_1 ∷ bit_1 ∷ bit_1 ∷ bit_0 ∷ seen) (bit_1 ∷ bit_1 ∷ bit_0 ∷ later) (not_six 3 (omega arith))
+    ∙ quiet true (bit_1 ∷ bit_1 ∷ bit_1 ∷ bit_1 ∷ bit_0 ∷ seen) (bit_1 ∷ bit_0 ∷ later) (not_six 4 (omega arith))
+    ∙ quiet true (bit_1 ∷ bit_1 ∷ bit_1 ∷ bit_1 ∷ bit_1 ∷ bit_0 ∷ seen) (bit_0 ∷ later) (not_six 5 (omega arith))
+    ∙ skip (verdict (bit_0 ∷ to_start seen)) (answers_after (bit_0 ∷ to_start seen) later) (start_bit seen (to_start_closed seen between))
+
+-- behind an end of frame no frame is open
+between_again : (seen : List Symbol) → IsBetweenFrames (ended seen)
+unfolding to_end
+between_again seen = record { closed = refl; apart = λ six. absurd (omega (arith, six)) }
+
+pub all_are_judged : (spellings contents : List (List Bool)) (seen : List Symbol) → IsBetweenFrames seen → SpellAll spellings contents
+    → verdicts_behind seen (all_framed spellings) ≡ map judged contents
+all_are_judged [] [] seen between spell = refl
+all_are_judged [] (content ∷ contents) seen between spell = absurd spell
+all_are_judged (spelling ∷ spellings) [] seen between spell = absurd spell
+all_are_judged (spelling ∷ spellings) (content ∷ contents) seen between spell =
+    ap (λ xs. filter is_verdict (answers_after seen xs)) parts
+    ∙ start_is_quiet seen (map symbol_of (spelling ++ end_of_frame) ++ map symbol_of (all_framed spellings)) between
+    ∙ spelled_is_judged seen spelling content (map symbol_of (all_framed spellings)) spell.0
+    ∙ ap (λ xs. judged content ∷ xs) (all_are_judged spellings contents (ended (onto (started seen) spelling)) (between_again (onto (started seen) spelling)) spell.1)
+  where
+    parts : map symbol_of (framed spelling ++ all_framed spellings)
+        ≡ map symbol_of start_of_frame ++ (map symbol_of (spelling ++ end_of_frame) ++ map symbol_of (all_framed spellings))
+    parts =
+        map-append symbol_of (framed spelling) (all_framed spellings)
+        ∙ ap (λ xs. xs ++ map symbol_of (all_framed spellings)) (map-append symbol_of start_of_frame (spelling ++ end_of_frame))
+        ∙ append_assoc (map symbol_of start_of_frame) (map symbol_of (spelling ++ end_of_frame)) (map symbol_of (all_framed spellings))
 
 pub frame_is_read : (lpdu : List ℕ) → judged (bits_of (with_crc lpdu)) ≡ Frame lpdu → verdicts (map symbol_of (frame_of lpdu)) ≡ Frame lpdu ∷ []
-unfolding started
 frame_is_read lpdu right =
     let content = bits_of (with_crc lpdu) in
-    let inner = read_quietly (stuffed content) started [] (map symbol_of end_of_frame) refl (omega arith) (stuffed_few content 0 (omega arith)) in
-    ap (λ xs. filter is_verdict (answers_after started xs)) (map-append symbol_of (stuffed content) end_of_frame)
-    ∙ inner.0
-    ∙ read_end (onto started (stuffed content)) (onto [] (stuffed content)) inner.1 inner.2
-    ∙ ap (λ answer. filter is_verdict (answer ∷ [])) (ap (λ bits. judged (reverse bits)) (reads content) ∙ ap judged (reverse-reverse content) ∙ right)
+    ap (λ bits. verdicts (map symbol_of bits)) (sym (append-nil (frame_of lpdu)))
+    ∙ all_are_judged (stuffed content ∷ []) (content ∷ []) [] (record { closed = refl; apart = λ six. absurd (omega (arith, six)) }) (inl refl, tt)
+    ∙ ap (λ answer. answer ∷ []) right

@@ -1,3 +1,4 @@
 pub mod Marks
 pub mod Spelling
 pub mod Whole
+pub mod Remainder

@@ -1,14 +1,18 @@
 //! Laws of frames: what the definitions of marks and of the content of a frame say in the words of the standard. No code.
 #![tactic(auto)]
 
-ghost use Rattle.std.specs.Prelude.{ℕ, List, [], ◌∷◌, Bool, Some, ◌≡◌, ◌↔◌};
+ghost use Rattle.std.specs.Prelude.{ℕ, List, [], ◌∷◌, ◌++◌, Bool, Some, map, drop, ◌≡◌, ◌↔◌};
 ghost use Rattle.swp_base.specs.DataUnits.{IsLpdu};
 ghost use Rattle.swp_frame.specs.declared.fed.Fed.TheVariants.{Frame};
 ghost use Rattle.swp_frame.specs.Kept.{AreBytes};
 ghost use Rattle.swp_frame.specs.Verdicts.{verdicts};
-ghost use Rattle.swp_frame.specs.Signal.{Symbol, mark_of, start_mark, end_mark, since_start};
+ghost use Rattle.swp_frame.specs.Signal.{Symbol, mark_of, start_mark, end_mark, since_start, read_on};
+ghost use Rattle.swp_frame.specs.Stuffing.{start_of_frame, end_of_frame};
+ghost use Rattle.swp_frame.specs.Content.{judged};
+ghost use Rattle.swp_crc.specs.Crc.{crc_of};
+ghost use Rattle.frame_laws.specs.Remainder.{IsCrc};
 ghost use Rattle.frame_laws.specs.Marks.{EndsStart, EndsEnd, IsOpenSince};
-ghost use Rattle.frame_laws.specs.Whole.{sent};
+ghost use Rattle.frame_laws.specs.Whole.{sent, all_framed, SpellAll, verdicts_behind, IsBetweenFrames};
 ghost use Rattle.frame_laws.specs.Spelling.{Spells, NoSixOnes, content_read};
 
 /// A start of frame ends exactly where the last eight elements are 0, six 1 and 0, and an end of frame exactly where they are
@@ -36,4 +40,24 @@ pub fn open_frame_by_places()
 /// The frame of an LPDU, alone on a line, is read as this LPDU, and nothing else is.
 pub fn written_frame_is_read()
     ensures { (lpdu : List ℕ) → IsLpdu lpdu → AreBytes lpdu → verdicts (sent lpdu) ≡ Frame lpdu ∷ [] }
+{}
+
+/// Behind a start of frame, whatever came before it, bits that spell a content and an end of frame give the verdict on this
+/// content and nothing else; so does an end of frame that shares its 0 with the start, on the empty content.
+pub fn spelled_frame_is_judged()
+    ensures apart { (seen : List Symbol) (spelling content : List Bool) → Spells spelling content
+        → verdicts_behind (read_on seen start_of_frame) (spelling ++ end_of_frame) ≡ judged content ∷ [] }
+    ensures shared { (seen : List Symbol) → verdicts_behind (read_on seen start_of_frame) (drop 1 end_of_frame) ≡ judged [] ∷ [] }
+{}
+
+/// Frames one directly behind another are read, each as its content says, whatever came before while no frame was open.
+pub fn frames_are_read_one_behind_another()
+    ensures { (seen : List Symbol) (spellings contents : List (List Bool)) → IsBetweenFrames seen → SpellAll spellings contents
+        → verdicts_behind seen (all_framed spellings) ≡ map judged contents }
+{}
+
+/// The CRC is the complement of what division by x^16 + x^12 + x^5 + 1 leaves of a message: the message, with sixteen zeros
+/// behind it and its first sixteen bits complemented, is a multiple of that polynomial and this remainder.
+pub fn crc_is_what_division_leaves()
+    ensures { (bytes : List ℕ) → IsCrc bytes (crc_of bytes) }
 {}
