@@ -6,7 +6,7 @@ use Rattle.swp_base.specs.declared.control_frames.Control.{Control}
 use Rattle.swp_base.specs.declared.control_frames.Control.TheVariants.{I, S, Rset, Ua, Act, Clt}
 use Rattle.swp_base.specs.declared.control_frames.Act.{Act as Activation}
 use Rattle.swp_base.specs.declared.control_frames.Act.TheVariants.{Ready as ActReady, SyncId, PowerMode}
-use Rattle.swp_act.specs.declared.ActEvent.TheVariants.{Start as ActStart, Take as ActTake, Tick as ActTick}
+use Rattle.swp_act.specs.declared.ActEvent.TheVariants.{Start as ActStart, Take as ActTake, Tick as ActTick, Stop as ActStop}
 use Rattle.swp_act.specs.declared.Phase.{Phase}
 use Rattle.swp_act.specs.declared.Phase.TheVariants.{Inactive, Awaiting, Active}
 use Rattle.swp_act.specs.declared.uicc.UiccAct.{UiccAct}
@@ -22,7 +22,7 @@ use Rattle.session_laws.specs.Sessions.{OnWire, fits, aged_wire, act_frame}
 use Rattle.session_laws.specs.Losses.{is_act}
 use Rattle.link_machine.specs.Machine.{LinkEnd, Role, role_after, act_answer, is_open, renewed}
 use Rattle.link_machine.specs.Machine.Role.{Bare, Clf, Uicc}
-use Rattle.message_link.specs.Links.{Link, put, put_all, IfLine, IsClf, IsUicc}
+use Rattle.message_link.specs.Links.{Link, put, put_all, IfLine, CanStart}
 
 -- ## Frames on a wire
 
@@ -489,15 +489,31 @@ calm_cut (Uicc u) (Uicc t) w v i h = absurd h
 calm_cut (Clf c) (Uicc u) w v i h = record { clf = λ a. absurd (true≢false (sym a)); ready = inl tt; tail = tt; plain = tt; last = h.last }
 calm_cut (Uicc u) (Clf c) w v i h = record { clf = λ a. (tt, refl); ready = inl tt; tail = tt; plain = tt; last = λ a. absurd (true≢false (sym a)) }
 
--- activation begins: the CLF is inactive, and then the UICC sends ACT_SYNC_ID
-pub calm_start : (r f : Role) (w v : List OnWire) (power id : ℕ) → IsClf r → IsUicc f → Calm r f w v
-    → Calm (role_after r (ActStart power)) (role_after f (ActStart id)) (with_sent (act_answer f (ActStart id)).send []) []
-calm_start Bare f w v power id i j h = absurd i
-calm_start (Uicc u) f w v power id i j h = absurd i
-calm_start (Clf c) Bare w v power id i j h = absurd j
-calm_start (Clf c) (Clf d) w v power id i j h = absurd j
-calm_start (Clf c) (Uicc u) w v power id i j h =
-    record { clf = λ a. absurd (true≢false (sym a)); ready = inl (refl, tt); tail = (inr tt, tt); plain = tt; last = λ _. (id, refl) }
+-- activation begins at an end: a CLF is inactive, and a UICC sends ACT_SYNC_ID
+pub calm_start : (r f : Role) (w v : List OnWire) (value : ℕ) → CanStart r f → Calm r f w v
+    → Calm (role_after r (ActStart value)) f [] (with_sent (act_answer r (ActStart value)).send [])
+calm_start Bare f w v value i h = absurd i
+calm_start (Clf c) Bare w v value i h = absurd h
+calm_start (Clf c) (Clf d) w v value i h = absurd h
+calm_start (Clf c) (Uicc u) w v value i h =
+    record { clf = λ a. absurd (true≢false (sym a)); ready = inl tt; tail = tt; plain = tt; last = h.last }
+calm_start (Uicc u) Bare w v value i h = absurd h
+calm_start (Uicc u) (Uicc t) w v value i h = absurd h
+calm_start (Uicc u) (Clf c) w v value i h =
+    record { clf = λ a. absurd (true≢false (sym a ∙ i)); ready = inl (refl, tt); tail = (inr tt, tt); plain = tt; last = λ _. (value, refl) }
+
+-- activation ends there
+pub calm_stop : (r f : Role) (w v : List OnWire) → IfLine r → Calm r f w v
+    → Calm (role_after r ActStop) f [] (with_sent (act_answer r ActStop).send [])
+calm_stop Bare f w v i h = absurd i
+calm_stop (Clf c) Bare w v i h = absurd h
+calm_stop (Clf c) (Clf d) w v i h = absurd h
+calm_stop (Clf c) (Uicc u) w v i h =
+    record { clf = λ a. absurd (true≢false (sym a)); ready = inl tt; tail = tt; plain = tt; last = h.last }
+calm_stop (Uicc u) Bare w v i h = absurd h
+calm_stop (Uicc u) (Uicc t) w v i h = absurd h
+calm_stop (Uicc u) (Clf c) w v i h =
+    record { clf = λ a. (tt, refl); ready = inl tt; tail = tt; plain = tt; last = λ a. absurd (true≢false (sym a)) }
 
 -- an end whose link activation puts down isn't open
 ended_means : (r f : Role) (x : OnWire) (w v : List OnWire) (act : Activation) (again : Bool) → x.frame ≡ Act act again → Calm r f (x ∷ w) v

@@ -6,14 +6,16 @@ use Rattle.swp_base.specs.declared.control_frames.Kind.TheVariants.{Rr}
 use Rattle.shdlc_core.specs.declared.answers.LinkState.TheVariants.{Down, Up}
 use Rattle.swp_act.specs.Activation.{new_clf, new_uicc}
 use Rattle.session_laws.specs.Sessions.{OnWire}
-use Rattle.link_machine.specs.Machine.{messages_got, is_open, LinkEnd, LinkInput, new_link_end, after_input, turned, ended_by, report, spare}
+use Rattle.link_machine.specs.Machine.{Message, Turn, messages_got, is_open, LinkEnd, LinkInput, new_link_end, after_input, turned, ended_by, report, spare}
 use Rattle.link_machine.specs.Machine.LinkInput.{Take}
 use Rattle.swp_base.specs.declared.link_terms.Cause.TheVariants.{Chain}
 use Rattle.link_machine.specs.Machine.Role.{Bare, Clf, Uicc}
-use Rattle.link_machine.specs.Machine.Turn.{Give, SetReady}
+use Rattle.link_machine.specs.Machine.Turn.{Give, Hold}
 use Rattle.message_link.specs.Quiet.{losses_of, IsQuiet}
-use Rattle.message_link.specs.Links.{Link, LinkEvent, new_link, after, number_of, talk_of}
-use Rattle.message_link.specs.Links.EndEvent.{Deliver, Lose, Resets, Turns, Cut}
+use Rattle.message_link.specs.Links.{Link, EndEvent, Node, LinkEvent, new_link, after, number_of, talk_of}
+use Rattle.message_link.specs.Links.Ending.{GoesOut, CutOff}
+use Rattle.message_link.specs.Links.Comes.{NextFrame, AsksReset, Starts, Stops, NoInput}
+use Rattle.message_link.specs.Links.EndEvent.{Step, Lose}
 use Rattle.message_link.specs.Links.LinkEvent.{AtController, AtHost, Ticks, Activate}
 
 abbrev bare : Link
@@ -22,9 +24,25 @@ bare = new_link Bare Bare
 abbrev line : Link
 line = new_link (Clf new_clf) (Uicc new_uicc)
 
+-- what happens at an end, where its frames go out
+abbrev takes : List Turn → EndEvent
+takes turns = Step NextFrame turns GoesOut
+
+abbrev resets : EndEvent
+resets = Step (AsksReset (Some 4)) [] GoesOut
+
+abbrev gives : Message → EndEvent
+gives m = Step NoInput (Give m ∷ []) GoesOut
+
+abbrev calm_node : Node
+calm_node = record { turns = []; ending = GoesOut }
+
+abbrev activate : LinkEvent
+activate = Activate 1 calm_node 6699 calm_node
+
 -- a message is given, taken and acknowledged
 abbrev one : List LinkEvent
-one = AtHost (Turns (Give (1, 3 ∷ []) ∷ [])) ∷ AtController (Deliver []) ∷ AtHost (Deliver []) ∷ []
+one = AtHost (gives (1, 3 ∷ [])) ∷ AtController (takes []) ∷ AtHost (takes []) ∷ []
 
 one_got : messages_got (talk_of (after bare one).controller 0).session ≡ (1, 3 ∷ []) ∷ []
 one_got = refl
@@ -34,14 +52,14 @@ one_acked = refl
 
 -- the node that takes a frame becomes not ready and gives a message before its frames go out: RR goes first
 abbrev answered : List LinkEvent
-answered = AtHost (Turns (Give (1, 3 ∷ []) ∷ [])) ∷ AtController (Deliver (Give (1, 128 ∷ []) ∷ SetReady false ∷ [])) ∷ []
+answered = AtHost (gives (1, 3 ∷ [])) ∷ AtController (takes (Give (1, 128 ∷ []) ∷ Hold true ∷ [])) ∷ []
 
 answered_first : map (λ (x : OnWire). x.frame) (after bare answered).to_host ≡ S Rr 1 ∷ I 0 1 (129 ∷ 128 ∷ []) ∷ []
 answered_first = refl
 
 -- activation, a reset, and both ends up in session 1
 abbrev active : List LinkEvent
-active = Activate 6699 1 ∷ AtController (Deliver []) ∷ AtHost (Deliver []) ∷ AtController (Deliver []) ∷ []
+active = activate ∷ AtController (takes []) ∷ AtHost (takes []) ∷ AtController (takes []) ∷ []
 
 active_controller : is_open (after line active).controller.side.role ≡ true
 active_controller = refl
@@ -50,7 +68,7 @@ active_host : is_open (after line active).host.side.role ≡ true
 active_host = refl
 
 abbrev up : List LinkEvent
-up = active ++ (AtController (Resets 4 []) ∷ AtHost (Deliver []) ∷ AtController (Deliver []) ∷ [])
+up = active ++ (AtController resets ∷ AtHost (takes []) ∷ AtController (takes []) ∷ [])
 
 up_controller : (after line up).controller.side.shdlc.phase ≡ Up
 up_controller = refl
@@ -59,7 +77,7 @@ up_number : number_of (after line up).host ≡ 1
 up_number = refl
 
 abbrev sent : List LinkEvent
-sent = up ++ (AtHost (Turns (Give (1, 3 ∷ []) ∷ [])) ∷ AtController (Deliver (Give (1, 128 ∷ 0 ∷ []) ∷ [])) ∷ [])
+sent = up ++ (AtHost (gives (1, 3 ∷ [])) ∷ AtController (takes (Give (1, 128 ∷ 0 ∷ []) ∷ [])) ∷ [])
 
 sent_got : messages_got (talk_of (after line sent).controller 1).session ≡ (1, 3 ∷ []) ∷ []
 sent_got = refl
@@ -67,19 +85,19 @@ sent_got = refl
 -- the second ACT_READY stands behind an RSET: ACT_POWER_MODE was sent twice
 abbrev ticks : ℕ → List LinkEvent
 ticks zero = []
-ticks (suc n) = Ticks (Some []) [] (Some []) ∷ ticks n
+ticks (suc n) = Ticks calm_node [] calm_node ∷ ticks n
 
 abbrev ready_again : List LinkEvent
 ready_again =
-    Activate 6699 1 ∷ AtController (Deliver []) ∷ ticks 10
-    ++ (AtController (Deliver []) ∷ AtHost (Deliver []) ∷ AtHost (Resets 4 []) ∷ AtHost (Deliver []) ∷ [])
+    activate ∷ AtController (takes []) ∷ ticks 10
+    ++ (AtController (takes []) ∷ AtHost (takes []) ∷ AtHost resets ∷ AtHost (takes []) ∷ [])
 
 ready_behind : map (λ (x : OnWire). x.frame) (after line ready_again).to_controller ≡ Act Ready false ∷ Rset 4 0 ∷ Act Ready false ∷ []
 ready_behind = refl
 
 -- the controller loses power in the middle of a session, and the host goes on
 abbrev cut : List LinkEvent
-cut = sent ++ (AtController Cut ∷ [])
+cut = sent ++ (AtController (Step NoInput [] CutOff) ∷ [])
 
 cut_down : (after line cut).controller.side.shdlc.phase ≡ Down
 cut_down = refl
@@ -93,9 +111,9 @@ cut_got = refl
 -- activation anew while frames are on their way, and a message in session 2
 abbrev again : List LinkEvent
 again =
-    sent ++ (Activate 6699 1 ∷ AtController (Deliver []) ∷ AtHost (Deliver []) ∷ AtController (Deliver []) ∷ AtController (Resets 4 [])
-    ∷ AtHost (Deliver []) ∷ AtController (Deliver [])
-    ∷ AtController (Turns (Give (1, 5 ∷ []) ∷ [])) ∷ AtHost (Deliver []) ∷ [])
+    sent ++ (activate ∷ AtController (takes []) ∷ AtHost (takes []) ∷ AtController (takes []) ∷ AtController resets
+    ∷ AtHost (takes []) ∷ AtController (takes [])
+    ∷ AtController (gives (1, 5 ∷ [])) ∷ AtHost (takes []) ∷ [])
 
 again_number : number_of (after line again).host ≡ 2
 again_number = refl
@@ -135,13 +153,13 @@ one_is_quiet : IsQuiet (after bare one) (losses_of bare one)
 one_is_quiet = record { controller = refl; host = refl; lost = refl; rnr = refl; to_controller = refl; to_host = refl }
 
 abbrev gone : List LinkEvent
-gone = AtHost (Turns (Give (1, 3 ∷ []) ∷ [])) ∷ AtController Lose ∷ []
+gone = AtHost (gives (1, 3 ∷ [])) ∷ AtController Lose ∷ []
 
 gone_lost : (losses_of bare gone).lost ≡ true
 gone_lost = refl
 
 abbrev on_line : List LinkEvent
-on_line = up ++ (AtHost (Turns (Give (1, 3 ∷ []) ∷ [])) ∷ AtController (Deliver []) ∷ AtHost (Deliver []) ∷ [])
+on_line = up ++ (AtHost (gives (1, 3 ∷ [])) ∷ AtController (takes []) ∷ AtHost (takes []) ∷ [])
 
 on_line_is_quiet : IsQuiet (after line on_line) (losses_of line on_line)
 on_line_is_quiet = record { controller = refl; host = refl; lost = refl; rnr = refl; to_controller = refl; to_host = refl }

@@ -1,7 +1,9 @@
+pub mod Asks
 pub mod Ends
 pub mod Calm
 pub mod Project
 pub mod Steps
+pub mod Finishing
 pub mod Runs
 pub mod Whole
 pub mod Quiet

@@ -1,6 +1,6 @@
 -- A step of a link over messages is its projection's step, where no chain fault comes.
 use Rattle.std.proofs.Common.{◌≡◌, ℕ, ◌≤◌, Bool, true, false, List, [], ◌∷◌, ◌++◌, length, map, Option, Some, None, refl, ap, sym, subst, ◌∙◌, append-nil}
-use Rattle.std.specs.Prelude.{nat_lt, option_to_list}
+use Rattle.std.specs.Prelude.{◌+◌, ◌-◌, nat_lt, not, drop, option_to_list}
 use Rattle.std.proofs.lemmas.Bool.{ltb-false, true≢false}
 use Rattle.std.proofs.lemmas.List.Concat.{flat_map-append}
 use Rattle.swp_base.specs.declared.control_frames.Control.{Control}
@@ -13,8 +13,8 @@ use Rattle.hcp_packet.specs.Packets.{packets_of, bytes_of, fragments_of}
 use Rattle.message_laws.specs.Sending.{IsShort, AreShort}
 use Rattle.session_laws.specs.Sessions.{OnWire, Link as CoreLink, Turn as CoreTurn, turned as core_turned, turn as core_turn_of, act_frame, put as core_put, put_all as core_put_all, becomes as core_becomes, with_ended as core_with_ended, with_controller as core_with_controller}
 use Rattle.session_laws.specs.Sessions.Turn.{Offer}
-use Rattle.link_machine.specs.Machine.{Message, LinkEnd, Role, ActDue, Turn, Refused, is_open, moved, given, give_refusal, turn, turned, among, frames_out, sent_all}
-use Rattle.link_machine.specs.Machine.Turn.{Give, SetReady}
+use Rattle.link_machine.specs.Machine.{Message, LinkEnd, Role, ActDue, Turn, Refused, is_open, moved, given, give_refusal, aside_refusal, turn, turned, among, frames_out, sent_all}
+use Rattle.link_machine.specs.Machine.Turn.{Give, Hold, FetchMessage, SetAside, Release}
 use Rattle.message_link.specs.Links.{Talk, Half, Link, talk_now, put, put_all, becomes, with_ended, AreSendableTurns}
 use Rattle.message_link.specs.Projection.{core_of, core_turn, core_turns}
 use Rattle.message_link.proofs.Calm.{Calm, CalmLink, with_sent, no_acts, calm_put_all}
@@ -99,19 +99,49 @@ pub turned_same : (o : Option Activation) (e f : LinkEnd) (ts us : List CoreTurn
 turned_same o e f ts us g p q h =
     record { mid = subst (Mid o) (sym p) h.mid; is = ap (λ (z : LinkEnd). z.shdlc) p ∙ (h.is ∙ ap (core_turned e.shdlc) (sym q)) }
 
-pub turn_mid : (o : Option Activation) (e : LinkEnd) (t : Turn) → AreSendableTurns (t ∷ []) → Mid o e → Turned o e (turn e t) (core_turn e t)
-turn_mid o e (SetReady r) a h =
-    let k = ready_keeps e.shdlc r h.idle in
+-- what a node does that its SHDLC end doesn't see
+turned_beside : (o : Option Activation) (e f : LinkEnd) → f.role ≡ e.role → f.shdlc ≡ e.shdlc → f.sent ≡ e.sent → f.acts ≡ e.acts → Mid o e → Turned o e f []
+turned_beside o e f role shdlc sent acts h =
     record {
-      mid =
-          record {
-            acts = h.acts;
-            idle = k.idle;
-            closed = λ q. ready_phase e.shdlc r ∙ h.closed q;
-            says = record { out = k.out ∙ h.says.out; short = h.says.short };
-          };
+      mid = record {
+        acts = acts ∙ h.acts;
+        idle = let P : EndState → Type 0 = λ s. Idle s in subst P (sym shdlc) h.idle;
+        closed = λ q. ap (λ (s : EndState). s.phase) shdlc ∙ h.closed (ap is_open (sym role) ∙ q);
+        says = record {
+          out = ap (λ (s : EndState). s.session.out) shdlc ∙ (h.says.out ∙ ap fragments_of (sym sent));
+          short = let P : List Message → Type 0 = λ ms. AreShort ms in subst P (sym sent) h.says.short;
+        };
+      };
+      is = shdlc;
+    }
+
+pub turn_mid : (o : Option Activation) (e : LinkEnd) (t : Turn) → AreSendableTurns (t ∷ []) → Mid o e → Turned o e (turn e t) (core_turn e t)
+turn_mid o e (Hold held) a h =
+    let k = ready_keeps e.shdlc (not held) h.idle in
+    record {
+      mid = record {
+        acts = h.acts;
+        idle = k.idle;
+        closed = λ q. ready_phase e.shdlc (not held) ∙ h.closed q;
+        says = record { out = k.out ∙ h.says.out; short = h.says.short };
+      };
       is = refl;
     }
+turn_mid o e FetchMessage a h = turned_beside o e (record e { got = drop 1 e.got }) refl refl refl refl h
+turn_mid o e Release a h = turned_beside o e (record e { aside = e.aside - 1 }) refl refl refl refl h
+turn_mid o e SetAside a h = go (aside_refusal e) refl
+  where
+    none : aside_refusal e ≡ None → turn e SetAside ≡ record e { aside = e.aside + 1 }
+    none q = rw q refl
+
+    some : (r : Refused) → aside_refusal e ≡ Some r → turn e SetAside ≡ e
+    some r q = rw q refl
+
+    go : (x : Option Refused) → aside_refusal e ≡ x → Turned o e (turn e SetAside) []
+    go None q =
+        turned_same o e (turn e SetAside) [] [] (record e { aside = e.aside + 1 }) (none q) refl
+        (turned_beside o e (record e { aside = e.aside + 1 }) refl refl refl refl h)
+    go (Some r) q = turned_same o e (turn e SetAside) [] [] e (some r q) refl (turned_beside o e e refl refl refl refl h)
 turn_mid o e (Give m) a h = go (give_refusal e m) refl
   where
     fs : List (List ℕ)
@@ -157,7 +187,10 @@ turns_mid o e (t ∷ ts) a h =
   where
     parted : (t : Turn) (ts : List Turn) → AreSendableTurns (t ∷ ts) → AreSendableTurns (t ∷ []) × AreSendableTurns ts
     parted (Give m) ts a = ((a.0, tt), a.1)
-    parted (SetReady r) ts a = (tt, a)
+    parted (Hold held) ts a = (tt, a)
+    parted FetchMessage ts a = (tt, a)
+    parted SetAside ts a = (tt, a)
+    parted Release ts a = (tt, a)
 
 -- ## A link
 
@@ -290,12 +323,22 @@ step_becomes l k o e s host past h is calm =
 -- turns come before
 pub turned_role : (e : LinkEnd) (ts : List Turn) → (turned e ts).role ≡ e.role
 turned_role e [] = refl
-turned_role e (SetReady r ∷ ts) = turned_role (turn e (SetReady r)) ts
-turned_role e (Give m ∷ ts) = turned_role (turn e (Give m)) ts ∙ go (give_refusal e m) refl
+turned_role e (t ∷ ts) = turned_role (turn e t) ts ∙ one t
   where
-    go : (o : Option Refused) → give_refusal e m ≡ o → (turn e (Give m)).role ≡ e.role
-    go None q = rw q refl
-    go (Some r) q = rw q refl
+    one : (t : Turn) → (turn e t).role ≡ e.role
+    one (Hold held) = refl
+    one FetchMessage = refl
+    one Release = refl
+    one SetAside = go (aside_refusal e) refl
+      where
+        go : (o : Option Refused) → aside_refusal e ≡ o → (turn e SetAside).role ≡ e.role
+        go None q = rw q refl
+        go (Some r) q = rw q refl
+    one (Give m) = go (give_refusal e m) refl
+      where
+        go : (o : Option Refused) → give_refusal e m ≡ o → (turn e (Give m)).role ≡ e.role
+        go None q = rw q refl
+        go (Some r) q = rw q refl
 
 pub step_turned : (l k : Link) (o : Option Activation) (e : LinkEnd) (ts : List Turn) → k.host ≡ l.host → AllSay k.controller.past
     → AreSendableTurns ts → Mid o e

@@ -3,25 +3,29 @@ use Rattle.std.proofs.Common.{◌≡◌, ℕ, ◌≤◌, ◌<◌, Bool, true, fa
 use Rattle.std.specs.Prelude.{option_to_list}
 use Rattle.swp_base.specs.declared.control_frames.Control.{Control}
 use Rattle.swp_base.specs.declared.control_frames.Control.TheVariants.{I, S, Rset, Ua, Act, Clt}
-use Rattle.swp_act.specs.declared.ActEvent.TheVariants.{Start as ActStart}
-use Rattle.session_laws.specs.Sessions.{OnWire, Link as CoreLink, EndEvent as CoreEndEvent, LinkEvent as CoreLinkEvent, IsStart as CoreIsStart, exchanged as core_exchanged, happens as core_happens, happens_here as core_happens_here, all_here as core_all_here, after as core_after, ticks_or_cut as core_ticks_or_cut, aged as core_aged, AllAllowed as CoreAllAllowed, AreTurns as CoreAreTurns, IsAllowed as CoreIsAllowed}
+use Rattle.swp_act.specs.Activation.{is_active}
+use Rattle.swp_act.specs.declared.clf.ClfAct.{ClfAct}
+use Rattle.swp_act.specs.declared.ActEvent.TheVariants.{Start as ActStart, Stop as ActStop}
+use Rattle.shdlc_core.specs.Machine.{EndState, stopped}
+use Rattle.session_laws.specs.Sessions.{OnWire, Link as CoreLink, Turn as CoreTurn, EndEvent as CoreEndEvent, LinkEvent as CoreLinkEvent, IsStart as CoreIsStart, exchanged as core_exchanged, happens as core_happens, happens_here as core_happens_here, all_here as core_all_here, after as core_after, aged as core_aged, ticks_or_cut as core_ticks_or_cut, AllAllowed as CoreAllAllowed, AreTurns as CoreAreTurns, IsAllowed as CoreIsAllowed}
 use Rattle.session_laws.specs.Sessions.EndEvent.{Deliver as CoreDeliver, Acts as CoreActs, Stop as CoreStop}
 use Rattle.session_laws.specs.Sessions.LinkEvent.{AtController as CoreAtController, AtHost as CoreAtHost, Tick as CoreTick}
-use Rattle.session_laws.proofs.Steps.{safe, in_order_here, in_order_there}
-use Rattle.link_machine.specs.Machine.{LinkEnd, Role, Turn, Refused, reset_refusal, is_open, act_answer, role_after, started}
-use Rattle.message_link.specs.Links.{Link, Half, EndEvent, LinkEvent, exchanged, happens_here, all_here, happens, after, aged, ticks_or_cut, started_here, becomes, IsAllowed, IsTurn, AreTurns, IsEvent, AllAllowed}
-use Rattle.message_link.specs.Links.EndEvent.{Deliver, Lose, Resets, Turns, Cut}
+use Rattle.session_laws.proofs.Sending.{SafeLink}
+use Rattle.session_laws.proofs.Steps.{safe, in_order_here, in_order_there, safe_aged, safe_turns, safe_exchanged, tick_or_cut}
+use Rattle.link_machine.specs.Machine.{LinkEnd, Role, Turn, Refused, reset_refusal, window_of, is_open, act_answer, activated, moved, role_after, started, renewed, turned}
+use Rattle.link_machine.specs.Machine.Role.{Bare, Clf, Uicc}
+use Rattle.message_link.specs.Links.{Link, Half, Ending, Comes, EndEvent, LinkEvent, exchanged, steps_here, happens_here, all_here, happens, after, aged, ticks_here, silent, IsClf, IsUicc, IsWindow, CanStart, CanCome, IsNode, IsAllowed, IsOwn, AreOwn, IsEvent, AllAllowed}
+use Rattle.message_link.specs.Links.Ending.{GoesOut, CutOff}
+use Rattle.message_link.specs.Links.Comes.{NextFrame, AsksReset, Starts, Stops, NoInput}
+use Rattle.message_link.specs.Links.EndEvent.{Step as EndStep, Lose}
 use Rattle.message_link.specs.Links.LinkEvent.{AtController, AtHost, Ticks, Activate}
-use Rattle.message_link.specs.Projection.{core_of, core_take, core_here, core_all, core_tick, core_tick_acts, core_event, core_events}
-use Rattle.message_link.proofs.Project.{Tells, Step}
-use Rattle.message_link.proofs.Steps.{Rests, FromHost, step_deliver, step_reset, step_turns, step_cut, step_tick, step_start_clf, step_start_uicc, started_role}
-use Rattle.message_link.proofs.Calm.{Calm, CalmLink, with_sent, calm_swap, calm_drop, calm_aged, calm_start, polite_of}
+use Rattle.message_link.specs.Projection.{core_of, core_take, core_ending, core_reset, core_step, core_here, core_all, core_tick, core_tick_rest, is_lost_tick, core_event, core_events}
+use Rattle.message_link.proofs.Project.{Tells, Step, turned_role}
+use Rattle.message_link.proofs.Steps.{Rests, FromHost, activated_role}
+use Rattle.message_link.proofs.Finishing.{step_idle, step_frame, step_reset, step_restart, step_tick, all_here-append}
+use Rattle.message_link.proofs.Calm.{Calm, CalmLink, calm_swap, calm_drop, calm_aged, calm_start, calm_stop, polite_of}
 
 -- ## Lists of events
-
-all_here-append : (c : CoreLink) (es fs : List CoreEndEvent) → core_all_here c (es ++ fs) ≡ core_all_here (core_all_here c es) fs
-all_here-append c [] fs = refl
-all_here-append c (e ∷ es) fs = all_here-append (core_happens_here c e) es fs
 
 after-append : (c : CoreLink) (es fs : List CoreLinkEvent) → core_after c (es ++ fs) ≡ core_after (core_after c es) fs
 after-append c [] fs = refl
@@ -46,6 +50,10 @@ after_there c (e ∷ es) = after_there (core_exchanged (core_happens_here (core_
 abbrev AreAllowed : List CoreEndEvent → Type 0
 AreAllowed [] = Unit {0}
 AreAllowed (e ∷ es) = CoreIsAllowed e × AreAllowed es
+
+are_allowed-append : (es fs : List CoreEndEvent) → AreAllowed es → AreAllowed fs → AreAllowed (es ++ fs)
+are_allowed-append [] fs a b = b
+are_allowed-append (e ∷ es) fs a b = (a.0, are_allowed-append es fs a.1 b)
 
 allowed_here : (es : List CoreEndEvent) → AreAllowed es → CoreAllAllowed (map CoreAtController es)
 allowed_here [] a = tt
@@ -75,56 +83,61 @@ take_allowed e c ts = go c (is_open e.role) refl
     go Clt true q = rw q (tt, tt)
     go Clt false q = rw q (tt, tt)
 
-reset_allowed : (l : Link) (w : ℕ) (ts : List Turn) → (0 < w) × (w ≤ 4) → AreAllowed (core_here l (Resets w ts)) × CoreAreTurns (core_here l (Resets w ts))
-reset_allowed l w ts a = go (reset_refusal l.controller.side) refl
-  where
-    go : (o : Option Refused) → reset_refusal l.controller.side ≡ o → AreAllowed (core_here l (Resets w ts)) × CoreAreTurns (core_here l (Resets w ts))
-    go None q = rw q ((a, tt), (a, tt))
-    go (Some r) q = rw q ((tt, tt), (tt, tt))
+-- what is allowed at an end, and in a tick where no frame is taken
+record Both (es : List CoreEndEvent) : Type 0 where
+  allowed : AreAllowed es
+  turns : CoreAreTurns es
 
-here_allowed : (l : Link) (e : EndEvent) → IsAllowed l e → AreAllowed (core_here l e)
-here_allowed l (Deliver ts) a = go l.to_controller refl
+ending_both : (ending : Ending) → Both (core_ending ending)
+ending_both GoesOut = record { allowed = tt; turns = tt }
+ending_both CutOff = record { allowed = (tt, tt); turns = (tt, tt) }
+
+window_fits : (e : LinkEnd) (window : Option ℕ) → Rests e.shdlc → IsWindow window → (0 < window_of e window) × (window_of e window ≤ 4)
+window_fits e None r a = r.own
+window_fits e (Some w) r a = a
+
+reset_both : (o : Option Refused) (e : LinkEnd) (w : ℕ) (ts : List Turn) (ending : Ending) → (0 < w) × (w ≤ 4) → Both (core_reset o e w ts ending)
+reset_both None e w ts GoesOut a = record { allowed = (a, tt); turns = (a, tt) }
+reset_both None e w ts CutOff a = record { allowed = (tt, tt); turns = (tt, tt) }
+reset_both (Some why) e w ts ending a = let b = ending_both ending in record { allowed = (tt, b.allowed); turns = (tt, b.turns) }
+
+step_allowed : (l : Link) (comes : Comes) (ts : List Turn) (ending : Ending) → Rests l.controller.side.shdlc → CanCome l comes
+    → AreAllowed (core_step l comes ts ending)
+step_allowed l NextFrame ts ending r a = go l.to_controller refl
   where
-    go : (w : List OnWire) → l.to_controller ≡ w → AreAllowed (core_here l (Deliver ts))
+    go : (w : List OnWire) → l.to_controller ≡ w → AreAllowed (core_step l NextFrame ts ending)
     go [] q = rw q tt
-    go (x ∷ xs) q = rw q (take_allowed l.controller.side x.frame ts)
-here_allowed l Lose a = (tt, tt)
-here_allowed l (Resets w ts) a = (reset_allowed l w ts (a.0, a.1)).0
-here_allowed l (Turns ts) a = (tt, tt)
-here_allowed l Cut a = (tt, tt)
+    go (x ∷ xs) q =
+        rw q (are_allowed-append (core_take l.controller.side x.frame ts) (core_ending ending) (take_allowed l.controller.side x.frame ts)
+        (ending_both ending).allowed)
+step_allowed l (AsksReset window) ts ending r a =
+    (reset_both (reset_refusal l.controller.side) l.controller.side (window_of l.controller.side window) ts ending
+    (window_fits l.controller.side window r a)).allowed
+step_allowed l (Starts value) ts ending r a = (tt, (tt, (ending_both ending).allowed))
+step_allowed l Stops ts ending r a = (tt, (tt, (ending_both ending).allowed))
+step_allowed l NoInput ts ending r a = (tt, (ending_both ending).allowed)
 
-turn_allowed : (l : Link) (e : EndEvent) → IsTurn l e → CoreAreTurns (core_here l e)
-turn_allowed l (Deliver ts) a = absurd a
-turn_allowed l Lose a = absurd a
-turn_allowed l (Resets w ts) a = (reset_allowed l w ts (a.0, a.1)).1
-turn_allowed l (Turns ts) a = (tt, tt)
-turn_allowed l Cut a = (tt, tt)
+own_turns : (l : Link) (e : EndEvent) → Rests l.controller.side.shdlc → IsOwn e → IsAllowed l e → CoreAreTurns (core_here l e)
+own_turns l (EndStep NextFrame ts ending) r o a = absurd o
+own_turns l (EndStep (AsksReset window) ts ending) r o a =
+    (reset_both (reset_refusal l.controller.side) l.controller.side (window_of l.controller.side window) ts ending
+    (window_fits l.controller.side window r a.0)).turns
+own_turns l (EndStep (Starts value) ts ending) r o a = (tt, (tt, (ending_both ending).turns))
+own_turns l (EndStep Stops ts ending) r o a = (tt, (tt, (ending_both ending).turns))
+own_turns l (EndStep NoInput ts ending) r o a = (tt, (ending_both ending).turns)
+own_turns l Lose r o a = absurd o
 
-all_turns : (l : Link) (es : List EndEvent) → AreTurns l es → CoreAreTurns (core_all l es)
-all_turns l [] a = tt
-all_turns l (e ∷ es) a = turns-append (core_here l e) (core_all (happens_here l e) es) (turn_allowed l e a.0) (all_turns (happens_here l e) es a.1)
+here_allowed : (l : Link) (e : EndEvent) → Rests l.controller.side.shdlc → IsAllowed l e → AreAllowed (core_here l e)
+here_allowed l (EndStep comes ts ending) r a = step_allowed l comes ts ending r a.0
+here_allowed l Lose r a = (tt, tt)
 
-acts_allowed : (e : LinkEnd) (c : Option (List Turn)) → AreAllowed (core_tick_acts e c) × CoreAreTurns (core_tick_acts e c)
-acts_allowed e None = (tt, tt)
-acts_allowed e (Some ts) = go (is_open e.role) refl
+rest_both : (e : LinkEnd) (ts : List Turn) (ending : Ending) → Both (core_tick_rest e ts ending)
+rest_both e ts ending = go (is_lost_tick e ending) (is_open e.role) refl refl (ending_both ending)
   where
-    go : (b : Bool) → is_open e.role ≡ b → AreAllowed (core_tick_acts e (Some ts)) × CoreAreTurns (core_tick_acts e (Some ts))
-    go true q = rw q (tt, tt)
-    go false q = rw q ((tt, tt), (tt, tt))
-
-event_allowed : (l : Link) (e : LinkEvent) → IsEvent l e → CoreAllAllowed (core_event l e)
-event_allowed l (AtController e) a = allowed_here (core_here l e) (here_allowed l e a)
-event_allowed l (AtHost e) a = allowed_there (core_here (exchanged l) e) (here_allowed (exchanged l) e a)
-event_allowed l (Ticks c es h) a = (
-  turns-append (core_tick_acts l.controller.side c) (core_all (ticks_or_cut c (aged l)) es) (acts_allowed l.controller.side c).1
-      (all_turns (ticks_or_cut c (aged l)) es a.1),
-  allowed_there (core_tick_acts l.host.side h) (acts_allowed l.host.side h).0,
-)
-event_allowed l (Activate id power) a = (tt, (tt, (tt, tt)))
-
-pub events_allowed : (l : Link) (events : List LinkEvent) → AllAllowed l events → CoreAllAllowed (core_events l events)
-events_allowed l [] a = tt
-events_allowed l (e ∷ es) a = allowed-append (core_event l e) (core_events (happens l e) es) (event_allowed l e a.0) (events_allowed (happens l e) es a.1)
+    go : (a b : Bool) → is_lost_tick e ending ≡ a → is_open e.role ≡ b → Both (core_ending ending) → Both (core_tick_rest e ts ending)
+    go true b p q h = rw p (record { allowed = tt; turns = tt })
+    go false true p q h = rw (p, q) h
+    go false false p q h = rw (p, q) (record { allowed = (tt, h.allowed); turns = (tt, h.turns) })
 
 -- ## What is known between events
 
@@ -139,9 +152,10 @@ pub record Ordered (c : CoreLink) : Type 0 where
   pub here : FromHost c
   pub there : FromHost (core_exchanged c)
 
-pub record Event (l m : Link) (c : CoreLink) : Type 0 where
+pub record Event (l m : Link) (c : CoreLink) (es : List CoreLinkEvent) : Type 0 where
   pub core : core_of m ≡ c
   pub good : Good m
+  pub allowed : CoreAllAllowed es
 
 -- a link over fragments that comes of a start
 pub record Reached (c : CoreLink) : Type 0 where
@@ -154,16 +168,17 @@ pub record Reached (c : CoreLink) : Type 0 where
 pub ordered : (c : CoreLink) → Reached c → Ordered c
 ordered c r =
     subst Ordered r.is
-    (record { here = λ n. in_order_there r.start r.starts r.events r.allowed n; there = λ n. in_order_here r.start r.starts r.events r.allowed n })
+    (record {
+      here = λ n. in_order_there r.start r.starts r.events r.allowed n;
+      there = λ n. in_order_here r.start r.starts r.events r.allowed n;
+    })
 
-record BothRest (c : CoreLink) : Type 0 where
-  near : Rests c.controller.side
-  far : Rests c.host.side
+pub safe_reached : (c : CoreLink) → Reached c → SafeLink 0 0 c
+safe_reached c r = let P : CoreLink → Type 0 = λ d. SafeLink 0 0 d in subst P r.is (safe r.start r.starts r.events r.allowed)
 
-both_rest : (c : CoreLink) → Reached c → BothRest c
-both_rest c r =
-    let s = safe r.start r.starts r.events r.allowed in
-    subst BothRest r.is (record { near = record { due = s.n_due; none = s.n_none }; far = record { due = s.f_due; none = s.f_none } })
+-- an end between events
+rests_of : (kn kf : ℕ) (c : CoreLink) → SafeLink kn kf c → Rests c.controller.side
+rests_of kn kf c s = record { due = s.n_due; none = s.n_none; own = s.n_windows.own }
 
 pub reached_more : (c : CoreLink) (es : List CoreLinkEvent) → CoreAllAllowed es → Reached c → Reached (core_after c es)
 reached_more c es a r =
@@ -186,144 +201,223 @@ from_controller c r =
     let es : List CoreLinkEvent = CoreAtHost (CoreDeliver []) ∷ [] in
     (ordered (core_after c es) (reached_more c es (tt, tt) r)).there
 
--- ## Events
+-- ## Steps
+
+-- a step that takes no frame
+step_own : (l : Link) (comes : Comes) (ts : List Turn) (ending : Ending) → IsOwn (EndStep comes ts ending) → CanCome l comes → IsNode l ts ending
+    → Tells l.controller → Rests l.controller.side.shdlc
+    → Step l (steps_here l comes ts ending) (core_all_here (core_of l) (core_step l comes ts ending))
+step_own l NextFrame ts ending o a n h r = absurd o
+step_own l (AsksReset window) ts ending o a n h r = step_reset l window ts ending n.0 n.1 h r
+step_own l (Starts value) ts ending o a n h r =
+    step_restart l (ActStart value) ts ending n.0 n.1 h
+    (λ z. calm_start l.controller.side.role l.host.side.role l.to_controller l.to_host value a z)
+step_own l Stops ts ending o a n h r =
+    step_restart l ActStop ts ending n.0 n.1 h
+    (λ z. calm_stop l.controller.side.role l.host.side.role l.to_controller l.to_host a z)
+step_own l NoInput ts ending o a n h r = step_idle l ts ending n.0 n.1 h r
+
+step_lost : (l : Link) → Tells l.controller → Step l (happens_here l Lose) (core_all_here (core_of l) (core_here l Lose))
+step_lost l h = record { core = refl; tells = h; host = refl; calm = lost l.to_controller }
+  where
+    lost : (w : List OnWire) → Calm l.controller.side.role l.host.side.role w l.to_host → Calm l.controller.side.role l.host.side.role (drop 1 w) l.to_host
+    lost [] g = g
+    lost (x ∷ xs) g = calm_drop l.controller.side.role l.host.side.role x xs l.to_host g
 
 step_here : (l : Link) (e : EndEvent) → IsAllowed l e → Tells l.controller → Tells l.host → CalmLink l → Rests l.controller.side.shdlc
-    → FromHost (core_happens_here (core_of l) (CoreDeliver []))
+    → FromHost (core_happens_here (core_of l) (CoreDeliver [])) → Step l (happens_here l e) (core_all_here (core_of l) (core_here l e))
+step_here l Lose a h t z r from = step_lost l h
+step_here l (EndStep NextFrame ts ending) a h t z r from =
+    step_frame l ts ending a.1.0 a.1.1 (polite_of l.controller.side l.host.side.role l.to_controller l.to_host z h.now.closed) h t r from
+step_here l (EndStep (AsksReset window) ts ending) a h t z r from = step_own l (AsksReset window) ts ending tt a.0 a.1 h r
+step_here l (EndStep (Starts value) ts ending) a h t z r from = step_own l (Starts value) ts ending tt a.0 a.1 h r
+step_here l (EndStep Stops ts ending) a h t z r from = step_own l Stops ts ending tt a.0 a.1 h r
+step_here l (EndStep NoInput ts ending) a h t z r from = step_own l NoInput ts ending tt a.0 a.1 h r
+
+own_here : (l : Link) (e : EndEvent) → IsOwn e → IsAllowed l e → Tells l.controller → Rests l.controller.side.shdlc
     → Step l (happens_here l e) (core_all_here (core_of l) (core_here l e))
-step_here l (Deliver ts) a h t z r from = step_deliver l ts a (polite_of l.controller.side l.host.side.role l.to_controller l.to_host z h.now.closed) h t r from
-step_here l Lose a h t z r from = record { core = refl; tells = h; host = refl; calm = lost l }
-  where
-    lost : (l : Link) → CalmLink l → CalmLink (happens_here l Lose)
-    lost l z = go l.to_controller z
-      where
-        go : (w : List OnWire) → Calm l.controller.side.role l.host.side.role w l.to_host → Calm l.controller.side.role l.host.side.role (drop 1 w) l.to_host
-        go [] g = g
-        go (x ∷ xs) g = calm_drop l.controller.side.role l.host.side.role x xs l.to_host g
-step_here l (Resets w ts) a h t z r from = step_reset l w ts a.2 h
-step_here l (Turns ts) a h t z r from = step_turns l ts a h
-step_here l Cut a h t z r from = step_cut l a h
+own_here l Lose o a h r = absurd o
+own_here l (EndStep comes ts ending) o a h r = step_own l comes ts ending o a.0 a.1 h r
 
-step_turn : (l : Link) (e : EndEvent) → IsTurn l e → Tells l.controller → Step l (happens_here l e) (core_all_here (core_of l) (core_here l e))
-step_turn l (Deliver ts) a h = absurd a
-step_turn l Lose a h = absurd a
-step_turn l (Resets w ts) a h = step_reset l w ts a.2 h
-step_turn l (Turns ts) a h = step_turns l ts a h
-step_turn l Cut a h = step_cut l a h
+-- what happens at the controller's end in a tick
+record All (l : Link) (es : List EndEvent) : Type 0 where
+  step : Step l (all_here l es) (core_all_here (core_of l) (core_all l es))
+  turns : CoreAreTurns (core_all l es)
 
-all_step : (l : Link) (es : List EndEvent) → AreTurns l es → Tells l.controller → Step l (all_here l es) (core_all_here (core_of l) (core_all l es))
-all_step l [] a h = record { core = refl; tells = h; host = refl; calm = λ z. z }
-all_step l (e ∷ es) a h =
-    let one = step_turn l e a.0 h in
+all_step : (kf : ℕ) (l : Link) (es : List EndEvent) → AreOwn l es → Tells l.controller → SafeLink 0 kf (core_of l) → All l es
+all_step kf l [] a h s = record { step = record { core = refl; tells = h; host = refl; calm = λ z. z }; turns = tt }
+all_step kf l (e ∷ es) a h s =
+    let r = rests_of 0 kf (core_of l) s in
+    let one = own_here l e a.0 a.1 h r in
     let m : Link = happens_here l e in
-    let more = all_step m es a.1 one.tells in
+    let turns = own_turns l e r a.0 a.1 in
+    let P : CoreLink → Type 0 = λ c. SafeLink 0 kf c in
+    let more = all_step kf m es a.2 one.tells (subst P (sym one.core) (safe_turns kf (core_here l e) (core_of l) turns s)) in
     record {
-      core = more.core ∙ (ap (λ c. core_all_here c (core_all m es)) one.core ∙ sym (all_here-append (core_of l) (core_here l e) (core_all m es)));
-      tells = more.tells;
-      host = more.host ∙ one.host;
-      calm = λ z. more.calm (one.calm z);
+      step = record {
+        core = more.step.core ∙ (ap (λ c. core_all_here c (core_all m es)) one.core ∙ sym (all_here-append (core_of l) (core_here l e) (core_all m es)));
+        tells = more.step.tells;
+        host = more.step.host ∙ one.host;
+        calm = λ z. more.step.calm (one.calm z);
+      };
+      turns = turns-append (core_here l e) (core_all m es) turns more.turns;
     }
 
 tells_same : (h k : Half) → h ≡ k → Tells k → Tells h
 tells_same h k q t = subst Tells (sym q) t
 
-event_step : (l : Link) (e : LinkEvent) → IsEvent l e → Good l → Reached (core_of l) → Event l (happens l e) (core_after (core_of l) (core_event l e))
-event_step l (AtController e) a g r =
+-- the link seen from the other end
+seen : (n : Link) → CalmLink n → CalmLink (exchanged n)
+seen n z = calm_swap n.controller.side.role n.host.side.role n.to_controller n.to_host z
+
+-- ## Events
+
+step_event : (l : Link) (e : EndEvent) → IsAllowed l e → Good l → Reached (core_of l)
+    → Event l (happens_here l e) (core_after (core_of l) (map CoreAtController (core_here l e))) (map CoreAtController (core_here l e))
+step_event l e a g r =
     let q = after_here (core_of l) (core_here l e) in
-    let st = step_here l e a g.controller g.host g.calm (both_rest (core_of l) r).near (from_host (core_of l) r) in
+    let rest = rests_of 0 0 (core_of l) (safe_reached (core_of l) r) in
+    let st = step_here l e a g.controller g.host g.calm rest (from_host (core_of l) r) in
     record {
       core = st.core ∙ sym q;
       good = record { controller = st.tells; host = tells_same (happens_here l e).host l.host st.host g.host; calm = st.calm g.calm };
+      allowed = allowed_here (core_here l e) (here_allowed l e rest a);
     }
-event_step l (AtHost e) a g r =
+
+there_event : (l : Link) (e : EndEvent) → IsAllowed (exchanged l) e → Good l → Reached (core_of l)
+    → Event l (exchanged (happens_here (exchanged l) e)) (core_after (core_of l) (map CoreAtHost (core_here (exchanged l) e)))
+    (map CoreAtHost (core_here (exchanged l) e))
+there_event l e a g r =
     let k : Link = exchanged l in
     let q = after_there (core_of l) (core_here k e) in
-    let swapped = calm_swap l.controller.side.role l.host.side.role l.to_controller l.to_host g.calm in
     let n : Link = happens_here k e in
-    let st = step_here k e a g.host g.controller swapped (both_rest (core_of l) r).far (from_controller (core_of l) r) in
+    let rest = rests_of 0 0 (core_of k) (safe_exchanged 0 0 (core_of l) (safe_reached (core_of l) r)) in
+    let st = step_here k e a g.host g.controller (seen l g.calm) rest (from_controller (core_of l) r) in
     record {
       core = ap core_exchanged st.core ∙ sym q;
-      good = record {
-        controller = tells_same (happens_here k e).host l.controller st.host g.controller;
-        host = st.tells;
-        calm = calm_swap n.controller.side.role n.host.side.role n.to_controller n.to_host (st.calm swapped);
-      };
+      good = record { controller = tells_same n.host l.controller st.host g.controller; host = st.tells; calm = seen n (st.calm (seen l g.calm)) };
+      allowed = allowed_there (core_here k e) (here_allowed k e rest a);
     }
+
+-- a CLF that was started isn't active, whatever came after in the step
+record IsIdleClf (r : Role) : Type 0 where
+  clf : ClfAct
+  is : r ≡ Clf clf
+  idle : is_active clf.phase ≡ false
+
+started_clf : (l : Link) (power : ℕ) (ts : List Turn) (ending : Ending) → IsClf l.controller.side.role
+    → IsIdleClf (steps_here l (Starts power) ts ending).controller.side.role
+started_clf l power ts ending i = by ending (clf l.controller.side.role i refl)
+  where
+    g : LinkEnd
+    g = started l.controller.side power
+
+    clf : (r : Role) → IsClf r → l.controller.side.role ≡ r → IsIdleClf (turned g ts).role
+    clf Bare i q = absurd i
+    clf (Uicc s) i q = absurd i
+    clf (Clf s) i q =
+        let after : (turned g ts).role ≡ role_after l.controller.side.role (ActStart power) =
+        turned_role g ts ∙ activated_role (moved l.controller.side true (stopped l.controller.side.shdlc)) (ActStart power) in
+        record { clf = _; is = after ∙ ap (λ r. role_after r (ActStart power)) q; idle = refl }
+
+    by : (ending : Ending) → IsIdleClf (turned g ts).role → IsIdleClf (steps_here l (Starts power) ts ending).controller.side.role
+    by GoesOut k = k
+    by CutOff k = record { clf = _; is = ap renewed k.is; idle = refl }
+
+can_start : (r f : Role) → IsUicc r → IsIdleClf f → CanStart r f
+can_start Bare f u k = absurd u
+can_start (Clf s) f u k = absurd u
+can_start (Uicc s) f u k = let P : Role → Type 0 = λ z. CanStart (Uicc s) z in subst P (sym k.is) k.idle
+
+event_step : (l : Link) (e : LinkEvent) → IsEvent l e → Good l → Reached (core_of l)
+    → Event l (happens l e) (core_after (core_of l) (core_event l e)) (core_event l e)
+event_step l (AtController e) a g r = step_event l e a g r
+event_step l (AtHost e) a g r = there_event l e a g r
 event_step l (Ticks c es h) a g r =
-    let both = both_rest (core_of l) r in
-    let near : Link = ticks_or_cut c (aged l) in
-    let one = step_tick (aged l) c a.0 g.controller both.near in
-    let two = all_step near es a.1 one.tells in
+    let s0 = safe_aged (core_of l) (safe_reached (core_of l) r) in
+    let near : Link = ticks_here (aged l) c.turns c.ending in
+    let one = step_tick (aged l) c.turns c.ending a.0.0 a.0.1 g.controller (rests_of 1 1 (core_of (aged l)) s0) in
+    let rest : List CoreEndEvent = core_tick_rest l.controller.side c.turns c.ending in
+    let t : Option (List CoreTurn) = core_tick l.controller.side c.turns c.ending in
+    let start : CoreLink = core_ticks_or_cut t (core_aged (core_of l)) in
+    let rest_turns = rest_both l.controller.side c.turns c.ending in
+    let s1 = safe_turns 1 rest start rest_turns.turns (tick_or_cut 1 t (core_aged (core_of l)) s0) in
+    let P : CoreLink → Type 0 = λ d. SafeLink 0 1 d in
+    let near_safe : SafeLink 0 1 (core_of near) = subst P (sym one.core) s1 in
+    let all = all_step 1 near es a.1 one.tells near_safe in
+    let two = all.step in
     let m : Link = all_here near es in
+    let m_safe : SafeLink 0 1 (core_of m) = subst P (sym two.core) (safe_turns 1 (core_all near es) (core_of near) all.turns near_safe) in
     let host_is : m.host ≡ l.host = two.host ∙ one.host in
-    let far_rests : Rests m.host.side.shdlc = let P : Half → Type 0 = λ z. Rests z.side.shdlc in subst P (sym host_is) both.far in
-    let n : Link = ticks_or_cut h (exchanged m) in
-    let three = step_tick (exchanged m) h a.2 (tells_same m.host l.host host_is g.host) far_rests in
-    let acts : List CoreEndEvent = core_tick_acts l.controller.side c in
-    let start : CoreLink = core_ticks_or_cut (core_tick l.controller.side c) (core_aged (core_of l)) in
-    let x : CoreLink = core_all_here start (acts ++ core_all near es) in
-    let m_is : core_of m ≡ x = two.core ∙ (ap (λ d. core_all_here d (core_all near es)) one.core ∙ sym (all_here-append start acts (core_all near es))) in
-    let there : List CoreEndEvent = core_tick_acts l.host.side h in
-    let last : CoreLink = core_happens (core_of l) (CoreTick (core_tick l.controller.side c) (acts ++ core_all near es) (core_tick l.host.side h)) in
+    let n : Link = ticks_here (exchanged m) h.turns h.ending in
+    let three = step_tick (exchanged m) h.turns h.ending a.2.0 a.2.1 (tells_same m.host l.host host_is g.host)
+    (rests_of 1 0 (core_of (exchanged m)) (safe_exchanged 0 1 (core_of m) m_safe)) in
+    let x : CoreLink = core_all_here start (rest ++ core_all near es) in
+    let m_is : core_of m ≡ x = two.core ∙ (ap (λ d. core_all_here d (core_all near es)) one.core ∙ sym (all_here-append start rest (core_all near es))) in
+    let there : List CoreEndEvent = core_tick_rest l.host.side h.turns h.ending in
+    let u : Option (List CoreTurn) = core_tick l.host.side h.turns h.ending in
+    let last : CoreLink = core_happens (core_of l) (CoreTick t (rest ++ core_all near es) u) in
     record {
       core = ap core_exchanged
-          (three.core ∙ (ap (λ z. core_all_here (core_ticks_or_cut (core_tick z.side h) (core_exchanged (core_of m))) (core_tick_acts z.side h)) host_is
-          ∙ ap (λ d. core_all_here (core_ticks_or_cut (core_tick l.host.side h) (core_exchanged d)) there) m_is))
+          (three.core ∙ (ap (λ z. core_all_here (core_ticks_or_cut (core_tick z.side h.turns h.ending) (core_exchanged (core_of m)))
+          (core_tick_rest z.side h.turns h.ending)) host_is
+          ∙ ap (λ d. core_all_here (core_ticks_or_cut u (core_exchanged d)) there) m_is))
           ∙ sym (after_there last there);
-      good =
-          record {
-            controller = tells_same (ticks_or_cut h (exchanged m)).host m.controller three.host two.tells;
-            host = three.tells;
-            calm = calm_swap n.controller.side.role n.host.side.role n.to_controller n.to_host
-                (three.calm (calm_swap m.controller.side.role m.host.side.role m.to_controller m.to_host
-                (two.calm (one.calm (calm_aged l.controller.side.role l.host.side.role l.to_controller l.to_host g.calm)))));
-          };
-    }
-event_step l (Activate id power) a g r =
-    let near : Link = started_here l power in
-    let one = step_start_clf l power a.0 g.controller in
-    let k : Link = exchanged near in
-    let both = calm_start l.controller.side.role l.host.side.role l.to_controller l.to_host power id a.0 a.1 g.calm in
-    let far = calm_swap (role_after l.controller.side.role (ActStart power)) (role_after l.host.side.role (ActStart id))
-    (with_sent (act_answer l.host.side.role (ActStart id)).send []) [] both in
-    let P : Half → Type 0 = λ z. Calm (started z.side id).role (started l.controller.side power).role []
-    (with_sent (act_answer z.side.role (ActStart id)).send []) in
-    let here : P l.host = roles [] (with_sent (act_answer l.host.side.role (ActStart id)).send []) (started l.host.side id).role
-    (started l.controller.side power).role (role_after l.host.side.role (ActStart id)) (role_after l.controller.side.role (ActStart power))
-    (started_role l.host.side id) (started_role l.controller.side power) far in
-    let two = step_start_uicc k id (tells_same near.host l.host one.host g.host) (subst P (sym one.host) here) in
-    let n : Link = becomes (started_here k id) (started k.controller.side id) in
-    record {
-      core = ap core_exchanged
-          (two.0.core ∙ (ap (λ z. core_happens_here (core_happens_here (core_of k) CoreStop)
-          (CoreActs (option_to_list (act_answer z.side.role (ActStart id)).send) [])) one.host
-          ∙ ap (λ d. core_happens_here (core_happens_here (core_exchanged d) CoreStop)
-          (CoreActs (option_to_list (act_answer l.host.side.role (ActStart id)).send) [])) one.core));
       good = record {
-        controller = tells_same n.host near.controller two.0.host one.tells;
-        host = two.0.tells;
-        calm = calm_swap n.controller.side.role n.host.side.role n.to_controller n.to_host two.1;
+        controller = tells_same n.host m.controller three.host two.tells;
+        host = three.tells;
+        calm = seen n (three.calm (seen m (two.calm (one.calm (calm_aged l.controller.side.role l.host.side.role l.to_controller l.to_host g.calm)))));
       };
+      allowed = (turns-append rest (core_all near es) rest_turns.turns all.turns, allowed_there there (rest_both l.host.side h.turns h.ending).allowed);
+    }
+event_step l (Activate power c id h) a g r =
+    let x : EndEvent = EndStep (Starts power) c.turns c.ending in
+    let y : EndEvent = EndStep (Starts id) h.turns h.ending in
+    let near : Link = happens_here l x in
+    let es : List CoreLinkEvent = map CoreAtController (core_here l x) in
+    let fs : List CoreLinkEvent = map CoreAtHost (core_here (exchanged near) y) in
+    let clf : CanStart l.controller.side.role l.host.side.role = clf_starts l.controller.side.role l.host.side.role a.0 in
+    let one = step_event l x (clf, a.2) g r in
+    let next : Reached (core_of near) = subst Reached (sym one.core) (reached_more (core_of l) es one.allowed r) in
+    let host : near.host ≡ l.host = (step_own l (Starts power) c.turns c.ending tt clf a.2 g.controller
+    (rests_of 0 0 (core_of l) (safe_reached (core_of l) r))).host in
+    let Q : Half → Type 0 = λ z. IsUicc z.side.role × IsNode (exchanged (record l { host = z })) h.turns h.ending in
+    let there : Q near.host = subst Q (sym host) (a.1, a.3) in
+    let starts : CanStart near.host.side.role near.controller.side.role =
+    can_start near.host.side.role near.controller.side.role there.0 (started_clf l power c.turns c.ending a.0) in
+    let two = there_event near y (starts, there.1) one.good next in
+    record {
+      core = two.core ∙ (ap (λ d. core_after d fs) one.core ∙ sym (after-append (core_of l) es fs));
+      good = two.good;
+      allowed = allowed-append es fs one.allowed two.allowed;
     }
   where
-    roles : (w v : List OnWire) (r f q p : Role) → r ≡ q → f ≡ p → Calm q p w v → Calm r f w v
-    roles w v r f q p x y z = let A : Role → Type 0 = λ t. Calm r t w v in let B : Role → Type 0 = λ t. Calm t p w v in subst A (sym y) (subst B (sym x) z)
+    clf_starts : (r f : Role) → IsClf r → CanStart r f
+    clf_starts Bare f i = absurd i
+    clf_starts (Clf s) f i = tt
+    clf_starts (Uicc s) f i = absurd i
 
 -- ## Runs
 
-pub record Run (l m : Link) (c : CoreLink) : Type 0 where
+pub record Run (l m : Link) (c : CoreLink) (es : List CoreLinkEvent) : Type 0 where
   pub core : core_of m ≡ c
   pub good : Good m
   pub reached : Reached c
+  pub allowed : CoreAllAllowed es
 
 pub run : (events : List LinkEvent) (l : Link) → AllAllowed l events → Good l → Reached (core_of l)
-    → Run l (after l events) (core_after (core_of l) (core_events l events))
-run [] l a g r = record { core = refl; good = g; reached = r }
+    → Run l (after l events) (core_after (core_of l) (core_events l events)) (core_events l events)
+run [] l a g r = record { core = refl; good = g; reached = r; allowed = tt }
 run (e ∷ es) l a g r =
     let c : CoreLink = core_after (core_of l) (core_event l e) in
-    let next : Reached c = reached_more (core_of l) (core_event l e) (event_allowed l e a.0) r in
     let st = event_step l e a.0 g r in
+    let next : Reached c = reached_more (core_of l) (core_event l e) st.allowed r in
     let more = run es (happens l e) a.1 st.good (subst Reached (sym st.core) next) in
     let q : core_after (core_of (happens l e)) (core_events (happens l e) es) ≡ core_after (core_of l) (core_event l e ++ core_events (happens l e) es) =
     ap (λ d. core_after d (core_events (happens l e) es)) st.core ∙ sym (after-append (core_of l) (core_event l e) (core_events (happens l e) es)) in
-    record { core = more.core ∙ q; good = more.good; reached = subst Reached q more.reached }
+    record {
+      core = more.core ∙ q;
+      good = more.good;
+      reached = subst Reached q more.reached;
+      allowed = allowed-append (core_event l e) (core_events (happens l e) es) st.allowed more.allowed;
+    }

@@ -1,5 +1,5 @@
 -- Each thing that may happen at an end is projected, where no chain fault comes.
-use Rattle.std.proofs.Common.{◌≡◌, ℕ, Bool, true, false, not, cond, List, [], ◌∷◌, ◌++◌, Option, Some, None, ◌⊎◌, inl, inr, refl, ap, sym, subst, ◌∙◌, arith}
+use Rattle.std.proofs.Common.{◌≡◌, ℕ, ◌<◌, ◌≤◌, Bool, true, false, not, cond, List, [], ◌∷◌, ◌++◌, map, Option, Some, None, ◌⊎◌, inl, inr, refl, ap, sym, subst, ◌∙◌, arith}
 use Rattle.std.specs.Prelude.{◌+◌, nat_le, is_some, option_to_list, ◌==◌, IsTrue}
 use Rattle.std.proofs.lemmas.Bool.{true≢false}
 use Rattle.std.proofs.lemmas.Grind.{common_steps}
@@ -14,6 +14,7 @@ use Rattle.swp_act.specs.declared.Phase.{Phase}
 use Rattle.swp_act.specs.declared.Phase.TheVariants.{Inactive, Awaiting, Active}
 use Rattle.shdlc_core.specs.declared.answers.LinkState.{LinkState}
 use Rattle.shdlc_core.specs.declared.answers.LinkState.TheVariants.{Down, Waiting, Up}
+use Rattle.shdlc_core.specs.declared.answers.Due.{Due}
 use Rattle.shdlc_core.specs.Machine.{EndState, Session, frame_due, frames_of, after_frames, most_frames, taken, take_answer, ticked, tick_answer, reset_with, is_waiting, stopped, new_end, no_session}
 use Rattle.hcp_packet.specs.Packets.{fragments_of, packets_in, IsFrontOf}
 use Rattle.hcp_chain.specs.Joining.{are_taken}
@@ -24,15 +25,13 @@ use Rattle.session_laws.specs.Sessions.{OnWire, Half as CoreHalf, Link as CoreLi
 use Rattle.session_laws.specs.Sessions.EndEvent.{Turns as CoreTurns, Deliver as CoreDeliver, Ignore as CoreIgnore, Acts as CoreActs, Lose as CoreLose, Reset as CoreReset, Stop as CoreStop}
 use Rattle.session_laws.specs.Losses.{is_act}
 use Rattle.session_laws.proofs.Steps.{took as core_took}
-use Rattle.link_machine.specs.Machine.{LinkEnd, Role, Turn, Refused, is_faulty, is_open, role_after, act_answer, with_act, moved, put_down, activated, started, renewed, new_link_end, took, reset_refusal, if_up, reset_by, turned, after_input, ended_by, ended_by_act, ended_by_frame}
+use Rattle.link_machine.specs.Machine.{Message, LinkEnd, Role, ActDue, Turn, is_faulty, is_open, role_after, act_answer, with_act, in_front, moved, put_down, activated, news, took, if_up, turned, after_input, ended_by, ended_by_frame}
 use Rattle.link_machine.specs.Machine.Role.{Bare, Clf, Uicc}
-use Rattle.link_machine.specs.Machine.LinkInput.{Tick}
-use Rattle.message_link.specs.Links.{Talk, Half, Link, talk_now, ended_talk, talk_of, number_of, becomes, with_ended, has_input, silent, ticks_or_cut, started_here, happens_here, AreSendableTurns, IfLine, IsClf, IsTick}
-use Rattle.message_link.specs.Links.EndEvent.{Deliver, Resets, Turns}
-use Rattle.message_link.specs.Projection.{core_past, core_half, core_of, core_turns, core_take, core_here, core_tick, core_tick_acts}
+use Rattle.message_link.specs.Links.{Talk, Half, Link, talk_now, ended_talk, talk_of, number_of, becomes, with_ended, AreSendableTurns}
+use Rattle.message_link.specs.Projection.{core_past, core_half, core_of, core_turns, core_take}
 use Rattle.message_link.proofs.Calm.{Calm, CalmLink, IsPolite, with_sent, calm_drop, calm_take, calm_tick, calm_cut}
 use Rattle.message_link.proofs.Ends.{Idle, Keeps, taken_keeps, ticked_keeps, Alike, frames_alike}
-use Rattle.message_link.proofs.Project.{Says, Mid, Now, mid_moved, shdlc_moved, frames_now, AllSay, Tells, Step, step_same, becomes_calm, step_becomes, step_turned, past_ended, host_ended, step_moved, opened}
+use Rattle.message_link.proofs.Project.{Says, Mid, Now, mid_moved, moved_role, shdlc_moved, frames_now, AllSay, Tells, Step, step_same, becomes_calm, step_becomes, step_turned, past_ended, host_ended, step_moved, opened}
 
 -- ## A frame is taken
 
@@ -58,12 +57,11 @@ pub core_first : (c : CoreLink) (ts : List CoreTurn) (x : OnWire) (xs : List OnW
     ≡ core_took c ts x xs
 core_first c ts x xs q = rw q refl
 
-pub first : (l : Link) (ts : List Turn) (x : OnWire) (xs : List OnWire) → l.to_controller ≡ x ∷ xs → happens_here l (Deliver ts) ≡ took_first l ts x xs
-first l ts x xs q = rw q refl
-
 -- the end as it takes a frame of SHDLC without a fault
 abbrev pub heard_end : LinkEnd → OnWire → LinkEnd
-heard_end e x = moved e (is_some (take_answer e.shdlc x.frame).ended) (taken e.shdlc x.frame)
+heard_end e x =
+    let f : LinkEnd = moved e (is_some (take_answer e.shdlc x.frame).ended) (taken e.shdlc x.frame) in
+    record f { got = e.got ++ news e.shdlc.session (taken e.shdlc x.frame) }
 
 abbrev pub heard_first : Link → List Turn → OnWire → List OnWire → Link
 heard_first l ts x xs = took_as l ts x xs (is_some (take_answer l.controller.side.shdlc x.frame).ended) (heard_end l.controller.side x)
@@ -74,62 +72,123 @@ first_gone l x xs w z =
     let P : List OnWire → Type 0 = λ v. Calm l.controller.side.role l.host.side.role v l.to_host in
     calm_drop l.controller.side.role l.host.side.role x xs l.to_host (subst P w z)
 
-pub step_heard : (l : Link) (ts : List Turn) (x : OnWire) (xs : List OnWire) → l.to_controller ≡ x ∷ xs → Tells l.controller → AreSendableTurns ts
-    → is_open l.controller.side.role ≡ true
-    → Step l (heard_first l ts x xs) (core_took (core_of l) (core_turns (heard_end l.controller.side x) ts) x xs)
-step_heard l ts x xs w h a open_now = go (is_some (take_answer e.shdlc x.frame).ended) (taken_keeps e.shdlc x.frame h.now.idle)
+-- an end g came of the frame x, and its session ended or not
+pub record Heard (e g : LinkEnd) (x : OnWire) (b : Bool) : Type 0 where
+  pub ended : is_some (take_answer e.shdlc x.frame).ended ≡ b
+  pub shdlc : g.shdlc ≡ taken e.shdlc x.frame
+  pub role : g.role ≡ e.role
+  pub mid : Now g
+
+pub step_heard : (l : Link) (ts : List Turn) (x : OnWire) (xs : List OnWire) (g : LinkEnd) (b : Bool) → l.to_controller ≡ x ∷ xs
+    → Tells l.controller → AreSendableTurns ts → Heard l.controller.side g x b
+    → Step l (took_as l ts x xs b g) (core_took (core_of l) (core_turns g ts) x xs)
+step_heard l ts x xs g b w h a heard = to_core (go b)
   where
     e : LinkEnd
     e = l.controller.side
 
-    s : EndState
-    s = taken e.shdlc x.frame
+    us : List CoreTurn
+    us = core_turns g ts
 
     at : Bool → Link
     at b = with_took (with_ended (record l { to_controller = xs }) b) (took_with l.controller.took x)
 
-    calm : CalmLink l → Calm e.role l.host.side.role xs l.to_host
-    calm z = first_gone l x xs w z
+    calm : CalmLink l → Calm g.role l.host.side.role xs l.to_host
+    calm z = let P : Role → Type 0 = λ r. Calm r l.host.side.role xs l.to_host in subst P (sym heard.role) (first_gone l x xs w z)
 
     core_at : Bool → CoreLink
     core_at b =
         let m : CoreLink = core_with_ended (record (core_of l) { to_controller = xs }) b in
         record m { controller = record m.controller { took = took_with l.controller.took x } }
 
-    go : (b : Bool) → Keeps b e.shdlc s
-        → Step l (becomes (at b) (turned (moved e b s) ts)) (core_becomes (core_at b) (core_turned s (core_turns (moved e b s) ts)))
-    go false k = step_turned l (at false) None (moved e false s) ts refl h.past a (mid_moved e false s h.now k (opened e.role (s.phase ≡ Down) open_now)) calm
-    go true k =
-        step_turned l (at true) None (moved e true s) ts refl (h.now.says, h.past) a (mid_moved e true s h.now k (opened e.role (s.phase ≡ Down) open_now)) calm
+    go : (b : Bool) → Step l (becomes (at b) (turned g ts)) (core_becomes (core_at b) (core_turned g.shdlc us))
+    go false = step_turned l (at false) None g ts refl h.past a heard.mid calm
+    go true = step_turned l (at true) None g ts refl (h.now.says, h.past) a heard.mid calm
+
+    is : core_took (core_of l) us x xs ≡ core_becomes (core_at b) (core_turned g.shdlc us)
+    is =
+        ap (λ c. core_becomes (core_at c) (core_turned (taken e.shdlc x.frame) us)) heard.ended
+        ∙ ap (λ s. core_becomes (core_at b) (core_turned s us)) (sym heard.shdlc)
+
+    to_core : Step l (took_as l ts x xs b g) (core_becomes (core_at b) (core_turned g.shdlc us))
+        → Step l (took_as l ts x xs b g) (core_took (core_of l) us x xs)
+    to_core st = record { core = st.core ∙ sym is; tells = st.tells; host = st.host; calm = st.calm }
+
+-- what came beside doesn't count
+mid_got : (o : Option Activation) (e : LinkEnd) (ms : List Message) → Mid o e → Mid o (record e { got = ms })
+mid_got o e ms h = record { acts = h.acts; idle = h.idle; closed = h.closed; says = h.says }
+
+pub mid_counted : (o : Option Activation) (e : LinkEnd) (n : ℕ) → Mid o e → Mid o (record e { passed_over = n })
+mid_counted o e n h = record { acts = h.acts; idle = h.idle; closed = h.closed; says = h.says }
+
+pub heard_is : (e : LinkEnd) (x : OnWire) → Now e → is_open e.role ≡ true → Heard e (heard_end e x) x (is_some (take_answer e.shdlc x.frame).ended)
+heard_is e x h o =
+    let b : Bool = is_some (take_answer e.shdlc x.frame).ended in
+    let s : EndState = taken e.shdlc x.frame in
+    let m = mid_moved e b s h (taken_keeps e.shdlc x.frame h.idle) (opened e.role (s.phase ≡ Down) o) in
+    record {
+      ended = refl;
+      shdlc = shdlc_moved e b s;
+      role = moved_role e b s;
+      mid = mid_got None (moved e b s) (e.got ++ news e.shdlc.session s) m;
+    }
+
+-- CLT is only counted
+pub counted_is : (e : LinkEnd) (x : OnWire) → Now e → x.frame ≡ Clt → Heard e (record e { passed_over = e.passed_over + 1 }) x false
+counted_is e x h q =
+    record {
+      ended = ap (λ c. is_some (take_answer e.shdlc c).ended) q ∙ (clt e.shdlc).0;
+      shdlc = sym (ap (taken e.shdlc) q ∙ (clt e.shdlc).1);
+      role = refl;
+      mid = mid_counted None e (e.passed_over + 1) h;
+    }
+  where
+    clt : (s : EndState) → (is_some (take_answer s Clt).ended ≡ false) × (taken s Clt ≡ s)
+    clt s = go s.phase refl
+      where
+        go : (p : LinkState) → s.phase ≡ p → (is_some (take_answer s Clt).ended ≡ false) × (taken s Clt ≡ s)
+        go Up p = (rw p refl, rw p refl)
+        go Waiting p = (rw p refl, rw p refl)
+        go Down p = (rw p refl, rw p refl)
+
+-- a frame of SHDLC
+abbrev pub is_shdlc : Control → Bool
+is_shdlc (Act _ _) = false
+is_shdlc Clt = false
+is_shdlc _ = true
 
 -- an end that is open takes a frame of SHDLC as its SHDLC end does
-took_open : (e : LinkEnd) (x : OnWire) → is_act x.frame ≡ false → is_open e.role ≡ true → is_faulty (taken e.shdlc x.frame).session ≡ false
+pub took_open : (e : LinkEnd) (x : OnWire) → is_shdlc x.frame ≡ true → is_open e.role ≡ true → is_faulty (taken e.shdlc x.frame).session ≡ false
     → (took e x.frame ≡ heard_end e x) × (is_some (ended_by_frame e x.frame) ≡ is_some (take_answer e.shdlc x.frame).ended)
 took_open e x q o f = go x.frame q f
   where
-    go : (c : Control) → is_act c ≡ false → is_faulty (taken e.shdlc c).session ≡ false
-        → (took e c ≡ moved e (is_some (take_answer e.shdlc c).ended) (taken e.shdlc c))
-        × (is_some (ended_by_frame e c) ≡ is_some (take_answer e.shdlc c).ended)
-    go (Act _ _) q f = absurd (true≢false q)
+    news_of : Control → LinkEnd
+    news_of c =
+        let g : LinkEnd = moved e (is_some (take_answer e.shdlc c).ended) (taken e.shdlc c) in
+        record g { got = e.got ++ news e.shdlc.session (taken e.shdlc c) }
+
+    go : (c : Control) → is_shdlc c ≡ true → is_faulty (taken e.shdlc c).session ≡ false
+        → (took e c ≡ news_of c) × (is_some (ended_by_frame e c) ≡ is_some (take_answer e.shdlc c).ended)
+    go (Act _ _) q f = absurd (true≢false (sym q))
     go (I ns nr info) q f = (rw (o, f) refl, rw (o, f) refl)
     go (S kind nr) q f = (rw (o, f) refl, rw (o, f) refl)
     go (Rset w caps) q f = (rw (o, f) refl, rw (o, f) refl)
     go Ua q f = (rw (o, f) refl, rw (o, f) refl)
-    go Clt q f = (rw (o, f) refl, rw (o, f) refl)
+    go Clt q f = absurd (true≢false (sym q))
 
 -- one that isn't passes over it
-took_closed : (e : LinkEnd) (c : Control) → is_act c ≡ false → is_open e.role ≡ false → (took e c ≡ e) × (is_some (ended_by_frame e c) ≡ false)
-took_closed e (Act _ _) q o = absurd (true≢false q)
+pub took_closed : (e : LinkEnd) (c : Control) → is_shdlc c ≡ true → is_open e.role ≡ false → (took e c ≡ e) × (is_some (ended_by_frame e c) ≡ false)
+took_closed e (Act _ _) q o = absurd (true≢false (sym q))
 took_closed e (I ns nr info) q o = (rw o refl, rw o refl)
 took_closed e (S kind nr) q o = (rw o refl, rw o refl)
 took_closed e (Rset w caps) q o = (rw o refl, rw o refl)
 took_closed e Ua q o = (rw o refl, rw o refl)
-took_closed e Clt q o = (rw o refl, rw o refl)
+took_closed e Clt q o = absurd (true≢false (sym q))
 
 -- ## Frames of activation
 
 -- an end that was closed stays so, or its link goes down
-role_closes : (r : Role) (act : Activation) (again : Bool) → is_open (role_after r (ActTake act again)) ≡ false
+pub role_closes : (r : Role) (act : Activation) (again : Bool) → is_open (role_after r (ActTake act again)) ≡ false
     → (is_open r ≡ false) ⊎ ((act_answer r (ActTake act again)).ended_link ≡ true)
 role_closes Bare act again q = inl q
 role_closes (Clf s) act true q = inl q
@@ -159,7 +218,7 @@ role_closes (Uicc s) ActReady false q = inl q
 role_closes (Uicc s) (SyncId id) false q = inl q
 
 -- a tick of an end that isn't open
-tick_closes : (r : Role) → is_open r ≡ false → (act_answer r ActTick).ended_link ≡ false
+pub tick_closes : (r : Role) → is_open r ≡ false → (act_answer r ActTick).ended_link ≡ false
 tick_closes Bare q = refl
 tick_closes (Clf s) q = go s.phase refl
   where
@@ -184,12 +243,20 @@ tick_closes (Uicc s) q = go s.phase refl
         by true false x y = rw (p, x, y) refl
         by false b x y = rw (p, x) refl
 
--- a link that is Down doesn't go down
-stays_down : (b : Bool) (e : LinkEnd) → (b ≡ true → e.shdlc.phase ≡ Down) → (put_down b e ≡ e) × (is_some (cond b (if_up e.shdlc ByAct) None) ≡ false)
-stays_down false e d = (refl, refl)
-stays_down true e d = let q = d refl in (rw q refl, rw q refl)
+-- a link that is Down and has nothing to send doesn't go down
+pub stays_down : (b : Bool) (e : LinkEnd) → (b ≡ true → e.shdlc.phase ≡ Down) → e.shdlc.due ≡ [] → e.acts ≡ []
+    → (put_down b e ≡ e) × (is_some (cond b (if_up e.shdlc ByAct) None) ≡ false)
+stays_down false e d due acts = (refl, refl)
+stays_down true e d due acts =
+    let q = d refl in
+    let at : List Due → List ActDue → LinkEnd = λ ds more. record e { shdlc = record e.shdlc { due = ds }; acts = more } in
+    let empty : put_down true e ≡ at [] (map in_front e.acts) = rw q refl in
+    let none : map in_front e.acts ≡ e.acts = ap (map in_front) acts ∙ sym acts in (
+      empty ∙ (ap (λ ds. at ds (map in_front e.acts)) (sym due) ∙ ap (at e.shdlc.due) none),
+      rw q refl,
+    )
 
-activated_role : (e : LinkEnd) (event : ActEvent) → (activated e event).role ≡ role_after e.role event
+pub activated_role : (e : LinkEnd) (event : ActEvent) → (activated e event).role ≡ role_after e.role event
 activated_role e event = go (act_answer e.role event).send
   where
     go : (o : Option Activation) → (with_act o (record (put_down (act_answer e.role event).ended_link e) { role = role_after e.role event })).role
@@ -202,10 +269,10 @@ pub record Acted (e f : LinkEnd) (o : Option Activation) : Type 0 where
   pub mid : Mid o f
   pub same : f.shdlc ≡ e.shdlc
 
-act_mid : (e : LinkEnd) (event : ActEvent) → Now e → e.shdlc.due ≡ [] → ((act_answer e.role event).ended_link ≡ true → e.shdlc.phase ≡ Down)
+pub act_mid : (e : LinkEnd) (event : ActEvent) → Now e → e.shdlc.due ≡ [] → ((act_answer e.role event).ended_link ≡ true → e.shdlc.phase ≡ Down)
     → (is_open (role_after e.role event) ≡ false → e.shdlc.phase ≡ Down) → Acted e (activated e event) (act_answer e.role event).send
 act_mid e event h due down closed =
-    subst (λ f. Acted e (with_act o (record f { role = r })) o) (sym (stays_down (act_answer e.role event).ended_link e down).0) (sends o)
+    subst (λ f. Acted e (with_act o (record f { role = r })) o) (sym (stays_down (act_answer e.role event).ended_link e down due h.acts).0) (sends o)
   where
     o : Option Activation
     o = (act_answer e.role event).send
@@ -287,14 +354,20 @@ no_fault_first l x xs w h t o from = go s.phase refl
     m : Link
     m = heard_first l [] x xs
 
+    b : Bool
+    b = is_some (take_answer l.controller.side.shdlc x.frame).ended
+
+    is : Heard l.controller.side (heard_end l.controller.side x) x b
+    is = heard_is l.controller.side x h.now o
+
     st : Step l m (core_took (core_of l) [] x xs)
-    st = step_heard l [] x xs w h tt o
+    st = step_heard l [] x xs (heard_end l.controller.side x) b w h tt is
 
     idle : Idle s
     idle = (taken_keeps l.controller.side.shdlc x.frame h.now.idle).idle
 
     side_is : m.controller.side.shdlc ≡ after_frames most_frames s
-    side_is = ap (after_frames most_frames) (shdlc_moved l.controller.side (is_some (take_answer l.controller.side.shdlc x.frame).ended) s)
+    side_is = ap (after_frames most_frames) is.shdlc
 
     alike : Alike s m.controller.side.shdlc
     alike = subst (Alike s) (sym side_is) (frames_alike most_frames s)
@@ -329,6 +402,7 @@ no_fault_first l x xs w h t o from = go s.phase refl
 pub record Rests (s : EndState) : Type 0 where
   pub due : s.due ≡ []
   pub none : (s.phase ≡ Up → ⊥) → s.session ≡ no_session
+  pub own : (0 < s.own_window) × (s.own_window ≤ 4)
 
 ignore_is : (c : CoreLink) (ts : List CoreTurn) (x : OnWire) (xs : List OnWire) → c.controller.side.phase ≡ Down → c.to_controller ≡ x ∷ xs
     → core_happens_here c (CoreIgnore ts)
@@ -339,11 +413,12 @@ ignore_is c ts x xs p q = rw (p, q) refl
 lose_is : (c : CoreLink) (x : OnWire) (xs : List OnWire) → c.to_controller ≡ x ∷ xs → core_happens_here c CoreLose ≡ record c { to_controller = xs }
 lose_is c x xs q = rw q refl
 
-polite : (e : LinkEnd) (x : OnWire) (xs : List OnWire) (act : Activation) (again : Bool) → x.frame ≡ Act act again → IsPolite e (x ∷ xs)
+pub polite : (e : LinkEnd) (x : OnWire) (xs : List OnWire) (act : Activation) (again : Bool) → x.frame ≡ Act act again → IsPolite e (x ∷ xs)
     → (act_answer e.role (ActTake act again)).ended_link ≡ true → e.shdlc.phase ≡ Down
 polite e x xs act again q h = rw q at h
 
-step_first : (l : Link) (ts : List Turn) (x : OnWire) (xs : List OnWire) → l.to_controller ≡ x ∷ xs → AreSendableTurns ts → IsPolite l.controller.side (x ∷ xs)
+pub step_first : (l : Link) (ts : List Turn) (x : OnWire) (xs : List OnWire) → l.to_controller ≡ x ∷ xs → AreSendableTurns ts
+    → IsPolite l.controller.side (x ∷ xs)
     → Tells l.controller → Tells l.host → Rests l.controller.side.shdlc → FromHost (core_took (core_of l) [] x xs)
     → Step l (took_first l ts x xs) (core_all_here (core_of l) (core_take l.controller.side x.frame ts))
 step_first l ts x xs w a p h t rests from = go x.frame refl
@@ -368,24 +443,48 @@ step_first l ts x xs w a p h t rests from = go x.frame refl
     take_closed Ua q o = rw o refl
     take_closed Clt q o = rw o refl
 
-    shdlc : (b : Bool) → is_open e.role ≡ b → is_act x.frame ≡ false → Step l (took_first l ts x xs) (core_all_here (core_of l) (core_take e x.frame ts))
-    shdlc true o q =
-        let f = took_open e x q o (no_fault_first l x xs w h t o from) in
-        step_same l (took_first l ts x xs) (heard_first l ts x xs) (core_all_here (core_of l) (core_take e x.frame ts))
-        (core_took (core_of l) (core_turns (heard_end e x) ts) x xs)
-        (took_is_as l ts x xs (is_some (take_answer e.shdlc x.frame).ended) (heard_end e x) f.1 f.0)
+    -- the end becomes g
+    open_as : (g : LinkEnd) (b : Bool) → is_act x.frame ≡ false → is_open e.role ≡ true → took e x.frame ≡ g
+        → is_some (ended_by_frame e x.frame) ≡ b → Heard e g x b
+        → Step l (took_first l ts x xs) (core_all_here (core_of l) (core_take e x.frame ts))
+    open_as g b q o is ends heard =
+        step_same l (took_first l ts x xs) (took_as l ts x xs b g) (core_all_here (core_of l) (core_take e x.frame ts))
+        (core_took (core_of l) (core_turns g ts) x xs)
+        (took_is_as l ts x xs b g ends is)
         (ap (core_all_here (core_of l)) (take_open x.frame q o) ∙ (core_first (core_of l) (core_turns (took e x.frame) ts) x xs w
-        ∙ ap (λ f. core_took (core_of l) (core_turns f ts) x xs) f.0))
-        (step_heard l ts x xs w h a o)
-    shdlc false o q =
-        let f = took_closed e x.frame q o in
+        ∙ ap (λ f. core_took (core_of l) (core_turns f ts) x xs) is))
+        (step_heard l ts x xs g b w h a heard)
+
+    closed_as : (g : LinkEnd) → is_act x.frame ≡ false → is_open e.role ≡ false → took e x.frame ≡ g
+        → is_some (ended_by_frame e x.frame) ≡ false → g.shdlc ≡ e.shdlc → g.role ≡ e.role → Now g
+        → Step l (took_first l ts x xs) (core_all_here (core_of l) (core_take e x.frame ts))
+    closed_as g q o is ends shdlc role mid =
         let k : Link = with_took (with_ended (record l { to_controller = xs }) false) (took_with l.controller.took x) in
-        step_same l (took_first l ts x xs) (took_as l ts x xs false e) (core_all_here (core_of l) (core_take e x.frame ts))
-        (core_becomes (core_of k) (core_turned e.shdlc (core_turns e ts)))
-        (took_is_as l ts x xs false e f.1 f.0)
+        let us : List CoreTurn = core_turns g ts in
+        let P : Role → Type 0 = λ r. Calm r l.host.side.role xs l.to_host in
+        step_same l (took_first l ts x xs) (took_as l ts x xs false g) (core_all_here (core_of l) (core_take e x.frame ts))
+        (core_becomes (core_of k) (core_turned g.shdlc us))
+        (took_is_as l ts x xs false g ends is)
         (ap (core_all_here (core_of l)) (take_closed x.frame q o) ∙ (ignore_is (core_of l) (core_turns (took e x.frame) ts) x xs (h.now.closed o) w
-        ∙ ap (λ f. core_becomes (core_of k) (core_turned e.shdlc (core_turns f ts))) f.0))
-        (step_turned l k None e ts refl h.past a h.now (first_gone l x xs w))
+        ∙ (ap (λ f. core_becomes (core_of k) (core_turned e.shdlc (core_turns f ts))) is
+        ∙ ap (λ s. core_becomes (core_of k) (core_turned s us)) (sym shdlc))))
+        (step_turned l k None g ts refl h.past a mid (λ z. subst P (sym role) (first_gone l x xs w z)))
+
+    shdlc : (b : Bool) → is_open e.role ≡ b → is_shdlc x.frame ≡ true → is_act x.frame ≡ false
+        → Step l (took_first l ts x xs) (core_all_here (core_of l) (core_take e x.frame ts))
+    shdlc true o s q =
+        let f = took_open e x s o (no_fault_first l x xs w h t o from) in
+        open_as (heard_end e x) (is_some (take_answer e.shdlc x.frame).ended) q o f.0 f.1 (heard_is e x h.now o)
+    shdlc false o s q = let f = took_closed e x.frame s o in closed_as e q o f.0 f.1 refl refl h.now
+
+    -- CLT
+    counts : (b : Bool) → is_open e.role ≡ b → x.frame ≡ Clt → Step l (took_first l ts x xs) (core_all_here (core_of l) (core_take e x.frame ts))
+    counts true o q =
+        open_as (record e { passed_over = e.passed_over + 1 }) false (ap is_act q) o (ap (took e) q)
+        (ap (λ c. is_some (ended_by_frame e c)) q) (counted_is e x h.now q)
+    counts false o q =
+        closed_as (record e { passed_over = e.passed_over + 1 }) (ap is_act q) o (ap (took e) q) (ap (λ c. is_some (ended_by_frame e c)) q) refl refl
+        (mid_counted None e (e.passed_over + 1) h.now)
 
     -- a frame of activation
     acts : (act : Activation) (again : Bool) → x.frame ≡ Act act again
@@ -400,7 +499,8 @@ step_first l ts x xs w a p h t rests from = go x.frame refl
         let k : Link = record l { to_controller = xs } in
         let st = step_turned l k o f ts refl h.past a m.mid (taken_calm act again q) in
         let frame_is : took_first l ts x xs ≡ took_as l ts x xs false f =
-        took_is_as l ts x xs false f (ap (λ c. is_some (ended_by_frame e c)) q ∙ (stays_down (act_answer e.role event).ended_link e down).1) (ap (took e) q) in
+        took_is_as l ts x xs false f (ap (λ c. is_some (ended_by_frame e c)) q
+        ∙ (stays_down (act_answer e.role event).ended_link e down rests.due h.now.acts).1) (ap (took e) q) in
         let counts : took_with l.controller.took x ≡ l.controller.took = took_act l.controller.took x (ap is_rset q) in
         let same : took_as l ts x xs false f
         ≡ becomes k (turned f ts) = ap (λ n. becomes (with_took (record l { to_controller = xs }) n) (turned f ts)) counts in
@@ -431,302 +531,8 @@ step_first l ts x xs w a p h t rests from = go x.frame refl
     go : (c : Control) → x.frame ≡ c → Step l (took_first l ts x xs) (core_all_here (core_of l) (core_take e x.frame ts))
     go (Act act again) q =
         let P : Control → Type 0 = λ c. Step l (took_first l ts x xs) (core_all_here (core_of l) (core_take e c ts)) in subst P (sym q) (acts act again q)
-    go (I _ _ _) q = shdlc (is_open e.role) refl (ap is_act q)
-    go (S _ _) q = shdlc (is_open e.role) refl (ap is_act q)
-    go (Rset _ _) q = shdlc (is_open e.role) refl (ap is_act q)
-    go Ua q = shdlc (is_open e.role) refl (ap is_act q)
-    go Clt q = shdlc (is_open e.role) refl (ap is_act q)
-
-pub step_deliver : (l : Link) (ts : List Turn) → AreSendableTurns ts → IsPolite l.controller.side l.to_controller → Tells l.controller → Tells l.host
-    → Rests l.controller.side.shdlc
-    → FromHost (core_happens_here (core_of l) (CoreDeliver [])) → Step l (happens_here l (Deliver ts)) (core_all_here (core_of l) (core_here l (Deliver ts)))
-step_deliver l ts a p h t rests from = go l.to_controller refl
-  where
-    nothing : l.to_controller ≡ [] → happens_here l (Deliver ts) ≡ l
-    nothing q = rw q refl
-
-    core_nothing : l.to_controller ≡ [] → core_here l (Deliver ts) ≡ []
-    core_nothing q = rw q refl
-
-    core_some : (x : OnWire) (xs : List OnWire) → l.to_controller ≡ x ∷ xs → core_here l (Deliver ts) ≡ core_take l.controller.side x.frame ts
-    core_some x xs q = rw q refl
-
-    go : (w : List OnWire) → l.to_controller ≡ w → Step l (happens_here l (Deliver ts)) (core_all_here (core_of l) (core_here l (Deliver ts)))
-    go [] q =
-        step_same l (happens_here l (Deliver ts)) l (core_all_here (core_of l) (core_here l (Deliver ts))) (core_of l) (nothing q)
-        (ap (core_all_here (core_of l)) (core_nothing q))
-        (record { core = refl; tells = h; host = refl; calm = λ z. z })
-    go (x ∷ xs) q =
-        step_same l (happens_here l (Deliver ts)) (took_first l ts x xs) (core_all_here (core_of l) (core_here l (Deliver ts)))
-        (core_all_here (core_of l) (core_take l.controller.side x.frame ts))
-        (first l ts x xs q) (ap (core_all_here (core_of l)) (core_some x xs q))
-        (step_first l ts x xs q a (subst (IsPolite l.controller.side) q p) h t rests (subst FromHost (core_first (core_of l) [] x xs q) from))
-
--- ## Resets, turns, cuts
-
-reset_core : (c : CoreLink) → is_some (if_up c.controller.side Asked) ≡ is_up c.controller.side.phase
-reset_core c = go c.controller.side.phase refl
-  where
-    go : (p : LinkState) → c.controller.side.phase ≡ p → is_some (if_up c.controller.side Asked) ≡ is_up c.controller.side.phase
-    go Up p = rw p refl
-    go Waiting p = rw p refl
-    go Down p = rw p refl
-
-reset_keeps : (e : EndState) (w : ℕ) → is_waiting e ≡ false → Idle e → Keeps (is_some (if_up e Asked)) e (reset_with e w)
-reset_keeps e w n idle = go e.phase refl
-  where
-    go : (p : LinkState) → e.phase ≡ p → Keeps (is_some (if_up e Asked)) e (reset_with e w)
-    go Waiting p = absurd (let z : true ≡ false = rw p at n in cc)
-    go Up p = rw p (record { out = refl; idle = λ _. (refl, refl) })
-    go Down p = rw p (record { out = sym (idle (λ u. let z = sym p ∙ u in cc)).0; idle = λ _. (refl, refl) })
-
--- an end that is open and doesn't wait
-reset_tells : (e : LinkEnd) → reset_refusal e ≡ None → (is_open e.role ≡ true) × (is_waiting e.shdlc ≡ false)
-reset_tells e q = go (is_open e.role) (is_waiting e.shdlc) refl refl
-  where
-    go : (a b : Bool) → is_open e.role ≡ a → is_waiting e.shdlc ≡ b → (is_open e.role ≡ true) × (is_waiting e.shdlc ≡ false)
-    go true false x y = (x, y)
-    go true true x y = absurd (let z = rw (x, y) at q in cc)
-    go false b x y = absurd (let z = rw x at q in cc)
-
-pub step_turns : (l : Link) (ts : List Turn) → AreSendableTurns ts → Tells l.controller
-    → Step l (happens_here l (Turns ts)) (core_happens_here (core_of l) (CoreTurns (core_turns l.controller.side ts)))
-step_turns l ts a h = step_turned l l None l.controller.side ts refl h.past a h.now (λ z. z)
-
-pub step_reset : (l : Link) (w : ℕ) (ts : List Turn) → AreSendableTurns ts → Tells l.controller
-    → Step l (happens_here l (Resets w ts)) (core_all_here (core_of l) (core_here l (Resets w ts)))
-step_reset l w ts a h = go (reset_refusal l.controller.side) refl
-  where
-    e : LinkEnd
-    e = l.controller.side
-
-    refused_end : (r : Refused) → reset_refusal e ≡ Some r → happens_here l (Resets w ts) ≡ happens_here l (Turns ts)
-    refused_end r q = rw q refl
-
-    refused_core : (r : Refused) → reset_refusal e ≡ Some r → core_here l (Resets w ts) ≡ CoreTurns (core_turns e ts) ∷ []
-    refused_core r q = rw q refl
-
-    asks_end : reset_refusal e ≡ None → happens_here l (Resets w ts) ≡ becomes (with_ended l (is_some (if_up e.shdlc Asked))) (turned (reset_by e w) ts)
-    asks_end q = rw q refl
-
-    asks_core : reset_refusal e ≡ None → core_here l (Resets w ts) ≡ CoreReset w (core_turns (reset_by e w) ts) ∷ []
-    asks_core q = rw q refl
-
-    go : (o : Option Refused) → reset_refusal e ≡ o → Step l (happens_here l (Resets w ts)) (core_all_here (core_of l) (core_here l (Resets w ts)))
-    go (Some r) q =
-        step_same l (happens_here l (Resets w ts)) (happens_here l (Turns ts)) (core_all_here (core_of l) (core_here l (Resets w ts)))
-        (core_happens_here (core_of l) (CoreTurns (core_turns e ts)))
-        (refused_end r q) (ap (core_all_here (core_of l)) (refused_core r q)) (step_turns l ts a h)
-    go None q =
-        let t = reset_tells e q in
-        let b : Bool = is_some (if_up e.shdlc Asked) in
-        let ts' : List CoreTurn = core_turns (reset_by e w) ts in
-        step_same l (happens_here l (Resets w ts)) (becomes (with_ended l b) (turned (reset_by e w) ts)) (core_all_here (core_of l) (core_here l (Resets w ts)))
-        (core_becomes (core_with_ended (core_of l) b) (core_turned (reset_with e.shdlc w) ts'))
-        (asks_end q)
-        (ap (core_all_here (core_of l)) (asks_core q)
-        ∙ ap (λ c. core_becomes (core_with_ended (core_of l) c) (core_turned (reset_with e.shdlc w) ts')) (sym (reset_core (core_of l))))
-        (step_moved l b (reset_with e.shdlc w) ts h a (reset_keeps e.shdlc w t.1 h.now.idle) (opened e.role ((reset_with e.shdlc w).phase ≡ Down) t.0))
-
--- both wires are empty, and the end is Down
-silent-core : (l : Link) (e : LinkEnd) → core_of (silent l e) ≡ core_silent (core_of l) e.shdlc
-silent-core l e = go l.controller.side.shdlc.phase refl
-  where
-    go : (p : LinkState) → l.controller.side.shdlc.phase ≡ p → core_of (silent l e) ≡ core_silent (core_of l) e.shdlc
-    go Up p = rw p refl
-    go Waiting p = rw p refl
-    go Down p = rw p refl
-
-step_silent : (l : Link) (e : LinkEnd) → Now e → Tells l.controller → (CalmLink l → Calm e.role l.host.side.role [] [])
-    → Step l (silent l e) (core_silent (core_of l) e.shdlc)
-step_silent l e n h calm =
-    record {
-      core = silent-core l e;
-      tells = record { now = n; past = past_ended l (is_up l.controller.side.shdlc.phase) h };
-      host = host_ended l (is_up l.controller.side.shdlc.phase);
-      calm = λ z. let P : Half → Type 0 = λ f. Calm e.role f.side.role [] [] in subst P (sym (host_ended l (is_up l.controller.side.shdlc.phase))) (calm z);
-    }
-
-pub step_cut : (l : Link) → IfLine l.controller.side.role → Tells l.controller
-    → Step l (silent l (new_link_end (renewed l.controller.side.role))) (core_silent (core_of l) (new_end 4))
-step_cut l line h = go l.controller.side.role line (λ z. calm_cut l.controller.side.role l.host.side.role l.to_controller l.to_host line z)
-  where
-    fresh : (e : LinkEnd) → e.shdlc ≡ new_end 4 → e.sent ≡ [] → e.acts ≡ [] → Now e
-    fresh e q s a =
-        record {
-          acts = a;
-          idle = λ _. (ap (λ (z : EndState). z.session.out) q, ap (λ (z : EndState). z.session.acc) q);
-          closed = λ _. ap (λ (z : EndState). z.phase) q;
-          says = record { out = ap (λ (z : EndState). z.session.out) q ∙ ap fragments_of (sym s); short = rw s tt };
-        }
-
-    go : (r : Role) → IfLine r → (CalmLink l → Calm (renewed r) l.host.side.role [] [])
-        → Step l (silent l (new_link_end (renewed r))) (core_silent (core_of l) (new_end 4))
-    go Bare i calm = absurd i
-    go (Clf s) i calm = step_silent l (new_link_end (renewed (Clf s))) (fresh (new_link_end (renewed (Clf s))) refl refl refl) h calm
-    go (Uicc s) i calm = step_silent l (new_link_end (renewed (Uicc s))) (fresh (new_link_end (renewed (Uicc s))) refl refl refl) h calm
-
--- ## Ticks
-
-rests : (s : EndState) → s.phase ≡ Down → Rests s → frame_due s ≡ None
-rests s p r = let none : s.session ≡ no_session = r.none (λ u. let z = sym p ∙ u in cc) in rw (r.due, none) refl
-
-core_rests : (c : CoreLink) → frame_due c.controller.side ≡ None → core_becomes c c.controller.side ≡ c
-core_rests c q =
-    let f : frames_of most_frames c.controller.side ≡ [] = rw q refl in
-    let a : after_frames most_frames c.controller.side ≡ c.controller.side = after_frames_idle most_frames c.controller.side q in
-    ap (λ fs. core_with_controller (core_put_all c fs) (after_frames most_frames c.controller.side)) f ∙ ap (core_with_controller c) a
-
-core_tick_rests : (c : CoreLink) → c.controller.side.phase ≡ Down → Rests c.controller.side → core_ticks_here c [] ≡ c
-core_tick_rests c p r = nothing ∙ core_rests c (rests c.controller.side p r)
-  where
-    ended : is_some (tick_answer c.controller.side).ended ≡ false
-    ended = rw p refl
-
-    state : ticked c.controller.side ≡ c.controller.side
-    state = rw p refl
-
-    nothing : core_ticks_here c [] ≡ core_becomes c c.controller.side
-    nothing = ap (λ b. core_becomes (core_with_ended c b) (ticked c.controller.side)) ended ∙ ap (core_becomes c) state
-
-tick_open : (e : LinkEnd) → is_open e.role ≡ true → (after_input e Tick ≡ moved e (is_some (tick_answer e.shdlc).ended) (ticked e.shdlc))
-    × (is_some (ended_by e Tick) ≡ is_some (tick_answer e.shdlc).ended)
-tick_open e o = (rw o refl, rw o refl)
-
-tick_closed : (e : LinkEnd) → is_open e.role ≡ false → (after_input e Tick ≡ activated e ActTick) × (ended_by e Tick ≡ ended_by_act e ActTick)
-tick_closed e o = (rw o refl, rw o refl)
-
-tick_role : (r : Role) → is_open (role_after r ActTick) ≡ false → is_open r ≡ false
-tick_role Bare q = q
-tick_role (Clf s) q = go s.phase refl
-  where
-    go : (p : Phase) → s.phase ≡ p → is_open (Clf s) ≡ false
-    go Inactive p = rw p refl
-    go (Awaiting tries ticks) p = rw p refl
-    go Active p = absurd (let z = rw p at q in cc)
-tick_role (Uicc s) q = go s.phase refl
-  where
-    go : (p : Phase) → s.phase ≡ p → is_open (Uicc s) ≡ false
-    go Inactive p = rw p refl
-    go (Awaiting tries ticks) p = rw p refl
-    go Active p = absurd (let z = rw p at q in cc)
-
-tick_as : (l : Link) (ts : List Turn) (b : Bool) (e : LinkEnd) → is_some (ended_by l.controller.side Tick) ≡ b → after_input l.controller.side Tick ≡ e
-    → has_input l Tick ts ≡ becomes (with_ended l b) (turned e ts)
-tick_as l ts b e p q =
-    ap (λ a. becomes (with_ended l a) (turned (after_input l.controller.side Tick) ts)) p ∙ ap (λ f. becomes (with_ended l b) (turned f ts)) q
-
-abbrev pub CoreTick : Link → Option (List Turn) → CoreLink
-CoreTick l c = core_all_here (core_ticks_or_cut (core_tick l.controller.side c) (core_of l)) (core_tick_acts l.controller.side c)
-
-pub step_tick : (l : Link) (c : Option (List Turn)) → IsTick l c → Tells l.controller → Rests l.controller.side.shdlc → Step l (ticks_or_cut c l) (CoreTick l c)
-step_tick l None a h r = step_cut l a h
-step_tick l (Some ts) a h r = go (is_open l.controller.side.role) refl
-  where
-    e : LinkEnd
-    e = l.controller.side
-
-    open_ticks : is_open e.role ≡ true → core_tick e (Some ts) ≡ Some (core_turns (after_input e Tick) ts)
-    open_ticks o = rw o refl
-
-    open_acts : is_open e.role ≡ true → core_tick_acts e (Some ts) ≡ []
-    open_acts o = rw o refl
-
-    closed_ticks : is_open e.role ≡ false → core_tick e (Some ts) ≡ Some []
-    closed_ticks o = rw o refl
-
-    closed_acts : is_open e.role ≡ false → core_tick_acts e (Some ts) ≡ CoreActs (option_to_list (act_answer e.role ActTick).send)
-        (core_turns (after_input e Tick) ts) ∷ []
-    closed_acts o = rw o refl
-
-    core_as : (t : Option (List CoreTurn)) (us : List CoreEndEvent) → core_tick e (Some ts) ≡ t → core_tick_acts e (Some ts)
-        ≡ us → CoreTick l (Some ts) ≡ core_all_here (core_ticks_or_cut t (core_of l)) us
-    core_as t us p q =
-        ap (λ z. core_all_here (core_ticks_or_cut z (core_of l)) (core_tick_acts e (Some ts))) p ∙ ap (core_all_here (core_ticks_or_cut t (core_of l))) q
-
-    go : (b : Bool) → is_open e.role ≡ b → Step l (has_input l Tick ts) (CoreTick l (Some ts))
-    go true o =
-        let t = tick_open e o in
-        let b : Bool = is_some (tick_answer e.shdlc).ended in
-        let f : LinkEnd = moved e b (ticked e.shdlc) in
-        step_same l (has_input l Tick ts) (becomes (with_ended l b) (turned f ts)) (CoreTick l (Some ts))
-        (core_becomes (core_with_ended (core_of l) b) (core_turned (ticked e.shdlc) (core_turns f ts)))
-        (tick_as l ts b f t.1 t.0)
-        (core_as (Some (core_turns (after_input e Tick) ts)) [] (open_ticks o) (open_acts o) ∙ ap (λ g. core_ticks_here (core_of l) (core_turns g ts)) t.0)
-        (step_moved l b (ticked e.shdlc) ts h a (ticked_keeps e.shdlc h.now.idle) (opened e.role ((ticked e.shdlc).phase ≡ Down) o))
-    go false o =
-        let t = tick_closed e o in
-        let f : LinkEnd = activated e ActTick in
-        let act : Option Activation = (act_answer e.role ActTick).send in
-        let down : (act_answer e.role ActTick).ended_link ≡ true → e.shdlc.phase ≡ Down = λ z. absurd (true≢false (sym z ∙ tick_closes e.role o)) in
-        let ended : is_some (ended_by e Tick) ≡ false = ap (λ z. is_some z) t.1 ∙ (stays_down (act_answer e.role ActTick).ended_link e down).1 in
-        let m = act_mid e ActTick h.now r.due down (λ z. h.now.closed (tick_role e.role z)) in
-        let R : Role → Type 0 = λ z. Calm z l.host.side.role l.to_controller (with_sent act l.to_host) in
-        let st = step_turned l l act f ts refl h.past a m.mid
-        (λ z. subst R (sym (activated_role e ActTick)) (calm_tick e.role l.host.side.role l.to_controller l.to_host o z)) in
-        let us : List CoreTurn = core_turns f ts in
-        let core : CoreTick l (Some ts) ≡ core_becomes (core_put_all (core_of l) (frames_now act)) (core_turned e.shdlc us) =
-        core_as (Some []) (CoreActs (option_to_list act) (core_turns (after_input e Tick) ts) ∷ []) (closed_ticks o) (closed_acts o)
-        ∙ (ap (λ c. core_happens_here c (CoreActs (option_to_list act) (core_turns (after_input e Tick) ts))) (core_tick_rests (core_of l) (h.now.closed o) r)
-        ∙ ap (λ g. core_becomes (core_put_all (core_of l) (frames_now act)) (core_turned e.shdlc (core_turns g ts))) t.0) in
-        step_same l (has_input l Tick ts) (becomes l (turned f ts)) (CoreTick l (Some ts))
-        (core_becomes (core_put_all (core_of l) (frames_now act)) (core_turned f.shdlc us))
-        (tick_as l ts false f ended t.0) (core ∙ sym (ap (λ z. core_becomes (core_put_all (core_of l) (frames_now act)) (core_turned z us)) m.same)) st
-
--- ## Activation begins
-
-pub started_role : (e : LinkEnd) (value : ℕ) → (started e value).role ≡ role_after e.role (ActStart value)
-started_role e value = activated_role (moved e true (stopped e.shdlc)) (ActStart value)
-
--- what a start makes of an end
-start_mid : (e : LinkEnd) (value : ℕ) → Now e → Acted (record e { shdlc = stopped e.shdlc }) (started e value) (act_answer e.role (ActStart value)).send
-start_mid e value h =
-    let f : LinkEnd = moved e true (stopped e.shdlc) in
-    let n : Now f = record { acts = rw h.acts refl; idle = λ _. (refl, refl); closed = λ _. refl; says = record { out = refl; short = tt } } in
-    let m = act_mid f (ActStart value) n refl (λ _. refl) (λ _. refl) in
-    record { mid = m.mid; same = m.same }
-
--- activation at both ends: a CLF sends nothing, a UICC sends ACT_SYNC_ID
-pub record Started (l m : Link) (c : CoreLink) : Type 0 where
-  pub core : core_of m ≡ c
-  pub tells : Tells m.controller
-  pub host : m.host ≡ l.host
-
-pub step_start_clf : (l : Link) (power : ℕ) → IsClf l.controller.side.role → Tells l.controller
-    → Started l (started_here l power) (core_happens_here (core_of l) CoreStop)
-step_start_clf l power clf h = go l.controller.side.role refl clf
-  where
-    sends : (r : Role) → IsClf r → (act_answer r (ActStart power)).send ≡ None
-    sends Bare i = absurd i
-    sends (Clf s) i = refl
-    sends (Uicc s) i = absurd i
-
-    go : (r : Role) → l.controller.side.role ≡ r → IsClf r → Started l (started_here l power) (core_happens_here (core_of l) CoreStop)
-    go r q i =
-        let m = start_mid l.controller.side power h.now in
-        let none : (act_answer l.controller.side.role (ActStart power)).send ≡ None = ap (λ z. (act_answer z (ActStart power)).send) q ∙ sends r i in
-        let n : Now (started l.controller.side power) = subst (λ o. Mid o (started l.controller.side power)) none m.mid in
-        record {
-          core = silent-core l (started l.controller.side power) ∙ ap (core_silent (core_of l)) m.same;
-          tells = record { now = n; past = past_ended l (is_up l.controller.side.shdlc.phase) h };
-          host = host_ended l (is_up l.controller.side.shdlc.phase);
-        }
-
--- where both have begun, and what stands on the wires then
-pub step_start_uicc : (l : Link) (id : ℕ) → Tells l.controller
-    → Calm (started l.controller.side id).role l.host.side.role [] (with_sent (act_answer l.controller.side.role (ActStart id)).send [])
-    → Started l (becomes (started_here l id) (started l.controller.side id))
-    (core_happens_here (core_happens_here (core_of l) CoreStop) (CoreActs (option_to_list (act_answer l.controller.side.role (ActStart id)).send) []))
-    × CalmLink (becomes (started_here l id) (started l.controller.side id))
-step_start_uicc l id h calm =
-    let e : LinkEnd = started l.controller.side id in
-    let o : Option Activation = (act_answer l.controller.side.role (ActStart id)).send in
-    let m = start_mid l.controller.side id h.now in
-    let k : Link = started_here l id in
-    let b : Bool = is_up l.controller.side.shdlc.phase in
-    let P : Half → Type 0 = λ f. Calm e.role f.side.role [] (with_sent o []) in
-    let st = step_becomes k k o e e.shdlc refl (past_ended l b h) m.mid refl (λ z. subst P (sym (host_ended l b)) calm) in
-    let c : core_of k ≡ core_happens_here (core_of l) CoreStop = silent-core l e ∙ ap (core_silent (core_of l)) m.same in (
-      record { core = st.core ∙ ap (λ d. core_becomes (core_put_all d (frames_now o)) d.controller.side) c; tells = st.tells; host = st.host ∙ host_ended l b },
-      becomes_calm l k o e (host_ended l b) m.mid.acts calm,
-    )
+    go (I _ _ _) q = shdlc (is_open e.role) refl (ap is_shdlc q) (ap is_act q)
+    go (S _ _) q = shdlc (is_open e.role) refl (ap is_shdlc q) (ap is_act q)
+    go (Rset _ _) q = shdlc (is_open e.role) refl (ap is_shdlc q) (ap is_act q)
+    go Ua q = shdlc (is_open e.role) refl (ap is_shdlc q) (ap is_act q)
+    go Clt q = counts (is_open e.role) refl q

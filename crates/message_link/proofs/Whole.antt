@@ -34,7 +34,7 @@ use Rattle.message_link.specs.Projection.{core_of, core_half, core_events}
 use Rattle.message_link.proofs.Project.{Says, Tells}
 use Rattle.message_link.proofs.Steps.{FromHost, says_of, session-core, core_first, no_fault_first}
 use Rattle.message_link.proofs.Calm.{Line}
-use Rattle.message_link.proofs.Runs.{Reached, Run, run, ordered, from_host, from_controller, events_allowed}
+use Rattle.message_link.proofs.Runs.{Reached, Run, run, ordered, from_host, from_controller}
 
 bare_tells : Tells (new_half (new_link_end Bare))
 bare_tells =
@@ -53,7 +53,7 @@ new_calm : Line new_clf new_uicc [] []
 new_calm = record { clf = λ a. absurd (true≢false (sym a)); ready = inl tt; tail = tt; plain = tt; last = λ a. absurd (true≢false (sym a)) }
 
 pub from_start : (l : Link) → IsStart l → (events : List LinkEvent) → AllAllowed l events
-    → Run l (after l events) (core_after (core_of l) (core_events l events))
+    → Run l (after l events) (core_after (core_of l) (core_events l events)) (core_events l events)
 from_start l IsBare events a =
     run events l a (record { controller = bare_tells; host = bare_tells; calm = tt })
     (record { start = core_of l; starts = BothUp; events = []; allowed = tt; is = refl })
@@ -66,7 +66,7 @@ core_starts l IsBare = BothUp
 core_starts l IsLine = BothDown
 
 pub allowed : (l : Link) → IsStart l → (events : List LinkEvent) → AllAllowed l events → CoreAllAllowed (core_events l events)
-allowed l s events a = events_allowed l events a
+allowed l s events a = (from_start l s events a).allowed
 
 pub projected : (l : Link) → IsStart l → (events : List LinkEvent) → AllAllowed l events
     → core_of (after l events) ≡ core_after (core_of l) (core_events l events)
@@ -220,11 +220,7 @@ not_chain e Ua f q = shdlc (is_open e.role) refl
     shdlc : (b : Bool) → is_open e.role ≡ b → ⊥
     shdlc true o = never_chain e.shdlc Ua (let z = q in rw (o, f o) at z)
     shdlc false o = let z = rw o at q in cc
-not_chain e Clt f q = shdlc (is_open e.role) refl
-  where
-    shdlc : (b : Bool) → is_open e.role ≡ b → ⊥
-    shdlc true o = never_chain e.shdlc Clt (let z = q in rw (o, f o) at z)
-    shdlc false o = let z = rw o at q in cc
+not_chain e Clt f q = cc
 
 pub no_chain_here : (l : Link) → IsStart l → (events : List LinkEvent) → AllAllowed l events → (x : OnWire) (xs : List OnWire)
     → (after l events).to_controller ≡ x ∷ xs
