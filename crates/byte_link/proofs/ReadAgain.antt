@@ -1,11 +1,14 @@
 -- What is written as a unit is read again as the same LPDU.
-use Rattle.std.proofs.Common.{◌≡◌, ℕ, suc, ◌+◌, ◌-◌, ◌*◌, ◌/◌, ◌%◌, ◌≤◌, ◌<◌, true, false, List, [], ◌∷◌, ◌++◌, length, take, get_or, refl, sym, ap, ◌∙◌, arith, length-append, append_assoc}
+use Rattle.std.proofs.Common.{◌≡◌, ℕ, suc, ◌+◌, ◌-◌, ◌*◌, ◌/◌, ◌%◌, ◌≤◌, ◌<◌, true, false, List, [], ◌∷◌, ◌++◌, length, take, get_or, eqb, cond, refl, sym, ap, ◌∙◌, subst, inl, inr, arith, append-nil, length-append, append_assoc}
 use Rattle.std.proofs.lemmas.Bool.{eq-eqb, ne_eqb, le-leb}
-use Rattle.std.specs.Prelude.{filter}
+use Rattle.std.specs.Prelude.{Bool, filter, map}
+use Rattle.std.specs.List.{AllByRecursion, concat}
+use Rattle.swp_base.specs.declared.link_terms.FrameFault.TheVariants.{Crc}
+use Rattle.byte_link.specs.Written.{IsUnit, units_behind}
 use Rattle.swp_base.specs.DataUnits.{IsLpdu}
 use Rattle.swp_crc.specs.Crc.{crc_of}
 use Rattle.byte_link.specs.declared.unit.Unit.{Unit}
-use Rattle.byte_link.specs.declared.unit.Unit.TheVariants.{Nothing, Frame}
+use Rattle.byte_link.specs.declared.unit.Unit.TheVariants.{Nothing, Tick, Frame, Refused}
 use Rattle.byte_link.specs.Units.{unit_of, is_whole, checked, said}
 use Rattle.byte_link.specs.Reading.{emptied, under_way, given, answers_after, says_something, units}
 
@@ -37,17 +40,57 @@ skip u us e = rw e refl
 kept : (bytes : List ℕ) → is_whole bytes ≡ false → emptied bytes ≡ bytes
 kept bytes e = rw e refl
 
-reads : (count : ℕ) (bytes seen p rest : List ℕ) → 0 < count → count ≤ 30 → length bytes ≡ count + 2 → under_way seen ≡ p → p ++ rest ≡ 0 ∷ count ∷ bytes → 0 < length rest
-    → says_something (said (0 ∷ count ∷ bytes)) ≡ true
-    → filter says_something (answers_after seen rest) ≡ said (0 ∷ count ∷ bytes) ∷ []
-reads count bytes seen p [] low high l is e more says = absurd (omega arith)
-reads count bytes seen p (b ∷ []) low high l is e more says =
-    rw (is, e, says) refl
-reads count bytes seen p (b ∷ c ∷ rest) low high l is e more says =
-    let next = part count bytes (p ++ b ∷ []) (c ∷ rest) low high l (append_assoc p (b ∷ []) (c ∷ rest) ∙ e) (omega arith) in
-    skip (given (b ∷ seen)) (answers_after (b ∷ seen) (c ∷ rest)) (ap (λ u. said (u ++ b ∷ [])) is ∙ next.0)
-    ∙ reads count bytes (b ∷ seen) (p ++ b ∷ []) (c ∷ rest) low high l
-    (ap (λ u. emptied (u ++ b ∷ [])) is ∙ kept (p ++ b ∷ []) next.1) (append_assoc p (b ∷ []) (c ∷ rest) ∙ e) (omega arith) says
+-- bytes that came one after another behind others, the newest first
+abbrev came : List ℕ → List ℕ → List ℕ
+came seen [] = seen
+came seen (b ∷ bytes) = came (b ∷ seen) bytes
+
+-- the bytes of a unit of this length, of which p came already
+record IsUnderWay (count : ℕ) (bytes seen p rest : List ℕ) : Type 0 where
+  some : 0 < count
+  most : count ≤ 30
+  long : length bytes ≡ count + 2
+  front : under_way seen ≡ p
+  whole : p ++ rest ≡ 0 ∷ count ∷ bytes
+  more : 0 < length rest
+
+is_unit : (count x : ℕ) (bytes : List ℕ) → 0 < count → count ≤ 30 → suc (length bytes) ≡ count + 2 → is_whole (0 ∷ count ∷ x ∷ bytes) ≡ true
+is_unit count x bytes low high long =
+    let same : 256 * 0 + count ≡ count = omega arith in
+    rw (same, ne_eqb count 0 (λ z. absurd (omega (arith, z))), le-leb count 30 high, eq-eqb (suc (length bytes)) (count + 2) long) refl
+
+empties : (bytes : List ℕ) → is_whole bytes ≡ true → emptied bytes ≡ []
+empties bytes e = rw e refl
+
+unit_empties : (count : ℕ) (bytes : List ℕ) → 0 < count → count ≤ 30 → length bytes ≡ count + 2 → emptied (0 ∷ count ∷ bytes) ≡ []
+unit_empties count [] low high long = absurd (omega (arith, long))
+unit_empties count (x ∷ bytes) low high long = empties (0 ∷ count ∷ x ∷ bytes) (is_unit count x bytes low high long)
+
+-- the rest of a unit gives what it says at its last byte, and then nothing is under way
+reads : (count : ℕ) (bytes seen p rest later : List ℕ) → IsUnderWay count bytes seen p rest → says_something (said (0 ∷ count ∷ bytes)) ≡ true
+    → (filter says_something (answers_after seen (rest ++ later)) ≡ said (0 ∷ count ∷ bytes) ∷ filter says_something (answers_after (came seen rest) later))
+    × (under_way (came seen rest) ≡ [])
+reads count bytes seen p [] later u says = absurd (omega (arith, u.more))
+reads count bytes seen p (b ∷ []) later u says =
+    let last : under_way seen ++ b ∷ [] ≡ 0 ∷ count ∷ bytes = ap (λ xs. xs ++ b ∷ []) u.front ∙ u.whole in (
+      keep (given (b ∷ seen)) (said (0 ∷ count ∷ bytes)) (answers_after (b ∷ seen) later) (ap said last) says,
+      ap emptied last ∙ unit_empties count bytes u.some u.most u.long,
+    )
+  where
+    keep : (a s : Unit) (us : List Unit) → a ≡ s → says_something s ≡ true → filter says_something (a ∷ us) ≡ s ∷ filter says_something us
+    keep a s us e is = rw (e, is) refl
+reads count bytes seen p (b ∷ c ∷ rest) later u says =
+    let whole : (p ++ b ∷ []) ++ c ∷ rest ≡ 0 ∷ count ∷ bytes = append_assoc p (b ∷ []) (c ∷ rest) ∙ u.whole in
+    let next = part count bytes (p ++ b ∷ []) (c ∷ rest) u.some u.most u.long whole (omega arith) in
+    let further = reads count bytes (b ∷ seen) (p ++ b ∷ []) (c ∷ rest) later (record {
+      some = u.some;
+      most = u.most;
+      long = u.long;
+      front = ap (λ xs. emptied (xs ++ b ∷ [])) u.front ∙ kept (p ++ b ∷ []) next.1;
+      whole = whole;
+      more = omega arith;
+    }) says in
+    (skip (given (b ∷ seen)) (answers_after (b ∷ seen) (c ∷ rest ++ later)) (ap (λ xs. said (xs ++ b ∷ [])) u.front ∙ next.0) ∙ further.0, further.1)
 
 tail_length : (lpdu : List ℕ) (high low : ℕ) → length (lpdu ++ high ∷ low ∷ []) ≡ length lpdu + 2
 tail_length lpdu high low = length-append lpdu (high ∷ low ∷ [])
@@ -105,8 +148,73 @@ whole_unit (x ∷ lpdu) h =
     (omega (arith, tail_length lpdu (crc_of (x ∷ lpdu) / 256) (crc_of (x ∷ lpdu) % 256)))
     ∙ checked_again (x ∷ lpdu) (crc_of (x ∷ lpdu)) refl
 
+says_checked : (bytes : List ℕ) → says_something (checked bytes) ≡ true
+says_checked bytes = by_crc (crc_of (take (length bytes - 2) bytes)) (256 * get_or bytes (length bytes - 2) 0 + get_or bytes (length bytes - 1) 0)
+  where
+    by : (b : Bool) (want got : ℕ) → says_something (cond b (Frame (take (length bytes - 2) bytes)) (Refused (Crc want got))) ≡ true
+    by true want got = refl
+    by false want got = refl
+
+    by_crc : (want got : ℕ) → says_something (cond (eqb want got) (Frame (take (length bytes - 2) bytes)) (Refused (Crc want got))) ≡ true
+    by_crc want got = by (eqb want got) want got
+
+says_unit : (count : ℕ) (bytes : List ℕ) → 0 < count → count ≤ 30 → length bytes ≡ count + 2 → says_something (said (0 ∷ count ∷ bytes)) ≡ true
+says_unit count [] low high long = absurd (omega (arith, long))
+says_unit count (x ∷ bytes) low high long =
+    ap says_something (said_whole 0 count x count bytes (omega arith) low high long) ∙ says_checked (x ∷ bytes)
+
+-- a unit gives what it says, and then nothing is under way
+unit_is_read : (seen bytes later : List ℕ) → under_way seen ≡ [] → IsUnit bytes
+    → (filter says_something (answers_after seen (bytes ++ later)) ≡ said bytes ∷ filter says_something (answers_after (came seen bytes) later))
+    × (under_way (came seen bytes) ≡ [])
+unit_is_read seen bytes later is (inl tick) =
+    subst (λ b. (filter says_something (answers_after seen (b ++ later)) ≡ said b ∷ filter says_something (answers_after (came seen b) later)) × (under_way (came seen b) ≡ []))
+    (sym tick) (tick_is_read seen later is)
+  where
+    tick_is_read : (seen later : List ℕ) → under_way seen ≡ []
+        → (filter says_something (answers_after seen (0 ∷ 0 ∷ later)) ≡ Tick ∷ filter says_something (answers_after (0 ∷ 0 ∷ seen) later)) × (under_way (0 ∷ 0 ∷ seen) ≡ [])
+    tick_is_read seen later is = (rw is refl, rw is refl)
+unit_is_read seen bytes later is (inr u) =
+    subst (λ b. (filter says_something (answers_after seen (b ++ later)) ≡ said b ∷ filter says_something (answers_after (came seen b) later)) × (under_way (came seen b) ≡ []))
+    (sym u.spelled) (reads u.count u.rest seen [] (0 ∷ u.count ∷ u.rest) later (record {
+      some = u.some;
+      most = u.most;
+      long = u.long;
+      front = is;
+      whole = refl;
+      more = omega arith;
+    }) (says_unit u.count u.rest u.some u.most u.long))
+
+pub all_are_read : (seen : List ℕ) (written : List (List ℕ)) → under_way seen ≡ [] → AllByRecursion IsUnit written
+    → units_behind seen (concat written) ≡ map said written
+all_are_read seen [] is all = refl
+all_are_read seen (bytes ∷ written) is all =
+    let first = unit_is_read seen bytes (concat written) is all.0 in
+    first.0 ∙ ap (λ us. said bytes ∷ us) (all_are_read (came seen bytes) written first.1 all.1)
+
+unit_of_lpdu : (lpdu : List ℕ) → IsLpdu lpdu → IsUnit (unit_of lpdu)
+unit_of_lpdu lpdu h = inr (record {
+  count = length lpdu;
+  rest = lpdu ++ crc_of lpdu / 256 ∷ crc_of lpdu % 256 ∷ [];
+  spelled = refl;
+  some = h.0;
+  most = h.1;
+  long = tail_length lpdu (crc_of lpdu / 256) (crc_of lpdu % 256);
+})
+
+units_of_lpdus : (lpdus : List (List ℕ)) → AllByRecursion IsLpdu lpdus → AllByRecursion IsUnit (map unit_of lpdus)
+units_of_lpdus [] all = tt
+units_of_lpdus (lpdu ∷ lpdus) all = (unit_of_lpdu lpdu all.0, units_of_lpdus lpdus all.1)
+
+said_of_lpdus : (lpdus : List (List ℕ)) → AllByRecursion IsLpdu lpdus → map said (map unit_of lpdus) ≡ map Frame lpdus
+said_of_lpdus [] all = refl
+said_of_lpdus (lpdu ∷ lpdus) all = cong (whole_unit lpdu all.0) (said_of_lpdus lpdus all.1)
+  where
+    cong : {x y : Unit} {xs ys : List Unit} → x ≡ y → xs ≡ ys → x ∷ xs ≡ y ∷ ys
+    cong {x} {y} {xs} {ys} first others = ap (λ u. u ∷ xs) first ∙ ap (λ us. y ∷ us) others
+
+pub lpdus_are_read : (lpdus : List (List ℕ)) → AllByRecursion IsLpdu lpdus → units (concat (map unit_of lpdus)) ≡ map Frame lpdus
+lpdus_are_read lpdus all = all_are_read [] (map unit_of lpdus) refl (units_of_lpdus lpdus all) ∙ said_of_lpdus lpdus all
+
 pub read_again : (lpdu : List ℕ) → IsLpdu lpdu → units (unit_of lpdu) ≡ Frame lpdu ∷ []
-read_again lpdu h =
-    reads (length lpdu) (lpdu ++ crc_of lpdu / 256 ∷ crc_of lpdu % 256 ∷ []) [] [] (unit_of lpdu) h.0 h.1 (tail_length lpdu (crc_of lpdu / 256) (crc_of lpdu % 256))
-    refl refl (omega arith) (ap says_something (whole_unit lpdu h))
-    ∙ ap (λ u. u ∷ []) (whole_unit lpdu h)
+read_again lpdu h = ap units (sym (append-nil (unit_of lpdu))) ∙ lpdus_are_read (lpdu ∷ []) (h, tt)

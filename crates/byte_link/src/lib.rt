@@ -4,6 +4,7 @@
 //! length of 0 stands alone, and is one tick.
 #![tactic(auto)]
 
+pub mod laws;
 mod link;
 mod unit;
 

@@ -4,3 +4,4 @@ pub mod Gathering
 pub mod FurtherLines
 pub mod Lanes
 pub mod FewBits
+pub mod StartPlaces

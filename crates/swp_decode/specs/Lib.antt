@@ -2,3 +2,4 @@ pub mod Readings
 pub mod Texts
 pub mod Decoded
 pub mod Kept
+pub mod Starts

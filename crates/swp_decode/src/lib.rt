@@ -6,6 +6,7 @@
 
 mod decoder;
 mod eight;
+pub mod laws;
 mod line;
 mod signal;
 mod words;
