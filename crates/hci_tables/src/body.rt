@@ -1,0 +1,155 @@
+//! The bodies of the commands' records. This project's own.
+ghost use Rattle.std.specs.Prelude.{◌≡◌, ◌≤◌, length, Some, IfSome};
+ghost use Rattle.hci_tables.specs.Commands.{IsCommand};
+ghost use Rattle.hci_tables.specs.Bodies.{body_of, command_of, spelled_by, create_of, opened_of, set_of, sync_of};
+
+use crate::Command;
+use arrayvec::ArrayVec;
+use pipe_table::PipeRow;
+
+/// The most bytes of a record's body. A command's has at most 24.
+pub const MAX_BODY: usize = 61;
+
+/// The body of a command's record: the kind and its bytes. It asks for a command that may be recorded.
+pub fn write_command(command: &Command) -> ArrayVec<u8, 61>
+    requires { IsCommand command.now }
+    ensures body { result.items ≡ body_of command.now }
+    ensures read_again { command_of result.items ≡ Some command.now }
+    ensures sized { length result.items ≤ 24 }
+{
+    match command {
+        Command::Create(row) => bytes_of(&[
+            0x01,
+            row.pid,
+            row.creator,
+            row.creator_gate,
+            row.dest,
+            row.dest_gate,
+        ]),
+        Command::Delete { pid } => bytes_of(&[0x02, *pid]),
+        Command::Clear { host } => bytes_of(&[0x03, *host]),
+        Command::SetOpened { host, pid, opened } => bytes_of(&[
+            0x04,
+            *host,
+            *pid,
+            u8::from(*opened),
+        ]),
+        Command::Set {
+            host,
+            gate,
+            param,
+            value,
+        } => {
+            let mut body = bytes_of(&[0x05, *host, *gate, *param]);
+            let _ = body.try_extend_from_slice(value.as_slice());
+            body
+        }
+        Command::Sync { host, id } => {
+            let [high, low] = id.to_be_bytes();
+            bytes_of(&[0x06, *host, high, low])
+        }
+    }
+}
+
+fn bytes_of(bytes: &[u8]) -> ArrayVec<u8, 61>
+    requires { length bytes.now ≤ 6 }
+    ensures { result.items ≡ bytes.now }
+{
+    let mut body = ArrayVec::new();
+    let _ = body.try_extend_from_slice(bytes);
+    body
+}
+
+/// The command whose record has this body: none exactly outside the grammar.
+pub fn read_command(body: &[u8]) -> Option<Command>
+    ensures command { result ≡ command_of body.now }
+    ensures recordable { IfSome result IsCommand }
+    ensures written_again { IfSome result (λ command. body_of command ≡ body.now) }
+{
+    let command = spelled_by(body)?;
+    if command.is_recordable() {
+        Some(command)
+    } else {
+        None
+    }
+}
+
+// What the bytes of a body spell, whether it may be recorded or not.
+fn spelled_by(body: &[u8]) -> Option<Command>
+    ensures { result ≡ spelled_by body.now }
+{
+    let (kind, fields) = body.split_first()?;
+    match (*kind, fields) {
+        (0x01, _) => create_of(fields),
+        (0x02, [pid]) => Some(Command::Delete { pid: *pid }),
+        (0x03, [host]) => Some(Command::Clear { host: *host }),
+        (0x04, _) => opened_of(fields),
+        (0x05, _) => set_of(fields),
+        (0x06, _) => sync_of(fields),
+        _ => None,
+    }
+}
+
+fn create_of(fields: &[u8]) -> Option<Command>
+    ensures { result ≡ create_of fields.now }
+{
+    match fields {
+        [pid, creator, creator_gate, dest, dest_gate] => Some(Command::Create(PipeRow {
+            pid: *pid,
+            creator: *creator,
+            creator_gate: *creator_gate,
+            dest: *dest,
+            dest_gate: *dest_gate,
+            opened: false,
+        })),
+        _ => None,
+    }
+}
+
+fn opened_of(fields: &[u8]) -> Option<Command>
+    ensures { result ≡ opened_of fields.now }
+{
+    let [host, pid, flag] = fields else {
+        return None;
+    };
+    let opened = match flag {
+        0 => false,
+        1 => true,
+        _ => return None,
+    };
+    Some(Command::SetOpened {
+        host: *host,
+        pid: *pid,
+        opened,
+    })
+}
+
+fn set_of(fields: &[u8]) -> Option<Command>
+    ensures { result ≡ set_of fields.now }
+{
+    match fields {
+        [host, gate, param, value @ ..] if value.len() <= 20 => {
+            let mut kept = ArrayVec::new();
+            let _ = kept.try_extend_from_slice(value);
+            Some(Command::Set {
+                host: *host,
+                gate: *gate,
+                param: *param,
+                value: kept,
+            })
+        }
+        _ => None,
+    }
+}
+
+fn sync_of(fields: &[u8]) -> Option<Command>
+    ensures { result ≡ sync_of fields.now }
+{
+    match fields {
+        [host, high, low] => Some(Command::Sync {
+            host: *host,
+            id: u16::from_be_bytes([*high, *low]),
+        }),
+        _ => None,
+    }
+}

@@ -1,0 +1,140 @@
+//! Commands.
+use arrayvec::ArrayVec;
+use pipe_table::{FIRST_DYNAMIC, FIRST_RESERVED, PipeRow};
+use registry::{SESSION_IDENTITY, WHITELIST};
+use std::alloc::AllocError;
+use whitelist::whitelist_ok;
+
+/// A change of the tables.
+#[derive(Debug, Drop, PartialEq, Eq)]
+pub enum Command {
+    /// A pipe is created, closed. It joins two different hosts.
+    Create(PipeRow),
+    /// A pipe is deleted.
+    Delete {
+        pid: u8,
+    },
+    /// All pipes of a host are deleted, its static pipes closed, its session identity and whitelist at their defaults.
+    Clear {
+        host: u8,
+    },
+    /// A dynamic pipe, or the static pipe 00 or 01 of a host, is opened or closed.
+    SetOpened {
+        host: u8,
+        pid: u8,
+        opened: bool,
+    },
+    /// A parameter of a host is set.
+    Set {
+        host: u8,
+        gate: u8,
+        param: u8,
+        value: ArrayVec<u8, 20>,
+    },
+    /// A host's sync identifier is kept. If it isn't the one that was kept, the session identity is at its default again.
+    Sync {
+        host: u8,
+        id: u16,
+    },
+}
+
+impl Command {
+    ghost use Rattle.std.specs.Prelude.{◌≡◌};
+    ghost use Rattle.hci_tables.specs.Commands.{is_command};
+
+    /// Whether it may be recorded: its hosts are 00 to 07, 01 to 07 for a parameter or an identifier, its pipe is dynamic,
+    /// or static where it is opened or closed, a created pipe is closed and joins two hosts, and a parameter is
+    /// SESSION_IDENTITY or WHITELIST of gate 00, with a value that it may have.
+    pub fn is_recordable(&self) -> bool
+        ensures { result ≡ is_command self.now }
+    {
+        match self {
+            Command::Create(row) => is_creation(row),
+            Command::Delete { pid } => is_dynamic(*pid),
+            Command::Clear { host } => *host <= 7,
+            Command::SetOpened { host, pid, .. } => *host <= 7 && *pid < FIRST_RESERVED,
+            Command::Set {
+                host,
+                gate,
+                param,
+                value,
+            } => is_setting(*host, *gate, *param, value.as_slice()),
+            Command::Sync { host, .. } => 1 <= *host && *host <= 7,
+        }
+    }
+}
+
+ghost use Rattle.std.specs.Prelude.{◌≡◌, ◌&&◌, ◌==◌, not};
+ghost use Rattle.registry.specs.Values.{is_kept};
+ghost use Rattle.hci_tables.specs.Commands.{is_dynamic, is_host, is_allowed};
+
+fn is_dynamic(pid: u8) -> bool
+    ensures { result ≡ is_dynamic pid }
+{
+    FIRST_DYNAMIC <= pid && pid < FIRST_RESERVED
+}
+
+fn is_creation(row: &PipeRow) -> bool
+    ensures { result ≡ (is_dynamic row.now.pid && is_host row.now.creator && is_host row.now.dest
+        && not (row.now.creator == row.now.dest) && not row.now.opened) }
+{
+    is_dynamic(row.pid)
+        && row.creator <= 7
+        && row.dest <= 7
+        && row.creator != row.dest
+        && !row.opened
+}
+
+fn is_setting(host: u8, gate: u8, param: u8, value: &[u8]) -> bool
+    ensures { result ≡ (is_kept host gate param && is_allowed host param value.now) }
+{
+    let kept = 1 <= host
+        && host <= 7
+        && gate == 0
+        && (param == SESSION_IDENTITY || param == WHITELIST);
+    kept && is_allowed(host, param, value)
+}
+
+fn is_allowed(host: u8, param: u8, value: &[u8]) -> bool
+    ensures { result ≡ is_allowed host param value.now }
+{
+    if param == SESSION_IDENTITY {
+        value.len() == 8
+    } else {
+        whitelist_ok(host, value)
+    }
+}
+
+impl Clone for Command {
+    ghost use Rattle.std.specs.Prelude.{◌≡◌};
+
+    ghost is_clone = { λ a b. b ≡ a };
+
+    fn clone(&self) -> Result<Self, AllocError> {
+        match self {
+            Command::Create(row) => Ok(Command::Create(*row)),
+            Command::Delete { pid } => Ok(Command::Delete { pid: *pid }),
+            Command::Clear { host } => Ok(Command::Clear { host: *host }),
+            Command::SetOpened { host, pid, opened } => Ok(Command::SetOpened {
+                host: *host,
+                pid: *pid,
+                opened: *opened,
+            }),
+            Command::Set {
+                host,
+                gate,
+                param,
+                value,
+            } => Ok(Command::Set {
+                host: *host,
+                gate: *gate,
+                param: *param,
+                value: value.clone()?,
+            }),
+            Command::Sync { host, id } => Ok(Command::Sync {
+                host: *host,
+                id: *id,
+            }),
+        }
+    }
+}

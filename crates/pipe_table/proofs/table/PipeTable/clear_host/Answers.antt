@@ -1,0 +1,17 @@
+use Rattle.std.proofs.Common.{List, not, rules, subst, sym, ◌∙◌, ap}
+use Rattle.arrayvec.proofs.ArrayVecLemmas.{filter-from_retain}
+use Rattle.pipe_table.specs.declared.row.PipeRow.{PipeRow}
+use Rattle.pipe_table.specs.PipeRows.{without_host, ArePipeRows, pid_of, joins_host}
+use Rattle.sorted_rows.proofs.RowLemmas.{AreRows-filter}
+use Rattle.pipe_table.proofs.table.PipeTable.clear_host.Goals as goal
+
+pub invariant_of-self : goal.invariant_of-self
+invariant_of-self c =
+    let kept = filter-from_retain _ (λ (row : PipeRow). not (joins_host row c.args.host)) _ (λ x b f' y called. search rules) _ _ c.retain.ensures.filtered in
+    let P : List PipeRow → Type 0 = ArePipeRows in
+    subst P (sym kept) (AreRows-filter pid_of 2 112 (λ row. not (joins_host row c.args.host)) c.self.inside.rows.items c.self.invariant)
+
+pub returns : goal.returns
+returns c =
+    let kept = filter-from_retain _ (λ (row : PipeRow). not (joins_host row c.args.host)) _ (λ x b f' y called. search rules) _ _ c.retain.ensures.filtered in
+    kept ∙ ap (λ (rows : List PipeRow). without_host rows c.args.host) c.self.view_is

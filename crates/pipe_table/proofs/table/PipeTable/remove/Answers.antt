@@ -1,0 +1,10 @@
+use Rattle.std.proofs.Common.{List, subst, sym, not, eqb}
+use Rattle.pipe_table.specs.declared.row.PipeRow.{PipeRow}
+use Rattle.pipe_table.specs.PipeRows.{ArePipeRows, pid_of}
+use Rattle.sorted_rows.proofs.RowLemmas.{AreRows-filter}
+use Rattle.pipe_table.proofs.table.PipeTable.remove.Goals as goal
+
+pub invariant_of-self : goal.invariant_of-self
+invariant_of-self c =
+    let P : List PipeRow → Type 0 = ArePipeRows in
+    subst P (sym c.take_out.ensures) (AreRows-filter pid_of 2 112 (λ row. not (eqb row.pid c.args.pid)) c.self.inside.rows.items c.self.invariant)

@@ -1,0 +1,6 @@
+use Rattle.std.proofs.Common.{◌≡◌, ◌++◌, take, drop}
+use Rattle.pipe_table.specs.PipeRows.{all_closed}
+use Rattle.pipe_table.proofs.table.close_rows.Given as goal
+
+abbrev pub invariant-loop-row : goal.invariant-loop-row
+invariant-loop-row l = l.rows ≡ all_closed (take l.row-index l.initial.rows) ++ drop l.row-index l.initial.rows

@@ -1,0 +1,50 @@
+-- What keeps the values of a registry sorted and apart from their defaults.
+use Rattle.std.proofs.Common.{ℕ, ◌<◌, ◌≤◌, Bool, not, eqb, leb, ◌&&◌, ◌||◌, List, [], ◌∷◌, ◌++◌, inl, inr, arith}
+use Rattle.std.specs.Prelude.{IsTrue}
+use Rattle.std.specs.List.{filter, AllByRecursion}
+use Rattle.std.proofs.lemmas.Bool.{cond_both, and_parts, or_cases, leb-true, eqb-true}
+use Rattle.sorted_rows.specs.Rows.{rows_before, rows_behind, with_row}
+use Rattle.sorted_rows.proofs.RowLemmas.{AreRows-filter, AreRows-with_row}
+use Rattle.registry.specs.declared.value.RegValue.{RegValue}
+use Rattle.registry.specs.Values.{AreValues, IsPresent, is_kept, is_default, place, place_of}
+
+AllByRecursion-filter : {X : Type 0} (P : X → Type 0) (test : X → Bool) (xs : List X) → AllByRecursion P xs → AllByRecursion P (filter test xs)
+AllByRecursion-filter P test [] h = tt
+AllByRecursion-filter P test (x ∷ xs) h =
+    let rest = AllByRecursion-filter P test xs h.1 in
+    cond_both (test x) (x ∷ filter test xs) (filter test xs) (AllByRecursion P) (λ yes. (h.0, rest)) (λ no. rest)
+
+AllByRecursion-append : {X : Type 0} (P : X → Type 0) (xs ys : List X) → AllByRecursion P xs → AllByRecursion P ys → AllByRecursion P (xs ++ ys)
+AllByRecursion-append P [] ys h k = k
+AllByRecursion-append P (x ∷ xs) ys h k = (h.0, AllByRecursion-append P xs ys h.1 k)
+
+pub AreValues-filter : (test : RegValue → Bool) (values : List RegValue) → AreValues values → AreValues (filter test values)
+AreValues-filter test values h = record {
+  sorted = AreRows-filter place_of 2 16 test values h.sorted;
+  present = AllByRecursion-filter IsPresent test values h.present;
+}
+
+-- the place of a parameter that is kept
+pub place-within : (host gate param : ℕ) → IsTrue (is_kept host gate param) → (2 ≤ place host param) × (place host param < 16)
+place-within host gate param kept =
+    let parts = and_parts (leb 1 host && leb host 7 && eqb gate 0) (eqb param 1 || eqb param 3) kept in
+    let hosts = and_parts (leb 1 host && leb host 7) (eqb gate 0) parts.0 in
+    let bounds = and_parts (leb 1 host) (leb host 7) hosts.0 in
+    let from = leb-true 1 host bounds.0 in
+    let upto = leb-true host 7 bounds.1 in
+    elim (or_cases (eqb param 1) (eqb param 3) parts.1) [
+      | inl first ↦ let is = eqb-true param 1 first in (omega arith, omega arith)
+      | inr third ↦ let is = eqb-true param 3 third in (omega arith, omega arith)
+    ]
+
+pub place_of-within : (v : RegValue) → IsPresent v → (2 ≤ place_of v) × (place_of v < 16)
+place_of-within v present = place-within v.host v.gate v.param (and_parts (is_kept v.host v.gate v.param) (not (is_default v.param v.value.items)) present).0
+
+pub AreValues-with_row : (v : RegValue) (values : List RegValue) → IsPresent v → AreValues values → AreValues (with_row place_of v values)
+AreValues-with_row v values present h =
+    let within = place_of-within v present in
+    record {
+      sorted = AreRows-with_row place_of 2 16 v values h.sorted within.0 within.1;
+      present = AllByRecursion-append IsPresent (rows_before place_of (place_of v) values) (v ∷ rows_behind place_of (place_of v) values)
+          (AllByRecursion-filter IsPresent _ values h.present) (present, AllByRecursion-filter IsPresent _ values h.present);
+    }

@@ -1,0 +1,169 @@
+//! The registry.
+ghost use Rattle.std.specs.Prelude.{◌≡◌, ◌≤◌, ◌==◌, nat_lt, length};
+ghost use Rattle.std.specs.List.{list_all, prefix_len};
+ghost use Rattle.sorted_rows.specs.Rows.{without_row};
+ghost use Rattle.registry.specs.Values.{place_of, is_default};
+
+use crate::value::{RegValue, SESSION_IDENTITY, place};
+use arrayvec::ArrayVec;
+use std::alloc::AllocError;
+use std::marker::Model;
+
+/// The most values that are kept: two for each of seven hosts.
+pub const MOST_VALUES: usize = 14;
+
+/// What a node keeps of the hosts' registries: SESSION_IDENTITY and WHITELIST of each host's administration gate. A value
+/// equal to its default is absent. Contracts see the list of the values that are present, in the order of hosts and
+/// parameters.
+#[derive(Debug, Drop, PartialEq, Eq)]
+pub struct Registry {
+    values: ArrayVec<RegValue, 14>,
+}
+
+impl Model for Registry {
+    ghost use Rattle.std.specs.Prelude.{List};
+    ghost use Rattle.registry.specs.declared.value.RegValue.{RegValue};
+    ghost use Rattle.registry.specs.Values.{AreValues};
+
+    ghost Value = { List RegValue };
+
+    ghost view = { λ r. r.values.items };
+
+    ghost invariant = { λ r. AreValues r.values.items };
+
+    ghost inverse = { λ values. record { values = record { items = values } } };
+}
+
+impl Registry {
+    ghost use Rattle.std.specs.Prelude.{◌≡◌, ◌≤◌, [], IsTrue, length};
+    ghost use Rattle.std.specs.Option.{option_copied};
+    ghost use Rattle.sorted_rows.specs.Rows.{row_of, with_row};
+    ghost use Rattle.registry.specs.Values.{AreValues, IsPresent, place_of, is_kept, value_at, with_value, without_host};
+
+    /// All parameters are at their defaults.
+    pub fn new() -> Registry
+        ensures { result ≡ [] }
+    {
+        Registry {
+            values: ArrayVec::new(),
+        }
+    }
+
+    /// The values that aren't at their defaults, sorted by host, gate and parameter.
+    pub fn values(&self) -> &[RegValue]
+        ensures values { result.now ≡ self.now }
+        ensures sorted { AreValues self.now }
+    {
+        self.values.as_slice()
+    }
+
+    /// The value of a parameter. It asks for a host from 01 to 07 and SESSION_IDENTITY or WHITELIST of gate 00.
+    pub fn get(&self, host: u8, gate: u8, param: u8) -> ArrayVec<u8, 20>
+        requires { IsTrue (is_kept host gate param) }
+        ensures { result.items ≡ value_at self.now host gate param }
+    {
+        match self.find(place(host, param)) {
+            Some(present) => bytes_of(present.value.as_slice()),
+            None if param == SESSION_IDENTITY => bytes_of(&[0xFF; 8]),
+            None => ArrayVec::new(),
+        }
+    }
+
+    /// Sets a parameter. It asks for a host from 01 to 07, SESSION_IDENTITY or WHITELIST of gate 00, and at most 20 bytes.
+    pub fn set(&mut self, host: u8, gate: u8, param: u8, value: &[u8])
+        requires kept { IsTrue (is_kept host gate param) }
+        requires sized { length value.now ≤ 20 }
+        ensures { self.new ≡ with_value self.old host gate param value.now }
+    {
+        if is_default(param, value) {
+            take_out(&mut self.values, place(host, param));
+        } else {
+            let value = bytes_of(value);
+            self.put(RegValue {
+                host,
+                gate,
+                param,
+                value,
+            });
+        }
+    }
+
+    fn find(&self, place: u16) -> Option<&RegValue>
+        ensures { option_copied result ≡ row_of place_of place self.now }
+    {
+        self.values.iter().find(|value| value.place() == place)
+    }
+
+    fn put(&mut self, value: RegValue)
+        requires { IsPresent value }
+        ensures { self.new ≡ with_row place_of value self.old }
+    {
+        let place = value.place();
+        take_out(&mut self.values, place);
+        let at = place_in(self.values.as_slice(), place);
+        self.values.insert(at, value);
+    }
+
+    /// Sets all parameters of a host to their defaults.
+    pub fn clear_host(&mut self, host: u8)
+        ensures { self.new ≡ without_host self.old host }
+    {
+        self.values.retain(|value| value.host != host);
+    }
+}
+
+impl Clone for Registry {
+    ghost use Rattle.std.specs.Prelude.{◌≡◌};
+
+    ghost is_clone = { λ a b. b ≡ a };
+
+    ghost is_infallible = { λ _. Unit {0} };
+
+    fn clone(&self) -> Result<Self, AllocError> {
+        Ok(Registry {
+            values: self.values.clone()?,
+        })
+    }
+}
+
+fn bytes_of(value: &[u8]) -> ArrayVec<u8, 20>
+    requires { length value.now ≤ 20 }
+    ensures { result.items ≡ value.now }
+{
+    let mut bytes = ArrayVec::new();
+    let _ = bytes.try_extend_from_slice(value);
+    bytes
+}
+
+// Whether these bytes are the default of a parameter.
+fn is_default(param: u8, value: &[u8]) -> bool
+    ensures { result ≡ is_default param value.now }
+{
+    if param == SESSION_IDENTITY {
+        value.len() == 8 && all_ones(value)
+    } else {
+        value.is_empty()
+    }
+}
+
+fn all_ones(value: &[u8]) -> bool
+    ensures { result ≡ list_all (λ byte. byte == 255) value.now }
+{
+    value.iter().all(|byte| *byte == 0xFF)
+}
+
+// How many values stand before a place.
+fn place_in(values: &[RegValue], place: u16) -> usize
+    ensures { result ≡ prefix_len (λ v. nat_lt (place_of v) place) values.now }
+{
+    values
+        .iter()
+        .take_while(|value| value.place() < place)
+        .count()
+}
+
+fn take_out(values: &mut ArrayVec<RegValue, 14>, place: u16)
+    ensures { values.new.items ≡ without_row place_of place values.old.items }
+{
+    values.retain(|value| value.place() != place);
+}
