@@ -3,3 +3,4 @@ pub mod Steps
 pub mod Histories
 pub mod FramesDue
 pub mod Timers
+pub mod Offering

@@ -1,3 +1,4 @@
 pub mod Histories
 pub mod Kept
 pub mod Machine
+pub mod Offering

@@ -1,5 +1,5 @@
 //! One end of a link.
-ghost use Rattle.std.specs.Prelude.{◌≡◌, ◌≢◌, ◌+◌, ◌<◌, ◌≤◌, ◌↔◌, [], length, IsTrue, OnSome, option_map, min, ℕ, ◌++◌, ◌∷◌, OnErr, IfNone, IfSome, MatchResult, false, true};
+ghost use Rattle.std.specs.Prelude.{◌≡◌, ◌≢◌, ◌⊎◌, ◌+◌, ◌<◌, ◌≤◌, ◌↔◌, [], length, IsTrue, OnSome, option_map, min, ℕ, ◌++◌, ◌∷◌, OnErr, IfNone, IfSome, MatchResult, false, true};
 ghost use Rattle.std.specs.Bool.{OnFalse};
 ghost use Rattle.shdlc_core.specs.Kept.{StandsFor, ReceivesFor, frames_left};
 ghost use Rattle.shdlc_core.specs.Machine.{EndState, new_end, begun, up_with, offered, offer_refusal, control_due, frame_due, fetched, acknowledged, received, fragment_accepted, with_timer, place_of, gap_found, due_left, taken, take_answer, ticked, tick_answer, sent_again, asked_again, waiting_from, no_session, reset_with, stopped, with_ready};
@@ -101,6 +101,22 @@ impl Shdlc {
         ensures stands { (e : EndState) → StandsFor self.now e → result ≡ e.phase }
     {
         self.phase
+    }
+
+    /// How many control frames were made and not yet fetched: 0 to 8. `next_out` gives these before any fragment.
+    pub fn controls_due(&self) -> u8
+        ensures value { result ≡ length self.now.due }
+        ensures stands { (e : EndState) → StandsFor self.now e → result ≡ length e.due }
+    {
+        self.due.len() as u8
+    }
+
+    /// Whether the end takes a fragment for sending: it is Up, and fewer than four that were offered aren't acknowledged.
+    pub fn takes_fragment(&self) -> bool
+        ensures value { IsTrue result ↔ ((self.now.phase ≡ LinkState.Up) × (length self.now.sender.queue < 4)) }
+        ensures full { OnFalse result ((self.now.phase ≢ LinkState.Up) ⊎ (length self.now.sender.queue ≡ 4)) }
+    {
+        self.phase == LinkState::Up && !self.sender.is_full()
     }
 
     /// Takes a fragment for sending.

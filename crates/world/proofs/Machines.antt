@@ -18,7 +18,8 @@ use Rattle.shdlc_core.specs.declared.answers.Due.TheVariants.{Rr as Rr_due, Rej 
 use Rattle.shdlc_core.specs.Machine.{EndState, Session, Fragment, taken, take_answer, nothing_taken, fetched, frame_due, fragment_due, fragment_accepted, newly_acked, sent_next, expected, place_of, ahead, accepted, repeated, acknowledged, ready_again, rejected, received}
 use Rattle.history_laws.specs.Calm.{IsCalm, IsCalmDue, IsCalmFrame}
 use Rattle.history_laws.proofs.Calm.{calm_form}
-use Rattle.world.specs.Ends.{with_out, IsLast, IsLastIn}
+use Rattle.shdlc_core.specs.Offering.{with_out}
+use Rattle.world.specs.Ends.{IsLast, IsLastIn}
 
 -- ## The frame that is sent now
 

@@ -8,10 +8,7 @@ use Rattle.swp_base.specs.declared.control_frames.Control.TheVariants.{I}
 use Rattle.history_laws.specs.Calm.{IsCalmDue}
 use Rattle.shdlc_core.specs.Machine.{EndState, Fragment}
 use Rattle.shdlc_core.specs.Kept.{Kept, StandsFor}
-
--- the machine of an end to which only these fragments were offered
-abbrev pub with_out : EndState → List Fragment → EndState
-with_out m fragments = record m { session = record m.session { out = fragments } }
+use Rattle.shdlc_core.specs.Offering.{with_out}
 
 -- The link layer was offered these fragments of those that the machine has, and these others wait for it.
 pub record Offers (k : Kept) (waiting : List Fragment) (m : EndState) (offered : List Fragment) : Type 0 where

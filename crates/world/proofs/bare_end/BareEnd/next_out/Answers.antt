@@ -1,7 +1,7 @@
 use Rattle.std.proofs.Common.{◌+◌, ◌∙◌, sym, ap, subst, inl, inr}
 use Rattle.shdlc_core.specs.Kept.{StandsFor}
 use Rattle.shdlc_core.specs.Machine.{EndState, fetched}
-use Rattle.world.specs.Ends.{with_out}
+use Rattle.shdlc_core.specs.Offering.{with_out}
 use Rattle.world.proofs.Machines.{frame_due-offered, fetched-offered, fetched-keeps, FetchedFrom}
 use Rattle.world.proofs.bare_end.BareEnd.next_out.Goals as goal
 

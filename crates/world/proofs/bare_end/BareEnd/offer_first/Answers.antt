@@ -3,7 +3,7 @@ use Rattle.std.specs.Prelude.{is_err, Err}
 use Rattle.shdlc_core.specs.Kept.{Kept, StandsFor}
 use Rattle.shdlc_core.specs.declared.answers.OfferRefused.TheVariants.{QueueFull}
 use Rattle.shdlc_core.specs.Machine.{EndState, Fragment}
-use Rattle.world.specs.Ends.{with_out}
+use Rattle.shdlc_core.specs.Offering.{with_out}
 use Rattle.world.proofs.Offering.{refused-full, taken-offer, unchanged, split_first}
 use Rattle.world.proofs.bare_end.BareEnd.offer_first.Goals as goal
 

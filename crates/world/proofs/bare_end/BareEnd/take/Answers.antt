@@ -2,7 +2,7 @@ use Rattle.std.proofs.Common.{◌∙◌, subst}
 use Rattle.shdlc_core.specs.Kept.{StandsFor}
 use Rattle.shdlc_core.specs.Machine.{EndState, taken}
 use Rattle.history_laws.proofs.Calm.{TakesOn, taken_calm}
-use Rattle.world.specs.Ends.{with_out}
+use Rattle.shdlc_core.specs.Offering.{with_out}
 use Rattle.world.proofs.Machines.{taken-offered}
 use Rattle.world.proofs.bare_end.BareEnd.take.Goals as goal
 
