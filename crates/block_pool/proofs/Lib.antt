@@ -1,3 +1,4 @@
 pub mod LayoutLemmas
 pub mod SlotLemmas
 pub mod CountLemmas
+pub mod HoldingLemmas

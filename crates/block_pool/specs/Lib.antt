@@ -5,3 +5,4 @@ pub mod Names
 pub mod Owners
 pub mod Pool
 pub mod Counts
+pub mod Holdings

@@ -19,7 +19,8 @@ pub struct NoRoom {
     pub spare: u16,
 }
 
-/// Blocks of 32 bytes, each used by a chain, set aside, or free. After it is made no call takes memory.
+/// Blocks of 32 bytes, each used by a chain, set aside, or free. After it is made no call takes memory: nothing here pushes onto a
+/// vector but `make`. No clause forces that.
 #[derive(Drop)]
 pub struct Pool {
     blocks: Blocks,
@@ -43,6 +44,7 @@ impl Pool {
     ghost use Rattle.std.specs.Prelude.{◌≡◌, ◌+◌, ◌-◌, ◌≤◌, ◌<◌, ◌↔◌, ◌++◌, length, sum, take, drop, min, IfOk, IfErr, IsOk, OnOk, OnErr};
     ghost use Rattle.block_pool.specs.Slots.{blocks_for};
     ghost use Rattle.block_pool.specs.Pool.{HasQuota, IsLive, IsEmptyChain, IsNew, Appends, Passes, Gives, KeepsOthers, chain_bytes, chain_spare, spare_of, quota_of, used_of, aside_of, more_blocks};
+    ghost use Rattle.block_pool.specs.declared.chain.Chain.{Chain};
     ghost use Rattle.block_pool.specs.Owners.{with_aside};
     ghost use Rattle.block_pool.specs.Counts.{IsCounted};
 
@@ -109,6 +111,8 @@ impl Pool {
         ensures room { IsOk result ↔ (0 < spare_of self.old owner) }
         ensures ok { OnOk result ((self.new.slots ≡ self.old.slots)
             × (self.new.owners ≡ with_aside self.old.owners owner (used_of self.old owner + 1) (aside_of self.old owner + 1))) }
+        ensures chains { OnOk result ((chain : Chain) → IsLive self.old chain → IsLive self.new chain
+            × (chain_bytes self.new chain ≡ chain_bytes self.old chain)) }
         ensures no_room { IfErr result (λ e. (e.need ≡ 1) × (e.spare ≡ 0)) }
         ensures err { OnErr result (self.new ≡ self.old) }
     {
@@ -130,6 +134,8 @@ impl Pool {
         requires aside { 0 < aside_of self.old owner }
         ensures slots { self.new.slots ≡ self.old.slots }
         ensures owners { self.new.owners ≡ with_aside self.old.owners owner (used_of self.old owner - 1) (aside_of self.old owner - 1) }
+        ensures chains { (chain : Chain) → IsLive self.old chain → IsLive self.new chain
+            × (chain_bytes self.new chain ≡ chain_bytes self.old chain) }
     {
         let old = self.owners[owner as usize];
         self.owners[owner as usize] = Owner {

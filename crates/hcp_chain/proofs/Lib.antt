@@ -3,3 +3,4 @@ pub mod CutLemmas
 pub mod HoldingLemmas
 pub mod ClearLemmas
 pub mod GrowLemmas
+pub mod ReadyLemmas

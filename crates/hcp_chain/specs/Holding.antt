@@ -1,5 +1,5 @@
 -- The chains that a joiner keeps in a pool, and the messages under way that they stand for.
-use Rattle.std.specs.Prelude.{◌≡◌, ◌≢◌, ℕ, ◌≤◌, List, [], ◌∷◌, length, map}
+use Rattle.std.specs.Prelude.{◌≡◌, ◌≢◌, ℕ, ◌≤◌, List, [], ◌∷◌, ◌++◌, length, map}
 use Rattle.std.specs.List.{sum_by, AllByRecursion}
 use Rattle.block_pool.specs.declared.chain.Chain.{Chain}
 use Rattle.block_pool.specs.Slots.{blocks_for}
@@ -52,6 +52,13 @@ pub record IsReady (pool : PoolState) (joiner : Joiner) : Type 0 where
   pub has_quota : HasQuota pool joiner.owner
   pub quota : quota_of pool joiner.owner ≡ 512
   pub used : used_of pool joiner.owner ≡ held_blocks pool joiner.open.items
+
+-- A joiner that gave this message has its chain still counted beside those under way.
+pub record HoldsWhole (pool : PoolState) (joiner : Joiner) (whole : Open) : Type 0 where
+  pub holds : Holds pool joiner.owner (joiner.open.items ++ whole ∷ [])
+  pub has_quota : HasQuota pool joiner.owner
+  pub quota : quota_of pool joiner.owner ≡ 512
+  pub used : used_of pool joiner.owner ≡ held_blocks pool (joiner.open.items ++ whole ∷ [])
 
 -- a chain lies apart from some chains
 abbrev pub IsApartFrom : List Open → Chain → Type 0

@@ -68,3 +68,8 @@ are_taken messages (p ∷ packets) =
 abbrev pub given_by : List (ℕ × List ℕ) → List Packet → List (ℕ × List ℕ)
 given_by messages [] = []
 given_by messages (p ∷ packets) = message_in (join_step messages p).0 ++ given_by (join_step messages p).1 packets
+
+-- the messages under way after these packets
+abbrev pub open_after : List (ℕ × List ℕ) → List Packet → List (ℕ × List ℕ)
+open_after messages [] = messages
+open_after messages (p ∷ packets) = open_after (join_step messages p).1 packets

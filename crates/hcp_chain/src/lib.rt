@@ -5,6 +5,7 @@
 mod cutting;
 mod joiner;
 pub mod laws;
+pub mod ready;
 
 pub use cutting::cut;
 pub use joiner::{ChainFault, Joined, Joiner, MAX_MESSAGE};

@@ -10,6 +10,7 @@ use Rattle.swp_base.specs.declared.control_frames.Kind.{Kind}
 use Rattle.swp_base.specs.declared.control_frames.Kind.TheVariants.{Rr, Rej, Rnr, Srej}
 use Rattle.shdlc_core.specs.declared.answers.LinkState.{LinkState}
 use Rattle.shdlc_core.specs.declared.answers.LinkState.TheVariants.{Down, Waiting, Up}
+use Rattle.shdlc_core.specs.declared.answers.Taken.{Taken}
 use Rattle.shdlc_core.specs.declared.answers.Due.{Due}
 use Rattle.shdlc_core.specs.declared.answers.Due.TheVariants.{Rr as Rr_due, Rej as Rej_due, Rnr as Rnr_due, Rset as Rset_due, Ua as Ua_due}
 use Rattle.shdlc_core.specs.Machine.{EndState, Session, Fragment, runs_timer, taken, take_answer, ticked, tick_answer, reset_with, with_ready, fetched, frame_due, fragment_due, sent_next, sent_again, asked_again, given_up, place_of, ahead, accepted, repeated, discarded, acknowledged, ready_again, rejected, made_busy, received, fragment_accepted, is_waiting, up_with, offered, put_out, stopped, no_session}
@@ -501,3 +502,158 @@ stands_full k waiting e h four = record { stands = h; full = inr (h.kept.sender.
 
 pub stands_empty : (k : Kept) (waiting : List Fragment) (e : EndState) → StandsBefore k waiting e → waiting ≡ [] → StandsWith k waiting e
 stands_empty k waiting e h none = record { stands = h; full = inl none }
+
+-- control frames that are dropped
+pub stands_dropped : (k new : Kept) (waiting : List Fragment) (e : EndState) (h : StandsBefore k waiting e)
+    → StandsFor new (record (with_out e h.offered) { due = [] }) → StandsBefore new waiting (record e { due = [] })
+stands_dropped k new waiting e h kept =
+    let n = h.narrow in
+    record { offered = h.offered; out = h.out; kept = kept; narrow = record { own = n.own; peer = n.peer; session = n.session }; session = h.session }
+
+-- ## Frames and the session
+
+-- a frame that brings a fragment ends no session, and leaves what an end that is stopped has
+pub record Brings (e : EndState) (c : Control) : Type 0 where
+  pub up : e.phase ≡ Up
+  pub stays : (take_answer e c).ended ≡ None
+  pub goes_on : (take_answer e c).began ≡ false
+  pub stopped_is : stopped (taken e c) ≡ stopped e
+
+brings_received : (e : EndState) (x ns : ℕ) (info : Fragment) → stopped (received (acknowledged (in_phase Up e) x) ns info) ≡ stopped (in_phase Up e)
+brings_received e x ns info = go e.ready (ahead e.session ns == 0) (nat_lt (ahead e.session ns) 4) e.session.gap_open
+  where
+    f : EndState
+    f = acknowledged (in_phase Up e) x
+
+    gap : EndState → EndState
+    gap h = record h { due = h.due ++ Rej_due ∷ []; session = record h.session { gap_open = true } }
+
+    go : (r b c d : Bool) → stopped (if r then (if b then accepted f info else (if c then (if d then f else gap f) else repeated f)) else discarded f) ≡ stopped (in_phase Up e)
+    go true true c d = refl
+    go true false true true = refl
+    go true false true false = refl
+    go true false false d = refl
+    go false b c d = refl
+
+brings_up : (e : EndState) (ns nr : ℕ) (info : Fragment) (q : Option ℕ) → place_of e.session nr ≡ q → Brings (in_phase Up e) (I ns nr info)
+brings_up e ns nr info None at = record { up = refl; stays = refl; goes_on = refl; stopped_is = rw at }
+brings_up e ns nr info (Some x) at = record { up = refl; stays = refl; goes_on = refl; stopped_is = rw at (brings_received e x ns info) }
+
+no_fragment : (f : Fragment) → None ≡ Some f → ⊥
+no_fragment f e = cc
+
+none_brought : (p : LinkState) (e : EndState) (w caps : ℕ) (b : Bool) (f : Fragment) → (w == 0) ≡ b → (take_answer (in_phase p e) (Rset w caps)).accepted ≡ Some f → ⊥
+none_brought Up e w caps true f at is = let h : None ≡ Some f = rw at at is in no_fragment f h
+none_brought Up e w caps false f at is = let h : None ≡ Some f = rw at at is in no_fragment f h
+none_brought Down e w caps true f at is = let h : None ≡ Some f = rw at at is in no_fragment f h
+none_brought Down e w caps false f at is = let h : None ≡ Some f = rw at at is in no_fragment f h
+none_brought Waiting e w caps b f at is = no_fragment f is
+
+brings_in : (p : LinkState) (e : EndState) (c : Control) (f : Fragment) → (take_answer (in_phase p e) c).accepted ≡ Some f → Brings (in_phase p e) c
+brings_in Up e (I ns nr info) f is = brings_up e ns nr info (place_of e.session nr) refl
+brings_in Up e (S k nr) f is = absurd (no_fragment f is)
+brings_in Up e (Rset w caps) f is = absurd (none_brought Up e w caps (w == 0) f refl is)
+brings_in Up e Ua f is = absurd (no_fragment f is)
+brings_in Up e (Act act again) f is = absurd (no_fragment f is)
+brings_in Up e Clt f is = absurd (no_fragment f is)
+brings_in Down e (I ns nr info) f is = absurd (no_fragment f is)
+brings_in Down e (S k nr) f is = absurd (no_fragment f is)
+brings_in Down e (Rset w caps) f is = absurd (none_brought Down e w caps (w == 0) f refl is)
+brings_in Down e Ua f is = absurd (no_fragment f is)
+brings_in Down e (Act act again) f is = absurd (no_fragment f is)
+brings_in Down e Clt f is = absurd (no_fragment f is)
+brings_in Waiting e (I ns nr info) f is = absurd (no_fragment f is)
+brings_in Waiting e (S k nr) f is = absurd (no_fragment f is)
+brings_in Waiting e (Rset w caps) f is = absurd (no_fragment f is)
+brings_in Waiting e Ua f is = absurd (no_fragment f is)
+brings_in Waiting e (Act act again) f is = absurd (no_fragment f is)
+brings_in Waiting e Clt f is = absurd (no_fragment f is)
+
+pub brings_fragment : (e : EndState) (c : Control) (f : Fragment) → (take_answer e c).accepted ≡ Some f → Brings e c
+brings_fragment e c f is = brings_in e.phase e c f is
+
+-- the lists and places of a session after a frame, by whether it ended one
+pub record TakesOn (e : EndState) (c : Control) : Type 0 where
+  pub out : (taken e c).session.out ≡ left_waiting (is_some (take_answer e c).ended) e.session.out
+  pub acked : (taken e c).session.acked ≡ (if is_some (take_answer e c).ended then 0 else e.session.acked + (take_answer e c).acked)
+  pub acc : (taken e c).session.acc ≡ left_waiting (is_some (take_answer e c).ended) (e.session.acc ++ option_to_list (take_answer e c).accepted)
+  pub waiting : (waiting : List Fragment) → ((e.phase ≡ Up → ⊥) → waiting ≡ []) → left_waiting (take_answer e c).began waiting ≡ left_waiting (is_some (take_answer e c).ended) waiting
+
+reset_ends : (e : EndState) (w caps : ℕ) (b : Bool) → (w == 0) ≡ b → (take_answer (in_phase Up e) (Rset w caps)).began ≡ is_some (take_answer (in_phase Up e) (Rset w caps)).ended
+reset_ends e w caps true at = rw at
+reset_ends e w caps false at = rw at
+
+up_ends : (e : EndState) (c : Control) → (take_answer (in_phase Up e) c).began ≡ is_some (take_answer (in_phase Up e) c).ended
+up_ends e (I ns nr info) = refl
+up_ends e (S k nr) = refl
+up_ends e (Rset w caps) = reset_ends e w caps (w == 0) refl
+up_ends e Ua = refl
+up_ends e (Act act again) = refl
+up_ends e Clt = refl
+
+up_takes : (e : EndState) (c : Control) → TakesOn (in_phase Up e) c
+up_takes e c =
+    let a = alike_in Up e [] c in
+    let same = up_ends e c in
+    record {
+      out = a.out ∙ ap (λ b. left_waiting b e.session.out) same;
+      acked = a.acked ∙ ap (λ b. if b then 0 else e.session.acked + (take_answer (in_phase Up e) c).acked) same;
+      acc = a.acc ∙ ap (λ b. left_waiting b (e.session.acc ++ option_to_list (take_answer (in_phase Up e) c).accepted)) same;
+      waiting = λ w idle. ap (λ b. left_waiting b w) same;
+    }
+
+-- an end without a session acknowledges and accepts nothing, and ends none
+record TakesIdle (a : Taken) : Type 0 where
+  none_acked : a.acked ≡ 0
+  none_accepted : a.accepted ≡ None
+  none_ended : a.ended ≡ None
+
+down_reset : (e : EndState) (w caps : ℕ) (b : Bool) → (w == 0) ≡ b → TakesIdle (take_answer (in_phase Down e) (Rset w caps))
+down_reset e w caps true at = record { none_acked = rw at; none_accepted = rw at; none_ended = rw at }
+down_reset e w caps false at = record { none_acked = rw at; none_accepted = rw at; none_ended = rw at }
+
+down_idle : (e : EndState) (c : Control) → TakesIdle (take_answer (in_phase Down e) c)
+down_idle e (I ns nr info) = record { none_acked = refl; none_accepted = refl; none_ended = refl }
+down_idle e (S k nr) = record { none_acked = refl; none_accepted = refl; none_ended = refl }
+down_idle e (Rset w caps) = down_reset e w caps (w == 0) refl
+down_idle e Ua = record { none_acked = refl; none_accepted = refl; none_ended = refl }
+down_idle e (Act act again) = record { none_acked = refl; none_accepted = refl; none_ended = refl }
+down_idle e Clt = record { none_acked = refl; none_accepted = refl; none_ended = refl }
+
+waiting_idle : (e : EndState) (c : Control) → TakesIdle (take_answer (in_phase Waiting e) c)
+waiting_idle e (I ns nr info) = record { none_acked = refl; none_accepted = refl; none_ended = refl }
+waiting_idle e (S k nr) = record { none_acked = refl; none_accepted = refl; none_ended = refl }
+waiting_idle e (Rset w caps) = record { none_acked = refl; none_accepted = refl; none_ended = refl }
+waiting_idle e Ua = record { none_acked = refl; none_accepted = refl; none_ended = refl }
+waiting_idle e (Act act again) = record { none_acked = refl; none_accepted = refl; none_ended = refl }
+waiting_idle e Clt = record { none_acked = refl; none_accepted = refl; none_ended = refl }
+
+left_none : (b : Bool) (xs : List Fragment) → xs ≡ [] → left_waiting b xs ≡ []
+left_none true xs e = refl
+left_none false xs e = e
+
+count_none : (b : Bool) (n : ℕ) → n ≡ 0 → (if b then 0 else n) ≡ 0
+count_none true n e = refl
+count_none false n e = e
+
+idle_takes : (e : EndState) (c : Control) → (e.phase ≡ Up → ⊥) → e.session ≡ no_session → TakesIdle (take_answer e c) → TakesOn e c
+idle_takes e c other none idle =
+    let a = taken_alike e [] c in
+    let out : e.session.out ≡ [] = ap (λ (s : Session). s.out) none in
+    let acked : e.session.acked + (take_answer e c).acked ≡ 0 = ap (λ (s : Session). s.acked + (take_answer e c).acked) none ∙ (ap (λ n. 0 + n) idle.none_acked ∙ omega arith) in
+    let acc : e.session.acc ++ option_to_list (take_answer e c).accepted ≡ [] = ap (λ (s : Session). s.acc ++ option_to_list (take_answer e c).accepted) none ∙ ap option_to_list idle.none_accepted in
+    record {
+      out = a.out ∙ (left_none (take_answer e c).began e.session.out out ∙ sym (left_none (is_some (take_answer e c).ended) e.session.out out));
+      acked = a.acked ∙ (count_none (take_answer e c).began (e.session.acked + (take_answer e c).acked) acked ∙ sym (count_none (is_some (take_answer e c).ended) (e.session.acked + (take_answer e c).acked) acked));
+      acc = a.acc ∙ (left_none (take_answer e c).began (e.session.acc ++ option_to_list (take_answer e c).accepted) acc
+          ∙ sym (left_none (is_some (take_answer e c).ended) (e.session.acc ++ option_to_list (take_answer e c).accepted) acc));
+      waiting = λ w empty. left_none (take_answer e c).began w (empty other) ∙ sym (left_none (is_some (take_answer e c).ended) w (empty other));
+    }
+
+takes_in : (p : LinkState) (e : EndState) (c : Control) → HasSession p e.session → TakesOn (in_phase p e) c
+takes_in Up e c h = up_takes e c
+takes_in Down e c h = idle_takes (in_phase Down e) c (λ e. cc) h (down_idle e c)
+takes_in Waiting e c h = idle_takes (in_phase Waiting e) c (λ e. cc) h (waiting_idle e c)
+
+pub takes_on : (e : EndState) (c : Control) → HasSession e.phase e.session → TakesOn e c
+takes_on e c h = takes_in e.phase e c h

@@ -593,6 +593,14 @@ impl Shdlc {
         self.enter(LinkState::Down);
     }
 
+    /// The control frames that were made and not yet fetched are dropped. Nothing else changes.
+    pub fn drop_controls(&mut self)
+        ensures stands { (e : EndState) → StandsFor self.old e → StandsFor self.new (record e { due = [] }) }
+        ensures due { self.new.due ≡ [] }
+    {
+        self.due.clear();
+    }
+
     /// The end takes fragments from now on, or takes none. An end that becomes ready and has answered RNR in this session
     /// since it became not ready sends RR. At most seven control frames wait to be fetched before.
     pub fn set_ready(&mut self, ready: bool)
