@@ -584,6 +584,21 @@ impl Shdlc {
         true
     }
 
+    /// A reset of the link is asked for with the end's own window: as `reset` with this window.
+    pub fn reset_again(&mut self) -> bool
+        requires { length self.old.due < 8 }
+        ensures stands { (e : EndState) → StandsFor self.old e → StandsFor self.new (reset_with e e.own_window) }
+        ensures answer { IsTrue result ↔ (self.old.phase ≢ LinkState.Waiting) }
+        ensures refused { OnFalse result (self.new ≡ self.old) }
+        ensures added { length self.new.due ≤ length self.old.due + 1 }
+    {
+        if self.phase == LinkState::Waiting {
+            return false;
+        }
+        self.wait();
+        true
+    }
+
     /// The end is Down, and nothing of a session is kept. Its own window and its readiness stay.
     pub fn stop(&mut self)
         ensures stands { (e : EndState) → StandsFor self.old e → StandsFor self.new (stopped e) }
