@@ -1,5 +1,5 @@
 -- What a replay that ends has written.
-use Rattle.std.proofs.Common.{◌≡◌, ℕ, ◌+◌, Bool, true, false, IsTrue, List, [], ◌++◌, length, take, refl, sym, ap, ◌∙◌, append_assoc, subst}
+use Rattle.std.proofs.Common.{◌≡◌, ℕ, ◌+◌, ◌<◌, ◌≤◌, Bool, true, false, IsTrue, List, [], ◌++◌, length, take, refl, sym, ap, ◌∙◌, append_assoc, subst}
 use Rattle.std.proofs.Common.{inl, inr}
 use Rattle.std.specs.Prelude.{Option, Some, None, Result, Ok, Err, OnOk, OnErr, IfErr, is_err}
 use Rattle.std.specs.Str.Lines.{lines}
@@ -12,7 +12,7 @@ use Rattle.swp_tool.specs.declared.replay.Halt.TheVariants as halt
 use Rattle.swp_tool.specs.declared.pieces.Pieces.{Pieces}
 use Rattle.swp_tool.specs.Schedules.{Stop, AtFault, Too_many, Schedule, ended}
 use Rattle.swp_tool.specs.Transcripts.{IsTextOf}
-use Rattle.swp_tool.specs.Pieces.{HasRead, IsFrontTranscript, IsCompleteTranscript, StopsAt, Halts, HaltsAtEnd, schedule_read, schedule_so_far}
+use Rattle.swp_tool.specs.Pieces.{IsReading, IsRunning, HasRead, IsFrontTranscript, IsCompleteTranscript, StopsAt, Halts, HaltsAtEnd, schedule_read, schedule_so_far}
 use Rattle.swp_tool.specs.Runs.{status_of, Appends, IsSomeTranscript, IsFrontOfTranscript, Replayed}
 use Rattle.swp_tool.proofs.Reading.{front_so_far, played_transcript}
 
@@ -56,6 +56,20 @@ pub halted_at_end : (tells : Bool) (why : Halt) (count : ℕ) (bytes text before
 halted_at_end tells (halt.Fault f) count bytes text before after h is = (text, h, is)
 halted_at_end tells halt.TooMany count bytes text before after h is = absurd h
 halted_at_end tells halt.NoMemory count bytes text before after h is = (text, h, is)
+
+-- what a replay goes on from has no line at fault
+pub is_running : (p : Pieces) (bytes text : List ℕ) → HasRead p bytes text → IsReading p → IsRunning bytes
+is_running p bytes text h reading = record {
+  whole = h.whole;
+  rest = p.partial.items;
+  cut = h.cut;
+  lack = h.lack;
+  rest_lacks = h.partial_lacks;
+  running = h.played.running;
+  few = subst (λ n. n ≤ 20000) h.played.count_is reading.few.count;
+  begun = λ some. subst (λ n. n < 20000) h.played.count_is (reading.begun some);
+  short = reading.short;
+}
 
 -- ## Fronts of transcripts
 

@@ -44,6 +44,27 @@ pub record IsReading (p : Pieces) : Type 0 where
   pub short : length p.partial.items ≤ 9001
   pub begun : 0 < length p.partial.items → p.replay.count < 20000
 
+-- No line of these bytes is at fault: their whole lines are a schedule that goes on, and the line that has not ended is neither
+-- one too many nor known to be too long.
+pub record IsRunning (bytes : List ℕ) : Type 0 where
+  pub whole : List (List ℕ)
+  pub rest : List ℕ
+  pub cut : bytes ≡ flat_map ended_line whole ++ rest
+  pub lack : AllLackLineFeed whole
+  pub rest_lacks : LacksLineFeed rest
+  pub running : (schedule_so_far whole).stop ≡ None
+  pub few : (schedule_so_far whole).count ≤ 20000
+  pub begun : 0 < length rest → (schedule_so_far whole).count < 20000
+  pub short : length rest ≤ 9001
+
+-- of the input all but what is left was read: at most so many bytes behind a front in which no line is at fault
+pub record IsReadAhead (most : ℕ) (input left : List ℕ) : Type 0 where
+  pub front : List ℕ
+  pub behind : List ℕ
+  pub input_is : input ≡ front ++ (behind ++ left)
+  pub few : length behind ≤ most
+  pub running : IsRunning front
+
 -- how many bytes may still come before the lines are too many or one is too long
 abbrev pub bytes_left : Pieces → ℕ
 bytes_left p = (20000 - p.replay.count) * 9003 + (9002 - length p.partial.items)

@@ -6,7 +6,7 @@ use Rattle.swp_tool.specs.declared.status.Status.TheVariants as status
 use Rattle.swp_tool.specs.declared.replay.Halt.{Halt}
 use Rattle.swp_tool.specs.declared.replay.Halt.TheVariants as halt
 use Rattle.swp_tool.specs.Schedules.{Stop, AtFault, Too_many}
-use Rattle.swp_tool.specs.Pieces.{HasRead, IsFrontTranscript, IsWholeTranscript, IsCompleteTranscript, StopsAt}
+use Rattle.swp_tool.specs.Pieces.{HasRead, IsFrontTranscript, IsWholeTranscript, IsCompleteTranscript, IsRunning, StopsAt}
 
 -- the status of a replay that halts behind so many whole lines
 abbrev pub status_of : Halt → ℕ → Status
@@ -31,9 +31,9 @@ IsSomeTranscript input text = IsFrontTranscript input text ⊎ IsCompleteTranscr
 abbrev pub IsFrontOfTranscript : List ℕ → List ℕ → Type 0
 IsFrontOfTranscript input front = (text : List ℕ) × (n : ℕ) × IsSomeTranscript input text × (front ≡ take n text)
 
--- the transcript of all whole lines among the bytes that were read, where these are left
+-- the transcript of all whole lines among the bytes that were read, where these are left; no line of them is at fault
 abbrev pub IsTranscriptOfRead : List ℕ → List ℕ → List ℕ → Type 0
-IsTranscriptOfRead input left text = (bytes : List ℕ) × (input ≡ bytes ++ left) × IsWholeTranscript bytes text
+IsTranscriptOfRead input left text = (bytes : List ℕ) × (input ≡ bytes ++ left) × IsWholeTranscript bytes text × IsRunning bytes
 
 -- How a replay of this input ended. The transcript of the lines before the fault was written, on Done all of it; on a
 -- fault of writing, a front of it. Whether the sink tells what was written comes first: without it there is such a text, and
@@ -49,6 +49,32 @@ Replayed tells status.BadWords input left before after = ⊥
 Replayed tells (status.Undetected line) input left before after = ⊥
 Replayed tells status.NvFault input left before after = ⊥
 Replayed tells (status.BadImage why) input left before after = ⊥
+
+-- how a replay can end, whatever it reads
+abbrev pub IsOfReplay : Status → Type 0
+IsOfReplay status.Done = Unit {0}
+IsOfReplay (status.BadSchedule line why) = Unit {0}
+IsOfReplay status.ReadFault = Unit {0}
+IsOfReplay status.WriteFault = Unit {0}
+IsOfReplay status.NoMemory = Unit {0}
+IsOfReplay (status.TooMany count) = Unit {0}
+IsOfReplay status.BadWords = ⊥
+IsOfReplay (status.Undetected line) = ⊥
+IsOfReplay status.NvFault = ⊥
+IsOfReplay (status.BadImage why) = ⊥
+
+-- how a decoding can end, whatever it reads
+abbrev pub IsOfDecode : Status → Type 0
+IsOfDecode status.Done = Unit {0}
+IsOfDecode status.ReadFault = Unit {0}
+IsOfDecode status.WriteFault = Unit {0}
+IsOfDecode (status.TooMany count) = count ≡ 16777217
+IsOfDecode status.BadWords = ⊥
+IsOfDecode (status.BadSchedule line why) = ⊥
+IsOfDecode (status.Undetected line) = ⊥
+IsOfDecode status.NvFault = ⊥
+IsOfDecode status.NoMemory = ⊥
+IsOfDecode (status.BadImage why) = ⊥
 
 -- A replay under way: it has read a front of the input and written the transcript of its whole lines.
 pub record IsUnderWay (tells : Bool) (p : Pieces) (input left before after : List ℕ) : Type 0 where

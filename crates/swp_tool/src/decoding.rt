@@ -1,6 +1,7 @@
 //! The command `decode`: a record of a line in, a line of text for each frame or fault out.
 ghost use Rattle.std.specs.Prelude.{◌≡◌, ◌≢◌, ◌≤◌, ◌<◌, ◌+◌, ◌++◌, [], ◌∷◌, List, ℕ, length, take, IsTrue, OnOk, OnErr, IfOk, IfErr, Ok, Err, true, false};
 ghost use Rattle.swp_base.specs.Outside.{Rose};
+ghost use Rattle.swp_tool.specs.Runs.{IsOfDecode};
 ghost use Rattle.swp_tool.specs.Decodings.{most_bytes, IsDecoding, HasDecoded, DecodedBy, IsFrontOfLines, IsFrontOfSome};
 
 use crate::output::write_all;
@@ -125,6 +126,7 @@ fn take_next<K: Sink>(sink: &mut K, decoding: &mut Decoding, byte: u8) -> Result
     ensures write_fault { result ≡ Err Status.WriteFault → Rose (K.faults sink.old) (K.faults sink.new) }
     ensures read_fault { result ≢ Err Status.ReadFault }
     ensures words { result ≢ Err Status.BadWords }
+    ensures kind { IfErr result IsOfDecode }
     ensures few { OnOk result (decoding.new.decoder.count ≤ 16777216) }
     ensures progress { OnOk result (decoding.new.decoder.count ≡ decoding.old.decoder.count + 1) }
     ensures goes { OnOk result ((bytes before : List ℕ) → IsDecoding K.tells decoding.old bytes before (K.written sink.old)
@@ -151,6 +153,7 @@ fn take_each<K: Sink>(sink: &mut K, decoding: &mut Decoding, piece: &[u8]) -> Re
     ensures write_fault { result ≡ Err Status.WriteFault → Rose (K.faults sink.old) (K.faults sink.new) }
     ensures read_fault { result ≢ Err Status.ReadFault }
     ensures words { result ≢ Err Status.BadWords }
+    ensures kind { IfErr result IsOfDecode }
     ensures few { OnOk result (decoding.new.decoder.count ≤ 16777216) }
     ensures progress { OnOk result (decoding.new.decoder.count ≡ decoding.old.decoder.count + length piece.now) }
     ensures goes { OnOk result ((bytes before : List ℕ) → IsDecoding K.tells decoding.old bytes before (K.written sink.old)
@@ -173,6 +176,7 @@ fn take_all<K: Sink>(sink: &mut K, decoding: &mut Decoding, piece: &[u8]) -> Res
     ensures write_fault { result ≡ Err Status.WriteFault → Rose (K.faults sink.old) (K.faults sink.new) }
     ensures read_fault { result ≢ Err Status.ReadFault }
     ensures words { result ≢ Err Status.BadWords }
+    ensures kind { IfErr result IsOfDecode }
     ensures few { OnOk result (decoding.new.decoder.count ≤ 16777216) }
     ensures progress { OnOk result (decoding.new.decoder.count ≡ decoding.old.decoder.count + length piece.now) }
     ensures goes { OnOk result ((bytes before : List ℕ) → IsDecoding K.tells decoding.old bytes before (K.written sink.old)
@@ -193,6 +197,7 @@ fn take_record<K: Sink>(sink: &mut K, decoding: &mut Decoding, piece: &[u8]) -> 
     ensures write_fault { result ≡ Err Status.WriteFault → Rose (K.faults sink.old) (K.faults sink.new) }
     ensures read_fault { result ≢ Err Status.ReadFault }
     ensures words { result ≢ Err Status.BadWords }
+    ensures kind { IfErr result IsOfDecode }
     ensures few { OnOk result (decoding.new.decoder.count ≤ 16777216) }
     ensures progress { OnOk result (decoding.new.decoder.count ≡ decoding.old.decoder.count + length piece.now) }
     ensures goes { OnOk result ((input rest before : List ℕ) →
@@ -217,6 +222,7 @@ fn close_record<K: Sink>(sink: &mut K, decoding: &mut Decoding) -> Status
     ensures write_fault { result ≡ Status.WriteFault → Rose (K.faults sink.old) (K.faults sink.new) }
     ensures read_fault { result ≢ Status.ReadFault }
     ensures words { result ≢ Status.BadWords }
+    ensures kind { IsOfDecode result }
     ensures ends { (input before : List ℕ) → HasDecoded K.tells decoding.old input [] before (K.written sink.old)
         → DecodedBy K.tells result input [] before (K.written sink.new) }
 {
@@ -258,6 +264,7 @@ fn pump_record<S: Source, K: Sink>(
     ensures read_fault { result ≡ Err Status.ReadFault → Rose (S.faults source.old) (S.faults source.new) }
     ensures write_fault { result ≡ Err Status.WriteFault → Rose (K.faults sink.old) (K.faults sink.new) }
     ensures words { result ≢ Err Status.BadWords }
+    ensures kind { IfErr result IsOfDecode }
     ensures few { OnOk result (decoding.new.decoder.count ≤ 16777216) }
     ensures progress { result ≡ Ok true → decoding.old.decoder.count < decoding.new.decoder.count }
     ensures end { IsTrue S.tells → result ≡ Ok false → S.left source.new ≡ [] }
@@ -289,6 +296,7 @@ pub fn decode<S: Source, K: Sink>(source: &mut S, sink: &mut K) -> Status
         DecodedBy K.tells result (S.left source.old) (S.left source.new) (K.written sink.old) (K.written sink.new) }
     ensures ahead { IsTrue S.tells → length (S.left source.old) ≤ most_bytes + 4096 + length (S.left source.new) }
     ensures words { result ≢ Status.BadWords }
+    ensures kind { IsOfDecode result }
 {
     let mut decoding = Decoding {
         decoder: Decoder::new(),

@@ -2,9 +2,9 @@
 ghost use Rattle.std.specs.Prelude.{◌≡◌, ◌≢◌, ◌≤◌, ◌<◌, ◌+◌, ◌++◌, ◌∷◌, ◌↔◌, ◌⊎◌, [], List, ℕ, length, map, string_bytes, codes, Some, None, IsTrue, OnOk, OnErr, IfErr, Ok, Err, take, true, false};
 ghost use Rattle.swp_base.specs.Outside.{Rose};
 ghost use Rattle.swp_tool.specs.Schedules.{Stop, schedule_of};
-ghost use Rattle.swp_tool.specs.Runs.{status_of, status_at, Replayed, IsUnderWay, IsReplay, IsDecode, IsCommand};
+ghost use Rattle.swp_tool.specs.Runs.{status_of, status_at, Replayed, IsUnderWay, IsReplay, IsDecode, IsCommand, IsOfReplay, IsOfDecode};
 ghost use Rattle.swp_tool.specs.Decodings.{DecodedBy, most_bytes};
-ghost use Rattle.swp_tool.specs.Pieces.{HasRead, IsReading, bytes_left};
+ghost use Rattle.swp_tool.specs.Pieces.{HasRead, IsReading, IsReadAhead, bytes_left};
 
 use crate::decoding::decode;
 use crate::output::write_all;
@@ -28,7 +28,8 @@ pub struct Ended<N> {
 /// The status of a replay that halts behind `count` whole lines.
 fn halted(why: Halt, count: u64) -> Status
     requires { count ≤ 20000 }
-    ensures { result ≡ status_of why count }
+    ensures status { result ≡ status_of why count }
+    ensures kind { IsOfReplay result }
 {
     match why {
         Halt::Fault(fault) => Status::BadSchedule {
@@ -71,6 +72,7 @@ fn take_piece<K: Sink>(
     ensures write_fault { result ≡ Err Status.WriteFault → Rose (K.faults sink.old) (K.faults sink.new) }
     ensures read_fault { result ≢ Err Status.ReadFault }
     ensures words { result ≢ Err Status.BadWords }
+    ensures kind { IfErr result IsOfReplay }
     ensures reading { OnOk result (IsReading pieces.new) }
     ensures progress { OnOk result (bytes_left pieces.new < bytes_left pieces.old) }
     ensures goes { OnOk result ((input rest before : List ℕ) → IsUnderWay K.tells pieces.old input (piece.now ++ rest) before (K.written sink.old)
@@ -94,6 +96,7 @@ fn close<K: Sink>(alloc: Global, sink: &mut K, pieces: &mut Pieces) -> Status
     ensures write_fault { result ≡ Status.WriteFault → Rose (K.faults sink.old) (K.faults sink.new) }
     ensures read_fault { result ≢ Status.ReadFault }
     ensures words { result ≢ Status.BadWords }
+    ensures kind { IsOfReplay result }
     ensures ends { (input before : List ℕ) → IsUnderWay K.tells pieces.old input [] before (K.written sink.old)
         → Replayed K.tells result input [] before (K.written sink.new) }
 {
@@ -117,11 +120,13 @@ fn pump<S: Source, K: Sink>(
 ) -> Result<bool, Status>
     requires reading { IsReading pieces.old }
     requires room { 0 < length buffer.old }
+    requires piece { length buffer.old ≤ 4096 }
     ensures reads { S.faults source.old ≤ S.faults source.new }
     ensures writes { K.faults sink.old ≤ K.faults sink.new }
     ensures read_fault { result ≡ Err Status.ReadFault → Rose (S.faults source.old) (S.faults source.new) }
     ensures write_fault { result ≡ Err Status.WriteFault → Rose (K.faults sink.old) (K.faults sink.new) }
     ensures words { result ≢ Err Status.BadWords }
+    ensures kind { IfErr result IsOfReplay }
     ensures reading { OnOk result (IsReading pieces.new) }
     ensures progress { result ≡ Ok true → bytes_left pieces.new < bytes_left pieces.old }
     ensures end { IsTrue S.tells → result ≡ Ok false → S.left source.new ≡ [] }
@@ -131,6 +136,9 @@ fn pump<S: Source, K: Sink>(
     ensures ends { IsTrue S.tells → IfErr result (λ status. (input before : List ℕ) →
         IsUnderWay K.tells pieces.old input (S.left source.old) before (K.written sink.old)
         → Replayed K.tells status input (S.left source.new) before (K.written sink.new)) }
+    ensures ahead { IsTrue S.tells → OnErr result ((input before : List ℕ) →
+        IsUnderWay K.tells pieces.old input (S.left source.old) before (K.written sink.old)
+        → IsReadAhead 4096 input (S.left source.new)) }
 {
     match source.read(buffer) {
         Err(Failed) => Err(Status::ReadFault),
@@ -148,7 +156,9 @@ fn replay<S: Source, K: Sink>(alloc: Global, source: &mut S, sink: &mut K) -> St
     ensures write_fault { result ≡ Status.WriteFault → Rose (K.faults sink.old) (K.faults sink.new) }
     ensures replayed { IsTrue S.tells →
         Replayed K.tells result (S.left source.old) (S.left source.new) (K.written sink.old) (K.written sink.new) }
+    ensures ahead { IsTrue S.tells → IsReadAhead 4096 (S.left source.old) (S.left source.new) }
     ensures words { result ≢ Status.BadWords }
+    ensures kind { IsOfReplay result }
 {
     let mut pieces = Pieces::new(alloc);
     let mut buffer = [0; PIECE];
@@ -185,6 +195,10 @@ pub fn run<S: Source, K: Sink, N: Nv>(
     ensures bad_words { (result.status ≡ Status.BadWords) ↔ ¬ IsCommand (map string_bytes words.now) }
     ensures untouched { result.status ≡ Status.BadWords → (source.new ≡ source.old) × (sink.new ≡ sink.old) }
 
+    // Whatever is read, a replay and a decoding end in these ways alone.
+    ensures replay_status { IsReplay (map string_bytes words.now) → IsOfReplay result.status }
+    ensures decode_status { IsDecode (map string_bytes words.now) → IsOfDecode result.status }
+
     // A fault of the outside comes only where its count rose.
     ensures read_fault { result.status ≡ Status.ReadFault → Rose (S.faults source.old) (S.faults source.new) }
     ensures write_fault { result.status ≡ Status.WriteFault → Rose (K.faults sink.old) (K.faults sink.new) }
@@ -212,6 +226,10 @@ pub fn run<S: Source, K: Sink, N: Nv>(
         most_bytes < length (S.left source.old) →
         ¬ Rose (S.faults source.old) (S.faults source.new) → ¬ Rose (K.faults sink.old) (K.faults sink.new) →
         result.status ≡ Status.TooMany 16777217 }
+
+    // Of a schedule at most 4,096 bytes are read behind a front in which no line is at fault.
+    ensures ahead { IsReplay (map string_bytes words.now) → IsTrue S.tells →
+        IsReadAhead 4096 (S.left source.old) (S.left source.new) }
 
     // Of a record at most 4,096 bytes are read behind the last one that it may have.
     ensures record_ahead { IsDecode (map string_bytes words.now) → IsTrue S.tells →

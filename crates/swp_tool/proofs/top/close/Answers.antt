@@ -47,6 +47,6 @@ returns-in-Err-clause-ends g c input before under =
     let input_is : input ≡ under.bytes = under.input_is ∙ append-nil under.bytes in
     let P : List ℕ → Type 0 = λ i. Replayed tells c.halted.result i [] before after in
     let Q : Status → Type 0 = λ s. Replayed tells s under.bytes [] before after in
-    subst P (sym input_is) (subst Q (sym c.halted.ensures)
+    subst P (sym input_is) (subst Q (sym c.halted.ensures.status)
     (halted_at_end tells c.in-Err.why c.finish-finished.new.self.replay.count under.bytes (under.text ++ now) before after (c.in-Err.ensures.halts under.bytes under.text under.read)
     (behind tells before under.text now (g.K.Sink.written c.args.sink.now) after under.after_is (λ told. wrote told ∙ ap (λ l. g.K.Sink.written c.args.sink.now ++ l) c.as_slice.ensures.value))))

@@ -50,6 +50,6 @@ returns-in-Err-clause-ends g c input rest before under =
     let input_is : input ≡ (under.bytes ++ piece) ++ rest = under.input_is ∙ sym (append_assoc under.bytes piece rest) in
     let P : List ℕ → Type 0 = λ i. Replayed tells c.halted.result i rest before after in
     let Q : Status → Type 0 = λ s. Replayed tells s ((under.bytes ++ piece) ++ rest) rest before after in
-    subst P (sym input_is) (subst Q (sym (c.halted.ensures ∙ ap (λ n. Rattle.swp_tool.specs.Runs.status_of c.in-Err.why n) c.flush.ensures.lines))
+    subst P (sym input_is) (subst Q (sym (c.halted.ensures.status ∙ ap (λ n. Rattle.swp_tool.specs.Runs.status_of c.in-Err.why n) c.flush.ensures.lines))
     (halted_replayed tells c.in-Err.why q.replay.count (under.bytes ++ piece) (under.text ++ items) rest before after (c.in-Err.ensures.halts under.bytes under.text under.read)
     (behind tells before under.text items was after under.after_is wrote)))
