@@ -9,11 +9,14 @@ use Rattle.message_laws.proofs.TakenLemmas.{all_given}
 use Rattle.link_laws.specs.Order.{AllDelivered as CoreAllDelivered}
 use Rattle.session_laws.specs.Sessions.{Link as CoreLink, after as core_after}
 use Rattle.session_laws.specs.Losses.{IsQuiet as CoreIsQuiet}
+use Rattle.session_laws.specs.Settled.{IsSettled as CoreIsSettled, AreUpTogether as CoreAreUpTogether}
 use Rattle.session_laws.proofs.Quiet.{delivered_here, delivered_there}
+use Rattle.session_laws.proofs.Resets.{up_together as core_up_together}
 use Rattle.link_machine.specs.Machine.{Message, messages_got, whole_among}
 use Rattle.message_link.specs.Links.{Talk, Link, LinkEvent, IsStart, after, talk_now, AllAllowed}
 use Rattle.message_link.specs.Projection.{core_of, core_events}
 use Rattle.message_link.specs.Quiet.{losses_of, IsQuiet, AllDelivered}
+use Rattle.message_link.specs.Settled.{sure_of, IsSettled, AreUpTogether}
 use Rattle.message_link.proofs.Project.{Says}
 use Rattle.message_link.proofs.Whole.{from_start, core_starts, allowed, projected, sendable}
 
@@ -69,3 +72,15 @@ all_there l s events a q =
     let d = subst P (sym (projected l s events a))
     (delivered_there (core_of l) (core_starts l s) (core_events l events) (allowed l s events a) (quiet_core l s events a q)) in
     in_messages (talk_now m.host.side) (talk_now m.controller.side) (from_start l s events a).good.host.now.says d
+
+-- both ends are up after a reset that nothing disturbed
+pub up_together : (l : Link) → IsStart l → (events : List LinkEvent) → AllAllowed l events → IsSettled (after l events) (sure_of l events)
+    → AreUpTogether (after l events)
+up_together l s events a q =
+    let p = projected l s events a in
+    let P : CoreLink → Type 0 = λ c. CoreIsSettled c (sure_of l events) in
+    let settled : CoreIsSettled (core_after (core_of l) (core_events l events)) (sure_of l events) =
+    subst P p (record { sure = q.undisturbed; to_controller = q.to_controller; to_host = q.to_host }) in
+    let up : CoreAreUpTogether (core_of (after l events)) =
+    subst CoreAreUpTogether (sym p) (core_up_together (core_of l) (core_starts l s) (core_events l events) (allowed l s events a) settled) in
+    record { controller = up.controller; host = up.host; number = up.number }

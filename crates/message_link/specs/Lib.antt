@@ -2,3 +2,4 @@ pub mod Links
 pub mod Order
 pub mod Projection
 pub mod Quiet
+pub mod Settled

@@ -11,6 +11,7 @@ ghost use Rattle.message_link.specs.Links.{AllAllowed, IsStart, Link, LinkEvent,
 ghost use Rattle.message_link.specs.Order.{InOrder};
 ghost use Rattle.message_link.specs.Projection.{core_events, core_of};
 ghost use Rattle.message_link.specs.Quiet.{AllDelivered, IsQuiet, losses_of};
+ghost use Rattle.message_link.specs.Settled.{AreUpTogether, IsSettled, sure_of};
 
 /// What happens on a link over messages happens on a link over their fragments.
 pub fn links_are_projected()
@@ -60,4 +61,12 @@ pub fn quiet_session_has_delivered_all()
         AllDelivered (talk_now (after l events).controller.side) (talk_now (after l events).host.side) }
     ensures to_controller { (l : Link) → IsStart l → (events : List LinkEvent) → AllAllowed l events → IsQuiet (after l events) (losses_of l events) →
         AllDelivered (talk_now (after l events).host.side) (talk_now (after l events).controller.side) }
+{}
+
+/// Where a reset put an RSET on the link while the other end wasn't Waiting, and since then no frame was lost but of activation,
+/// no other RSET was sent, activation neither began nor ended, no end that isn't active took a frame, no node lost power, and
+/// both wires hold no frame but of activation, both ends are Up with one number.
+pub fn reset_brings_both_up()
+    ensures { (l : Link) → IsStart l → (events : List LinkEvent) → AllAllowed l events →
+        IsSettled (after l events) (sure_of l events) → AreUpTogether (after l events) }
 {}
