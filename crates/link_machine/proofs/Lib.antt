@@ -1,0 +1,4 @@
+pub mod Shifts
+pub mod Sound
+pub mod Runs
+pub mod Told
