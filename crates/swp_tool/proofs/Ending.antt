@@ -13,7 +13,7 @@ use Rattle.swp_tool.specs.declared.pieces.Pieces.{Pieces}
 use Rattle.swp_tool.specs.Schedules.{Stop, AtFault, Too_many, Schedule, ended}
 use Rattle.swp_tool.specs.Transcripts.{IsTextOf}
 use Rattle.swp_tool.specs.Pieces.{IsReading, IsRunning, HasRead, IsFrontTranscript, IsCompleteTranscript, StopsAt, Halts, HaltsAtEnd, schedule_read, schedule_so_far}
-use Rattle.swp_tool.specs.Runs.{status_of, Appends, IsSomeTranscript, IsFrontOfTranscript, Replayed}
+use Rattle.swp_tool.specs.Runs.{status_of, Appends, IsSomeTranscript, IsFrontOfTranscript, Replayed, IsUnderWay}
 use Rattle.swp_tool.proofs.Reading.{front_so_far, played_transcript}
 
 -- the end of a schedule adds no line
@@ -56,6 +56,17 @@ pub halted_at_end : (tells : Bool) (why : Halt) (count : ℕ) (bytes text before
 halted_at_end tells (halt.Fault f) count bytes text before after h is = (text, h, is)
 halted_at_end tells halt.TooMany count bytes text before after h is = absurd h
 halted_at_end tells halt.NoMemory count bytes text before after h is = (text, h, is)
+
+-- before the first byte
+pub nothing_played : (tells : Bool) (p : Pieces) (input before : List ℕ) → HasRead p [] [] → p.replay.text.items ≡ [] → IsUnderWay tells p input input before before
+nothing_played tells p input before read gathered = record {
+  bytes = [];
+  text = [];
+  input_is = refl;
+  after_is = λ told. sym (append-nil before);
+  read = read;
+  gathered = gathered;
+}
 
 -- what a replay goes on from has no line at fault
 pub is_running : (p : Pieces) (bytes text : List ℕ) → HasRead p bytes text → IsReading p → IsRunning bytes

@@ -1,5 +1,5 @@
 -- What a decoding has written and gathered.
-use Rattle.std.proofs.Common.{◌≡◌, ℕ, ◌+◌, ◌≤◌, Bool, IsTrue, List, [], ◌∷◌, ◌++◌, length, take, sym, ap, ◌∙◌, append_assoc, subst}
+use Rattle.std.proofs.Common.{◌≡◌, ℕ, ◌+◌, ◌≤◌, Bool, IsTrue, List, [], ◌∷◌, ◌++◌, length, take, refl, sym, ap, ◌∙◌, append_assoc, subst}
 use Rattle.std.specs.Prelude.{reverse, Result, Ok, Err, OnErr}
 use Rattle.std.proofs.lemmas.List.{append-nil, reverse-append, length-reverse}
 use Rattle.std.proofs.Math.Seq.{take-append-add}
@@ -8,8 +8,17 @@ use Rattle.swp_decode.proofs.FurtherLines.{record_lines-append}
 use Rattle.swp_tool.specs.declared.decoding.Decoding.{Decoding}
 use Rattle.swp_decode.specs.declared.line.Wire.TheVariants.{S1, S2}
 use Rattle.swp_decode.specs.Kept.{StandsFor}
-use Rattle.swp_tool.specs.Decodings.{IsDecoding, IsFrontOfLines, IsFrontOfWhole}
+use Rattle.swp_tool.specs.Decodings.{IsDecoding, HasDecoded, IsFrontOfLines, IsFrontOfWhole}
 use Rattle.swp_tool.proofs.Ending.{behind}
+
+-- before the first byte
+pub nothing_decoded : (tells : Bool) (d : Decoding) (input before : List ℕ) → StandsFor d.decoder [] → d.text.items ≡ [] → HasDecoded tells d input input before before
+nothing_decoded tells d input before stands none = record {
+  bytes = [];
+  input_is = refl;
+  decoding = record { stands = stands; written = []; after_is = λ told. sym (append-nil before); lines = none };
+  gathered = none;
+}
 
 -- a front of what is gathered was written
 pub cut_lines : (tells : Bool) (d : Decoding) (bytes before was after : List ℕ) → IsDecoding tells d bytes before was

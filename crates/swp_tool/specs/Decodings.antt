@@ -1,5 +1,5 @@
 -- What a decoding has read and written, by the status with which it ended.
-use Rattle.std.specs.Prelude.{◌≡◌, ℕ, ◌≤◌, ◌⊎◌, Bool, IsTrue, List, [], ◌∷◌, ◌++◌, length, reverse, take}
+use Rattle.std.specs.Prelude.{◌≡◌, ℕ, ◌+◌, ◌≤◌, ◌⊎◌, nat_lt, if◌then◌else◌, Bool, IsTrue, List, [], ◌∷◌, ◌++◌, length, reverse, take}
 use Rattle.swp_decode.specs.Decoded.{record_lines, decoded}
 use Rattle.swp_decode.specs.Kept.{StandsFor}
 use Rattle.swp_tool.specs.declared.decoding.Decoding.{Decoding}
@@ -9,6 +9,10 @@ use Rattle.swp_tool.specs.declared.status.Status.TheVariants as status
 -- The most bytes of a record, this project's own.
 abbrev pub most_bytes : ℕ
 most_bytes = 16777216
+
+-- how many bytes are read at once behind so many: no more than 4,096 behind the most bytes of a record
+abbrev pub piece_of : ℕ → ℕ
+piece_of count = if nat_lt most_bytes (count + 8192) then 4096 else 8192
 
 -- A decoding has read these bytes: what was written and what is gathered are their lines.
 pub record IsDecoding (tells : Bool) (d : Decoding) (bytes before after : List ℕ) : Type 0 where

@@ -2,10 +2,12 @@
 ghost use Rattle.std.specs.Prelude.{◌≡◌, ◌≢◌, ◌≤◌, ◌<◌, ◌+◌, ◌++◌, [], ◌∷◌, List, ℕ, length, take, IsTrue, OnOk, OnErr, IfOk, IfErr, Ok, Err, true, false};
 ghost use Rattle.swp_base.specs.Outside.{Rose};
 ghost use Rattle.swp_tool.specs.Runs.{IsOfDecode};
-ghost use Rattle.swp_tool.specs.Decodings.{most_bytes, IsDecoding, HasDecoded, DecodedBy, IsFrontOfLines, IsFrontOfSome};
+ghost use Rattle.swp_tool.specs.Decodings.{most_bytes, piece_of, IsDecoding, HasDecoded, DecodedBy, IsFrontOfLines, IsFrontOfSome};
 
+use crate::driver::{Job, drive};
 use crate::output::write_all;
 use crate::status::Status;
+use std::alloc::Global;
 use swp_base::{Failed, Sink, Source};
 use swp_decode::{Decoder, Text};
 
@@ -190,58 +192,9 @@ fn take_all<K: Sink>(sink: &mut K, decoding: &mut Decoding, piece: &[u8]) -> Res
     }
 }
 
-/// Reads a piece of the record, and writes the lines that it gave.
-fn take_record<K: Sink>(sink: &mut K, decoding: &mut Decoding, piece: &[u8]) -> Result<(), Status>
-    requires few { decoding.old.decoder.count ≤ 16777216 }
-    ensures count { K.faults sink.old ≤ K.faults sink.new }
-    ensures write_fault { result ≡ Err Status.WriteFault → Rose (K.faults sink.old) (K.faults sink.new) }
-    ensures read_fault { result ≢ Err Status.ReadFault }
-    ensures words { result ≢ Err Status.BadWords }
-    ensures kind { IfErr result IsOfDecode }
-    ensures few { OnOk result (decoding.new.decoder.count ≤ 16777216) }
-    ensures progress { OnOk result (decoding.new.decoder.count ≡ decoding.old.decoder.count + length piece.now) }
-    ensures goes { OnOk result ((input rest before : List ℕ) →
-        HasDecoded K.tells decoding.old input (piece.now ++ rest) before (K.written sink.old)
-        → HasDecoded K.tells decoding.new input rest before (K.written sink.new)) }
-    ensures ends { IfErr result (λ status. (input rest before : List ℕ) →
-        HasDecoded K.tells decoding.old input (piece.now ++ rest) before (K.written sink.old)
-        → DecodedBy K.tells status input rest before (K.written sink.new)) }
-{
-    if let Err(status) = take_all(sink, decoding, piece) {
-        return Err(status);
-    }
-    match flush_lines(sink, decoding) {
-        Ok(()) => Ok(()),
-        Err(Failed) => Err(Status::WriteFault),
-    }
-}
-
-/// The record has ended: writes the lines that are gathered, and the last line.
-fn close_record<K: Sink>(sink: &mut K, decoding: &mut Decoding) -> Status
-    requires few { decoding.old.decoder.count ≤ 16777216 }
-    ensures write_fault { result ≡ Status.WriteFault → Rose (K.faults sink.old) (K.faults sink.new) }
-    ensures read_fault { result ≢ Status.ReadFault }
-    ensures words { result ≢ Status.BadWords }
-    ensures kind { IsOfDecode result }
-    ensures ends { (input before : List ℕ) → HasDecoded K.tells decoding.old input [] before (K.written sink.old)
-        → DecodedBy K.tells result input [] before (K.written sink.new) }
-{
-    if make_room(sink, decoding).is_err() {
-        return Status::WriteFault;
-    }
-    decoding.decoder.finish(&mut decoding.text);
-    if write_all(sink, decoding.text.as_slice()).is_err() {
-        return Status::WriteFault;
-    }
-    Status::Done
-}
-
 /// How many bytes are read at once behind so many of the record: at most 4,096 behind the last byte that a record may have.
 fn piece_behind(count: u32) -> usize
-    requires { count ≤ 16777216 }
-    ensures some { 0 < result }
-    ensures most { result ≤ 8192 }
-    ensures ahead { count + result ≤ 16777216 + 4096 }
+    ensures { result ≡ piece_of count }
 {
     if count as usize + PIECE > Decoder::MAX_BYTES as usize {
         LAST_PIECE
@@ -250,46 +203,57 @@ fn piece_behind(count: u32) -> usize
     }
 }
 
-/// Reads a piece of the record and decodes it. `Ok(false)` says that the record has ended.
-fn pump_record<S: Source, K: Sink>(
-    source: &mut S,
-    sink: &mut K,
-    decoding: &mut Decoding,
-    buffer: &mut [u8],
-) -> Result<bool, Status>
-    requires few { decoding.old.decoder.count ≤ 16777216 }
-    requires room { length buffer.old ≡ 8192 }
-    ensures reads { S.faults source.old ≤ S.faults source.new }
-    ensures writes { K.faults sink.old ≤ K.faults sink.new }
-    ensures read_fault { result ≡ Err Status.ReadFault → Rose (S.faults source.old) (S.faults source.new) }
-    ensures write_fault { result ≡ Err Status.WriteFault → Rose (K.faults sink.old) (K.faults sink.new) }
-    ensures words { result ≢ Err Status.BadWords }
-    ensures kind { IfErr result IsOfDecode }
-    ensures few { OnOk result (decoding.new.decoder.count ≤ 16777216) }
-    ensures progress { result ≡ Ok true → decoding.old.decoder.count < decoding.new.decoder.count }
-    ensures end { IsTrue S.tells → result ≡ Ok false → S.left source.new ≡ [] }
-    ensures goes { IsTrue S.tells → OnOk result ((input before : List ℕ) →
-        HasDecoded K.tells decoding.old input (S.left source.old) before (K.written sink.old)
-        → HasDecoded K.tells decoding.new input (S.left source.new) before (K.written sink.new)) }
-    ensures ends { IsTrue S.tells → IfErr result (λ status. (input before : List ℕ) →
-        HasDecoded K.tells decoding.old input (S.left source.old) before (K.written sink.old)
-        → DecodedBy K.tells status input (S.left source.new) before (K.written sink.new)) }
-    ensures ahead { IsTrue S.tells →
-        decoding.old.decoder.count + length (S.left source.old) ≤ 16777216 + 4096 + length (S.left source.new) }
-{
-    let piece = &mut buffer[..piece_behind(decoding.decoder.count)];
-    match source.read(piece) {
-        Err(Failed) => Err(Status::ReadFault),
-        Ok(0) => Ok(false),
-        Ok(n) => match take_record(sink, decoding, &piece[..n]) {
-            Ok(()) => Ok(true),
-            Err(status) => Err(status),
-        },
+impl Job for Decoding {
+    ghost use Rattle.std.specs.Prelude.{◌+◌, ◌-◌, ◌≤◌, length};
+    ghost use Rattle.swp_tool.specs.Runs.{IsOfDecode};
+    ghost use Rattle.swp_tool.specs.Decodings.{most_bytes, piece_of, HasDecoded, DecodedBy};
+
+    ghost goes_on = { λ d. d.decoder.count ≤ most_bytes };
+
+    ghost bound = { λ d. most_bytes - d.decoder.count };
+
+    ghost piece_size = { λ d. piece_of d.decoder.count };
+
+    ghost under_way = { HasDecoded };
+
+    ghost ended = { DecodedBy };
+
+    ghost is_ending = { IsOfDecode };
+
+    ghost is_ahead = { λ input left. length input ≤ most_bytes + 4096 + length left };
+
+    fn piece(&self) -> usize {
+        piece_behind(self.decoder.count)
+    }
+
+    fn take<K: Sink>(&mut self, _: Global, sink: &mut K, piece: &[u8]) -> Result<(), Status> {
+        if let Err(status) = take_all(sink, self, piece) {
+            return Err(status);
+        }
+        match flush_lines(sink, self) {
+            Ok(()) => Ok(()),
+            Err(Failed) => Err(Status::WriteFault),
+        }
+    }
+
+    fn close<K: Sink>(&mut self, _: Global, sink: &mut K) -> Status {
+        if make_room(sink, self).is_err() {
+            return Status::WriteFault;
+        }
+        self.decoder.finish(&mut self.text);
+        if write_all(sink, self.text.as_slice()).is_err() {
+            return Status::WriteFault;
+        }
+        Status::Done
+    }
+
+    fn cut_off(&self) -> Status {
+        Status::ReadFault
     }
 }
 
-/// Decodes the record that the source has left.
-pub fn decode<S: Source, K: Sink>(source: &mut S, sink: &mut K) -> Status
+/// Decodes the record that the source has left. No memory is taken.
+pub fn decode<S: Source, K: Sink>(alloc: Global, source: &mut S, sink: &mut K) -> Status
     ensures read_fault { result ≡ Status.ReadFault → Rose (S.faults source.old) (S.faults source.new) }
     ensures write_fault { result ≡ Status.WriteFault → Rose (K.faults sink.old) (K.faults sink.new) }
     ensures decoded { IsTrue S.tells →
@@ -302,12 +266,5 @@ pub fn decode<S: Source, K: Sink>(source: &mut S, sink: &mut K) -> Status
         decoder: Decoder::new(),
         text: Text::new(),
     };
-    let mut buffer = [0; PIECE];
-    'input: loop {
-        match pump_record(source, sink, &mut decoding, &mut buffer) {
-            Ok(true) => {}
-            Ok(false) => return close_record(sink, &mut decoding),
-            Err(status) => return status,
-        }
-    }
+    drive(alloc, source, sink, &mut decoding)
 }

@@ -2,9 +2,11 @@
 #![tactic(auto)]
 
 mod decoding;
+mod driver;
 mod output;
 mod pieces;
 mod replay;
+mod replaying;
 mod status;
 mod top;
 mod transcript;

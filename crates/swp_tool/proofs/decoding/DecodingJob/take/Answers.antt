@@ -1,9 +1,9 @@
 use Rattle.std.proofs.Common.{◌∙◌, ◌++◌, sym, append_assoc, subst, inl}
 use Rattle.swp_tool.specs.Decodings.{DecodedBy}
-use Rattle.swp_tool.proofs.decoding.take_record.Goals as goal
+use Rattle.swp_tool.proofs.decoding.DecodingJob.take.Goals as goal
 
-pub returns-in-Ok-clause-goes : goal.returns-in-Ok-clause-goes
-returns-in-Ok-clause-goes g c input rest before h =
+pub returns-in-Ok-clause-on : goal.returns-in-Ok-clause-on
+returns-in-Ok-clause-on g c input rest before h =
     let piece = c.args.piece.now in
     record {
       bytes = h.bytes ++ piece;

@@ -4,7 +4,7 @@ use Rattle.swp_tool.specs.declared.status.Status.{Status}
 use Rattle.swp_tool.specs.Pieces.{HasRead}
 use Rattle.swp_tool.specs.Runs.{Appends, IsFrontOfTranscript, Replayed}
 use Rattle.swp_tool.proofs.Ending.{of_err, of_ok, behind, cut_off, fed_front, halted_replayed}
-use Rattle.swp_tool.proofs.top.take_piece.Goals as goal
+use Rattle.swp_tool.proofs.replaying.PiecesJob.take.Goals as goal
 
 pub returns-then-is_err-clause-ends : goal.returns-then-is_err-clause-ends
 returns-then-is_err-clause-ends g c input rest before under =
@@ -18,10 +18,10 @@ returns-then-is_err-clause-ends g c input rest before under =
     let P : List ℕ → Type 0 = λ i. Appends tells (IsFrontOfTranscript i) before after in
     subst P (sym input_is)
     (cut_off tells ((under.bytes ++ piece) ++ rest) under.text items before was after
-    (inl (fed_front c.args.pieces.now c.feed-fed.new.self c.feed-fed.result piece rest under.bytes under.text c.feed-fed.ensures.read c.feed-fed.ensures.halts under.read)) under.after_is front)
+    (inl (fed_front c.args.self.now c.feed-fed.new.self c.feed-fed.result piece rest under.bytes under.text c.feed-fed.ensures.read c.feed-fed.ensures.halts under.read)) under.after_is front)
 
-pub returns-in-Ok-clause-goes : goal.returns-in-Ok-clause-goes
-returns-in-Ok-clause-goes g c input rest before under =
+pub returns-in-Ok-clause-on : goal.returns-in-Ok-clause-on
+returns-in-Ok-clause-on g c input rest before under =
     let tells = g.K.Sink.tells in
     let items = c.feed-fed.new.self.replay.text.items in
     let piece = c.args.piece.now in

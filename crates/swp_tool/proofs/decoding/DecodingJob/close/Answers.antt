@@ -4,7 +4,7 @@ use Rattle.swp_tool.specs.Decodings.{IsDecoding, DecodedBy}
 use Rattle.swp_tool.specs.declared.status.Status.TheVariants as status
 use Rattle.swp_tool.proofs.Ending.{of_ok, of_err}
 use Rattle.swp_tool.proofs.Recording.{cut_whole, whole_written, count_read}
-use Rattle.swp_tool.proofs.decoding.close_record.Goals as goal
+use Rattle.swp_tool.proofs.decoding.DecodingJob.close.Goals as goal
 
 pub returns-then-is_err-2-clause-ends : goal.returns-then-is_err-2-clause-ends
 returns-then-is_err-2-clause-ends g c input before h =
@@ -14,9 +14,9 @@ returns-then-is_err-2-clause-ends g c input before h =
     let mid = g.K.Sink.written c.make_room.new.sink in
     let after = g.K.Sink.written c.write_all.new.sink in
     let text = c.finish.new.text.items in
-    let goes = of_ok ((b f : List ℕ) → IsDecoding tells c.args.decoding.now b f was → IsDecoding tells d b f mid) c.make_room.result c.is_err.result c.is_err.ensures.value c.if-is_err.false c.make_room.ensures.goes in
+    let goes = of_ok ((b f : List ℕ) → IsDecoding tells c.args.self.now b f was → IsDecoding tells d b f mid) c.make_room.result c.is_err.result c.is_err.ensures.value c.if-is_err.false c.make_room.ensures.goes in
     let k = goes h.bytes before h.decoding in
-    let few : length h.bytes ≤ 16777216 = omega (arith, c.requires.few, count_read tells c.args.decoding.now h.bytes before was h.decoding) in
+    let few : length h.bytes ≤ 16777216 = omega (arith, c.requires.goes, count_read tells c.args.self.now h.bytes before was h.decoding) in
     let input_is : h.bytes ≡ input = sym (h.input_is ∙ append-nil h.bytes) in
     let front = of_err ((n : ℕ) × (IsTrue tells → after ≡ mid ++ take n c.as_slice.result.now)) c.write_all.result c.is_err-2.result c.is_err-2.ensures.value c.if-is_err-2.true c.write_all.ensures.front in
     subst (λ l. DecodedBy tells status.WriteFault l [] before after) input_is
@@ -30,9 +30,9 @@ returns-clause-ends g c input before h =
     let mid = g.K.Sink.written c.make_room.new.sink in
     let after = g.K.Sink.written c.write_all.new.sink in
     let text = c.finish.new.text.items in
-    let goes = of_ok ((b f : List ℕ) → IsDecoding tells c.args.decoding.now b f was → IsDecoding tells d b f mid) c.make_room.result c.is_err.result c.is_err.ensures.value c.if-is_err.false c.make_room.ensures.goes in
+    let goes = of_ok ((b f : List ℕ) → IsDecoding tells c.args.self.now b f was → IsDecoding tells d b f mid) c.make_room.result c.is_err.result c.is_err.ensures.value c.if-is_err.false c.make_room.ensures.goes in
     let k = goes h.bytes before h.decoding in
-    let few : length h.bytes ≤ 16777216 = omega (arith, c.requires.few, count_read tells c.args.decoding.now h.bytes before was h.decoding) in
+    let few : length h.bytes ≤ 16777216 = omega (arith, c.requires.goes, count_read tells c.args.self.now h.bytes before was h.decoding) in
     let input_is : h.bytes ≡ input = sym (h.input_is ∙ append-nil h.bytes) in
     let wrote : IsTrue tells → after ≡ mid ++ c.as_slice.result.now = λ told. of_ok (after ≡ mid ++ c.as_slice.result.now) c.write_all.result c.is_err-2.result c.is_err-2.ensures.value c.if-is_err-2.false (c.write_all.ensures.wrote told) in
     subst (λ l. DecodedBy tells status.Done l [] before after) input_is

@@ -1,0 +1,16 @@
+use Rattle.std.proofs.Common.{◌≤◌, IsTrue, List, ℕ}
+use Rattle.swp_tool.proofs.driver.drive.Given as goal
+
+-- a front of the input was read, and what it caused was written
+abbrev pub invariant-input : goal.invariant-input
+invariant-input g l = record {
+  goes : g.J.Job.goes_on l.job;
+  reads : g.S.Source.faults l.fn.source ≤ g.S.Source.faults l.source;
+  writes : g.K.Sink.faults l.fn.sink ≤ g.K.Sink.faults l.sink;
+  under_way : IsTrue g.S.Source.tells → (input before : List ℕ)
+      → g.J.Job.under_way g.K.Sink.tells l.fn.job input (g.S.Source.left l.fn.source) before (g.K.Sink.written l.fn.sink)
+      → g.J.Job.under_way g.K.Sink.tells l.job input (g.S.Source.left l.source) before (g.K.Sink.written l.sink);
+}
+
+abbrev pub decreases-input : goal.decreases-input
+decreases-input g l = g.J.Job.bound l.job

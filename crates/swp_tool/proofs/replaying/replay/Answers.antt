@@ -1,0 +1,7 @@
+use Rattle.swp_tool.proofs.Ending.{nothing_played}
+use Rattle.swp_tool.proofs.replaying.replay.Goals as goal
+
+pub returns-clause-ahead : goal.returns-clause-ahead
+returns-clause-ahead g c tells =
+    c.drive.ensures.ahead tells (g.S.Source.left c.args.source.now) (g.K.Sink.written c.args.sink.now)
+    (nothing_played g.K.Sink.tells c.new-pieces.result (g.S.Source.left c.args.source.now) (g.K.Sink.written c.args.sink.now) c.new-pieces.ensures.read c.new-pieces.ensures.text)
