@@ -1,6 +1,6 @@
 -- Reads in front of writes.
-use Rattle.std.proofs.Common.{◌≡◌, inl, inr, ℕ, zero, suc, Bool, true, false, not, cond, List, [], ◌∷◌, Option, None, sym, refl, ap, ◌∙◌, subst}
-use Rattle.std.proofs.lemmas.Bool.{true≢false, false≢true}
+use Rattle.std.proofs.Common.{◌≡◌, inl, inr, ℕ, zero, suc, Bool, true, false, not, cond, List, [], ◌∷◌, Option, None, sym, refl, ap, ◌∙◌, subst, ◌⊎◌, ◌<◌, ◌≤◌, arith}
+use Rattle.std.proofs.lemmas.Bool.{true≢false, false≢true, cases_lt}
 use Rattle.swp_base.specs.Outside.{one_more}
 use Rattle.swp_base.specs.InMemory.{Memory, is_next_read, read_plan_after, memory_read, ReadsAsPlanned, ReadsSurely, WritesSurely}
 use Rattle.journal_laws.specs.Writes.{Write, after, AreMade, AreRead, AreCalled}
@@ -8,6 +8,7 @@ use Rattle.journal_laws.specs.Writes.{Write, after, AreMade, AreRead, AreCalled}
 module _ {M : Type 0} (reads : M → Bool → M → Type 0) where
   -- one more read, behind reads that went through
   pub one_more_read : (most : ℕ) (old between : M) (ok : Bool) (new : M) → AreRead reads most old true between → reads between ok new → AreRead reads (suc most) old ok new
+  unfolding AreRead
   one_more_read most old between true new before now = more most old before
     where
       more : (n : ℕ) (m : M) → AreRead reads n m true between → AreRead reads (suc n) m true new
@@ -24,15 +25,25 @@ module _ {M : Type 0} (reads : M → Bool → M → Type 0) where
       more (suc n) m (inr (inr r)) = inr (inr (r.0, r.1, more n r.0 r.2))
 
   pub no_reads : (most : ℕ) (m : M) → AreRead reads most m true m
+  unfolding AreRead
   no_reads zero m = (refl, refl)
   no_reads (suc most) m = inl (refl, refl)
 
   -- a greater bound
   pub more_reads : (most : ℕ) (old : M) (ok : Bool) (new : M) → AreRead reads most old ok new → AreRead reads (suc most) old ok new
+  unfolding AreRead
   more_reads zero old ok new r = inl r
   more_reads (suc most) old ok new (inl r) = inl r
   more_reads (suc most) old ok new (inr (inl r)) = inr (inl r)
   more_reads (suc most) old ok new (inr (inr r)) = inr (inr (r.0, r.1, more_reads most r.0 ok new r.2))
+
+  pub reads_up_to : (most more : ℕ) (old : M) (ok : Bool) (new : M) → AreRead reads most old ok new → most ≤ more → AreRead reads more old ok new
+  reads_up_to most zero old ok new r low = subst (λ n. AreRead reads n old ok new) (omega arith) r
+  reads_up_to most (suc more) old ok new r low = by_cases (λ below. reads_up_to most more old ok new r below) (cases_lt more most)
+    where
+      by_cases : (most ≤ more → AreRead reads more old ok new) → (more < most) ⊎ (most ≤ more) → AreRead reads (suc more) old ok new
+      by_cases again (inl above) = subst (λ n. AreRead reads n old ok new) (omega arith) r
+      by_cases again (inr below) = more_reads more old ok new (again below)
 
 -- ---- planned
 
@@ -42,12 +53,14 @@ read_memory_none m none =
     ∙ ap (λ r. record m { failing_read = r }) (sym none)
 
 pub reads_content : (most : ℕ) (old : Memory) (ok : Bool) (new : Memory) → AreRead ReadsAsPlanned most old ok new → new.content ≡ old.content
+unfolding AreRead
 reads_content zero old ok new r = ap (λ (m : Memory). m.content) r.1
 reads_content (suc most) old ok new (inl r) = ap (λ (m : Memory). m.content) r.1
 reads_content (suc most) old ok new (inr (inl r)) = ap (λ (m : Memory). m.content) r.1.memory
 reads_content (suc most) old ok new (inr (inr r)) = reads_content most r.0 ok new r.2 ∙ ap (λ (m : Memory). m.content) r.1.memory
 
 pub reads_plan : (most : ℕ) (old : Memory) (ok : Bool) (new : Memory) → AreRead ReadsAsPlanned most old ok new → new.plan ≡ old.plan
+unfolding AreRead
 reads_plan zero old ok new r = ap (λ (m : Memory). m.plan) r.1
 reads_plan (suc most) old ok new (inl r) = ap (λ (m : Memory). m.plan) r.1
 reads_plan (suc most) old ok new (inr (inl r)) = ap (λ (m : Memory). m.plan) r.1.memory
@@ -58,6 +71,7 @@ next_none r none = ap (λ x. not (is_next_read x)) none
 
 pub reads_surely : (most : ℕ) (old : Memory) (ok : Bool) (new : Memory) → AreRead ReadsAsPlanned most old ok new → old.failing_read ≡ None
     → (ok ≡ true) × (new ≡ old)
+unfolding AreRead
 reads_surely zero old ok new r none = r
 reads_surely (suc most) old ok new (inl r) none = r
 reads_surely (suc most) old ok new (inr (inl r)) none = absurd (false≢true (r.1.answer ∙ next_none old.failing_read none))
@@ -69,6 +83,7 @@ reads_surely (suc most) old ok new (inr (inr r)) none =
 -- ---- surely
 
 sure_reads : (most : ℕ) (old : List ℕ) (ok : Bool) (new : List ℕ) → AreRead ReadsSurely most old ok new → (ok ≡ true) × (new ≡ old)
+unfolding AreRead
 sure_reads zero old ok new r = r
 sure_reads (suc most) old ok new (inl r) = r
 sure_reads (suc most) old ok new (inr (inl r)) = absurd (false≢true r.1.answer)

@@ -12,19 +12,19 @@ use Rattle.journal_laws.specs.Records.{index_len, gap, body, IsBody, is_good, Fo
 -- ---- one record
 
 -- a part of the first n elements
-window : (xs ys : List ℕ) (n i k : ℕ) → take n xs ≡ take n ys → i + k ≤ n → take k (drop i xs) ≡ take k (drop i ys)
+pub window : (xs ys : List ℕ) (n i k : ℕ) → take n xs ≡ take n ys → i + k ≤ n → take k (drop i xs) ≡ take k (drop i ys)
 window xs ys n i k same fits =
     sym (drop-take i k xs)
     ∙ ap (drop i) (sym (take-take (i + k) n xs fits) ∙ ap (take (i + k)) same ∙ take-take (i + k) n ys fits)
     ∙ drop-take i k ys
 
-first : (xs ys : List ℕ) (n i : ℕ) → take n xs ≡ take n ys → i < n → slice_index xs i ≡ slice_index ys i
+pub first : (xs ys : List ℕ) (n i : ℕ) → take n xs ≡ take n ys → i < n → slice_index xs i ≡ slice_index ys i
 first xs ys n i same below = sym (get_or-take n xs i 0 below) ∙ ap (λ l. slice_index l i) same ∙ get_or-take n ys i 0 below
 
-same_gap : (version : ℕ) (xs ys : List ℕ) → take (gap version ys) xs ≡ take (gap version ys) ys → gap version xs ≡ gap version ys
+pub same_gap : (version : ℕ) (xs ys : List ℕ) → take (gap version ys) xs ≡ take (gap version ys) ys → gap version xs ≡ gap version ys
 same_gap version xs ys same = ap (λ l. 2 + index_len version + l) (first xs ys (gap version ys) 1 same (omega arith))
 
-same_body : (version : ℕ) (xs ys : List ℕ) → take (gap version ys) xs ≡ take (gap version ys) ys → body version xs ≡ body version ys
+pub same_body : (version : ℕ) (xs ys : List ℕ) → take (gap version ys) xs ≡ take (gap version ys) ys → body version xs ≡ body version ys
 same_body version xs ys same =
     ap (λ l. take l (drop (2 + index_len version) xs)) (first xs ys (gap version ys) 1 same (omega arith))
     ∙ window xs ys (gap version ys) (2 + index_len version) (slice_index ys 1) same (omega arith)
@@ -61,7 +61,7 @@ same_good version position xs ys same fits good =
         ap (λ l. version == 1 || from_be_bytes w16 l == position) (window xs ys (gap version ys) 2 2 same (omega arith))
 
 -- what is found where a good record stands
-found_good : (version most position : ℕ) (bytes : List ℕ) → is_open (slice_index bytes 0) ≡ true → is_good version position bytes ≡ true
+pub found_good : (version most position : ℕ) (bytes : List ℕ) → is_open (slice_index bytes 0) ≡ true → is_good version position bytes ≡ true
     → found_from version (suc most) position bytes ≡ behind (body version bytes ∷ []) (gap version bytes) (found_from version most (position + 1) (drop (gap version bytes) bytes))
 unfolding found_from
 found_good version most position bytes opened good =
@@ -105,11 +105,11 @@ pub record Parts (version position : ℕ) (bytes : List ℕ) (found : Found) : T
   pub again : (most : ℕ) (other : List ℕ) → 0 < length other
       → found_from version (length found.bodies + most) position (front ++ other) ≡ behind found.bodies found.size (found_from version most (position + length found.bodies) other)
 
-behind-none : (found : Found) → behind [] 0 found ≡ found
+pub behind-none : (found : Found) → behind [] 0 found ≡ found
 behind-none found = ap (λ n. record { bodies = found.bodies; size = n; is_bad = found.is_bad }) (zero-add found.size)
 
 -- one record, and then more
-behind-one : (body : List ℕ) (n : ℕ) (bodies : List (List ℕ)) (size : ℕ) (found : Found) → behind (body ∷ []) n (behind bodies size found) ≡ behind (body ∷ bodies) (n + size) found
+pub behind-one : (body : List ℕ) (n : ℕ) (bodies : List (List ℕ)) (size : ℕ) (found : Found) → behind (body ∷ []) n (behind bodies size found) ≡ behind (body ∷ bodies) (n + size) found
 behind-one body n bodies size found = ap (λ m. record { bodies = body ∷ bodies ++ found.bodies; size = m; is_bad = found.is_bad }) (sym (add_assoc n size found.size))
 
 none_found : (version position : ℕ) (bytes : List ℕ) → 0 < length bytes → is_open (slice_index bytes 0) ≡ false → Parts version position bytes nothing
@@ -147,7 +147,7 @@ one_found version most position bytes found opened good more =
     }
 
 -- at an open gate stands a good record or a bad one
-bad_found : (version most position : ℕ) (bytes : List ℕ) → is_open (slice_index bytes 0) ≡ true → is_good version position bytes ≡ false → found_from version (suc most) position bytes ≡ bad
+pub bad_found : (version most position : ℕ) (bytes : List ℕ) → is_open (slice_index bytes 0) ≡ true → is_good version position bytes ≡ false → found_from version (suc most) position bytes ≡ bad
 unfolding found_from
 bad_found version most position bytes opened wrong =
     let more = behind (body version bytes ∷ []) (gap version bytes) (found_from version most (position + 1) (drop (gap version bytes) bytes)) in

@@ -31,7 +31,7 @@ AreMade {M} writes (w ∷ planned) old ok new =
     ⊎ ((between : M) × writes old w.at w.bytes true between × AreMade writes planned between ok new)
 
 -- At most so many reads were made until one failed, where `reads` says what one of them does to a memory.
-abbrev pub AreRead : {M : Type 0} → (M → Bool → M → Type 0) → ℕ → M → Bool → M → Type 0
+unfoldable pub AreRead : {M : Type 0} → (M → Bool → M → Type 0) → ℕ → M → Bool → M → Type 0
 AreRead reads zero old ok new = (ok ≡ true) × (new ≡ old)
 AreRead {M} reads (suc most) old ok new =
     ((ok ≡ true) × (new ≡ old)) ⊎ ((ok ≡ false) × reads old false new)

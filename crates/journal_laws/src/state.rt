@@ -58,7 +58,8 @@ impl State {
     /// The place in the memory of that gate.
     pub fn next_place(&self) -> u32
         requires { self.now.size < 2 ^ 16 }
-        ensures { result ≡ next_place self.now }
+        ensures place { result ≡ next_place self.now }
+        ensures low { result ≤ 32780 + self.now.size }
     {
         let bank = match self.in_use {
             Some(side) => side.place(),

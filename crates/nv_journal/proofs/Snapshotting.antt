@@ -14,7 +14,7 @@ records_bytes-append position (first ∷ bodies) body =
     ∙ sym (append_assoc (90 ∷ record_bytes position first) (records_bytes (position + 1) bodies) (90 ∷ record_bytes (position + 1 + length bodies) body))
     ∙ ap (λ p. records_bytes position (first ∷ bodies) ++ 90 ∷ record_bytes p body) (omega arith)
 
-size_in-append : (version : ℕ) (xs ys : List (List ℕ)) → size_in version (xs ++ ys) ≡ size_in version xs + size_in version ys
+pub size_in-append : (version : ℕ) (xs ys : List (List ℕ)) → size_in version (xs ++ ys) ≡ size_in version xs + size_in version ys
 size_in-append version [] ys = omega arith
 size_in-append version (x ∷ xs) ys = omega (arith, size_in-append version xs ys)
 

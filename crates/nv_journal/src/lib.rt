@@ -2,12 +2,17 @@
 //! records from before it or those from after it. All of it is this project's own.
 #![tactic(auto)]
 
+mod ahead;
 mod banks;
+mod gates;
+mod heads;
 mod journal;
 mod records;
+mod scan;
 mod snapshot;
 
 pub use journal::Journal;
+pub use scan::{Scan, StartRefused};
 pub use snapshot::Snapshot;
 use swp_base::Failed;
 use thiserror::Error;

@@ -10,7 +10,7 @@ returns-in_err-write_record-clause-cut g c = λ tells.
     let body = c.args.body.now in
     let room = rw (← c.self.view_is) at c.requires.room in
     let says = c.self.invariant.says (rw (← c.self.view_is) at c.requires.live) tells in
-    let made = rw c.next_place-at.ensures at c.in_err-write_record.ensures.made in
+    let made = rw c.next_place-at.ensures.place at c.in_err-write_record.ensures.made in
     let cut = made_in_part g.N.Nv.writes g.N.Nv.content (λ m at bytes ok n step. g.met.N.Nv.told m at bytes ok n tells step)
     (append_writes k.state body) k.nv c.write_record.new.nv made in
     rw (← c.self.view_is)
@@ -28,7 +28,7 @@ invariant_of-self-2 g c =
       few = omega (arith, c.self.invariant.few);
       says = λ live tells.
           let says = c.self.invariant.says (rw (← c.self.view_is) at c.requires.live) tells in
-          let made = rw c.next_place-at.ensures at c.in_ok-write_record.ensures.made in
+          let made = rw c.next_place-at.ensures.place at c.in_ok-write_record.ensures.made in
           let whole = made_whole g.N.Nv.writes g.N.Nv.content (λ m at bytes ok n step. g.met.N.Nv.told m at bytes ok n tells step)
           (append_writes k.state body) k.nv c.write_record.new.nv made in
           rw whole (says_after (g.N.Nv.content k.nv) body k.state says room);
@@ -40,7 +40,7 @@ returns-clause-records g c = λ tells.
     let body = c.args.body.now in
     let room = rw (← c.self.view_is) at c.requires.room in
     let says = c.self.invariant.says (rw (← c.self.view_is) at c.requires.live) tells in
-    let made = rw c.next_place-at.ensures at c.in_ok-write_record.ensures.made in
+    let made = rw c.next_place-at.ensures.place at c.in_ok-write_record.ensures.made in
     let whole = made_whole g.N.Nv.writes g.N.Nv.content (λ m at bytes ok n step. g.met.N.Nv.told m at bytes ok n tells step)
     (append_writes k.state body) k.nv c.write_record.new.nv made in
     rw (← c.self.view_is, whole) (records_after (g.N.Nv.content k.nv) body k.state says room)

@@ -1,0 +1,300 @@
+-- The gate that comes next in a pass, by the bytes ahead.
+use Rattle.std.proofs.Common.{◌≡◌, ◌⊎◌, inl, inr, ℕ, zero, suc, ◌+◌, ◌-◌, ◌*◌, ◌<◌, ◌≤◌, ◌==◌, ◌||◌, ◌&&◌, min, Bool, true, false, cond, nat_le, nat_lt, List, [], ◌∷◌, ◌++◌, length, take, drop, slice_index, slice_range, slice_get, Option, Some, None, IsTrue, sym, refl, ap, ap₂, ◌∙◌, subst, arith, append_assoc, append-nil, length-append, length-take, length-drop, take-take, take_at, add-zero, zero-add, suc-add, add_assoc}
+use Rattle.std.specs.Option.{option_map_or}
+use Rattle.std.specs.Int.{w16, from_be_bytes}
+use Rattle.std.proofs.lemmas.List.{drop-take, drop-drop}
+use Rattle.std.proofs.lemmas.Bool.{cases_Bool, cases_lt, true≢false, false≢true}
+use Rattle.std.proofs.lemmas.Bool.Decides.{nat_tests}
+use Rattle.nv_journal.specs.declared.JournalFault.{JournalFault}
+use Rattle.nv_journal.specs.declared.JournalFault.TheVariants.{UnknownFormat, BadRecord}
+use Rattle.nv_journal.specs.declared.gates.Gate.{Gate}
+use Rattle.nv_journal.specs.declared.gates.Gate.TheVariants.{Closed, Bad, Record}
+use Rattle.journal_laws.specs.declared.banks.Side.{Side}
+use Rattle.journal_laws.specs.declared.state.State.{State}
+use Rattle.journal_laws.specs.Banks.{other, place, bank, is_open, head, current}
+use Rattle.journal_laws.specs.Records.{index_len, gap, body, is_record, is_good, Found, nothing, bad, behind, found_from, size_in}
+use Rattle.journal_laws.specs.Journal.{Journal, found_in, journal_at, journal, records, state_by, state_of, gate_at, next_gate, next_place, IsSound}
+use Rattle.journal_laws.proofs.Places.{length-bank}
+use Rattle.journal_laws.proofs.Reading.{window, first, is_good_parts, found_good, bad_found, found_closed}
+use Rattle.journal_laws.proofs.InUse.{journal_in_use, state_at}
+use Rattle.nv_journal.specs.Faults.{fault}
+use Rattle.nv_journal.specs.Gates.{gate_of}
+use Rattle.nv_journal.specs.Kept.{Says}
+use Rattle.nv_journal.specs.Scanning.{passed_on, IsPassed, SaysSoFar, IsPiece, IsFilled}
+use Rattle.nv_journal.proofs.Snapshotting.{size_in-append}
+
+-- ---- the first bytes decide
+
+take_all : (l : List ℕ) (n : ℕ) → length l ≤ n → take n l ≡ l
+take_all [] zero long = refl
+take_all [] (suc n) long = refl
+take_all (x ∷ l) zero long = absurd (omega arith)
+take_all (x ∷ l) (suc n) long = ap (λ t. x ∷ t) (take_all l n (omega arith))
+
+front : (bytes : List ℕ) (n k : ℕ) → k ≤ n → take k (take n bytes) ≡ take k bytes
+front bytes n k within = take-take k n bytes within
+
+pub same_gate : (version position : ℕ) (bytes : List ℕ) (n : ℕ) → min 65 (length bytes) ≤ n
+    → gate_of version position (length bytes) (take n bytes) ≡ gate_of version position (length bytes) bytes
+same_gate version position bytes n enough = by_size (cases_lt n 65)
+  where
+    rest : ℕ
+    rest = length bytes
+
+    by : ℕ → ℕ → ℕ → Gate
+    by gate len index =
+        cond (is_open gate)
+        (cond (nat_le 1 len && nat_le len 61 && nat_lt (2 + index_len version + len) rest && (version == 1 || index == position)) (Record len) Bad) Closed
+
+    by_size : (n < 65) ⊎ (65 ≤ n) → gate_of version position (length bytes) (take n bytes) ≡ gate_of version position (length bytes) bytes
+    by_size (inl short) = ap (gate_of version position (length bytes)) (take_all bytes n (omega (arith, enough)))
+    by_size (inr long) =
+        let one : slice_index (take n bytes) 0 ≡ slice_index bytes 0 = first (take n bytes) bytes 65 0 (front bytes n 65 long) (omega arith) in
+        let two : slice_index (take n bytes) 1 ≡ slice_index bytes 1 = first (take n bytes) bytes 65 1 (front bytes n 65 long) (omega arith) in
+        let three = window (take n bytes) bytes 65 2 2 (front bytes n 65 long) (omega arith) in
+        ap₂ (λ g l. by g l (from_be_bytes w16 (slice_range (take n bytes) 2 4))) one two
+        ∙ ap (λ l. by (slice_index bytes 0) (slice_index bytes 1) (from_be_bytes w16 l)) three
+
+-- ---- what stands at the gate
+
+pub closed_gate : (version position rest : ℕ) (bytes : List ℕ) → gate_of version position rest bytes ≡ Closed → is_open (slice_index bytes 0) ≡ false
+closed_gate version position rest bytes is = by_tests (is_open (slice_index bytes 0)) (is_record version position rest bytes) is
+  where
+    by_tests : (o r : Bool) → cond o (cond r (Record (slice_index bytes 1)) Bad) Closed ≡ Closed → o ≡ false
+    by_tests true true e = cc
+    by_tests true false e = cc
+    by_tests false r e = refl
+
+pub bad_gate : (version position rest : ℕ) (bytes : List ℕ) → gate_of version position rest bytes ≡ Bad
+    → (is_open (slice_index bytes 0) ≡ true) × (is_record version position rest bytes ≡ false)
+bad_gate version position rest bytes is = by_tests (is_open (slice_index bytes 0)) (is_record version position rest bytes) is
+  where
+    by_tests : (o r : Bool) → cond o (cond r (Record (slice_index bytes 1)) Bad) Closed ≡ Bad → (o ≡ true) × (r ≡ false)
+    by_tests true true e = cc
+    by_tests true false e = (refl, refl)
+    by_tests false r e = cc
+
+pub record_gate : (version position rest len : ℕ) (bytes : List ℕ) → gate_of version position rest bytes ≡ Record len
+    → (is_open (slice_index bytes 0) ≡ true) × (is_record version position rest bytes ≡ true) × (slice_index bytes 1 ≡ len)
+record_gate version position rest len bytes is = by_tests (is_open (slice_index bytes 0)) (is_record version position rest bytes) is
+  where
+    by_tests : (o r : Bool) → cond o (cond r (Record (slice_index bytes 1)) Bad) Closed ≡ Record len → (o ≡ true) × (r ≡ true) × (slice_index bytes 1 ≡ len)
+    by_tests true true e = (refl, refl, cc)
+    by_tests true false e = cc
+    by_tests false r e = cc
+
+-- ---- lists
+
+get_at_end : (xs : List (List ℕ)) (x : List ℕ) (ys : List (List ℕ)) → slice_get (xs ++ x ∷ ys) (length xs) ≡ Some x
+get_at_end [] x ys = refl
+get_at_end (y ∷ xs) x ys = ap (λ n. slice_get (y ∷ xs ++ x ∷ ys) n) (length_cons y xs) ∙ get_at_end xs x ys
+  where
+    length_cons : (z : List ℕ) (zs : List (List ℕ)) → length (z ∷ zs) ≡ suc (length zs)
+    length_cons z zs = refl
+
+drop_further : (n m : ℕ) (xs : List ℕ) → drop m (drop n xs) ≡ drop (n + m) xs
+drop_further n m xs = drop-drop m n xs
+
+take_two : (n k : ℕ) (xs : List ℕ) → take (n + k) xs ≡ take n xs ++ take k (drop n xs)
+take_two zero k xs = ap (λ m. take m xs) (zero-add k)
+take_two (suc n) k [] = ap (λ m. take {A = ℕ} m []) (suc-add n k) ∙ sym (no_part k)
+  where
+    no_part : (m : ℕ) → take {A = ℕ} m [] ≡ []
+    no_part zero = refl
+    no_part (suc m) = refl
+take_two (suc n) k (x ∷ xs) = ap (λ m. take m (x ∷ xs)) (suc-add n k) ∙ ap (λ l. x ∷ l) (take_two n k xs)
+
+-- ---- a state by its fields
+
+same_state : (s : State) (in_use : Option Side) (version generation base snapshot many size : ℕ) (beside : Bool) → in_use ≡ s.in_use → version ≡ s.version
+    → generation ≡ s.generation → base ≡ s.base → snapshot ≡ s.snapshot → many ≡ s.many → size ≡ s.size → beside ≡ s.beside
+    → record { in_use = in_use; version = version; generation = generation; base = base; snapshot = snapshot; many = many; size = size; beside = beside } ≡ s
+same_state s in_use version generation base snapshot many size beside a b c d e f g h =
+    ap₂ (λ x y. record { in_use = x; version = y; generation = generation; base = base; snapshot = snapshot; many = many; size = size; beside = beside }) a b
+    ∙ ap₂ (λ x y. record s { generation = x; base = y; snapshot = snapshot; many = many; size = size; beside = beside }) c d
+    ∙ ap₂ (λ x y. record s { snapshot = x; many = y; size = size; beside = beside }) e f
+    ∙ ap₂ (λ x y. record s { size = x; beside = y }) g h
+
+-- ---- the next gate
+
+module _ (c : List ℕ) (side : Side) (state : State) (ahead : List ℕ) (p : IsPassed c side state ahead) (long : 65536 ≤ length c) (used : state.in_use ≡ Some side)
+    (few : 3 * state.many ≤ state.size) (inside : state.size < 32756) (known : IsTrue (state.version == 1 || state.version == 2)) where
+  abbrev bytes : List ℕ
+  bytes = drop (next_gate state) (bank c side)
+
+  pub rest_is : length bytes ≡ 32768 - next_gate state
+  rest_is = omega (arith, length-drop (next_gate state) (bank c side), length-bank c side long)
+
+  abbrev most : ℕ
+  most = 32768 - state.many - 1
+
+  seen : journal c ≡ journal_at c side
+  seen = journal_in_use c side p.in_use
+
+  version_is : (journal c).head.version ≡ state.version
+  version_is = ap (λ (j : Journal). j.head.version) seen ∙ p.version
+
+  found_is : (journal c).found ≡ behind p.passed state.size (found_from state.version (32768 - state.many) state.many bytes)
+  found_is = ap (λ (j : Journal). j.found) seen ∙ ap (λ v. found_in v (bank c side)) p.version ∙ p.found
+
+  found_then : (f : Found) → found_from state.version (suc most) state.many bytes ≡ f → (journal c).found ≡ behind p.passed state.size f
+  found_then f is =
+      found_is ∙ ap (λ n. behind p.passed state.size (found_from state.version n state.many bytes)) (omega arith) ∙ ap (behind p.passed state.size) is
+
+  pub gate_is : gate_at c state.many ≡ next_place state
+  gate_is =
+      ap₂ (λ o v. option_map_or place o 0 + 12 + size_in v (take state.many (records c))) (p.in_use ∙ sym used) version_is
+      ∙ ap (λ l. option_map_or place state.in_use 0 + 12 + size_in state.version (take state.many l)) (ap (λ (f : Found). f.bodies) found_is)
+      ∙ ap (λ l. option_map_or place state.in_use 0 + 12 + size_in state.version l)
+      (take_at p.passed (found_from state.version (32768 - state.many) state.many bytes).bodies state.many p.many)
+      ∙ regroup (option_map_or place state.in_use 0) p.size
+    where
+      regroup : (at : ℕ) → size_in state.version p.passed ≡ state.size → at + 12 + size_in state.version p.passed ≡ at + (12 + state.size)
+      regroup at is = omega arith
+
+  -- a closed gate
+  pub closed_says : is_open (slice_index bytes 0) ≡ false → Says c state
+  closed_says closed =
+      let f = found_then nothing (found_closed state.version (suc most) state.many bytes closed) in
+      record {
+        size = long;
+        state_is = state_at c side p.in_use
+            ∙ same_state state (Some side) (journal c).head.version (journal c).head.generation (journal c).head.base (journal c).head.snapshot
+            (length (journal c).found.bodies) (journal c).found.size (is_open (head c (other side)).gate) (sym used) version_is
+            (ap (λ (j : Journal). j.head.generation) seen ∙ p.generation) (ap (λ (j : Journal). j.head.base) seen ∙ p.base)
+            (ap (λ (j : Journal). j.head.snapshot) seen ∙ p.snapshot)
+            (ap (λ (x : Found). length x.bodies) f ∙ ap length (append-nil p.passed) ∙ p.many)
+            (ap (λ (x : Found). x.size) f ∙ add-zero state.size) p.beside;
+        sound = record { known = subst (λ v. IsTrue (v == 1 || v == 2)) (sym version_is) known; good = ap (λ (x : Found). x.is_bad) f };
+      }
+
+  -- a bad record
+  pub bad_says : is_open (slice_index bytes 0) ≡ true → is_record state.version state.many (length bytes) bytes ≡ false
+      → fault c ≡ Some (BadRecord (next_place state))
+  bad_says opened wrong =
+      let f = found_then bad (bad_found state.version most state.many bytes opened wrong) in
+      ap (λ b. cond b (cond (journal c).found.is_bad (Some (BadRecord (gate_at c (length (records c))))) None) (Some (UnknownFormat (journal c).head.version)))
+      (subst (λ v. IsTrue (v == 1 || v == 2)) (sym version_is) known)
+      ∙ ap (λ b. cond b (Some (BadRecord (gate_at c (length (records c))))) None) (ap (λ (x : Found). x.is_bad) f)
+      ∙ ap (λ n. Some (BadRecord (gate_at c n))) (ap (λ (x : Found). length x.bodies) f ∙ ap length (append-nil p.passed) ∙ p.many)
+      ∙ ap (λ n. Some (BadRecord n)) gate_is
+
+  -- a good one
+  module _ (opened : is_open (slice_index bytes 0) ≡ true) (good : is_record state.version state.many (length bytes) bytes ≡ true) where
+    abbrev b : List ℕ
+    b = body state.version bytes
+
+    abbrev g : ℕ
+    g = gap state.version bytes
+
+    abbrev later : Found
+    later = found_from state.version most (state.many + 1) (drop g bytes)
+
+    within : g < length bytes
+    within = (is_good_parts state.version state.many bytes good).1
+
+    f : (journal c).found ≡ behind p.passed state.size (behind (b ∷ []) g later)
+    f = found_then (behind (b ∷ []) g later) (found_good state.version most state.many bytes opened good)
+
+    pub record_there : slice_get (records c) state.many ≡ Some b
+    record_there =
+        ap₂ (λ l n. slice_get l n) (ap (λ (x : Found). x.bodies) f) (sym p.many) ∙ get_at_end p.passed b later.bodies
+
+    pub body_len : length b ≡ slice_index bytes 1
+    body_len = omega (arith, length-take (slice_index bytes 1) (drop (2 + index_len state.version) bytes), length-drop (2 + index_len state.version) bytes, within)
+
+    abbrev then : State
+    then = passed_on state b
+
+    gap_is : 2 + index_len state.version + length b ≡ g
+    gap_is = ap (λ n. 2 + index_len state.version + n) body_len
+
+    further : drop g bytes ≡ drop (next_gate then) (bank c side)
+    further = drop_further (next_gate state) g (bank c side) ∙ ap (λ n. drop n (bank c side)) (regroup (sym gap_is))
+      where
+        regroup : g ≡ 2 + index_len state.version + length b → 12 + state.size + g ≡ 12 + (state.size + (2 + index_len state.version + length b))
+        regroup is = omega arith
+
+    one_behind : behind p.passed state.size (behind (b ∷ []) g later) ≡ behind (p.passed ++ b ∷ []) (state.size + (2 + index_len state.version + length b)) later
+    one_behind =
+        ap₂ (λ l n. record { bodies = l; size = n; is_bad = later.is_bad }) (sym (append_assoc p.passed (b ∷ []) later.bodies)) (regroup (sym gap_is))
+      where
+        regroup : g ≡ 2 + index_len state.version + length b → state.size + (g + later.size) ≡ state.size + (2 + index_len state.version + length b) + later.size
+        regroup is = omega arith
+
+    pub passed_then : g ≤ length ahead → IsPassed c side then (drop g ahead)
+    passed_then enough = record {
+      in_use = p.in_use;
+      version = p.version;
+      generation = p.generation;
+      base = p.base;
+      snapshot = p.snapshot;
+      beside = p.beside;
+      passed = p.passed ++ b ∷ [];
+      many = length-append p.passed (b ∷ []) ∙ ap (λ n. n + 1) p.many;
+      size = size_in-append state.version p.passed (b ∷ []) ∙ ap₂ (λ m n. m + n) p.size (add-zero (2 + index_len state.version + length b));
+      found = p.found
+          ∙ ap (λ n. behind p.passed state.size (found_from state.version n state.many bytes)) (omega arith)
+          ∙ ap (behind p.passed state.size) (found_good state.version most state.many bytes opened good)
+          ∙ one_behind
+          ∙ ap₂ (λ n l. behind (p.passed ++ b ∷ []) (state.size + (2 + index_len state.version + length b)) (found_from state.version n (state.many + 1) l))
+          (fuel state.many) further;
+      ahead_is = ap (drop g) p.ahead_is
+          ∙ ap (λ n. drop g (take n bytes)) (omega arith)
+          ∙ drop-take g (length ahead - g) bytes
+          ∙ ap₂ (λ n l. take n l) (sym (length-drop g ahead)) further;
+    }
+      where
+        fuel : (n : ℕ) → 32768 - n - 1 ≡ 32768 - (n + 1)
+        fuel n = omega arith
+
+  -- one more piece
+  pub piece_read : (now : List ℕ) (at k : ℕ) → at ≡ place side + (next_gate state + length ahead) → length now ≡ length ahead + k → state.size + length now ≤ 32756
+      → now ≡ ahead ++ slice_range c at (at + k) → IsPassed c side state now
+  piece_read now at k at_is size fits is = record {
+    in_use = p.in_use;
+    version = p.version;
+    generation = p.generation;
+    base = p.base;
+    snapshot = p.snapshot;
+    beside = p.beside;
+    passed = p.passed;
+    many = p.many;
+    size = p.size;
+    found = p.found;
+    ahead_is = is ∙ ap₂ (λ x y. x ++ y) p.ahead_is in_bank ∙ sym (take_two (length ahead) k bytes) ∙ ap (λ n. take n bytes) (sym size);
+  }
+    where
+      n : ℕ
+      n = next_gate state + length ahead
+
+      just : (m : ℕ) → m + k - m ≡ k
+      just m = omega arith
+
+      in_bank : slice_range c at (at + k) ≡ take k (drop (length ahead) bytes)
+      in_bank =
+          ap₂ (λ m l. take m l) (just at) (ap (λ m. drop m c) at_is ∙ sym (drop_further (place side) (next_gate state + length ahead) c))
+          ∙ window (drop (place side) c) (take 32768 (drop (place side) c)) 32768 (next_gate state + length ahead) k
+          (sym (take-take 32768 32768 (drop (place side) c) (omega arith))) (omega (arith, size, fits))
+          ∙ ap (take k) (sym (drop_further (next_gate state) (length ahead) (bank c side)))
+
+pub filled_len : {M : Type 0} (reads : M → Bool → M → Type 0) (left : ℕ) (old : M) (before : List ℕ) (new : M) (now : List ℕ) → IsFilled reads left old before new now
+    → (length before ≤ length now) × (length now ≤ length before + left)
+filled_len reads left old before new now (inl same) = (omega (arith, ap length same.1), omega (arith, ap length same.1))
+filled_len reads left old before new now (inr piece) = (omega (arith, piece.size), omega (arith, piece.size))
+
+-- a piece is read while the pass goes on
+pub piece_says : (c : List ℕ) (state : State) (ahead now : List ℕ) (ended : Bool) (at : ℕ) → SaysSoFar c state ahead ended → ended ≡ false
+    → 3 * state.many ≤ state.size → state.size < 32756 → IsTrue (state.version == 1 || state.version == 2)
+    → at ≡ next_place state + length ahead → length ahead ≤ length now → state.size + length now ≤ 32756
+    → now ≡ ahead ++ slice_range c at (at + (length now - length ahead)) → SaysSoFar c state now ended
+piece_says c state ahead now ended at says going few inside known at_is more fits is = record {
+  size = says.size;
+  in_use = says.in_use;
+  passed = λ side used. piece_read c side state ahead (says.passed side used) says.size used few inside known now at (length now - length ahead)
+      (at_is ∙ regroup side used) (omega arith) fits is;
+  at_end = λ at_end. absurd (true≢false (sym at_end ∙ going));
+}
+  where
+    regroup : (side : Side) → state.in_use ≡ Some side → next_place state + length ahead ≡ place side + (next_gate state + length ahead)
+    regroup side used = ap (λ o. option_map_or place o 0 + next_gate state + length ahead) used ∙ add_assoc (place side) (next_gate state) (length ahead)
