@@ -24,6 +24,10 @@ open_bank at generation base bodies = write (at + 1) (bank_bytes generation base
 abbrev pub format_writes : List Write
 format_writes = open_bank (place First) 1 0 []
 
+-- A start formats a memory where no bank is in use.
+abbrev pub start_writes : State → List Write
+start_writes s = option_map_or (λ _. []) s.in_use format_writes
+
 -- A record is written behind a closed gate, with a closed gate behind it, and then its gate is opened.
 abbrev pub record_writes : ℕ → ℕ → List ℕ → List Write
 record_writes at position body = write (at + 1) (record_bytes position body ++ 255 ∷ []) ∷ write at (90 ∷ []) ∷ []
@@ -50,6 +54,9 @@ pub record IsUnformatted (content : List ℕ) : Type 0 where
 
 abbrev pub formatted : State
 formatted = record { in_use = Some First; version = 2; generation = 1; base = 0; snapshot = 0; many = 0; size = 0; beside = false }
+
+abbrev pub started : State → State
+started s = option_map_or (λ _. s) s.in_use formatted
 
 -- this body may be appended
 pub record HasRoom (s : State) (body : List ℕ) : Type 0 where

@@ -6,3 +6,5 @@ pub mod PassedBegun
 pub mod PassedSteps
 pub mod PassedReads
 pub mod PassedGates
+pub mod Formatting
+pub mod Refusing

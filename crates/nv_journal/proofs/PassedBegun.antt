@@ -1,17 +1,16 @@
 -- A pass in front of the first record.
-use Rattle.std.proofs.Common.{◌≡◌, ◌≢◌, ◌⊎◌, inl, inr, ℕ, ◌+◌, ◌-◌, ◌<◌, ◌≤◌, ◌==◌, ◌||◌, Bool, true, false, cond, List, [], ◌∷◌, length, take, drop, Option, Some, None, IsTrue, is_some, not, sym, refl, ap, ap₂, ◌∙◌, subst, arith}
+use Rattle.std.proofs.Common.{◌≡◌, ◌≢◌, ◌⊎◌, inl, inr, ℕ, ◌≤◌, ◌==◌, ◌||◌, Bool, true, false, cond, List, [], length, drop, Option, Some, None, IsTrue, is_some, not, sym, refl, ap, ap₂, ◌∙◌, subst, arith}
 use Rattle.std.specs.Option.{option_map_or}
 use Rattle.std.proofs.lemmas.Bool.{true≢false}
 use Rattle.std.proofs.lemmas.Bool.Decides.{nat_tests}
-use Rattle.nv_journal.specs.declared.JournalFault.{JournalFault}
 use Rattle.nv_journal.specs.declared.JournalFault.TheVariants.{UnknownFormat, BadRecord}
 use Rattle.journal_laws.specs.declared.banks.Side.{Side}
 use Rattle.journal_laws.specs.declared.banks.Side.TheVariants.{First, Second}
 use Rattle.journal_laws.specs.declared.state.Head.{Head}
 use Rattle.journal_laws.specs.declared.state.State.{State}
-use Rattle.journal_laws.specs.Banks.{other, place, bank, is_open, head, newer, current}
-use Rattle.journal_laws.specs.Records.{behind, found_from}
-use Rattle.journal_laws.specs.Journal.{Journal, unformatted, found_in, journal_at, journal, state_by, state_of, is_open_beside, gate_at, records, IsSound}
+use Rattle.journal_laws.specs.Banks.{other, bank, is_open, head, newer, current}
+use Rattle.journal_laws.specs.Records.{found_from}
+use Rattle.journal_laws.specs.Journal.{Journal, unformatted, journal, state_by, gate_at, records}
 use Rattle.journal_laws.proofs.Places.{length-bank}
 use Rattle.journal_laws.proofs.Reading.{behind-none}
 use Rattle.journal_laws.proofs.InUse.{journal_in_use, no_journal}

@@ -1,8 +1,7 @@
 -- What a memory says where a pass comes to a gate.
-use Rattle.std.proofs.Common.{◌≡◌, ℕ, ◌+◌, ◌-◌, ◌*◌, ◌<◌, ◌≤◌, ◌==◌, ◌||◌, min, Bool, true, false, List, length, take, drop, slice_index, slice_get, Option, Some, None, IsTrue, sym, refl, ap, ap₂, ◌∙◌, subst, arith, take-take, length-drop, if◌then◌else◌}
+use Rattle.std.proofs.Common.{◌≡◌, ℕ, ◌+◌, ◌*◌, ◌<◌, ◌≤◌, ◌==◌, ◌||◌, min, Bool, true, false, List, length, take, drop, slice_index, slice_get, Option, Some, None, IsTrue, sym, refl, ap, ap₂, ◌∙◌, subst, arith, take-take, if◌then◌else◌}
 use Rattle.std.proofs.lemmas.Bool.{true≢false}
 use Rattle.nv_journal.specs.declared.JournalFault.TheVariants.{BadRecord}
-use Rattle.nv_journal.specs.declared.gates.Gate.{Gate}
 use Rattle.nv_journal.specs.declared.gates.Gate.TheVariants.{Closed, Bad, Record}
 use Rattle.journal_laws.specs.declared.banks.Side.{Side}
 use Rattle.journal_laws.specs.declared.state.State.{State}

@@ -1,10 +1,10 @@
 -- How often a pass reads.
-use Rattle.std.proofs.Common.{◌≡◌, ◌⊎◌, inl, inr, ℕ, suc, ◌+◌, ◌-◌, ◌*◌, ◌<◌, ◌≤◌, min, Bool, true, false, List, length, sym, ap, subst, arith}
+use Rattle.std.proofs.Common.{◌≡◌, inl, inr, ℕ, suc, ◌+◌, ◌-◌, ◌<◌, ◌≤◌, Bool, true, false, List, length, sym, subst, arith}
 use Rattle.journal_laws.specs.declared.state.State.{State}
 use Rattle.journal_laws.specs.Writes.{AreRead}
 use Rattle.journal_laws.specs.Journal.{next_gate}
 use Rattle.journal_laws.proofs.ReadFirst.{one_more_read, reads_up_to}
-use Rattle.nv_journal.specs.Scanning.{Scanned, IsPiece, IsFilled, IsReadSoFar, read_to}
+use Rattle.nv_journal.specs.Scanning.{Scanned, IsFilled, IsReadSoFar}
 
 module _ {N : Type 0} (reads : N → Bool → N → Type 0) (first : N) where
   abbrev at : N → State → List ℕ → Bool → Scanned N

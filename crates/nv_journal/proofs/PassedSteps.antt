@@ -3,24 +3,22 @@ use Rattle.std.proofs.Common.{◌≡◌, ◌⊎◌, inl, inr, ℕ, zero, suc, �
 use Rattle.std.specs.Option.{option_map_or}
 use Rattle.std.specs.Int.{w16, from_be_bytes}
 use Rattle.std.proofs.lemmas.List.{drop-take, drop-drop}
-use Rattle.std.proofs.lemmas.Bool.{cases_Bool, cases_lt, true≢false, false≢true}
-use Rattle.std.proofs.lemmas.Bool.Decides.{nat_tests}
-use Rattle.nv_journal.specs.declared.JournalFault.{JournalFault}
+use Rattle.std.proofs.lemmas.Bool.{cases_lt, true≢false}
 use Rattle.nv_journal.specs.declared.JournalFault.TheVariants.{UnknownFormat, BadRecord}
 use Rattle.nv_journal.specs.declared.gates.Gate.{Gate}
 use Rattle.nv_journal.specs.declared.gates.Gate.TheVariants.{Closed, Bad, Record}
 use Rattle.journal_laws.specs.declared.banks.Side.{Side}
 use Rattle.journal_laws.specs.declared.state.State.{State}
-use Rattle.journal_laws.specs.Banks.{other, place, bank, is_open, head, current}
-use Rattle.journal_laws.specs.Records.{index_len, gap, body, is_record, is_good, Found, nothing, bad, behind, found_from, size_in}
-use Rattle.journal_laws.specs.Journal.{Journal, found_in, journal_at, journal, records, state_by, state_of, gate_at, next_gate, next_place, IsSound}
+use Rattle.journal_laws.specs.Banks.{other, place, bank, is_open, head}
+use Rattle.journal_laws.specs.Records.{index_len, gap, body, is_record, Found, nothing, bad, behind, found_from, size_in}
+use Rattle.journal_laws.specs.Journal.{Journal, found_in, journal_at, journal, records, gate_at, next_gate, next_place}
 use Rattle.journal_laws.proofs.Places.{length-bank}
 use Rattle.journal_laws.proofs.Reading.{window, first, is_good_parts, found_good, bad_found, found_closed}
 use Rattle.journal_laws.proofs.InUse.{journal_in_use, state_at}
 use Rattle.nv_journal.specs.Faults.{fault}
 use Rattle.nv_journal.specs.Gates.{gate_of}
 use Rattle.nv_journal.specs.Kept.{Says}
-use Rattle.nv_journal.specs.Scanning.{passed_on, IsPassed, SaysSoFar, IsPiece, IsFilled}
+use Rattle.nv_journal.specs.Scanning.{passed_on, IsPassed, SaysSoFar, IsFilled}
 use Rattle.nv_journal.proofs.Snapshotting.{size_in-append}
 
 -- ---- the first bytes decide

@@ -1,5 +1,5 @@
 -- A pass over the records of a memory.
-use Rattle.std.specs.Prelude.{◌≡◌, ◌⊎◌, ℕ, ◌+◌, ◌-◌, ◌*◌, ◌<◌, ◌≤◌, ◌==◌, ◌||◌, Bool, true, false, List, length, min, take, drop, Option, None, Some, IsTrue}
+use Rattle.std.specs.Prelude.{◌≡◌, ◌⊎◌, ℕ, ◌+◌, ◌-◌, ◌*◌, ◌<◌, ◌≤◌, ◌==◌, ◌||◌, Bool, true, false, List, length, min, take, drop, None, Some, IsTrue}
 use Rattle.std.specs.Option.{option_map_or}
 use Rattle.journal_laws.specs.declared.banks.Side.{Side}
 use Rattle.journal_laws.specs.declared.banks.Side.TheVariants.{First, Second}
@@ -7,7 +7,7 @@ use Rattle.journal_laws.specs.Writes.{AreRead}
 use Rattle.journal_laws.specs.declared.state.Head.{Head}
 use Rattle.journal_laws.specs.declared.state.State.{State}
 use Rattle.journal_laws.specs.Banks.{other, bank, is_open, head, newer, current}
-use Rattle.journal_laws.specs.Records.{index_len, is_record, behind, found_from, size_in}
+use Rattle.journal_laws.specs.Records.{index_len, behind, found_from, size_in}
 use Rattle.journal_laws.specs.Journal.{unformatted, found_in, state_by, next_gate}
 use Rattle.nv_journal.specs.Kept.{Says}
 

@@ -4,11 +4,11 @@ ghost use Rattle.std.specs.List.{AllByRecursion};
 ghost use Rattle.swp_base.specs.Outside.{Rose};
 ghost use Rattle.journal_laws.specs.Writes.{AreMade, write};
 ghost use Rattle.journal_laws.specs.Records.{IsBody, used};
-ghost use Rattle.journal_laws.specs.Operations.{bank_bytes, close_bank, compact_writes, CanCompact, compacted};
+ghost use Rattle.journal_laws.specs.Operations.{bank_bytes, close_bank, format_writes, formatted, compact_writes, CanCompact, compacted};
 
 use crate::Snapshot;
 use arrayvec::ArrayVec;
-use journal_laws::State;
+use journal_laws::{Side, State};
 use swp_base::{Failed, Nv};
 
 /// The bytes of a bank of version 02 behind its gate, up to its first closed gate.
@@ -39,6 +39,28 @@ pub fn open_bank<N: Nv>(nv: &mut N, at: u32, bytes: &[u8]) -> Result<(), Failed>
 {
     nv.write(at + 1, bytes)?;
     nv.write(at, &[0x5A])
+}
+
+/// Formats a memory: its first bank is opened, without records. It gives what is known of the memory then.
+pub fn format<N: Nv>(nv: &mut N) -> Result<State, Failed>
+    requires size { N.capacity nv.old ≡ 65536 }
+    ensures size { N.capacity nv.new ≡ N.capacity nv.old }
+    ensures count { N.faults nv.old ≤ N.faults nv.new }
+    ensures fault { OnErr result (Rose (N.faults nv.old) (N.faults nv.new)) }
+    ensures made { AreMade N.writes format_writes nv.old (is_ok result) nv.new }
+    ensures state { IfOk result (λ s. s ≡ formatted) }
+{
+    open_bank(nv, 0, &[2, 0, 0, 0, 1, 0, 0, 0, 0, 0, 0, 0xFF])?;
+    Ok(State {
+        in_use: Some(Side::First),
+        version: 2,
+        generation: 1,
+        base: 0,
+        snapshot: 0,
+        many: 0,
+        size: 0,
+        beside: false,
+    })
 }
 
 /// Closes a bank whose gate is open, fills it with these bytes, and opens its gate.

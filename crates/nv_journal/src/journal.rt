@@ -1,12 +1,12 @@
 //! A journal over a memory.
-ghost use Rattle.std.specs.Prelude.{◌≡◌, ◌+◌, ◌≤◌, ◌<◌, ◌++◌, ◌↔◌, ℕ, ◌⊎◌, [], ◌∷◌, length, Err, Some, false, IsTrue, IsSome, is_ok, OnOk, OnErr, IfErr};
+ghost use Rattle.std.specs.Prelude.{◌≡◌, ◌+◌, ◌≤◌, ◌<◌, ◌++◌, ◌↔◌, ℕ, ◌⊎◌, [], ◌∷◌, length, Err, Some, true, false, IsTrue, IsSome, is_ok, OnOk, OnErr, IfOk, IfErr, MatchResult};
 ghost use Rattle.swp_base.specs.Outside.{Rose};
-ghost use Rattle.journal_laws.specs.Writes.{AreMade};
+ghost use Rattle.journal_laws.specs.Writes.{AreMade, AreRead};
 ghost use Rattle.journal_laws.specs.Journal.{records, count_of, count, left};
 ghost use Rattle.journal_laws.specs.Operations.{append_writes, compact_writes, HasRoom, appended, compacted, LeftByCut};
 
 use crate::records::write_record;
-use crate::{JournalFault, Snapshot, banks};
+use crate::{JournalFault, Scan, Snapshot, StartRefused, banks};
 use arrayvec::ArrayVec;
 use journal_laws::State;
 use std::marker::Model;
@@ -32,7 +32,52 @@ impl<N: Nv + Drop> Model for Journal<N> {
 }
 
 impl<N: Nv + Drop> Journal<N> {
-    ghost use Rattle.nv_journal.specs.Kept.{Says};
+    ghost use Rattle.nv_journal.specs.Kept.{Says, IsKept};
+    ghost use Rattle.nv_journal.specs.Refusals.{IsOpened, IsRefused, IsUnformattable};
+
+    /// A live journal over a memory of which this is known.
+    pub(crate) fn of(nv: N, state: State) -> Self
+        requires kept { IsKept N.tells N.capacity N.content (record { nv = nv; state = state; live = true }) }
+        ensures { result ≡ record { nv = nv; state = state; live = true } }
+    {
+        Journal {
+            nv,
+            state,
+            live: true,
+        }
+    }
+
+    /// The journal of a memory of 65,536 bytes. One that has no bank with an open gate is formatted first. A memory whose bank in
+    /// use has an unknown version or a bad record is refused, and handed back.
+    pub fn start(nv: N) -> Result<Self, StartRefused<N>>
+        requires { N.capacity nv ≡ 65536 }
+        ensures opened { IfOk result (λ j. IsTrue j.live × IsOpened N.reads N.writes N.tells N.content nv j.nv j.state) }
+        ensures says { IsTrue N.tells → IfOk result (λ j. Says (N.content j.nv) j.state) }
+        ensures records { IsTrue N.tells → IfOk result (λ j. records (N.content j.nv) ≡ records (N.content nv)) }
+        ensures refused { IfErr result (λ e. IsRefused N.reads N.faults N.tells N.content nv e.nv e.fault
+            ⊎ IsUnformattable N.reads N.writes N.faults N.tells N.content nv e.nv e.fault) }
+        ensures count { IfOk result (λ j. N.faults nv ≤ N.faults j.nv) }
+    {
+        let scan = Scan::whole(nv)?;
+        match scan.start() {
+            Ok(journal) => Ok(journal),
+            Err(refused) => Err(refused),
+        }
+    }
+
+    /// The journal of a memory of 65,536 bytes, without any write: one that has no bank with an open gate reads as no records. The
+    /// same memories are refused.
+    pub fn peek(nv: N) -> Result<Self, StartRefused<N>>
+        requires { N.capacity nv ≡ 65536 }
+        ensures read { IfOk result (λ j. IsTrue j.live × AreRead N.reads 37 nv true j.nv) }
+        ensures says { IsTrue N.tells → IfOk result (λ j. Says (N.content j.nv) j.state) }
+        ensures kept { IsTrue N.tells → IfOk result (λ j. N.content j.nv ≡ N.content nv) }
+        ensures refused { IfErr result (λ e. IsRefused N.reads N.faults N.tells N.content nv e.nv e.fault) }
+        ensures count { MatchResult result (λ j. N.faults nv ≤ N.faults j.nv) (λ e. N.faults nv ≤ N.faults e.nv) }
+    {
+        let scan = Scan::whole(nv)?;
+        Ok(scan.peek())
+    }
 
     /// Appends a record of 1 to 61 bytes. The body is written before its gate, in a write of its own. Where a write fails, the
     /// journal is not live any more: a start on its memory gives the records from before, or these and the new one.

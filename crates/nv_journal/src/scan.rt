@@ -1,17 +1,19 @@
 //! A pass over the records of a memory.
-ghost use Rattle.std.specs.Prelude.{◌≡◌, ◌≢◌, ◌⊎◌, ◌↔◌, ◌≤◌, length, min, None, Some, Ok, Err, true, false, IsTrue, IfOk, IfErr, OnOk, OnErr, MatchResult, MatchOption, slice_get};
+ghost use Rattle.std.specs.Prelude.{◌≡◌, ◌≢◌, ◌⊎◌, ◌↔◌, ◌<◌, ◌≤◌, length, min, None, Some, Ok, Err, true, false, IsTrue, IfOk, IfErr, OnOk, OnErr, MatchResult, MatchOption, slice_get};
 ghost use Rattle.swp_base.specs.Outside.{Rose};
-ghost use Rattle.journal_laws.specs.Writes.{AreRead};
+ghost use Rattle.journal_laws.specs.Writes.{AreRead, AreMade};
+ghost use Rattle.journal_laws.specs.Operations.{format_writes, start_writes, started, LeftByCut};
 ghost use Rattle.journal_laws.specs.Journal.{records, left};
 ghost use Rattle.nv_journal.specs.Faults.{fault};
 ghost use Rattle.nv_journal.specs.Scanning.{IsReadSoFar, passed_on, read_to};
 ghost use Rattle.nv_journal.specs.Kept.{Says};
-ghost use Rattle.nv_journal.specs.Refusals.{IsImageFault, IsUnread, IsUnsound};
+ghost use Rattle.nv_journal.specs.Refusals.{IsImageFault, IsRefused};
 
 use crate::ahead::{Ahead, fill};
+use crate::banks::format;
 use crate::gates::{Gate, body_of, index_len, look};
 use crate::heads::{begun, read_heads};
-use crate::JournalFault;
+use crate::{Journal, JournalFault};
 use arrayvec::ArrayVec;
 use journal_laws::State;
 use std::marker::Model;
@@ -51,10 +53,8 @@ impl<N: Nv + Drop> Scan<N> {
         requires { N.capacity nv ≡ 65536 }
         ensures read { IfOk result (λ s. IsReadSoFar N.reads nv s) }
         ensures first { IfOk result (λ s. (s.state.many ≡ 0) × (s.state.size ≡ 0)) }
-        ensures refused { IfErr result (λ e. IsUnread N.reads N.faults nv e.nv e.fault
-            ⊎ IsUnsound N.reads N.tells N.content nv e.nv e.fault) }
-        ensures kept { IsTrue N.tells → MatchResult result
-            (λ s. N.content s.nv ≡ N.content nv) (λ e. N.content e.nv ≡ N.content nv) }
+        ensures refused { IfErr result (λ e. IsRefused N.reads N.faults N.tells N.content nv e.nv e.fault) }
+        ensures kept { IsTrue N.tells → IfOk result (λ s. N.content s.nv ≡ N.content nv) }
         ensures count { MatchResult result (λ s. N.faults nv ≤ N.faults s.nv) (λ e. N.faults nv ≤ N.faults e.nv) }
     {
         let mut nv = nv;
@@ -85,6 +85,25 @@ impl<N: Nv + Drop> Scan<N> {
         })
     }
 
+    /// Passes all records of a memory. One whose bank in use has an unknown version or a bad record is refused.
+    pub fn whole(nv: N) -> Result<Self, StartRefused<N>>
+        requires { N.capacity nv ≡ 65536 }
+        ensures ended { IfOk result (λ s. IsTrue s.ended) }
+        ensures read { IfOk result (λ s. IsReadSoFar N.reads nv s) }
+        ensures refused { IfErr result (λ e. IsRefused N.reads N.faults N.tells N.content nv e.nv e.fault) }
+        ensures kept { IsTrue N.tells → IfOk result (λ s. N.content s.nv ≡ N.content nv) }
+        ensures count { MatchResult result (λ s. N.faults nv ≤ N.faults s.nv) (λ e. N.faults nv ≤ N.faults e.nv) }
+    {
+        let mut scan = Scan::open(nv)?;
+        match scan.pass_all() {
+            Ok(()) => Ok(scan),
+            Err(fault) => Err(StartRefused {
+                nv: scan.into_nv(),
+                fault,
+            }),
+        }
+    }
+
     /// The body of the next record, or None behind the last. A record outside the record grammar is refused.
     pub fn next(&mut self) -> Result<Option<ArrayVec<u8, 61>>, JournalFault>
         ensures end { (result ≡ Ok None) ↔ (self.new.ended ≡ true) }
@@ -100,6 +119,7 @@ impl<N: Nv + Drop> Scan<N> {
         ensures count { N.faults self.old.nv ≤ N.faults self.new.nv }
         ensures rose { result ≡ Err JournalFault.NvFault → Rose (N.faults self.old.nv) (N.faults self.new.nv) }
         ensures size { N.capacity self.new.nv ≡ N.capacity self.old.nv }
+        ensures inside { self.new.state.size < 32756 }
 
         // What a memory says that tells its content.
         ensures kept { IsTrue N.tells → N.content self.new.nv ≡ N.content self.old.nv }
@@ -147,6 +167,7 @@ impl<N: Nv + Drop> Scan<N> {
             (λ _. self.new.state ≡ self.old.state) }
         ensures nv { self.new.nv ≡ self.old.nv }
         ensures read_to { read_to self.new ≡ read_to self.old }
+        ensures inside { self.new.state.size < 32756 }
         ensures body { IsTrue N.tells → IfOk result (λ o. MatchOption o
             (Says (N.content self.old.nv) self.old.state)
             (λ b. slice_get (records (N.content self.old.nv)) self.old.state.many ≡ Some b.items)) }
@@ -172,5 +193,67 @@ impl<N: Nv + Drop> Scan<N> {
                 Ok(Some(body))
             }
         }
+    }
+
+    /// Passes all records that come.
+    pub fn pass_all(&mut self) -> Result<(), JournalFault>
+        ensures ended { OnOk result (IsTrue self.new.ended) }
+        ensures read { (first : N) → IsReadSoFar N.reads first self.old → result ≢ Err JournalFault.NvFault
+            → IsReadSoFar N.reads first self.new }
+        ensures unread { (first : N) → IsReadSoFar N.reads first self.old → result ≡ Err JournalFault.NvFault
+            → AreRead N.reads 37 first false self.new.nv }
+        ensures count { N.faults self.old.nv ≤ N.faults self.new.nv }
+        ensures rose { result ≡ Err JournalFault.NvFault → Rose (N.faults self.old.nv) (N.faults self.new.nv) }
+        ensures kept { IsTrue N.tells → N.content self.new.nv ≡ N.content self.old.nv }
+        ensures fault { IfErr result (λ f. (f ≡ JournalFault.NvFault)
+            ⊎ (IsImageFault f × (IsTrue N.tells → fault (N.content self.old.nv) ≡ Some f))) }
+    {
+        'records: while self.next()?.is_some() {}
+        Ok(())
+    }
+
+    /// The memory.
+    pub fn into_nv(self) -> N
+        ensures { result ≡ self.nv }
+    {
+        let Scan { nv, .. } = self;
+        nv
+    }
+
+    /// The journal of a memory whose records were all passed. Where no bank is in use, the memory is formatted first.
+    pub fn start(self) -> Result<Journal<N>, StartRefused<N>>
+        requires { IsTrue self.ended }
+        ensures made { MatchResult result (λ j. AreMade N.writes (start_writes self.state) self.nv true j.nv)
+            (λ e. AreMade N.writes (start_writes self.state) self.nv false e.nv) }
+        ensures state { IfOk result (λ j. (j.state ≡ started self.state) × IsTrue j.live) }
+        ensures none { IfErr result (λ e. (e.fault ≡ JournalFault.NvFault) × (self.state.in_use ≡ None)) }
+        ensures count { MatchResult result (λ j. N.faults self.nv ≤ N.faults j.nv) (λ e. Rose (N.faults self.nv) (N.faults e.nv)) }
+        ensures said { IsTrue N.tells → Says (N.content self.nv) self.state }
+        ensures says { IsTrue N.tells → IfOk result (λ j. Says (N.content j.nv) j.state) }
+        ensures records { IsTrue N.tells → IfOk result (λ j. records (N.content j.nv) ≡ records (N.content self.nv)) }
+        ensures cut { IsTrue N.tells → IfErr result (λ e. LeftByCut format_writes (N.content self.nv) (N.content e.nv)) }
+    {
+        let Scan { nv, state, .. } = self;
+        if state.in_use.is_some() {
+            return Ok(Journal::of(nv, state));
+        }
+        let mut nv = nv;
+        match format(&mut nv) {
+            Ok(state) => Ok(Journal::of(nv, state)),
+            Err(_) => Err(StartRefused {
+                nv,
+                fault: JournalFault::NvFault,
+            }),
+        }
+    }
+
+    /// The journal of a memory whose records were all passed. Nothing is written.
+    pub fn peek(self) -> Journal<N>
+        requires { IsTrue self.ended }
+        ensures journal { result ≡ record { nv = self.nv; state = self.state; live = true } }
+        ensures said { IsTrue N.tells → Says (N.content self.nv) self.state }
+    {
+        let Scan { nv, state, .. } = self;
+        Journal::of(nv, state)
     }
 }

@@ -1,4 +1,4 @@
-use Rattle.std.proofs.Common.{◌≡◌, length, sym, ap, ◌∙◌}
+use Rattle.std.proofs.Common.{◌≡◌, length, ap, ◌∙◌}
 use Rattle.journal_laws.specs.Banks.{head_of}
 use Rattle.nv_journal.proofs.ReadHeads.{head_of_twelve, head_bytes, read_fields}
 use Rattle.nv_journal.proofs.heads.read_head.Goals as goal

@@ -1,5 +1,5 @@
-use Rattle.std.proofs.Common.{◌≡◌, ◌+◌, ◌-◌, ◌<◌, ◌≤◌, length, sym, ap, ap₂, ◌∙◌, subst, arith}
-use Rattle.journal_laws.specs.Journal.{next_gate, next_place}
+use Rattle.std.proofs.Common.{◌≡◌, ◌+◌, ◌-◌, ◌≤◌, length, ap, ap₂, ◌∙◌, subst, arith}
+use Rattle.journal_laws.specs.Journal.{next_gate}
 use Rattle.nv_journal.specs.Scanning.{IsFilled}
 use Rattle.nv_journal.proofs.Appending.{on_err}
 use Rattle.nv_journal.proofs.PassedReads.{filled_so_far, failed_so_far}

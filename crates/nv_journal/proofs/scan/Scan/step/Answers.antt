@@ -1,7 +1,5 @@
-use Rattle.std.proofs.Common.{◌≡◌, ◌+◌, ◌*◌, ◌<◌, ◌≤◌, min, Some, length, take, drop, length-drop, slice_get, sym, refl, ap, ap₂, ◌∙◌, subst, arith}
-use Rattle.nv_journal.specs.declared.gates.Gate.TheVariants.{Closed, Bad, Record}
+use Rattle.std.proofs.Common.{◌+◌, take, drop, length-drop, refl, ap₂, ◌∙◌, arith}
 use Rattle.journal_laws.specs.Records.{index_len}
-use Rattle.journal_laws.specs.Journal.{left}
 use Rattle.nv_journal.specs.Gates.{gate_of}
 use Rattle.nv_journal.proofs.PassedGates.{closed_so_far, ended_so_far, bad_so_far, record_so_far, says_then}
 use Rattle.nv_journal.proofs.scan.Scan.step.Goals as goal
@@ -55,10 +53,12 @@ pub returns-in-Bad-clause-fault : goal.returns-in-Bad-clause-fault
 returns-in-Bad-clause-fault g c =
     let k = c.self.inside in
     let old = c.self.invariant in
-    let is = c.in-Bad.ensures.gate ∙ ap₂ (gate_of k.state.version k.state.many) c.left-rest.ensures c.as_slice.ensures in
-    (tt, λ tells. rw (← c.self.view_is, c.next_place.ensures.place)
-    (bad_so_far (g.N.Nv.content k.nv) k.state k.ahead k.ended (old.says tells) (rw (← c.self.view_is) at c.requires.going) old.idle old.few old.inside old.known
-    (rw (← c.self.view_is) at c.requires.enough) is))
+    let is = c.in-Bad.ensures.gate ∙ ap₂ (gate_of k.state.version k.state.many) c.left-rest.ensures c.as_slice.ensures in (
+      tt,
+      λ tells. rw (← c.self.view_is, c.next_place.ensures.place)
+          (bad_so_far (g.N.Nv.content k.nv) k.state k.ahead k.ended (old.says tells) (rw (← c.self.view_is) at c.requires.going) old.idle old.few old.inside old.known
+          (rw (← c.self.view_is) at c.requires.enough) is),
+    )
 
 pub returns-in-Record-clause-body : goal.returns-in-Record-clause-body
 returns-in-Record-clause-body g c = λ tells.
