@@ -2,3 +2,4 @@ pub mod Shifts
 pub mod Sound
 pub mod Runs
 pub mod Told
+pub mod Reports

@@ -334,7 +334,7 @@ data_given e m s g h =
       room = omega (arith, blocks, g.room, h.room);
     }
 
-sound_turn : (e : LinkEnd) (t : Turn) → AreSendableInputs (FromNode t ∷ []) → Sound e → Sound (turn e t)
+pub sound_turn : (e : LinkEnd) (t : Turn) → AreSendableInputs (FromNode t ∷ []) → Sound e → Sound (turn e t)
 sound_turn e (Give m) a h = by (give_refusal e m) refl
   where
     by : (o : Option Refused) → give_refusal e m ≡ o → Sound (turn e (Give m))
@@ -381,7 +381,7 @@ sound_turn e Release a h =
 
 -- ## A frame is fetched
 
-fetched_data : (e : LinkEnd) (acts : List ActDue) → Sound e → Sound (record e { shdlc = fetched e.shdlc; acts = acts })
+pub fetched_data : (e : LinkEnd) (acts : List ActDue) → Sound e → Sound (record e { shdlc = fetched e.shdlc; acts = acts })
 fetched_data e acts h = go e.shdlc.due (fragment_due e.shdlc.session) refl refl
   where
     s : Session
@@ -472,29 +472,29 @@ sound_inputs : (is : List LinkInput) (e : LinkEnd) → AreSendableInputs is → 
 sound_inputs [] e a h = h
 sound_inputs (i ∷ is) e a h = let p = parted i is a in sound_inputs is (after_input e i) p.1 (sound_input e i p.0 h)
 
+pub new_sound : (role : Role) → Sound (new_link_end role)
+new_sound Bare =
+    record {
+      is = record {
+        out = refl;
+        none = λ no. absurd (no refl);
+        forgot = λ _. refl;
+        acked = omega arith;
+        reached = omega arith;
+        room = omega arith;
+      };
+      closed = λ c. absurd (true≢false c);
+    }
+new_sound (Clf s) =
+    record {
+      is = record { out = refl; none = λ _. refl; forgot = λ _. refl; acked = omega arith; reached = omega arith; room = omega arith };
+      closed = λ _. record { phase = refl; due = refl };
+    }
+new_sound (Uicc s) =
+    record {
+      is = record { out = refl; none = λ _. refl; forgot = λ _. refl; acked = omega arith; reached = omega arith; room = omega arith };
+      closed = λ _. record { phase = refl; due = refl };
+    }
+
 pub sound : (role : Role) (is : List LinkInput) → AreSendableInputs is → Sound (after_inputs (new_link_end role) is)
 sound role is a = sound_inputs is (new_link_end role) a (new_sound role)
-  where
-    new_sound : (role : Role) → Sound (new_link_end role)
-    new_sound Bare =
-        record {
-          is = record {
-            out = refl;
-            none = λ no. absurd (no refl);
-            forgot = λ _. refl;
-            acked = omega arith;
-            reached = omega arith;
-            room = omega arith;
-          };
-          closed = λ c. absurd (true≢false c);
-        }
-    new_sound (Clf s) =
-        record {
-          is = record { out = refl; none = λ _. refl; forgot = λ _. refl; acked = omega arith; reached = omega arith; room = omega arith };
-          closed = λ _. record { phase = refl; due = refl };
-        }
-    new_sound (Uicc s) =
-        record {
-          is = record { out = refl; none = λ _. refl; forgot = λ _. refl; acked = omega arith; reached = omega arith; room = omega arith };
-          closed = λ _. record { phase = refl; due = refl };
-        }

@@ -15,6 +15,7 @@ use Rattle.message_link.specs.Quiet.{losses_of, IsQuiet}
 use Rattle.message_link.specs.Links.{Link, EndEvent, Node, LinkEvent, new_link, after, number_of, talk_of}
 use Rattle.message_link.specs.Links.Ending.{GoesOut, CutOff}
 use Rattle.message_link.specs.Links.Comes.{NextFrame, AsksReset, Starts, Stops, NoInput}
+use Rattle.message_link.specs.Links.Loss.{OnDemand}
 use Rattle.message_link.specs.Links.EndEvent.{Step, Lose}
 use Rattle.message_link.specs.Links.LinkEvent.{AtController, AtHost, Ticks, Activate}
 
@@ -153,7 +154,7 @@ one_is_quiet : IsQuiet (after bare one) (losses_of bare one)
 one_is_quiet = record { controller = refl; host = refl; lost = refl; rnr = refl; to_controller = refl; to_host = refl }
 
 abbrev gone : List LinkEvent
-gone = AtHost (gives (1, 3 ∷ [])) ∷ AtController Lose ∷ []
+gone = AtHost (gives (1, 3 ∷ [])) ∷ AtController (Lose OnDemand) ∷ []
 
 gone_lost : (losses_of bare gone).lost ≡ true
 gone_lost = refl

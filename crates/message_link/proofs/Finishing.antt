@@ -145,7 +145,7 @@ step_idle l ts ending a can h r =
 -- ## A frame is taken
 
 -- no RSET goes out after it
-first_none : (l : Link) (ts : List Turn) (x : OnWire) (xs : List OnWire) → l.to_controller ≡ x ∷ xs → AreSendableTurns ts
+pub first_none : (l : Link) (ts : List Turn) (x : OnWire) (xs : List OnWire) → l.to_controller ≡ x ∷ xs → AreSendableTurns ts
     → IsPolite l.controller.side (x ∷ xs) → Tells l.controller → Tells l.host → Rests l.controller.side.shdlc
     → FromHost (core_took (core_of l) [] x xs) → NoRset (frames_out (turned (took l.controller.side x.frame) ts))
 first_none l ts x xs w a p h t rests from = go x.frame refl
@@ -191,14 +191,14 @@ first_none l ts x xs w a p h t rests from = go x.frame refl
         (none_out None (record e { passed_over = e.passed_over + 1 }) ts a (mid_counted None e (e.passed_over + 1) h.now) none)
 
 -- the role of an end that took a frame lets its step end so
-can_after : (r : Role) (event : ActEvent) (ending : Ending) → CanEnd r ending → CanEnd (role_after r event) ending
+pub can_after : (r : Role) (event : ActEvent) (ending : Ending) → CanEnd r ending → CanEnd (role_after r event) ending
 can_after r event GoesOut can = tt
 can_after Bare event CutOff can = can
 can_after (Clf s) event CutOff can = tt
 can_after (Uicc s) event CutOff can = tt
 
 -- a frame changes the role only by activation
-took_can : (e : LinkEnd) (c : Control) (ending : Ending) → CanEnd e.role ending → CanEnd (took e c).role ending
+pub took_can : (e : LinkEnd) (c : Control) (ending : Ending) → CanEnd e.role ending → CanEnd (took e c).role ending
 took_can e c ending can = go c (is_open e.role) (is_faulty (taken e.shdlc c).session) refl refl
   where
     put_down_role : (b : Bool) → (put_down b e).role ≡ e.role
@@ -297,7 +297,7 @@ step_cut_instead l b e waits same role line h =
     (cut_instead l b e waits same role) refl (step_cut l line h)
 
 -- turns leave the phase of an end
-turns_phase : (e : LinkEnd) (ts : List Turn) → AreSendableTurns ts → Now e → (turned e ts).shdlc.phase ≡ e.shdlc.phase
+pub turns_phase : (e : LinkEnd) (ts : List Turn) → AreSendableTurns ts → Now e → (turned e ts).shdlc.phase ≡ e.shdlc.phase
 turns_phase e ts a h =
     ap (λ (s : EndState). s.phase) (turns_mid None e ts a h).is ∙ turned_phase e.shdlc (core_turns e ts)
 
@@ -311,7 +311,7 @@ reset_up s = go s.phase refl
     go Waiting p = rw p refl
     go Down p = rw p refl
 
-reset_keeps : (e : EndState) (w : ℕ) → is_waiting e ≡ false → Idle e → Keeps (is_some (if_up e Asked)) e (reset_with e w)
+pub reset_keeps : (e : EndState) (w : ℕ) → is_waiting e ≡ false → Idle e → Keeps (is_some (if_up e Asked)) e (reset_with e w)
 reset_keeps e w n idle = go e.phase refl
   where
     go : (p : LinkState) → e.phase ≡ p → Keeps (is_some (if_up e Asked)) e (reset_with e w)
@@ -320,7 +320,7 @@ reset_keeps e w n idle = go e.phase refl
     go Down p = rw p (record { out = sym (idle (λ u. let z = sym p ∙ u in cc)).0; idle = λ _. (refl, refl) })
 
 -- an end that is open and doesn't wait
-reset_tells : (e : LinkEnd) → reset_refusal e ≡ None → (is_open e.role ≡ true) × (is_waiting e.shdlc ≡ false)
+pub reset_tells : (e : LinkEnd) → reset_refusal e ≡ None → (is_open e.role ≡ true) × (is_waiting e.shdlc ≡ false)
 reset_tells e q = go (is_open e.role) (is_waiting e.shdlc) refl refl
   where
     go : (a b : Bool) → is_open e.role ≡ a → is_waiting e.shdlc ≡ b → (is_open e.role ≡ true) × (is_waiting e.shdlc ≡ false)
@@ -328,7 +328,7 @@ reset_tells e q = go (is_open e.role) (is_waiting e.shdlc) refl refl
     go true true x y = absurd (let z = rw (x, y) at q in cc)
     go false b x y = absurd (let z = rw x at q in cc)
 
-reset_waits : (s : EndState) (w : ℕ) → is_waiting s ≡ false → (reset_with s w).phase ≡ Waiting
+pub reset_waits : (s : EndState) (w : ℕ) → is_waiting s ≡ false → (reset_with s w).phase ≡ Waiting
 reset_waits s w n = rw n refl
 
 pub step_reset : (l : Link) (window : Option ℕ) (ts : List Turn) (ending : Ending) → AreSendableTurns ts → CanEnd l.controller.side.role ending
@@ -391,7 +391,7 @@ step_reset l window ts ending a can h r = go (reset_refusal l.controller.side) r
 
 -- ## Activation begins or ends
 
-restart_mid : (e : LinkEnd) (event : ActEvent) → Now e
+pub restart_mid : (e : LinkEnd) (event : ActEvent) → Now e
     → Acted (record e { shdlc = stopped e.shdlc }) (activated (moved e true (stopped e.shdlc)) event) (act_answer e.role event).send
 restart_mid e event h =
     let f : LinkEnd = moved e true (stopped e.shdlc) in
@@ -430,7 +430,7 @@ step_restart l event ts ending a can h calm =
 
 -- ## Ticks
 
-rests : (s : EndState) → s.phase ≡ Down → Rests s → frame_due s ≡ None
+pub rests : (s : EndState) → s.phase ≡ Down → Rests s → frame_due s ≡ None
 rests s p r = let none : s.session ≡ no_session = r.none (λ u. let z = sym p ∙ u in cc) in rw (r.due, none) refl
 
 core_rests : (c : CoreLink) → frame_due c.controller.side ≡ None → core_becomes c c.controller.side ≡ c
@@ -451,15 +451,15 @@ core_tick_rests c p r = nothing ∙ core_rests c (rests c.controller.side p r)
     nothing : core_ticks_here c [] ≡ core_becomes c c.controller.side
     nothing = ap (λ b. core_becomes (core_with_ended c b) (ticked c.controller.side)) ended ∙ ap (core_becomes c) state
 
-tick_open : (e : LinkEnd) → is_open e.role ≡ true
+pub tick_open : (e : LinkEnd) → is_open e.role ≡ true
     → (after_input e Tick ≡ moved e (is_some (tick_answer e.shdlc).ended) (ticked e.shdlc))
     × (is_some (ended_by e Tick) ≡ is_some (tick_answer e.shdlc).ended)
 tick_open e o = (rw o refl, rw o refl)
 
-tick_closed : (e : LinkEnd) → is_open e.role ≡ false → (after_input e Tick ≡ activated e ActTick) × (ended_by e Tick ≡ ended_by_act e ActTick)
+pub tick_closed : (e : LinkEnd) → is_open e.role ≡ false → (after_input e Tick ≡ activated e ActTick) × (ended_by e Tick ≡ ended_by_act e ActTick)
 tick_closed e o = (rw o refl, rw o refl)
 
-tick_role : (r : Role) → is_open (role_after r ActTick) ≡ false → is_open r ≡ false
+pub tick_role : (r : Role) → is_open (role_after r ActTick) ≡ false → is_open r ≡ false
 tick_role Bare q = q
 tick_role (Clf s) q = go s.phase refl
   where
@@ -489,7 +489,7 @@ tick_up s w = go s.phase (runs_timer s.session) (nat_lt (s.timer + 1) 10) (nat_l
     go Waiting a false true p q r t = rw (p, r, t) refl
     go Waiting a false false p q r t = rw (p, r, t) refl
 
-waiting_phase : (s : EndState) → is_waiting s ≡ true → s.phase ≡ Waiting
+pub waiting_phase : (s : EndState) → is_waiting s ≡ true → s.phase ≡ Waiting
 waiting_phase s w = go s.phase refl
   where
     go : (p : LinkState) → s.phase ≡ p → s.phase ≡ Waiting

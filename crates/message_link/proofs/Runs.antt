@@ -14,7 +14,7 @@ use Rattle.session_laws.proofs.Sending.{SafeLink}
 use Rattle.session_laws.proofs.Steps.{safe, in_order_here, in_order_there, safe_aged, safe_turns, safe_exchanged, tick_or_cut}
 use Rattle.link_machine.specs.Machine.{LinkEnd, Role, Turn, Refused, reset_refusal, window_of, is_open, act_answer, activated, moved, role_after, started, renewed, turned}
 use Rattle.link_machine.specs.Machine.Role.{Bare, Clf, Uicc}
-use Rattle.message_link.specs.Links.{Link, Half, Ending, Comes, EndEvent, LinkEvent, exchanged, steps_here, happens_here, all_here, happens, after, aged, ticks_here, silent, IsClf, IsUicc, IsWindow, CanStart, CanCome, IsNode, IsAllowed, IsOwn, AreOwn, IsEvent, AllAllowed}
+use Rattle.message_link.specs.Links.{Link, Half, Ending, Comes, Loss, EndEvent, LinkEvent, exchanged, steps_here, happens_here, all_here, happens, after, aged, ticks_here, silent, IsClf, IsUicc, IsWindow, CanStart, CanCome, IsNode, IsAllowed, IsOwn, AreOwn, IsEvent, AllAllowed}
 use Rattle.message_link.specs.Links.Ending.{GoesOut, CutOff}
 use Rattle.message_link.specs.Links.Comes.{NextFrame, AsksReset, Starts, Stops, NoInput}
 use Rattle.message_link.specs.Links.EndEvent.{Step as EndStep, Lose}
@@ -47,7 +47,7 @@ after_there c (e ∷ es) = after_there (core_exchanged (core_happens_here (core_
 
 -- ## What is allowed there
 
-abbrev AreAllowed : List CoreEndEvent → Type 0
+abbrev pub AreAllowed : List CoreEndEvent → Type 0
 AreAllowed [] = Unit {0}
 AreAllowed (e ∷ es) = CoreIsAllowed e × AreAllowed es
 
@@ -84,9 +84,9 @@ take_allowed e c ts = go c (is_open e.role) refl
     go Clt false q = rw q (tt, tt)
 
 -- what is allowed at an end, and in a tick where no frame is taken
-record Both (es : List CoreEndEvent) : Type 0 where
-  allowed : AreAllowed es
-  turns : CoreAreTurns es
+pub record Both (es : List CoreEndEvent) : Type 0 where
+  pub allowed : AreAllowed es
+  pub turns : CoreAreTurns es
 
 ending_both : (ending : Ending) → Both (core_ending ending)
 ending_both GoesOut = record { allowed = tt; turns = tt }
@@ -101,7 +101,7 @@ reset_both None e w ts GoesOut a = record { allowed = (a, tt); turns = (a, tt) }
 reset_both None e w ts CutOff a = record { allowed = (tt, tt); turns = (tt, tt) }
 reset_both (Some why) e w ts ending a = let b = ending_both ending in record { allowed = (tt, b.allowed); turns = (tt, b.turns) }
 
-step_allowed : (l : Link) (comes : Comes) (ts : List Turn) (ending : Ending) → Rests l.controller.side.shdlc → CanCome l comes
+pub step_allowed : (l : Link) (comes : Comes) (ts : List Turn) (ending : Ending) → Rests l.controller.side.shdlc → CanCome l comes
     → AreAllowed (core_step l comes ts ending)
 step_allowed l NextFrame ts ending r a = go l.to_controller refl
   where
@@ -117,7 +117,7 @@ step_allowed l (Starts value) ts ending r a = (tt, (tt, (ending_both ending).all
 step_allowed l Stops ts ending r a = (tt, (tt, (ending_both ending).allowed))
 step_allowed l NoInput ts ending r a = (tt, (ending_both ending).allowed)
 
-own_turns : (l : Link) (e : EndEvent) → Rests l.controller.side.shdlc → IsOwn e → IsAllowed l e → CoreAreTurns (core_here l e)
+pub own_turns : (l : Link) (e : EndEvent) → Rests l.controller.side.shdlc → IsOwn e → IsAllowed l e → CoreAreTurns (core_here l e)
 own_turns l (EndStep NextFrame ts ending) r o a = absurd o
 own_turns l (EndStep (AsksReset window) ts ending) r o a =
     (reset_both (reset_refusal l.controller.side) l.controller.side (window_of l.controller.side window) ts ending
@@ -125,13 +125,13 @@ own_turns l (EndStep (AsksReset window) ts ending) r o a =
 own_turns l (EndStep (Starts value) ts ending) r o a = (tt, (tt, (ending_both ending).turns))
 own_turns l (EndStep Stops ts ending) r o a = (tt, (tt, (ending_both ending).turns))
 own_turns l (EndStep NoInput ts ending) r o a = (tt, (ending_both ending).turns)
-own_turns l Lose r o a = absurd o
+own_turns l (Lose why) r o a = absurd o
 
-here_allowed : (l : Link) (e : EndEvent) → Rests l.controller.side.shdlc → IsAllowed l e → AreAllowed (core_here l e)
+pub here_allowed : (l : Link) (e : EndEvent) → Rests l.controller.side.shdlc → IsAllowed l e → AreAllowed (core_here l e)
 here_allowed l (EndStep comes ts ending) r a = step_allowed l comes ts ending r a.0
-here_allowed l Lose r a = (tt, tt)
+here_allowed l (Lose why) r a = (tt, tt)
 
-rest_both : (e : LinkEnd) (ts : List Turn) (ending : Ending) → Both (core_tick_rest e ts ending)
+pub rest_both : (e : LinkEnd) (ts : List Turn) (ending : Ending) → Both (core_tick_rest e ts ending)
 rest_both e ts ending = go (is_lost_tick e ending) (is_open e.role) refl refl (ending_both ending)
   where
     go : (a b : Bool) → is_lost_tick e ending ≡ a → is_open e.role ≡ b → Both (core_ending ending) → Both (core_tick_rest e ts ending)
@@ -177,7 +177,7 @@ pub safe_reached : (c : CoreLink) → Reached c → SafeLink 0 0 c
 safe_reached c r = let P : CoreLink → Type 0 = λ d. SafeLink 0 0 d in subst P r.is (safe r.start r.starts r.events r.allowed)
 
 -- an end between events
-rests_of : (kn kf : ℕ) (c : CoreLink) → SafeLink kn kf c → Rests c.controller.side
+pub rests_of : (kn kf : ℕ) (c : CoreLink) → SafeLink kn kf c → Rests c.controller.side
 rests_of kn kf c s = record { due = s.n_due; none = s.n_none; own = s.n_windows.own }
 
 pub reached_more : (c : CoreLink) (es : List CoreLinkEvent) → CoreAllAllowed es → Reached c → Reached (core_after c es)
@@ -204,7 +204,7 @@ from_controller c r =
 -- ## Steps
 
 -- a step that takes no frame
-step_own : (l : Link) (comes : Comes) (ts : List Turn) (ending : Ending) → IsOwn (EndStep comes ts ending) → CanCome l comes → IsNode l ts ending
+pub step_own : (l : Link) (comes : Comes) (ts : List Turn) (ending : Ending) → IsOwn (EndStep comes ts ending) → CanCome l comes → IsNode l ts ending
     → Tells l.controller → Rests l.controller.side.shdlc
     → Step l (steps_here l comes ts ending) (core_all_here (core_of l) (core_step l comes ts ending))
 step_own l NextFrame ts ending o a n h r = absurd o
@@ -217,16 +217,16 @@ step_own l Stops ts ending o a n h r =
     (λ z. calm_stop l.controller.side.role l.host.side.role l.to_controller l.to_host a z)
 step_own l NoInput ts ending o a n h r = step_idle l ts ending n.0 n.1 h r
 
-step_lost : (l : Link) → Tells l.controller → Step l (happens_here l Lose) (core_all_here (core_of l) (core_here l Lose))
-step_lost l h = record { core = refl; tells = h; host = refl; calm = lost l.to_controller }
+pub step_lost : (l : Link) (why : Loss) → Tells l.controller → Step l (happens_here l (Lose why)) (core_all_here (core_of l) (core_here l (Lose why)))
+step_lost l why h = record { core = refl; tells = h; host = refl; calm = lost l.to_controller }
   where
     lost : (w : List OnWire) → Calm l.controller.side.role l.host.side.role w l.to_host → Calm l.controller.side.role l.host.side.role (drop 1 w) l.to_host
     lost [] g = g
     lost (x ∷ xs) g = calm_drop l.controller.side.role l.host.side.role x xs l.to_host g
 
-step_here : (l : Link) (e : EndEvent) → IsAllowed l e → Tells l.controller → Tells l.host → CalmLink l → Rests l.controller.side.shdlc
+pub step_here : (l : Link) (e : EndEvent) → IsAllowed l e → Tells l.controller → Tells l.host → CalmLink l → Rests l.controller.side.shdlc
     → FromHost (core_happens_here (core_of l) (CoreDeliver [])) → Step l (happens_here l e) (core_all_here (core_of l) (core_here l e))
-step_here l Lose a h t z r from = step_lost l h
+step_here l (Lose why) a h t z r from = step_lost l why h
 step_here l (EndStep NextFrame ts ending) a h t z r from =
     step_frame l ts ending a.1.0 a.1.1 (polite_of l.controller.side l.host.side.role l.to_controller l.to_host z h.now.closed) h t r from
 step_here l (EndStep (AsksReset window) ts ending) a h t z r from = step_own l (AsksReset window) ts ending tt a.0 a.1 h r
@@ -234,17 +234,17 @@ step_here l (EndStep (Starts value) ts ending) a h t z r from = step_own l (Star
 step_here l (EndStep Stops ts ending) a h t z r from = step_own l Stops ts ending tt a.0 a.1 h r
 step_here l (EndStep NoInput ts ending) a h t z r from = step_own l NoInput ts ending tt a.0 a.1 h r
 
-own_here : (l : Link) (e : EndEvent) → IsOwn e → IsAllowed l e → Tells l.controller → Rests l.controller.side.shdlc
+pub own_here : (l : Link) (e : EndEvent) → IsOwn e → IsAllowed l e → Tells l.controller → Rests l.controller.side.shdlc
     → Step l (happens_here l e) (core_all_here (core_of l) (core_here l e))
-own_here l Lose o a h r = absurd o
+own_here l (Lose why) o a h r = absurd o
 own_here l (EndStep comes ts ending) o a h r = step_own l comes ts ending o a.0 a.1 h r
 
 -- what happens at the controller's end in a tick
-record All (l : Link) (es : List EndEvent) : Type 0 where
-  step : Step l (all_here l es) (core_all_here (core_of l) (core_all l es))
-  turns : CoreAreTurns (core_all l es)
+pub record All (l : Link) (es : List EndEvent) : Type 0 where
+  pub step : Step l (all_here l es) (core_all_here (core_of l) (core_all l es))
+  pub turns : CoreAreTurns (core_all l es)
 
-all_step : (kf : ℕ) (l : Link) (es : List EndEvent) → AreOwn l es → Tells l.controller → SafeLink 0 kf (core_of l) → All l es
+pub all_step : (kf : ℕ) (l : Link) (es : List EndEvent) → AreOwn l es → Tells l.controller → SafeLink 0 kf (core_of l) → All l es
 all_step kf l [] a h s = record { step = record { core = refl; tells = h; host = refl; calm = λ z. z }; turns = tt }
 all_step kf l (e ∷ es) a h s =
     let r = rests_of 0 kf (core_of l) s in
@@ -263,11 +263,11 @@ all_step kf l (e ∷ es) a h s =
       turns = turns-append (core_here l e) (core_all m es) turns more.turns;
     }
 
-tells_same : (h k : Half) → h ≡ k → Tells k → Tells h
+pub tells_same : (h k : Half) → h ≡ k → Tells k → Tells h
 tells_same h k q t = subst Tells (sym q) t
 
 -- the link seen from the other end
-seen : (n : Link) → CalmLink n → CalmLink (exchanged n)
+pub seen : (n : Link) → CalmLink n → CalmLink (exchanged n)
 seen n z = calm_swap n.controller.side.role n.host.side.role n.to_controller n.to_host z
 
 -- ## Events
@@ -300,12 +300,12 @@ there_event l e a g r =
     }
 
 -- a CLF that was started isn't active, whatever came after in the step
-record IsIdleClf (r : Role) : Type 0 where
-  clf : ClfAct
-  is : r ≡ Clf clf
-  idle : is_active clf.phase ≡ false
+pub record IsIdleClf (r : Role) : Type 0 where
+  pub clf : ClfAct
+  pub is : r ≡ Clf clf
+  pub idle : is_active clf.phase ≡ false
 
-started_clf : (l : Link) (power : ℕ) (ts : List Turn) (ending : Ending) → IsClf l.controller.side.role
+pub started_clf : (l : Link) (power : ℕ) (ts : List Turn) (ending : Ending) → IsClf l.controller.side.role
     → IsIdleClf (steps_here l (Starts power) ts ending).controller.side.role
 started_clf l power ts ending i = by ending (clf l.controller.side.role i refl)
   where
@@ -324,12 +324,12 @@ started_clf l power ts ending i = by ending (clf l.controller.side.role i refl)
     by GoesOut k = k
     by CutOff k = record { clf = _; is = ap renewed k.is; idle = refl }
 
-can_start : (r f : Role) → IsUicc r → IsIdleClf f → CanStart r f
+pub can_start : (r f : Role) → IsUicc r → IsIdleClf f → CanStart r f
 can_start Bare f u k = absurd u
 can_start (Clf s) f u k = absurd u
 can_start (Uicc s) f u k = let P : Role → Type 0 = λ z. CanStart (Uicc s) z in subst P (sym k.is) k.idle
 
-event_step : (l : Link) (e : LinkEvent) → IsEvent l e → Good l → Reached (core_of l)
+pub event_step : (l : Link) (e : LinkEvent) → IsEvent l e → Good l → Reached (core_of l)
     → Event l (happens l e) (core_after (core_of l) (core_event l e)) (core_event l e)
 event_step l (AtController e) a g r = step_event l e a g r
 event_step l (AtHost e) a g r = there_event l e a g r

@@ -34,7 +34,7 @@ use Rattle.message_link.specs.Projection.{core_of, core_half, core_events}
 use Rattle.message_link.proofs.Project.{Says, Tells}
 use Rattle.message_link.proofs.Steps.{FromHost, says_of, session-core, core_first, no_fault_first}
 use Rattle.message_link.proofs.Calm.{Line}
-use Rattle.message_link.proofs.Runs.{Reached, Run, run, ordered, from_host, from_controller}
+use Rattle.message_link.proofs.Runs.{Good, Reached, Run, run, ordered, from_host, from_controller}
 
 bare_tells : Tells (new_half (new_link_end Bare))
 bare_tells =
@@ -52,14 +52,17 @@ uicc_tells = record { now = record { acts = refl; idle = λ _. (refl, refl); clo
 new_calm : Line new_clf new_uicc [] []
 new_calm = record { clf = λ a. absurd (true≢false (sym a)); ready = inl tt; tail = tt; plain = tt; last = λ a. absurd (true≢false (sym a)) }
 
+pub start_good : (l : Link) → IsStart l → Good l
+start_good l IsBare = record { controller = bare_tells; host = bare_tells; calm = tt }
+start_good l IsLine = record { controller = clf_tells; host = uicc_tells; calm = new_calm }
+
+pub start_reached : (l : Link) → IsStart l → Reached (core_of l)
+start_reached l IsBare = record { start = core_of l; starts = BothUp; events = []; allowed = tt; is = refl }
+start_reached l IsLine = record { start = core_of l; starts = BothDown; events = []; allowed = tt; is = refl }
+
 pub from_start : (l : Link) → IsStart l → (events : List LinkEvent) → AllAllowed l events
     → Run l (after l events) (core_after (core_of l) (core_events l events)) (core_events l events)
-from_start l IsBare events a =
-    run events l a (record { controller = bare_tells; host = bare_tells; calm = tt })
-    (record { start = core_of l; starts = BothUp; events = []; allowed = tt; is = refl })
-from_start l IsLine events a =
-    run events l a (record { controller = clf_tells; host = uicc_tells; calm = new_calm })
-    (record { start = core_of l; starts = BothDown; events = []; allowed = tt; is = refl })
+from_start l s events a = run events l a (start_good l s) (start_reached l s)
 
 pub core_starts : (l : Link) → IsStart l → CoreIsStart (core_of l)
 core_starts l IsBare = BothUp
@@ -72,7 +75,7 @@ pub projected : (l : Link) → IsStart l → (events : List LinkEvent) → AllAl
     → core_of (after l events) ≡ core_after (core_of l) (core_events l events)
 projected l s events a = (from_start l s events a).core
 
-reached : (l : Link) → IsStart l → (events : List LinkEvent) (a : AllAllowed l events) → Reached (core_of (after l events))
+pub reached : (l : Link) → IsStart l → (events : List LinkEvent) (a : AllAllowed l events) → Reached (core_of (after l events))
 reached l s events a = let r = from_start l s events a in subst Reached (sym r.core) r.reached
 
 -- ## In order
@@ -257,7 +260,7 @@ fresh_past : (past : List (ℕ × Talk)) (n : ℕ) → Below n (core_past past) 
 fresh_past [] n b = refl
 fresh_past (x ∷ xs) n b = let d : (n == x.0) ≡ false = ne_eqb n x.0 (λ z. omega (arith, z, b.0)) in rw d (fresh_past xs n b.1)
 
-new_number : (h : Half) → h.side.shdlc.phase ≡ Up → Below (bound (core_half h)) (core_past h.past) → ended_talk h.past (number_of h) ≡ no_talk
+pub new_number : (h : Half) → h.side.shdlc.phase ≡ Up → Below (bound (core_half h)) (core_past h.past) → ended_talk h.past (number_of h) ≡ no_talk
 new_number h up b = fresh_past h.past (number_of h) (rw up at b)
 
 pub new_number_here : (l : Link) → IsStart l → (events : List LinkEvent) → AllAllowed l events → (after l events).controller.side.shdlc.phase ≡ Up

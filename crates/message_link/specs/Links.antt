@@ -167,12 +167,24 @@ pub data Comes : Type 0 where
   -- nothing comes, but its node has turns
   NoInput : Comes
 
+-- why a frame is lost on its way
+pub data Loss : Type 0 where
+  -- it was to be
+  OnDemand : Loss
+  -- damage broke it, and it was refused for this, or nothing was read
+  Broken : FrameFault → Loss
+  Unread : Loss
+  -- it was four ticks old at a tick
+  TooOld : Loss
+  -- it was the first of 65 frames on its wire
+  TooMany : Loss
+
 -- what may happen at one end
 pub data EndEvent : Type 0 where
   -- something comes, then its node has turns, and the step ends
   Step : Comes → List Turn → Ending → EndEvent
-  -- the first frame on its way to it is lost
-  Lose : EndEvent
+  -- the first frame on its way to it is lost for this; where there is none, nothing happens
+  Lose : Loss → EndEvent
 
 -- a step of the controller's end
 abbrev pub steps_here : Link → Comes → List Turn → Ending → Link
@@ -188,7 +200,7 @@ steps_here l NoInput turns ending = finished l (turned l.controller.side turns) 
 -- it happens at the controller's end
 abbrev pub happens_here : Link → EndEvent → Link
 happens_here l (Step comes turns ending) = steps_here l comes turns ending
-happens_here l Lose = record l { to_controller = drop 1 l.to_controller }
+happens_here l (Lose why) = record l { to_controller = drop 1 l.to_controller }
 
 -- these things happen there, one after another
 abbrev pub all_here : Link → List EndEvent → Link
@@ -291,13 +303,13 @@ IsNode l turns ending = AreSendableTurns turns × CanEnd l.controller.side.role 
 -- this may happen at the controller's end
 abbrev pub IsAllowed : Link → EndEvent → Type 0
 IsAllowed l (Step comes turns ending) = CanCome l comes × IsNode l turns ending
-IsAllowed l Lose = Unit {0}
+IsAllowed l (Lose why) = Unit {0}
 
 -- it is of a node's own: no frame is taken or lost
 abbrev pub IsOwn : EndEvent → Type 0
 IsOwn (Step NextFrame turns ending) = ⊥
 IsOwn (Step _ turns ending) = Unit {0}
-IsOwn Lose = ⊥
+IsOwn (Lose why) = ⊥
 
 -- in a tick these may happen at the controller's end
 abbrev pub AreOwn : Link → List EndEvent → Type 0

@@ -100,7 +100,7 @@ core_step l NoInput ts ending = CoreTurns (core_turns l.controller.side ts) ∷ 
 -- what happens there where this happens at the controller's end
 abbrev pub core_here : Link → EndEvent → List CoreEndEvent
 core_here l (Step comes ts ending) = core_step l comes ts ending
-core_here l Lose = CoreLose ∷ []
+core_here l (Lose why) = CoreLose ∷ []
 
 -- what happens there where these things happen, one after another
 abbrev pub core_all : Link → List EndEvent → List CoreEndEvent

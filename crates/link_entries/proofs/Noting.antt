@@ -1,0 +1,411 @@
+-- What is noted of a run says what is kept of the sessions of both ends.
+use Rattle.std.proofs.Common.{◌≡◌, ℕ, zero, suc, ◌≤◌, ◌<◌, Bool, true, false, cond, List, [], ◌∷◌, ◌++◌, map, Option, Some, None, ◌⊎◌, inl, inr, refl, ap, sym, subst, ◌∙◌, arith, append_assoc}
+use Rattle.std.specs.Prelude.{is_some, ◌==◌, ◌&&◌, max, not}
+use Rattle.std.proofs.lemmas.Bool.{true≢false, ne_eqb}
+use Rattle.swp_base.specs.declared.control_frames.Control.{Control}
+use Rattle.swp_base.specs.declared.control_frames.Control.TheVariants.{I, S, Rset, Ua, Act, Clt}
+use Rattle.swp_base.specs.declared.link_terms.Cause.TheVariants.{Asked, Act as ByAct}
+use Rattle.swp_act.specs.declared.ActEvent.{ActEvent}
+use Rattle.swp_act.specs.declared.ActEvent.TheVariants.{Start as ActStart, Stop as ActStop, Tick as ActTick}
+use Rattle.shdlc_core.specs.declared.answers.LinkState.{LinkState}
+use Rattle.shdlc_core.specs.declared.answers.LinkState.TheVariants.{Down as IsDown, Waiting as IsWaitingNow, Up as IsUpNow}
+use Rattle.shdlc_core.specs.Machine.{EndState, Session, most_frames, taken, take_answer, ticked, tick_answer, is_waiting, reset_with, stopped}
+use Rattle.session_laws.specs.Sessions.{OnWire, Link as CoreLink, Turn as CoreTurn, LinkEvent as CoreLinkEvent, is_rset, is_up, took_with, exchanged as core_exchanged, aged as core_aged, happens_here as core_happens_here, all_here as core_all_here, ticks_or_cut as core_ticks_or_cut, after as core_after}
+use Rattle.session_laws.specs.Sessions.EndEvent.{Deliver as CoreDeliver}
+use Rattle.session_laws.specs.Sessions.LinkEvent.{AtController as CoreAtController}
+use Rattle.session_laws.specs.Losses.{is_act, sans}
+use Rattle.session_laws.proofs.Hand.{peer_of, rset_tells}
+use Rattle.session_laws.proofs.Sending.{SafeLink}
+use Rattle.session_laws.proofs.Data.{Below, bound}
+use Rattle.session_laws.proofs.Steps.{took_other, safe_aged, safe_turns, safe_exchanged, tick_or_cut, took as core_took}
+use Rattle.link_machine.specs.Machine.{LinkEnd, Role, Refused, LinkInput, Turn, Report, report, turn, turned, is_open, is_faulty, role_after, act_answer, moved, put_down, activated, started, deactivated, new_link_end, renewed, if_up, reset_refusal, give_refusal, aside_refusal, reset_by, window_of, took, after_input, ended_by, began_by, frames_out, sent_all}
+use Rattle.link_machine.specs.Machine.Role.{Bare, Clf, Uicc}
+use Rattle.link_machine.specs.Machine.LinkInput.{Take, Tick as HasTick, Reset, Start, Stop}
+use Rattle.link_machine.specs.Machine.Turn.{Give, Hold, FetchMessage, SetAside, Release}
+use Rattle.link_machine.proofs.Shifts.{Shift, IsNotUp, IsNew}
+use Rattle.link_machine.proofs.Shifts.Shift.{Stays, Ends, Renews, Begins, Rests as ShiftRests}
+use Rattle.link_machine.proofs.Runs.{Sound, sound_input}
+use Rattle.link_machine.proofs.Reports.{Becomes, Reports, take_so, tick_so, reset_so, start_so, stop_so}
+use Rattle.message_link.specs.Links.{Talk, Half, Link, IsStart, Ending, Comes, Loss, EndEvent, Node, LinkEvent, exchanged, number_of, no_talk, ended_talk, talk_now, talk_of, becomes, put_all, with_controller, with_ended, silent, cut, finished, has_taken, steps_here, happens_here, happens, all_here, ticks_here, aged, after, AreSendableTurns, CanEnd, CanCome, IsNode, IsAllowed, IsOwn, AreOwn, IsEvent, AllAllowed}
+use Rattle.message_link.specs.Links.IsStart.{IsBare, IsLine}
+use Rattle.message_link.specs.Links.Ending.{GoesOut, CutOff}
+use Rattle.message_link.specs.Links.Comes.{NextFrame, AsksReset, Starts, Stops, NoInput}
+use Rattle.message_link.specs.Links.EndEvent.{Step as EndStep, Lose}
+use Rattle.message_link.specs.Links.LinkEvent.{AtController, AtHost, Ticks, Activate}
+use Rattle.message_link.specs.Projection.{core_of, core_past, core_half, core_here, core_all, core_tick, core_tick_rest, core_event, core_events}
+use Rattle.message_link.proofs.Asks.{NoAsk, NoRset, none_due, puts_none, ticked_asks}
+use Rattle.message_link.proofs.Calm.{CalmLink, polite_of}
+use Rattle.message_link.proofs.Ends.{frames_alike, ready_phase, ticked_keeps}
+use Rattle.message_link.proofs.Project.{Tells, Step, Now, mid_moved, opened, shdlc_moved, moved_role, beside-put_all}
+use Rattle.message_link.proofs.Steps.{Rests, FromHost, activated_role, act_mid, tick_closes, core_first}
+use Rattle.message_link.proofs.Finishing.{can_end, can_after, took_can, none_out, first_none, turns_phase, reset_tells, reset_waits, tick_open, tick_closed, tick_role, waiting_phase, restart_mid, step_tick}
+use Rattle.message_link.proofs.Runs.{Good, Event, Reached, Run, run, safe_reached, rests_of, reached_more, from_host, from_controller, own_here, own_turns, step_here, event_step, rest_both, tells_same, seen}
+use Rattle.message_link.proofs.Whole.{from_start, new_number}
+use Rattle.link_entries.specs.Entries.{End, Entry, far, told, told_of, turn_entries, first_lost, rest_entries, input_entries, left_after, taken_entries, restart_entries, step_entries, here_entries, all_entries, aged_entries, tick_entries, event_entries, entries, first_entries, trace}
+use Rattle.link_entries.specs.Entries.End.{Controller, Host}
+use Rattle.link_entries.specs.Entries.Entry.{Took, Lost, Restarted, Tick}
+use Rattle.link_entries.proofs.Books.{Book, book_of, Silent, silent-append, silent_cons, Told, up_talk, down_talk, told_silent, Input, past_after, with_side}
+use Rattle.link_entries.proofs.Stepping.{Tolds, input_told, rest_told, host_finished, silent_first, sound_turns, sound_sent}
+
+-- ## Where an end is Up before its frames go out, no RSET is due
+
+-- turns leave the phase of an end
+turned_same : (ts : List Turn) (e : LinkEnd) → (turned e ts).shdlc.phase ≡ e.shdlc.phase
+turned_same [] e = refl
+turned_same (t ∷ ts) e = turned_same ts (turn e t) ∙ one t
+  where
+    one : (t : Turn) → (turn e t).shdlc.phase ≡ e.shdlc.phase
+    one (Hold held) = ready_phase e.shdlc (not held)
+    one FetchMessage = refl
+    one Release = refl
+    one SetAside = by (aside_refusal e) refl
+      where
+        by : (o : Option Refused) → aside_refusal e ≡ o → (turn e SetAside).shdlc.phase ≡ e.shdlc.phase
+        by None q = rw q refl
+        by (Some r) q = rw q refl
+    one (Give m) = by (give_refusal e m) refl
+      where
+        by : (o : Option Refused) → give_refusal e m ≡ o → (turn e (Give m)).shdlc.phase ≡ e.shdlc.phase
+        by None q = rw q refl
+        by (Some r) q = rw q refl
+
+-- no RSET goes out where the end is Up
+abbrev IsQuietEnd : LinkEnd → List Turn → Type 0
+IsQuietEnd f ts = (turned f ts).shdlc.phase ≡ IsUpNow → NoRset (frames_out (turned f ts))
+
+-- an end that isn't Up
+not_up_quiet : (f : LinkEnd) (ts : List Turn) → IsNotUp f.shdlc → IsQuietEnd f ts
+not_up_quiet f ts d up = absurd (d (sym (turned_same ts f) ∙ up))
+
+quiet_idle : (l : Link) (ts : List Turn) → AreSendableTurns ts → Tells l.controller → Rests l.controller.side.shdlc → IsQuietEnd l.controller.side ts
+quiet_idle l ts a h r = λ _. none_out None l.controller.side ts a h.now (none_due l.controller.side.shdlc r.due)
+
+quiet_reset : (l : Link) (window : Option ℕ) (ts : List Turn) → AreSendableTurns ts → Tells l.controller → Rests l.controller.side.shdlc
+    → IsQuietEnd (after_input l.controller.side (Reset window)) ts
+quiet_reset l window ts a h r = go (reset_refusal e) refl
+  where
+    e : LinkEnd
+    e = l.controller.side
+
+    P : LinkEnd → Type 0
+    P f = IsQuietEnd f ts
+
+    waits : reset_refusal e ≡ None → IsNotUp (reset_by e (window_of e window)).shdlc
+    waits q u =
+        let t = reset_tells e q in
+        let p : (reset_by e (window_of e window)).shdlc.phase ≡ IsWaitingNow =
+        ap (λ (z : EndState). z.phase) (shdlc_moved e (is_some (if_up e.shdlc Asked)) (reset_with e.shdlc (window_of e window)))
+        ∙ reset_waits e.shdlc (window_of e window) t.1 in
+        let z = sym p ∙ u in cc
+
+    go : (o : Option Refused) → reset_refusal e ≡ o → IsQuietEnd (after_input e (Reset window)) ts
+    go None q =
+        let is : after_input e (Reset window) ≡ reset_by e (window_of e window) = rw q refl in
+        subst P (sym is) (not_up_quiet (reset_by e (window_of e window)) ts (waits q))
+    go (Some why) q = let is : after_input e (Reset window) ≡ e = rw q refl in subst P (sym is) (quiet_idle l ts a h r)
+
+restarted_down : (e : LinkEnd) (event : ActEvent) → Now e → IsNotUp (activated (moved e true (stopped e.shdlc)) event).shdlc
+restarted_down e event h u = let m = restart_mid e event h in let z = sym (ap (λ (s : EndState). s.phase) m.same) ∙ u in cc
+
+quiet_tick : (l : Link) (ts : List Turn) → AreSendableTurns ts → Tells l.controller → Rests l.controller.side.shdlc
+    → IsQuietEnd (after_input l.controller.side HasTick) ts
+quiet_tick l ts a h r = go (is_open e.role) refl
+  where
+    e : LinkEnd
+    e = l.controller.side
+
+    s : EndState
+    s = ticked e.shdlc
+
+    b : Bool
+    b = is_some (tick_answer e.shdlc).ended
+
+    P : LinkEnd → Type 0
+    P f = IsQuietEnd f ts
+
+    still : is_waiting s ≡ true → IsNotUp (moved e b s).shdlc
+    still w u = let z = sym (ap (λ (x : EndState). x.phase) (shdlc_moved e b s) ∙ waiting_phase s w) ∙ u in cc
+
+    open_one : is_open e.role ≡ true → (c : Bool) → is_waiting s ≡ c → IsQuietEnd (moved e b s) ts
+    open_one o true w = not_up_quiet (moved e b s) ts (still w)
+    open_one o false w =
+        let k : Now (moved e b s) = mid_moved e b s h.now (ticked_keeps e.shdlc h.now.idle) (opened e.role (s.phase ≡ IsDown) o) in
+        let Q : EndState → Type 0 = λ z. NoAsk z.due in
+        λ _. none_out None (moved e b s) ts a k (subst Q (sym (shdlc_moved e b s)) (ticked_asks e.shdlc w (none_due e.shdlc r.due)))
+
+    go : (o : Bool) → is_open e.role ≡ o → IsQuietEnd (after_input e HasTick) ts
+    go true o = let t = tick_open e o in subst P (sym t.0) (open_one o (is_waiting s) refl)
+    go false o =
+        let t = tick_closed e o in
+        let down : (act_answer e.role ActTick).ended_link ≡ true → e.shdlc.phase ≡ IsDown = λ z. absurd (true≢false (sym z ∙ tick_closes e.role o)) in
+        let m = act_mid e ActTick h.now r.due down (λ z. h.now.closed (tick_role e.role z)) in
+        let still : IsNotUp (activated e ActTick).shdlc = λ u. let z = sym (ap (λ (x : EndState). x.phase) m.same ∙ h.now.closed o) ∙ u in cc in
+        subst P (sym t.0) (not_up_quiet (activated e ActTick) ts still)
+
+-- ## Frames
+
+-- what is known of the first frame on the wire to an end
+pub record Frame (l : Link) (x : OnWire) (ts : List Turn) : Type 0 where
+  pub quiet : NoRset (frames_out (turned (took l.controller.side x.frame) ts))
+  pub same : l.controller.side.shdlc.phase ≡ IsUpNow → is_some (ended_by l.controller.side (Take x.frame)) ≡ false
+      → took_with l.controller.took x ≡ l.controller.took
+  pub fresh : began_by l.controller.side (Take x.frame) ≡ true → talk_of l.controller (max l.controller.emitted (took_with l.controller.took x)) ≡ no_talk
+
+abbrev pub Frames : Link → List Turn → Type 0
+Frames l ts = (x : OnWire) (xs : List OnWire) → l.to_controller ≡ x ∷ xs → Frame l x ts
+
+-- ## A step
+
+-- what is known of an end before a step
+pub record Near (l : Link) : Type 0 where
+  pub tells : Tells l.controller
+  pub rests : Rests l.controller.side.shdlc
+  pub sound : Sound l.controller.side
+
+ended_number : (l : Link) (b : Bool) → number_of (with_ended l b).controller ≡ number_of l.controller
+ended_number l false = refl
+ended_number l true = refl
+
+ended_past : (l : Link) (b : Bool) → (with_ended l b).controller.past ≡ past_after b l.controller
+ended_past l false = refl
+ended_past l true = refl
+
+ended_host : (l : Link) (b : Bool) → (with_ended l b).host ≡ l.host
+ended_host l false = refl
+ended_host l true = refl
+
+-- an input by which no session begins
+plain_input : (l k : Link) (i : LinkInput) → Reports l.controller.side i → began_by l.controller.side i ≡ false
+    → k.controller.past ≡ past_after (is_some (ended_by l.controller.side i)) l.controller → number_of k.controller ≡ number_of l.controller
+    → Input l.controller (with_side k.controller (after_input l.controller.side i)) (is_some (ended_by l.controller.side i)) (began_by l.controller.side i)
+    (report l.controller.side i)
+plain_input l k i so none past number =
+    record { becomes = so; acked = refl; past = past; same = λ up q. number; fresh = λ q. absurd (true≢false (sym q ∙ none)) }
+
+moved_can : (e : LinkEnd) (i : LinkInput) (ts : List Turn) (ending : Ending) (r : Role) → (after_input e i).role ≡ r → CanEnd r ending
+    → CanEnd (turned (after_input e i) ts).role ending
+moved_can e i ts ending r q can = can_end (after_input e i) ts r ending q can
+
+reset_role : (e : LinkEnd) (window : Option ℕ) → (after_input e (Reset window)).role ≡ e.role
+reset_role e window = go (reset_refusal e) refl
+  where
+    go : (o : Option Refused) → reset_refusal e ≡ o → (after_input e (Reset window)).role ≡ e.role
+    go None q =
+        let is : after_input e (Reset window) ≡ reset_by e (window_of e window) = rw q refl in
+        ap (λ (f : LinkEnd). f.role) is ∙ moved_role e (is_some (if_up e.shdlc Asked)) (reset_with e.shdlc (window_of e window))
+    go (Some why) q = let is : after_input e (Reset window) ≡ e = rw q refl in ap (λ (f : LinkEnd). f.role) is
+
+tick_can : (e : LinkEnd) (ts : List Turn) (ending : Ending) → CanEnd e.role ending → CanEnd (turned (after_input e HasTick) ts).role ending
+tick_can e ts ending can = go (is_open e.role) refl
+  where
+    P : LinkEnd → Type 0
+    P f = CanEnd (turned f ts).role ending
+
+    go : (o : Bool) → is_open e.role ≡ o → CanEnd (turned (after_input e HasTick) ts).role ending
+    go true o =
+        let t = tick_open e o in
+        let b : Bool = is_some (tick_answer e.shdlc).ended in
+        subst P (sym t.0) (can_end (moved e b (ticked e.shdlc)) ts e.role ending (moved_role e b (ticked e.shdlc)) can)
+    go false o =
+        let t = tick_closed e o in
+        subst P (sym t.0) (can_end (activated e ActTick) ts (role_after e.role ActTick) ending (activated_role e ActTick) (can_after e.role ActTick ending can))
+
+pub tick_told : (t : List Entry) (who : End) (l : Link) (node : Node) → IsNode l node.turns node.ending → Near l → Tolds t who l
+    → Tolds (t ++ tick_entries who l node) who (ticks_here l node.turns node.ending)
+tick_told t who l node a n b =
+    let e : LinkEnd = l.controller.side in
+    let i : LinkInput = HasTick in
+    let c : Bool = is_some (ended_by e i) in
+    input_told t who l (with_ended l c) i l.controller node.turns node.ending
+    (plain_input l (with_ended l c) i (tick_so e n.sound) refl (ended_past l c) (ended_number l c)) refl (sym (ended_number l c)) (ended_host l c) a.0
+    (tick_can e node.turns node.ending a.1) (quiet_tick l node.turns a.0 n.tells n.rests) n.sound (sound_input e i tt n.sound) b
+
+if_up_is : (s : EndState) → is_up s.phase ≡ is_some (if_up s ByAct)
+if_up_is s = go s.phase refl
+  where
+    go : (p : LinkState) → s.phase ≡ p → is_up s.phase ≡ is_some (if_up s ByAct)
+    go IsUpNow p = rw p refl
+    go IsWaitingNow p = rw p refl
+    go IsDown p = rw p refl
+
+restart_told : (t : List Entry) (who : End) (l : Link) (i : LinkInput) (event : ActEvent) (ts : List Turn) (ending : Ending) → IsNode l ts ending → Near l
+    → after_input l.controller.side i ≡ activated (moved l.controller.side true (stopped l.controller.side.shdlc)) event
+    → ended_by l.controller.side i ≡ if_up l.controller.side.shdlc ByAct → began_by l.controller.side i ≡ false → Reports l.controller.side i
+    → Sound (after_input l.controller.side i) → Tolds t who l
+    → Tolds (t ++ restart_entries who l i ts ending) who
+    (finished (silent l (after_input l.controller.side i)) (turned (after_input l.controller.side i) ts) ending)
+restart_told t who l i event ts ending a n is ended none so sf b =
+    let e : LinkEnd = l.controller.side in
+    let f : LinkEnd = after_input e i in
+    let c : Bool = is_up e.shdlc.phase in
+    let k : Link = silent l f in
+    let past : k.controller.past ≡ past_after (is_some (ended_by e i)) l.controller =
+    ended_past l c ∙ ap (λ x. past_after x l.controller) (if_up_is e.shdlc ∙ ap (λ o. is_some o) (sym ended)) in
+    let first : Tolds (t ++ Restarted who ∷ []) who l =
+    record {
+      here = told_silent t (Restarted who ∷ []) who l.controller (λ x m. refl) b.here;
+      there = told_silent t (Restarted who ∷ []) (far who) l.host (λ x m. refl) b.there;
+    } in
+    let g : LinkEnd = activated (moved e true (stopped e.shdlc)) event in
+    let role : f.role ≡ role_after e.role event = ap (λ (z : LinkEnd). z.role) is ∙ activated_role (moved e true (stopped e.shdlc)) event in
+    let P : LinkEnd → Type 0 = λ z. IsQuietEnd z ts in
+    let quiet : IsQuietEnd f ts = subst P (sym is) (not_up_quiet g ts (restarted_down e event n.tells.now)) in
+    let out = input_told (t ++ Restarted who ∷ []) who l k i l.controller ts ending
+    (plain_input l k i so none past (ended_number l c)) refl (sym (ended_number l c)) (ended_host l c) a.0
+    (moved_can e i ts ending (role_after e.role event) role (can_after e.role event ending a.1)) quiet n.sound sf first in
+    let Q : List Entry → Type 0 = λ z. Tolds z who (finished k (turned f ts) ending) in
+    subst Q (append_assoc t (Restarted who ∷ []) (told_of who l.controller i ++ rest_entries who k f ts ending)) out
+
+taken_told : (t : List Entry) (who : End) (l : Link) (x : OnWire) (xs : List OnWire) (ts : List Turn) (ending : Ending) → IsNode l ts ending → Near l
+    → Frame l x ts → Tolds t who l → Tolds (t ++ taken_entries who l x xs ts ending) who (has_taken l x xs ts ending)
+taken_told t who l x xs ts ending a n fr b =
+    let e : LinkEnd = l.controller.side in
+    let i : LinkInput = Take x.frame in
+    let f : LinkEnd = after_input e i in
+    let c : Bool = is_some (ended_by e i) in
+    let k : Link = left_after l x xs in
+    let h : Half = record l.controller { took = took_with l.controller.took x } in
+    let first : Tolds (t ++ Took who x.frame ∷ []) who l =
+    record {
+      here = told_silent t (Took who x.frame ∷ []) who l.controller (λ y m. refl) b.here;
+      there = told_silent t (Took who x.frame ∷ []) (far who) l.host (λ y m. refl) b.there;
+    } in
+    let input : Input l.controller (with_side k.controller f) c (began_by e i) (report e i) =
+    record {
+      becomes = take_so e x.frame n.sound;
+      acked = refl;
+      past = past c;
+      same = λ up q. number c ∙ ap (max l.controller.emitted) (fr.same up q);
+      fresh = λ q. ap (talk_of l.controller) (number c) ∙ fr.fresh q;
+    } in
+    let out = input_told (t ++ Took who x.frame ∷ []) who l k i h ts ending input refl (sym (number c)) (host c) a.0
+    (can_end f ts f.role ending refl (took_can e x.frame ending a.1)) (λ _. fr.quiet) n.sound (sound_input e i tt n.sound) first in
+    let Q : List Entry → Type 0 = λ z. Tolds z who (finished k (turned f ts) ending) in
+    subst Q (append_assoc t (Took who x.frame ∷ []) (told_of who h i ++ rest_entries who k f ts ending)) out
+  where
+    m : Bool → Link
+    m c = with_ended (record l { to_controller = xs }) c
+
+    number : (c : Bool) → number_of (record (m c).controller { took = took_with l.controller.took x })
+        ≡ max l.controller.emitted (took_with l.controller.took x)
+    number false = refl
+    number true = refl
+
+    past : (c : Bool) → (m c).controller.past ≡ past_after c l.controller
+    past false = refl
+    past true = refl
+
+    host : (c : Bool) → (m c).host ≡ l.host
+    host false = refl
+    host true = refl
+
+-- what is to be known of frames where one is taken
+abbrev pub FramesFor : Comes → Link → List Turn → Type 0
+FramesFor NextFrame l ts = Frames l ts
+FramesFor _ l ts = Unit {0}
+
+pub step_told : (t : List Entry) (who : End) (l : Link) (comes : Comes) (ts : List Turn) (ending : Ending) → IsNode l ts ending → Near l → FramesFor comes l ts
+    → Tolds t who l → Tolds (t ++ step_entries who l comes ts ending) who (steps_here l comes ts ending)
+step_told t who l (AsksReset window) ts ending a n fr b =
+    let e : LinkEnd = l.controller.side in
+    let i : LinkInput = Reset window in
+    let c : Bool = is_some (ended_by e i) in
+    input_told t who l (with_ended l c) i l.controller ts ending
+    (plain_input l (with_ended l c) i (reset_so e window n.sound) refl (ended_past l c) (ended_number l c)) refl (sym (ended_number l c)) (ended_host l c) a.0
+    (moved_can e i ts ending e.role (reset_role e window) a.1) (quiet_reset l window ts a.0 n.tells n.rests) n.sound (sound_input e i tt n.sound) b
+step_told t who l (Starts v) ts ending a n fr b =
+    restart_told t who l (Start v) (ActStart v) ts ending a n refl refl refl (start_so l.controller.side v n.sound)
+    (sound_input l.controller.side (Start v) tt n.sound) b
+step_told t who l Stops ts ending a n fr b =
+    restart_told t who l Stop ActStop ts ending a n refl refl refl (stop_so l.controller.side n.sound) (sound_input l.controller.side Stop tt n.sound) b
+step_told t who l NoInput ts ending a n fr b =
+    rest_told t who l l.controller.side ts ending a.0 (can_end l.controller.side ts l.controller.side.role ending refl a.1)
+    (quiet_idle l ts a.0 n.tells n.rests) n.sound b.here b.there
+step_told t who l NextFrame ts ending a n fr b = go l.to_controller refl
+  where
+    some : (x : OnWire) (xs : List OnWire) → l.to_controller ≡ x ∷ xs → step_entries who l NextFrame ts ending ≡ taken_entries who l x xs ts ending
+    some x xs q = rw q refl
+
+    here : (x : OnWire) (xs : List OnWire) → l.to_controller ≡ x ∷ xs → steps_here l NextFrame ts ending ≡ has_taken l x xs ts ending
+    here x xs q = rw q refl
+
+    none : l.to_controller ≡ [] → (step_entries who l NextFrame ts ending ≡ []) × (steps_here l NextFrame ts ending ≡ l)
+    none q = (rw q refl, rw q refl)
+
+    as_is : (u v : List Entry) (k m : Link) → u ≡ v → k ≡ m → Tolds (t ++ v) who m → Tolds (t ++ u) who k
+    as_is u v k m p q h =
+        let A : List Entry → Type 0 = λ z. Tolds (t ++ z) who k in let B : Link → Type 0 = λ z. Tolds (t ++ v) who z in subst A (sym p) (subst B (sym q) h)
+
+    go : (w : List OnWire) → l.to_controller ≡ w → Tolds (t ++ step_entries who l NextFrame ts ending) who (steps_here l NextFrame ts ending)
+    go [] q =
+        let z = none q in
+        as_is (step_entries who l NextFrame ts ending) [] (steps_here l NextFrame ts ending) l z.0 z.1
+        (record { here = told_silent t [] who l.controller (λ y m. refl) b.here; there = told_silent t [] (far who) l.host (λ y m. refl) b.there })
+    go (x ∷ xs) q =
+        as_is (step_entries who l NextFrame ts ending) (taken_entries who l x xs ts ending) (steps_here l NextFrame ts ending) (has_taken l x xs ts ending)
+        (some x xs q) (here x xs q) (taken_told t who l x xs ts ending a n (fr x xs q) b)
+
+-- ## Ends stay sound
+
+sound_finished : (l : Link) (e : LinkEnd) (ending : Ending) → CanEnd e.role ending → Sound e → Sound (finished l e ending).controller.side
+sound_finished l e GoesOut can s = sound_sent e s
+sound_finished l e CutOff can s = new (sent_all e).role can
+  where
+    new : (r : Role) → CanEnd r CutOff → Sound (new_link_end (renewed r))
+    new Bare can = absurd can
+    new (Clf z) can =
+        record {
+          is = record { out = refl; none = λ _. refl; forgot = λ _. refl; acked = omega arith; reached = omega arith; room = omega arith };
+          closed = λ _. record { phase = refl; due = refl };
+        }
+    new (Uicc z) can =
+        record {
+          is = record { out = refl; none = λ _. refl; forgot = λ _. refl; acked = omega arith; reached = omega arith; room = omega arith };
+          closed = λ _. record { phase = refl; due = refl };
+        }
+
+pub sound_tick : (l : Link) (node : Node) → IsNode l node.turns node.ending → Sound l.controller.side
+    → Sound (ticks_here l node.turns node.ending).controller.side
+sound_tick l node a s =
+    let f : LinkEnd = after_input l.controller.side HasTick in
+    sound_finished (with_ended l (is_some (ended_by l.controller.side HasTick))) (turned f node.turns) node.ending
+    (tick_can l.controller.side node.turns node.ending a.1)
+    (sound_turns node.turns f a.0 (sound_input l.controller.side HasTick tt s))
+
+restart_can : (e : LinkEnd) (event : ActEvent) (ts : List Turn) (ending : Ending) → CanEnd e.role ending
+    → CanEnd (turned (activated (moved e true (stopped e.shdlc)) event) ts).role ending
+restart_can e event ts ending can =
+    can_end (activated (moved e true (stopped e.shdlc)) event) ts (role_after e.role event) ending (activated_role (moved e true (stopped e.shdlc)) event)
+    (can_after e.role event ending can)
+
+pub sound_step : (l : Link) (comes : Comes) (ts : List Turn) (ending : Ending) → IsNode l ts ending → Sound l.controller.side
+    → Sound (steps_here l comes ts ending).controller.side
+sound_step l (AsksReset window) ts ending a s =
+    let f : LinkEnd = after_input l.controller.side (Reset window) in
+    sound_finished (with_ended l (is_some (ended_by l.controller.side (Reset window)))) (turned f ts) ending
+    (moved_can l.controller.side (Reset window) ts ending l.controller.side.role (reset_role l.controller.side window) a.1)
+    (sound_turns ts f a.0 (sound_input l.controller.side (Reset window) tt s))
+sound_step l (Starts v) ts ending a s =
+    let f : LinkEnd = after_input l.controller.side (Start v) in
+    sound_finished (silent l f) (turned f ts) ending (restart_can l.controller.side (ActStart v) ts ending a.1)
+    (sound_turns ts f a.0 (sound_input l.controller.side (Start v) tt s))
+sound_step l Stops ts ending a s =
+    let f : LinkEnd = after_input l.controller.side Stop in
+    sound_finished (silent l f) (turned f ts) ending (restart_can l.controller.side ActStop ts ending a.1)
+    (sound_turns ts f a.0 (sound_input l.controller.side Stop tt s))
+sound_step l NoInput ts ending a s =
+    sound_finished l (turned l.controller.side ts) ending (can_end l.controller.side ts l.controller.side.role ending refl a.1)
+    (sound_turns ts l.controller.side a.0 s)
+sound_step l NextFrame ts ending a s = go l.to_controller refl
+  where
+    P : Link → Type 0
+    P k = Sound k.controller.side
+
+    go : (w : List OnWire) → l.to_controller ≡ w → Sound (steps_here l NextFrame ts ending).controller.side
+    go [] q = let is : steps_here l NextFrame ts ending ≡ l = rw q refl in subst P (sym is) s
+    go (x ∷ xs) q =
+        let is : steps_here l NextFrame ts ending ≡ has_taken l x xs ts ending = rw q refl in
+        let f : LinkEnd = after_input l.controller.side (Take x.frame) in
+        subst P (sym is) (sound_finished (left_after l x xs) (turned f ts) ending
+        (can_end f ts f.role ending refl (took_can l.controller.side x.frame ending a.1))
+        (sound_turns ts f a.0 (sound_input l.controller.side (Take x.frame) tt s)))

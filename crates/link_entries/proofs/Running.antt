@@ -1,0 +1,446 @@
+-- Every event is noted so that the entries say what is kept of the sessions of both ends.
+use Rattle.std.proofs.Common.{◌≡◌, ℕ, zero, suc, ◌≤◌, ◌<◌, Bool, true, false, cond, List, [], ◌∷◌, ◌++◌, map, Option, Some, None, ◌⊎◌, inl, inr, refl, ap, sym, subst, ◌∙◌, arith, append_assoc}
+use Rattle.std.specs.Prelude.{is_some, ◌==◌, ◌&&◌, max, nat_lt}
+use Rattle.std.proofs.lemmas.Bool.{true≢false, ne_eqb}
+use Rattle.swp_base.specs.declared.control_frames.Control.{Control}
+use Rattle.swp_base.specs.declared.control_frames.Control.TheVariants.{I, S, Rset, Ua, Act, Clt}
+use Rattle.shdlc_core.specs.declared.answers.LinkState.{LinkState}
+use Rattle.shdlc_core.specs.declared.answers.LinkState.TheVariants.{Down as IsDown, Waiting as IsWaitingNow, Up as IsUpNow}
+use Rattle.shdlc_core.specs.Machine.{EndState, most_frames, taken, take_answer}
+use Rattle.session_laws.specs.Sessions.{OnWire, Link as CoreLink, Turn as CoreTurn, LinkEvent as CoreLinkEvent, is_rset, took_with, aged as core_aged, happens_here as core_happens_here, all_here as core_all_here, ticks_or_cut as core_ticks_or_cut, after as core_after}
+use Rattle.session_laws.specs.Sessions.EndEvent.{Deliver as CoreDeliver}
+use Rattle.session_laws.specs.Losses.{is_act, sans}
+use Rattle.session_laws.proofs.Hand.{peer_of, rset_tells}
+use Rattle.session_laws.proofs.Safe.{Safe}
+use Rattle.session_laws.proofs.Sending.{SafeLink}
+use Rattle.session_laws.proofs.Steps.{took_other, safe_aged, safe_turns, safe_exchanged, tick_or_cut}
+use Rattle.swp_act.specs.Activation.{new_clf, new_uicc}
+use Rattle.link_machine.specs.Machine.{LinkEnd, Role, LinkInput, Turn, turned, is_open, is_faulty, took, after_input, ended_by, began_by, frames_out, sent_all, new_link_end}
+use Rattle.link_machine.specs.Machine.Role.{Bare, Clf, Uicc}
+use Rattle.link_machine.specs.Machine.LinkInput.{Take}
+use Rattle.link_machine.proofs.Shifts.{Shift, IsNotUp, IsNew}
+use Rattle.link_machine.proofs.Shifts.Shift.{Stays, Ends, Renews, Begins, Rests as ShiftRests}
+use Rattle.link_machine.proofs.Runs.{Sound, new_sound}
+use Rattle.link_machine.proofs.Reports.{take_so}
+use Rattle.message_link.specs.Links.{Talk, Half, Link, IsStart, Ending, Comes, Loss, EndEvent, Node, LinkEvent, exchanged, number_of, no_talk, ended_talk, talk_now, talk_of, becomes, put_all, with_ended, has_taken, steps_here, happens_here, happens, all_here, ticks_here, aged, after, new_half, AreSendableTurns, CanEnd, CanCome, CanStart, IsClf, IsUicc, IsNode, IsAllowed, IsOwn, AreOwn, IsEvent, AllAllowed}
+use Rattle.message_link.specs.Links.IsStart.{IsBare, IsLine}
+use Rattle.message_link.specs.Links.Ending.{GoesOut, CutOff}
+use Rattle.message_link.specs.Links.Comes.{NextFrame, AsksReset, Starts, Stops, NoInput}
+use Rattle.message_link.specs.Links.EndEvent.{Step as EndStep, Lose}
+use Rattle.message_link.specs.Links.LinkEvent.{AtController, AtHost, Ticks, Activate}
+use Rattle.message_link.specs.Projection.{core_of, core_half, core_past, core_here, core_all, core_tick, core_tick_rest, core_event}
+use Rattle.message_link.proofs.Asks.{NoRset}
+use Rattle.message_link.proofs.Calm.{CalmLink, IsPolite, polite_of}
+use Rattle.message_link.proofs.Ends.{frames_alike}
+use Rattle.message_link.proofs.Project.{Tells, Step, beside-put_all}
+use Rattle.message_link.proofs.Steps.{Rests, FromHost, core_first}
+use Rattle.message_link.proofs.Finishing.{first_none, step_tick}
+use Rattle.message_link.proofs.Runs.{Good, Event, Reached, safe_reached, rests_of, reached_more, from_host, from_controller, own_here, own_turns, step_here, event_step, rest_both, tells_same, seen, step_own, started_clf, can_start}
+use Rattle.message_link.proofs.Whole.{new_number, start_good, start_reached}
+use Rattle.link_entries.specs.Entries.{End, Entry, far, first_lost, left_after, here_entries, all_entries, step_entries, aged_entries, tick_entries, event_entries, entries, first_entries, trace}
+use Rattle.link_entries.specs.Entries.End.{Controller, Host}
+use Rattle.link_entries.specs.Entries.Entry.{Lost, Tick}
+use Rattle.link_entries.specs.Sessions.{IsRead}
+use Rattle.link_entries.proofs.Books.{Book, blank, book_of, Silent, silent-append, silent_cons, Told, up_talk, down_talk, told_silent, past_after}
+use Rattle.link_entries.proofs.Stepping.{Tolds, silent_first, puts_number}
+use Rattle.link_entries.proofs.Noting.{Near, Frame, Frames, FramesFor, step_told, tick_told, sound_tick, sound_step}
+
+-- ## The first frame on a wire
+
+-- what is known of the link before a frame is taken, and of the link after it
+record Before (l : Link) : Type 0 where
+  tells : Tells l.controller
+  host : Tells l.host
+  calm : CalmLink l
+  safe : SafeLink 0 0 (core_of l)
+  from : FromHost (core_happens_here (core_of l) (CoreDeliver []))
+  next : SafeLink 0 0 (core_of (steps_here l NextFrame [] GoesOut))
+  sound : Sound l.controller.side
+
+frame_facts : (l : Link) (ts : List Turn) → AreSendableTurns ts → Before l → Frames l ts
+frame_facts l ts a b x xs w = record { quiet = none ts a; same = same; fresh = fresh }
+  where
+    e : LinkEnd
+    e = l.controller.side
+
+    f : LinkEnd
+    f = took e x.frame
+
+    rest : Rests e.shdlc
+    rest = rests_of 0 0 (core_of l) b.safe
+
+    polite : IsPolite e (x ∷ xs)
+    polite = subst (IsPolite e) w (polite_of e l.host.side.role l.to_controller l.to_host b.calm b.tells.now.closed)
+
+    none : (ts : List Turn) → AreSendableTurns ts → NoRset (frames_out (turned f ts))
+    none ts a = first_none l ts x xs w a polite b.tells b.host rest (subst FromHost (core_first (core_of l) [] x xs w) b.from)
+
+    -- an RSET that an end which is Up takes ends its session
+    rset_ends : (v caps : ℕ) → x.frame ≡ Rset v caps → e.shdlc.phase ≡ IsUpNow → is_some (ended_by e (Take x.frame)) ≡ true
+    rset_ends v caps q up = ap (λ c. is_some (ended_by e (Take c))) q ∙ by (is_open e.role) refl
+      where
+        here : Safe 0 0 (core_half l.controller) (core_half l.host) (x ∷ sans xs) (sans l.to_host) l.resets
+        here =
+            let P : List OnWire → Type 0 = λ z. Safe 0 0 (core_half l.controller) (core_half l.host) z (sans l.to_host) l.resets in
+            let first : sans l.to_controller ≡ x ∷ sans xs = ap sans w ∙ ap (λ c. cond (is_act c) (sans xs) (x ∷ sans xs)) q in
+            subst P first b.safe
+
+        positive : 0 < v
+        positive = (rset_tells 0 (peer_of (core_half l.controller)) (peer_of (core_half l.host)) x v caps (sans xs) (sans l.to_host) l.resets q here.hand).5
+
+        not_zero : (v == 0) ≡ false
+        not_zero = ne_eqb v 0 (λ z. omega (arith, z, positive))
+
+        by : (o : Bool) → is_open e.role ≡ o → is_some (ended_by e (Take (Rset v caps))) ≡ true
+        by false o = absurd (let z = sym (b.tells.now.closed o) ∙ up in cc)
+        by true o = faulty (is_faulty (taken e.shdlc (Rset v caps)).session) refl
+          where
+            faulty : (c : Bool) → is_faulty (taken e.shdlc (Rset v caps)).session ≡ c → is_some (ended_by e (Take (Rset v caps))) ≡ true
+            faulty true g = rw (o, g) refl
+            faulty false g = let n = not_zero in rw (o, g, up, n) refl
+
+    same : e.shdlc.phase ≡ IsUpNow → is_some (ended_by e (Take x.frame)) ≡ false → took_with l.controller.took x ≡ l.controller.took
+    same up q = go x.frame refl
+      where
+        other : is_rset x.frame ≡ false → took_with l.controller.took x ≡ l.controller.took
+        other z = took_other l.controller.took x z
+
+        go : (c : Control) → x.frame ≡ c → took_with l.controller.took x ≡ l.controller.took
+        go (Rset v caps) z = absurd (true≢false (sym (rset_ends v caps z up) ∙ q))
+        go (I ns nr info) z = other (ap is_rset z)
+        go (S kind nr) z = other (ap is_rset z)
+        go Ua z = other (ap is_rset z)
+        go (Act act again) z = other (ap is_rset z)
+        go Clt z = other (ap is_rset z)
+
+    c : Bool
+    c = is_some (ended_by e (Take x.frame))
+
+    n : ℕ
+    n = max l.controller.emitted (took_with l.controller.took x)
+
+    k : Link
+    k = left_after l x xs
+
+    left_half : Bool → Half
+    left_half c = record (with_ended (record l { to_controller = xs }) c).controller { took = took_with l.controller.took x }
+
+    left : (c : Bool) → ((left_half c).past ≡ past_after c l.controller) × (number_of (left_half c) ≡ n)
+    left false = (refl, refl)
+    left true = (refl, refl)
+
+    -- no ended session has the number of one that begins
+    new : f.shdlc.phase ≡ IsUpNow → ended_talk (past_after c l.controller) n ≡ no_talk
+    new up =
+        let m : Half = (becomes k f).controller in
+        let is : steps_here l NextFrame [] GoesOut ≡ becomes k f = rw w refl in
+        let P : Link → Type 0 = λ z. SafeLink 0 0 (core_of z) in
+        let safe : SafeLink 0 0 (core_of (becomes k f)) = subst P is b.next in
+        let old = new_number m ((frames_alike most_frames f.shdlc).phase ∙ up) safe.n_past in
+        let past : m.past ≡ past_after c l.controller = (beside-put_all (frames_out f) k).past ∙ (left c).0 in
+        let number : number_of m ≡ n = puts_number k (frames_out f) (none [] tt) ∙ (left c).1 in
+        sym (ap (λ p. ended_talk p (number_of m)) past ∙ ap (ended_talk (past_after c l.controller)) number) ∙ old
+
+    fresh : began_by e (Take x.frame) ≡ true → talk_of l.controller n ≡ no_talk
+    fresh began = go (take_so e x.frame b.sound).shift
+      where
+        past : (d : Bool) → c ≡ d → f.shdlc.phase ≡ IsUpNow → ended_talk (past_after d l.controller) n ≡ no_talk
+        past d q up = ap (λ z. ended_talk (past_after z l.controller) n) (sym q) ∙ new up
+
+        go : Shift e.shdlc f.shdlc c (began_by e (Take x.frame)) → talk_of l.controller n ≡ no_talk
+        go (Stays p q g) = absurd (true≢false (sym began ∙ q))
+        go (Ends p q up still s) = absurd (true≢false (sym began ∙ q))
+        go (Renews p q up z) = up_talk l.controller n up ∙ past true p z.is
+        go (Begins p q down z) = down_talk l.controller n down ∙ past false p z.is
+        go (ShiftRests p q down still s) = absurd (true≢false (sym began ∙ q))
+
+-- ## Events at one end
+
+here_told : (t : List Entry) (who : End) (l : Link) (e : EndEvent) → IsAllowed l e → Before l → Tolds t who l
+    → Tolds (t ++ here_entries who l e) who (happens_here l e)
+here_told t who l (EndStep comes ts ending) a b h =
+    step_told t who l comes ts ending a.1 (record { tells = b.tells; rests = rests_of 0 0 (core_of l) b.safe; sound = b.sound }) (frames comes) h
+  where
+    frames : (comes : Comes) → FramesFor comes l ts
+    frames NextFrame = frame_facts l ts a.1.0 b
+    frames (AsksReset window) = tt
+    frames (Starts v) = tt
+    frames Stops = tt
+    frames NoInput = tt
+here_told t who l (Lose why) a b h =
+    record {
+      here = told_silent t (first_lost who why l.to_controller) who l.controller (silent_first who why l.to_controller) h.here;
+      there = told_silent t (first_lost who why l.to_controller) (far who) l.host (silent_first who why l.to_controller) h.there;
+    }
+
+sound_here : (l : Link) (e : EndEvent) → IsAllowed l e → Sound l.controller.side → Sound (happens_here l e).controller.side
+sound_here l (EndStep comes ts ending) a s = sound_step l comes ts ending a.1 s
+sound_here l (Lose why) a s = s
+
+-- a step that takes no frame
+own_told : (t : List Entry) (who : End) (l : Link) (e : EndEvent) → IsOwn e → IsAllowed l e → Near l → Tolds t who l
+    → Tolds (t ++ here_entries who l e) who (happens_here l e)
+own_told t who l (Lose why) o a n h = absurd o
+own_told t who l (EndStep NextFrame ts ending) o a n h = absurd o
+own_told t who l (EndStep (AsksReset window) ts ending) o a n h = step_told t who l (AsksReset window) ts ending a.1 n tt h
+own_told t who l (EndStep (Starts v) ts ending) o a n h = step_told t who l (Starts v) ts ending a.1 n tt h
+own_told t who l (EndStep Stops ts ending) o a n h = step_told t who l Stops ts ending a.1 n tt h
+own_told t who l (EndStep NoInput ts ending) o a n h = step_told t who l NoInput ts ending a.1 n tt h
+
+-- what is known of a link within a tick, after some of it
+record Within (kf : ℕ) (t : List Entry) (who : End) (l m : Link) : Type 0 where
+  tolds : Tolds t who m
+  tells : Tells m.controller
+  safe : SafeLink 0 kf (core_of m)
+  sound : Sound m.controller.side
+  host : m.host ≡ l.host
+  calm : CalmLink l → CalmLink m
+
+all_told : (kf : ℕ) (es : List EndEvent) (t : List Entry) (who : End) (l : Link) → AreOwn l es → Tells l.controller → SafeLink 0 kf (core_of l)
+    → Sound l.controller.side → Tolds t who l → Within kf (t ++ all_entries who l es) who l (all_here l es)
+all_told kf [] t who l a h s sd b =
+    record {
+      tolds = record { here = told_silent t [] who l.controller (λ x n. refl) b.here; there = told_silent t [] (far who) l.host (λ x n. refl) b.there };
+      tells = h;
+      safe = s;
+      sound = sd;
+      host = refl;
+      calm = λ z. z;
+    }
+all_told kf (e ∷ es) t who l a h s sd b =
+    let r = rests_of 0 kf (core_of l) s in
+    let one = own_here l e a.0 a.1 h r in
+    let m : Link = happens_here l e in
+    let P : CoreLink → Type 0 = λ c. SafeLink 0 kf c in
+    let safe : SafeLink 0 kf (core_of m) = subst P (sym one.core) (safe_turns kf (core_here l e) (core_of l) (own_turns l e r a.0 a.1) s) in
+    let told = own_told t who l e a.0 a.1 (record { tells = h; rests = r; sound = sd }) b in
+    let more = all_told kf es (t ++ here_entries who l e) who m a.2 one.tells safe (sound_here l e a.1 sd) told in
+    let Q : List Entry → Type 0 = λ u. Tolds u who (all_here m es) in
+    record {
+      tolds = subst Q (append_assoc t (here_entries who l e) (all_entries who m es)) more.tolds;
+      tells = more.tells;
+      safe = more.safe;
+      sound = more.sound;
+      host = more.host ∙ one.host;
+      calm = λ z. more.calm (one.calm z);
+    }
+
+-- ## Events
+
+-- both ends are sound
+pub record Sounds (l : Link) : Type 0 where
+  pub controller : Sound l.controller.side
+  pub host : Sound l.host.side
+
+-- an event was noted
+record Noted (t : List Entry) (l : Link) : Type 0 where
+  tolds : Tolds t Controller l
+  sounds : Sounds l
+
+swap_tolds : (t : List Entry) (l : Link) → Tolds t Controller l → Tolds t Host (exchanged l)
+swap_tolds t l b = record { here = b.there; there = b.here }
+
+swap_back : (t : List Entry) (l : Link) → Tolds t Host l → Tolds t Controller (exchanged l)
+swap_back t l b = record { here = b.there; there = b.here }
+
+-- the link before an event at the controller's end, or at the host's
+before_here : (l : Link) → Good l → Reached (core_of l) → Sounds l → Before l
+before_here l g r s =
+    let e : EndEvent = EndStep NextFrame [] GoesOut in
+    let st = event_step l (AtController e) (tt, (tt, tt)) g r in
+    let P : CoreLink → Type 0 = λ c. SafeLink 0 0 c in
+    let next : SafeLink 0 0 (core_of (happens_here l e)) =
+    subst P (sym st.core) (safe_reached _ (reached_more (core_of l) (core_event l (AtController e)) st.allowed r)) in
+    record {
+      tells = g.controller;
+      host = g.host;
+      calm = g.calm;
+      safe = safe_reached (core_of l) r;
+      from = from_host (core_of l) r;
+      next = next;
+      sound = s.controller;
+    }
+
+before_there : (l : Link) → Good l → Reached (core_of l) → Sounds l → Before (exchanged l)
+before_there l g r s =
+    let e : EndEvent = EndStep NextFrame [] GoesOut in
+    let st = event_step l (AtHost e) (tt, (tt, tt)) g r in
+    let m : Link = happens l (AtHost e) in
+    let P : CoreLink → Type 0 = λ c. SafeLink 0 0 c in
+    let next : SafeLink 0 0 (core_of m) =
+    subst P (sym st.core) (safe_reached _ (reached_more (core_of l) (core_event l (AtHost e)) st.allowed r)) in
+    record {
+      tells = g.host;
+      host = g.controller;
+      calm = seen l g.calm;
+      safe = safe_exchanged 0 0 (core_of l) (safe_reached (core_of l) r);
+      from = from_controller (core_of l) r;
+      next = safe_exchanged 0 0 (core_of m) next;
+      sound = s.host;
+    }
+
+host_here : (l : Link) (e : EndEvent) → IsAllowed l e → Good l → Reached (core_of l) → (happens_here l e).host ≡ l.host
+host_here l e a g r =
+    (step_here l e a g.controller g.host g.calm (rests_of 0 0 (core_of l) (safe_reached (core_of l) r)) (from_host (core_of l) r)).host
+
+note_here : (t : List Entry) (l : Link) (e : EndEvent) → IsAllowed l e → Good l → Reached (core_of l) → Noted t l
+    → Noted (t ++ here_entries Controller l e) (happens_here l e)
+note_here t l e a g r n =
+    let P : Half → Type 0 = λ z. Sound z.side in
+    record {
+      tolds = here_told t Controller l e a (before_here l g r n.sounds) n.tolds;
+      sounds = record {
+        controller = sound_here l e a n.sounds.controller;
+        host = subst P (sym (host_here l e a g r)) n.sounds.host;
+      };
+    }
+
+note_there : (t : List Entry) (l : Link) (e : EndEvent) → IsAllowed (exchanged l) e → Good l → Reached (core_of l) → Noted t l
+    → Noted (t ++ here_entries Host (exchanged l) e) (happens l (AtHost e))
+note_there t l e a g r n =
+    let k : Link = exchanged l in
+    let u : List Entry = t ++ here_entries Host k e in
+    let b = before_there l g r n.sounds in
+    let out = here_told t Host k e a b (swap_tolds t l n.tolds) in
+    let host : (happens_here k e).host ≡ k.host = (step_here k e a b.tells b.host b.calm (rests_of 0 0 (core_of k) b.safe) b.from).host in
+    let P : Half → Type 0 = λ z. Sound z.side in
+    record {
+      tolds = swap_back u (happens_here k e) out;
+      sounds = record { controller = subst P (sym host) n.sounds.controller; host = sound_here k e a n.sounds.host };
+    }
+
+silent_aged : (who : End) (w : List OnWire) → Silent (aged_entries who w)
+silent_aged who [] = λ x n. refl
+silent_aged who (y ∷ ys) = by (nat_lt y.age 4) refl (silent_aged who ys)
+  where
+    by : (b : Bool) → nat_lt y.age 4 ≡ b → Silent (aged_entries who ys) → Silent (aged_entries who (y ∷ ys))
+    by true q later = λ x n. rw q (later x n)
+    by false q later = λ x n. rw q (later x n)
+
+note_event : (t : List Entry) (l : Link) (e : LinkEvent) → IsEvent l e → Good l → Reached (core_of l) → Noted t l → Noted (t ++ event_entries l e) (happens l e)
+note_event t l (AtController e) a g r n = note_here t l e a g r n
+note_event t l (AtHost e) a g r n = note_there t l e a g r n
+note_event t l (Ticks c es h) a g r n =
+    let s0 = safe_aged (core_of l) (safe_reached (core_of l) r) in
+    let aged_link : Link = aged l in
+    let rests = rests_of 1 1 (core_of aged_link) s0 in
+    let ps : List Entry = aged_entries Controller l.to_controller in
+    let bs : List Entry = aged_entries Host l.to_host in
+    let start : List Entry = Tick ∷ (ps ++ bs) in
+    let quiet : Silent start = silent_cons Tick (ps ++ bs) (λ x m. refl)
+    (silent-append ps bs (silent_aged Controller l.to_controller) (silent_aged Host l.to_host)) in
+    let zero_told : Tolds (t ++ start) Controller aged_link =
+    record {
+      here = told_silent t start Controller l.controller quiet n.tolds.here;
+      there = told_silent t start Host l.host quiet n.tolds.there;
+    } in
+    let near : Link = ticks_here aged_link c.turns c.ending in
+    let one = step_tick aged_link c.turns c.ending a.0.0 a.0.1 g.controller rests in
+    let one_told = tick_told (t ++ start) Controller aged_link c a.0 (record { tells = g.controller; rests = rests; sound = n.sounds.controller }) zero_told in
+    let one_sound = sound_tick aged_link c a.0 n.sounds.controller in
+    let cs : List Entry = tick_entries Controller aged_link c in
+    let core_one : CoreLink = core_ticks_or_cut (core_tick l.controller.side c.turns c.ending) (core_aged (core_of l)) in
+    let rest = rest_both l.controller.side c.turns c.ending in
+    let P : CoreLink → Type 0 = λ d. SafeLink 0 1 d in
+    let safe_near : SafeLink 0 1 (core_of near) =
+    subst P (sym one.core) (safe_turns 1 (core_tick_rest l.controller.side c.turns c.ending) core_one rest.turns
+    (tick_or_cut 1 (core_tick l.controller.side c.turns c.ending) (core_aged (core_of l)) s0)) in
+    let two = all_told 1 es ((t ++ start) ++ cs) Controller near a.1 one.tells safe_near one_sound one_told in
+    let ds : List Entry = all_entries Controller near es in
+    let m : Link = all_here near es in
+    let host_is : m.host ≡ l.host = two.host ∙ one.host in
+    let H : Half → Type 0 = λ z. Sound z.side in
+    let m_sound : Sound m.host.side = subst H (sym host_is) n.sounds.host in
+    let m_tells : Tells m.host = tells_same m.host l.host host_is g.host in
+    let m_rests = rests_of 1 0 (core_of (exchanged m)) (safe_exchanged 0 1 (core_of m) two.safe) in
+    let u : List Entry = ((t ++ start) ++ cs) ++ ds in
+    let three = tick_told u Host (exchanged m) h a.2 (record { tells = m_tells; rests = m_rests; sound = m_sound }) (swap_tolds u m two.tolds) in
+    let last = step_tick (exchanged m) h.turns h.ending a.2.0 a.2.1 m_tells m_rests in
+    let fs : List Entry = tick_entries Host (exchanged m) h in
+    let k : Link = ticks_here (exchanged m) h.turns h.ending in
+    let all : u ++ fs ≡ t ++ (Tick ∷ (ps ++ (bs ++ (cs ++ (ds ++ fs))))) = five t Tick ps bs cs ds fs in
+    let Q : List Entry → Type 0 = λ z. Tolds z Controller (exchanged k) in
+    record {
+      tolds = subst Q all (swap_back (u ++ fs) k three);
+      sounds = record { controller = subst H (sym last.host) two.sound; host = sound_tick (exchanged m) h a.2 m_sound };
+    }
+  where
+    five : (t : List Entry) (e : Entry) (ps bs cs ds fs : List Entry)
+        → (((t ++ (e ∷ (ps ++ bs))) ++ cs) ++ ds) ++ fs ≡ t ++ (e ∷ (ps ++ (bs ++ (cs ++ (ds ++ fs)))))
+    five t e ps bs cs ds fs = simp append_assoc
+note_event t l (Activate power c id h) a g r n =
+    let x : EndEvent = EndStep (Starts power) c.turns c.ending in
+    let y : EndEvent = EndStep (Starts id) h.turns h.ending in
+    let near : Link = happens_here l x in
+    let clf : CanStart l.controller.side.role l.host.side.role = clf_starts l.controller.side.role l.host.side.role a.0 in
+    let one = event_step l (AtController x) (clf, a.2) g r in
+    let next : Reached (core_of near) = subst Reached (sym one.core) (reached_more (core_of l) (core_event l (AtController x)) one.allowed r) in
+    let host : near.host ≡ l.host = host_here l x (clf, a.2) g r in
+    let Q : Half → Type 0 = λ z. IsUicc z.side.role × IsNode (exchanged (record l { host = z })) h.turns h.ending in
+    let there : Q near.host = subst Q (sym host) (a.1, a.3) in
+    let starts : CanStart near.host.side.role near.controller.side.role =
+    can_start near.host.side.role near.controller.side.role there.0 (started_clf l power c.turns c.ending a.0) in
+    let first = note_here t l x (clf, a.2) g r n in
+    let second = note_there (t ++ here_entries Controller l x) near y (starts, there.1) one.good next first in
+    let P : List Entry → Type 0 = λ z. Noted z (happens l (Activate power c id h)) in
+    subst P (append_assoc t (here_entries Controller l x) (here_entries Host (exchanged near) y)) second
+  where
+    clf_starts : (r f : Role) → IsClf r → CanStart r f
+    clf_starts Bare f i = absurd i
+    clf_starts (Clf s) f i = tt
+    clf_starts (Uicc s) f i = absurd i
+
+-- ## Runs
+
+note_events : (events : List LinkEvent) (t : List Entry) (l : Link) → AllAllowed l events → Good l → Reached (core_of l) → Noted t l
+    → Noted (t ++ entries l events) (after l events)
+note_events [] t l a g r n =
+    record {
+      tolds = record {
+        here = told_silent t [] Controller l.controller (λ x m. refl) n.tolds.here;
+        there = told_silent t [] Host l.host (λ x m. refl) n.tolds.there;
+      };
+      sounds = n.sounds;
+    }
+note_events (e ∷ es) t l a g r n =
+    let st = event_step l e a.0 g r in
+    let next : Reached (core_of (happens l e)) = subst Reached (sym st.core) (reached_more (core_of l) (core_event l e) st.allowed r) in
+    let more = note_events es (t ++ event_entries l e) (happens l e) a.1 st.good next (note_event t l e a.0 g r n) in
+    let P : List Entry → Type 0 = λ z. Noted z (after (happens l e) es) in
+    subst P (append_assoc t (event_entries l e) (entries (happens l e) es)) more
+
+start_noted : (l : Link) → IsStart l → Noted (first_entries l.controller.side.role) l
+start_noted l IsBare =
+    record {
+      tolds = record { here = told; there = told };
+      sounds = record { controller = new_sound Bare; host = new_sound Bare };
+    }
+  where
+    told : (n : ℕ) → blank ≡ book_of (talk_of (new_half (new_link_end Bare)) n)
+    told n = by (n == 0) refl
+      where
+        by : (b : Bool) → (n == 0) ≡ b → blank ≡ book_of (talk_of (new_half (new_link_end Bare)) n)
+        by true q = rw q refl
+        by false q = rw q refl
+start_noted l IsLine =
+    record {
+      tolds = record { here = λ n. refl; there = λ n. refl };
+      sounds = record { controller = new_sound (Clf new_clf); host = new_sound (Uicc new_uicc) };
+    }
+
+noted : (l : Link) → IsStart l → (events : List LinkEvent) → AllAllowed l events → Noted (trace l events) (after l events)
+noted l s events a = note_events events (first_entries l.controller.side.role) l a (start_good l s) (start_reached l s) (start_noted l s)
+
+-- what the filters read
+pub is_read : (t : List Entry) (who : End) (h : Half) (n : ℕ) → Told t who h → IsRead t who n (talk_of h n)
+is_read t who h n b =
+    let q = b n in
+    record { sent = ap (λ (z : Book). z.sent) q; got = ap (λ (z : Book). z.got) q; acked = ap (λ (z : Book). z.acked) q }
+
+pub read_here : (l : Link) → IsStart l → (events : List LinkEvent) → AllAllowed l events → (n : ℕ)
+    → IsRead (trace l events) Controller n (talk_of (after l events).controller n)
+read_here l s events a n = is_read (trace l events) Controller (after l events).controller n (noted l s events a).tolds.here
+
+pub read_there : (l : Link) → IsStart l → (events : List LinkEvent) → AllAllowed l events → (n : ℕ)
+    → IsRead (trace l events) Host n (talk_of (after l events).host n)
+read_there l s events a n = is_read (trace l events) Host (after l events).host n (noted l s events a).tolds.there

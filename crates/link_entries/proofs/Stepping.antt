@@ -1,0 +1,242 @@
+-- What is noted of a step of an end says what is kept of its sessions.
+use Rattle.std.proofs.Common.{◌≡◌, ℕ, zero, suc, ◌≤◌, ◌<◌, ◌-◌, Bool, true, false, cond, List, [], ◌∷◌, ◌++◌, length, map, drop, Option, Some, None, refl, ap, sym, subst, ◌∙◌, arith, append-nil, append_assoc}
+use Rattle.std.specs.Prelude.{◌+◌, ◌==◌, ◌&&◌, nat_lt, is_some, option_to_list, max}
+use Rattle.std.proofs.lemmas.Bool.{true≢false}
+use Rattle.swp_base.specs.declared.control_frames.Control.{Control}
+use Rattle.swp_base.specs.declared.link_terms.Cause.TheVariants.{Asked, Act as ByAct}
+use Rattle.swp_act.specs.declared.ActEvent.{ActEvent}
+use Rattle.swp_act.specs.declared.ActEvent.TheVariants.{Start as ActStart, Stop as ActStop, Tick as ActTick}
+use Rattle.shdlc_core.specs.declared.answers.LinkState.{LinkState}
+use Rattle.shdlc_core.specs.declared.answers.LinkState.TheVariants.{Down as IsDown, Waiting as IsWaitingNow, Up as IsUpNow}
+use Rattle.shdlc_core.specs.Machine.{EndState, Session, fetched, after_frames, most_frames, ticked, tick_answer, is_waiting, reset_with, stopped}
+use Rattle.link_laws.proofs.Joined.{fetch_cases}
+use Rattle.session_laws.specs.Sessions.{OnWire, is_up, took_with}
+use Rattle.link_machine.specs.Machine.{Message, LinkEnd, Role, ActDue, Refused, LinkInput, Turn, Report, report, turn, turned, whole_among, is_open, role_after, moved, activated, started, deactivated, new_link_end, renewed, if_up, reset_refusal, reset_by, window_of, took, after_input, ended_by, began_by, got_by, whole_acked, frames_out, sent_all, had_tick}
+use Rattle.link_machine.specs.Machine.Role.{Bare, Clf, Uicc}
+use Rattle.link_machine.specs.Machine.LinkInput.{Take, Tick as HasTick, Reset, Start, Stop, FromNode}
+use Rattle.link_machine.specs.Machine.Turn.{Give, Hold, FetchMessage, SetAside, Release}
+use Rattle.link_machine.specs.Laws.{AreSendableInputs}
+use Rattle.link_machine.proofs.Sound.{Data}
+use Rattle.link_machine.proofs.Runs.{Sound, sound_turn, sound_input, fetched_data}
+use Rattle.link_machine.proofs.Reports.{Becomes, Reports, take_so, tick_so, reset_so, start_so, stop_so}
+use Rattle.message_link.specs.Links.{Talk, Half, Link, Ending, Comes, Loss, exchanged, number_of, no_talk, ended_talk, talk_now, talk_of, becomes, put_all, with_controller, with_ended, silent, cut, finished, has_taken, steps_here, AreSendableTurns, CanEnd}
+use Rattle.message_link.specs.Links.Ending.{GoesOut, CutOff}
+use Rattle.message_link.specs.Links.Loss.{TooMany}
+use Rattle.message_link.specs.Links.Comes.{NextFrame, AsksReset, Starts, Stops, NoInput}
+use Rattle.message_link.proofs.Asks.{NoRset, puts_none}
+use Rattle.message_link.proofs.Ends.{Alike, frames_alike}
+use Rattle.message_link.proofs.Project.{beside-put_all}
+use Rattle.link_entries.specs.Entries.{End, Entry, far, told, told_of, turn_entry, turn_entries, first_lost, pushed_out, wire_with, put_entries, puts_entries, ending_entries, rest_entries, input_entries, left_after, taken_entries, restart_entries, step_entries}
+use Rattle.link_entries.specs.Entries.End.{Controller, Host}
+use Rattle.link_entries.specs.Entries.Entry.{Took, Emit, Lost, Restarted, Cut}
+use Rattle.link_entries.proofs.Books.{Book, book_of, read, Silent, silent-append, silent_cons, Told, up_talk, down_talk, told_far, told_silent, told_same, told_input, Input, past_after, with_side, told_turn, IsSendableTurn, blank, plus, plus-blank, read-append, same_far, turn_far}
+
+-- ## Turns
+
+sendable_first : (t : Turn) (ts : List Turn) → AreSendableTurns (t ∷ ts) → IsSendableTurn t × AreSendableTurns ts × AreSendableInputs (FromNode t ∷ [])
+sendable_first (Give m) ts a = (a.0, a.1, (a.0, tt))
+sendable_first (Hold held) ts a = (tt, a, tt)
+sendable_first FetchMessage ts a = (tt, a, tt)
+sendable_first SetAside ts a = (tt, a, tt)
+sendable_first Release ts a = (tt, a, tt)
+
+told_turns : (ts : List Turn) (t : List Entry) (who : End) (h : Half) → AreSendableTurns ts → Sound h.side → Told t who h
+    → Told (t ++ turn_entries who (number_of h) h.side ts) who (with_side h (turned h.side ts))
+told_turns [] t who h a s b = told_silent t [] who h (λ w n. refl) b
+told_turns (x ∷ ts) t who h a s b =
+    let p = sendable_first x ts a in
+    let one = told_turn t who h x p.0 s.is b in
+    let k : Half = with_side h (turn h.side x) in
+    let more = told_turns ts (t ++ turn_entry who (number_of h) h.side x) who k p.1 (sound_turn h.side x p.2 s) one in
+    let P : List Entry → Type 0 = λ u. Told u who (with_side h (turned h.side (x ∷ ts))) in
+    subst P (append_assoc t (turn_entry who (number_of h) h.side x) (turn_entries who (number_of h) (turn h.side x) ts)) more
+
+far_turns : (ts : List Turn) (t : List Entry) (who : End) (k : ℕ) (e : LinkEnd) (h : Half) → Told t (far who) h
+    → Told (t ++ turn_entries who k e ts) (far who) h
+far_turns [] t who k e h b = told_silent t [] (far who) h (λ w n. refl) b
+far_turns (x ∷ ts) t who k e h b =
+    let more = far_turns ts (t ++ turn_entry who k e x) who k (turn e x) h (turn_far t who k e x h b) in
+    let P : List Entry → Type 0 = λ u. Told u (far who) h in
+    subst P (append_assoc t (turn_entry who k e x) (turn_entries who k (turn e x) ts)) more
+
+pub sound_turns : (ts : List Turn) (e : LinkEnd) → AreSendableTurns ts → Sound e → Sound (turned e ts)
+sound_turns [] e a s = s
+sound_turns (t ∷ ts) e a s = let p = sendable_first t ts a in sound_turns ts (turn e t) p.1 (sound_turn e t p.2 s)
+
+-- ## Frames go out
+
+pub silent_first : (who : End) (why : Loss) (w : List OnWire) → Silent (first_lost who why w)
+silent_first who why [] x n = refl
+silent_first who why (y ∷ ys) x n = refl
+
+silent_lost : (who : End) (b : Bool) (w : List OnWire) → Silent (cond b (first_lost who TooMany w) [])
+silent_lost who false w x n = refl
+silent_lost who true w x n = silent_first who TooMany w x n
+
+silent_puts : (cs : List Control) (who : End) (l : Link) → Silent (puts_entries who l cs)
+silent_puts [] who l = λ x n. refl
+silent_puts (c ∷ cs) who l =
+    silent-append (put_entries who l c) (puts_entries who _ cs)
+    (silent_cons (Emit who c) (pushed_out (far who) (wire_with l c)) (λ x n. refl) (silent_lost (far who) (nat_lt 64 (length (wire_with l c))) (wire_with l c)))
+    (silent_puts cs who _)
+
+fetched_acked : (n : ℕ) (e : EndState) → (after_frames n e).session.acked ≡ e.session.acked
+fetched_acked zero e = refl
+fetched_acked (suc n) e =
+    fetched_acked n (fetched e) ∙ fetch_cases (λ f o. f.session.acked ≡ e.session.acked) e (λ d ds p. refl) (λ p q. refl) (λ info p q. refl)
+
+sent_book : (e : LinkEnd) → book_of (talk_now (sent_all e)) ≡ book_of (talk_now e)
+sent_book e = let a = frames_alike most_frames e.shdlc in let b = fetched_acked most_frames e.shdlc in rw (a.acc, b) refl
+
+pub sound_sent : (e : LinkEnd) → Sound e → Sound (sent_all e)
+sound_sent e s = go most_frames (record e { acts = [] }) (fetched_same e s)
+  where
+    fetched_same : (e : LinkEnd) → Sound e → Sound (record e { acts = [] })
+    fetched_same e s =
+        record {
+          is = record { out = s.is.out; none = s.is.none; forgot = s.is.forgot; acked = s.is.acked; reached = s.is.reached; room = s.is.room };
+          closed = s.closed;
+        }
+
+    go : (n : ℕ) (f : LinkEnd) → Sound f → Sound (record f { shdlc = after_frames n f.shdlc })
+    go zero f h = h
+    go (suc n) f h = go n (record f { shdlc = fetched f.shdlc }) (fetched_data f f.acts h)
+
+-- where no RSET goes out the number stays
+pub puts_number : (l : Link) (cs : List Control) → NoRset cs → number_of (put_all l cs).controller ≡ number_of l.controller
+puts_number l cs a = ap (λ (m : Link). number_of m.controller) (puts_none cs l a)
+
+-- an end that has become e and sent all that was due
+sent_told : (t : List Entry) (who : End) (l : Link) (e : LinkEnd) → (e.shdlc.phase ≡ IsUpNow → NoRset (frames_out e)) → Told t who (with_side l.controller e)
+    → Told t who (becomes l e).controller
+sent_told t who l e none b =
+    told_same t who (with_side l.controller e) (becomes l e).controller (frames_alike most_frames e.shdlc).phase (beside-put_all (frames_out e) l).past
+    (λ up. puts_number l (frames_out e) (none up)) (sent_book e) b
+
+-- one whose node lost power before that
+cut_told : (t : List Entry) (who : End) (l : Link) (e : LinkEnd) → CanEnd e.role CutOff → Told t who (with_side l.controller e)
+    → Told t who (cut (with_controller l (sent_all e))).controller
+cut_told t who l e can b n = b n ∙ go e.shdlc.phase refl e.role refl can
+  where
+    f : LinkEnd
+    f = sent_all e
+
+    phase : f.shdlc.phase ≡ e.shdlc.phase
+    phase = (frames_alike most_frames e.shdlc).phase
+
+    -- the end that is new
+    at : Bool → Role → Half
+    at c r =
+        let m : Link = with_ended (with_controller l f) c in
+        record m.controller { side = new_link_end (renewed r) }
+
+    new_down : (c : Bool) (r : Role) → CanEnd r CutOff → talk_of (at c r) n ≡ ended_talk (at c r).past n
+    new_down c Bare can = absurd can
+    new_down c (Clf s) can = refl
+    new_down c (Uicc s) can = refl
+
+    up_past : (r : Role) → book_of (talk_of (with_side l.controller e) n)
+        ≡ book_of (cond (n == number_of l.controller) (talk_now e) (ended_talk l.controller.past n))
+        → book_of (cond (n == number_of l.controller) (talk_now e) (ended_talk l.controller.past n)) ≡ book_of (ended_talk (at true r).past n)
+    up_past r z = by (n == number_of l.controller) refl
+      where
+        by : (x : Bool) → (n == number_of l.controller)
+            ≡ x → book_of (cond (n == number_of l.controller) (talk_now e) (ended_talk l.controller.past n)) ≡ book_of (ended_talk (at true r).past n)
+        by true q = rw q (sym (sent_book e))
+        by false q = rw q refl
+
+    up : e.shdlc.phase ≡ IsUpNow → CanEnd e.role CutOff
+        → book_of (talk_of (with_side l.controller e) n) ≡ book_of (talk_of (cut (with_controller l f)).controller n)
+    up p can =
+        let z : book_of (talk_of (with_side l.controller e) n) ≡ book_of (cond (n == number_of l.controller) (talk_now e) (ended_talk l.controller.past n)) =
+        ap book_of (up_talk (with_side l.controller e) n p) in
+        let is : is_up f.shdlc.phase ≡ true = ap is_up (phase ∙ p) in
+        z ∙ (up_past e.role z ∙ ap book_of (sym (new_down true e.role can) ∙ ap (λ c. talk_of (at c e.role) n) (sym is)))
+
+    idle : (e.shdlc.phase ≡ IsUpNow → ⊥) → is_up f.shdlc.phase ≡ false → CanEnd e.role CutOff
+        → book_of (talk_of (with_side l.controller e) n) ≡ book_of (talk_of (cut (with_controller l f)).controller n)
+    idle d is can =
+        ap book_of (down_talk (with_side l.controller e) n d ∙ (sym (new_down false e.role can) ∙ ap (λ c. talk_of (at c e.role) n) (sym is)))
+
+    go : (p : LinkState) → e.shdlc.phase ≡ p → (r : Role) → e.role ≡ r → CanEnd e.role CutOff
+        → book_of (talk_of (with_side l.controller e) n) ≡ book_of (talk_of (cut (with_controller l f)).controller n)
+    go IsUpNow p r q can = up p can
+    go IsWaitingNow p r q can = idle (λ u. let z = sym p ∙ u in cc) (ap is_up (phase ∙ p)) can
+    go IsDown p r q can = idle (λ u. let z = sym p ∙ u in cc) (ap is_up (phase ∙ p)) can
+
+silent_ending : (who : End) (l : Link) (e : LinkEnd) (ending : Ending) → Silent (ending_entries who l e ending)
+silent_ending who l e GoesOut = silent_puts (frames_out e) who l
+silent_ending who l e CutOff = λ x n. refl
+
+ending_told : (t : List Entry) (who : End) (l : Link) (e : LinkEnd) (ending : Ending) → CanEnd e.role ending → (e.shdlc.phase ≡ IsUpNow → NoRset (frames_out e))
+    → Told t who (with_side l.controller e) → Told (t ++ ending_entries who l e ending) who (finished l e ending).controller
+ending_told t who l e GoesOut can none b =
+    told_silent t (ending_entries who l e GoesOut) who (becomes l e).controller (silent_ending who l e GoesOut) (sent_told t who l e none b)
+ending_told t who l e CutOff can none b =
+    told_silent t (ending_entries who l e CutOff) who (cut (with_controller l (sent_all e))).controller (silent_ending who l e CutOff)
+    (cut_told t who l e can b)
+
+pub host_finished : (l : Link) (e : LinkEnd) (ending : Ending) → (finished l e ending).host ≡ l.host
+host_finished l e GoesOut = (beside-put_all (frames_out e) l).host
+host_finished l e CutOff = by (is_up (sent_all e).shdlc.phase)
+  where
+    by : (b : Bool) → (with_ended (with_controller l (sent_all e)) b).host ≡ l.host
+    by true = refl
+    by false = refl
+
+-- ## A link
+
+-- what was noted of both ends of a link
+pub record Tolds (t : List Entry) (who : End) (l : Link) : Type 0 where
+  pub here : Told t who l.controller
+  pub there : Told t (far who) l.host
+
+told_at : (t : List Entry) (who : End) (h k : Half) → k ≡ h → Told t who h → Told t who k
+told_at t who h k q b = let P : Half → Type 0 = λ z. Told t who z in subst P (sym q) b
+
+told_list : (t u : List Entry) (who : End) (h : Half) → t ≡ u → Told t who h → Told u who h
+told_list t u who h q b = let P : List Entry → Type 0 = λ z. Told z who h in subst P q b
+
+-- the turns of its node and the end of a step
+pub rest_told : (t : List Entry) (who : End) (l : Link) (e : LinkEnd) (ts : List Turn) (ending : Ending) → AreSendableTurns ts
+    → CanEnd (turned e ts).role ending
+    → ((turned e ts).shdlc.phase ≡ IsUpNow → NoRset (frames_out (turned e ts))) → Sound e → Told t who (with_side l.controller e) → Told t (far who) l.host
+    → Tolds (t ++ rest_entries who l e ts ending) who (finished l (turned e ts) ending)
+rest_told t who l e ts ending a can none s here there =
+    let n : ℕ = number_of l.controller in
+    let us : List Entry = turn_entries who n e ts in
+    let vs : List Entry = ending_entries who l (turned e ts) ending in
+    let turns = told_turns ts t who (with_side l.controller e) a s here in
+    let q : (t ++ us) ++ vs ≡ t ++ (us ++ vs) = append_assoc t us vs in
+    record {
+      here = told_list ((t ++ us) ++ vs) (t ++ (us ++ vs)) who (finished l (turned e ts) ending).controller q
+          (ending_told (t ++ us) who l (turned e ts) ending can none turns);
+      there = told_list ((t ++ us) ++ vs) (t ++ (us ++ vs)) (far who) (finished l (turned e ts) ending).host q
+          (told_silent (t ++ us) vs (far who) (finished l (turned e ts) ending).host (silent_ending who l (turned e ts) ending)
+          (told_at (t ++ us) (far who) l.host (finished l (turned e ts) ending).host (host_finished l (turned e ts) ending)
+          (far_turns ts t who n e l.host there)));
+    }
+
+-- an input, the turns and the end of a step: l becomes k
+pub input_told : (t : List Entry) (who : End) (l k : Link) (i : LinkInput) (h : Half) (ts : List Turn) (ending : Ending)
+    → (let f : LinkEnd = after_input l.controller.side i in
+    Input l.controller (with_side k.controller f) (is_some (ended_by l.controller.side i)) (began_by l.controller.side i) (report l.controller.side i)
+    → h.side ≡ l.controller.side → number_of h ≡ number_of k.controller → k.host ≡ l.host
+    → AreSendableTurns ts → CanEnd (turned f ts).role ending → ((turned f ts).shdlc.phase ≡ IsUpNow → NoRset (frames_out (turned f ts)))
+    → Sound l.controller.side → Sound f → Tolds t who l
+    → Tolds (t ++ (told_of who h i ++ rest_entries who k f ts ending)) who (finished k (turned f ts) ending))
+input_told t who l k i h ts ending input side number host a can none s sf b =
+    let f : LinkEnd = after_input l.controller.side i in
+    let e : LinkEnd = l.controller.side in
+    let r : Report = report e i in
+    let us : List Entry = told who (number_of k.controller) r (whole_acked f) in
+    let vs : List Entry = rest_entries who k f ts ending in
+    let here = told_input t who l.controller (with_side k.controller f) (is_some (ended_by e i)) (began_by e i) r input s.is b.here in
+    let there = told_far t who (number_of k.controller) r (whole_acked f) k.host (told_at t (far who) l.host k.host host b.there) in
+    let out = rest_told (t ++ us) who k f ts ending a can none sf here there in
+    let same : told_of who h i ≡ us =
+    ap (λ n. told who n (report h.side i) (whole_acked (after_input h.side i))) number
+    ∙ ap (λ z. told who (number_of k.controller) (report z i) (whole_acked (after_input z i))) side in
+    let q : (t ++ us) ++ vs ≡ t ++ (told_of who h i ++ vs) = append_assoc t us vs ∙ ap (λ z. t ++ (z ++ vs)) (sym same) in
+    let P : List Entry → Type 0 = λ z. Tolds z who (finished k (turned f ts) ending) in
+    subst P q out

@@ -1,0 +1,4 @@
+pub mod Entries
+pub mod Filters
+pub mod Reading
+pub mod Sessions

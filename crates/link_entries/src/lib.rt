@@ -1,0 +1,24 @@
+//! What is noted of a link, entry by entry, and what can be read off it. There is no code here that runs.
+#![tactic(auto)]
+
+ghost use Rattle.std.specs.Prelude.{◌≡◌, ℕ, List};
+ghost use Rattle.message_link.specs.Links.{AllAllowed, IsStart, Link, LinkEvent, after, talk_of};
+ghost use Rattle.link_entries.specs.Entries.{trace};
+ghost use Rattle.link_entries.specs.Entries.End.{Controller, Host};
+ghost use Rattle.link_entries.specs.Reading.{kept, nothing_seen, see_all};
+ghost use Rattle.link_entries.specs.Sessions.{IsRead};
+
+/// The frames on both wires with their ages and numbers, how many RSETs were put on the link, and the greatest number that each
+/// end has put on it and taken, are read off the entries.
+pub fn wires_and_numbers_are_read_off()
+    ensures { (l : Link) → IsStart l → (events : List LinkEvent) → see_all nothing_seen (trace l events) ≡ kept (after l events) }
+{}
+
+/// The messages that each end was given and got in each session, and how many of its messages are acknowledged whole there, are
+/// read off the entries.
+pub fn sessions_are_read_off()
+    ensures controller { (l : Link) → IsStart l → (events : List LinkEvent) → AllAllowed l events → (n : ℕ) →
+        IsRead (trace l events) Controller n (talk_of (after l events).controller n) }
+    ensures host { (l : Link) → IsStart l → (events : List LinkEvent) → AllAllowed l events → (n : ℕ) →
+        IsRead (trace l events) Host n (talk_of (after l events).host n) }
+{}
