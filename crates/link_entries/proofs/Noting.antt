@@ -45,7 +45,8 @@ use Rattle.link_entries.specs.Entries.{End, Entry, far, told, told_of, turn_entr
 use Rattle.link_entries.specs.Entries.End.{Controller, Host}
 use Rattle.link_entries.specs.Entries.Entry.{Took, Lost, Restarted, Tick}
 use Rattle.link_entries.proofs.Books.{Book, book_of, Silent, silent-append, silent_cons, Told, up_talk, down_talk, told_silent, Input, past_after, with_side}
-use Rattle.link_entries.proofs.Stepping.{Tolds, input_told, rest_told, host_finished, silent_first, sound_turns, sound_sent}
+use Rattle.link_entries.proofs.Fronts.{few_told, few_more, few_then}
+use Rattle.link_entries.proofs.Stepping.{Tolds, Out, input_told, rest_told, host_finished, silent_first, sound_turns, sound_sent}
 
 -- ## Where an end is Up before its frames go out, no RSET is due
 
@@ -211,7 +212,7 @@ tick_can e ts ending can = go (is_open e.role) refl
         subst P (sym t.0) (can_end (activated e ActTick) ts (role_after e.role ActTick) ending (activated_role e ActTick) (can_after e.role ActTick ending can))
 
 pub tick_told : (t : List Entry) (who : End) (l : Link) (node : Node) → IsNode l node.turns node.ending → Near l → Tolds t who l
-    → Tolds (t ++ tick_entries who l node) who (ticks_here l node.turns node.ending)
+    → Out t (tick_entries who l node) who (ticks_here l node.turns node.ending)
 tick_told t who l node a n b =
     let e : LinkEnd = l.controller.side in
     let i : LinkInput = HasTick in
@@ -232,8 +233,7 @@ restart_told : (t : List Entry) (who : End) (l : Link) (i : LinkInput) (event : 
     → after_input l.controller.side i ≡ activated (moved l.controller.side true (stopped l.controller.side.shdlc)) event
     → ended_by l.controller.side i ≡ if_up l.controller.side.shdlc ByAct → began_by l.controller.side i ≡ false → Reports l.controller.side i
     → Sound (after_input l.controller.side i) → Tolds t who l
-    → Tolds (t ++ restart_entries who l i ts ending) who
-    (finished (silent l (after_input l.controller.side i)) (turned (after_input l.controller.side i) ts) ending)
+    → Out t (restart_entries who l i ts ending) who (finished (silent l (after_input l.controller.side i)) (turned (after_input l.controller.side i) ts) ending)
 restart_told t who l i event ts ending a n is ended none so sf b =
     let e : LinkEnd = l.controller.side in
     let f : LinkEnd = after_input e i in
@@ -253,11 +253,15 @@ restart_told t who l i event ts ending a n is ended none so sf b =
     let out = input_told (t ++ Restarted who ∷ []) who l k i l.controller ts ending
     (plain_input l k i so none past (ended_number l c)) refl (sym (ended_number l c)) (ended_host l c) a.0
     (moved_can e i ts ending (role_after e.role event) role (can_after e.role event ending a.1)) quiet n.sound sf first in
+    let vs : List Entry = told_of who l.controller i ++ rest_entries who k f ts ending in
     let Q : List Entry → Type 0 = λ z. Tolds z who (finished k (turned f ts) ending) in
-    subst Q (append_assoc t (Restarted who ∷ []) (told_of who l.controller i ++ rest_entries who k f ts ending)) out
+    record {
+      tolds = subst Q (append_assoc t (Restarted who ∷ []) vs) out.tolds;
+      few = few_then t who (Restarted who ∷ []) vs (few_more t who (Restarted who ∷ []) (few_told t who l.controller b.here) ((λ w m. refl), tt)) out.few;
+    }
 
 taken_told : (t : List Entry) (who : End) (l : Link) (x : OnWire) (xs : List OnWire) (ts : List Turn) (ending : Ending) → IsNode l ts ending → Near l
-    → Frame l x ts → Tolds t who l → Tolds (t ++ taken_entries who l x xs ts ending) who (has_taken l x xs ts ending)
+    → Frame l x ts → Tolds t who l → Out t (taken_entries who l x xs ts ending) who (has_taken l x xs ts ending)
 taken_told t who l x xs ts ending a n fr b =
     let e : LinkEnd = l.controller.side in
     let i : LinkInput = Take x.frame in
@@ -280,8 +284,12 @@ taken_told t who l x xs ts ending a n fr b =
     } in
     let out = input_told (t ++ Took who x.frame ∷ []) who l k i h ts ending input refl (sym (number c)) (host c) a.0
     (can_end f ts f.role ending refl (took_can e x.frame ending a.1)) (λ _. fr.quiet) n.sound (sound_input e i tt n.sound) first in
+    let vs : List Entry = told_of who h i ++ rest_entries who k f ts ending in
     let Q : List Entry → Type 0 = λ z. Tolds z who (finished k (turned f ts) ending) in
-    subst Q (append_assoc t (Took who x.frame ∷ []) (told_of who h i ++ rest_entries who k f ts ending)) out
+    record {
+      tolds = subst Q (append_assoc t (Took who x.frame ∷ []) vs) out.tolds;
+      few = few_then t who (Took who x.frame ∷ []) vs (few_more t who (Took who x.frame ∷ []) (few_told t who l.controller b.here) ((λ w m. refl), tt)) out.few;
+    }
   where
     m : Bool → Link
     m c = with_ended (record l { to_controller = xs }) c
@@ -305,7 +313,7 @@ FramesFor NextFrame l ts = Frames l ts
 FramesFor _ l ts = Unit {0}
 
 pub step_told : (t : List Entry) (who : End) (l : Link) (comes : Comes) (ts : List Turn) (ending : Ending) → IsNode l ts ending → Near l → FramesFor comes l ts
-    → Tolds t who l → Tolds (t ++ step_entries who l comes ts ending) who (steps_here l comes ts ending)
+    → Tolds t who l → Out t (step_entries who l comes ts ending) who (steps_here l comes ts ending)
 step_told t who l (AsksReset window) ts ending a n fr b =
     let e : LinkEnd = l.controller.side in
     let i : LinkInput = Reset window in
@@ -332,15 +340,18 @@ step_told t who l NextFrame ts ending a n fr b = go l.to_controller refl
     none : l.to_controller ≡ [] → (step_entries who l NextFrame ts ending ≡ []) × (steps_here l NextFrame ts ending ≡ l)
     none q = (rw q refl, rw q refl)
 
-    as_is : (u v : List Entry) (k m : Link) → u ≡ v → k ≡ m → Tolds (t ++ v) who m → Tolds (t ++ u) who k
+    as_is : (u v : List Entry) (k m : Link) → u ≡ v → k ≡ m → Out t v who m → Out t u who k
     as_is u v k m p q h =
-        let A : List Entry → Type 0 = λ z. Tolds (t ++ z) who k in let B : Link → Type 0 = λ z. Tolds (t ++ v) who z in subst A (sym p) (subst B (sym q) h)
+        let A : List Entry → Type 0 = λ z. Out t z who k in let B : Link → Type 0 = λ z. Out t v who z in subst A (sym p) (subst B (sym q) h)
 
-    go : (w : List OnWire) → l.to_controller ≡ w → Tolds (t ++ step_entries who l NextFrame ts ending) who (steps_here l NextFrame ts ending)
+    go : (w : List OnWire) → l.to_controller ≡ w → Out t (step_entries who l NextFrame ts ending) who (steps_here l NextFrame ts ending)
     go [] q =
         let z = none q in
         as_is (step_entries who l NextFrame ts ending) [] (steps_here l NextFrame ts ending) l z.0 z.1
-        (record { here = told_silent t [] who l.controller (λ y m. refl) b.here; there = told_silent t [] (far who) l.host (λ y m. refl) b.there })
+        (record {
+          tolds = record { here = told_silent t [] who l.controller (λ y m. refl) b.here; there = told_silent t [] (far who) l.host (λ y m. refl) b.there };
+          few = few_more t who [] (few_told t who l.controller b.here) tt;
+        })
     go (x ∷ xs) q =
         as_is (step_entries who l NextFrame ts ending) (taken_entries who l x xs ts ending) (steps_here l NextFrame ts ending) (has_taken l x xs ts ending)
         (some x xs q) (here x xs q) (taken_told t who l x xs ts ending a n (fr x xs q) b)

@@ -1,5 +1,5 @@
 -- Every event is noted so that the entries say what is kept of the sessions of both ends.
-use Rattle.std.proofs.Common.{◌≡◌, ℕ, zero, suc, ◌≤◌, ◌<◌, Bool, true, false, cond, List, [], ◌∷◌, ◌++◌, map, Option, Some, None, ◌⊎◌, inl, inr, refl, ap, sym, subst, ◌∙◌, arith, append_assoc}
+use Rattle.std.proofs.Common.{◌≡◌, ℕ, zero, suc, ◌≤◌, ◌<◌, Bool, true, false, cond, List, [], ◌∷◌, ◌++◌, map, Option, Some, None, ◌⊎◌, inl, inr, refl, ap, sym, subst, ◌∙◌, arith, append_assoc, append-nil}
 use Rattle.std.specs.Prelude.{is_some, ◌==◌, ◌&&◌, max, nat_lt}
 use Rattle.std.proofs.lemmas.Bool.{true≢false, ne_eqb}
 use Rattle.swp_base.specs.declared.control_frames.Control.{Control}
@@ -17,7 +17,7 @@ use Rattle.session_laws.proofs.Steps.{took_other, safe_aged, safe_turns, safe_ex
 use Rattle.swp_act.specs.Activation.{new_clf, new_uicc}
 use Rattle.link_machine.specs.Machine.{LinkEnd, Role, LinkInput, Turn, turned, is_open, is_faulty, took, after_input, ended_by, began_by, frames_out, sent_all, new_link_end}
 use Rattle.link_machine.specs.Machine.Role.{Bare, Clf, Uicc}
-use Rattle.link_machine.specs.Machine.LinkInput.{Take}
+use Rattle.link_machine.specs.Machine.LinkInput.{Take, Tick as HasTick}
 use Rattle.link_machine.proofs.Shifts.{Shift, IsNotUp, IsNew}
 use Rattle.link_machine.proofs.Shifts.Shift.{Stays, Ends, Renews, Begins, Rests as ShiftRests}
 use Rattle.link_machine.proofs.Runs.{Sound, new_sound}
@@ -42,7 +42,11 @@ use Rattle.link_entries.specs.Entries.End.{Controller, Host}
 use Rattle.link_entries.specs.Entries.Entry.{Lost, Tick}
 use Rattle.link_entries.specs.Sessions.{IsRead}
 use Rattle.link_entries.proofs.Books.{Book, blank, book_of, Silent, silent-append, silent_cons, Told, up_talk, down_talk, told_silent, past_after}
-use Rattle.link_entries.proofs.Stepping.{Tolds, silent_first, puts_number}
+use Rattle.link_entries.proofs.Stepping.{Tolds, Out, one_step, one_input, silent_first, puts_number}
+use Rattle.link_entries.proofs.Fronts.{OfOne, NoAcked, few_told, few_more}
+use Rattle.link_entries.proofs.Moments.{Ok, AllOk, all_then, between, ok_silent, ok_link}
+use Rattle.link_entries.specs.Order.{InOrderIn}
+use Rattle.hcp_packet.specs.Packets.{IsFrontOf}
 use Rattle.link_entries.proofs.Noting.{Near, Frame, Frames, FramesFor, step_told, tick_told, sound_tick, sound_step}
 
 -- ## The first frame on a wire
@@ -157,7 +161,7 @@ frame_facts l ts a b x xs w = record { quiet = none ts a; same = same; fresh = f
 -- ## Events at one end
 
 here_told : (t : List Entry) (who : End) (l : Link) (e : EndEvent) → IsAllowed l e → Before l → Tolds t who l
-    → Tolds (t ++ here_entries who l e) who (happens_here l e)
+    → Out t (here_entries who l e) who (happens_here l e)
 here_told t who l (EndStep comes ts ending) a b h =
     step_told t who l comes ts ending a.1 (record { tells = b.tells; rests = rests_of 0 0 (core_of l) b.safe; sound = b.sound }) (frames comes) h
   where
@@ -168,10 +172,27 @@ here_told t who l (EndStep comes ts ending) a b h =
     frames Stops = tt
     frames NoInput = tt
 here_told t who l (Lose why) a b h =
+    let u : List Entry = first_lost who why l.to_controller in
     record {
-      here = told_silent t (first_lost who why l.to_controller) who l.controller (silent_first who why l.to_controller) h.here;
-      there = told_silent t (first_lost who why l.to_controller) (far who) l.host (silent_first who why l.to_controller) h.there;
+      tolds = record {
+        here = told_silent t u who l.controller (silent_first who why l.to_controller) h.here;
+        there = told_silent t u (far who) l.host (silent_first who why l.to_controller) h.there;
+      };
+      few = few_more t who u (few_told t who l.controller h.here) (none l.to_controller);
     }
+  where
+    none : (w : List OnWire) → NoAcked (first_lost who why w)
+    none [] = tt
+    none (x ∷ xs) = ((λ w n. refl), tt)
+
+-- what is noted there is of this end
+one_here : (who : End) (l : Link) (e : EndEvent) → OfOne who (here_entries who l e)
+one_here who l (EndStep comes ts ending) = one_step who l comes ts ending
+one_here who l (Lose why) = go l.to_controller
+  where
+    go : (w : List OnWire) → OfOne who (first_lost who why w)
+    go [] = tt
+    go (x ∷ xs) = ((λ n. refl), tt)
 
 sound_here : (l : Link) (e : EndEvent) → IsAllowed l e → Sound l.controller.side → Sound (happens_here l e).controller.side
 sound_here l (EndStep comes ts ending) a s = sound_step l comes ts ending a.1 s
@@ -179,7 +200,7 @@ sound_here l (Lose why) a s = s
 
 -- a step that takes no frame
 own_told : (t : List Entry) (who : End) (l : Link) (e : EndEvent) → IsOwn e → IsAllowed l e → Near l → Tolds t who l
-    → Tolds (t ++ here_entries who l e) who (happens_here l e)
+    → Out t (here_entries who l e) who (happens_here l e)
 own_told t who l (Lose why) o a n h = absurd o
 own_told t who l (EndStep NextFrame ts ending) o a n h = absurd o
 own_told t who l (EndStep (AsksReset window) ts ending) o a n h = step_told t who l (AsksReset window) ts ending a.1 n tt h
@@ -187,42 +208,55 @@ own_told t who l (EndStep (Starts v) ts ending) o a n h = step_told t who l (Sta
 own_told t who l (EndStep Stops ts ending) o a n h = step_told t who l Stops ts ending a.1 n tt h
 own_told t who l (EndStep NoInput ts ending) o a n h = step_told t who l NoInput ts ending a.1 n tt h
 
--- what is known of a link within a tick, after some of it
-record Within (kf : ℕ) (t : List Entry) (who : End) (l m : Link) : Type 0 where
-  tolds : Tolds t who m
+-- what is known of a link within a tick, after these entries of its controller's end
+record Within (kf : ℕ) (t u : List Entry) (l m : Link) : Type 0 where
+  tolds : Tolds (t ++ u) Controller m
+  ok : Ok (t ++ u)
+  all : AllOk t u
   tells : Tells m.controller
   safe : SafeLink 0 kf (core_of m)
   sound : Sound m.controller.side
   host : m.host ≡ l.host
-  calm : CalmLink l → CalmLink m
 
-all_told : (kf : ℕ) (es : List EndEvent) (t : List Entry) (who : End) (l : Link) → AreOwn l es → Tells l.controller → SafeLink 0 kf (core_of l)
-    → Sound l.controller.side → Tolds t who l → Within kf (t ++ all_entries who l es) who l (all_here l es)
-all_told kf [] t who l a h s sd b =
+all_told : (kf : ℕ) (es : List EndEvent) (t : List Entry) (l : Link) → AreOwn l es → Tells l.controller → Tells l.host → SafeLink 0 kf (core_of l)
+    → Sound l.controller.side → Tolds t Controller l → Ok t → Within kf t (all_entries Controller l es) l (all_here l es)
+all_told kf [] t l a h g s sd b ok =
     record {
-      tolds = record { here = told_silent t [] who l.controller (λ x n. refl) b.here; there = told_silent t [] (far who) l.host (λ x n. refl) b.there };
+      tolds = record { here = told_silent t [] Controller l.controller (λ x n. refl) b.here; there = told_silent t [] Host l.host (λ x n. refl) b.there };
+      ok = ok_silent t [] ok (λ x n. refl);
+      all = none;
       tells = h;
       safe = s;
       sound = sd;
       host = refl;
-      calm = λ z. z;
     }
-all_told kf (e ∷ es) t who l a h s sd b =
+  where
+    none : AllOk t []
+    none [] f = ok_silent t [] ok (λ x n. refl)
+    none (x ∷ xs) f = absurd (let z = f.1 in cc)
+all_told kf (e ∷ es) t l a h g s sd b ok =
     let r = rests_of 0 kf (core_of l) s in
     let one = own_here l e a.0 a.1 h r in
     let m : Link = happens_here l e in
     let P : CoreLink → Type 0 = λ c. SafeLink 0 kf c in
     let safe : SafeLink 0 kf (core_of m) = subst P (sym one.core) (safe_turns kf (core_here l e) (core_of l) (own_turns l e r a.0 a.1) s) in
-    let told = own_told t who l e a.0 a.1 (record { tells = h; rests = r; sound = sd }) b in
-    let more = all_told kf es (t ++ here_entries who l e) who m a.2 one.tells safe (sound_here l e a.1 sd) told in
-    let Q : List Entry → Type 0 = λ u. Tolds u who (all_here m es) in
+    let out = own_told t Controller l e a.0 a.1 (record { tells = h; rests = r; sound = sd }) b in
+    let u : List Entry = here_entries Controller l e in
+    let v : List Entry = all_entries Controller m es in
+    let far_tells : Tells m.host = tells_same m.host l.host one.host g in
+    let next : Ok (t ++ u) = ok_link (t ++ u) 0 kf m safe one.tells far_tells out.tolds in
+    let first : AllOk t u = between t u Controller ok next (one_here Controller l e) out.few in
+    let more = all_told kf es (t ++ u) m a.2 one.tells far_tells safe (sound_here l e a.1 sd) out.tolds next in
+    let Q : List Entry → Type 0 = λ z. Tolds z Controller (all_here m es) in
+    let R : List Entry → Type 0 = λ z. Ok z in
     record {
-      tolds = subst Q (append_assoc t (here_entries who l e) (all_entries who m es)) more.tolds;
+      tolds = subst Q (append_assoc t u v) more.tolds;
+      ok = subst R (append_assoc t u v) more.ok;
+      all = all_then t u v first more.all;
       tells = more.tells;
       safe = more.safe;
       sound = more.sound;
       host = more.host ∙ one.host;
-      calm = λ z. more.calm (one.calm z);
     }
 
 -- ## Events
@@ -232,10 +266,16 @@ pub record Sounds (l : Link) : Type 0 where
   pub controller : Sound l.controller.side
   pub host : Sound l.host.side
 
--- an event was noted
+-- what was noted of a link up to now
 record Noted (t : List Entry) (l : Link) : Type 0 where
   tolds : Tolds t Controller l
   sounds : Sounds l
+  ok : Ok t
+
+-- something more is noted
+record Notes (t u : List Entry) (l : Link) : Type 0 where
+  noted : Noted (t ++ u) l
+  all : AllOk t u
 
 swap_tolds : (t : List Entry) (l : Link) → Tolds t Controller l → Tolds t Host (exchanged l)
 swap_tolds t l b = record { here = b.there; there = b.here }
@@ -283,41 +323,84 @@ host_here : (l : Link) (e : EndEvent) → IsAllowed l e → Good l → Reached (
 host_here l e a g r =
     (step_here l e a g.controller g.host g.calm (rests_of 0 0 (core_of l) (safe_reached (core_of l) r)) (from_host (core_of l) r)).host
 
+-- messages are in order on a link that was reached
+reached_ok : (t : List Entry) (l : Link) → Good l → Reached (core_of l) → Tolds t Controller l → Ok t
+reached_ok t l g r b = ok_link t 0 0 l (safe_reached (core_of l) r) g.controller g.host b
+
 note_here : (t : List Entry) (l : Link) (e : EndEvent) → IsAllowed l e → Good l → Reached (core_of l) → Noted t l
-    → Noted (t ++ here_entries Controller l e) (happens_here l e)
+    → Notes t (here_entries Controller l e) (happens_here l e)
 note_here t l e a g r n =
     let P : Half → Type 0 = λ z. Sound z.side in
+    let u : List Entry = here_entries Controller l e in
+    let out = here_told t Controller l e a (before_here l g r n.sounds) n.tolds in
+    let st = event_step l (AtController e) a g r in
+    let next : Reached (core_of (happens_here l e)) = subst Reached (sym st.core) (reached_more (core_of l) (core_event l (AtController e)) st.allowed r) in
+    let ok : Ok (t ++ u) = reached_ok (t ++ u) (happens_here l e) st.good next out.tolds in
     record {
-      tolds = here_told t Controller l e a (before_here l g r n.sounds) n.tolds;
-      sounds = record {
-        controller = sound_here l e a n.sounds.controller;
-        host = subst P (sym (host_here l e a g r)) n.sounds.host;
+      noted = record {
+        tolds = out.tolds;
+        sounds = record {
+          controller = sound_here l e a n.sounds.controller;
+          host = subst P (sym (host_here l e a g r)) n.sounds.host;
+        };
+        ok = ok;
       };
+      all = between t u Controller n.ok ok (one_here Controller l e) out.few;
     }
 
 note_there : (t : List Entry) (l : Link) (e : EndEvent) → IsAllowed (exchanged l) e → Good l → Reached (core_of l) → Noted t l
-    → Noted (t ++ here_entries Host (exchanged l) e) (happens l (AtHost e))
+    → Notes t (here_entries Host (exchanged l) e) (happens l (AtHost e))
 note_there t l e a g r n =
     let k : Link = exchanged l in
-    let u : List Entry = t ++ here_entries Host k e in
+    let u : List Entry = here_entries Host k e in
     let b = before_there l g r n.sounds in
     let out = here_told t Host k e a b (swap_tolds t l n.tolds) in
+    let tolds = swap_back (t ++ u) (happens_here k e) out.tolds in
     let host : (happens_here k e).host ≡ k.host = (step_here k e a b.tells b.host b.calm (rests_of 0 0 (core_of k) b.safe) b.from).host in
     let P : Half → Type 0 = λ z. Sound z.side in
+    let m : Link = happens l (AtHost e) in
+    let st = event_step l (AtHost e) a g r in
+    let next : Reached (core_of m) = subst Reached (sym st.core) (reached_more (core_of l) (core_event l (AtHost e)) st.allowed r) in
+    let ok : Ok (t ++ u) = reached_ok (t ++ u) m st.good next tolds in
     record {
-      tolds = swap_back u (happens_here k e) out;
-      sounds = record { controller = subst P (sym host) n.sounds.controller; host = sound_here k e a n.sounds.host };
+      noted = record {
+        tolds = tolds;
+        sounds = record { controller = subst P (sym host) n.sounds.controller; host = sound_here k e a n.sounds.host };
+        ok = ok;
+      };
+      all = between t u Host n.ok ok (one_here Host k e) out.few;
     }
 
-silent_aged : (who : End) (w : List OnWire) → Silent (aged_entries who w)
-silent_aged who [] = λ x n. refl
-silent_aged who (y ∷ ys) = by (nat_lt y.age 4) refl (silent_aged who ys)
-  where
-    by : (b : Bool) → nat_lt y.age 4 ≡ b → Silent (aged_entries who ys) → Silent (aged_entries who (y ∷ ys))
-    by true q later = λ x n. rw q (later x n)
-    by false q later = λ x n. rw q (later x n)
+one_tick : (who : End) (l : Link) (node : Node) → OfOne who (tick_entries who l node)
+one_tick who l node =
+    one_input who l (with_ended l (is_some (ended_by l.controller.side HasTick))) l.controller HasTick (after_input l.controller.side HasTick)
+    node.turns node.ending
 
-note_event : (t : List Entry) (l : Link) (e : LinkEvent) → IsEvent l e → Good l → Reached (core_of l) → Noted t l → Noted (t ++ event_entries l e) (happens l e)
+-- each of these says nothing of messages
+abbrev Quiet : List Entry → Type 0
+Quiet [] = Unit {0}
+Quiet (e ∷ t) = Silent (e ∷ []) × Quiet t
+
+quiet_front : (p r : List Entry) → Quiet (p ++ r) → Silent p
+quiet_front [] r q = λ x n. refl
+quiet_front (e ∷ p) r q = silent_cons e p q.0 (quiet_front p r q.1)
+
+quiet-append : (t u : List Entry) → Quiet t → Quiet u → Quiet (t ++ u)
+quiet-append [] u a b = b
+quiet-append (e ∷ t) u a b = (a.0, quiet-append t u a.1 b)
+
+quiet_all : (t u : List Entry) → Ok t → Quiet u → AllOk t u
+quiet_all t u ok q p f = let P : List Entry → Type 0 = λ z. Quiet z in ok_silent t p ok (quiet_front p f.0 (subst P (sym f.1) q))
+
+quiet_aged : (who : End) (w : List OnWire) → Quiet (aged_entries who w)
+quiet_aged who [] = tt
+quiet_aged who (y ∷ ys) = by (nat_lt y.age 4) refl (quiet_aged who ys)
+  where
+    by : (b : Bool) → nat_lt y.age 4 ≡ b → Quiet (aged_entries who ys) → Quiet (aged_entries who (y ∷ ys))
+    by true q later = rw q later
+    by false q later = rw q ((λ x n. refl), later)
+
+note_event : (t : List Entry) (l : Link) (e : LinkEvent) → IsEvent l e → Good l → Reached (core_of l) → Noted t l → Notes t (event_entries l e) (happens l e)
 note_event t l (AtController e) a g r n = note_here t l e a g r n
 note_event t l (AtHost e) a g r n = note_there t l e a g r n
 note_event t l (Ticks c es h) a g r n =
@@ -327,16 +410,19 @@ note_event t l (Ticks c es h) a g r n =
     let ps : List Entry = aged_entries Controller l.to_controller in
     let bs : List Entry = aged_entries Host l.to_host in
     let start : List Entry = Tick ∷ (ps ++ bs) in
-    let quiet : Silent start = silent_cons Tick (ps ++ bs) (λ x m. refl)
-    (silent-append ps bs (silent_aged Controller l.to_controller) (silent_aged Host l.to_host)) in
+    let quiet : Quiet start = ((λ x m. refl), quiet-append ps bs (quiet_aged Controller l.to_controller) (quiet_aged Host l.to_host)) in
+    let silent : Silent start =
+    let P : List Entry → Type 0 = λ z. Quiet z in quiet_front start [] (subst P (sym (append-nil start)) quiet) in
     let zero_told : Tolds (t ++ start) Controller aged_link =
     record {
-      here = told_silent t start Controller l.controller quiet n.tolds.here;
-      there = told_silent t start Host l.host quiet n.tolds.there;
+      here = told_silent t start Controller l.controller silent n.tolds.here;
+      there = told_silent t start Host l.host silent n.tolds.there;
     } in
+    let zero_ok : Ok (t ++ start) = ok_silent t start n.ok silent in
+    let zero_all : AllOk t start = quiet_all t start n.ok quiet in
     let near : Link = ticks_here aged_link c.turns c.ending in
     let one = step_tick aged_link c.turns c.ending a.0.0 a.0.1 g.controller rests in
-    let one_told = tick_told (t ++ start) Controller aged_link c a.0 (record { tells = g.controller; rests = rests; sound = n.sounds.controller }) zero_told in
+    let one_out = tick_told (t ++ start) Controller aged_link c a.0 (record { tells = g.controller; rests = rests; sound = n.sounds.controller }) zero_told in
     let one_sound = sound_tick aged_link c a.0 n.sounds.controller in
     let cs : List Entry = tick_entries Controller aged_link c in
     let core_one : CoreLink = core_ticks_or_cut (core_tick l.controller.side c.turns c.ending) (core_aged (core_of l)) in
@@ -345,7 +431,10 @@ note_event t l (Ticks c es h) a g r n =
     let safe_near : SafeLink 0 1 (core_of near) =
     subst P (sym one.core) (safe_turns 1 (core_tick_rest l.controller.side c.turns c.ending) core_one rest.turns
     (tick_or_cut 1 (core_tick l.controller.side c.turns c.ending) (core_aged (core_of l)) s0)) in
-    let two = all_told 1 es ((t ++ start) ++ cs) Controller near a.1 one.tells safe_near one_sound one_told in
+    let near_host : Tells near.host = tells_same near.host l.host one.host g.host in
+    let one_ok : Ok ((t ++ start) ++ cs) = ok_link ((t ++ start) ++ cs) 0 1 near safe_near one.tells near_host one_out.tolds in
+    let one_all : AllOk (t ++ start) cs = between (t ++ start) cs Controller zero_ok one_ok (one_tick Controller aged_link c) one_out.few in
+    let two = all_told 1 es ((t ++ start) ++ cs) near a.1 one.tells near_host safe_near one_sound one_out.tolds one_ok in
     let ds : List Entry = all_entries Controller near es in
     let m : Link = all_here near es in
     let host_is : m.host ≡ l.host = two.host ∙ one.host in
@@ -360,9 +449,24 @@ note_event t l (Ticks c es h) a g r n =
     let k : Link = ticks_here (exchanged m) h.turns h.ending in
     let all : u ++ fs ≡ t ++ (Tick ∷ (ps ++ (bs ++ (cs ++ (ds ++ fs))))) = five t Tick ps bs cs ds fs in
     let Q : List Entry → Type 0 = λ z. Tolds z Controller (exchanged k) in
+    let tolds : Tolds (t ++ event_entries l (Ticks c es h)) Controller (exchanged k) = subst Q all (swap_back (u ++ fs) k three.tolds) in
+    let st = event_step l (Ticks c es h) a g r in
+    let next : Reached (core_of (happens l (Ticks c es h))) = subst Reached (sym st.core)
+    (reached_more (core_of l) (core_event l (Ticks c es h)) st.allowed r) in
+    let ok : Ok (t ++ event_entries l (Ticks c es h)) = reached_ok (t ++ event_entries l (Ticks c es h)) (happens l (Ticks c es h)) st.good next tolds in
+    let R : List Entry → Type 0 = λ z. Ok z in
+    let last_all : AllOk u fs = between u fs Host two.ok (subst R (sym all) ok) (one_tick Host (exchanged m) h) three.few in
+    let rest_all : AllOk (t ++ start) (cs ++ (ds ++ fs)) =
+    all_then (t ++ start) cs (ds ++ fs) one_all (all_then ((t ++ start) ++ cs) ds fs two.all last_all) in
+    let whole : start ++ (cs ++ (ds ++ fs)) ≡ event_entries l (Ticks c es h) = ap (λ z. Tick ∷ z) (append_assoc ps bs (cs ++ (ds ++ fs))) in
+    let S : List Entry → Type 0 = λ z. AllOk t z in
     record {
-      tolds = subst Q all (swap_back (u ++ fs) k three);
-      sounds = record { controller = subst H (sym last.host) two.sound; host = sound_tick (exchanged m) h a.2 m_sound };
+      noted = record {
+        tolds = tolds;
+        sounds = record { controller = subst H (sym last.host) two.sound; host = sound_tick (exchanged m) h a.2 m_sound };
+        ok = ok;
+      };
+      all = subst S whole (all_then t start (cs ++ (ds ++ fs)) zero_all rest_all);
     }
   where
     five : (t : List Entry) (e : Entry) (ps bs cs ds fs : List Entry)
@@ -381,9 +485,11 @@ note_event t l (Activate power c id h) a g r n =
     let starts : CanStart near.host.side.role near.controller.side.role =
     can_start near.host.side.role near.controller.side.role there.0 (started_clf l power c.turns c.ending a.0) in
     let first = note_here t l x (clf, a.2) g r n in
-    let second = note_there (t ++ here_entries Controller l x) near y (starts, there.1) one.good next first in
+    let u : List Entry = here_entries Controller l x in
+    let v : List Entry = here_entries Host (exchanged near) y in
+    let second = note_there (t ++ u) near y (starts, there.1) one.good next first.noted in
     let P : List Entry → Type 0 = λ z. Noted z (happens l (Activate power c id h)) in
-    subst P (append_assoc t (here_entries Controller l x) (here_entries Host (exchanged near) y)) second
+    record { noted = subst P (append_assoc t u v) second.noted; all = all_then t u v first.all second.all }
   where
     clf_starts : (r f : Role) → IsClf r → CanStart r f
     clf_starts Bare f i = absurd i
@@ -393,28 +499,31 @@ note_event t l (Activate power c id h) a g r n =
 -- ## Runs
 
 note_events : (events : List LinkEvent) (t : List Entry) (l : Link) → AllAllowed l events → Good l → Reached (core_of l) → Noted t l
-    → Noted (t ++ entries l events) (after l events)
+    → Notes t (entries l events) (after l events)
 note_events [] t l a g r n =
     record {
-      tolds = record {
-        here = told_silent t [] Controller l.controller (λ x m. refl) n.tolds.here;
-        there = told_silent t [] Host l.host (λ x m. refl) n.tolds.there;
+      noted = record {
+        tolds = record {
+          here = told_silent t [] Controller l.controller (λ x m. refl) n.tolds.here;
+          there = told_silent t [] Host l.host (λ x m. refl) n.tolds.there;
+        };
+        sounds = n.sounds;
+        ok = ok_silent t [] n.ok (λ x m. refl);
       };
-      sounds = n.sounds;
+      all = quiet_all t [] n.ok tt;
     }
 note_events (e ∷ es) t l a g r n =
     let st = event_step l e a.0 g r in
     let next : Reached (core_of (happens l e)) = subst Reached (sym st.core) (reached_more (core_of l) (core_event l e) st.allowed r) in
-    let more = note_events es (t ++ event_entries l e) (happens l e) a.1 st.good next (note_event t l e a.0 g r n) in
+    let u : List Entry = event_entries l e in
+    let v : List Entry = entries (happens l e) es in
+    let first = note_event t l e a.0 g r n in
+    let more = note_events es (t ++ u) (happens l e) a.1 st.good next first.noted in
     let P : List Entry → Type 0 = λ z. Noted z (after (happens l e) es) in
-    subst P (append_assoc t (event_entries l e) (entries (happens l e) es)) more
+    record { noted = subst P (append_assoc t u v) more.noted; all = all_then t u v first.all more.all }
 
-start_noted : (l : Link) → IsStart l → Noted (first_entries l.controller.side.role) l
-start_noted l IsBare =
-    record {
-      tolds = record { here = told; there = told };
-      sounds = record { controller = new_sound Bare; host = new_sound Bare };
-    }
+start_tolds : (l : Link) → IsStart l → Tolds (first_entries l.controller.side.role) Controller l
+start_tolds l IsBare = record { here = told; there = told }
   where
     told : (n : ℕ) → blank ≡ book_of (talk_of (new_half (new_link_end Bare)) n)
     told n = by (n == 0) refl
@@ -422,14 +531,35 @@ start_noted l IsBare =
         by : (b : Bool) → (n == 0) ≡ b → blank ≡ book_of (talk_of (new_half (new_link_end Bare)) n)
         by true q = rw q refl
         by false q = rw q refl
-start_noted l IsLine =
-    record {
-      tolds = record { here = λ n. refl; there = λ n. refl };
-      sounds = record { controller = new_sound (Clf new_clf); host = new_sound (Uicc new_uicc) };
-    }
+start_tolds l IsLine = record { here = λ n. refl; there = λ n. refl }
+
+start_sounds : (l : Link) → IsStart l → Sounds l
+start_sounds l IsBare = record { controller = new_sound Bare; host = new_sound Bare }
+start_sounds l IsLine = record { controller = new_sound (Clf new_clf); host = new_sound (Uicc new_uicc) }
+
+start_quiet : (r : Role) → Quiet (first_entries r)
+start_quiet Bare = ((λ x n. refl), ((λ x n. refl), tt))
+start_quiet (Clf s) = tt
+start_quiet (Uicc s) = tt
+
+start_noted : (l : Link) → IsStart l → Noted (first_entries l.controller.side.role) l
+start_noted l s =
+    let b = start_tolds l s in
+    record { tolds = b; sounds = start_sounds l s; ok = reached_ok (first_entries l.controller.side.role) l (start_good l s) (start_reached l s) b }
+
+nothing_ok : Ok []
+nothing_ok who n = record { got = ([], refl); acked = ([], refl); few = omega arith }
 
 noted : (l : Link) → IsStart l → (events : List LinkEvent) → AllAllowed l events → Noted (trace l events) (after l events)
-noted l s events a = note_events events (first_entries l.controller.side.role) l a (start_good l s) (start_reached l s) (start_noted l s)
+noted l s events a = (note_events events (first_entries l.controller.side.role) l a (start_good l s) (start_reached l s) (start_noted l s)).noted
+
+-- at each moment messages are in order
+pub at_each_moment : (l : Link) → IsStart l → (events : List LinkEvent) → AllAllowed l events → (p : List Entry) → IsFrontOf p (trace l events)
+    → (who : End) (n : ℕ) → InOrderIn p who n
+at_each_moment l s events a p f =
+    all_then [] (first_entries l.controller.side.role) (entries l events)
+    (quiet_all [] (first_entries l.controller.side.role) nothing_ok (start_quiet l.controller.side.role))
+    (note_events events (first_entries l.controller.side.role) l a (start_good l s) (start_reached l s) (start_noted l s)).all p f
 
 -- what the filters read
 pub is_read : (t : List Entry) (who : End) (h : Half) (n : ℕ) → Told t who h → IsRead t who n (talk_of h n)

@@ -19,7 +19,7 @@ use Rattle.link_machine.specs.Laws.{AreSendableInputs}
 use Rattle.link_machine.proofs.Sound.{Data}
 use Rattle.link_machine.proofs.Runs.{Sound, sound_turn, sound_input, fetched_data}
 use Rattle.link_machine.proofs.Reports.{Becomes, Reports, take_so, tick_so, reset_so, start_so, stop_so}
-use Rattle.message_link.specs.Links.{Talk, Half, Link, Ending, Comes, Loss, exchanged, number_of, no_talk, ended_talk, talk_now, talk_of, becomes, put_all, with_controller, with_ended, silent, cut, finished, has_taken, steps_here, AreSendableTurns, CanEnd}
+use Rattle.message_link.specs.Links.{Talk, Half, Link, Ending, Comes, Loss, exchanged, number_of, no_talk, ended_talk, talk_now, talk_of, becomes, put, put_all, with_controller, with_ended, silent, cut, finished, has_taken, steps_here, AreSendableTurns, CanEnd}
 use Rattle.message_link.specs.Links.Ending.{GoesOut, CutOff}
 use Rattle.message_link.specs.Links.Loss.{TooMany}
 use Rattle.message_link.specs.Links.Comes.{NextFrame, AsksReset, Starts, Stops, NoInput}
@@ -29,6 +29,7 @@ use Rattle.message_link.proofs.Project.{beside-put_all}
 use Rattle.link_entries.specs.Entries.{End, Entry, far, told, told_of, turn_entry, turn_entries, first_lost, pushed_out, wire_with, put_entries, puts_entries, ending_entries, rest_entries, input_entries, left_after, taken_entries, restart_entries, step_entries}
 use Rattle.link_entries.specs.Entries.End.{Controller, Host}
 use Rattle.link_entries.specs.Entries.Entry.{Took, Emit, Lost, Restarted, Cut}
+use Rattle.link_entries.proofs.Fronts.{OfOne, one-append, one_told, one_turns, Few, AllFew, few_told, few_more, few_grown, few_then, no_sent_told, NoAcked, no_acked-append, no_acked_turns}
 use Rattle.link_entries.proofs.Books.{Book, book_of, read, Silent, silent-append, silent_cons, Told, up_talk, down_talk, told_far, told_silent, told_same, told_input, Input, past_after, with_side, told_turn, IsSendableTurn, blank, plus, plus-blank, read-append, same_far, turn_far}
 
 -- ## Turns
@@ -168,6 +169,80 @@ silent_ending : (who : End) (l : Link) (e : LinkEnd) (ending : Ending) → Silen
 silent_ending who l e GoesOut = silent_puts (frames_out e) who l
 silent_ending who l e CutOff = λ x n. refl
 
+-- frames that go out acknowledge nothing
+no_acked_lost : (who : End) (b : Bool) (w : List OnWire) → NoAcked (cond b (first_lost who TooMany w) [])
+no_acked_lost who false w = tt
+no_acked_lost who true [] = tt
+no_acked_lost who true (x ∷ xs) = ((λ w n. refl), tt)
+
+no_acked_puts : (cs : List Control) (who : End) (l : Link) → NoAcked (puts_entries who l cs)
+no_acked_puts [] who l = tt
+no_acked_puts (c ∷ cs) who l =
+    no_acked-append (put_entries who l c) (puts_entries who (put l c) cs)
+    ((λ w n. refl), no_acked_lost (far who) (nat_lt 64 (length (wire_with l c))) (wire_with l c)) (no_acked_puts cs who (put l c))
+
+no_acked_ending : (who : End) (l : Link) (e : LinkEnd) (ending : Ending) → NoAcked (ending_entries who l e ending)
+no_acked_ending who l e GoesOut = no_acked_puts (frames_out e) who l
+no_acked_ending who l e CutOff = ((λ w n. refl), tt)
+
+-- and are of one end
+one_lost : (who : End) (b : Bool) (w : List OnWire) → OfOne who (cond b (first_lost (far who) TooMany w) [])
+one_lost who false w = tt
+one_lost who true [] = tt
+one_lost who true (x ∷ xs) = ((λ n. refl), tt)
+
+one_puts : (cs : List Control) (who : End) (l : Link) → OfOne who (puts_entries who l cs)
+one_puts [] who l = tt
+one_puts (c ∷ cs) who l =
+    one-append who (put_entries who l c) (puts_entries who (put l c) cs)
+    ((λ n. refl), one_lost who (nat_lt 64 (length (wire_with l c))) (wire_with l c)) (one_puts cs who (put l c))
+
+one_ending : (who : End) (l : Link) (e : LinkEnd) (ending : Ending) → OfOne who (ending_entries who l e ending)
+one_ending who l e GoesOut = one_puts (frames_out e) who l
+one_ending who l e CutOff = ((λ n. refl), tt)
+
+pub one_rest : (who : End) (l : Link) (e : LinkEnd) (ts : List Turn) (ending : Ending) → OfOne who (rest_entries who l e ts ending)
+one_rest who l e ts ending =
+    one-append who (turn_entries who (number_of l.controller) e ts) (ending_entries who l (turned e ts) ending) (one_turns who (number_of l.controller) e ts)
+    (one_ending who l (turned e ts) ending)
+
+pub one_input : (who : End) (l k : Link) (h : Half) (i : LinkInput) (e : LinkEnd) (ts : List Turn) (ending : Ending)
+    → OfOne who (told_of who h i ++ rest_entries who k e ts ending)
+one_input who l k h i e ts ending =
+    one-append who (told_of who h i) (rest_entries who k e ts ending) (one_told who (number_of h) (report h.side i) (whole_acked (after_input h.side i)))
+    (one_rest who k e ts ending)
+
+-- what is noted of a step is of its end
+pub one_step : (who : End) (l : Link) (comes : Comes) (ts : List Turn) (ending : Ending) → OfOne who (step_entries who l comes ts ending)
+one_step who l NextFrame ts ending = go l.to_controller refl
+  where
+    some : (x : OnWire) (xs : List OnWire) → l.to_controller ≡ x ∷ xs → step_entries who l NextFrame ts ending ≡ taken_entries who l x xs ts ending
+    some x xs q = rw q refl
+
+    P : List Entry → Type 0
+    P u = OfOne who u
+
+    go : (w : List OnWire) → l.to_controller ≡ w → OfOne who (step_entries who l NextFrame ts ending)
+    go [] q = let none : step_entries who l NextFrame ts ending ≡ [] = rw q refl in subst P (sym none) tt
+    go (x ∷ xs) q =
+        subst P (sym (some x xs q)) (
+          (λ n. refl),
+          one_input who l (left_after l x xs) (record l.controller { took = took_with l.controller.took x })
+              (Take x.frame)
+              (after_input l.controller.side (Take x.frame)) ts ending,
+        )
+one_step who l (AsksReset window) ts ending =
+    one_input who l (with_ended l (is_some (ended_by l.controller.side (Reset window)))) l.controller (Reset window)
+    (after_input l.controller.side (Reset window)) ts ending
+one_step who l (Starts v) ts ending = (
+  (λ n. refl),
+  one_input who l (silent l (after_input l.controller.side (Start v))) l.controller (Start v)
+      (after_input l.controller.side (Start v)) ts ending,
+)
+one_step who l Stops ts ending =
+    ((λ n. refl), one_input who l (silent l (after_input l.controller.side Stop)) l.controller Stop (after_input l.controller.side Stop) ts ending)
+one_step who l NoInput ts ending = one_rest who l l.controller.side ts ending
+
 ending_told : (t : List Entry) (who : End) (l : Link) (e : LinkEnd) (ending : Ending) → CanEnd e.role ending → (e.shdlc.phase ≡ IsUpNow → NoRset (frames_out e))
     → Told t who (with_side l.controller e) → Told (t ++ ending_entries who l e ending) who (finished l e ending).controller
 ending_told t who l e GoesOut can none b =
@@ -191,6 +266,11 @@ pub record Tolds (t : List Entry) (who : End) (l : Link) : Type 0 where
   pub here : Told t who l.controller
   pub there : Told t (far who) l.host
 
+-- what a step noted, and that at each moment of it no more was acknowledged than sent
+pub record Out (t u : List Entry) (who : End) (m : Link) : Type 0 where
+  pub tolds : Tolds (t ++ u) who m
+  pub few : AllFew t who u
+
 told_at : (t : List Entry) (who : End) (h k : Half) → k ≡ h → Told t who h → Told t who k
 told_at t who h k q b = let P : Half → Type 0 = λ z. Told t who z in subst P (sym q) b
 
@@ -201,7 +281,7 @@ told_list t u who h q b = let P : List Entry → Type 0 = λ z. Told z who h in 
 pub rest_told : (t : List Entry) (who : End) (l : Link) (e : LinkEnd) (ts : List Turn) (ending : Ending) → AreSendableTurns ts
     → CanEnd (turned e ts).role ending
     → ((turned e ts).shdlc.phase ≡ IsUpNow → NoRset (frames_out (turned e ts))) → Sound e → Told t who (with_side l.controller e) → Told t (far who) l.host
-    → Tolds (t ++ rest_entries who l e ts ending) who (finished l (turned e ts) ending)
+    → Out t (rest_entries who l e ts ending) who (finished l (turned e ts) ending)
 rest_told t who l e ts ending a can none s here there =
     let n : ℕ = number_of l.controller in
     let us : List Entry = turn_entries who n e ts in
@@ -209,12 +289,17 @@ rest_told t who l e ts ending a can none s here there =
     let turns = told_turns ts t who (with_side l.controller e) a s here in
     let q : (t ++ us) ++ vs ≡ t ++ (us ++ vs) = append_assoc t us vs in
     record {
-      here = told_list ((t ++ us) ++ vs) (t ++ (us ++ vs)) who (finished l (turned e ts) ending).controller q
-          (ending_told (t ++ us) who l (turned e ts) ending can none turns);
-      there = told_list ((t ++ us) ++ vs) (t ++ (us ++ vs)) (far who) (finished l (turned e ts) ending).host q
-          (told_silent (t ++ us) vs (far who) (finished l (turned e ts) ending).host (silent_ending who l (turned e ts) ending)
-          (told_at (t ++ us) (far who) l.host (finished l (turned e ts) ending).host (host_finished l (turned e ts) ending)
-          (far_turns ts t who n e l.host there)));
+      tolds = record {
+        here = told_list ((t ++ us) ++ vs) (t ++ (us ++ vs)) who (finished l (turned e ts) ending).controller q
+            (ending_told (t ++ us) who l (turned e ts) ending can none turns);
+        there = told_list ((t ++ us) ++ vs) (t ++ (us ++ vs)) (far who) (finished l (turned e ts) ending).host q
+            (told_silent (t ++ us) vs (far who) (finished l (turned e ts) ending).host (silent_ending who l (turned e ts) ending)
+            (told_at (t ++ us) (far who) l.host (finished l (turned e ts) ending).host (host_finished l (turned e ts) ending)
+            (far_turns ts t who n e l.host there)));
+      };
+      few =
+          few_more t who (us ++ vs) (few_told t who (with_side l.controller e) here)
+          (no_acked-append us vs (no_acked_turns who n e ts) (no_acked_ending who l (turned e ts) ending));
     }
 
 -- an input, the turns and the end of a step: l becomes k
@@ -224,7 +309,7 @@ pub input_told : (t : List Entry) (who : End) (l k : Link) (i : LinkInput) (h : 
     → h.side ≡ l.controller.side → number_of h ≡ number_of k.controller → k.host ≡ l.host
     → AreSendableTurns ts → CanEnd (turned f ts).role ending → ((turned f ts).shdlc.phase ≡ IsUpNow → NoRset (frames_out (turned f ts)))
     → Sound l.controller.side → Sound f → Tolds t who l
-    → Tolds (t ++ (told_of who h i ++ rest_entries who k f ts ending)) who (finished k (turned f ts) ending))
+    → Out t (told_of who h i ++ rest_entries who k f ts ending) who (finished k (turned f ts) ending))
 input_told t who l k i h ts ending input side number host a can none s sf b =
     let f : LinkEnd = after_input l.controller.side i in
     let e : LinkEnd = l.controller.side in
@@ -237,6 +322,13 @@ input_told t who l k i h ts ending input side number host a can none s sf b =
     let same : told_of who h i ≡ us =
     ap (λ n. told who n (report h.side i) (whole_acked (after_input h.side i))) number
     ∙ ap (λ z. told who (number_of k.controller) (report z i) (whole_acked (after_input z i))) side in
-    let q : (t ++ us) ++ vs ≡ t ++ (told_of who h i ++ vs) = append_assoc t us vs ∙ ap (λ z. t ++ (z ++ vs)) (sym same) in
     let P : List Entry → Type 0 = λ z. Tolds z who (finished k (turned f ts) ending) in
-    subst P q out
+    let both : Out t (us ++ vs) who (finished k (turned f ts) ending) =
+    record {
+      tolds = subst P (append_assoc t us vs) out.tolds;
+      few =
+          few_then t who us vs (few_grown t who us (few_told (t ++ us) who (with_side k.controller f) here)
+          (no_sent_told who (number_of k.controller) r (whole_acked f))) out.few;
+    } in
+    let Q : List Entry → Type 0 = λ z. Out t (z ++ vs) who (finished k (turned f ts) ending) in
+    subst Q (sym same) both

@@ -2,3 +2,4 @@ pub mod Entries
 pub mod Filters
 pub mod Reading
 pub mod Sessions
+pub mod Order

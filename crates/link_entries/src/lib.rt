@@ -3,8 +3,10 @@
 
 ghost use Rattle.std.specs.Prelude.{◌≡◌, ℕ, List};
 ghost use Rattle.message_link.specs.Links.{AllAllowed, IsStart, Link, LinkEvent, after, talk_of};
-ghost use Rattle.link_entries.specs.Entries.{trace};
+ghost use Rattle.hcp_packet.specs.Packets.{IsFrontOf};
+ghost use Rattle.link_entries.specs.Entries.{End, Entry, trace};
 ghost use Rattle.link_entries.specs.Entries.End.{Controller, Host};
+ghost use Rattle.link_entries.specs.Order.{InOrderIn};
 ghost use Rattle.link_entries.specs.Reading.{kept, nothing_seen, see_all};
 ghost use Rattle.link_entries.specs.Sessions.{IsRead};
 
@@ -21,4 +23,11 @@ pub fn sessions_are_read_off()
         IsRead (trace l events) Controller n (talk_of (after l events).controller n) }
     ensures host { (l : Link) → IsStart l → (events : List LinkEvent) → AllAllowed l events → (n : ℕ) →
         IsRead (trace l events) Host n (talk_of (after l events).host n) }
+{}
+
+/// At each moment, between any two entries, each end got in each session a front of the good messages that the other sent in it; the
+/// good ones among those that count as acknowledged are a front of what the other got; and no more count than were sent.
+pub fn messages_are_in_order_at_each_moment()
+    ensures { (l : Link) → IsStart l → (events : List LinkEvent) → AllAllowed l events →
+        (front : List Entry) → IsFrontOf front (trace l events) → (who : End) (n : ℕ) → InOrderIn front who n }
 {}

@@ -119,7 +119,7 @@ whole_fits (m ∷ ms) n = go (nat_le (packet_count (length m.1)) n) refl (whole_
         let b = length-map (packets_of m.0 m.1) bytes_of ∙ packets_are_counted m.0 m.1 in
         rw q (omega (arith, i, a, b, later))
 
-in_messages : (s r : Talk) → Says s → CoreInOrder s.session r.session → InOrder s r
+pub in_messages : (s r : Talk) → Says s → CoreInOrder s.session r.session → InOrder s r
 in_messages s r says o =
     let front : IsFrontOf r.session.acc (fragments_of s.sent) = (o.front.0, o.front.1 ∙ says.out) in
     let given : messages_got r.session ≡ good_messages_of r.session.acc = ap good_of (all_given s.sent r.session.acc says.short front) in
