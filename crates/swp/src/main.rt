@@ -3,17 +3,19 @@
 #![tactic(auto)]
 
 mod adapters;
+mod file_memory;
 
 use adapters::{StdinSource, StdoutSink};
+use file_memory::FileNv;
 use std::env::{self, Env};
+use std::fs::{File, Files};
 use std::io;
 use std::process::ExitCode;
 use std::rt::Runtime;
-use swp_base::MemNv;
 use swp_tool::{Ended, Status, exit_code, run, status_text};
 
-/// The size of a node's memory, in bytes (this project's own).
-const MEMORY: u32 = 65_536;
+/// The file that keeps a node's memory, in the folder that the program runs in.
+const MEMORY: &str = "swp.nv";
 
 fn main(rt: HostRuntime) -> ExitCode {
     let status = status_of_run(&rt);
@@ -25,10 +27,8 @@ fn main(rt: HostRuntime) -> ExitCode {
 }
 
 /// Runs the program over standard input and output.
-fn status_of_run<R: Runtime + Input + Print + AllocGlobal>(rt: &R) -> Status {
-    let Ok(nv) = MemNv::new(rt.alloc(), MEMORY) else {
-        return Status::NoMemory;
-    };
+fn status_of_run<R: Runtime + Input + Print + AllocGlobal + Files<File = File>>(rt: &R) -> Status {
+    let nv = FileNv::new(rt, MEMORY);
     let words = match words_of(rt) {
         Ok(words) => words,
         Err(error) if error.kind() == io::ErrorKind::OutOfMemory => return Status::NoMemory,
