@@ -14,6 +14,8 @@ mod decodings;
 #[cfg(test)]
 mod frames;
 #[cfg(test)]
+mod library;
+#[cfg(test)]
 mod line_states;
 #[cfg(test)]
 mod lpdus;

@@ -1,0 +1,29 @@
+//! A caller of the crates as a library: the first frame on one direction of a line.
+use std::test::Fail;
+use swp_base::{Control, Kind, Lpdu};
+use swp_frame::{Deframer, Fed, write_frame};
+use swp_lpdu::read_lpdu;
+
+/// What the first frame in these bits says; none where there is no whole frame, or it says nothing.
+pub fn first_frame(bits: &[bool]) -> Option<Control> {
+    let mut deframer = Deframer::new();
+    for bit in bits {
+        if let Fed::Frame(lpdu) = deframer.feed(*bit) {
+            return read_lpdu(&lpdu).ok();
+        }
+    }
+    None
+}
+
+#[test]
+fn the_first_frame_is_found(rt: HostRuntime) -> Result<(), Fail> {
+    let frame = write_frame(&Lpdu::from_bytes(&[0xC1]).ok_or("short")?);
+    let bits = frame.bits.as_slice();
+    let receive_ready = Control::S {
+        kind: Kind::Rr,
+        nr: 1,
+    };
+    assert_eq!(rt; first_frame(bits), Some(receive_ready));
+    assert_eq!(rt; first_frame(&bits[..bits.len() - 1]), None);
+    Ok(())
+}
