@@ -95,7 +95,9 @@ fn is_setting(host: u8, gate: u8, param: u8, value: &[u8]) -> bool
     kept && is_allowed(host, param, value)
 }
 
-fn is_allowed(host: u8, param: u8, value: &[u8]) -> bool
+/// Whether a kept parameter of a host may have this value: eight bytes for SESSION_IDENTITY, and for WHITELIST at most seven
+/// different bytes, none the host's own number.
+pub fn is_allowed(host: u8, param: u8, value: &[u8]) -> bool
     ensures { result ≡ is_allowed host param value.now }
 {
     if param == SESSION_IDENTITY {

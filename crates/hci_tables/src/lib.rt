@@ -9,7 +9,7 @@ mod syncs;
 mod tables;
 
 pub use body::{MAX_BODY, read_command, write_command};
-pub use command::Command;
+pub use command::{Command, is_allowed};
 pub use tables::Tables;
 
 #[cfg(test)]

@@ -58,6 +58,6 @@ opened_on rows host gate except = count_by (λ row. row.opened && ends_at row ho
 abbrev pub is_free : List PipeRow → List ℕ → ℕ → Bool
 is_free rows kept pid = is_none (pipe_at rows pid) && not (list_any (λ k. k == pid) kept)
 
--- the least dynamic pipe that is free
-abbrev pub lowest_free : List PipeRow → List ℕ → Option ℕ
+-- The least dynamic pipe that is free. A proof that computes with it unfolds it by name.
+unfoldable pub lowest_free : List PipeRow → List ℕ → Option ℕ
 lowest_free rows kept = find (is_free rows kept) (range_with_len 2 110)

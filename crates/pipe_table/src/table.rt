@@ -1,7 +1,7 @@
 //! The table of pipes.
 ghost use Rattle.std.specs.Prelude.{◌≡◌, nat_lt};
 ghost use Rattle.std.specs.List.{prefix_len};
-ghost use Rattle.pipe_table.specs.PipeRows.{without_pipe, with_opened, all_closed};
+ghost use Rattle.pipe_table.specs.PipeRows.{pipe_at, without_pipe, with_opened, all_closed};
 
 use crate::{FIRST_DYNAMIC, FIRST_RESERVED, PipeRow};
 use arrayvec::ArrayVec;
@@ -54,9 +54,10 @@ impl PipeTable {
 
     /// The row of a pipe: none exactly where there is no such row.
     pub fn find(&self, pid: u8) -> Option<PipeRow>
-        ensures { result ≡ pipe_at self.now pid }
+        ensures row { result ≡ pipe_at self.now pid }
+        ensures dynamic { IsSome result → IsDynamic pid }
     {
-        self.rows.iter().copied().find(|row| row.pid == pid)
+        row_of(self.rows.as_slice(), pid)
     }
 
     /// Puts a row, in place of the one of the same pipe if there is one. It asks for a dynamic pipe.
@@ -116,8 +117,10 @@ impl PipeTable {
     }
 
     /// The least dynamic pipe that is neither in a row nor in `kept`: none exactly where there is none.
+    #[tactic(auto, unfolding(crate::specs::PipeRows::lowest_free))]
     pub fn lowest_free(&self, kept: &[u8]) -> Option<u8>
-        ensures { result ≡ lowest_free self.now kept.now }
+        ensures lowest { result ≡ lowest_free self.now kept.now }
+        ensures dynamic { IfSome result IsDynamic }
     {
         (FIRST_DYNAMIC..FIRST_RESERVED).find(|pid| self.is_free(*pid, kept))
     }
@@ -141,6 +144,12 @@ impl Clone for PipeTable {
         let _ = rows.try_extend_from_slice(self.rows.as_slice());
         Ok(PipeTable { rows })
     }
+}
+
+fn row_of(rows: &[PipeRow], pid: u8) -> Option<PipeRow>
+    ensures { result ≡ pipe_at rows.now pid }
+{
+    rows.iter().copied().find(|row| row.pid == pid)
 }
 
 // How many rows stand before the place of a pipe.

@@ -1,8 +1,8 @@
 -- Lists of rows sorted by a key.
 use Rattle.std.proofs.Common.{◌≡◌, ℕ, suc, ◌+◌, ◌-◌, ◌<◌, ◌≤◌, Bool, true, false, cond, not, eqb, ltb, List, [], ◌∷◌, ◌++◌, length, map, take, drop, refl, sym, subst, ap, ◌∙◌, inl, inr, arith}
-use Rattle.std.specs.Prelude.{Option, Some, None}
+use Rattle.std.specs.Prelude.{IsSome, Option, Some, None}
 use Rattle.std.specs.List.{find, filter, prefix_len, insert}
-use Rattle.std.proofs.lemmas.Bool.{cases_order, cases_eq, lt-ltb, le-ltb, eq-eqb, ne_eqb, cond-true, cond-false, cond_both}
+use Rattle.std.proofs.lemmas.Bool.{cases_order, cases_eq, lt-ltb, le-ltb, eq-eqb, ne_eqb, cond-true, cond-false, cond_both, eqb-true}
 use Rattle.std.proofs.lemmas.List.Edits.{length-insert}
 use Rattle.std.proofs.lemmas.List.Sums.{prefix_len-le-length}
 use Rattle.sorted_rows.specs.Rows.{AreRows, row_of, rows_before, rows_behind, with_row, without_row}
@@ -238,3 +238,14 @@ row_of-with_row {X} key row rows k =
             ∙ (or_else-none found ∙ sym (cond-false (eqb (key row) k) (Some row) found (ne_eqb (key row) k differs))))
       ]
     ]
+
+-- the key of a row that is found lies between the bounds
+pub row_of-within : {X : Type 0} (key : X → ℕ) (low high k : ℕ) (rows : List X) → AreRows key low high rows → IsSome (row_of key k rows) → (low ≤ k) × (k < high)
+row_of-within key low high k [] h some = absurd (cc some)
+row_of-within {X} key low high k (row ∷ rows) h some =
+    let from = h.0 in
+    let below = h.1 in
+    cond_both (eqb (key row) k) (Some row) (row_of key k rows) (λ o. IsSome o → (low ≤ k) × (k < high))
+    (λ same _. let is = eqb-true (key row) k same in (omega arith, omega arith))
+    (λ other found. let rest = row_of-within key (key row + 1) high k rows h.2 found in let rest_from = rest.0 in (omega arith, rest.1))
+    some

@@ -1,0 +1,15 @@
+//! The administration gate of a host controller, and the opening and closing of pipes (ETSI TS 102 622, administration gate,
+//! pipe management).
+#![tactic(auto)]
+
+mod decision;
+mod parameters;
+mod pipes;
+mod tests_in_order;
+mod view;
+
+pub use decision::{Decision, decide};
+pub use view::LinkView;
+
+#[cfg(test)]
+mod tests;
