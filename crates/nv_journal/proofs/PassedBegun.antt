@@ -115,3 +115,6 @@ begun_size h k = by_bank (newer h k)
     by_bank : (o : Option Side) → ((state_in' o).size ≡ 0) × ((state_in' o).many ≡ 0)
     by_bank None = (refl, refl)
     by_bank (Some side) = (refl, refl)
+
+pub unknown_version : (v : ℕ) → v ≢ 1 → v ≢ 2 → (v == 1 || v == 2) ≡ false
+unknown_version v a b = grind (arith, nat_tests)

@@ -1,19 +1,21 @@
 -- What a memory says where a pass comes to a gate.
-use Rattle.std.proofs.Common.{◌≡◌, ℕ, ◌+◌, ◌*◌, ◌<◌, ◌≤◌, ◌==◌, ◌||◌, min, Bool, true, false, List, length, take, drop, slice_index, slice_get, Option, Some, None, IsTrue, sym, refl, ap, ap₂, ◌∙◌, subst, arith, take-take, if◌then◌else◌}
+use Rattle.std.proofs.Common.{◌≡◌, ℕ, ◌+◌, ◌*◌, ◌<◌, ◌≤◌, ◌==◌, ◌||◌, min, Bool, true, false, List, length, take, drop, slice_index, slice_get, Option, Some, None, IsTrue, sym, refl, ap, ap₂, ◌∙◌, subst, arith, take-take, if◌then◌else◌, zero, suc, []}
 use Rattle.std.proofs.lemmas.Bool.{true≢false}
 use Rattle.nv_journal.specs.declared.JournalFault.TheVariants.{BadRecord}
 use Rattle.nv_journal.specs.declared.gates.Gate.TheVariants.{Closed, Bad, Record}
 use Rattle.journal_laws.specs.declared.banks.Side.{Side}
 use Rattle.journal_laws.specs.declared.state.State.{State}
-use Rattle.journal_laws.specs.Banks.{bank, is_open}
-use Rattle.journal_laws.specs.Records.{index_len, gap, body, is_record}
-use Rattle.journal_laws.specs.Journal.{records, next_gate, next_place, left}
+use Rattle.journal_laws.specs.Banks.{place, bank, is_open, current}
+use Rattle.journal_laws.specs.Records.{index_len, gap, body, is_record, size_in}
+use Rattle.std.specs.Option.{option_map_or}
+use Rattle.journal_laws.specs.Journal.{Journal, journal, records, gate_at, next_gate, next_place, left}
+use Rattle.journal_laws.proofs.InUse.{no_journal}
 use Rattle.journal_laws.proofs.Reading.{window}
-use Rattle.nv_journal.specs.Faults.{fault}
+use Rattle.nv_journal.specs.Faults.{fault, IsFaulty}
 use Rattle.nv_journal.specs.Gates.{gate_of}
 use Rattle.nv_journal.specs.Kept.{Says}
 use Rattle.nv_journal.specs.Scanning.{passed_on, IsPassed, SaysSoFar}
-use Rattle.nv_journal.proofs.PassedSteps.{same_gate, closed_gate, bad_gate, record_gate, rest_is, closed_says, bad_says, record_there, body_len, passed_then}
+use Rattle.nv_journal.proofs.PassedSteps.{same_gate, closed_gate, bad_gate, record_gate, rest_is, closed_says, bad_says, bad_last, gate_is, record_there, body_len, passed_then}
 
 some_side : (o : Option Side) (ended : Bool) → (o ≡ None → IsTrue ended) → ended ≡ false → (side : Side) × (o ≡ Some side)
 some_side None ended idle going = absurd (true≢false (sym (idle refl) ∙ going))
@@ -53,6 +55,14 @@ module _ (c : List ℕ) (state : State) (ahead : List ℕ) (ended : Bool) (says 
   bad_so_far is =
       let wrong = bad_gate state.version state.many (length bytes) bytes (sym gate_now ∙ sym is) in
       bad_says c side state ahead p says.size used few inside known wrong.0 wrong.1
+
+  pub bad_is_last : Bad ≡ gate_of state.version state.many (left state) ahead → length (records c) ≡ state.many
+  bad_is_last is =
+      let wrong = bad_gate state.version state.many (length bytes) bytes (sym gate_now ∙ sym is) in
+      bad_last c side state ahead p says.size used few inside known wrong.0 wrong.1
+
+  pub faulty_so_far : Bad ≡ gate_of state.version state.many (left state) ahead → IsFaulty c state.many (BadRecord (next_place state))
+  faulty_so_far is = record { fault_is = bad_so_far is; last = bad_is_last is }
 
   module _ (len : ℕ) (is : Record len ≡ gate_of state.version state.many (left state) ahead) (short : len ≤ 61) (fits : 2 + index_len state.version + len < left state) where
     right : (is_open (slice_index bytes 0) ≡ true) × (is_record state.version state.many (length bytes) bytes ≡ true) × (slice_index bytes 1 ≡ len)
@@ -102,3 +112,24 @@ module _ (c : List ℕ) (state : State) (ahead : List ℕ) (ended : Bool) (says 
       where
         same_side : (s t : Side) → Some s ≡ Some t → s ≡ t
         same_side s t e = cc
+
+-- the next gate is that of the record that comes next
+pub next_gate_is : (c : List ℕ) (state : State) (ahead : List ℕ) (ended : Bool) → SaysSoFar c state ahead ended → (state.in_use ≡ None → IsTrue ended)
+    → 3 * state.many ≤ state.size → state.size < 32756 → IsTrue (state.version == 1 || state.version == 2) → next_place state ≡ gate_at c state.many
+next_gate_is c state ahead ended says idle few inside known = by_bank state.in_use refl
+  where
+    by_bank : (o : Option Side) → state.in_use ≡ o → next_place state ≡ gate_at c state.many
+    by_bank (Some s) is = sym (gate_is c s state ahead (says.passed s is) says.size is few inside known)
+    by_bank None is =
+        let said = says.at_end (idle is) in
+        let unused : current c ≡ None = says.in_use ∙ is in
+        let says_nothing = no_journal c unused in
+        let none : state.size ≡ 0 = ap (λ (s : State). s.size) (sym said.state_is) ∙ ap (λ (j : Journal). j.found.size) says_nothing in
+        let no_bodies : records c ≡ [] = ap (λ (j : Journal). j.found.bodies) says_nothing in
+        ap₂ (λ o n. option_map_or place o 0 + (12 + n)) is none
+        ∙ sym (ap₂ (λ o l. option_map_or place o 0 + 12 + size_in (journal c).head.version (take state.many l)) unused no_bodies
+        ∙ ap (λ l. 0 + 12 + size_in (journal c).head.version l) (no_part state.many))
+      where
+        no_part : (m : ℕ) → take {A = List ℕ} m [] ≡ []
+        no_part zero = refl
+        no_part (suc m) = refl

@@ -177,6 +177,10 @@ module _ (c : List ℕ) (side : Side) (state : State) (ahead : List ℕ) (p : Is
       ∙ ap (λ n. Some (BadRecord (gate_at c n))) (ap (λ (x : Found). length x.bodies) f ∙ ap length (append-nil p.passed) ∙ p.many)
       ∙ ap (λ n. Some (BadRecord n)) gate_is
 
+  pub bad_last : is_open (slice_index bytes 0) ≡ true → is_record state.version state.many (length bytes) bytes ≡ false → length (records c) ≡ state.many
+  bad_last opened wrong =
+      ap (λ (x : Found). length x.bodies) (found_then bad (bad_found state.version most state.many bytes opened wrong)) ∙ ap length (append-nil p.passed) ∙ p.many
+
   -- a good one
   module _ (opened : is_open (slice_index bytes 0) ≡ true) (good : is_record state.version state.many (length bytes) bytes ≡ true) where
     abbrev b : List ℕ

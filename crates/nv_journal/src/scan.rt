@@ -3,8 +3,8 @@ ghost use Rattle.std.specs.Prelude.{◌≡◌, ◌≢◌, ◌⊎◌, ◌↔◌, 
 ghost use Rattle.swp_base.specs.Outside.{Rose};
 ghost use Rattle.journal_laws.specs.Writes.{AreRead, AreMade};
 ghost use Rattle.journal_laws.specs.Operations.{format_writes, start_writes, started, LeftByCut};
-ghost use Rattle.journal_laws.specs.Journal.{records, left};
-ghost use Rattle.nv_journal.specs.Faults.{fault};
+ghost use Rattle.journal_laws.specs.Journal.{journal, records, left, next_place, gate_at};
+ghost use Rattle.nv_journal.specs.Faults.{is_known, IsKnown, IsFaulty, fault};
 ghost use Rattle.nv_journal.specs.Scanning.{IsReadSoFar, passed_on, read_to};
 ghost use Rattle.nv_journal.specs.Kept.{Says};
 ghost use Rattle.nv_journal.specs.Refusals.{IsImageFault, IsRefused};
@@ -53,7 +53,10 @@ impl<N: Nv + Drop> Scan<N> {
         requires { N.capacity nv ≡ 65536 }
         ensures read { IfOk result (λ s. IsReadSoFar N.reads nv s) }
         ensures first { IfOk result (λ s. (s.state.many ≡ 0) × (s.state.size ≡ 0)) }
+        ensures known { IsTrue N.tells → OnOk result (IsKnown (journal (N.content nv)).head.version) }
         ensures refused { IfErr result (λ e. IsRefused N.reads N.faults N.tells N.content nv e.nv e.fault) }
+        ensures unknown { IsTrue N.tells → IfErr result (λ e. (e.fault ≡ JournalFault.NvFault)
+            ⊎ (is_known (journal (N.content nv)).head.version ≡ false)) }
         ensures kept { IsTrue N.tells → IfOk result (λ s. N.content s.nv ≡ N.content nv) }
         ensures count { MatchResult result (λ s. N.faults nv ≤ N.faults s.nv) (λ e. N.faults nv ≤ N.faults e.nv) }
     {
@@ -126,14 +129,22 @@ impl<N: Nv + Drop> Scan<N> {
         ensures body { IsTrue N.tells → IfOk result (λ o. MatchOption o
             (Says (N.content self.old.nv) self.old.state)
             (λ b. slice_get (records (N.content self.old.nv)) self.old.state.many ≡ Some b.items)) }
-        ensures fault { IfErr result (λ f. (f ≡ JournalFault.NvFault)
-            ⊎ (IsImageFault f × (IsTrue N.tells → fault (N.content self.old.nv) ≡ Some f))) }
+        ensures fault { IfErr result (λ f. (f ≡ JournalFault.NvFault) ⊎ (IsImageFault f × (IsTrue N.tells
+            → IsFaulty (N.content self.old.nv) self.old.state.many f))) }
     {
         if self.ended {
             return Ok(None);
         }
         self.read_on()?;
         self.step()
+    }
+
+    /// The place in the memory of the gate that comes next.
+    pub fn place(&self) -> u32
+        ensures place { result ≡ next_place self.now.state }
+        ensures gate { IsTrue N.tells → result ≡ gate_at (N.content self.now.nv) self.now.state.many }
+    {
+        self.state.next_place()
     }
 
     /// Reads the next piece of the bank, where fewer than 65 bytes are ahead.
@@ -171,7 +182,8 @@ impl<N: Nv + Drop> Scan<N> {
         ensures body { IsTrue N.tells → IfOk result (λ o. MatchOption o
             (Says (N.content self.old.nv) self.old.state)
             (λ b. slice_get (records (N.content self.old.nv)) self.old.state.many ≡ Some b.items)) }
-        ensures fault { IfErr result (λ f. IsImageFault f × (IsTrue N.tells → fault (N.content self.old.nv) ≡ Some f)) }
+        ensures fault { IfErr result (λ f. IsImageFault f × (IsTrue N.tells
+            → IsFaulty (N.content self.old.nv) self.old.state.many f)) }
     {
         let version = self.state.version;
         let rest = self.state.left() as usize;

@@ -1,10 +1,11 @@
-use Rattle.std.proofs.Common.{◌≡◌, ◌≤◌, ◌==◌, ◌||◌, inl, inr, true, false, IsTrue, length, refl, ap, ap₂, ◌∙◌, arith}
+use Rattle.std.proofs.Common.{subst, sym, ◌≡◌, ◌≤◌, ◌==◌, ◌||◌, inl, inr, true, false, IsTrue, length, refl, ap, ap₂, ◌∙◌, arith}
 use Rattle.journal_laws.specs.declared.banks.Side.TheVariants.{First, Second}
 use Rattle.journal_laws.specs.declared.state.State.{State}
 use Rattle.journal_laws.specs.Banks.{head}
 use Rattle.journal_laws.proofs.ReadFirst.{reads_up_to}
+use Rattle.nv_journal.specs.Faults.{is_known, IsKnown}
 use Rattle.nv_journal.specs.Scanning.{begun}
-use Rattle.nv_journal.proofs.PassedBegun.{says_begun, unknown_is_told, idle_begun, known_begun, begun_size}
+use Rattle.nv_journal.proofs.PassedBegun.{says_begun, version_begun, unknown_version, unknown_is_told, idle_begun, known_begun, begun_size}
 use Rattle.nv_journal.proofs.scan.Scan.open.Goals as goal
 use Rattle.nv_journal.proofs.scan.Scan.open.Goals.{else-state-ne1-via-then-state-ne1+else-state-ne2, else-state-ne1-via-else-state-ne1}
 
@@ -59,3 +60,24 @@ invariant_of-result g c =
           rw (c.in-Ok.ensures.kept tells, c.new.ensures, is)
           (says_begun content long c.is_none-ended.result (rw is at c.is_none-ended.ensures) (rw is at known));
     }
+
+pub returns-clause-known : goal.returns-clause-known
+returns-clause-known g c = λ tells.
+    let s = c.begun-state.result in
+    let content = g.N.Nv.content c.args.nv in
+    let heads = c.in-Ok.ensures.heads tells in
+    let is : s ≡ begun (head content First) (head content Second) = c.begun-state.ensures ∙ ap₂ begun heads.0 heads.1 in
+    let long : 65536 ≤ length content = omega (arith, g.met.N.Nv.sized c.args.nv tells, c.requires) in
+    let known : IsKnown s.version = elim c.else-state-ne1.branch [
+      | else-state-ne1-via-then-state-ne1+else-state-ne2 w ↦ known_begun s.version (inr w.if-state-ne2.false)
+      | else-state-ne1-via-else-state-ne1 w ↦ known_begun s.version (inl w.if-state-ne1.false)
+    ] in
+    subst IsKnown (ap (λ (t : State). t.version) is ∙ sym (version_begun content long)) known
+
+pub returns-then-state-ne2-clause-unknown : goal.returns-then-state-ne2-clause-unknown
+returns-then-state-ne2-clause-unknown g c = λ tells.
+    let content = g.N.Nv.content c.args.nv in
+    let heads = c.in-Ok.ensures.heads tells in
+    let is : c.begun-state.result ≡ begun (head content First) (head content Second) = c.begun-state.ensures ∙ ap₂ begun heads.0 heads.1 in
+    let long : 65536 ≤ length content = omega (arith, g.met.N.Nv.sized c.args.nv tells, c.requires) in
+    inr (ap is_known (version_begun content long ∙ sym (ap (λ (t : State). t.version) is)) ∙ unknown_version c.begun-state.result.version c.if-state-ne1.true c.if-state-ne2.true)

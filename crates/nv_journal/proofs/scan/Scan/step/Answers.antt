@@ -1,7 +1,7 @@
 use Rattle.std.proofs.Common.{◌+◌, take, drop, length-drop, refl, ap₂, ◌∙◌, arith}
 use Rattle.journal_laws.specs.Records.{index_len}
 use Rattle.nv_journal.specs.Gates.{gate_of}
-use Rattle.nv_journal.proofs.PassedGates.{closed_so_far, ended_so_far, bad_so_far, record_so_far, says_then}
+use Rattle.nv_journal.proofs.PassedGates.{closed_so_far, ended_so_far, faulty_so_far, record_so_far, says_then}
 use Rattle.nv_journal.proofs.scan.Scan.step.Goals as goal
 
 pub invariant_of-self : goal.invariant_of-self
@@ -56,7 +56,7 @@ returns-in-Bad-clause-fault g c =
     let is = c.in-Bad.ensures.gate ∙ ap₂ (gate_of k.state.version k.state.many) c.left-rest.ensures c.as_slice.ensures in (
       tt,
       λ tells. rw (← c.self.view_is, c.next_place.ensures.place)
-          (bad_so_far (g.N.Nv.content k.nv) k.state k.ahead k.ended (old.says tells) (rw (← c.self.view_is) at c.requires.going) old.idle old.few old.inside old.known
+          (faulty_so_far (g.N.Nv.content k.nv) k.state k.ahead k.ended (old.says tells) (rw (← c.self.view_is) at c.requires.going) old.idle old.few old.inside old.known
           (rw (← c.self.view_is) at c.requires.enough) is),
     )
 

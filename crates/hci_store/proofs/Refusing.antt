@@ -1,0 +1,54 @@
+-- Why a start of a store is refused.
+use Rattle.std.proofs.Common.{◌≡◌, ◌⊎◌, inl, inr, ℕ, ◌≤◌, Bool, true, false, cond, List, Some, IsTrue, sym, ap, ◌∙◌, subst, arith}
+use Rattle.std.specs.Option.{option_map_or}
+use Rattle.swp_base.specs.Outside.{Rose}
+use Rattle.nv_journal.specs.declared.JournalFault.{JournalFault}
+use Rattle.nv_journal.specs.declared.JournalFault.TheVariants.{NvFault, BadRecord}
+use Rattle.journal_laws.specs.Journal.{journal, records, gate_at}
+use Rattle.journal_laws.specs.Writes.{AreRead}
+use Rattle.nv_journal.specs.Faults.{is_known, IsKnown, fault}
+use Rattle.nv_journal.specs.Refusals as journal_refusals
+use Rattle.hci_store.specs.Image.{first_other, image_fault}
+use Rattle.hci_store.specs.Refusals.{IsRefused}
+
+pub unknown_is_told : (content : List ℕ) → is_known (journal content).head.version ≡ false → image_fault content ≡ fault content
+unfolding image_fault
+unknown_is_told content unknown =
+    ap (λ k. cond k (option_map_or (λ n. Some (BadRecord (gate_at content n))) (first_other 0 (records content)) (fault content)) (fault content)) unknown
+
+module _ {N : Type 0} (reads : N → Bool → N → Type 0) (faults : N → ℕ) (tells : Bool) (content : N → List ℕ) (first new : N) where
+  -- the heads were refused
+  pub heads_refused : (f : JournalFault) → journal_refusals.IsRefused reads faults tells content first new f
+      → (IsTrue tells → (f ≡ NvFault) ⊎ (is_known (journal (content first)).head.version ≡ false)) → IsRefused reads faults tells content first new f
+  heads_refused f (inl unread, kept) unknown = (inl unread, kept)
+  heads_refused f (inr unsound, kept) unknown = (
+    inr (record {
+      fault_is = unsound.fault_is;
+      read = unsound.read;
+      told = λ t. told t (unknown t);
+    }),
+    kept,
+  )
+    where
+      told : IsTrue tells → (f ≡ NvFault) ⊎ (is_known (journal (content first)).head.version ≡ false) → image_fault (content first) ≡ Some f
+      told t (inl memory) = absurd (subst journal_refusals.IsImageFault memory unsound.fault_is)
+      told t (inr not_known) = unknown_is_told (content first) not_known ∙ unsound.told t
+
+  -- the records were refused
+  pub records_refused : (between : N) (f : JournalFault)
+      → (f ≡ NvFault) ⊎ (journal_refusals.IsImageFault f × (IsTrue tells → IsKnown (journal (content between)).head.version → image_fault (content between) ≡ Some f))
+      → (f ≡ NvFault → AreRead reads 37 first false new) → (journal_refusals.IsImageFault f → AreRead reads 37 first true new)
+      → faults first ≤ faults between → (f ≡ NvFault → Rose (faults between) (faults new))
+      → (IsTrue tells → content between ≡ content first) → (IsTrue tells → content new ≡ content between)
+      → (IsTrue tells → IsKnown (journal (content first)).head.version)
+      → IsRefused reads faults tells content first new f
+  records_refused between f (inl memory) unread read count rose kept still known =
+      (inl (record { fault = memory; read = unread memory; rose = omega (arith, count, rose memory) }), λ t. still t ∙ kept t)
+  records_refused between f (inr image) unread read count rose kept still known = (
+    inr (record {
+      fault_is = image.0;
+      read = read image.0;
+      told = λ t. ap image_fault (sym (kept t)) ∙ image.1 t (subst (λ l. IsKnown (journal l).head.version) (sym (kept t)) (known t));
+    }),
+    λ t. still t ∙ kept t,
+  )

@@ -1,0 +1,16 @@
+use Rattle.std.proofs.Common.{◌≡◌, ◌-◌, ◌≤◌, IsTrue}
+use Rattle.journal_laws.specs.Journal.{records}
+use Rattle.nv_journal.specs.Scanning.{IsReadSoFar}
+use Rattle.hci_store.proofs.Applying.{AreApplied}
+use Rattle.hci_store.proofs.records.apply_all.Given as goal
+
+abbrev pub invariant-records : goal.invariant-records
+invariant-records g l = record {
+  count : g.N.Nv.faults l.initial.scan.nv ≤ g.N.Nv.faults l.scan.nv;
+  kept : IsTrue g.N.Nv.tells → g.N.Nv.content l.scan.nv ≡ g.N.Nv.content l.initial.scan.nv;
+  read : (first : g.row.N.Denot) → IsReadSoFar g.N.Nv.reads first l.initial.scan → IsReadSoFar g.N.Nv.reads first l.scan;
+  so_far : IsTrue g.N.Nv.tells → AreApplied (records (g.N.Nv.content l.initial.scan.nv)) l.scan.state.many l.tables;
+}
+
+abbrev pub decreases-records : goal.decreases-records
+decreases-records g l = 32756 - l.scan.state.size

@@ -1,0 +1,44 @@
+use Rattle.std.proofs.Common.{Err, sym, refl, ap, ◌∙◌}
+use Rattle.nv_journal.specs.Kept.{Kept}
+use Rattle.nv_journal.proofs.Refusing.{not_of_memory, read_all}
+use Rattle.hci_tables.specs.Tables.{close}
+use Rattle.hci_store.proofs.Closing.{close-close}
+use Rattle.hci_store.proofs.Refusing.{heads_refused, records_refused}
+use Rattle.hci_store.proofs.store.Store.peek.Goals as goal
+
+pub returns-in-Err-clause-refused : goal.returns-in-Err-clause-refused
+returns-in-Err-clause-refused g c =
+    let opened = c.in-Err.ensures in
+    heads_refused g.N.Nv.reads g.N.Nv.faults g.N.Nv.tells g.N.Nv.content c.args.nv c.in-Err.refused.nv c.in-Err.refused.fault opened.refused opened.unknown
+
+pub returns-in-Ok-apply_all-clause-read : goal.returns-in-Ok-apply_all-clause-read
+returns-in-Ok-apply_all-clause-read g c =
+    let passed = c.in-Ok-apply_all.ensures in
+    rw c.peek.ensures.journal
+    (refl, read_all g.N.Nv.reads c.args.nv c.apply_all.new.scan (passed.read c.args.nv c.in-Ok.ensures.read (λ e. cc)))
+
+pub invariant_of-result : goal.invariant_of-result
+invariant_of-result g c =
+    let passed = c.in-Ok-apply_all.ensures in
+    let content = g.N.Nv.content in
+    record {
+      holds = λ live tells.
+          let same = ap (λ (j : Kept g.row.N.Denot). content j.nv) c.peek.ensures.journal ∙ passed.kept tells in
+          rw (same, c.close.ensures)
+          (record {
+            commands = passed.commands tells;
+            tables_are = ap close (sym (passed.tables tells)) ∙ sym (close-close c.apply_all.new.tables);
+          });
+    }
+
+pub returns-in-Err-apply_all-clause-refused : goal.returns-in-Err-apply_all-clause-refused
+returns-in-Err-apply_all-clause-refused g c =
+    let scan = c.in-Ok.scan in
+    let opened = c.in-Ok.ensures in
+    let passed = c.in-Err-apply_all.ensures in
+    let f = c.in-Err-apply_all.fault in
+    rw c.into_nv.ensures
+    (records_refused g.N.Nv.reads g.N.Nv.faults g.N.Nv.tells g.N.Nv.content c.args.nv c.apply_all.new.scan.nv scan.nv f passed.fault
+    (λ memory. passed.unread c.args.nv opened.read (ap Err memory))
+    (λ image. read_all g.N.Nv.reads c.args.nv c.apply_all.new.scan (passed.read c.args.nv opened.read (not_of_memory f image)))
+    opened.count (λ memory. passed.rose (ap Err memory)) opened.kept passed.kept opened.known)

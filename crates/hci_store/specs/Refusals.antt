@@ -1,0 +1,17 @@
+-- Why a start of a store is refused.
+use Rattle.std.specs.Prelude.{◌≡◌, ◌⊎◌, ℕ, Bool, true, List, Some, IsTrue}
+use Rattle.nv_journal.specs.declared.JournalFault.{JournalFault}
+use Rattle.journal_laws.specs.Writes.{AreRead}
+use Rattle.nv_journal.specs.Refusals.{IsImageFault, IsUnread}
+use Rattle.hci_store.specs.Image.{image_fault}
+
+-- at most 37 reads were made, and the memory's content has this fault
+pub record IsUnsound {N : Type 0} (reads : N → Bool → N → Type 0) (tells : Bool) (content : N → List ℕ) (old new : N) (f : JournalFault) : Type 0 where
+  pub fault_is : IsImageFault f
+  pub read : AreRead reads 37 old true new
+  pub told : IsTrue tells → image_fault (content old) ≡ Some f
+
+-- the records were refused, and nothing was written
+abbrev pub IsRefused : {N : Type 0} → (N → Bool → N → Type 0) → (N → ℕ) → Bool → (N → List ℕ) → N → N → JournalFault → Type 0
+IsRefused reads faults tells content old new f =
+    (IsUnread reads faults old new f ⊎ IsUnsound reads tells content old new f) × (IsTrue tells → content new ≡ content old)

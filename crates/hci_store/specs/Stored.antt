@@ -1,0 +1,19 @@
+-- What a store keeps, and what its memory says of that.
+use Rattle.std.specs.Prelude.{◌≡◌, ℕ, Bool, true, List, IsTrue}
+use Rattle.journal_laws.specs.Journal.{records}
+use Rattle.nv_journal.specs.Kept.{Kept}
+use Rattle.hci_tables.specs.Tables.{HciTables, close}
+use Rattle.hci_store.specs.Image.{tables_of, are_commands}
+
+-- the journal, and the tables
+pub record Stored (N : Type 0) : Type 0 where
+  pub journal : Kept N
+  pub tables : HciTables
+
+-- all records are commands, and a start on this memory would give these tables, all pipes closed
+pub record Holds (content : List ℕ) (tables : HciTables) : Type 0 where
+  pub commands : are_commands (records content) ≡ true
+  pub tables_are : close (tables_of content) ≡ close tables
+
+pub record IsStored {N : Type 0} (tells : Bool) (content : N → List ℕ) (s : Stored N) : Type 0 where
+  pub holds : IsTrue s.journal.live → IsTrue tells → Holds (content s.journal.nv) s.tables
