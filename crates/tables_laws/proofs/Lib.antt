@@ -1,0 +1,5 @@
+pub mod LookUps
+pub mod SortedTables
+pub mod Ends
+pub mod Opened
+pub mod Values
