@@ -6,3 +6,4 @@ pub mod Stepping
 pub mod Noting
 pub mod Moments
 pub mod Running
+mod Examples
