@@ -6,4 +6,5 @@ pub mod Stepping
 pub mod Noting
 pub mod Moments
 pub mod Running
+pub mod Chains
 mod Examples

@@ -1,7 +1,9 @@
 -- What the two ends of a link were given, got and had acknowledged in a session, as it is noted.
-use Rattle.std.specs.Prelude.{ℕ, ◌≤◌, List, length, take}
+use Rattle.std.specs.Prelude.{ℕ, ◌≤◌, Bool, true, false, List, length, take}
+use Rattle.swp_base.specs.declared.link_terms.Cause.TheVariants.{Chain}
 use Rattle.hcp_packet.specs.Packets.{good_of, IsFrontOf}
 use Rattle.link_entries.specs.Entries.{End, Entry, far}
+use Rattle.link_entries.specs.Entries.Entry.{Down}
 use Rattle.link_entries.specs.Filters.{sent_in, got_in, acked_in}
 
 -- In the session with this number the other end got a front of the good messages that this end sent, the good ones among those
@@ -10,3 +12,8 @@ pub record InOrderIn (t : List Entry) (who : End) (n : ℕ) : Type 0 where
   pub got : IsFrontOf (got_in t (far who) n) (good_of (sent_in t who n))
   pub acked : IsFrontOf (good_of (take (acked_in t who n) (sent_in t who n))) (got_in t (far who) n)
   pub few : acked_in t who n ≤ length (sent_in t who n)
+
+-- a session ends by a packet that can't be joined
+abbrev pub is_chain_fault : Entry → Bool
+is_chain_fault (Down who Chain) = true
+is_chain_fault _ = false

@@ -1,12 +1,13 @@
 //! What is noted of a link, entry by entry, and what can be read off it. There is no code here that runs.
 #![tactic(auto)]
 
-ghost use Rattle.std.specs.Prelude.{◌≡◌, ℕ, List};
+ghost use Rattle.std.specs.Prelude.{◌≡◌, ℕ, false, List};
+ghost use Rattle.std.specs.List.{list_any};
 ghost use Rattle.message_link.specs.Links.{AllAllowed, IsStart, Link, LinkEvent, after, talk_of};
 ghost use Rattle.hcp_packet.specs.Packets.{IsFrontOf};
 ghost use Rattle.link_entries.specs.Entries.{End, Entry, trace};
 ghost use Rattle.link_entries.specs.Entries.End.{Controller, Host};
-ghost use Rattle.link_entries.specs.Order.{InOrderIn};
+ghost use Rattle.link_entries.specs.Order.{InOrderIn, is_chain_fault};
 ghost use Rattle.link_entries.specs.Reading.{kept, nothing_seen, see_all};
 ghost use Rattle.link_entries.specs.Sessions.{IsRead};
 
@@ -30,4 +31,10 @@ pub fn sessions_are_read_off()
 pub fn messages_are_in_order_at_each_moment()
     ensures { (l : Link) → IsStart l → (events : List LinkEvent) → AllAllowed l events →
         (front : List Entry) → IsFrontOf front (trace l events) → (who : End) (n : ℕ) → InOrderIn front who n }
+{}
+
+/// No session of a link ever ends by a packet that can't be joined.
+pub fn no_chain_fault_is_noted()
+    ensures { (l : Link) → IsStart l → (events : List LinkEvent) → AllAllowed l events →
+        list_any is_chain_fault (trace l events) ≡ false }
 {}

@@ -192,7 +192,7 @@ never_chain e c h = go e.phase refl c h
     go Down p (Act _ _) h = let z = rw p at h in cc
     go Down p Clt h = let z = rw p at h in cc
 
-act_not_chain : (e : LinkEnd) (event : ActEvent) → ended_by_act e event ≡ Some Chain → ⊥
+pub act_not_chain : (e : LinkEnd) (event : ActEvent) → ended_by_act e event ≡ Some Chain → ⊥
 act_not_chain e event h = go (act_answer e.role event).ended_link e.shdlc.phase refl refl
   where
     go : (b : Bool) (p : LinkState) → (act_answer e.role event).ended_link ≡ b → e.shdlc.phase ≡ p → ⊥
@@ -201,7 +201,7 @@ act_not_chain e event h = go (act_answer e.role event).ended_link e.shdlc.phase 
     go true Waiting q r = let z = rw (q, r) at h in cc
     go true Down q r = let z = rw (q, r) at h in cc
 
-not_chain : (e : LinkEnd) (c : Control) → (is_open e.role ≡ true → is_faulty (taken e.shdlc c).session ≡ false) → ended_by e (Take c) ≡ Some Chain → ⊥
+pub not_chain : (e : LinkEnd) (c : Control) → (is_open e.role ≡ true → is_faulty (taken e.shdlc c).session ≡ false) → ended_by e (Take c) ≡ Some Chain → ⊥
 not_chain e (Act a b) f q = act_not_chain e (ActTake a b) q
 not_chain e (I ns nr info) f q = shdlc (is_open e.role) refl
   where
