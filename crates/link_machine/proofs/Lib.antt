@@ -3,3 +3,4 @@ pub mod Sound
 pub mod Runs
 pub mod Told
 pub mod Reports
+pub mod Places

@@ -1,9 +1,10 @@
 -- What is said of every run of the machine of one end.
-use Rattle.std.specs.Prelude.{◌≡◌, ℕ, ◌≤◌, Bool, true, false, List, [], ◌∷◌, Option, Some, None}
+use Rattle.std.specs.Prelude.{◌≡◌, ℕ, zero, suc, ◌+◌, Bool, true, false, List, [], ◌∷◌, length, Option, Some, None}
+use Rattle.shdlc_core.specs.Machine.{most_frames}
 use Rattle.swp_base.specs.declared.control_frames.Control.{Control}
 use Rattle.swp_base.specs.declared.control_frames.Control.TheVariants.{I, S, Rset, Ua, Act, Clt}
 use Rattle.hcp_packet.specs.Packets.{IsSendable}
-use Rattle.link_machine.specs.Machine.{LinkEnd, Role, LinkInput, new_link_end, after_inputs}
+use Rattle.link_machine.specs.Machine.{LinkEnd, Role, LinkInput, new_link_end, after_inputs, next_frame, frame_fetched}
 use Rattle.link_machine.specs.Machine.LinkInput.{FromNode}
 use Rattle.link_machine.specs.Machine.Turn.{Give}
 
@@ -47,3 +48,20 @@ pub record Forgets (e f : LinkEnd) : Type 0 where
   pub out : f.shdlc.session.out ≡ []
   pub acc : f.shdlc.session.acc ≡ []
   pub got : f.got ≡ e.got
+
+-- the frames that are fetched one after another, at most n
+abbrev pub fetches : ℕ → LinkEnd → List Control
+fetches zero e = []
+fetches (suc n) e = with_first (next_frame e) (fetches n (frame_fetched e)) where
+  with_first : Option Control → List Control → List Control
+  with_first None later = []
+  with_first (Some c) later = c ∷ later
+
+-- the end after n fetches; where nothing is due they change nothing
+abbrev pub after_fetches : ℕ → LinkEnd → LinkEnd
+after_fetches zero e = e
+after_fetches (suc n) e = after_fetches n (frame_fetched e)
+
+-- how often a frame may be fetched before all are out: twelve frames of SHDLC, and those of activation
+abbrev pub most_fetches : LinkEnd → ℕ
+most_fetches e = most_frames + length e.acts

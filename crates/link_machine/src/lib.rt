@@ -7,9 +7,10 @@ ghost use Rattle.swp_base.specs.declared.control_frames.Control.{Control as Fram
 ghost use Rattle.swp_base.specs.declared.link_terms.Cause.{Cause};
 ghost use Rattle.shdlc_core.specs.declared.answers.LinkState.TheVariants.{Up};
 ghost use Rattle.hcp_packet.specs.Packets.{fragments_of};
-ghost use Rattle.link_machine.specs.Machine.{Role, LinkInput, after_input, ended_by, in_use, is_open, next_frame, spare, whole_acked};
+ghost use Rattle.link_machine.specs.Machine.{Role, LinkInput, after_input, ended_by, frames_out, in_use, is_open, next_frame, sent_all, spare, whole_acked};
+ghost use Rattle.shdlc_core.specs.Machine.{most_frames};
 ghost use Rattle.link_machine.specs.Machine.LinkInput.{Take};
-ghost use Rattle.link_machine.specs.Laws.{AreSendableInputs, Forgets, IsNone, end_after, is_fragment, is_shdlc};
+ghost use Rattle.link_machine.specs.Laws.{AreSendableInputs, Forgets, IsNone, after_fetches, end_after, fetches, is_fragment, is_shdlc, most_fetches};
 
 /// In a session the fragments given to SHDLC are the packets of the messages sent, in order, and none is left out.
 pub fn fragments_are_those_of_the_messages_sent()
@@ -52,4 +53,13 @@ pub fn end_without_session_sends_no_fragment()
 pub fn ended_session_is_forgotten()
     ensures { (role : Role) (inputs : List LinkInput) → AreSendableInputs inputs → (i : LinkInput) (cause : Cause) →
         ended_by (end_after role inputs) i ≡ Some cause → Forgets (end_after role inputs) (after_input (end_after role inputs) i) }
+{}
+
+/// An end that has at most twelve control frames of SHDLC to send gives all that is due one frame after another: control frames in the
+/// order in which they were made, then fragments.
+pub fn frames_are_fetched_one_by_one()
+    ensures frames { (role : Role) (inputs : List LinkInput) → length (end_after role inputs).shdlc.due ≤ most_frames →
+        fetches (most_fetches (end_after role inputs)) (end_after role inputs) ≡ frames_out (end_after role inputs) }
+    ensures rest { (role : Role) (inputs : List LinkInput) → length (end_after role inputs).shdlc.due ≤ most_frames →
+        after_fetches (most_fetches (end_after role inputs)) (end_after role inputs) ≡ sent_all (end_after role inputs) }
 {}
