@@ -3,8 +3,8 @@ use Rattle.std.proofs.Common.{◌≡◌, ◌⊎◌, inl, inr, ℕ, zero, suc, �
 use Rattle.std.specs.Option.{option_map_or}
 use Rattle.std.proofs.lemmas.Bool.{and_parts, and_from}
 use Rattle.nv_journal.specs.declared.JournalFault.{JournalFault}
-use Rattle.nv_journal.specs.declared.JournalFault.TheVariants.{BadRecord}
-use Rattle.journal_laws.specs.Journal.{journal, records, gate_at}
+use Rattle.nv_journal.specs.declared.JournalFault.TheVariants.{BadRecord, UnknownFormat}
+use Rattle.journal_laws.specs.Journal.{journal, records, gate_at, IsSound}
 use Rattle.nv_journal.specs.Faults.{IsKnown, is_known, IsFaulty, fault}
 use Rattle.hci_tables.specs.declared.command.Command.{Command}
 use Rattle.hci_tables.specs.Tables.{HciTables, no_tables, apply}
@@ -95,6 +95,13 @@ fault_is_told content all = by_version (is_known (journal content).head.version)
     by_version : (k : Bool) → cond k (option_map_or (λ n. Some (BadRecord (gate_at content n))) (first_other 0 (records content)) (fault content)) (fault content) ≡ fault content
     by_version true = ap (λ o. option_map_or (λ n. Some (BadRecord (gate_at content n))) o (fault content)) (none_other (records content) 0 all)
     by_version false = refl
+
+-- a sound journal whose records are commands has no fault
+pub sound_has_no_fault : (content : List ℕ) → are_commands (records content) ≡ true → IsSound (journal content) → image_fault content ≡ None
+sound_has_no_fault content all sound =
+    fault_is_told content all
+    ∙ ap (λ k. cond k (cond (journal content).found.is_bad (Some (BadRecord (gate_at content (length (records content))))) None) (Some (UnknownFormat (journal content).head.version))) sound.known
+    ∙ ap (λ b. cond b (Some (BadRecord (gate_at content (length (records content))))) None) sound.good
 
 pub journal_fault_is_told : (content now : List ℕ) (many : ℕ) (t : HciTables) (f : JournalFault) → now ≡ content → AreApplied (records content) many t → IsFaulty now many f
     → image_fault content ≡ Some f

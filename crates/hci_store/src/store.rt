@@ -1,9 +1,9 @@
 //! A store over a memory.
-ghost use Rattle.std.specs.Prelude.{◌≡◌, ◌≤◌, true, IsTrue, IfOk, IfErr, MatchResult};
+ghost use Rattle.std.specs.Prelude.{◌≡◌, ◌≤◌, true, None, IsTrue, OnOk, IfOk, IfErr, MatchResult};
 ghost use Rattle.journal_laws.specs.Writes.{AreRead};
 ghost use Rattle.journal_laws.specs.Journal.{records, count_of, count};
 ghost use Rattle.hci_tables.specs.Tables.{close};
-ghost use Rattle.hci_store.specs.Image.{tables_of, are_commands};
+ghost use Rattle.hci_store.specs.Image.{tables_of, are_commands, image_fault};
 
 use crate::records::apply_all;
 use hci_tables::Tables;
@@ -39,6 +39,7 @@ impl<N: Nv + Drop> Store<N> {
         ensures read { IfOk result (λ s. IsTrue s.journal.live × AreRead N.reads 37 nv true s.journal.nv) }
         ensures tables { IsTrue N.tells → IfOk result (λ s. s.tables ≡ close (tables_of (N.content nv))) }
         ensures commands { IsTrue N.tells → IfOk result (λ s. are_commands (records (N.content nv)) ≡ true) }
+        ensures sound { IsTrue N.tells → OnOk result (image_fault (N.content nv) ≡ None) }
         ensures count { IsTrue N.tells → IfOk result (λ s. count_of s.journal.state ≡ count (N.content nv)) }
         ensures kept { IsTrue N.tells → IfOk result (λ s. N.content s.journal.nv ≡ N.content nv) }
         ensures refused { IfErr result (λ e. IsRefused N.reads N.faults N.tells N.content nv e.nv e.fault) }

@@ -1,7 +1,10 @@
-use Rattle.std.proofs.Common.{Err, sym, refl, ap, ◌∙◌}
+use Rattle.std.proofs.Common.{Err, sym, refl, ap, ◌∙◌, subst}
 use Rattle.nv_journal.specs.Kept.{Kept}
 use Rattle.nv_journal.proofs.Refusing.{not_of_memory, read_all}
 use Rattle.hci_tables.specs.Tables.{close}
+use Rattle.journal_laws.specs.Journal.{journal, IsSound}
+use Rattle.hci_store.specs.Image.{image_fault}
+use Rattle.hci_store.proofs.Applying.{sound_has_no_fault}
 use Rattle.hci_store.proofs.Closing.{close-close}
 use Rattle.hci_store.proofs.Refusing.{heads_refused, records_refused}
 use Rattle.hci_store.proofs.store.Store.peek.Goals as goal
@@ -42,3 +45,11 @@ returns-in-Err-apply_all-clause-refused g c =
     (λ memory. passed.unread c.args.nv opened.read (ap Err memory))
     (λ image. read_all g.N.Nv.reads c.args.nv c.apply_all.new.scan (passed.read c.args.nv opened.read (not_of_memory f image)))
     opened.count (λ memory. passed.rose (ap Err memory)) opened.kept passed.kept opened.known)
+
+pub returns-in-Ok-apply_all-clause-sound : goal.returns-in-Ok-apply_all-clause-sound
+returns-in-Ok-apply_all-clause-sound g c tells =
+    let passed = c.in-Ok-apply_all.ensures in
+    let same = passed.kept tells in
+    sym (ap image_fault (c.in-Ok.ensures.kept tells))
+    ∙ sound_has_no_fault (g.N.Nv.content c.in-Ok.scan.nv) (passed.commands tells)
+    (subst (λ content. IsSound (journal content)) same (c.peek.ensures.said tells).sound)
