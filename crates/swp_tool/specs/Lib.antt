@@ -5,3 +5,4 @@ pub mod Replays
 pub mod Pieces
 pub mod Runs
 pub mod Decodings
+pub mod Images

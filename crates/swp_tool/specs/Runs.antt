@@ -93,6 +93,10 @@ IsReplay words = words ≡ codes "replay" ∷ []
 abbrev pub IsDecode : List (List ℕ) → Type 0
 IsDecode words = words ≡ codes "decode" ∷ []
 
+-- the one word `tables`
+abbrev pub IsTables : List (List ℕ) → Type 0
+IsTables words = words ≡ codes "tables" ∷ []
+
 -- the words that ask for something
 abbrev pub IsCommand : List (List ℕ) → Type 0
-IsCommand words = IsReplay words ⊎ IsDecode words
+IsCommand words = IsReplay words ⊎ (IsDecode words ⊎ IsTables words)

@@ -8,6 +8,7 @@ mod pieces;
 mod replay;
 mod replaying;
 mod status;
+mod tables;
 mod top;
 mod transcript;
 

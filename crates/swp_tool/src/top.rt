@@ -2,13 +2,17 @@
 ghost use Rattle.std.specs.Prelude.{◌≡◌, ◌≢◌, ◌≤◌, ◌<◌, ◌+◌, ◌++◌, ◌∷◌, ◌↔◌, ◌⊎◌, [], List, ℕ, length, map, string_bytes, codes, Some, None, IsTrue, OnOk, OnErr, IfErr, Ok, Err, take, true, false};
 ghost use Rattle.swp_base.specs.Outside.{Rose};
 ghost use Rattle.swp_tool.specs.Schedules.{Stop, schedule_of};
-ghost use Rattle.swp_tool.specs.Runs.{status_of, status_at, Replayed, IsUnderWay, IsReplay, IsDecode, IsCommand, IsOfReplay, IsOfDecode};
+ghost use Rattle.swp_tool.specs.Runs.{status_of, status_at, Replayed, IsUnderWay, IsReplay, IsDecode, IsTables, IsCommand, IsOfReplay, IsOfDecode};
+ghost use Rattle.swp_tool.specs.Images.{Told, IsOfTables};
+ghost use Rattle.hci_store.specs.Image.{image_fault};
+ghost use Rattle.nv_journal.specs.declared.JournalFault.{JournalFault as Bad};
 ghost use Rattle.swp_tool.specs.Decodings.{DecodedBy, most_bytes};
 ghost use Rattle.swp_tool.specs.Pieces.{HasRead, IsReading, IsReadAhead, bytes_left};
 
 use crate::decoding::decode;
 use crate::replaying::replay;
 use crate::status::Status;
+use crate::tables::tables;
 use std::alloc::Global;
 use swp_base::{Nv, Sink, Source};
 
@@ -20,10 +24,11 @@ pub struct Ended<N> {
     pub nv: N,
 }
 
-/// Runs the program: the words are those behind its name. Of its commands two are built. `replay` reads a schedule to its
-/// end or to its first fault, line by line, and writes its transcript. `decode` reads the record of a line and writes a
-/// line of text for each frame or fault in it. The memory is handed back as it was.
-pub fn run<S: Source, K: Sink, N: Nv>(
+/// Runs the program: the words are those behind its name. Of its commands three are built. `replay` reads a schedule to its end
+/// or to its first fault, line by line, and writes its transcript. `decode` reads the record of a line and writes a line of text
+/// for each frame or fault in it. `tables` writes what the memory keeps, and reads nothing else. The memory is handed back; its
+/// content is as it was.
+pub fn run<S: Source, K: Sink, N: Nv + Drop>(
     alloc: Global,
     words: &[String],
     source: &mut S,
@@ -44,13 +49,27 @@ pub fn run<S: Source, K: Sink, N: Nv>(
     ensures bad_words { (result.status ≡ Status.BadWords) ↔ ¬ IsCommand (map string_bytes words.now) }
     ensures untouched { result.status ≡ Status.BadWords → (source.new ≡ source.old) × (sink.new ≡ sink.old) }
 
-    // Whatever is read, a replay and a decoding end in these ways alone.
+    // What was written of a memory that tells its content. Nothing is read then, and the memory keeps its content.
+    ensures told { IsTables (map string_bytes words.now) → IsTrue N.tells →
+        Told K.tells result.status (N.content nv) (K.written sink.old) (K.written sink.new) }
+    ensures kept { IsTables (map string_bytes words.now) → IsTrue N.tells → N.content result.nv ≡ N.content nv }
+    ensures unread { IsTables (map string_bytes words.now) → source.new ≡ source.old }
+    ensures complete_tables { IsTables (map string_bytes words.now) → IsTrue N.tells → image_fault (N.content nv) ≡ None →
+        ¬ Rose (N.faults nv) (N.faults result.nv) → ¬ Rose (K.faults sink.old) (K.faults sink.new) →
+        (result.status ≡ Status.Done) ⊎ (result.status ≡ Status.NoMemory) }
+    ensures bad_image { IsTables (map string_bytes words.now) → IsTrue N.tells →
+        (f : Bad) → image_fault (N.content nv) ≡ Some f → ¬ Rose (N.faults nv) (N.faults result.nv) →
+        result.status ≡ Status.BadImage f }
+
+    // Whatever is read, each word ends in these ways alone.
     ensures replay_status { IsReplay (map string_bytes words.now) → IsOfReplay result.status }
     ensures decode_status { IsDecode (map string_bytes words.now) → IsOfDecode result.status }
+    ensures tables_status { IsTables (map string_bytes words.now) → IsOfTables result.status }
 
     // A fault of the outside comes only where its count rose.
     ensures read_fault { result.status ≡ Status.ReadFault → Rose (S.faults source.old) (S.faults source.new) }
     ensures write_fault { result.status ≡ Status.WriteFault → Rose (K.faults sink.old) (K.faults sink.new) }
+    ensures nv_fault { result.status ≡ Status.NvFault → Rose (N.faults nv) (N.faults result.nv) }
 
     // With a whole schedule and no fault of the outside, a replay is done, unless there is no memory.
     ensures complete { IsReplay (map string_bytes words.now) → IsTrue S.tells →
@@ -84,8 +103,12 @@ pub fn run<S: Source, K: Sink, N: Nv>(
     ensures record_ahead { IsDecode (map string_bytes words.now) → IsTrue S.tells →
         length (S.left source.old) ≤ most_bytes + 4096 + length (S.left source.new) }
 
-    ensures nv { result.nv ≡ nv }
+    // Only the tables need the memory.
+    ensures nv { ¬ IsTables (map string_bytes words.now) → result.nv ≡ nv }
 {
+    if is_word(words, b"tables") {
+        return tables(alloc, sink, nv);
+    }
     let status = if is_word(words, b"replay") {
         replay(alloc, source, sink)
     } else if is_word(words, b"decode") {
