@@ -20,6 +20,8 @@ mod line_states;
 #[cfg(test)]
 mod lpdus;
 #[cfg(test)]
+mod memories;
+#[cfg(test)]
 mod outside;
 #[cfg(test)]
 mod packets;
