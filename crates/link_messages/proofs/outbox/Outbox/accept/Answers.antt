@@ -1,0 +1,28 @@
+use Rattle.std.proofs.Common.{◌<◌, length, refl, sym, subst}
+use Rattle.block_pool.specs.Pool.{PoolState}
+use Rattle.link_messages.specs.declared.outbox.Outbox.{Outbox}
+use Rattle.link_messages.specs.Outgoing.{Accepts}
+use Rattle.link_messages.proofs.OutgoingLemmas.{TakesInto, taken_into, accepted}
+use Rattle.link_messages.proofs.outbox.Outbox.accept.Goals as goal
+
+pub push-requires : goal.push-requires
+push-requires c =
+    let old = c.args.self.now in
+    let e = c.in_ok-take.ensures in
+    let P : PoolState → Type 0 = λ p. TakesInto p c.take.new.self c.chain-chain.result c.take.new.chain c.args.message.now in
+    let t = subst P c.chain-chain.ensures.unchanged (record { appends = e.ok; appended = e.appended; live = e.live; others = e.others; room = e.room.0 refl }) in
+    let into = taken_into c.args.pool.now c.take.new.self old.owner old.queue c.chain-chain.result c.take.new.chain c.args.pipe c.args.message.now c.requires.lies.kept
+    c.chain-chain.ensures.chain.0 c.chain-chain.ensures.chain.1 c.requires.sendable t in
+    subst (λ n. length old.queue.items < n) (sym c.requires.lies.kept.capacity) into.0
+
+pub returns-clause-ok : goal.returns-clause-ok
+returns-clause-ok c =
+    let old = c.args.self.now in
+    let e = c.in_ok-take.ensures in
+    let P : PoolState → Type 0 = λ p. TakesInto p c.take.new.self c.chain-chain.result c.take.new.chain c.args.message.now in
+    let t = subst P c.chain-chain.ensures.unchanged (record { appends = e.ok; appended = e.appended; live = e.live; others = e.others; room = e.room.0 refl }) in
+    let into = taken_into c.args.pool.now c.take.new.self old.owner old.queue c.chain-chain.result c.take.new.chain c.args.pipe c.args.message.now c.requires.lies.kept
+    c.chain-chain.ensures.chain.0 c.chain-chain.ensures.chain.1 c.requires.sendable t in
+    let Q : Outbox → Type 0 = λ b. Accepts c.args.pool.now c.take.new.self old b (c.args.pipe, c.args.message.now) in
+    subst Q (sym c.push.ensures)
+    (accepted c.args.pool.now c.take.new.self old _ (c.args.pipe, c.args.message.now) c.requires.lies into.1 into.2 refl refl refl)

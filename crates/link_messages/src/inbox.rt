@@ -1,0 +1,134 @@
+//! The messages that come.
+ghost use Rattle.std.specs.Prelude.{◌≡◌, IsTrue, ◌↔◌, is_ok};
+ghost use Rattle.block_pool.specs.Pool.{IsLive, chain_bytes};
+ghost use Rattle.hcp_packet.specs.Packets.{is_good};
+
+use block_pool::{Chain, Pool};
+use hcp_chain::{ChainFault, Joined, Joiner};
+use hcp_packet::{read_header, read_packet};
+use swp_base::Info;
+
+/// A message that came whole, in its chain, with its pipe.
+#[derive(Debug, PartialEq, Eq, Drop)]
+pub struct Got {
+    pipe: u8,
+    chain: Chain,
+}
+
+/// The messages that come to one end, in the blocks of one owner: those that are partly received, and the one that came whole
+/// until it is fetched.
+#[derive(Debug, Drop)]
+pub struct Inbox {
+    joiner: Joiner,
+    got: Option<Got>,
+}
+
+impl Inbox {
+    ghost use Rattle.std.specs.Prelude.{◌≡◌, ◌+◌, ◌↔◌, [], ◌∷◌, ◌++◌, IsTrue, IsOk, OnOk, OnErr, IfSome, IfNone, None, is_some};
+    ghost use Rattle.std.specs.Option.{option_to_list};
+    ghost use Rattle.block_pool.specs.Owners.{with_used};
+    ghost use Rattle.block_pool.specs.Pool.{used_of, IsLive, chain_bytes};
+    ghost use Rattle.hcp_packet.specs.Packets.{packet_of, good_of};
+    ghost use Rattle.hcp_chain.specs.Joining.{Outcome, join_step, are_taken, message_in};
+    ghost use Rattle.hcp_chain.specs.Joining.Outcome.{Message};
+    ghost use Rattle.hcp_chain.specs.declared.joiner.Open.{Open};
+    ghost use Rattle.hcp_chain.specs.Holding.{HoldsWhole, held_blocks, open_messages};
+    ghost use Rattle.link_messages.specs.Incoming.{chains_in, under_way, got_in, LiesIn, IsReady, LeavesOthers, Joins};
+
+    /// Nothing came. What comes is kept in the blocks of this owner.
+    pub fn new(owner: u8) -> Inbox
+        ensures owner { result.joiner.owner ≡ owner }
+        ensures empty { chains_in result ≡ [] }
+    {
+        Inbox {
+            joiner: Joiner::new(owner),
+            got: None,
+        }
+    }
+
+    /// Takes a fragment. One outside the packet grammar is dropped, and so is a message that is empty or whose type is reserved.
+    /// `Err` comes where its packet can't be joined: nothing that is under way is kept then.
+    pub fn take(&mut self, pool: &mut Pool, info: &Info) -> Result<(), ChainFault>
+        requires lies { LiesIn pool.old self.old }
+        requires ready { IsReady pool.old self.old }
+        ensures taken { IsOk result ↔ IsTrue (are_taken (under_way pool.old self.old) (option_to_list (packet_of info.now))) }
+        ensures ok { OnOk result (Joins pool.old pool.new self.old self.new (option_to_list (packet_of info.now))) }
+        ensures err { OnErr result (LiesIn pool.new self.new × (self.new.joiner.owner ≡ self.old.joiner.owner) × (chains_in self.new ≡ [])
+            × (used_of pool.new self.old.joiner.owner ≡ 0)
+            × LeavesOthers pool.old pool.new self.old.joiner.owner (chains_in self.old) []) }
+    {
+        let Ok(packet) = read_packet(info.bytes()) else {
+            return Ok(());
+        };
+        match self.joiner.take(pool, &packet) {
+            Joined::More => Ok(()),
+            Joined::Whole { pipe, chain } => {
+                self.keep_good(pool, pipe, chain);
+                Ok(())
+            }
+            Joined::Fault(fault) => Err(fault),
+        }
+    }
+
+    // Keeps a message that came whole until it is fetched, where it is a good one.
+    fn keep_good(&mut self, pool: &mut Pool, pipe: u8, chain: Chain)
+        requires whole { HoldsWhole pool.old self.old.joiner (record { pipe = pipe; chain = chain }) }
+        requires fetched { self.old.got ≡ None }
+        ensures lies { LiesIn pool.new self.new }
+        ensures joiner { self.new.joiner ≡ self.old.joiner }
+        ensures open { under_way pool.new self.new ≡ under_way pool.old self.old }
+        ensures got { got_in pool.new self.new ≡ good_of (message_in (Message pipe (chain_bytes pool.old chain))) }
+        ensures used { used_of pool.new self.old.joiner.owner ≡ held_blocks pool.new (chains_in self.new) }
+        ensures elsewhere { LeavesOthers pool.old pool.new self.old.joiner.owner
+            (self.old.joiner.open.items ++ record { pipe = pipe; chain = chain } ∷ []) (chains_in self.new) }
+    {
+        if is_good(pool, &chain) {
+            self.got = Some(Got { pipe, chain });
+        } else {
+            pool.give(chain);
+        }
+    }
+
+    /// The message that came whole and wasn't fetched, with its pipe. It is the caller's from now on.
+    pub fn fetch(&mut self) -> Option<(u8, Chain)>
+        ensures fetched { self.new.got ≡ None }
+        ensures joiner { self.new.joiner ≡ self.old.joiner }
+        ensures some { IfSome result (λ m. self.old.got ≡ Some (record { pipe = m.0; chain = m.1 })) }
+        ensures none { IfNone result (self.old.got ≡ None) }
+    {
+        let Got { pipe, chain } = self.got.take()?;
+        Some((pipe, chain))
+    }
+
+    /// Whether a message came whole and wasn't fetched.
+    pub fn has_message(&self) -> bool
+        ensures { result ≡ is_some self.now.got }
+    {
+        self.got.is_some()
+    }
+
+    /// Forgets what is partly received. A message that came whole stays.
+    pub fn clear(&mut self, pool: &mut Pool)
+        requires { LiesIn pool.old self.old }
+        ensures lies { LiesIn pool.new self.new }
+        ensures open { self.new.joiner.open.items ≡ [] }
+        ensures got { self.new.got ≡ self.old.got }
+        ensures owner { self.new.joiner.owner ≡ self.old.joiner.owner }
+        ensures message { got_in pool.new self.new ≡ got_in pool.old self.old }
+        ensures counted { used_of pool.new self.old.joiner.owner + held_blocks pool.old (chains_in self.old)
+            ≡ used_of pool.old self.old.joiner.owner + held_blocks pool.new (chains_in self.new) }
+        ensures elsewhere { LeavesOthers pool.old pool.new self.old.joiner.owner (chains_in self.old) (chains_in self.new) }
+    {
+        self.joiner.clear(pool);
+    }
+}
+
+// Whether a message isn't empty and its type isn't reserved.
+fn is_good(pool: &Pool, chain: &Chain) -> bool
+    requires { IsLive pool.now chain.now }
+    ensures { result ≡ is_good (chain_bytes pool.now chain.now) }
+{
+    let mut first = [0; 1];
+    let count = pool.copy_out(chain, 0, &mut first);
+    read_header(&first[..count]).is_ok()
+}

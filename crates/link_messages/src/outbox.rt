@@ -1,0 +1,257 @@
+//! The messages that wait until they are acknowledged whole.
+ghost use Rattle.std.specs.Prelude.{◌≡◌, ◌^◌, ◌<◌, length, map, slice_get, Some};
+ghost use Rattle.block_pool.specs.Pool.{IsLive, chain_bytes};
+ghost use Rattle.hcp_packet.specs.Packets.{packet_count, packets_of, bytes_of};
+
+use block_pool::{Chain, NoRoom, Pool};
+use circular_buffer::HeapCircularBuffer;
+use hcp_chain::cut;
+use hcp_packet::write_packet;
+use std::alloc::{AllocError, Global};
+use swp_base::Info;
+
+/// A message in its chain, with its pipe.
+#[derive(Debug, Default, PartialEq, Eq, Drop)]
+pub struct Queued {
+    pipe: u8,
+    chain: Chain,
+}
+
+/// The messages of one end that aren't acknowledged whole, oldest first, in the blocks of one owner.
+#[derive(Drop)]
+pub struct Outbox {
+    owner: u8,
+    queue: HeapCircularBuffer<Queued>,
+    // How many fragments of the first message are acknowledged.
+    acked: u32,
+    // How many fragments were cut, counted from the first one of the first message.
+    cut: u32,
+}
+
+impl Outbox {
+    ghost use Rattle.std.specs.Prelude.{◌≡◌, ◌≢◌, ℕ, ◌+◌, ◌-◌, ◌<◌, ◌≤◌, ◌↔◌, ◌++◌, [], ◌∷◌, length, take, drop, slice_get, IfOk, IfErr, IsOk, OnOk, OnErr, List, IsTrue, IsNone, OnSome, IfSome, IfNone};
+    ghost use Rattle.std.specs.Option.{option_to_list};
+    ghost use Rattle.std.specs.Bool.{OnTrue, OnFalse};
+    ghost use Rattle.circular_buffer.specs.Buffer.{buffer};
+    ghost use Rattle.block_pool.specs.Slots.{blocks_for};
+    ghost use Rattle.block_pool.specs.Pool.{IsLive, chain_bytes, spare_of};
+    ghost use Rattle.hcp_packet.specs.Packets.{packet_count, fragments_of, IsSendable};
+    ghost use Rattle.link_machine.specs.Machine.{Message, whole_among};
+    ghost use Rattle.link_messages.specs.declared.outbox.Queued.{Queued};
+    ghost use Rattle.link_messages.specs.Outgoing.{messages_in, waiting_in, rest_among, AreKept, LiesIn, LeavesOthers, LeavesOthersBut, Accepts, GivesFront, GivesBack, acked_more};
+
+    /// The most messages that wait: each uses at least one of the owner's 128 blocks.
+    pub const MOST: usize = 128;
+
+    /// Nothing waits.
+    pub fn make(alloc: Global, owner: u8) -> Result<Outbox, AllocError>
+        ensures { IfOk result (λ box. (box.owner ≡ owner) × (box.queue ≡ buffer [] 128) × (box.acked ≡ 0) × (box.cut ≡ 0)) }
+    {
+        let queue = HeapCircularBuffer::with_capacity(alloc, Self::MOST)?;
+        Ok(Outbox {
+            owner,
+            queue,
+            acked: 0,
+            cut: 0,
+        })
+    }
+
+    /// Takes a message of at most 4,096 bytes, which is copied into a chain of its own. `Err` comes where its blocks exceed what the
+    /// owner has left, and changes nothing.
+    pub fn accept(&mut self, pool: &mut Pool, pipe: u8, message: &[u8]) -> Result<(), NoRoom>
+        requires lies { LiesIn pool.old self.old }
+        requires sendable { IsSendable (pipe, message.now) }
+        requires short { length message.now ≤ 4096 }
+        ensures room { IsOk result ↔ (blocks_for (length message.now) ≤ spare_of pool.old self.old.owner) }
+        ensures ok { OnOk result (Accepts pool.old pool.new self.old self.new (pipe, message.now)) }
+        ensures elsewhere { OnOk result (LeavesOthers pool.old pool.new self.old.owner self.old.queue.items self.new.queue.items) }
+        ensures no_room { IfErr result (λ e. (e.need ≡ blocks_for (length message.now)) × (e.spare ≡ spare_of pool.old self.old.owner)) }
+        ensures err { OnErr result ((pool.new ≡ pool.old) × (self.new ≡ self.old)) }
+    {
+        let mut chain = pool.chain(self.owner);
+        pool.take(&mut chain, message)?;
+        self.push(pipe, chain);
+        Ok(())
+    }
+
+    // A message stands behind the others.
+    fn push(&mut self, pipe: u8, chain: Chain)
+        requires { length self.old.queue.items < self.old.queue.capacity }
+        ensures { self.new ≡ record self.old { queue = buffer (self.old.queue.items ++ record { pipe = pipe; chain = chain } ∷ []) self.old.queue.capacity } }
+    {
+        let _fits = self.queue.try_push_back(Queued { pipe, chain });
+    }
+
+    // Gives the first message's blocks back. False where there is none.
+    fn give_front(&mut self, pool: &mut Pool) -> bool
+        requires { AreKept pool.old self.old.owner self.old.queue }
+        ensures given { OnTrue result (GivesFront pool.old pool.new self.old self.new) }
+        ensures none { OnFalse result ((self.old.queue.items ≡ []) × (self.new ≡ self.old) × (pool.new ≡ pool.old)) }
+    {
+        match self.queue.pop_front() {
+            Some(first) => {
+                pool.give(first.chain);
+                true
+            }
+            None => false,
+        }
+    }
+
+    /// Forgets all messages, and gives their blocks back.
+    pub fn clear(&mut self, pool: &mut Pool)
+        requires { AreKept pool.old self.old.owner self.old.queue }
+        ensures lies { LiesIn pool.new self.new }
+        ensures empty { self.new.queue.items ≡ [] }
+        ensures places { (self.new.acked ≡ 0) × (self.new.cut ≡ 0) }
+        ensures owner { self.new.owner ≡ self.old.owner }
+        ensures elsewhere { LeavesOthers pool.old pool.new self.old.owner self.old.queue.items [] }
+    {
+        while self.give_front(pool) {}
+        self.acked = 0;
+        self.cut = 0;
+    }
+
+    /// The first fragment that wasn't cut yet, which is cut now. None where all were.
+    pub fn next_fragment(&mut self, pool: &Pool) -> Option<Info>
+        requires { LiesIn pool.now self.old }
+        ensures fragment { waiting_in pool.now self.old ≡ option_to_list result ++ waiting_in pool.now self.new }
+        ensures none { IsNone result ↔ (waiting_in pool.now self.old ≡ []) }
+        ensures kept { OnSome result (self.new ≡ record self.old { cut = self.old.cut + 1 }) }
+        ensures same { IfNone result (self.new ≡ self.old) }
+        ensures lies { LiesIn pool.now self.new }
+    {
+        match self.fragment_at(pool) {
+            Some(info) => {
+                self.cut += 1;
+                Some(info)
+            }
+            None => None,
+        }
+    }
+
+    // The first fragment that wasn't cut yet, where there is one.
+    fn fragment_at(&self, pool: &Pool) -> Option<Info>
+        requires { LiesIn pool.now self.now }
+        ensures { result ≡ slice_get (fragments_of (messages_in pool.now self.now)) self.now.cut }
+    {
+        let mut place = self.cut;
+        let mut at = 0;
+        while let Some(queued) = self.queue.get(at) {
+            let count = fragment_count(pool, &queued.chain);
+            if place < count {
+                return Some(fragment_of(pool, queued, place));
+            }
+            place -= count;
+            at += 1;
+        }
+        None
+    }
+
+    /// So many more fragments are acknowledged, all of which were cut. The blocks of each message that is acknowledged whole now are
+    /// given back. How many these are.
+    pub fn acknowledge(&mut self, pool: &mut Pool, count: u8) -> u16
+        requires lies { LiesIn pool.old self.old }
+        requires cut { self.old.acked + count ≤ self.old.cut }
+        ensures gives { GivesBack pool.old pool.new (acked_more self.old count) self.new result }
+        ensures all { whole_among (messages_in pool.new self.new) self.new.acked ≡ 0 }
+        ensures rest { rest_among (messages_in pool.new self.new) self.new.acked ≡ self.new.acked }
+    {
+        self.acked += u32::from(count);
+        let mut whole = 0;
+        while self.give_first(pool) {
+            whole += 1;
+        }
+        whole
+    }
+
+    // Gives the blocks of the first message back, where it is acknowledged whole.
+    fn give_first(&mut self, pool: &mut Pool) -> bool
+        requires { LiesIn pool.old self.old }
+        ensures given { OnTrue result (GivesBack pool.old pool.new self.old self.new 1) }
+        ensures fewer { OnTrue result (length self.new.queue.items + 1 ≡ length self.old.queue.items) }
+        ensures kept { OnFalse result ((self.new ≡ self.old) × (pool.new ≡ pool.old)) }
+        ensures all { OnFalse result (whole_among (messages_in pool.old self.old) self.old.acked ≡ 0) }
+        ensures rest { OnFalse result (rest_among (messages_in pool.old self.old) self.old.acked ≡ self.old.acked) }
+    {
+        let Some(count) = self.first_count(pool) else {
+            return false;
+        };
+        if count > self.acked {
+            return false;
+        }
+        let _given = self.give_front(pool);
+        self.acked -= count;
+        self.cut -= count;
+        true
+    }
+
+    // How many fragments the first message has, where there is one.
+    fn first_count(&self, pool: &Pool) -> Option<u32>
+        requires { AreKept pool.now self.now.owner self.now.queue }
+        ensures first { IfSome result (λ n. (m : Message) × (rest : List Message) × (messages_in pool.now self.now ≡ m ∷ rest)
+            × (n ≡ packet_count (length m.1))) }
+        ensures none { IfNone result (self.now.queue.items ≡ []) }
+    {
+        match self.queue.front() {
+            Some(first) => Some(fragment_count(pool, &first.chain)),
+            None => None,
+        }
+    }
+
+    /// Takes a message that lies in a chain of another owner, which is passed on as it is. `Err` comes where its blocks exceed what
+    /// the owner has left, changes nothing, and gives the chain back.
+    pub fn accept_chain(
+        &mut self,
+        pool: &mut Pool,
+        pipe: u8,
+        chain: Chain,
+    ) -> Result<(), (Chain, NoRoom)>
+        requires lies { LiesIn pool.old self.old }
+        requires live { IsLive pool.old chain }
+        requires other { chain.owner ≢ self.old.owner }
+        requires sendable { IsSendable (pipe, chain_bytes pool.old chain) }
+        ensures room { IsOk result ↔ (blocks_for (length (chain_bytes pool.old chain)) ≤ spare_of pool.old self.old.owner) }
+        ensures ok { OnOk result (Accepts pool.old pool.new self.old self.new (pipe, chain_bytes pool.old chain)) }
+        ensures elsewhere { OnOk result (LeavesOthersBut pool.old pool.new self.old.owner chain self.old.queue.items self.new.queue.items) }
+        ensures no_room { IfErr result (λ e. (e.0 ≡ chain) × (e.1.need ≡ blocks_for (length (chain_bytes pool.old chain)))
+            × (e.1.spare ≡ spare_of pool.old self.old.owner)) }
+        ensures err { OnErr result ((pool.new ≡ pool.old) × (self.new ≡ self.old)) }
+    {
+        let mut chain = chain;
+        match pool.pass(&mut chain, self.owner) {
+            Ok(()) => {
+                self.push(pipe, chain);
+                Ok(())
+            }
+            Err(full) => Err((chain, full)),
+        }
+    }
+}
+
+/// How many fragments the message in a chain has.
+fn fragment_count(pool: &Pool, chain: &Chain) -> u32
+    requires { IsLive pool.now chain.now }
+    ensures count { result ≡ packet_count (length (chain_bytes pool.now chain.now)) }
+    ensures short { length (chain_bytes pool.now chain.now) < 2 ^ 32 }
+{
+    pool.len(chain).div_ceil(hcp_packet::MAX_DATA as u32)
+}
+
+/// A fragment of a message, by its place.
+fn fragment_of(pool: &Pool, queued: &Queued, place: u32) -> Info
+    requires live { IsLive pool.now queued.now.chain }
+    requires pipe { queued.now.pipe < 112 }
+    requires within { place < packet_count (length (chain_bytes pool.now queued.now.chain)) }
+    requires short { length (chain_bytes pool.now queued.now.chain) < 2 ^ 32 }
+    ensures { slice_get (map bytes_of (packets_of queued.now.pipe (chain_bytes pool.now queued.now.chain))) place ≡ Some result }
+{
+    let packet = cut(
+        pool,
+        &queued.chain,
+        queued.pipe,
+        place * hcp_packet::MAX_DATA as u32,
+    );
+    Info {
+        bytes: write_packet(&packet),
+    }
+}
