@@ -1,0 +1,247 @@
+-- What is sent and what comes have two owners: what is done with the one leaves the other.
+use Rattle.std.proofs.Common.{◌≡◌, ◌≢◌, ℕ, ◌+◌, ◌-◌, ◌≤◌, inl, inr, List, [], ◌∷◌, ◌++◌, length, refl, sym, ap, ◌∙◌, subst, arith}
+use Rattle.std.specs.List.{AllByRecursion}
+use Rattle.std.proofs.lemmas.Bool.{cases_eq}
+use Rattle.std.proofs.lemmas.List.Sums.{sum_by-cons}
+use Rattle.block_pool.specs.declared.chain.Chain.{Chain}
+use Rattle.block_pool.specs.declared.owners.Owner.{Owner}
+use Rattle.block_pool.specs.Slots.{blocks_for}
+use Rattle.block_pool.specs.Owners.{owner_at}
+use Rattle.block_pool.specs.Pool.{PoolState, quota_of, used_of, aside_of, IsLive, IsApart, chain_bytes}
+use Rattle.block_pool.specs.Holdings.{IsOwn as IsChainOf, OwnsAll, LiesApart}
+use Rattle.block_pool.proofs.HoldingLemmas.{apart_by_owner, apart_turned, all_mapped, all_joined, kept_each, other-with_used, length-with_used}
+use Rattle.hcp_packet.specs.Packets.{AreSendable, fragments_of}
+use Rattle.hcp_chain.specs.declared.joiner.Open.{Open}
+use Rattle.hcp_chain.specs.Holding.{IsOwn, held_blocks, messages_in as messages_of, message_of, IsApartFrom}
+use Rattle.link_messages.specs.declared.outbox.Queued.{Queued}
+use Rattle.link_messages.specs.declared.outbox.Outbox.{Outbox}
+use Rattle.link_messages.specs.declared.inbox.Inbox.{Inbox}
+use Rattle.link_messages.specs.Outgoing.{chain_in, messages_in, LiesIn as OutboxLiesIn, LeavesOthers as OutboxLeaves, LeavesOthersBut}
+use Rattle.link_messages.specs.Incoming.{got_chains, chains_in, under_way, got_in, LiesIn as InboxLiesIn, LeavesOthers as InboxLeaves}
+use Rattle.link_messages.proofs.OutgoingLemmas.{messages_same}
+use Rattle.link_messages.proofs.IncomingLemmas.{front_holds, front_apart}
+use Rattle.circular_buffer.specs.Buffer.{Buffer}
+use Rattle.link_end.specs.Ends.{LeavesBoxes}
+
+-- ---- what comes, where what is sent changed
+
+pub record OpensKept (old new : PoolState) (owner : ℕ) (xs : List Open) : Type 0 where
+  pub own : AllByRecursion (IsOwn new owner) xs
+  pub messages : messages_of new xs ≡ messages_of old xs
+  pub blocks : held_blocks new xs ≡ held_blocks old xs
+
+opens_kept : (old new : PoolState) (owner : ℕ) (xs : List Open) → AllByRecursion (IsOwn old owner) xs
+    → ((x : Open) → IsOwn old owner x → IsLive new x.chain × (chain_bytes new x.chain ≡ chain_bytes old x.chain)) → OpensKept old new owner xs
+opens_kept old new owner [] own each = record { own = tt; messages = refl; blocks = refl }
+opens_kept old new owner (x ∷ xs) own each =
+    let here = each x own.0 in
+    let rest = opens_kept old new owner xs own.1 each in
+    record {
+      own = (record { live = here.0; owned = own.0.owned; short = subst (λ bs. length bs ≤ 4096) (sym here.1) own.0.short }, rest.own);
+      messages = ap (λ bs. (x.pipe, bs) ∷ messages_of new xs) here.1 ∙ ap (λ ms. message_of old x ∷ ms) rest.messages;
+      blocks = sum_by-cons (λ (y : Open). blocks_for (length (chain_bytes new y.chain))) x xs
+          ∙ (ap (λ bs. blocks_for (length bs) + held_blocks new xs) here.1 ∙ (ap (λ n. blocks_for (length (chain_bytes old x.chain)) + n) rest.blocks
+          ∙ sym (sum_by-cons (λ (y : Open). blocks_for (length (chain_bytes old y.chain))) x xs)));
+    }
+
+opens_passed : (old new : PoolState) (owner : ℕ) (P : Open → Type 0) (xs : List Open) → AllByRecursion (λ x. IsOwn old owner x × P x) xs
+    → ((x : Open) → IsOwn old owner x × P x → IsLive new x.chain × (chain_bytes new x.chain ≡ chain_bytes old x.chain)) → OpensKept old new owner xs
+opens_passed old new owner P [] own each = record { own = tt; messages = refl; blocks = refl }
+opens_passed old new owner P (x ∷ xs) own each =
+    let here = each x own.0 in
+    let rest = opens_passed old new owner P xs own.1 each in
+    record {
+      own = (record { live = here.0; owned = own.0.0.owned; short = subst (λ bs. length bs ≤ 4096) (sym here.1) own.0.0.short }, rest.own);
+      messages = ap (λ bs. (x.pipe, bs) ∷ messages_of new xs) here.1 ∙ ap (λ ms. message_of old x ∷ ms) rest.messages;
+      blocks = sum_by-cons (λ (y : Open). blocks_for (length (chain_bytes new y.chain))) x xs
+          ∙ (ap (λ bs. blocks_for (length bs) + held_blocks new xs) here.1 ∙ (ap (λ n. blocks_for (length (chain_bytes old x.chain)) + n) rest.blocks
+          ∙ sym (sum_by-cons (λ (y : Open). blocks_for (length (chain_bytes old y.chain))) x xs)));
+    }
+
+pub record InboxKept (old new : PoolState) (box : Inbox) : Type 0 where
+  pub lies : InboxLiesIn new box
+  pub under : under_way new box ≡ under_way old box
+  pub got : got_in new box ≡ got_in old box
+  pub held : held_blocks new (chains_in box) ≡ held_blocks old (chains_in box)
+  pub used : used_of new box.joiner.owner ≡ used_of old box.joiner.owner
+
+got_holds : (pool : PoolState) (owner : ℕ) (xs ys : List Open) → AllByRecursion (IsOwn pool owner) (xs ++ ys) → AllByRecursion (IsOwn pool owner) ys
+got_holds pool owner [] ys own = own
+got_holds pool owner (x ∷ xs) ys own = got_holds pool owner xs ys own.1
+
+-- the chains lie apart from those of another owner
+apart_from_queue : (pool : PoolState) (owner other : ℕ) (x : Open) (xs : List Queued) → IsOwn pool other x → OwnsAll Queued chain_in pool owner xs → owner ≢ other → LiesApart Queued chain_in xs x.chain
+apart_from_queue pool owner other x xs own theirs differ =
+    all_mapped Queued (λ q. IsChainOf pool owner q.chain) (λ q. IsApart x.chain q.chain) xs
+    (λ q o. apart_by_owner pool x.chain q.chain own.live o.live (λ e. differ (sym o.owned ∙ (sym e ∙ own.owned)))) theirs
+
+pub inbox_kept : (old new : PoolState) (owner : ℕ) (xs ys : List Queued) (box : Inbox) → OwnsAll Queued chain_in old owner xs → OutboxLeaves old new owner xs ys → InboxLiesIn old box
+    → owner ≢ box.joiner.owner → InboxKept old new box
+inbox_kept old new owner xs ys box own leaves lies differ =
+    let o = box.joiner.owner in
+    let each : (x : Open) → IsOwn old o x → IsLive new x.chain × (chain_bytes new x.chain ≡ chain_bytes old x.chain) =
+    (λ x mine. let k = leaves.others x.chain mine.live (apart_from_queue old owner o x xs mine own differ) in (k.0, k.1)) in
+    let all = opens_kept old new o (chains_in box) lies.holds.own each in
+    let some = opens_kept old new o box.joiner.open.items (front_holds old o box.joiner.open.items box.got lies.holds).own each in
+    let got = opens_kept old new o (got_chains box.got) (got_holds old o box.joiner.open.items (got_chains box.got) lies.holds.own) each in
+    let here : owner_at new.owners o ≡ owner_at old.owners o = ap (λ os. owner_at os o) leaves.owners ∙ other-with_used old.owners owner (used_of new owner) o (λ e. differ (sym e)) in
+    let len = ap length leaves.owners ∙ length-with_used old.owners owner (used_of new owner) in
+    let used = ap (λ (x : Owner). x.used) here in
+    record {
+      lies = record {
+        holds = record { own = all.own; apart = lies.holds.apart };
+        has_quota = omega (arith, len, lies.has_quota);
+        quota = ap (λ (x : Owner). x.quota) here ∙ lies.quota;
+        used = omega (arith, used, all.blocks, lies.used);
+      };
+      under = some.messages;
+      got = got.messages;
+      held = all.blocks;
+      used = used;
+    }
+
+-- ---- what is sent, where what comes changed
+
+pub record OutboxKept (old new : PoolState) (box : Outbox) : Type 0 where
+  pub lies : OutboxLiesIn new box
+  pub messages : messages_in new box ≡ messages_in old box
+  pub aside : aside_of new box.owner ≡ aside_of old box.owner
+
+apart_from_opens : (pool : PoolState) (owner other : ℕ) (q : Queued) (xs : List Open) → IsChainOf pool other q.chain → AllByRecursion (IsOwn pool owner) xs → other ≢ owner → IsApartFrom xs q.chain
+apart_from_opens pool owner other q xs own theirs differ =
+    all_mapped Open (IsOwn pool owner) (λ x. IsApart q.chain x.chain) xs
+    (λ x o. apart_by_owner pool q.chain x.chain own.live o.live (λ e. differ (sym own.owned ∙ (e ∙ o.owned)))) theirs
+
+pub outbox_kept : (old new : PoolState) (owner : ℕ) (xs ys : List Open) (box : Outbox) → AllByRecursion (IsOwn old owner) xs → InboxLeaves old new owner xs ys → OutboxLiesIn old box
+    → box.owner ≢ owner → OutboxKept old new box
+outbox_kept old new owner xs ys box own leaves lies differ =
+    let o = box.owner in
+    let kept = lies.kept in
+    let each = all_mapped Queued (λ q. IsChainOf old o q.chain) (λ q. IsLive new q.chain × (chain_bytes new q.chain ≡ chain_bytes old q.chain)) box.queue.items
+    (λ q mine. let k = leaves.others q.chain mine.live (apart_from_opens old owner o q xs mine own differ) in (k.0, k.1)) kept.own in
+    let all = kept_each Queued chain_in old new o box.queue.items kept.own each in
+    let same : messages_in new box ≡ messages_in old box = messages_same old new box.queue.items all.bytes in
+    let here : owner_at new.owners o ≡ owner_at old.owners o = ap (λ os. owner_at os o) leaves.owners ∙ other-with_used old.owners owner (used_of new owner) o differ in
+    let len = ap length leaves.owners ∙ length-with_used old.owners owner (used_of new owner) in
+    let used = ap (λ (x : Owner). x.used) here in
+    let aside = ap (λ (x : Owner). x.aside) here in
+    record {
+      lies = record {
+        kept = record {
+          own = all.own;
+          apart = kept.apart;
+          sendable = subst AreSendable (sym same) kept.sendable;
+          capacity = kept.capacity;
+          has_quota = omega (arith, len, kept.has_quota);
+          quota = ap (λ (x : Owner). x.quota) here ∙ kept.quota;
+          used = omega (arith, used, aside, all.blocks, kept.used);
+          within = omega (arith, used, kept.within);
+        };
+        acked = lies.acked;
+        cut = subst (λ l. box.cut ≤ length (fragments_of l)) (sym same) lies.cut;
+      };
+      messages = same;
+      aside = aside;
+    }
+
+-- ---- both
+
+-- what is done with what is sent
+pub leaves_out : (old new : PoolState) (a b : Outbox) (box : Inbox) → OutboxLeaves old new a.owner a.queue.items b.queue.items → b.owner ≡ a.owner → InboxKept old new box → LeavesBoxes old new a box b box
+leaves_out old new a b box leaves owner k = record {
+  sender = owner;
+  receiver = refl;
+  counts = λ p x y. ap (λ os. owner_at os p) leaves.owners ∙ other-with_used old.owners a.owner (used_of new a.owner) p x;
+  lengths = ap length leaves.owners ∙ length-with_used old.owners a.owner (used_of new a.owner);
+  received = omega (arith, k.used, k.held);
+  others = λ other live x y. let s = leaves.others other live x in (s.0, s.1, s.2, y);
+}
+
+-- what is done with what comes
+pub leaves_in : (old new : PoolState) (box : Outbox) (a b : Inbox) → InboxLeaves old new a.joiner.owner (chains_in a) (chains_in b) → b.joiner.owner ≡ a.joiner.owner
+    → used_of new a.joiner.owner + held_blocks old (chains_in a) ≡ used_of old a.joiner.owner + held_blocks new (chains_in b) → LeavesBoxes old new box a box b
+leaves_in old new box a b leaves owner received = record {
+  sender = refl;
+  receiver = owner;
+  counts = λ p x y. ap (λ os. owner_at os p) leaves.owners ∙ other-with_used old.owners a.joiner.owner (used_of new a.joiner.owner) p y;
+  lengths = ap length leaves.owners ∙ length-with_used old.owners a.joiner.owner (used_of new a.joiner.owner);
+  received = received;
+  others = λ other live x y. let s = leaves.others other live y in (s.0, s.1, x, s.2);
+}
+
+pub leaves_all : (pool : PoolState) (a : Outbox) (b : Inbox) → LeavesBoxes pool pool a b a b
+leaves_all pool a b = record {
+  sender = refl;
+  receiver = refl;
+  counts = λ p x y. refl;
+  lengths = refl;
+  received = refl;
+  others = λ other live x y. (live, refl, x, y);
+}
+
+pub leaves_more : (old mid new : PoolState) (a b c : Outbox) (x y z : Inbox) → LeavesBoxes old mid a x b y → LeavesBoxes mid new b y c z → LeavesBoxes old new a x c z
+leaves_more old mid new a b c x y z l m =
+    let m_received : used_of new x.joiner.owner + held_blocks mid (chains_in y) ≡ used_of mid x.joiner.owner + held_blocks new (chains_in z) =
+    subst (λ o. used_of new o + held_blocks mid (chains_in y) ≡ used_of mid o + held_blocks new (chains_in z)) l.receiver m.received in
+    record {
+      sender = m.sender ∙ l.sender;
+      receiver = m.receiver ∙ l.receiver;
+      counts = λ p u v. m.counts p (λ e. u (e ∙ l.sender)) (λ e. v (e ∙ l.receiver)) ∙ l.counts p u v;
+      lengths = m.lengths ∙ l.lengths;
+      received = omega (arith, l.received, m_received);
+      others = λ other live u v.
+          let s = l.others other live u v in
+          let t = m.others other s.0 s.2 s.3 in
+          (t.0, t.1 ∙ s.1, t.2, t.3);
+    }
+
+-- the same chains in the same places
+pub leaves_same : (old new : PoolState) (a b c : Outbox) (x y z : Inbox) → LeavesBoxes old new a x b y → c.owner ≡ b.owner → c.queue ≡ b.queue → z ≡ y → LeavesBoxes old new a x c z
+leaves_same old new a b c x y z l owner queue inbox = record {
+  sender = owner ∙ l.sender;
+  receiver = ap (λ (i : Inbox). i.joiner.owner) inbox ∙ l.receiver;
+  counts = l.counts;
+  lengths = l.lengths;
+  received = l.received ∙ ap (λ (i : Inbox). used_of old x.joiner.owner + held_blocks new (chains_in i)) (sym inbox);
+  others = λ other live u v.
+      let s = l.others other live u v in
+      (s.0, s.1, subst (λ (q : Buffer Queued). LiesApart Queued chain_in q.items other) (sym queue) s.2, subst (λ (i : Inbox). IsApartFrom (chains_in i) other) (sym inbox) s.3);
+}
+
+-- ---- a chain of another owner goes to what is sent
+
+pub inbox_passed : (old new : PoolState) (owner : ℕ) (chain : Chain) (xs ys : List Queued) (box : Inbox) → OwnsAll Queued chain_in old owner xs → LeavesOthersBut old new owner chain xs ys → InboxLiesIn old box
+    → owner ≢ box.joiner.owner → IsApartFrom (chains_in box) chain → (chain.owner ≡ box.joiner.owner → held_blocks old (chains_in box) + blocks_for (length (chain_bytes old chain)) ≤ used_of old box.joiner.owner)
+    → InboxLiesIn new box × (under_way new box ≡ under_way old box) × (got_in new box ≡ got_in old box)
+inbox_passed old new owner chain xs ys box own leaves lies differ apart counted =
+    let o = box.joiner.owner in
+    let kept : (x : Open) → IsOwn old o x × IsApart chain x.chain → IsLive new x.chain × (chain_bytes new x.chain ≡ chain_bytes old x.chain) =
+    (λ x p. let k = leaves.others x.chain p.0.live (apart_from_queue old owner o x xs p.0 own differ) (apart_turned chain x.chain p.1) in (k.0, k.1)) in
+    let both = all_joined Open (IsOwn old o) (λ x. IsApart chain x.chain) (chains_in box) lies.holds.own apart in
+    let all = opens_passed old new o (λ x. IsApart chain x.chain) (chains_in box) both kept in
+    let front = front_holds old o box.joiner.open.items box.got lies.holds in
+    let parts = front_apart box.joiner.open.items box.got chain apart in
+    let some = opens_passed old new o (λ x. IsApart chain x.chain) box.joiner.open.items (all_joined Open (IsOwn old o) (λ x. IsApart chain x.chain) box.joiner.open.items front.own parts.0) kept in
+    let got = opens_passed old new o (λ x. IsApart chain x.chain) (got_chains box.got)
+    (all_joined Open (IsOwn old o) (λ x. IsApart chain x.chain) (got_chains box.got) (got_holds old o box.joiner.open.items (got_chains box.got) lies.holds.own) parts.1) kept in
+    let len = leaves.lengths in
+    let stays : (quota_of new o ≡ 512) × (held_blocks new (chains_in box) ≤ used_of new o) = elim (cases_eq chain.owner o) [
+      | inl same ↦ (
+        ap (λ p. quota_of new p) (sym same) ∙ (leaves.giver_quota ∙ (ap (λ p. quota_of old p) same ∙ lies.quota)),
+        (let u : used_of new o ≡ used_of old o - blocks_for (length (chain_bytes old chain)) = ap (used_of new) (sym same) ∙ (leaves.giver_used ∙ ap (λ p. used_of old p - blocks_for (length (chain_bytes old chain))) same) in
+            let c = counted same in omega (arith, u, c, all.blocks)),
+      )
+      | inr apart_owner ↦ (
+          (let here = leaves.counts o (λ e. differ (sym e)) (λ e. apart_owner (sym e)) in
+          (ap (λ (x : Owner). x.quota) here ∙ lies.quota, (let u = ap (λ (x : Owner). x.used) here in omega (arith, u, all.blocks, lies.used))))
+          )
+    ] in (
+      record {
+        holds = record { own = all.own; apart = lies.holds.apart };
+        has_quota = omega (arith, len, lies.has_quota);
+        quota = stays.0;
+        used = stays.1;
+      },
+      some.messages,
+      got.messages,
+    )

@@ -1,0 +1,441 @@
+-- What a frame of SHDLC does to a link end that is open.
+use Rattle.std.proofs.Common.{◌≡◌, ℕ, zero, suc, ◌+◌, ◌-◌, ◌≤◌, ◌⊎◌, inl, inr, Bool, true, false, List, [], ◌∷◌, ◌++◌, length, drop, refl, sym, ap, ◌∙◌, subst, arith, length-append, length-drop}
+use Rattle.std.specs.Prelude.{Option, Some, None, is_some, not, ◌&&◌, ◌==◌, if◌then◌else◌, IsTrue, IfSome}
+use Rattle.std.specs.Option.{option_to_list}
+use Rattle.std.proofs.lemmas.List.{append-nil, drop-drop}
+use Rattle.std.proofs.lemmas.List.Elements.{filter_map-append}
+use Rattle.std.proofs.Math.Seq.{drop-append_seam}
+use Rattle.block_pool.specs.Pool.{PoolState, used_of, aside_of}
+use Rattle.swp_base.specs.declared.control_frames.Control.{Control}
+use Rattle.swp_base.specs.declared.control_frames.Control.TheVariants.{I, S, Rset, Ua, Act, Clt}
+use Rattle.swp_base.specs.declared.link_terms.Cause.{Cause}
+use Rattle.swp_base.specs.declared.link_terms.Cause.TheVariants.{Chain}
+use Rattle.shdlc_core.specs.declared.answers.LinkState.{LinkState}
+use Rattle.shdlc_core.specs.declared.answers.LinkState.TheVariants.{Up, Down, Waiting}
+use Rattle.shdlc_core.specs.declared.answers.Taken.{Taken}
+use Rattle.shdlc_core.specs.Kept.{Kept, StandsFor as ShdlcStandsFor}
+use Rattle.shdlc_core.specs.Machine.{EndState, Fragment, Session, taken, take_answer, stopped, place_of}
+use Rattle.shdlc_core.specs.Offering.{StandsBefore, with_out, left_waiting}
+use Rattle.shdlc_core.proofs.Offering.{stands_taken, stands_idle, taken_alike, takes_on, TakesOn, brings_fragment}
+use Rattle.shdlc_core.proofs.Histories.{in_phase}
+use Rattle.hcp_packet.specs.Packets.{packets_in, fragments_of, good_of, packet_of, is_good, AreSendable}
+use Rattle.hcp_chain.specs.Joining.{are_taken, given_by, open_after}
+use Rattle.hcp_chain.proofs.ReadyLemmas.{open_after-append, given_by-append, are_taken-append}
+use Rattle.link_machine.specs.Machine.{LinkEnd as Machine, Message, moved, put_down, heard, is_faulty, messages_got, news, whole_acked, whole_among, oldest}
+use Rattle.link_messages.specs.declared.outbox.Outbox.{Outbox}
+use Rattle.link_messages.specs.declared.inbox.Inbox.{Inbox}
+use Rattle.link_messages.specs.Outgoing.{messages_in, waiting_in, rest_among, LiesIn as OutboxLiesIn, GivesBack, acked_more}
+use Rattle.block_pool.specs.Owners.{owner_at}
+use Rattle.hcp_chain.specs.declared.joiner.Open.{Open}
+use Rattle.hcp_chain.specs.Holding.{held_blocks, messages_in as messages_of}
+use Rattle.link_messages.specs.declared.inbox.Got.{Got}
+use Rattle.link_messages.specs.Incoming.{got_chains, chains_in, under_way, got_in, LiesIn as InboxLiesIn, IsReady as InboxIsReady, LeavesOthers as InboxLeaves}
+use Rattle.link_messages.proofs.OutgoingLemmas.{aside-with_used}
+use Rattle.link_messages.proofs.Among.{whole-more, whole-length}
+use Rattle.link_end.specs.Ends.{Sends, Halfway, StandsFor, MayTake, LeavesBoxes}
+use Rattle.link_end.specs.Steps.{Forgets}
+use Rattle.link_end.specs.Received.{ReceivesOn}
+use Rattle.link_end.specs.Reports.{nothing_told, heard_told}
+use Rattle.link_end.specs.declared.«end».End.{End}
+use Rattle.link_end.specs.declared.report.LinkReport.{LinkReport}
+use Rattle.link_end.proofs.EndLemmas.{session_over, carries, stopped_before}
+use Rattle.link_end.proofs.BoxLemmas.{OutboxKept, inbox_kept, outbox_kept, leaves_out, leaves_in, leaves_more}
+
+-- ---- what came
+
+filter-append : (xs ys : List Message) → good_of (xs ++ ys) ≡ good_of xs ++ good_of ys
+filter-append [] ys = refl
+filter-append (x ∷ xs) ys = go (is_good x.1) refl (filter-append xs ys)
+  where
+    go : (b : Bool) → is_good x.1 ≡ b → good_of (xs ++ ys) ≡ good_of xs ++ good_of ys → good_of (x ∷ (xs ++ ys)) ≡ good_of (x ∷ xs) ++ good_of ys
+    go true e rest = rw e (ap (λ (l : List Message). x ∷ l) rest)
+    go false e rest = rw e rest
+
+packets-append : (xs ys : List Fragment) → packets_in (xs ++ ys) ≡ packets_in xs ++ packets_in ys
+packets-append xs ys = filter_map-append packet_of xs ys
+
+-- the messages that come with further fragments
+pub news_is : (s : Session) (e : EndState) (more : List Fragment) → e.session.acc ≡ s.acc ++ more → news s e ≡ good_of (given_by (open_after [] (packets_in s.acc)) (packets_in more))
+news_is s e more acc =
+    let ps = packets_in s.acc in
+    let qs = packets_in more in
+    let all : messages_got e.session ≡ good_of (given_by [] ps) ++ good_of (given_by (open_after [] ps) qs) =
+    ap (λ l. good_of (given_by [] (packets_in l))) acc ∙ (ap (λ l. good_of (given_by [] l)) (packets-append s.acc more)
+    ∙ (ap good_of (given_by-append [] ps qs) ∙ filter-append (given_by [] ps) (given_by (open_after [] ps) qs))) in
+    ap (drop (length (messages_got s))) all ∙ drop-append_seam (good_of (given_by [] ps)) (good_of (given_by (open_after [] ps) qs))
+
+-- whether their packets can all be joined
+pub taken_is : (s : Session) (e : EndState) (more : List Fragment) → e.session.acc ≡ s.acc ++ more → are_taken [] (packets_in s.acc) ≡ true
+    → are_taken [] (packets_in e.session.acc) ≡ are_taken (open_after [] (packets_in s.acc)) (packets_in more)
+taken_is s e more acc sound =
+    ap (λ l. are_taken [] (packets_in l)) acc ∙ (ap (are_taken []) (packets-append s.acc more)
+    ∙ (are_taken-append [] (packets_in s.acc) (packets_in more) ∙ ap (λ b. b && are_taken (open_after [] (packets_in s.acc)) (packets_in more)) sound))
+
+pub under_is : (s : Session) (e : EndState) (more : List Fragment) → e.session.acc ≡ s.acc ++ more → open_after [] (packets_in e.session.acc) ≡ open_after (open_after [] (packets_in s.acc)) (packets_in more)
+under_is s e more acc = ap (λ l. open_after [] (packets_in l)) acc ∙ (ap (open_after []) (packets-append s.acc more) ∙ open_after-append [] (packets_in s.acc) (packets_in more))
+
+drop_of_none : (n : ℕ) → drop n (let l : List Message = [] in l) ≡ []
+drop_of_none zero = refl
+drop_of_none (suc n) = refl
+
+pub no_news : (s : Session) (e : EndState) → e.session.acc ≡ [] → news s e ≡ []
+no_news s e acc = ap (λ l. drop (length (messages_got s)) (good_of (given_by [] (packets_in l)))) acc ∙ drop_of_none (length (messages_got s))
+
+-- ---- the SHDLC end
+
+abbrev pub ended_in : Machine → Control → Bool
+ended_in m c = is_some (take_answer m.shdlc c).ended
+
+pub took_answer : (k : End) (pool : PoolState) (m : Machine) (c : Control) (t : Taken) → StandsFor k pool m → ((e : EndState) → ShdlcStandsFor k.shdlc e → t ≡ take_answer e c) → t ≡ take_answer m.shdlc c
+took_answer k pool m c t h answer = answer (with_out m.shdlc h.half.link.offered) h.half.link.kept ∙ (taken_alike m.shdlc h.half.link.offered c).answer
+
+pub took_link : (k : End) (pool : PoolState) (m : Machine) (c : Control) (s0 : Kept) → StandsFor k pool m → ((e : EndState) → ShdlcStandsFor k.shdlc e → ShdlcStandsFor s0 (taken e c))
+    → StandsBefore s0 (left_waiting (ended_in m c) (waiting_in pool k.outbox)) (taken m.shdlc c)
+took_link k pool m c s0 h stands =
+    let link = h.half.link in
+    let waiting = waiting_in pool k.outbox in
+    let on = takes_on m.shdlc c link.session in
+    let P : List Fragment → Type 0 = λ w. StandsBefore s0 w (taken m.shdlc c) in
+    subst P (on.waiting waiting (λ other. stands_idle k.shdlc waiting m.shdlc link (λ up. other (sym link.kept.phase ∙ up))))
+    (stands_taken k.shdlc s0 waiting m.shdlc c link (stands (with_out m.shdlc link.offered) link.kept))
+
+-- ---- a session that the frame ends
+
+pub heard-over : (m : Machine) (c : Control) → ended_in m c ≡ true → (taken m.shdlc c).session.acc ≡ [] → heard m c ≡ moved m true (taken m.shdlc c)
+heard-over m c over acc =
+    let e = taken m.shdlc c in
+    let faulty : is_faulty e.session ≡ false = ap (λ l. not (are_taken [] (packets_in l))) acc in
+    ap (λ b. if b then put_down true m else record (moved m (ended_in m c) e) { got = m.got ++ news m.shdlc.session e }) faulty
+    ∙ (ap (λ b. record (moved m b e) { got = m.got ++ news m.shdlc.session e }) over
+    ∙ (ap (λ l. record (moved m true e) { got = m.got ++ l }) (no_news m.shdlc.session e acc) ∙ ap (λ l. record (moved m true e) { got = l }) (append-nil m.got)))
+
+pub over_acc : (m : Machine) (c : Control) → TakesOn m.shdlc c → ended_in m c ≡ true → (taken m.shdlc c).session.acc ≡ []
+over_acc m c on over = on.acc ∙ ap (λ b. left_waiting b (m.shdlc.session.acc ++ option_to_list (take_answer m.shdlc c).accepted)) over
+
+pub over_stands : (pool new : PoolState) (k k1 : End) (m : Machine) (c : Control) (s0 : Kept) (t : Taken) → StandsFor k pool m → ((e : EndState) → ShdlcStandsFor k.shdlc e → ShdlcStandsFor s0 (taken e c))
+    → ((e : EndState) → ShdlcStandsFor k.shdlc e → t ≡ take_answer e c) → is_some t.ended ≡ true → Forgets pool new (record k { shdlc = s0 }) k1 → StandsFor k1 new (heard m c)
+over_stands pool new k k1 m c s0 t h stands answer ended f =
+    let e = taken m.shdlc c in
+    let on = takes_on m.shdlc c h.half.link.session in
+    let over : ended_in m c ≡ true = sym (ap (λ (x : Taken). is_some x.ended) (took_answer k pool m c t h answer)) ∙ ended in
+    let acc = over_acc m c on over in
+    let P : Bool → Type 0 = λ b. StandsBefore s0 (left_waiting b (waiting_in pool k.outbox)) e in
+    let Q : Kept → Type 0 = λ x. StandsBefore x [] e in
+    let link = subst Q (sym f.shdlc) (subst P over (took_link k pool m c s0 h stands)) in
+    let R : Machine → Type 0 = λ x. StandsFor k1 new x in
+    subst R (sym (heard-over m c over acc))
+    (session_over pool new k k1 s0 k1.shdlc m e (carries k pool m h.half) f link
+    (on.out ∙ ap (λ b. left_waiting b m.shdlc.session.out) over)
+    (on.acked ∙ ap (λ b. if b then 0 else m.shdlc.session.acked + (take_answer m.shdlc c).acked) over) acc)
+
+pub over_told : (pool : PoolState) (k : End) (m : Machine) (c : Control) (t : Taken) (n : LinkReport) → StandsFor k pool m → ((e : EndState) → ShdlcStandsFor k.shdlc e → t ≡ take_answer e c)
+    → is_some t.ended ≡ true → n ≡ nothing_told → record n { ended = t.ended; began = t.began } ≡ heard_told m c
+over_told pool k m c t n h answer ended none =
+    let e = taken m.shdlc c in
+    let on = takes_on m.shdlc c h.half.link.session in
+    let is = took_answer k pool m c t h answer in
+    let over : ended_in m c ≡ true = sym (ap (λ (x : Taken). is_some x.ended) is) ∙ ended in
+    let acc = over_acc m c on over in
+    let faulty : is_faulty e.session ≡ false = ap (λ l. not (are_taken [] (packets_in l))) acc in
+    let acked : whole_acked (heard m c) - whole_acked m ≡ 0 = ap (λ x. whole_acked x - whole_acked m) (heard-over m c over acc) ∙ omega arith in
+    let got : is_some (oldest (if is_faulty e.session then [] else news m.shdlc.session e)) ≡ false =
+    ap (λ b. is_some (oldest (if b then [] else news m.shdlc.session e))) faulty ∙ ap (λ l. is_some (oldest l)) (no_news m.shdlc.session e acc) in
+    let cause : (if is_faulty e.session then Some Chain else (take_answer m.shdlc c).ended) ≡ (take_answer m.shdlc c).ended = ap (λ b. if b then Some Chain else (take_answer m.shdlc c).ended) faulty in
+    ap (λ (x : LinkReport). record x { ended = t.ended; began = t.began }) none
+    ∙ (ap (λ (x : Taken). record nothing_told { ended = x.ended; began = x.began }) is
+    ∙ sym (ap (λ (x : Option Cause). record nothing_told { ended = x; began = (take_answer m.shdlc c).began; acked = whole_acked (heard m c) - whole_acked m; got = is_some (oldest (if is_faulty e.session then [] else news m.shdlc.session e)) }) cause
+    ∙ (ap (λ (x : ℕ). record nothing_told { ended = (take_answer m.shdlc c).ended; began = (take_answer m.shdlc c).began; acked = x; got = is_some (oldest (if is_faulty e.session then [] else news m.shdlc.session e)) }) acked
+    ∙ ap (λ (x : Bool). record nothing_told { ended = (take_answer m.shdlc c).ended; began = (take_answer m.shdlc c).began; acked = 0; got = x }) got)))
+
+-- ---- what is acknowledged
+
+-- more of what is sent is acknowledged
+pub sends_on : (mid new : PoolState) (box after : Outbox) (sent : List Message) (s s' : Session) (count whole : ℕ) → AreSendable sent → s.out ≡ fragments_of sent
+    → messages_in mid box ≡ drop (whole_among sent s.acked) sent → box.acked ≡ rest_among sent s.acked → GivesBack mid new (acked_more box count) after whole
+    → whole_among (messages_in new after) after.acked ≡ 0 → rest_among (messages_in new after) after.acked ≡ after.acked → s'.out ≡ s.out → s'.acked ≡ s.acked + count
+    → Sends new after sent s' × (whole_among sent s'.acked ≡ whole_among sent s.acked + whole)
+sends_on mid new box after sent s s' count whole all out messages acked g none rest same_out counted =
+    let w = whole_among sent s.acked in
+    let more = whole-more sent s.acked count in
+    let left : whole_among (messages_in mid box) (box.acked + count) ≡ whole_among (drop w sent) (rest_among sent s.acked + count) =
+    ap (λ l. whole_among l (box.acked + count)) messages ∙ ap (λ n. whole_among (drop w sent) (n + count)) acked in
+    let resting : rest_among (messages_in mid box) (box.acked + count) ≡ rest_among (drop w sent) (rest_among sent s.acked + count) =
+    ap (λ l. rest_among l (box.acked + count)) messages ∙ ap (λ n. rest_among (drop w sent) (n + count)) acked in
+    let among : whole_among sent s'.acked ≡ w + whole = ap (whole_among sent) counted ∙ omega (arith, more.0, left, g.among, none) in (
+      record {
+        lies = g.lies;
+        all = all;
+        out = same_out ∙ out;
+        messages = g.messages ∙ (ap (drop whole) messages ∙ (drop-drop whole w sent ∙ ap (λ n. drop n sent) (sym among)));
+        acked = sym rest ∙ (g.rest ∙ (resting ∙ (sym more.1 ∙ ap (rest_among sent) (sym counted))));
+      },
+      among,
+    )
+
+-- all that is acknowledged was cut
+pub cut_enough : (pool : PoolState) (k : End) (m : Machine) (c : Control) (s0 : Kept) (t : Taken) → StandsFor k pool m → ((e : EndState) → ShdlcStandsFor k.shdlc e → ShdlcStandsFor s0 (taken e c))
+    → ((e : EndState) → ShdlcStandsFor k.shdlc e → t ≡ take_answer e c) → is_some t.ended ≡ false → k.outbox.acked + t.acked ≤ k.outbox.cut
+cut_enough pool k m c s0 t h stands answer going =
+    let sends = h.half.sends in
+    let link = h.half.link in
+    let on = takes_on m.shdlc c link.session in
+    let is = took_answer k pool m c t h answer in
+    let over : ended_in m c ≡ false = sym (ap (λ (x : Taken). is_some x.ended) is) ∙ going in
+    let P : Bool → Type 0 = λ b. StandsBefore s0 (left_waiting b (waiting_in pool k.outbox)) (taken m.shdlc c) in
+    let next = subst P over (took_link k pool m c s0 h stands) in
+    let acked : (taken m.shdlc c).session.acked ≡ m.shdlc.session.acked + t.acked =
+    on.acked ∙ (ap (λ b. if b then 0 else m.shdlc.session.acked + (take_answer m.shdlc c).acked) over ∙ ap (λ (x : Taken). m.shdlc.session.acked + x.acked) (sym is)) in
+    let out : (taken m.shdlc c).session.out ≡ fragments_of m.sent = on.out ∙ (ap (λ b. left_waiting b m.shdlc.session.out) over ∙ sends.out) in
+    let len_now : length (fragments_of m.sent) ≡ length next.offered + length (waiting_in pool k.outbox) = ap length (sym out ∙ next.out) ∙ length-append next.offered (waiting_in pool k.outbox) in
+    let len_old : length (fragments_of m.sent) ≡ length link.offered + length (waiting_in pool k.outbox) = ap length (sym sends.out ∙ link.out) ∙ length-append link.offered (waiting_in pool k.outbox) in
+    let some = next.kept.sender.offered in
+    let some_old = link.kept.sender.offered in
+    let waits : length (waiting_in pool k.outbox) ≡ length (fragments_of (messages_in pool k.outbox)) - k.outbox.cut = length-drop k.outbox.cut (fragments_of (messages_in pool k.outbox)) in
+    let whole = whole-length m.sent m.shdlc.session.acked (omega (arith, len_old, some_old)) in
+    let left : length (fragments_of (messages_in pool k.outbox)) ≡ length (fragments_of (drop (whole_among m.sent m.shdlc.session.acked) m.sent)) = ap (λ l. length (fragments_of l)) sends.messages in
+    omega (arith, acked, len_now, some, waits, whole.0, whole.1, left, sends.lies.cut, sends.acked)
+
+-- ---- a session that goes on
+
+pub heard-on : (m : Machine) (c : Control) → ended_in m c ≡ false → is_faulty (taken m.shdlc c).session ≡ false
+    → heard m c ≡ record (moved m false (taken m.shdlc c)) { got = m.got ++ news m.shdlc.session (taken m.shdlc c) }
+heard-on m c over faulty =
+    let e = taken m.shdlc c in
+    ap (λ b. if b then put_down true m else record (moved m (ended_in m c) e) { got = m.got ++ news m.shdlc.session e }) faulty
+    ∙ ap (λ b. record (moved m b e) { got = m.got ++ news m.shdlc.session e }) over
+
+-- the fragments that the frame brought
+abbrev pub brought : Taken → List Fragment
+brought t = option_to_list t.accepted
+
+pub record GoesOn (old mid new : PoolState) (k : End) (m : Machine) (c : Control) (s0 : Kept) (t : Taken) (inbox : Inbox) (outbox : Outbox) (whole : ℕ) : Type 0 where
+  pub half : Halfway (record k { shdlc = s0; outbox = outbox; inbox = inbox }) new (heard m c)
+  pub told : (n : LinkReport) → n ≡ nothing_told → k.inbox.got ≡ None → record n { began = t.began; acked = whole; got = is_some inbox.got } ≡ heard_told m c
+  pub elsewhere : LeavesBoxes old new k.outbox k.inbox outbox inbox
+
+got_some : (pool : PoolState) (g : Option Got) → is_some g ≡ is_some (oldest (messages_of pool (got_chains g)))
+got_some pool None = refl
+got_some pool (Some g) = refl
+
+true_is : (b : Bool) → IsTrue b → b ≡ true
+true_is true t = refl
+true_is false t = t
+
+pub goes_on : (old mid new : PoolState) (k : End) (m : Machine) (c : Control) (s0 : Kept) (t : Taken) (inbox : Inbox) (outbox : Outbox) (whole : ℕ) → StandsFor k old m
+    → ((e : EndState) → ShdlcStandsFor k.shdlc e → ShdlcStandsFor s0 (taken e c)) → ((e : EndState) → ShdlcStandsFor k.shdlc e → t ≡ take_answer e c) → is_some t.ended ≡ false
+    → IsTrue (are_taken (under_way old k.inbox) (packets_in (brought t))) → ReceivesOn old mid k.inbox inbox (brought t)
+    → GivesBack mid new (acked_more k.outbox t.acked) outbox whole → whole_among (messages_in new outbox) outbox.acked ≡ 0 → rest_among (messages_in new outbox) outbox.acked ≡ outbox.acked
+    → GoesOn old mid new k m c s0 t inbox outbox whole
+goes_on old mid new k m c s0 t inbox outbox whole h stands answer going joined r g none rest =
+    let half = h.half in
+    let e = taken m.shdlc c in
+    let on = takes_on m.shdlc c half.link.session in
+    let is = took_answer k old m c t h answer in
+    let over : ended_in m c ≡ false = sym (ap (λ (x : Taken). is_some x.ended) is) ∙ going in
+    let acc : e.session.acc ≡ m.shdlc.session.acc ++ brought t =
+    on.acc ∙ (ap (λ b. left_waiting b (m.shdlc.session.acc ++ brought (take_answer m.shdlc c))) over ∙ ap (λ (x : Taken). m.shdlc.session.acc ++ brought x) (sym is)) in
+    let acked : e.session.acked ≡ m.shdlc.session.acked + t.acked =
+    on.acked ∙ (ap (λ b. if b then 0 else m.shdlc.session.acked + (take_answer m.shdlc c).acked) over ∙ ap (λ (x : Taken). m.shdlc.session.acked + x.acked) (sym is)) in
+    let out : e.session.out ≡ m.shdlc.session.out = on.out ∙ ap (λ b. left_waiting b m.shdlc.session.out) over in
+    let under = half.receives.under in
+    let all_taken : are_taken (under_way old k.inbox) (packets_in (brought t)) ≡ true = true_is (are_taken (under_way old k.inbox) (packets_in (brought t))) joined in
+    let sound : are_taken [] (packets_in e.session.acc) ≡ true =
+    taken_is m.shdlc.session e (brought t) acc half.receives.sound ∙ (ap (λ u. are_taken u (packets_in (brought t))) (sym under) ∙ all_taken) in
+    let faulty : is_faulty e.session ≡ false = ap not sound in
+    let new_ones = news_is m.shdlc.session e (brought t) acc in
+    let o = outbox_kept old mid k.inbox.joiner.owner (chains_in k.inbox) (chains_in inbox) k.outbox half.receives.lies.holds.own r.elsewhere half.sends.lies half.differ in
+    let i = inbox_kept mid new k.outbox.owner k.outbox.queue.items outbox.queue.items inbox o.lies.kept.own g.elsewhere r.lies (λ d. half.differ (d ∙ r.owner)) in
+    let s = sends_on mid new k.outbox outbox m.sent m.shdlc.session e.session t.acked whole half.sends.all half.sends.out (o.messages ∙ half.sends.messages) half.sends.acked g none rest out acked in
+    let P : Bool → Type 0 = λ b. StandsBefore s0 (left_waiting b (waiting_in old k.outbox)) e in
+    let waiting : waiting_in old k.outbox ≡ waiting_in new outbox = sym (g.waiting ∙ ap (λ l. drop k.outbox.cut (fragments_of l)) o.messages) in
+    let Q : List Fragment → Type 0 = λ w. StandsBefore s0 w e in
+    let came : got_in new inbox ≡ m.got ++ news m.shdlc.session e =
+    i.got ∙ (r.got ∙ (ap (λ l. l ++ good_of (given_by (under_way old k.inbox) (packets_in (brought t)))) half.got
+    ∙ (ap (λ u. m.got ++ good_of (given_by u (packets_in (brought t)))) under ∙ ap (λ l. m.got ++ l) (sym new_ones)))) in
+    let now : Machine = record (moved m false e) { got = m.got ++ news m.shdlc.session e } in
+    let R : Machine → Type 0 = λ x. Halfway (record k { shdlc = s0; outbox = outbox; inbox = inbox }) new x in
+    let aside : aside_of new k.outbox.owner ≡ aside_of mid k.outbox.owner =
+    ap (λ os. (owner_at os k.outbox.owner).aside) g.elsewhere.owners ∙ aside-with_used mid.owners k.outbox.owner (used_of new k.outbox.owner) o.lies.kept.has_quota in
+    record {
+      half = subst R (sym (heard-on m c over faulty)) (record {
+        role = half.role;
+        link = subst Q waiting (subst P over (took_link k old m c s0 h stands));
+        acts = half.acts;
+        sends = s.0;
+        receives = record { lies = i.lies; under = i.under ∙ (r.under ∙ (ap (λ u. open_after u (packets_in (brought t))) under ∙ sym (under_is m.shdlc.session e (brought t) acc))); sound = sound };
+        got = came;
+        aside = ap (aside_of new) g.owner ∙ (aside ∙ (o.aside ∙ half.aside));
+        passed_over = half.passed_over;
+        differ = λ d. half.differ (sym g.owner ∙ (d ∙ r.owner));
+      });
+      told = λ n none_told fetched.
+          let nothing_got : m.got ≡ [] = sym half.got ∙ ap (λ x. messages_of old (got_chains x)) fetched in
+          let got : is_some inbox.got ≡ is_some (oldest (if is_faulty e.session then [] else news m.shdlc.session e)) =
+          got_some new inbox.got ∙ (ap (λ l. is_some (oldest l)) (came ∙ ap (λ l. l ++ news m.shdlc.session e) nothing_got) ∙ sym (ap (λ b. is_some (oldest (if b then [] else news m.shdlc.session e))) faulty)) in
+          let acks : whole ≡ whole_acked (heard m c) - whole_acked m = (let p = s.1 in omega (arith, p)) ∙ sym (ap (λ x. whole_acked x - whole_acked m) (heard-on m c over faulty)) in
+          let cause : None ≡ (if is_faulty e.session then Some Chain else (take_answer m.shdlc c).ended) =
+          sym (ap (λ b. if b then Some Chain else (take_answer m.shdlc c).ended) faulty ∙ none_ended (take_answer m.shdlc c).ended over) in
+          ap (λ (x : LinkReport). record x { began = t.began; acked = whole; got = is_some inbox.got }) none_told
+          ∙ (ap (λ (x : Taken). record nothing_told { began = x.began; acked = whole; got = is_some inbox.got }) is
+          ∙ (ap (λ (x : ℕ). record nothing_told { began = (take_answer m.shdlc c).began; acked = x; got = is_some inbox.got }) acks
+          ∙ (ap (λ (x : Bool). record nothing_told { began = (take_answer m.shdlc c).began; acked = whole_acked (heard m c) - whole_acked m; got = x }) got
+          ∙ ap (λ (x : Option Cause). record nothing_told {
+            ended = x;
+            began = (take_answer m.shdlc c).began;
+            acked = whole_acked (heard m c) - whole_acked m;
+            got = is_some (oldest (if is_faulty e.session then [] else news m.shdlc.session e));
+          }) cause)));
+      elsewhere = leaves_more old mid new k.outbox k.outbox outbox k.inbox inbox inbox (leaves_in old mid k.outbox k.inbox inbox r.elsewhere r.owner r.counted) (leaves_out mid new k.outbox outbox inbox g.elsewhere g.owner i);
+    }
+  where
+    none_ended : (o : Option Cause) → is_some o ≡ false → o ≡ None
+    none_ended None e = refl
+    none_ended (Some x) e = cc
+
+-- ---- when a fragment may be taken
+
+no_fragment : (f : Fragment) → None ≡ Some f → ⊥
+no_fragment f e = cc
+
+ready_up : (e : EndState) (ns nr : ℕ) (info f : Fragment) (q : Option ℕ) (r : Bool) → place_of e.session nr ≡ q → e.ready ≡ r → (take_answer (in_phase Up e) (I ns nr info)).accepted ≡ Some f → r ≡ true
+ready_up e ns nr info f None r at ready is = let h : None ≡ Some f = rw at at is in absurd (no_fragment f h)
+ready_up e ns nr info f (Some x) true at ready is = refl
+ready_up e ns nr info f (Some x) false at ready is = let h : None ≡ Some f = rw (at, ready) at is in absurd (no_fragment f h)
+
+ready_in : (p : LinkState) (e : EndState) (c : Control) (f : Fragment) → (take_answer (in_phase p e) c).accepted ≡ Some f → e.ready ≡ true
+ready_in Up e (I ns nr info) f is = ready_up e ns nr info f (place_of e.session nr) e.ready refl refl is
+ready_in Up e (S k nr) f is = absurd (no_fragment f is)
+ready_in Up e (Rset w caps) f is = go (w == 0) refl
+  where
+    go : (b : Bool) → (w == 0) ≡ b → e.ready ≡ true
+    go true at = let h : None ≡ Some f = rw at at is in absurd (no_fragment f h)
+    go false at = let h : None ≡ Some f = rw at at is in absurd (no_fragment f h)
+ready_in Up e Ua f is = absurd (no_fragment f is)
+ready_in Up e (Act act again) f is = absurd (no_fragment f is)
+ready_in Up e Clt f is = absurd (no_fragment f is)
+ready_in Down e c f is = let up = (brings_fragment (in_phase Down e) c f is).up in cc
+ready_in Waiting e c f is = let up = (brings_fragment (in_phase Waiting e) c f is).up in cc
+
+-- an end that accepts a fragment is ready
+pub accepted_ready : (e : EndState) (c : Control) (f : Fragment) → (take_answer e c).accepted ≡ Some f → e.ready ≡ true
+accepted_ready e c f is = ready_in e.phase e c f is
+
+pub may_receive : (pool : PoolState) (k : End) (m : Machine) (c : Control) (t : Taken) → StandsFor k pool m → ((e : EndState) → ShdlcStandsFor k.shdlc e → t ≡ take_answer e c) → MayTake k pool
+    → IfSome t.accepted (λ _. InboxIsReady pool k.inbox)
+may_receive pool k m c t h answer may = go t.accepted refl
+  where
+    free : (f : Fragment) → (used_of pool k.inbox.joiner.owner ≡ held_blocks pool k.inbox.joiner.open.items) ⊎ (k.shdlc.ready ≡ false) → t.accepted ≡ Some f
+        → used_of pool k.inbox.joiner.owner ≡ held_blocks pool k.inbox.joiner.open.items
+    free f (inl used) is = used
+    free f (inr held) is =
+        let kept : k.shdlc.ready ≡ m.shdlc.ready = h.half.link.kept.ready in
+        let ready : m.shdlc.ready ≡ true = accepted_ready m.shdlc c f (sym (ap (λ (x : Taken). x.accepted) (took_answer k pool m c t h answer)) ∙ is) in
+        let no : false ≡ true = sym held ∙ (kept ∙ ready) in cc
+
+    go : (o : Option Fragment) → t.accepted ≡ o → IfSome o (λ _. InboxIsReady pool k.inbox)
+    go None is = tt
+    go (Some f) is = record { fetched = may.fetched; used = free f may.free is }
+
+-- ---- a packet that can't be joined
+
+pub some_brought : (ms : List Message) (o : Option Fragment) → (IsTrue (are_taken ms (packets_in (option_to_list o))) → ⊥) → (f : Fragment) × (o ≡ Some f)
+some_brought ms None never = absurd (never refl)
+some_brought ms (Some f) never = (f, refl)
+
+not_true : (b : Bool) → (IsTrue b → ⊥) → b ≡ false
+not_true true never = absurd (never refl)
+not_true false never = refl
+
+nil_back : (xs ys : List Open) → xs ++ ys ≡ [] → ys ≡ []
+nil_back [] ys e = e
+nil_back (x ∷ xs) ys e = cc
+
+-- what became of what comes, where a packet can't be joined
+pub record IsBroken (old mid : PoolState) (before after : Inbox) : Type 0 where
+  pub lies : InboxLiesIn mid after
+  pub owner : after.joiner.owner ≡ before.joiner.owner
+  pub none : chains_in after ≡ []
+  pub used : used_of mid before.joiner.owner ≡ 0
+  pub elsewhere : InboxLeaves old mid before.joiner.owner (chains_in before) []
+
+pub record BreaksOff (old mid new : PoolState) (k k1 : End) (m : Machine) (c : Control) (s : Kept) : Type 0 where
+  pub stands : StandsFor (record k1 { shdlc = s }) new (heard m c)
+  pub told : (n : LinkReport) → n ≡ nothing_told → record n { ended = Some Chain } ≡ heard_told m c
+
+pub fault_lies : (old mid : PoolState) (k : End) (m : Machine) (inbox : Inbox) → StandsFor k old m → IsBroken old mid k.inbox inbox → OutboxKept old mid k.outbox
+fault_lies old mid k m inbox h b = outbox_kept old mid k.inbox.joiner.owner (chains_in k.inbox) [] k.outbox h.half.receives.lies.holds.own b.elsewhere h.half.sends.lies h.half.differ
+
+pub breaks_off : (old mid new : PoolState) (k k1 : End) (m : Machine) (c : Control) (s0 s : Kept) (t : Taken) (inbox : Inbox) → StandsFor k old m
+    → ((e : EndState) → ShdlcStandsFor k.shdlc e → ShdlcStandsFor s0 (taken e c)) → ((e : EndState) → ShdlcStandsFor k.shdlc e → t ≡ take_answer e c)
+    → (IsTrue (are_taken (under_way old k.inbox) (packets_in (brought t))) → ⊥) → k.inbox.got ≡ None → IsBroken old mid k.inbox inbox
+    → Forgets mid new (record k { shdlc = s0; inbox = inbox }) k1 → ((e : EndState) → ShdlcStandsFor k1.shdlc e → ShdlcStandsFor s (stopped e)) → BreaksOff old mid new k k1 m c s
+breaks_off old mid new k k1 m c s0 s t inbox h stands answer broken fetched b f stops =
+    let half = h.half in
+    let e = taken m.shdlc c in
+    let on = takes_on m.shdlc c half.link.session in
+    let is = took_answer k old m c t h answer in
+    let some = some_brought (under_way old k.inbox) t.accepted broken in
+    let brings = brings_fragment m.shdlc c some.0 (sym (ap (λ (x : Taken). x.accepted) is) ∙ some.1) in
+    let over : ended_in m c ≡ false = ap (λ (x : Option Cause). is_some x) brings.stays in
+    let acc : e.session.acc ≡ m.shdlc.session.acc ++ brought t =
+    on.acc ∙ (ap (λ x. left_waiting x (m.shdlc.session.acc ++ brought (take_answer m.shdlc c))) over ∙ ap (λ (x : Taken). m.shdlc.session.acc ++ brought x) (sym is)) in
+    let none_taken : are_taken [] (packets_in e.session.acc) ≡ false =
+    taken_is m.shdlc.session e (brought t) acc half.receives.sound ∙ (ap (λ u. are_taken u (packets_in (brought t))) (sym half.receives.under) ∙ not_true (are_taken (under_way old k.inbox) (packets_in (brought t))) broken) in
+    let faulty : is_faulty e.session ≡ true = ap not none_taken in
+    let down : put_down true m ≡ moved m true (stopped m.shdlc) = down_up m brings.up in
+    let heard_is : heard m c ≡ moved m true (stopped m.shdlc) =
+    ap (λ x. if x then put_down true m else record (moved m (ended_in m c) e) { got = m.got ++ news m.shdlc.session e }) faulty ∙ down in
+    let o = fault_lies old mid k m inbox h b in
+    let got_none : got_chains inbox.got ≡ [] = nil_back inbox.joiner.open.items (got_chains inbox.got) b.none in
+    let nothing_got : m.got ≡ [] = sym half.got ∙ ap (λ x. messages_of old (got_chains x)) fetched in
+    let P : Machine → Type 0 = λ x. StandsFor (record k1 { shdlc = s }) new x in
+    let Q : EndState → Type 0 = λ x. StandsBefore s [] x in
+    record {
+      stands = subst P (sym heard_is)
+          (session_over mid new (record k { inbox = inbox }) k1 s0 s m (stopped m.shdlc)
+          (record {
+            role = half.role;
+            acts = half.acts;
+            got = ap (messages_of mid) got_none ∙ sym nothing_got;
+            aside = o.aside ∙ half.aside;
+            passed_over = half.passed_over;
+            differ = λ d. half.differ (d ∙ b.owner);
+          }) f
+          (subst Q brings.stopped_is (stopped_before s0 k1.shdlc s _ e (took_link k old m c s0 h stands) f.shdlc stops)) refl refl refl);
+      told = λ n none_told.
+          let acks : 0 ≡ whole_acked (heard m c) - whole_acked m = omega arith ∙ sym (ap (λ x. whole_acked x - whole_acked m) heard_is) in
+          let cause : Some Chain ≡ (if is_faulty e.session then Some Chain else (take_answer m.shdlc c).ended) = sym (ap (λ x. if x then Some Chain else (take_answer m.shdlc c).ended) faulty) in
+          let got : false ≡ is_some (oldest (if is_faulty e.session then [] else news m.shdlc.session e)) = sym (ap (λ x. is_some (oldest (if x then [] else news m.shdlc.session e))) faulty) in
+          ap (λ (x : LinkReport). record x { ended = Some Chain }) none_told
+          ∙ (ap (λ (x : Option Cause). record nothing_told { ended = x }) cause
+          ∙ (ap (λ (x : Bool). record nothing_told { ended = if is_faulty e.session then Some Chain else (take_answer m.shdlc c).ended; began = x }) (sym brings.goes_on)
+          ∙ (ap (λ (x : ℕ). record nothing_told { ended = if is_faulty e.session then Some Chain else (take_answer m.shdlc c).ended; began = (take_answer m.shdlc c).began; acked = x }) acks
+          ∙ ap (λ (x : Bool). record nothing_told {
+            ended = if is_faulty e.session then Some Chain else (take_answer m.shdlc c).ended;
+            began = (take_answer m.shdlc c).began;
+            acked = whole_acked (heard m c) - whole_acked m;
+            got = x;
+          }) got)));
+    }
+  where
+    down_in : (p : LinkState) (x : Machine) → p ≡ Up → put_down true (record x { shdlc = record x.shdlc { phase = p } }) ≡ moved x true (stopped x.shdlc)
+    down_in Up x e = refl
+    down_in Down x e = cc
+    down_in Waiting x e = cc
+
+    down_up : (x : Machine) → x.shdlc.phase ≡ Up → put_down true x ≡ moved x true (stopped x.shdlc)
+    down_up x up = down_in x.shdlc.phase x up
+
+-- what it left elsewhere
+pub broken_elsewhere : (old mid : PoolState) (k : End) (inbox : Inbox) → k.inbox.got ≡ None → used_of old k.inbox.joiner.owner ≡ held_blocks old k.inbox.joiner.open.items → IsBroken old mid k.inbox inbox
+    → LeavesBoxes old mid k.outbox k.inbox k.outbox inbox
+broken_elsewhere old mid k inbox fetched used b =
+    let chains : chains_in k.inbox ≡ k.inbox.joiner.open.items = ap (λ g. k.inbox.joiner.open.items ++ got_chains g) fetched ∙ append-nil k.inbox.joiner.open.items in
+    let held = ap (held_blocks old) chains in
+    let left = ap (held_blocks mid) b.none in
+    let P : List Open → Type 0 = λ l. InboxLeaves old mid k.inbox.joiner.owner (chains_in k.inbox) l in
+    leaves_in old mid k.outbox k.inbox inbox (subst P (sym b.none) b.elsewhere) b.owner (omega (arith, used, held, left, b.used))
+
+pub received_lies : (old mid : PoolState) (k : End) (m : Machine) (inbox : Inbox) (more : List Fragment) → StandsFor k old m → ReceivesOn old mid k.inbox inbox more → OutboxLiesIn mid k.outbox
+received_lies old mid k m inbox more h r =
+    (outbox_kept old mid k.inbox.joiner.owner (chains_in k.inbox) (chains_in inbox) k.outbox h.half.receives.lies.holds.own r.elsewhere h.half.sends.lies h.half.differ).lies

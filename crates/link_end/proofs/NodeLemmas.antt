@@ -1,0 +1,362 @@
+-- What a node asks of a link end: resets, messages fetched and given, and frames fetched.
+use Rattle.std.proofs.Common.{◌≡◌, ℕ, ◌+◌, ◌-◌, ◌<◌, ◌≤◌, Bool, true, false, List, [], ◌∷◌, ◌++◌, length, map, drop, refl, sym, ap, ◌∙◌, subst, arith, length-append}
+use Rattle.std.specs.Prelude.{Option, Some, None, IfSome, unwrap_or, not, ◌==◌, nat_lt, nat_le}
+use Rattle.std.proofs.lemmas.List.{append-nil, drop-append-le}
+use Rattle.std.proofs.lemmas.List.Sums.{sum_by-cons}
+use Rattle.std.proofs.lemmas.Bool.{ltb-true, ltb-false, lt-ltb}
+use Rattle.arrayvec.specs.ArrayVec.{ArrayVec}
+use Rattle.block_pool.specs.declared.chain.Chain.{Chain}
+use Rattle.block_pool.specs.Slots.{blocks_for}
+use Rattle.block_pool.specs.Owners.{owner_at}
+use Rattle.block_pool.specs.Pool.{PoolState, used_of, aside_of, spare_of, chain_bytes}
+use Rattle.block_pool.specs.Holdings.{all_blocks}
+use Rattle.block_pool.proofs.HoldingLemmas.{all_pushed}
+use Rattle.swp_base.specs.declared.control_frames.Act.{Act}
+use Rattle.swp_base.specs.declared.control_frames.Control.{Control}
+use Rattle.swp_base.specs.declared.control_frames.Control.TheVariants.{Act as ActFrame}
+use Rattle.shdlc_core.specs.declared.answers.LinkState.{LinkState}
+use Rattle.shdlc_core.specs.declared.answers.LinkState.TheVariants.{Up, Down, Waiting}
+use Rattle.shdlc_core.specs.declared.answers.Due.{Due as Shdlc_due}
+use Rattle.shdlc_core.specs.Kept.{Kept, StandsFor as ShdlcStandsFor}
+use Rattle.shdlc_core.specs.Machine.{EndState, Session, Fragment, reset_with, is_waiting, no_session, fetched, frame_due, fragment_due, put_out}
+use Rattle.shdlc_core.specs.Offering.{StandsBefore, StandsWith, HasSession, with_out, left_waiting}
+use Rattle.shdlc_core.proofs.Offering.{stands_reset, stands_idle, stands_fetched, fetched_alike, stands_put}
+use Rattle.hcp_packet.specs.Packets.{packets_of, packet_count, packets_in, bytes_of, fragments_of, IsSendable}
+use Rattle.hcp_chain.specs.Joining.{are_taken, open_after}
+use Rattle.hcp_chain.specs.Holding.{held_blocks, Holds, messages_in as messages_of}
+use Rattle.link_machine.specs.Machine.{LinkEnd as Machine, ActDue as Due, Message, Refused, moved, after_input, is_open, window_of, frame_fetched, next_frame, nearer as due_nearer, need_of_all, spare, in_use, whole_among, give_refusal, given, turn, unless, need}
+use Rattle.link_machine.specs.Machine.Refused.{TooLong, Full}
+use Rattle.link_machine.specs.Machine.Turn.{Give}
+use Rattle.link_machine.specs.Machine.LinkInput.{Reset}
+use Rattle.link_messages.specs.declared.outbox.Queued.{Queued}
+use Rattle.link_messages.specs.declared.outbox.Outbox.{Outbox}
+use Rattle.link_messages.specs.declared.inbox.Got.{Got}
+use Rattle.link_messages.specs.declared.inbox.Inbox.{Inbox}
+use Rattle.link_messages.specs.Outgoing.{chain_in, messages_of_all, waiting_in, rest_among, Accepts, LeavesOthers as OutboxLeaves, LeavesOthersBut}
+use Rattle.link_messages.proofs.OutgoingLemmas.{aside-with_used}
+use Rattle.link_messages.specs.Incoming.{got_chains, LiesIn as InboxLiesIn}
+use Rattle.link_messages.proofs.Among.{whole-push, fragments-push}
+use Rattle.link_messages.proofs.IncomingLemmas.{front_holds, held_both}
+use Rattle.link_end.specs.Dues.{nearer, front_act, behind_front}
+use Rattle.link_end.specs.Ends.{due_of, Halfway, StandsFor, MayPass, LeavesBoxes}
+use Rattle.link_end.specs.Steps.{Forgets}
+use Rattle.link_end.specs.declared.acts.ActDue.{ActDue}
+use Rattle.link_end.specs.declared.«end».End.{End}
+use Rattle.link_end.proofs.EndLemmas.{session_over, carries}
+use Rattle.link_end.proofs.StepLemmas.{same_session}
+use Rattle.link_end.proofs.BoxLemmas.{inbox_kept, inbox_passed, leaves_out}
+
+-- ---- a reset
+
+pub window_low : (pool : PoolState) (k : End) (m : Machine) (window : Option ℕ) → StandsFor k pool m → IfSome window (λ w. (1 ≤ w) × (w ≤ 4)) → window_of m window ≤ 4
+window_low pool k m None h some = h.half.link.narrow.own
+window_low pool k m (Some w) h some = some.1
+
+pub reset_closed : (m : Machine) (window : Option ℕ) → is_open m.role ≡ false → after_input m (Reset window) ≡ m
+reset_closed m window o = rw o
+
+pub reset_up : (m : Machine) (window : Option ℕ) → is_open m.role ≡ true → m.shdlc.phase ≡ Up → after_input m (Reset window) ≡ moved m true (reset_with m.shdlc (window_of m window))
+reset_up m window o up = rw (o, up)
+
+pub reset_down : (m : Machine) (window : Option ℕ) → is_open m.role ≡ true → m.shdlc.phase ≡ Down → after_input m (Reset window) ≡ moved m false (reset_with m.shdlc (window_of m window))
+reset_down m window o down = rw (o, down)
+
+reset_empty : (p : LinkState) (e : EndState) (w : ℕ) → (p ≡ Waiting → ⊥) → e.phase ≡ p → (reset_with e w).session ≡ no_session
+reset_empty Up e w other is = rw is
+reset_empty Down e w other is = rw is
+reset_empty Waiting e w other is = absurd (other refl)
+
+waits_not : (p : LinkState) (e : EndState) → (p ≡ Waiting → ⊥) → e.phase ≡ p → is_waiting e ≡ false
+waits_not Up e other is = rw is
+waits_not Down e other is = rw is
+waits_not Waiting e other is = absurd (other refl)
+
+reset_link : (pool : PoolState) (k : End) (m : Machine) (s : Kept) (window : Option ℕ) (p : LinkState) → StandsFor k pool m → IfSome window (λ w. (1 ≤ w) × (w ≤ 4))
+    → ((e : EndState) → ShdlcStandsFor k.shdlc e → ShdlcStandsFor s (reset_with e (unwrap_or window e.own_window))) → (p ≡ Waiting → ⊥) → m.shdlc.phase ≡ p
+    → StandsBefore s [] (reset_with m.shdlc (window_of m window))
+reset_link pool k m s window p h some asks other is =
+    let link = h.half.link in
+    let next = stands_reset k.shdlc s (waiting_in pool k.outbox) m.shdlc (window_of m window) link (window_low pool k m window h some) (asks (with_out m.shdlc link.offered) link.kept) in
+    let P : Bool → Type 0 = λ b. StandsBefore s (left_waiting (not b) (waiting_in pool k.outbox)) (reset_with m.shdlc (window_of m window)) in
+    subst P (waits_not p m.shdlc other is) next
+
+pub reset_ends : (pool new : PoolState) (k k1 : End) (m : Machine) (s : Kept) (window : Option ℕ) → StandsFor k pool m → IfSome window (λ w. (1 ≤ w) × (w ≤ 4))
+    → ((e : EndState) → ShdlcStandsFor k.shdlc e → ShdlcStandsFor s (reset_with e (unwrap_or window e.own_window))) → m.shdlc.phase ≡ Up → Forgets pool new (record k { shdlc = s }) k1
+    → StandsFor k1 new (moved m true (reset_with m.shdlc (window_of m window)))
+reset_ends pool new k k1 m s window h some asks up f =
+    let e = reset_with m.shdlc (window_of m window) in
+    let empty : e.session ≡ no_session = reset_empty Up m.shdlc (window_of m window) (λ x. cc) up in
+    let Q : Kept → Type 0 = λ x. StandsBefore x [] e in
+    session_over pool new k k1 s k1.shdlc m e (carries k pool m h.half) f (subst Q (sym f.shdlc) (reset_link pool k m s window Up h some asks (λ x. cc) up))
+    (ap (λ (x : Session). x.out) empty) (ap (λ (x : Session). x.acked) empty) (ap (λ (x : Session). x.acc) empty)
+
+idle_in : (p : LinkState) (s : Session) → HasSession p s → p ≡ Down → s ≡ no_session
+idle_in Up s h d = cc
+idle_in Waiting s h d = cc
+idle_in Down s h d = h
+
+pub reset_begins : (pool : PoolState) (k : End) (m : Machine) (s : Kept) (window : Option ℕ) → StandsFor k pool m → IfSome window (λ w. (1 ≤ w) × (w ≤ 4))
+    → ((e : EndState) → ShdlcStandsFor k.shdlc e → ShdlcStandsFor s (reset_with e (unwrap_or window e.own_window))) → m.shdlc.phase ≡ Down
+    → Halfway (record k { shdlc = s }) pool (moved m false (reset_with m.shdlc (window_of m window)))
+reset_begins pool k m s window h some asks down =
+    let link = h.half.link in
+    let e = reset_with m.shdlc (window_of m window) in
+    let empty : e.session ≡ no_session = reset_empty Down m.shdlc (window_of m window) (λ x. cc) down in
+    let idle : m.shdlc.session ≡ no_session = idle_in m.shdlc.phase m.shdlc.session link.session down in
+    let none : waiting_in pool k.outbox ≡ [] = stands_idle k.shdlc (waiting_in pool k.outbox) m.shdlc link (λ up. (let d : Up ≡ Down = sym up ∙ (link.kept.phase ∙ down) in cc)) in
+    let P : List Fragment → Type 0 = λ l. StandsBefore s l e in
+    let same : e.session ≡ m.shdlc.session = empty ∙ sym idle in
+    same_session pool k s m e h.half (subst P (sym none) (reset_link pool k m s window Down h some asks (λ x. cc) down))
+    (ap (λ (x : Session). x.out) same) (ap (λ (x : Session). x.acked) same) (ap (λ (x : Session). x.acc) same)
+
+-- ---- a message is fetched
+
+pub fetched_lies : (pool : PoolState) (old new : Inbox) → InboxLiesIn pool old → new.joiner ≡ old.joiner → new.got ≡ None → InboxLiesIn pool new
+fetched_lies pool old new lies same none =
+    let xs = old.joiner.open.items in
+    let P : Inbox → Type 0 = λ b. InboxLiesIn pool b in
+    let is : new ≡ record old { got = None } = ap (λ g. record new { got = g }) none ∙ ap (λ j. record { joiner = j; got = None }) same in
+    let sum = held_both pool xs (got_chains old.got) in
+    let nil = held_both pool xs [] in
+    subst P (sym is) (record {
+      holds = subst (Holds pool old.joiner.owner) (sym (append-nil xs)) (front_holds pool old.joiner.owner xs old.got lies.holds);
+      has_quota = lies.has_quota;
+      quota = lies.quota;
+      used = (let n = ap (held_blocks pool) (append-nil xs) in omega (arith, n, sum, lies.used));
+    })
+
+fetched_got : (pool : PoolState) (g : Option Got) → [] ≡ drop 1 (messages_of pool (got_chains g))
+fetched_got pool None = refl
+fetched_got pool (Some g) = refl
+
+pub message_fetched : (pool : PoolState) (k : End) (inbox : Inbox) (m : Machine) → inbox.joiner ≡ k.inbox.joiner → inbox.got ≡ None → StandsFor k pool m
+    → StandsFor (record k { inbox = inbox }) pool (record m { got = drop 1 m.got })
+message_fetched pool k inbox m same none h =
+    let half = h.half in
+    record {
+      half = record {
+        role = half.role;
+        link = half.link;
+        acts = half.acts;
+        sends = half.sends;
+        receives = record { lies = fetched_lies pool k.inbox inbox half.receives.lies same none; under = ap (λ j. messages_of pool j.open.items) same ∙ half.receives.under; sound = half.receives.sound };
+        got = ap (λ g. messages_of pool (got_chains g)) none ∙ (fetched_got pool k.inbox.got ∙ ap (drop 1) half.got);
+        aside = half.aside;
+        passed_over = half.passed_over;
+        differ = λ d. half.differ (d ∙ ap (λ j. j.owner) same);
+      };
+      full = h.full;
+    }
+
+-- ---- a frame is fetched
+
+nearer_same : (xs : List ActDue) → map due_of (map nearer xs) ≡ map due_nearer (map due_of xs)
+nearer_same [] = refl
+nearer_same (x ∷ xs) = ap (λ (l : List Due). record { frame = x.frame; behind = x.behind - 1 } ∷ l) (nearer_same xs)
+
+-- an ACT frame is next
+act_next : (m : Machine) (xs : List ActDue) (act : Act) → Some act ≡ front_act xs
+    → (next_frame (record m { acts = map due_of xs }) ≡ Some (ActFrame act false)) × (frame_fetched (record m { acts = map due_of xs }) ≡ record m { acts = map due_of (behind_front xs) })
+act_next m [] act is = cc
+act_next m (x ∷ xs) act is = go (x.behind == 0) refl
+  where
+    go : (b : Bool) → (x.behind == 0) ≡ b → (next_frame (record m { acts = map due_of (x ∷ xs) }) ≡ Some (ActFrame act false)) × (frame_fetched (record m { acts = map due_of (x ∷ xs) }) ≡ record m { acts = map due_of (behind_front (x ∷ xs)) })
+    go true e = let f : Some act ≡ Some x.frame = rw e at is in (let g : x.frame ≡ act = cc in (rw e (ap (λ a. Some (ActFrame a false)) g), rw e refl))
+    go false e = absurd (let f : Some act ≡ None = rw e at is in cc)
+
+-- none is
+link_next : (m : Machine) (xs : List ActDue) → None ≡ front_act xs
+    → (next_frame (record m { acts = map due_of xs }) ≡ frame_due m.shdlc) × (frame_fetched (record m { acts = map due_of xs }) ≡ record m { shdlc = fetched m.shdlc; acts = map due_nearer (map due_of xs) })
+    × (behind_front xs ≡ xs)
+link_next m [] is = (refl, refl, refl)
+link_next m (x ∷ xs) is = go (x.behind == 0) refl
+  where
+    go : (b : Bool) → (x.behind == 0) ≡ b → (next_frame (record m { acts = map due_of (x ∷ xs) }) ≡ frame_due m.shdlc)
+        × (frame_fetched (record m { acts = map due_of (x ∷ xs) }) ≡ record m { shdlc = fetched m.shdlc; acts = map due_nearer (map due_of (x ∷ xs)) }) × (behind_front (x ∷ xs) ≡ x ∷ xs)
+    go true e = absurd (let f : None ≡ Some x.frame = rw e at is in cc)
+    go false e = (rw e, rw e, rw e)
+
+pub act_sent : (pool : PoolState) (k : End) (acts : ArrayVec ActDue) (m : Machine) (act : Act) → StandsFor k pool m → Some act ≡ front_act k.acts.items → acts.items ≡ behind_front k.acts.items
+    → (Some (ActFrame act false) ≡ next_frame m) × StandsFor (record k { acts = acts }) pool (frame_fetched m)
+act_sent pool k acts m act h front rest =
+    let half = h.half in
+    let n = act_next m k.acts.items act front in
+    let is : record m { acts = map due_of k.acts.items } ≡ m = ap (λ a. record m { acts = a }) half.acts in
+    let P : Machine → Type 0 = λ x. StandsFor (record k { acts = acts }) pool x in (
+      sym (sym (ap next_frame is) ∙ n.0),
+      subst P (sym n.1 ∙ ap frame_fetched is) (record {
+        half = record {
+          role = half.role;
+          link = half.link;
+          acts = ap (map due_of) rest;
+          sends = half.sends;
+          receives = half.receives;
+          got = half.got;
+          aside = half.aside;
+          passed_over = half.passed_over;
+          differ = half.differ;
+        };
+        full = h.full;
+      }),
+    )
+
+fetched_acc : (e : EndState) (due : List Shdlc_due) (q : Option Fragment) → fragment_due e.session ≡ q → (fetched (record e { due = due })).session.acc ≡ e.session.acc
+fetched_acc e [] None s = rw s
+fetched_acc e [] (Some f) s = rw s
+fetched_acc e (d ∷ due) q s = refl
+
+pub link_sent : (pool : PoolState) (k : End) (s : Kept) (acts : ArrayVec ActDue) (middle : List ActDue) (m : Machine) (frame : Option Control) → StandsFor k pool m → None ≡ front_act k.acts.items
+    → middle ≡ behind_front k.acts.items → acts.items ≡ map nearer middle
+    → ((e : EndState) → ShdlcStandsFor k.shdlc e → frame ≡ frame_due e) → ((e : EndState) → ShdlcStandsFor k.shdlc e → ShdlcStandsFor s (fetched e))
+    → (frame ≡ next_frame m) × StandsFor (record k { shdlc = s; acts = acts }) pool (frame_fetched m)
+link_sent pool k s acts middle m frame h front rest moved_acts frames fetches =
+    let half = h.half in
+    let link = half.link in
+    let both : StandsWith k.shdlc (waiting_in pool k.outbox) m.shdlc = record { stands = link; full = h.full } in
+    let n = link_next m k.acts.items front in
+    let is : record m { acts = map due_of k.acts.items } ≡ m = ap (λ a. record m { acts = a }) half.acts in
+    let P : Machine → Type 0 = λ x. StandsFor (record k { shdlc = s; acts = acts }) pool x in
+    let a = fetched_alike m.shdlc link.offered (waiting_in pool k.outbox) link.out link.narrow.session h.full in
+    let w = stands_fetched k.shdlc s (waiting_in pool k.outbox) m.shdlc both (fetches (with_out m.shdlc link.offered) link.kept) in
+    let acc : (fetched m.shdlc).session.acc ≡ m.shdlc.session.acc = fetched_acc m.shdlc m.shdlc.due (fragment_due m.shdlc.session) refl in (
+      frames (with_out m.shdlc link.offered) link.kept ∙ (a.frame ∙ sym (sym (ap next_frame is) ∙ n.0)),
+      subst P (sym n.1 ∙ ap frame_fetched is) (record {
+        half = record {
+          role = half.role;
+          link = w.stands;
+          acts = ap (map due_of) (moved_acts ∙ ap (map nearer) (rest ∙ n.2)) ∙ nearer_same k.acts.items;
+          sends = record {
+            lies = half.sends.lies;
+            all = half.sends.all;
+            out = a.out ∙ half.sends.out;
+            messages = half.sends.messages ∙ ap (λ x. drop (whole_among m.sent x) m.sent) (sym a.acked);
+            acked = half.sends.acked ∙ ap (rest_among m.sent) (sym a.acked);
+          };
+          receives = record {
+            lies = half.receives.lies;
+            under = half.receives.under ∙ sym (ap (λ l. open_after [] (packets_in l)) acc);
+            sound = ap (λ l. are_taken [] (packets_in l)) acc ∙ half.receives.sound;
+          };
+          got = half.got;
+          aside = half.aside;
+          passed_over = half.passed_over;
+          differ = half.differ;
+        };
+        full = w.full;
+      }),
+    )
+
+-- ---- a message is given
+
+-- what the messages need are the blocks that they use
+needs : (pool : PoolState) (queue : List Queued) → need_of_all (messages_of_all pool queue) ≡ all_blocks Queued chain_in pool queue
+needs pool [] = refl
+needs pool (q ∷ queue) =
+    ap (λ n. blocks_for (length (chain_bytes pool q.chain)) + n) (needs pool queue)
+    ∙ sym (sum_by-cons (λ (x : Queued). blocks_for (length (chain_bytes pool x.chain))) q queue)
+
+pub spare_is : (pool : PoolState) (k : End) (m : Machine) → StandsFor k pool m → spare m ≡ spare_of pool k.outbox.owner
+spare_is pool k m h =
+    let sends = h.half.sends in
+    let used : in_use m ≡ all_blocks Queued chain_in pool k.outbox.queue.items = sym (ap need_of_all sends.messages) ∙ needs pool k.outbox.queue.items in
+    omega (arith, used, h.half.aside, sends.lies.kept.used, sends.lies.kept.quota)
+
+pub refused_long : (m : Machine) (x : Message) → m.shdlc.phase ≡ Up → 4096 < length x.1 → give_refusal m x ≡ Some (TooLong (length x.1))
+refused_long m x up long = let t = lt-ltb 4096 (length x.1) long in rw (up, t)
+
+pub refused_full : (m : Machine) (x : Message) → m.shdlc.phase ≡ Up → length x.1 ≤ 4096 → (blocks_for (length x.1) ≤ spare m → ⊥) → give_refusal m x ≡ Some (Full (blocks_for (length x.1)) (spare m))
+refused_full m x up short full = go (nat_lt 4096 (length x.1)) (nat_lt (spare m) (need x.1)) refl refl
+  where
+    go : (a b : Bool) → nat_lt 4096 (length x.1) ≡ a → nat_lt (spare m) (need x.1) ≡ b → give_refusal m x ≡ Some (Full (blocks_for (length x.1)) (spare m))
+    go true b p q = absurd (let l = ltb-true 4096 (length x.1) p in omega arith)
+    go false true p q = rw (up, p, q)
+    go false false p q = absurd (full (let l = ltb-false (spare m) (need x.1) q in omega arith))
+
+pub refused_none : (m : Machine) (x : Message) → m.shdlc.phase ≡ Up → length x.1 ≤ 4096 → blocks_for (length x.1) ≤ spare m → give_refusal m x ≡ None
+refused_none m x up short room = go (nat_lt 4096 (length x.1)) (nat_lt (spare m) (need x.1)) refl refl
+  where
+    go : (a b : Bool) → nat_lt 4096 (length x.1) ≡ a → nat_lt (spare m) (need x.1) ≡ b → give_refusal m x ≡ None
+    go true b p q = absurd (let l = ltb-true 4096 (length x.1) p in omega arith)
+    go false true p q = absurd (let l = ltb-true (spare m) (need x.1) q in omega arith)
+    go false false p q = rw (up, p, q)
+
+pub refusal_stays : (m : Machine) (x : Message) (why : Refused) → give_refusal m x ≡ Some why → turn m (Give x) ≡ m
+refusal_stays m x why e = ap (λ o. unless o m (given m x)) e
+
+pub gives : (m : Machine) (x : Message) → give_refusal m x ≡ None → turn m (Give x) ≡ given m x
+gives m x e = ap (λ o. unless o m (given m x)) e
+
+whole_low : (ms : List Message) (n : ℕ) → whole_among ms n ≤ length ms
+whole_low [] n = omega arith
+whole_low (x ∷ ms) n = go (nat_le (packet_count (length x.1)) n) refl (whole_low ms (n - packet_count (length x.1)))
+  where
+    go : (b : Bool) → nat_le (packet_count (length x.1)) n ≡ b → whole_among ms (n - packet_count (length x.1)) ≤ length ms → whole_among (x ∷ ms) n ≤ length (x ∷ ms)
+    go true e rest = rw e (omega arith)
+    go false e rest = rw e (omega arith)
+
+pub message_given : (old new : PoolState) (k : End) (box : Outbox) (m : Machine) (x : Message) → StandsFor k old m → k.shdlc.phase ≡ Up → IsSendable x → Accepts old new k.outbox box x
+    → OutboxLeaves old new k.outbox.owner k.outbox.queue.items box.queue.items → Halfway (record k { outbox = box }) new (given m x) × LeavesBoxes old new k.outbox k.inbox box k.inbox
+message_given old new k box m x h up sendable a leaves =
+    let half = h.half in
+    let link = half.link in
+    let sends = half.sends in
+    let i = inbox_kept old new k.outbox.owner k.outbox.queue.items box.queue.items k.inbox sends.lies.kept.own leaves half.receives.lies half.differ in
+    let n = m.shdlc.session.acked in
+    let some = link.kept.sender.offered in
+    let len : length (fragments_of m.sent) ≡ length link.offered + length (waiting_in old k.outbox) = ap length (sym sends.out ∙ link.out) ∙ length-append link.offered (waiting_in old k.outbox) in
+    let push = whole-push m.sent x n sendable (omega (arith, len, some)) in
+    let P : List Fragment → Type 0 = λ w. StandsBefore k.shdlc w (put_out m.shdlc (map bytes_of (packets_of x.0 x.1))) in
+    let aside : aside_of new k.outbox.owner ≡ aside_of old k.outbox.owner =
+    ap (λ os. (owner_at os k.outbox.owner).aside) leaves.owners ∙ aside-with_used old.owners k.outbox.owner (used_of new k.outbox.owner) sends.lies.kept.has_quota in (
+      record {
+        role = half.role;
+        link = subst P (sym a.waiting) (stands_put k.shdlc (waiting_in old k.outbox) (map bytes_of (packets_of x.0 x.1)) m.shdlc (sym link.kept.phase ∙ up) link);
+        acts = half.acts;
+        sends = record {
+          lies = a.lies;
+          all = all_pushed Message IsSendable m.sent x sends.all sendable;
+          out = ap (λ l. l ++ map bytes_of (packets_of x.0 x.1)) sends.out ∙ sym (fragments-push m.sent x);
+          messages = a.messages ∙ (ap (λ (l : List Message). l ++ x ∷ []) sends.messages
+              ∙ (sym (drop-append-le (whole_among m.sent n) m.sent (x ∷ []) (whole_low m.sent n)) ∙ ap (λ w. drop w (m.sent ++ x ∷ [])) (sym push.0)));
+          acked = a.acked ∙ (sends.acked ∙ sym push.1);
+        };
+        receives = record { lies = i.lies; under = i.under ∙ half.receives.under; sound = half.receives.sound };
+        got = i.got ∙ half.got;
+        aside = ap (aside_of new) a.owner ∙ (aside ∙ half.aside);
+        passed_over = half.passed_over;
+        differ = λ d. half.differ (sym a.owner ∙ d);
+      },
+      leaves_out old new k.outbox box k.inbox leaves a.owner i,
+    )
+
+-- a message in a chain of another owner
+pub message_passed : (old new : PoolState) (k : End) (box : Outbox) (chain : Chain) (m : Machine) (x : Message) → StandsFor k old m → k.shdlc.phase ≡ Up → IsSendable x → MayPass old k chain → Accepts old new k.outbox box x
+    → LeavesOthersBut old new k.outbox.owner chain k.outbox.queue.items box.queue.items → Halfway (record k { outbox = box }) new (given m x)
+message_passed old new k box chain m x h up sendable may a leaves =
+    let half = h.half in
+    let link = half.link in
+    let sends = half.sends in
+    let i = inbox_passed old new k.outbox.owner chain k.outbox.queue.items box.queue.items k.inbox sends.lies.kept.own leaves half.receives.lies half.differ may.apart may.counted in
+    let n = m.shdlc.session.acked in
+    let some = link.kept.sender.offered in
+    let len : length (fragments_of m.sent) ≡ length link.offered + length (waiting_in old k.outbox) = ap length (sym sends.out ∙ link.out) ∙ length-append link.offered (waiting_in old k.outbox) in
+    let push = whole-push m.sent x n sendable (omega (arith, len, some)) in
+    let P : List Fragment → Type 0 = λ w. StandsBefore k.shdlc w (put_out m.shdlc (map bytes_of (packets_of x.0 x.1))) in
+    record {
+      role = half.role;
+      link = subst P (sym a.waiting) (stands_put k.shdlc (waiting_in old k.outbox) (map bytes_of (packets_of x.0 x.1)) m.shdlc (sym link.kept.phase ∙ up) link);
+      acts = half.acts;
+      sends = record {
+        lies = a.lies;
+        all = all_pushed Message IsSendable m.sent x sends.all sendable;
+        out = ap (λ l. l ++ map bytes_of (packets_of x.0 x.1)) sends.out ∙ sym (fragments-push m.sent x);
+        messages = a.messages ∙ (ap (λ (l : List Message). l ++ x ∷ []) sends.messages
+            ∙ (sym (drop-append-le (whole_among m.sent n) m.sent (x ∷ []) (whole_low m.sent n)) ∙ ap (λ w. drop w (m.sent ++ x ∷ [])) (sym push.0)));
+        acked = a.acked ∙ (sends.acked ∙ sym push.1);
+      };
+      receives = record { lies = i.0; under = i.1 ∙ half.receives.under; sound = half.receives.sound };
+      got = i.2 ∙ half.got;
+      aside = ap (aside_of new) a.owner ∙ (leaves.aside ∙ half.aside);
+      passed_over = half.passed_over;
+      differ = λ d. half.differ (sym a.owner ∙ d);
+    }

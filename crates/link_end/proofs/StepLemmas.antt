@@ -1,0 +1,289 @@
+-- What the inputs of a link end do.
+use Rattle.std.proofs.Common.{◌≡◌, ℕ, ◌+◌, ◌-◌, Bool, true, false, [], drop, min, refl, sym, ap, ◌∙◌, subst, arith}
+use Rattle.std.specs.Prelude.{Option, Some, None, is_some, ◌&&◌, if◌then◌else◌, nat_le}
+use Rattle.block_pool.specs.Pool.{PoolState}
+use Rattle.swp_base.specs.declared.control_frames.Control.{Control}
+use Rattle.swp_base.specs.declared.control_frames.Control.TheVariants.{I, S, Rset, Ua, Act as ActFrame, Clt}
+use Rattle.swp_base.specs.declared.control_frames.Act.{Act}
+use Rattle.swp_base.specs.declared.control_frames.Act.TheVariants.{Ready, SyncId, PowerMode}
+use Rattle.shdlc_core.specs.declared.answers.LinkState.{LinkState}
+use Rattle.shdlc_core.specs.declared.answers.LinkState.TheVariants.{Up, Down, Waiting}
+use Rattle.shdlc_core.specs.declared.answers.Ticked.{Ticked}
+use Rattle.shdlc_core.specs.Kept.{Kept, StandsFor as ShdlcStandsFor}
+use Rattle.shdlc_core.specs.Machine.{EndState, ticked, tick_answer, with_ready, take_answer}
+use Rattle.shdlc_core.specs.Offering.{StandsBefore, with_out, left_waiting}
+use Rattle.shdlc_core.proofs.Offering.{stands_ticked, ticked_alike, TicksAlike, stands_ready, ready_alike}
+use Rattle.shdlc_core.proofs.Histories.{in_phase}
+use Rattle.swp_act.specs.declared.Phase.{Phase}
+use Rattle.swp_act.specs.declared.Phase.TheVariants.{Inactive, Awaiting, Active}
+use Rattle.swp_act.specs.declared.clf.ClfAct.{ClfAct}
+use Rattle.swp_act.specs.declared.uicc.UiccAct.{UiccAct}
+use Rattle.swp_act.specs.declared.ActOut.{ActOut}
+use Rattle.swp_act.specs.Activation.{clf_step, uicc_step}
+use Rattle.swp_act.specs.declared.ActEvent.{ActEvent}
+use Rattle.swp_act.specs.declared.ActEvent.TheVariants.{Take as ActTake, Tick as ActTick}
+use Rattle.link_machine.specs.Machine.{LinkEnd as Machine, Role, Bare, Clf, Uicc, moved, heard, is_open, after_input, activated, whole_acked, whole_among, with_act, put_down, role_after, act_answer, ended_by_act, report}
+use Rattle.link_machine.specs.Machine.LinkInput.{Take, Tick}
+use Rattle.hcp_packet.specs.Packets.{packets_in}
+use Rattle.hcp_chain.specs.Joining.{are_taken, open_after}
+use Rattle.link_messages.specs.Outgoing.{waiting_in, rest_among}
+use Rattle.link_end.specs.Ends.{Halfway, StandsFor}
+use Rattle.link_end.specs.Roles.{MayStart}
+use Rattle.link_end.specs.Reports.{IsShdlc, nothing_told, act_told, told}
+use Rattle.link_end.specs.declared.report.LinkReport.{LinkReport}
+use Rattle.link_end.specs.Steps.{Forgets}
+use Rattle.link_end.specs.declared.«end».End.{End}
+use Rattle.link_end.proofs.EndLemmas.{session_over, carries}
+
+pub passed : (pool : PoolState) (k : End) (p : ℕ) (m : Machine) → p ≡ min (k.passed_over + 1) 4294967295 → StandsFor k pool m → StandsFor (record k { passed_over = p }) pool (record m { passed_over = m.passed_over + 1 })
+passed pool k p m is h =
+    let half = h.half in
+    let was = half.passed_over in
+    record {
+      half = record {
+        role = half.role;
+        link = half.link;
+        acts = half.acts;
+        sends = half.sends;
+        receives = half.receives;
+        got = half.got;
+        aside = half.aside;
+        passed_over = omega (arith, is, was);
+        differ = half.differ;
+      };
+      full = h.full;
+    }
+
+acc_in : (e : EndState) (old new answered : Bool) → (with_ready (record e { ready = old; session = record e.session { answered_rnr = answered } }) new).session.acc ≡ e.session.acc
+acc_in e true true a = refl
+acc_in e false false a = refl
+acc_in e true false a = refl
+acc_in e false true true = refl
+acc_in e false true false = refl
+
+pub held : (pool : PoolState) (k : End) (s : Kept) (m : Machine) (r : Bool) → ((e : EndState) → ShdlcStandsFor k.shdlc e → ShdlcStandsFor s (with_ready e r)) → StandsFor k pool m
+    → StandsFor (record k { shdlc = s }) pool (record m { shdlc = with_ready m.shdlc r })
+held pool k s m r readies h =
+    let half = h.half in
+    let link = half.link in
+    let a = ready_alike m.shdlc link.offered r in
+    let w = stands_ready k.shdlc s (waiting_in pool k.outbox) m.shdlc r (record { stands = link; full = h.full }) (readies (with_out m.shdlc link.offered) link.kept) in
+    let acc = acc_in m.shdlc m.shdlc.ready r m.shdlc.session.answered_rnr in
+    let acked : m.shdlc.session.acked ≡ (with_ready m.shdlc r).session.acked = sym a.acked in
+    record {
+      half = record {
+        role = half.role;
+        link = w.stands;
+        acts = half.acts;
+        sends = record {
+          lies = half.sends.lies;
+          all = half.sends.all;
+          out = a.out ∙ half.sends.out;
+          messages = half.sends.messages ∙ ap (λ n. drop (whole_among m.sent n) m.sent) acked;
+          acked = half.sends.acked ∙ ap (rest_among m.sent) acked;
+        };
+        receives = record {
+          lies = half.receives.lies;
+          under = half.receives.under ∙ sym (ap (λ l. open_after [] (packets_in l)) acc);
+          sound = ap (λ l. are_taken [] (packets_in l)) acc ∙ half.receives.sound;
+        };
+        got = half.got;
+        aside = half.aside;
+        passed_over = half.passed_over;
+        differ = half.differ;
+      };
+      full = w.full;
+    }
+
+-- ---- a tick
+
+alike : (pool : PoolState) (k : End) (m : Machine) (h : StandsFor k pool m) → TicksAlike m.shdlc h.half.link.offered
+alike pool k m h =
+    let link = h.half.link in
+    let next = link.kept.sender.next in
+    ticked_alike m.shdlc link.offered (waiting_in pool k.outbox) link.out h.full (omega arith)
+
+pub ticked_answer : (pool : PoolState) (k : End) (m : Machine) (t : Ticked) → StandsFor k pool m → ((e : EndState) → ShdlcStandsFor k.shdlc e → t ≡ tick_answer e) → t ≡ tick_answer m.shdlc
+ticked_answer pool k m t h answer = answer (with_out m.shdlc h.half.link.offered) h.half.link.kept ∙ (alike pool k m h).answer
+
+pub tick_ends : (pool new : PoolState) (k k1 : End) (m : Machine) (s0 : Kept) (t : Ticked) → StandsFor k pool m → ((e : EndState) → ShdlcStandsFor k.shdlc e → ShdlcStandsFor s0 (ticked e))
+    → ((e : EndState) → ShdlcStandsFor k.shdlc e → t ≡ tick_answer e) → is_some t.ended ≡ true → Forgets pool new (record k { shdlc = s0 }) k1
+    → StandsFor k1 new (moved m (is_some (tick_answer m.shdlc).ended) (ticked m.shdlc))
+tick_ends pool new k k1 m s0 t h stands answer ended f =
+    let e = ticked m.shdlc in
+    let link = h.half.link in
+    let a = alike pool k m h in
+    let over : is_some (tick_answer m.shdlc).ended ≡ true = sym (ap (λ (x : Ticked). is_some x.ended) (ticked_answer pool k m t h answer)) ∙ ended in
+    let next = stands_ticked k.shdlc s0 (waiting_in pool k.outbox) m.shdlc (record { stands = link; full = h.full }) (stands (with_out m.shdlc link.offered) link.kept) in
+    let P : Bool → Type 0 = λ b. StandsBefore s0 (left_waiting b (waiting_in pool k.outbox)) e in
+    let Q : Kept → Type 0 = λ x. StandsBefore x [] e in
+    let R : Bool → Type 0 = λ b. StandsFor k1 new (moved m b e) in
+    subst R (sym over)
+    (session_over pool new k k1 s0 k1.shdlc m e (carries k pool m h.half) f (subst Q (sym f.shdlc) (subst P over next))
+    (a.out ∙ ap (λ b. left_waiting b m.shdlc.session.out) over)
+    (a.acked ∙ ap (λ b. if b then 0 else m.shdlc.session.acked) over)
+    (a.acc ∙ ap (λ b. left_waiting b m.shdlc.session.acc) over))
+
+-- another state of the SHDLC end in the same session
+pub same_session : (pool : PoolState) (k : End) (s0 : Kept) (m : Machine) (e : EndState) → Halfway k pool m → StandsBefore s0 (waiting_in pool k.outbox) e → e.session.out ≡ m.shdlc.session.out
+    → e.session.acked ≡ m.shdlc.session.acked → e.session.acc ≡ m.shdlc.session.acc → Halfway (record k { shdlc = s0 }) pool (moved m false e)
+same_session pool k s0 m e half link out acked acc = record {
+  role = half.role;
+  link = link;
+  acts = half.acts;
+  sends = record {
+    lies = half.sends.lies;
+    all = half.sends.all;
+    out = out ∙ half.sends.out;
+    messages = half.sends.messages ∙ ap (λ n. drop (whole_among m.sent n) m.sent) (sym acked);
+    acked = half.sends.acked ∙ ap (rest_among m.sent) (sym acked);
+  };
+  receives = record {
+    lies = half.receives.lies;
+    under = half.receives.under ∙ sym (ap (λ l. open_after [] (packets_in l)) acc);
+    sound = ap (λ l. are_taken [] (packets_in l)) acc ∙ half.receives.sound;
+  };
+  got = half.got;
+  aside = half.aside;
+  passed_over = half.passed_over;
+  differ = half.differ;
+}
+
+pub tick_goes_on : (pool : PoolState) (k : End) (m : Machine) (s0 : Kept) (t : Ticked) → StandsFor k pool m → ((e : EndState) → ShdlcStandsFor k.shdlc e → ShdlcStandsFor s0 (ticked e))
+    → ((e : EndState) → ShdlcStandsFor k.shdlc e → t ≡ tick_answer e) → is_some t.ended ≡ false
+    → Halfway (record k { shdlc = s0 }) pool (moved m (is_some (tick_answer m.shdlc).ended) (ticked m.shdlc))
+tick_goes_on pool k m s0 t h stands answer going =
+    let e = ticked m.shdlc in
+    let link = h.half.link in
+    let a = alike pool k m h in
+    let over : is_some (tick_answer m.shdlc).ended ≡ false = sym (ap (λ (x : Ticked). is_some x.ended) (ticked_answer pool k m t h answer)) ∙ going in
+    let next = stands_ticked k.shdlc s0 (waiting_in pool k.outbox) m.shdlc (record { stands = link; full = h.full }) (stands (with_out m.shdlc link.offered) link.kept) in
+    let P : Bool → Type 0 = λ b. StandsBefore s0 (left_waiting b (waiting_in pool k.outbox)) e in
+    let R : Bool → Type 0 = λ b. Halfway (record k { shdlc = s0 }) pool (moved m b e) in
+    subst R (sym over)
+    (same_session pool k s0 m e h.half (subst P over next)
+    (a.out ∙ ap (λ b. left_waiting b m.shdlc.session.out) over)
+    (a.acked ∙ ap (λ b. if b then 0 else m.shdlc.session.acked) over)
+    (a.acc ∙ ap (λ b. left_waiting b m.shdlc.session.acc) over))
+
+-- ---- a frame of SHDLC at an end that is open or not
+
+pub heard_after : (m : Machine) (c : Control) → IsShdlc c → is_open m.role ≡ true → after_input m (Take c) ≡ heard m c
+heard_after m (I ns nr info) f o = ap (λ b. if b then heard m (I ns nr info) else m) o
+heard_after m (S kind nr) f o = ap (λ b. if b then heard m (S kind nr) else m) o
+heard_after m (Rset window caps) f o = ap (λ b. if b then heard m (Rset window caps) else m) o
+heard_after m Ua f o = ap (λ b. if b then heard m Ua else m) o
+heard_after m (ActFrame act again) f o = absurd f
+heard_after m Clt f o = absurd f
+
+pub unheard_after : (m : Machine) (c : Control) → IsShdlc c → is_open m.role ≡ false → after_input m (Take c) ≡ m
+unheard_after m (I ns nr info) f o = ap (λ b. if b then heard m (I ns nr info) else m) o
+unheard_after m (S kind nr) f o = ap (λ b. if b then heard m (S kind nr) else m) o
+unheard_after m (Rset window caps) f o = ap (λ b. if b then heard m (Rset window caps) else m) o
+unheard_after m Ua f o = ap (λ b. if b then heard m Ua else m) o
+unheard_after m (ActFrame act again) f o = absurd f
+unheard_after m Clt f o = absurd f
+
+pub tick_told : (pool : PoolState) (k : End) (m : Machine) (t : Ticked) (n : LinkReport) → StandsFor k pool m → ((e : EndState) → ShdlcStandsFor k.shdlc e → t ≡ tick_answer e) → n ≡ nothing_told
+    → record n { ended = t.ended; gave_up = t.gave_up } ≡ record nothing_told { ended = (tick_answer m.shdlc).ended; gave_up = (tick_answer m.shdlc).gave_up }
+tick_told pool k m t n h answer none =
+    ap (λ (x : LinkReport). record x { ended = t.ended; gave_up = t.gave_up }) none
+    ∙ ap (λ (x : Ticked). record nothing_told { ended = x.ended; gave_up = x.gave_up }) (ticked_answer pool k m t h answer)
+
+-- ---- activation
+
+-- an event of activation starts nothing but by a start
+pub may_take : (r : Role) (act : Act) (again : Bool) → MayStart r (ActTake act again)
+may_take Bare act again = tt
+may_take (Clf s) act again = tt
+may_take (Uicc s) act again = tt
+
+pub may_tick : (r : Role) → MayStart r ActTick
+may_tick Bare = tt
+may_tick (Clf s) = tt
+may_tick (Uicc s) = tt
+
+-- no message is newly acknowledged by it
+acks_none : (m : Machine) (r : Role) (o : Option Act) (b : Bool) (p : LinkState) → whole_acked (with_act o (record (put_down b (record m { shdlc = record m.shdlc { phase = p } })) { role = r })) - whole_acked m ≡ 0
+acks_none m r None false p = omega arith
+acks_none m r (Some a) false p = omega arith
+acks_none m r None true Up = omega arith
+acks_none m r (Some a) true Up = omega arith
+acks_none m r None true Waiting = omega arith
+acks_none m r (Some a) true Waiting = omega arith
+acks_none m r None true Down = omega arith
+acks_none m r (Some a) true Down = omega arith
+
+pub acked-activated : (m : Machine) (event : ActEvent) → whole_acked (activated m event) - whole_acked m ≡ 0
+acked-activated m event = acks_none m (role_after m.role event) (act_answer m.role event).send (act_answer m.role event).ended_link m.shdlc.phase
+
+-- an ACT frame begins no session
+act_begins : (p : LinkState) (e : EndState) (act : Act) (again : Bool) → (take_answer (in_phase p e) (ActFrame act again)).began ≡ false
+act_begins Up e act again = refl
+act_begins Waiting e act again = refl
+act_begins Down e act again = refl
+
+clt_begins : (p : LinkState) (e : EndState) → (take_answer (in_phase p e) Clt).began ≡ false
+clt_begins Up e = refl
+clt_begins Waiting e = refl
+clt_begins Down e = refl
+
+and_false : (b : Bool) → (b && false) ≡ false
+and_false true = refl
+and_false false = refl
+
+-- a frame of activation never makes an end give up
+clf_takes : (s : ClfAct) (phase : Phase) (act : Act) (again : Bool) → (clf_step (record s { phase = phase }) (ActTake act again)).1.gave_up ≡ None
+clf_takes s phase act true = refl
+clf_takes s Inactive (SyncId id) false = refl
+clf_takes s (Awaiting tries ticks) (SyncId id) false = refl
+clf_takes s Active (SyncId id) false = refl
+clf_takes s Inactive Ready false = refl
+clf_takes s (Awaiting tries ticks) Ready false = refl
+clf_takes s Active Ready false = refl
+clf_takes s phase (PowerMode code) false = refl
+
+uicc_takes : (s : UiccAct) (phase : Phase) (act : Act) (again : Bool) → (uicc_step (record s { phase = phase }) (ActTake act again)).1.gave_up ≡ None
+uicc_takes s phase act true = refl
+uicc_takes s phase (SyncId id) false = refl
+uicc_takes s phase Ready false = refl
+uicc_takes s Inactive (PowerMode code) false = go (nat_le code 1) refl
+  where
+    go : (b : Bool) → nat_le code 1 ≡ b → (uicc_step (record s { phase = Inactive }) (ActTake (PowerMode code) false)).1.gave_up ≡ None
+    go true e = rw e
+    go false e = rw e
+uicc_takes s (Awaiting tries ticks) (PowerMode code) false = go (nat_le code 1) refl
+  where
+    go : (b : Bool) → nat_le code 1 ≡ b → (uicc_step (record s { phase = Awaiting tries ticks }) (ActTake (PowerMode code) false)).1.gave_up ≡ None
+    go true e = rw e
+    go false e = rw e
+uicc_takes s Active (PowerMode code) false = go (nat_le code 1) refl
+  where
+    go : (b : Bool) → nat_le code 1 ≡ b → (uicc_step (record s { phase = Active }) (ActTake (PowerMode code) false)).1.gave_up ≡ None
+    go true e = rw e
+    go false e = rw e
+
+never_gives_up : (r : Role) (act : Act) (again : Bool) → (act_answer r (ActTake act again)).gave_up ≡ None
+never_gives_up Bare act again = refl
+never_gives_up (Clf s) act again = clf_takes s s.phase act again
+never_gives_up (Uicc s) act again = uicc_takes s s.phase act again
+
+pub act_is_told : (m : Machine) (act : Act) (again : Bool) → act_told m (ActTake act again) ≡ told (report m (Take (ActFrame act again)))
+act_is_told m act again =
+    let out : ActOut = act_answer m.role (ActTake act again) in
+    let began : false ≡ (is_open m.role && (take_answer m.shdlc (ActFrame act again)).began) = sym (ap (λ b. is_open m.role && b) (act_begins m.shdlc.phase m.shdlc act again) ∙ and_false (is_open m.role)) in
+    let acks : 0 ≡ whole_acked (activated m (ActTake act again)) - whole_acked m = sym (acked-activated m (ActTake act again)) in
+    ap (λ (x : Option ℕ). record nothing_told { ended = ended_by_act m (ActTake act again); became_active = out.became_active; sync = out.sync; gave_up = x }) (never_gives_up m.role act again)
+    ∙ (ap (λ (x : Bool). record nothing_told { ended = ended_by_act m (ActTake act again); became_active = out.became_active; sync = out.sync; began = x }) began
+    ∙ ap (λ (x : ℕ). record nothing_told {
+      ended = ended_by_act m (ActTake act again);
+      became_active = out.became_active;
+      sync = out.sync;
+      began = is_open m.role && (take_answer m.shdlc (ActFrame act again)).began;
+      acked = x;
+    }) acks)
+
+-- ---- a tick
+
+pub tick_after : (m : Machine) (b : Bool) → is_open m.role ≡ b → after_input m Tick ≡ (if b then moved m (is_some (tick_answer m.shdlc).ended) (ticked m.shdlc) else activated m ActTick)
+tick_after m b o = ap (λ x. if x then moved m (is_some (tick_answer m.shdlc).ended) (ticked m.shdlc) else activated m ActTick) o

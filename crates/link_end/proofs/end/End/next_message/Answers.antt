@@ -1,0 +1,5 @@
+use Rattle.link_end.proofs.NodeLemmas.{message_fetched}
+use Rattle.link_end.proofs.«end».End.next_message.Goals as goal
+
+pub returns-clause-stands : goal.returns-clause-stands
+returns-clause-stands c pool m h = message_fetched pool c.args.self.now c.fetch.new.self m c.fetch.ensures.joiner c.fetch.ensures.fetched h

@@ -1,0 +1,62 @@
+use Rattle.std.proofs.Common.{◌≡◌, ◌≤◌, ℕ, length, sym, ap, ◌∙◌, subst, refl, arith}
+use Rattle.std.specs.Prelude.{Err}
+use Rattle.block_pool.specs.declared.chain.Chain.{Chain as Blocks}
+use Rattle.block_pool.specs.Slots.{blocks_for}
+use Rattle.block_pool.specs.Pool.{PoolState, chain_bytes}
+use Rattle.shdlc_core.specs.declared.answers.LinkState.TheVariants.{Up}
+use Rattle.link_machine.specs.Machine.{LinkEnd, Message, spare}
+use Rattle.link_machine.specs.Machine.Refused.{TooLong, Full}
+use Rattle.link_messages.specs.declared.outbox.Outbox.{Outbox}
+use Rattle.link_end.specs.Ends.{StandsFor}
+use Rattle.link_end.specs.Reports.{pass_by}
+use Rattle.link_end.specs.declared.report.SendRefused.TheVariants.{Full as SendFull}
+use Rattle.link_end.proofs.NodeLemmas.{spare_is, refused_long, refused_full, refused_none, refusal_stays, gives, message_passed}
+use Rattle.link_end.proofs.«end».End.pass_up.Goals as goal
+
+pub returns-then-len-gt-MAX_MESSAGE-clause-stands : goal.returns-then-len-gt-MAX_MESSAGE-clause-stands
+returns-then-len-gt-MAX_MESSAGE-clause-stands c m h =
+    let x : Message = (c.args.pipe, chain_bytes c.args.pool.now c.args.chain) in
+    let up : m.shdlc.phase ≡ Up = sym h.half.link.kept.phase ∙ c.requires.up in
+    let P : LinkEnd → Type 0 = λ y. StandsFor c.args.self.now c.args.pool.now y in
+    subst P (sym (refusal_stays m x (TooLong (length x.1)) (refused_long m x up (let l = c.len-len.ensures in omega (arith, l, c.if-len-gt-MAX_MESSAGE.true))))) h
+
+pub returns-in-Ok-clause-stands : goal.returns-in-Ok-clause-stands
+returns-in-Ok-clause-stands c m h =
+    let x : Message = (c.args.pipe, chain_bytes c.args.pool.now c.args.chain) in
+    let up : m.shdlc.phase ≡ Up = sym h.half.link.kept.phase ∙ c.requires.up in
+    let fits : blocks_for (length x.1) ≤ spare m = subst (λ n. blocks_for (length x.1) ≤ n) (sym (spare_is c.args.pool.now c.args.self.now m h)) (c.in-Ok.ensures.room.0 refl) in
+    let P : LinkEnd → Type 0 = λ y. StandsFor c.refill.new.self c.accept_chain.new.pool y in
+    subst P (sym (gives m x (refused_none m x up (let l = c.len-len.ensures in omega (arith, l, c.if-len-gt-MAX_MESSAGE.false)) fits)))
+    (c.refill.ensures.stands _ (message_passed c.args.pool.now c.accept_chain.new.pool c.args.self.now c.accept_chain.new.self c.args.chain m x h c.requires.up c.requires.sendable c.requires.chain c.in-Ok.ensures.ok c.in-Ok.ensures.elsewhere))
+
+pub returns-in-Ok-clause-answer : goal.returns-in-Ok-clause-answer
+returns-in-Ok-clause-answer c m h =
+    let x : Message = (c.args.pipe, chain_bytes c.args.pool.now c.args.chain) in
+    let up : m.shdlc.phase ≡ Up = sym h.half.link.kept.phase ∙ c.requires.up in
+    let fits : blocks_for (length x.1) ≤ spare m = subst (λ n. blocks_for (length x.1) ≤ n) (sym (spare_is c.args.pool.now c.args.self.now m h)) (c.in-Ok.ensures.room.0 refl) in
+    sym (ap (pass_by c.args.chain) (refused_none m x up (let l = c.len-len.ensures in omega (arith, l, c.if-len-gt-MAX_MESSAGE.false)) fits))
+
+pub returns-in-Err-clause-stands : goal.returns-in-Err-clause-stands
+returns-in-Err-clause-stands c m h =
+    let x : Message = (c.args.pipe, chain_bytes c.args.pool.now c.args.chain) in
+    let k = c.args.self.now in
+    let up : m.shdlc.phase ≡ Up = sym h.half.link.kept.phase ∙ c.requires.up in
+    let full = refused_full m x up (let l = c.len-len.ensures in omega (arith, l, c.if-len-gt-MAX_MESSAGE.false))
+    (λ fits. (let n = c.in-Err.ensures.room.1 (subst (λ n. blocks_for (length x.1) ≤ n) (spare_is c.args.pool.now k m h) fits) in cc)) in
+    let P : LinkEnd → Type 0 = λ y. StandsFor (record k { outbox = c.accept_chain.new.self }) c.accept_chain.new.pool y in
+    let Q : Outbox → Type 0 = λ b. StandsFor (record k { outbox = b }) c.accept_chain.new.pool m in
+    let R : PoolState → Type 0 = λ p. StandsFor k p m in
+    subst P (sym (refusal_stays m x (Full (blocks_for (length x.1)) (spare m)) full)) (subst Q (sym c.in-Err.ensures.err.1) (subst R (sym c.in-Err.ensures.err.0) h))
+
+pub returns-in-Err-clause-answer : goal.returns-in-Err-clause-answer
+returns-in-Err-clause-answer c m h =
+    let x : Message = (c.args.pipe, chain_bytes c.args.pool.now c.args.chain) in
+    let k = c.args.self.now in
+    let up : m.shdlc.phase ≡ Up = sym h.half.link.kept.phase ∙ c.requires.up in
+    let spares = spare_is c.args.pool.now k m h in
+    let full = refused_full m x up (let l = c.len-len.ensures in omega (arith, l, c.if-len-gt-MAX_MESSAGE.false))
+    (λ fits. (let n = c.in-Err.ensures.room.1 (subst (λ n. blocks_for (length x.1) ≤ n) spares fits) in cc)) in
+    let r = c.in-Err.ensures.no_room in
+    ap (λ (q : Blocks). Err (q, SendFull c.in-Err.field-0-1.need c.in-Err.field-0-1.spare)) r.0
+    ∙ (ap (λ (n : ℕ). Err (c.args.chain, SendFull n c.in-Err.field-0-1.spare)) r.1
+    ∙ (ap (λ (n : ℕ). Err (c.args.chain, SendFull (blocks_for (length x.1)) n)) (r.2 ∙ sym spares) ∙ sym (ap (pass_by c.args.chain) full)))

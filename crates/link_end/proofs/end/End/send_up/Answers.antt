@@ -1,0 +1,68 @@
+use Rattle.std.proofs.Common.{◌≡◌, ◌≤◌, ℕ, length, sym, ap, ◌∙◌, subst, refl}
+use Rattle.std.specs.Prelude.{Err}
+use Rattle.block_pool.specs.Slots.{blocks_for}
+use Rattle.block_pool.specs.Pool.{PoolState}
+use Rattle.shdlc_core.specs.declared.answers.LinkState.TheVariants.{Up}
+use Rattle.link_machine.specs.Machine.{LinkEnd, Message, spare}
+use Rattle.link_machine.specs.Machine.Refused.{TooLong, Full}
+use Rattle.link_messages.specs.declared.outbox.Outbox.{Outbox}
+use Rattle.link_end.specs.Ends.{StandsFor}
+use Rattle.link_end.specs.Reports.{by_refusal_told}
+use Rattle.link_end.specs.declared.report.SendRefused.TheVariants.{Full as SendFull}
+use Rattle.link_end.proofs.NodeLemmas.{spare_is, refused_long, refused_full, refused_none, refusal_stays, gives, message_given}
+use Rattle.link_end.proofs.BoxLemmas.{leaves_same}
+use Rattle.link_end.proofs.«end».End.send_up.Goals as goal
+
+pub returns-then-message-clause-stands : goal.returns-then-message-clause-stands
+returns-then-message-clause-stands c m h =
+    let x : Message = (c.args.pipe, c.args.message.now) in
+    let up : m.shdlc.phase ≡ Up = sym h.half.link.kept.phase ∙ c.requires.up in
+    let P : LinkEnd → Type 0 = λ y. StandsFor c.args.self.now c.args.pool.now y in
+    subst P (sym (refusal_stays m x (TooLong (length x.1)) (refused_long m x up c.if-message.true))) h
+
+pub returns-in-Ok-clause-stands : goal.returns-in-Ok-clause-stands
+returns-in-Ok-clause-stands c m h =
+    let x : Message = (c.args.pipe, c.args.message.now) in
+    let up : m.shdlc.phase ≡ Up = sym h.half.link.kept.phase ∙ c.requires.up in
+    let fits : blocks_for (length x.1) ≤ spare m = subst (λ n. blocks_for (length x.1) ≤ n) (sym (spare_is c.args.pool.now c.args.self.now m h)) (c.in-Ok.ensures.room.0 refl) in
+    let P : LinkEnd → Type 0 = λ y. StandsFor c.refill.new.self c.accept.new.pool y in
+    subst P (sym (gives m x (refused_none m x up c.if-message.false fits)))
+    (c.refill.ensures.stands _ (message_given c.args.pool.now c.accept.new.pool c.args.self.now c.accept.new.self m x h c.requires.up c.requires.sendable c.in-Ok.ensures.ok c.in-Ok.ensures.elsewhere).0)
+
+pub returns-in-Ok-clause-answer : goal.returns-in-Ok-clause-answer
+returns-in-Ok-clause-answer c m h =
+    let x : Message = (c.args.pipe, c.args.message.now) in
+    let up : m.shdlc.phase ≡ Up = sym h.half.link.kept.phase ∙ c.requires.up in
+    let fits : blocks_for (length x.1) ≤ spare m = subst (λ n. blocks_for (length x.1) ≤ n) (sym (spare_is c.args.pool.now c.args.self.now m h)) (c.in-Ok.ensures.room.0 refl) in
+    sym (ap by_refusal_told (refused_none m x up c.if-message.false fits))
+
+pub returns-in-Ok-clause-elsewhere : goal.returns-in-Ok-clause-elsewhere
+returns-in-Ok-clause-elsewhere c =
+    let x : Message = (c.args.pipe, c.args.message.now) in
+    let boxes = c.refill.ensures.boxes in
+    leaves_same c.args.pool.now c.accept.new.pool c.args.self.now.outbox c.accept.new.self c.refill.new.self.outbox c.args.self.now.inbox c.args.self.now.inbox c.refill.new.self.inbox
+    (message_given c.args.pool.now c.accept.new.pool c.args.self.now c.accept.new.self c.requires.stands.0 x c.requires.stands.1 c.requires.up c.requires.sendable c.in-Ok.ensures.ok c.in-Ok.ensures.elsewhere).1
+    boxes.1 boxes.0 boxes.2
+
+pub returns-in-Err-clause-stands : goal.returns-in-Err-clause-stands
+returns-in-Err-clause-stands c m h =
+    let x : Message = (c.args.pipe, c.args.message.now) in
+    let k = c.args.self.now in
+    let up : m.shdlc.phase ≡ Up = sym h.half.link.kept.phase ∙ c.requires.up in
+    let full = refused_full m x up c.if-message.false
+    (λ fits. (let n = c.in-Err.ensures.room.1 (subst (λ n. blocks_for (length x.1) ≤ n) (spare_is c.args.pool.now k m h) fits) in cc)) in
+    let P : LinkEnd → Type 0 = λ y. StandsFor (record k { outbox = c.accept.new.self }) c.accept.new.pool y in
+    let Q : Outbox → Type 0 = λ b. StandsFor (record k { outbox = b }) c.accept.new.pool m in
+    let R : PoolState → Type 0 = λ p. StandsFor k p m in
+    subst P (sym (refusal_stays m x (Full (blocks_for (length x.1)) (spare m)) full)) (subst Q (sym c.in-Err.ensures.err.1) (subst R (sym c.in-Err.ensures.err.0) h))
+
+pub returns-in-Err-clause-answer : goal.returns-in-Err-clause-answer
+returns-in-Err-clause-answer c m h =
+    let x : Message = (c.args.pipe, c.args.message.now) in
+    let k = c.args.self.now in
+    let up : m.shdlc.phase ≡ Up = sym h.half.link.kept.phase ∙ c.requires.up in
+    let spares = spare_is c.args.pool.now k m h in
+    let full = refused_full m x up c.if-message.false
+    (λ fits. (let n = c.in-Err.ensures.room.1 (subst (λ n. blocks_for (length x.1) ≤ n) spares fits) in cc)) in
+    ap (λ (n : ℕ). Err (SendFull n c.in-Err.field-0.spare)) c.in-Err.ensures.no_room.0
+    ∙ (ap (λ (n : ℕ). Err (SendFull (blocks_for (length x.1)) n)) (c.in-Err.ensures.no_room.1 ∙ sym spares) ∙ sym (ap by_refusal_told full))

@@ -1,0 +1,97 @@
+-- What is kept of one end of a link, with its pool, and for which states of its machine it stands.
+use Rattle.std.specs.Prelude.{◌≡◌, ◌≢◌, ℕ, ◌+◌, ◌≤◌, ◌⊎◌, min, true, false, List, [], length, map, drop, None}
+use Rattle.block_pool.specs.declared.chain.Chain.{Chain}
+use Rattle.block_pool.specs.Slots.{blocks_for}
+use Rattle.block_pool.specs.Owners.{owner_at}
+use Rattle.block_pool.specs.Pool.{PoolState, HasQuota, quota_of, used_of, aside_of, IsLive, chain_bytes}
+use Rattle.block_pool.specs.Holdings.{LiesApart}
+use Rattle.shdlc_core.specs.Machine.{Fragment, Session}
+use Rattle.shdlc_core.specs.Offering.{StandsBefore}
+use Rattle.hcp_packet.specs.Packets.{packets_in, fragments_of, AreSendable}
+use Rattle.hcp_chain.specs.Joining.{are_taken, open_after}
+use Rattle.hcp_chain.specs.Holding.{held_blocks, IsApartFrom}
+use Rattle.link_machine.specs.Machine.{LinkEnd as Machine, ActDue as Due, Message, whole_among}
+use Rattle.link_messages.specs.declared.outbox.Queued.{Queued}
+use Rattle.link_messages.specs.declared.outbox.Outbox.{Outbox}
+use Rattle.link_messages.specs.declared.inbox.Inbox.{Inbox}
+use Rattle.link_messages.specs.Outgoing.{chain_in, messages_in, waiting_in, rest_among, LiesIn as OutboxLiesIn}
+use Rattle.link_messages.specs.Incoming.{chains_in, under_way, got_in, LiesIn as InboxLiesIn}
+use Rattle.link_end.specs.Roles.{role_of}
+use Rattle.link_end.specs.declared.acts.ActDue.{ActDue}
+use Rattle.link_end.specs.declared.«end».End.{End}
+
+abbrev pub due_of : ActDue → Due
+due_of a = record { frame = a.frame; behind = a.behind }
+
+-- The messages that are kept to be sent are those of the session that aren't acknowledged whole.
+pub record Sends (pool : PoolState) (box : Outbox) (sent : List Message) (s : Session) : Type 0 where
+  pub lies : OutboxLiesIn pool box
+  pub all : AreSendable sent
+  pub out : s.out ≡ fragments_of sent
+  pub messages : messages_in pool box ≡ drop (whole_among sent s.acked) sent
+  pub acked : box.acked ≡ rest_among sent s.acked
+
+-- What is partly received are the packets that the session accepted.
+pub record Receives (pool : PoolState) (box : Inbox) (acc : List Fragment) : Type 0 where
+  pub lies : InboxLiesIn pool box
+  pub under : under_way pool box ≡ open_after [] (packets_in acc)
+  pub sound : are_taken [] (packets_in acc) ≡ true
+
+-- What is kept stands for this state of the machine, whose fragments may wait although there is room for them.
+pub record Halfway (k : End) (pool : PoolState) (m : Machine) : Type 0 where
+  pub role : role_of k.activation ≡ m.role
+  pub link : StandsBefore k.shdlc (waiting_in pool k.outbox) m.shdlc
+  pub acts : map due_of k.acts.items ≡ m.acts
+  pub sends : Sends pool k.outbox m.sent m.shdlc.session
+  pub receives : Receives pool k.inbox m.shdlc.session.acc
+  pub got : got_in pool k.inbox ≡ m.got
+  pub aside : aside_of pool k.outbox.owner ≡ m.aside
+  pub passed_over : k.passed_over ≡ min m.passed_over 4294967295
+  pub differ : k.outbox.owner ≢ k.inbox.joiner.owner
+
+-- what is kept stands for this state of the machine
+pub record StandsFor (k : End) (pool : PoolState) (m : Machine) : Type 0 where
+  pub half : Halfway k pool m
+  pub full : (waiting_in pool k.outbox ≡ []) ⊎ (length half.link.offered ≡ m.shdlc.session.acked + 4)
+
+-- how many control frames wait to be fetched
+abbrev pub controls_in : End → ℕ
+controls_in k = length k.acts.items + length k.shdlc.due
+
+-- A frame may be taken: the last message was fetched, and none that was fetched is still in its owner's blocks, or the end is held.
+pub record MayTake (k : End) (pool : PoolState) : Type 0 where
+  pub fetched : k.inbox.got ≡ None
+  pub free : (used_of pool k.inbox.joiner.owner ≡ held_blocks pool k.inbox.joiner.open.items) ⊎ (k.shdlc.ready ≡ false)
+
+-- What a call left elsewhere: the chains that lie apart from those kept, all counts of other owners, and the blocks of the owner
+-- for what comes that aren't kept.
+pub record LeavesBoxes (old new : PoolState) (outbox : Outbox) (inbox : Inbox) (sent : Outbox) (came : Inbox) : Type 0 where
+  pub sender : sent.owner ≡ outbox.owner
+  pub receiver : came.joiner.owner ≡ inbox.joiner.owner
+  pub counts : (p : ℕ) → p ≢ outbox.owner → p ≢ inbox.joiner.owner → owner_at new.owners p ≡ owner_at old.owners p
+  pub lengths : length new.owners ≡ length old.owners
+  pub received : used_of new inbox.joiner.owner + held_blocks old (chains_in inbox) ≡ used_of old inbox.joiner.owner + held_blocks new (chains_in came)
+  pub others : (other : Chain) → IsLive old other → LiesApart Queued chain_in outbox.queue.items other → IsApartFrom (chains_in inbox) other
+      → IsLive new other × (chain_bytes new other ≡ chain_bytes old other) × LiesApart Queued chain_in sent.queue.items other × IsApartFrom (chains_in came) other
+
+abbrev pub LeavesOthers : PoolState → PoolState → End → End → Type 0
+LeavesOthers old new before after = LeavesBoxes old new before.outbox before.inbox after.outbox after.inbox
+
+-- a pool in which these owners use nothing: 128 blocks for what is sent, and 512 for what comes
+pub record IsFree (pool : PoolState) (sender receiver : ℕ) : Type 0 where
+  pub has_sender : HasQuota pool sender
+  pub sender_quota : quota_of pool sender ≡ 128
+  pub sender_used : used_of pool sender ≡ 0
+  pub sender_aside : aside_of pool sender ≡ 0
+  pub has_receiver : HasQuota pool receiver
+  pub receiver_quota : quota_of pool receiver ≡ 512
+  pub differ : sender ≢ receiver
+
+-- A chain of another owner may be passed to an end: it lies apart from what comes there, and where it belongs to the owner of what
+-- comes, its blocks count beside those that are kept.
+pub record MayPass (pool : PoolState) (k : End) (chain : Chain) : Type 0 where
+  pub live : IsLive pool chain
+  pub other : chain.owner ≢ k.outbox.owner
+  pub apart : IsApartFrom (chains_in k.inbox) chain
+  pub counted : chain.owner ≡ k.inbox.joiner.owner
+      → held_blocks pool (chains_in k.inbox) + blocks_for (length (chain_bytes pool chain)) ≤ used_of pool k.inbox.joiner.owner

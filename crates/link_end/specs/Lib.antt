@@ -1,0 +1,7 @@
+pub mod Dues
+pub mod Roles
+pub mod Reports
+pub mod Ends
+pub mod Steps
+pub mod Received
+pub mod Inputs
