@@ -7,4 +7,10 @@ pub mod Noting
 pub mod Moments
 pub mod Running
 pub mod Chains
+pub mod Losing
+pub mod Disturbing
+pub mod Lasting
+pub mod Completing
+pub mod Quieting
+pub mod Delivering
 mod Examples

@@ -51,7 +51,7 @@ use Rattle.link_entries.proofs.Stepping.{Tolds, Out, input_told, rest_told, host
 -- ## Where an end is Up before its frames go out, no RSET is due
 
 -- turns leave the phase of an end
-turned_same : (ts : List Turn) (e : LinkEnd) → (turned e ts).shdlc.phase ≡ e.shdlc.phase
+pub turned_same : (ts : List Turn) (e : LinkEnd) → (turned e ts).shdlc.phase ≡ e.shdlc.phase
 turned_same [] e = refl
 turned_same (t ∷ ts) e = turned_same ts (turn e t) ∙ one t
   where
@@ -71,17 +71,17 @@ turned_same (t ∷ ts) e = turned_same ts (turn e t) ∙ one t
         by (Some r) q = rw q refl
 
 -- no RSET goes out where the end is Up
-abbrev IsQuietEnd : LinkEnd → List Turn → Type 0
+abbrev pub IsQuietEnd : LinkEnd → List Turn → Type 0
 IsQuietEnd f ts = (turned f ts).shdlc.phase ≡ IsUpNow → NoRset (frames_out (turned f ts))
 
 -- an end that isn't Up
-not_up_quiet : (f : LinkEnd) (ts : List Turn) → IsNotUp f.shdlc → IsQuietEnd f ts
+pub not_up_quiet : (f : LinkEnd) (ts : List Turn) → IsNotUp f.shdlc → IsQuietEnd f ts
 not_up_quiet f ts d up = absurd (d (sym (turned_same ts f) ∙ up))
 
-quiet_idle : (l : Link) (ts : List Turn) → AreSendableTurns ts → Tells l.controller → Rests l.controller.side.shdlc → IsQuietEnd l.controller.side ts
+pub quiet_idle : (l : Link) (ts : List Turn) → AreSendableTurns ts → Tells l.controller → Rests l.controller.side.shdlc → IsQuietEnd l.controller.side ts
 quiet_idle l ts a h r = λ _. none_out None l.controller.side ts a h.now (none_due l.controller.side.shdlc r.due)
 
-quiet_reset : (l : Link) (window : Option ℕ) (ts : List Turn) → AreSendableTurns ts → Tells l.controller → Rests l.controller.side.shdlc
+pub quiet_reset : (l : Link) (window : Option ℕ) (ts : List Turn) → AreSendableTurns ts → Tells l.controller → Rests l.controller.side.shdlc
     → IsQuietEnd (after_input l.controller.side (Reset window)) ts
 quiet_reset l window ts a h r = go (reset_refusal e) refl
   where
@@ -105,10 +105,10 @@ quiet_reset l window ts a h r = go (reset_refusal e) refl
         subst P (sym is) (not_up_quiet (reset_by e (window_of e window)) ts (waits q))
     go (Some why) q = let is : after_input e (Reset window) ≡ e = rw q refl in subst P (sym is) (quiet_idle l ts a h r)
 
-restarted_down : (e : LinkEnd) (event : ActEvent) → Now e → IsNotUp (activated (moved e true (stopped e.shdlc)) event).shdlc
+pub restarted_down : (e : LinkEnd) (event : ActEvent) → Now e → IsNotUp (activated (moved e true (stopped e.shdlc)) event).shdlc
 restarted_down e event h u = let m = restart_mid e event h in let z = sym (ap (λ (s : EndState). s.phase) m.same) ∙ u in cc
 
-quiet_tick : (l : Link) (ts : List Turn) → AreSendableTurns ts → Tells l.controller → Rests l.controller.side.shdlc
+pub quiet_tick : (l : Link) (ts : List Turn) → AreSendableTurns ts → Tells l.controller → Rests l.controller.side.shdlc
     → IsQuietEnd (after_input l.controller.side HasTick) ts
 quiet_tick l ts a h r = go (is_open e.role) refl
   where
@@ -163,11 +163,11 @@ pub record Near (l : Link) : Type 0 where
   pub rests : Rests l.controller.side.shdlc
   pub sound : Sound l.controller.side
 
-ended_number : (l : Link) (b : Bool) → number_of (with_ended l b).controller ≡ number_of l.controller
+pub ended_number : (l : Link) (b : Bool) → number_of (with_ended l b).controller ≡ number_of l.controller
 ended_number l false = refl
 ended_number l true = refl
 
-ended_past : (l : Link) (b : Bool) → (with_ended l b).controller.past ≡ past_after b l.controller
+pub ended_past : (l : Link) (b : Bool) → (with_ended l b).controller.past ≡ past_after b l.controller
 ended_past l false = refl
 ended_past l true = refl
 
@@ -183,11 +183,11 @@ plain_input : (l k : Link) (i : LinkInput) → Reports l.controller.side i → b
 plain_input l k i so none past number =
     record { becomes = so; acked = refl; past = past; same = λ up q. number; fresh = λ q. absurd (true≢false (sym q ∙ none)) }
 
-moved_can : (e : LinkEnd) (i : LinkInput) (ts : List Turn) (ending : Ending) (r : Role) → (after_input e i).role ≡ r → CanEnd r ending
+pub moved_can : (e : LinkEnd) (i : LinkInput) (ts : List Turn) (ending : Ending) (r : Role) → (after_input e i).role ≡ r → CanEnd r ending
     → CanEnd (turned (after_input e i) ts).role ending
 moved_can e i ts ending r q can = can_end (after_input e i) ts r ending q can
 
-reset_role : (e : LinkEnd) (window : Option ℕ) → (after_input e (Reset window)).role ≡ e.role
+pub reset_role : (e : LinkEnd) (window : Option ℕ) → (after_input e (Reset window)).role ≡ e.role
 reset_role e window = go (reset_refusal e) refl
   where
     go : (o : Option Refused) → reset_refusal e ≡ o → (after_input e (Reset window)).role ≡ e.role
@@ -196,7 +196,7 @@ reset_role e window = go (reset_refusal e) refl
         ap (λ (f : LinkEnd). f.role) is ∙ moved_role e (is_some (if_up e.shdlc Asked)) (reset_with e.shdlc (window_of e window))
     go (Some why) q = let is : after_input e (Reset window) ≡ e = rw q refl in ap (λ (f : LinkEnd). f.role) is
 
-tick_can : (e : LinkEnd) (ts : List Turn) (ending : Ending) → CanEnd e.role ending → CanEnd (turned (after_input e HasTick) ts).role ending
+pub tick_can : (e : LinkEnd) (ts : List Turn) (ending : Ending) → CanEnd e.role ending → CanEnd (turned (after_input e HasTick) ts).role ending
 tick_can e ts ending can = go (is_open e.role) refl
   where
     P : LinkEnd → Type 0
@@ -221,7 +221,7 @@ tick_told t who l node a n b =
     (plain_input l (with_ended l c) i (tick_so e n.sound) refl (ended_past l c) (ended_number l c)) refl (sym (ended_number l c)) (ended_host l c) a.0
     (tick_can e node.turns node.ending a.1) (quiet_tick l node.turns a.0 n.tells n.rests) n.sound (sound_input e i tt n.sound) b
 
-if_up_is : (s : EndState) → is_up s.phase ≡ is_some (if_up s ByAct)
+pub if_up_is : (s : EndState) → is_up s.phase ≡ is_some (if_up s ByAct)
 if_up_is s = go s.phase refl
   where
     go : (p : LinkState) → s.phase ≡ p → is_up s.phase ≡ is_some (if_up s ByAct)
@@ -383,7 +383,7 @@ sound_tick l node a s =
     (tick_can l.controller.side node.turns node.ending a.1)
     (sound_turns node.turns f a.0 (sound_input l.controller.side HasTick tt s))
 
-restart_can : (e : LinkEnd) (event : ActEvent) (ts : List Turn) (ending : Ending) → CanEnd e.role ending
+pub restart_can : (e : LinkEnd) (event : ActEvent) (ts : List Turn) (ending : Ending) → CanEnd e.role ending
     → CanEnd (turned (activated (moved e true (stopped e.shdlc)) event) ts).role ending
 restart_can e event ts ending can =
     can_end (activated (moved e true (stopped e.shdlc)) event) ts (role_after e.role event) ending (activated_role (moved e true (stopped e.shdlc)) event)

@@ -52,16 +52,16 @@ use Rattle.link_entries.proofs.Noting.{Near, Frame, Frames, FramesFor, step_told
 -- ## The first frame on a wire
 
 -- what is known of the link before a frame is taken, and of the link after it
-record Before (l : Link) : Type 0 where
-  tells : Tells l.controller
-  host : Tells l.host
-  calm : CalmLink l
-  safe : SafeLink 0 0 (core_of l)
-  from : FromHost (core_happens_here (core_of l) (CoreDeliver []))
-  next : SafeLink 0 0 (core_of (steps_here l NextFrame [] GoesOut))
-  sound : Sound l.controller.side
+pub record Before (l : Link) : Type 0 where
+  pub tells : Tells l.controller
+  pub host : Tells l.host
+  pub calm : CalmLink l
+  pub safe : SafeLink 0 0 (core_of l)
+  pub from : FromHost (core_happens_here (core_of l) (CoreDeliver []))
+  pub next : SafeLink 0 0 (core_of (steps_here l NextFrame [] GoesOut))
+  pub sound : Sound l.controller.side
 
-frame_facts : (l : Link) (ts : List Turn) → AreSendableTurns ts → Before l → Frames l ts
+pub frame_facts : (l : Link) (ts : List Turn) → AreSendableTurns ts → Before l → Frames l ts
 frame_facts l ts a b x xs w = record { quiet = none ts a; same = same; fresh = fresh }
   where
     e : LinkEnd
@@ -160,7 +160,7 @@ frame_facts l ts a b x xs w = record { quiet = none ts a; same = same; fresh = f
 
 -- ## Events at one end
 
-here_told : (t : List Entry) (who : End) (l : Link) (e : EndEvent) → IsAllowed l e → Before l → Tolds t who l
+pub here_told : (t : List Entry) (who : End) (l : Link) (e : EndEvent) → IsAllowed l e → Before l → Tolds t who l
     → Out t (here_entries who l e) who (happens_here l e)
 here_told t who l (EndStep comes ts ending) a b h =
     step_told t who l comes ts ending a.1 (record { tells = b.tells; rests = rests_of 0 0 (core_of l) b.safe; sound = b.sound }) (frames comes) h
@@ -194,7 +194,7 @@ one_here who l (Lose why) = go l.to_controller
     go [] = tt
     go (x ∷ xs) = ((λ n. refl), tt)
 
-sound_here : (l : Link) (e : EndEvent) → IsAllowed l e → Sound l.controller.side → Sound (happens_here l e).controller.side
+pub sound_here : (l : Link) (e : EndEvent) → IsAllowed l e → Sound l.controller.side → Sound (happens_here l e).controller.side
 sound_here l (EndStep comes ts ending) a s = sound_step l comes ts ending a.1 s
 sound_here l (Lose why) a s = s
 
@@ -267,15 +267,15 @@ pub record Sounds (l : Link) : Type 0 where
   pub host : Sound l.host.side
 
 -- what was noted of a link up to now
-record Noted (t : List Entry) (l : Link) : Type 0 where
-  tolds : Tolds t Controller l
-  sounds : Sounds l
-  ok : Ok t
+pub record Noted (t : List Entry) (l : Link) : Type 0 where
+  pub tolds : Tolds t Controller l
+  pub sounds : Sounds l
+  pub ok : Ok t
 
 -- something more is noted
-record Notes (t u : List Entry) (l : Link) : Type 0 where
-  noted : Noted (t ++ u) l
-  all : AllOk t u
+pub record Notes (t u : List Entry) (l : Link) : Type 0 where
+  pub noted : Noted (t ++ u) l
+  pub all : AllOk t u
 
 swap_tolds : (t : List Entry) (l : Link) → Tolds t Controller l → Tolds t Host (exchanged l)
 swap_tolds t l b = record { here = b.there; there = b.here }
@@ -284,7 +284,7 @@ swap_back : (t : List Entry) (l : Link) → Tolds t Host l → Tolds t Controlle
 swap_back t l b = record { here = b.there; there = b.here }
 
 -- the link before an event at the controller's end, or at the host's
-before_here : (l : Link) → Good l → Reached (core_of l) → Sounds l → Before l
+pub before_here : (l : Link) → Good l → Reached (core_of l) → Sounds l → Before l
 before_here l g r s =
     let e : EndEvent = EndStep NextFrame [] GoesOut in
     let st = event_step l (AtController e) (tt, (tt, tt)) g r in
@@ -301,7 +301,7 @@ before_here l g r s =
       sound = s.controller;
     }
 
-before_there : (l : Link) → Good l → Reached (core_of l) → Sounds l → Before (exchanged l)
+pub before_there : (l : Link) → Good l → Reached (core_of l) → Sounds l → Before (exchanged l)
 before_there l g r s =
     let e : EndEvent = EndStep NextFrame [] GoesOut in
     let st = event_step l (AtHost e) (tt, (tt, tt)) g r in
@@ -319,7 +319,7 @@ before_there l g r s =
       sound = s.host;
     }
 
-host_here : (l : Link) (e : EndEvent) → IsAllowed l e → Good l → Reached (core_of l) → (happens_here l e).host ≡ l.host
+pub host_here : (l : Link) (e : EndEvent) → IsAllowed l e → Good l → Reached (core_of l) → (happens_here l e).host ≡ l.host
 host_here l e a g r =
     (step_here l e a g.controller g.host g.calm (rests_of 0 0 (core_of l) (safe_reached (core_of l) r)) (from_host (core_of l) r)).host
 
@@ -400,7 +400,8 @@ quiet_aged who (y ∷ ys) = by (nat_lt y.age 4) refl (quiet_aged who ys)
     by true q later = rw q later
     by false q later = rw q ((λ x n. refl), later)
 
-note_event : (t : List Entry) (l : Link) (e : LinkEvent) → IsEvent l e → Good l → Reached (core_of l) → Noted t l → Notes t (event_entries l e) (happens l e)
+pub note_event : (t : List Entry) (l : Link) (e : LinkEvent) → IsEvent l e → Good l → Reached (core_of l) → Noted t l
+    → Notes t (event_entries l e) (happens l e)
 note_event t l (AtController e) a g r n = note_here t l e a g r n
 note_event t l (AtHost e) a g r n = note_there t l e a g r n
 note_event t l (Ticks c es h) a g r n =
@@ -542,7 +543,7 @@ start_quiet Bare = ((λ x n. refl), ((λ x n. refl), tt))
 start_quiet (Clf s) = tt
 start_quiet (Uicc s) = tt
 
-start_noted : (l : Link) → IsStart l → Noted (first_entries l.controller.side.role) l
+pub start_noted : (l : Link) → IsStart l → Noted (first_entries l.controller.side.role) l
 start_noted l s =
     let b = start_tolds l s in
     record { tolds = b; sounds = start_sounds l s; ok = reached_ok (first_entries l.controller.side.role) l (start_good l s) (start_reached l s) b }

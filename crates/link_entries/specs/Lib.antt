@@ -3,3 +3,4 @@ pub mod Filters
 pub mod Reading
 pub mod Sessions
 pub mod Order
+pub mod Quiet

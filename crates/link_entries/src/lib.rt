@@ -3,11 +3,12 @@
 
 ghost use Rattle.std.specs.Prelude.{◌≡◌, ℕ, false, List};
 ghost use Rattle.std.specs.List.{list_any};
-ghost use Rattle.message_link.specs.Links.{AllAllowed, IsStart, Link, LinkEvent, after, talk_of};
+ghost use Rattle.message_link.specs.Links.{AllAllowed, IsStart, Link, LinkEvent, after, number_of, talk_of};
 ghost use Rattle.hcp_packet.specs.Packets.{IsFrontOf};
 ghost use Rattle.link_entries.specs.Entries.{End, Entry, trace};
 ghost use Rattle.link_entries.specs.Entries.End.{Controller, Host};
 ghost use Rattle.link_entries.specs.Order.{InOrderIn, is_chain_fault};
+ghost use Rattle.link_entries.specs.Quiet.{IsDelivered, IsQuietSince};
 ghost use Rattle.link_entries.specs.Reading.{kept, nothing_seen, see_all};
 ghost use Rattle.link_entries.specs.Sessions.{IsRead};
 
@@ -37,4 +38,14 @@ pub fn messages_are_in_order_at_each_moment()
 pub fn no_chain_fault_is_noted()
     ensures { (l : Link) → IsStart l → (events : List LinkEvent) → AllAllowed l events →
         list_any is_chain_fault (trace l events) ≡ false }
+{}
+
+/// Where both ends are Up and both wires are empty, and since the first of them came up with the number they have no frame was
+/// lost, no RNR put on the link and no end started, stopped or cut off, each end got all good messages that the other sent in
+/// that session, and all that were sent are acknowledged.
+pub fn quiet_session_has_delivered_all()
+    ensures to_host { (l : Link) → IsStart l → (events : List LinkEvent) → AllAllowed l events → IsQuietSince (trace l events) (after l events) →
+        IsDelivered (trace l events) Controller (number_of (after l events).controller) }
+    ensures to_controller { (l : Link) → IsStart l → (events : List LinkEvent) → AllAllowed l events → IsQuietSince (trace l events) (after l events) →
+        IsDelivered (trace l events) Host (number_of (after l events).controller) }
 {}

@@ -439,7 +439,7 @@ core_rests c q =
     let a : after_frames most_frames c.controller.side ≡ c.controller.side = after_frames_idle most_frames c.controller.side q in
     ap (λ fs. core_with_controller (core_put_all c fs) (after_frames most_frames c.controller.side)) f ∙ ap (core_with_controller c) a
 
-core_tick_rests : (c : CoreLink) → c.controller.side.phase ≡ Down → Rests c.controller.side → core_ticks_here c [] ≡ c
+pub core_tick_rests : (c : CoreLink) → c.controller.side.phase ≡ Down → Rests c.controller.side → core_ticks_here c [] ≡ c
 core_tick_rests c p r = nothing ∙ core_rests c (rests c.controller.side p r)
   where
     ended : is_some (tick_answer c.controller.side).ended ≡ false
