@@ -1,4 +1,5 @@
 -- The definitions compute the worked examples, entry by entry.
+use Rattle.std.specs.List.{list_any}
 use Rattle.std.proofs.Common.{◌≡◌, ℕ, zero, suc, true, false, refl, List, [], ◌∷◌, ◌++◌, drop, Some, None}
 use Rattle.swp_base.specs.declared.control_frames.Control.{Control}
 use Rattle.swp_base.specs.declared.control_frames.Control.TheVariants.{I, S, Rset, Ua, Act}
@@ -9,7 +10,7 @@ use Rattle.swp_act.specs.Activation.{new_clf, new_uicc}
 use Rattle.link_machine.specs.Machine.{Message, Turn}
 use Rattle.link_machine.specs.Machine.Role.{Bare, Clf, Uicc}
 use Rattle.link_machine.specs.Machine.Turn.{Give}
-use Rattle.message_link.specs.Links.{Link, EndEvent, Node, LinkEvent, new_link}
+use Rattle.message_link.specs.Links.{Link, EndEvent, Node, LinkEvent, after, new_link}
 use Rattle.message_link.specs.Links.Ending.{GoesOut, CutOff}
 use Rattle.message_link.specs.Links.Comes.{NextFrame, AsksReset, NoInput}
 use Rattle.message_link.specs.Links.Loss.{OnDemand, TooOld}
@@ -19,6 +20,7 @@ use Rattle.link_entries.specs.Entries.{Entry, entries, trace}
 use Rattle.link_entries.specs.Entries.End.{Controller, Host}
 use Rattle.link_entries.specs.Entries.Entry.{Up, Down, Active, GaveUp, Acked, Got, Sent, Emit, Took, Lost, Tick, Restarted, Cut}
 use Rattle.link_entries.specs.Filters.{sent_in, got_in, acked_in}
+use Rattle.link_entries.specs.Quiet.{disturbs, since, IsQuietSince}
 
 -- ## What may happen
 
@@ -180,3 +182,18 @@ ready_behind_a_reset : shown (entries line ready_again)
     ∷ Took Controller rset ∷ Up Controller 1 ∷ Emit Controller Ua
     ∷ Took Controller (Act Ready false) ∷ []
 ready_behind_a_reset = refl
+
+-- ## Quiet sessions
+
+-- ACT_POWER_MODE was lost before the session began
+abbrev quiet : List LinkEvent
+quiet =
+    activates ∷ AtController takes ∷ ticks 10 ++ (AtController takes ∷ AtHost takes ∷ AtHost takes ∷ AtController takes ∷ AtController takes
+    ∷ AtController resets ∷ AtHost takes ∷ AtController takes ∷ AtHost (gives (1, 3 ∷ [])) ∷ AtController takes ∷ AtHost takes ∷ [])
+
+quiet_is_quiet : IsQuietSince (trace line quiet) (after line quiet)
+quiet_is_quiet = record { controller = refl; host = refl; undisturbed = refl; to_controller = refl; to_host = refl }
+
+-- a message is lost and sent once more
+lost_disturbs : list_any disturbs (since 0 (trace bare (AtHost (gives (1, 3 ∷ [])) ∷ AtController (Lose OnDemand) ∷ ticks 5))) ≡ true
+lost_disturbs = refl
