@@ -15,7 +15,7 @@ use Rattle.gate_admin.specs.declared.view.LinkView.{LinkView}
 use Rattle.gate_admin.specs.View.{is_configured}
 use Rattle.gate_admin.specs.Decide.{tests_to_create, created, dest_in}
 
-AllFalse : List (Bool × Response) → Type 0
+unfoldable pub AllFalse : List (Bool × Response) → Type 0
 AllFalse [] = Unit {0}
 AllFalse (test ∷ tests) = (test.0 ≡ false) × AllFalse tests
 
@@ -24,7 +24,7 @@ passed_one : (b : Bool) (test : Bool × Response) (found : Option (Bool × Respo
 passed_one true test found e = absurd (cc e)
 passed_one false test found e = (refl, e)
 
-all_false : (tests : List (Bool × Response)) → first_of tests ≡ None → AllFalse tests
+pub all_false : (tests : List (Bool × Response)) → first_of tests ≡ None → AllFalse tests
 unfolding AllFalse
 all_false [] e = tt
 all_false (test ∷ tests) e =

@@ -1,5 +1,6 @@
 //! Pipes: their opening and closing, creation and deletion.
-ghost use Rattle.std.specs.Prelude.{◌≡◌, ℕ, ◌≤◌, ◌<◌, ◌^◌, if◌then◌else◌, List, [], ◌∷◌, length, ◌&&◌, ◌==◌, is_none, IfSome, IsSome};
+ghost use Rattle.std.specs.Prelude.{◌≡◌, ℕ, ◌≤◌, ◌<◌, ◌^◌, if◌then◌else◌, List, [], ◌∷◌, length, ◌&&◌, ◌==◌, is_none};
+ghost use Rattle.std.specs.Prelude.{IfSome, IsSome};
 ghost use Rattle.std.specs.List.{list_any};
 ghost use Rattle.std.specs.Option.{ForSome, option_to_list, option_map_or, option_and_then};
 ghost use Rattle.whitelist.specs.Whitelist.{holds};
@@ -8,7 +9,9 @@ ghost use Rattle.pipe_table.specs.PipeRows.{IsDynamic, pipe_at, lowest_free, joi
 ghost use Rattle.hci_tables.specs.Commands.{IsCommand};
 ghost use Rattle.gate_answers.specs.Answers.{first_of};
 ghost use Rattle.gate_admin.specs.View.{is_connected, is_noticed, mask_of};
-ghost use Rattle.gate_admin.specs.Decide.{IsRecordable, far_end, far_end_of, is_opened, others_opened, allows, tests_of_pipe, opening, closing, creating, tests_to_create, creation, deleting, clearing, shares, told_of_clearing, commits_and_tells, if_told};
+ghost use Rattle.gate_admin.specs.Decide.{IsRecordable, far_end, far_end_of, is_opened, others_opened, allows};
+ghost use Rattle.gate_admin.specs.Decide.{tests_of_pipe, opening, closing, creating, tests_to_create, creation};
+ghost use Rattle.gate_admin.specs.Decide.{deleting, clearing, shares, told_of_clearing, commits_and_tells, if_told};
 
 use crate::decision::Decision;
 use crate::tests_in_order::{byte_at, first_of};

@@ -3,3 +3,5 @@ pub mod SortedTables
 pub mod Ends
 pub mod Opened
 pub mod Values
+pub mod TwoHosts
+mod Examples

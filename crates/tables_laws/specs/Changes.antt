@@ -1,5 +1,6 @@
 -- What a single command changes, in the words of the laws.
-use Rattle.std.specs.Prelude.{◌≡◌, ℕ, Bool, false, not, if◌then◌else◌, ◌&&◌, ◌||◌, ◌==◌, nat_lt, List, Some, is_some, ◌⊎◌}
+use Rattle.std.specs.Prelude.{◌≡◌, ℕ, Bool, false, not, if◌then◌else◌, ◌&&◌, ◌||◌, ◌==◌, nat_lt, List, Some, IsTrue, is_some, ◌⊎◌}
+use Rattle.std.specs.List.{list_all}
 use Rattle.std.specs.Option.{option_map_or}
 use Rattle.sorted_rows.specs.Rows.{row_of}
 use Rattle.pipe_table.specs.declared.row.PipeRow.{PipeRow}
@@ -8,6 +9,10 @@ use Rattle.registry.specs.Values.{value_at, default_of}
 use Rattle.hci_tables.specs.declared.command.Command.{Command}
 use Rattle.hci_tables.specs.declared.command.Command.TheVariants.{Create, Delete, Clear, SetOpened, Set, Sync}
 use Rattle.hci_tables.specs.Tables.{HciTables, static_place, is_kept_sync}
+
+-- each of these pipes joins two different hosts
+abbrev pub JoinTwo : List PipeRow → Type 0
+JoinTwo rows = IsTrue (list_all (λ row. not (row.creator == row.dest)) rows)
 
 -- two rows of one pipe with the same ends
 pub record SameEnds (a b : PipeRow) : Type 0 where

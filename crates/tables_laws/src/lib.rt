@@ -11,12 +11,18 @@ ghost use Rattle.hci_tables.specs.declared.command.Command.{Command};
 ghost use Rattle.hci_tables.specs.declared.command.Command.TheVariants.{Clear};
 ghost use Rattle.hci_tables.specs.Commands.{IsCommand};
 ghost use Rattle.hci_tables.specs.Tables.{HciTables, AreTables, no_tables, static_place, apply, after, close};
-ghost use Rattle.tables_laws.specs.Changes.{ComesFrom, told, opens, is_opened};
+ghost use Rattle.tables_laws.specs.Changes.{JoinTwo, ComesFrom, told, opens, is_opened};
 
 /// Whatever commands come, the pipes are sorted, none stands twice and all are 02 to 6F, and so it is with the other parts.
 pub fn tables_stay_sorted()
     ensures commands { (commands : List Command) → AllByRecursion IsCommand commands → AreTables (after no_tables commands) }
     ensures closed { (t : HciTables) → AreTables t → AreTables (close t) }
+{}
+
+/// Whatever commands come, each pipe joins two different hosts.
+pub fn pipes_join_two_hosts()
+    ensures commands { (commands : List Command) → AllByRecursion IsCommand commands → JoinTwo (after no_tables commands).rows }
+    ensures closed { (t : HciTables) → JoinTwo t.rows → JoinTwo (close t).rows }
 {}
 
 /// A pipe's two ends change by its creation alone: a row behind a command is the created one, or comes from a row with the

@@ -1,0 +1,37 @@
+-- Worked examples, computed: a creation between two hosts by the whitelist of the host that is asked, and a deletion.
+use Rattle.std.proofs.Common.{◌≡◌, ℕ, true, false, List, [], ◌∷◌, refl}
+use Rattle.pipe_table.specs.declared.row.PipeRow.{PipeRow}
+use Rattle.pipe_table.specs.PipeRows.{lowest_free}
+use Rattle.hci_tables.specs.declared.command.Command.{Command}
+use Rattle.hci_tables.specs.declared.command.Command.TheVariants.{Create, Delete, SetOpened, Set}
+use Rattle.hci_tables.specs.Tables.{HciTables, no_tables, after}
+use Rattle.gate_admin.specs.declared.view.LinkView.{LinkView}
+use Rattle.gate_admin.specs.declared.decision.Decision.TheVariants.{Answer, Commit, Ask}
+use Rattle.gate_admin.specs.View.{hosts_where}
+use Rattle.gate_admin.specs.Decide.{decided}
+
+abbrev tables : List Command → HciTables
+tables commands = after no_tables (SetOpened 1 1 true ∷ SetOpened 2 1 true ∷ commands)
+
+abbrev view : LinkView
+view = record { hosts = 6; connected = 6; noticed = 0; asked = 0; waiting = record { items = [] }; errors = 0 }
+
+abbrev pipe : ℕ → PipeRow
+pipe pid = record { pid = pid; creator = 2; creator_gate = 65; dest = 1; dest_gate = 65; opened = false }
+
+empty_whitelist_denies : decided (tables []) view 2 1 16 (65 ∷ 1 ∷ 65 ∷ []) ≡ Answer (record { items = 139 ∷ [] })
+unfolding lowest_free
+empty_whitelist_denies = refl
+
+whitelist_lets_it_be_asked : decided (tables (Set 1 0 3 (record { items = 2 ∷ [] }) ∷ [])) view 2 1 16 (65 ∷ 1 ∷ 65 ∷ [])
+    ≡ Ask 1 (record { items = 18 ∷ 2 ∷ 65 ∷ 1 ∷ 65 ∷ 2 ∷ [] }) (Create (pipe 2)) (record { items = 128 ∷ 2 ∷ 65 ∷ 1 ∷ 65 ∷ 2 ∷ [] })
+unfolding lowest_free
+whitelist_lets_it_be_asked = refl
+
+deletion_tells_the_other_host : decided (tables (Create (pipe 2) ∷ [])) view 2 1 17 (2 ∷ [])
+    ≡ Commit (Delete 2) (record { items = 128 ∷ [] }) 2 (record { items = 19 ∷ 2 ∷ [] })
+deletion_tells_the_other_host = refl
+
+host_list_is_read : decided (tables []) view 2 1 2 (4 ∷ []) ≡ Answer (record { items = 128 ∷ 0 ∷ 1 ∷ 2 ∷ [] })
+unfolding hosts_where
+host_list_is_read = refl

@@ -1,0 +1,3 @@
+pub mod FreePipes
+pub mod Decisions
+mod Examples
