@@ -44,3 +44,6 @@ impl From<Failed> for JournalFault {
         JournalFault::NvFault
     }
 }
+
+#[cfg(test)]
+mod tests;
