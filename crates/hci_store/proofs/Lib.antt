@@ -1,3 +1,5 @@
 pub mod Applying
 pub mod Closing
 pub mod Refusing
+pub mod SnapshotLaw
+pub mod Recorded

@@ -1,3 +1,5 @@
 pub mod Stored
 pub mod Image
 pub mod Refusals
+pub mod Snapshots
+pub mod Recordable

@@ -2,6 +2,7 @@
 //! tables, and every pipe is closed at a start. All of it is this project's own.
 #![tactic(auto)]
 
+pub mod laws;
 mod records;
 mod store;
 
