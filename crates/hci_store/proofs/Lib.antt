@@ -3,3 +3,5 @@ pub mod Closing
 pub mod Refusing
 pub mod SnapshotLaw
 pub mod Recorded
+pub mod ReadAgain
+pub mod SnapshotParts

@@ -4,6 +4,7 @@
 
 pub mod laws;
 mod records;
+mod snapshots;
 mod store;
 
 pub use store::Store;

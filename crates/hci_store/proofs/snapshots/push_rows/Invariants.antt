@@ -1,0 +1,11 @@
+use Rattle.std.proofs.Common.{◌≡◌, ◌+◌, ◌*◌, ◌≤◌, ◌++◌, List, take, map, filter}
+use Rattle.journal_laws.specs.Records.{used}
+use Rattle.hci_tables.specs.Bodies.{body_of}
+use Rattle.hci_store.specs.Snapshots.{create_command}
+use Rattle.hci_store.proofs.snapshots.push_rows.Given as goal
+
+abbrev pub invariant-loop-row : goal.invariant-loop-row
+invariant-loop-row l = record {
+  records : l.snapshot ≡ l.initial.snapshot ++ map (λ x. body_of (create_command x)) (take l.row-index l.rows);
+  room : used l.snapshot ≡ used l.initial.snapshot + 10 * l.row-index;
+}

@@ -1,0 +1,11 @@
+use Rattle.std.proofs.Common.{◌≡◌, ◌+◌, ◌*◌, ◌≤◌, ◌++◌, List, take, map, filter}
+use Rattle.journal_laws.specs.Records.{used}
+use Rattle.hci_tables.specs.Bodies.{body_of}
+use Rattle.hci_store.specs.Snapshots.{set_command}
+use Rattle.hci_store.proofs.snapshots.push_values.Given as goal
+
+abbrev pub invariant-loop-value : goal.invariant-loop-value
+invariant-loop-value l = record {
+  records : l.snapshot ≡ l.initial.snapshot ++ map (λ x. body_of (set_command x)) (take l.value-index l.values);
+  room : used l.snapshot ≤ used l.initial.snapshot + 28 * l.value-index;
+}
