@@ -16,11 +16,11 @@ pub record AreApplied (bodies : List (List ℕ)) (many : ℕ) (tables : HciTable
   pub tables_are : tables ≡ fold applied no_tables (take many bodies)
   pub commands : are_commands (take many bodies) ≡ true
 
-fold-push : (t : HciTables) (xs : List (List ℕ)) (x : List ℕ) → fold applied t (xs ++ x ∷ []) ≡ applied (fold applied t xs) x
+pub fold-push : (t : HciTables) (xs : List (List ℕ)) (x : List ℕ) → fold applied t (xs ++ x ∷ []) ≡ applied (fold applied t xs) x
 fold-push t [] x = refl
 fold-push t (y ∷ xs) x = fold-push (applied t y) xs x
 
-are_commands-push : (xs : List (List ℕ)) (x : List ℕ) → are_commands xs ≡ true → is_some (command_of x) ≡ true → are_commands (xs ++ x ∷ []) ≡ true
+pub are_commands-push : (xs : List (List ℕ)) (x : List ℕ) → are_commands xs ≡ true → is_some (command_of x) ≡ true → are_commands (xs ++ x ∷ []) ≡ true
 are_commands-push [] x all one = and_from (is_some (command_of x)) true one refl
 are_commands-push (y ∷ xs) x all one =
     let both = and_parts (is_some (command_of y)) (are_commands xs) all in

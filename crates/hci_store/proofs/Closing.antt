@@ -1,6 +1,6 @@
 -- What is left of tables where all pipes are closed.
-use Rattle.std.proofs.Common.{◌≡◌, ℕ, Bool, true, false, not, cond, ◌==◌, nat_lt, List, [], ◌∷◌, ◌++◌, map, filter, sym, refl, ap, ap₂, ◌∙◌}
-use Rattle.sorted_rows.specs.Rows.{with_row, rows_before, rows_behind}
+use Rattle.std.proofs.Common.{◌≡◌, ℕ, Bool, true, false, not, cond, ◌==◌, nat_lt, List, [], ◌∷◌, ◌++◌, filter, sym, refl, ap, ap₂, ◌∙◌}
+use Rattle.sorted_rows.specs.Rows.{rows_before, rows_behind}
 use Rattle.pipe_table.specs.declared.row.PipeRow.{PipeRow}
 use Rattle.pipe_table.specs.PipeRows.{as_opened, all_closed, with_pipe, with_opened, joins_host, pid_of}
 use Rattle.hci_tables.specs.declared.command.Command.{Command}

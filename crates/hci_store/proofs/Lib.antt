@@ -5,3 +5,4 @@ pub mod SnapshotLaw
 pub mod Recorded
 pub mod ReadAgain
 pub mod SnapshotParts
+pub mod Committed

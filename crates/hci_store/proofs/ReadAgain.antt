@@ -1,5 +1,5 @@
 -- The body of a command that may be recorded is read as that command again.
-use Rattle.std.proofs.Common.{◌≡◌, ℕ, ◌+◌, ◌*◌, ◌/◌, ◌%◌, ◌≤◌, Bool, true, false, not, cond, ◌&&◌, ◌==◌, nat_le, List, [], ◌∷◌, length, fold, map, Option, Some, None, is_some, IsTrue, sym, refl, ap, ◌∙◌, subst, arith, eqb-true}
+use Rattle.std.proofs.Common.{◌≡◌, ℕ, ◌+◌, ◌*◌, ◌/◌, ◌%◌, ◌≤◌, Bool, true, false, not, cond, ◌&&◌, ◌==◌, nat_le, List, [], ◌∷◌, length, fold, map, Some, None, is_some, sym, refl, ap, ◌∙◌, arith, eqb-true}
 use Rattle.std.specs.Option.{option_map_or}
 use Rattle.std.specs.List.{AllByRecursion}
 use Rattle.std.proofs.lemmas.Bool.{and_parts, leb-true, le-leb, not-true}
@@ -7,7 +7,7 @@ use Rattle.whitelist.specs.Whitelist.{holds, all_differ, is_whitelist}
 use Rattle.registry.specs.Values.{is_kept}
 use Rattle.hci_tables.specs.declared.command.Command.{Command}
 use Rattle.hci_tables.specs.declared.command.Command.TheVariants.{Create, Delete, Clear, SetOpened, Set, Sync}
-use Rattle.hci_tables.specs.Commands.{is_dynamic, is_host, is_allowed, is_command, IsCommand}
+use Rattle.hci_tables.specs.Commands.{is_dynamic, is_host, is_allowed, IsCommand}
 use Rattle.hci_tables.specs.Bodies.{body_of, command_of, if_command}
 use Rattle.hci_tables.specs.Tables.{HciTables, apply}
 use Rattle.hci_store.specs.Image.{applied, are_commands}

@@ -1,5 +1,5 @@
 -- Tables stay recordable.
-use Rattle.std.proofs.Common.{◌≡◌, ℕ, Bool, true, false, not, cond, ◌&&◌, ◌==◌, nat_lt, List, [], ◌∷◌, ◌++◌, map, filter, IsTrue, refl, subst}
+use Rattle.std.proofs.Common.{ℕ, Bool, true, false, not, cond, ◌&&◌, ◌==◌, nat_lt, List, [], ◌∷◌, ◌++◌, map, filter, refl}
 use Rattle.std.specs.List.{AllByRecursion}
 use Rattle.std.proofs.lemmas.Bool.{and_parts, and_from}
 use Rattle.pipe_table.specs.declared.row.PipeRow.{PipeRow}
@@ -14,7 +14,7 @@ use Rattle.hci_store.specs.Snapshots.{create_command, set_command}
 use Rattle.hci_store.specs.Recordable.{IsRecordable}
 
 module _ {X : Type 0} (P : X → Type 0) where
-  all-filter : (p : X → Bool) (xs : List X) → AllByRecursion P xs → AllByRecursion P (filter p xs)
+  pub all-filter : (p : X → Bool) (xs : List X) → AllByRecursion P xs → AllByRecursion P (filter p xs)
   all-filter p [] all = tt
   all-filter p (x ∷ xs) all = by_test (p x) (all-filter p xs all.1)
     where
@@ -22,7 +22,7 @@ module _ {X : Type 0} (P : X → Type 0) where
       by_test true rest = (all.0, rest)
       by_test false rest = rest
 
-  all-append : (xs ys : List X) → AllByRecursion P xs → AllByRecursion P ys → AllByRecursion P (xs ++ ys)
+  pub all-append : (xs ys : List X) → AllByRecursion P xs → AllByRecursion P ys → AllByRecursion P (xs ++ ys)
   all-append [] ys a b = b
   all-append (x ∷ xs) ys a b = (a.0, all-append xs ys a.1 b)
 

@@ -1,14 +1,14 @@
 -- A snapshot makes the same tables again, all pipes closed.
-use Rattle.std.proofs.Common.{◌≡◌, ℕ, ◌+◌, ◌<◌, ◌≤◌, Bool, true, false, not, cond, ◌==◌, nat_lt, List, [], ◌∷◌, ◌++◌, map, filter, fold, IsTrue, sym, refl, ap, ap₂, ◌∙◌, subst, arith, append_assoc, append-nil}
+use Rattle.std.proofs.Common.{◌≡◌, ℕ, ◌+◌, ◌≤◌, Bool, true, false, not, cond, ◌==◌, nat_lt, List, [], ◌∷◌, ◌++◌, map, filter, fold, sym, refl, ap, ap₂, ◌∙◌, subst, arith, append_assoc, append-nil}
 use Rattle.std.specs.List.{AllByRecursion}
-use Rattle.std.proofs.lemmas.Bool.{lt-ltb, and_parts, not-false, not-true}
+use Rattle.std.proofs.lemmas.Bool.{lt-ltb, and_parts, not-true}
 use Rattle.std.proofs.lemmas.Bool.Decides.{nat_tests}
 use Rattle.sorted_rows.specs.Rows.{AreRows, with_row}
 use Rattle.sorted_rows.proofs.RowLemmas.{AreRows-map}
 use Rattle.pipe_table.specs.declared.row.PipeRow.{PipeRow}
 use Rattle.pipe_table.specs.PipeRows.{ArePipeRows, as_opened, all_closed, pid_of}
 use Rattle.registry.specs.declared.value.RegValue.{RegValue}
-use Rattle.registry.specs.Values.{IsPresent, is_kept, is_default, place_of, place, with_value, AreValues}
+use Rattle.registry.specs.Values.{IsPresent, is_kept, is_default, place_of, place}
 use Rattle.hci_tables.specs.declared.command.Command.{Command}
 use Rattle.hci_tables.specs.declared.command.Command.TheVariants.{SetOpened}
 use Rattle.hci_tables.specs.Tables.{HciTables, AreTables, no_tables, sync_host, is_kept_sync, without_identity, apply, close}

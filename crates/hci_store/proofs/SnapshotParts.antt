@@ -1,5 +1,5 @@
 -- The parts of a snapshot.
-use Rattle.std.proofs.Common.{◌≡◌, ℕ, ◌+◌, ◌*◌, ◌<◌, ◌≤◌, Bool, true, ◌&&◌, nat_le, nat_lt, List, [], ◌∷◌, ◌++◌, map, filter, IsTrue, sym, refl, ap, ap₂, ◌∙◌, arith}
+use Rattle.std.proofs.Common.{◌≡◌, ℕ, ◌+◌, ◌≤◌, nat_le, nat_lt, List, [], ◌∷◌, ◌++◌, map, filter, sym, refl, ap, ap₂, ◌∙◌, arith}
 use Rattle.std.specs.List.{All, AllByRecursion}
 use Rattle.std.proofs.lemmas.List.Elements.{All-from_recursion}
 use Rattle.std.proofs.lemmas.Bool.{and_from, le-leb, lt-ltb}
@@ -10,12 +10,12 @@ use Rattle.hci_tables.specs.Bodies.{body_of}
 use Rattle.hci_tables.specs.Tables.{HciTables, sync_host, static_place}
 use Rattle.hci_store.specs.Snapshots.{sync_command, set_command, create_command, open_command, static_command, snapshot_of}
 
-syncs_by_rows : (low : ℕ) (xs : List (ℕ × ℕ)) → 1 ≤ low → AreRows sync_host low 8 xs → AllByRecursion (λ s. IsCommand (sync_command s)) xs
+pub syncs_by_rows : (low : ℕ) (xs : List (ℕ × ℕ)) → 1 ≤ low → AreRows sync_host low 8 xs → AllByRecursion (λ s. IsCommand (sync_command s)) xs
 syncs_by_rows low [] some rows = tt
 syncs_by_rows low (x ∷ xs) some rows =
     (and_from (nat_le 1 x.0) (nat_le x.0 7) (le-leb 1 x.0 (omega (arith, rows.0))) (le-leb x.0 7 (omega (arith, rows.1))), syncs_by_rows (x.0 + 1) xs (omega arith) rows.2)
 
-statics_by_rows : (low : ℕ) (xs : List (ℕ × ℕ)) → AreRows static_place low 16 xs → AllByRecursion (λ s. IsCommand (static_command s)) xs
+pub statics_by_rows : (low : ℕ) (xs : List (ℕ × ℕ)) → AreRows static_place low 16 xs → AllByRecursion (λ s. IsCommand (static_command s)) xs
 statics_by_rows low [] rows = tt
 statics_by_rows low (x ∷ xs) rows =
     (and_from (nat_le x.0 7) (nat_lt x.1 112) (le-leb x.0 7 (omega (arith, rows.1))) (lt-ltb x.1 112 (omega (arith, rows.1))), statics_by_rows (static_place x + 1) xs rows.2)

@@ -3,3 +3,4 @@ pub mod Image
 pub mod Refusals
 pub mod Snapshots
 pub mod Recordable
+pub mod Committing

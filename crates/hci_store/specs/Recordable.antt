@@ -1,5 +1,4 @@
 -- Tables whose snapshot may be recorded.
-use Rattle.std.specs.Prelude.{ℕ, List}
 use Rattle.std.specs.List.{AllByRecursion}
 use Rattle.hci_tables.specs.Tables.{HciTables}
 use Rattle.hci_tables.specs.Commands.{IsCommand}

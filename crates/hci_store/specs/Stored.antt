@@ -4,6 +4,7 @@ use Rattle.journal_laws.specs.Journal.{records}
 use Rattle.nv_journal.specs.Kept.{Kept}
 use Rattle.hci_tables.specs.Tables.{HciTables, close}
 use Rattle.hci_store.specs.Image.{tables_of, are_commands}
+use Rattle.hci_store.specs.Recordable.{IsRecordable}
 
 -- the journal, and the tables
 pub record Stored (N : Type 0) : Type 0 where
@@ -16,4 +17,5 @@ pub record Holds (content : List ℕ) (tables : HciTables) : Type 0 where
   pub tables_are : close (tables_of content) ≡ close tables
 
 pub record IsStored {N : Type 0} (tells : Bool) (content : N → List ℕ) (s : Stored N) : Type 0 where
+  pub recordable : IsRecordable s.tables
   pub holds : IsTrue s.journal.live → IsTrue tells → Holds (content s.journal.nv) s.tables

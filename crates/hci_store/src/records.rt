@@ -7,6 +7,7 @@ ghost use Rattle.nv_journal.specs.Scanning.{IsReadSoFar};
 ghost use Rattle.nv_journal.specs.Refusals.{IsImageFault};
 ghost use Rattle.nv_journal.specs.Faults.{IsKnown};
 ghost use Rattle.hci_tables.specs.Tables.{no_tables};
+ghost use Rattle.hci_store.specs.Recordable.{IsRecordable};
 ghost use Rattle.hci_store.specs.Image.{applied, are_commands, tables_of, image_fault};
 
 use hci_tables::{Tables, read_command};
@@ -26,6 +27,7 @@ pub fn apply_all<N: Nv + Drop>(scan: &mut Scan<N>, tables: &mut Tables) -> Resul
     ensures rose { result ≡ Err JournalFault.NvFault → Rose (N.faults scan.old.nv) (N.faults scan.new.nv) }
     ensures kept { IsTrue N.tells → N.content scan.new.nv ≡ N.content scan.old.nv }
     ensures tables { IsTrue N.tells → OnOk result (tables.new ≡ tables_of (N.content scan.old.nv)) }
+    ensures recordable { IsRecordable tables.new }
     ensures commands { IsTrue N.tells → OnOk result (are_commands (records (N.content scan.old.nv)) ≡ true) }
     ensures fault { IfErr result (λ f. (f ≡ JournalFault.NvFault) ⊎ (IsImageFault f × (IsTrue N.tells
         → IsKnown (journal (N.content scan.old.nv)).head.version → image_fault (N.content scan.old.nv) ≡ Some f))) }

@@ -7,8 +7,8 @@ ghost use Rattle.hci_tables.specs.Tables.{AreTables};
 ghost use Rattle.hci_store.specs.Recordable.{IsRecordable};
 ghost use Rattle.hci_store.specs.Snapshots.{snapshot_of, sync_command, set_command, create_command, open_command, static_command};
 
-use hci_tables::{Command, Tables, write_command};
 use arrayvec::ArrayVec;
+use hci_tables::{Command, Tables, write_command};
 use nv_journal::Snapshot;
 use pipe_table::PipeRow;
 use registry::RegValue;

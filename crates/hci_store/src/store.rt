@@ -1,13 +1,19 @@
 //! A store over a memory.
-ghost use Rattle.std.specs.Prelude.{◌≡◌, ◌≤◌, true, None, IsTrue, OnOk, IfOk, IfErr, MatchResult};
-ghost use Rattle.journal_laws.specs.Writes.{AreRead};
-ghost use Rattle.journal_laws.specs.Journal.{records, count_of, count};
-ghost use Rattle.hci_tables.specs.Tables.{close};
+ghost use Rattle.std.specs.Prelude.{◌≡◌, ◌≢◌, ◌⊎◌, ◌↔◌, ◌+◌, ◌≤◌, length, true, false, is_ok, None, Err, IsSome, IsTrue, IfOk, IfErr, OnOk, OnErr, MatchResult};
+ghost use Rattle.swp_base.specs.Outside.{Rose};
+ghost use Rattle.journal_laws.specs.Writes.{AreRead, AreMade};
+ghost use Rattle.journal_laws.specs.Operations.{append_writes, HasRoom, appended};
+ghost use Rattle.journal_laws.specs.Journal.{records, count_of, count, left};
+ghost use Rattle.hci_tables.specs.Tables.{apply, close};
+ghost use Rattle.hci_tables.specs.Commands.{IsCommand};
+ghost use Rattle.hci_tables.specs.Bodies.{body_of};
+ghost use Rattle.hci_store.specs.Committing.{fits, room_writes, with_room, commit_writes, committed};
 ghost use Rattle.hci_store.specs.Image.{tables_of, are_commands, image_fault};
 
 use crate::records::apply_all;
-use hci_tables::Tables;
-use nv_journal::{Journal, Scan, StartRefused};
+use crate::snapshots::snapshot_of;
+use hci_tables::{Command, Tables, write_command};
+use nv_journal::{Journal, JournalFault, Scan, StartRefused};
 use std::marker::Model;
 use swp_base::Nv;
 
@@ -30,6 +36,7 @@ impl<N: Nv + Drop> Model for Store<N> {
 
 impl<N: Nv + Drop> Store<N> {
     ghost use Rattle.hci_store.specs.Refusals.{IsRefused};
+    ghost use Rattle.hci_store.specs.Stored.{Holds};
 
     /// The tables of a memory of 65,536 bytes, all pipes closed, without any write: one that has no bank with an open gate reads as
     /// empty tables. A memory whose bank in use has an unknown version, a bad record or one that is no command is refused, and
@@ -62,6 +69,92 @@ impl<N: Nv + Drop> Store<N> {
                 nv: scan.into_nv(),
                 fault,
             }),
+        }
+    }
+
+    /// Keeps a command, and does what it says. Where its record doesn't fit into the bank in use, the tables are first written as
+    /// a snapshot into the other bank. It asks for a store that `start` made.
+    pub fn commit(&mut self, command: &Command) -> Result<(), JournalFault>
+        requires live { IsTrue self.old.journal.live }
+        requires started { IsSome self.old.journal.state.in_use }
+        requires version { self.old.journal.state.version ≡ 2 }
+        requires command { IsCommand command.now }
+        ensures spent { (result ≡ Err JournalFault.GenerationsSpent)
+            ↔ ((fits self.old.journal.state (body_of command.now) ≡ false) × (self.old.journal.state.generation ≡ 4294967295)) }
+        ensures unchanged { result ≡ Err JournalFault.GenerationsSpent → self.new ≡ self.old }
+        ensures made { result ≢ Err JournalFault.GenerationsSpent → AreMade N.writes
+            (commit_writes self.old.journal.state self.old.tables (body_of command.now))
+            self.old.journal.nv (is_ok result) self.new.journal.nv }
+        ensures state { OnOk result (self.new.journal.state
+            ≡ committed self.old.journal.state self.old.tables (body_of command.now)) }
+        ensures tables { OnOk result (self.new.tables ≡ apply self.old.tables command.now) }
+        ensures live { OnOk result (IsTrue self.new.journal.live) }
+        ensures fault { IfErr result (λ f. (f ≡ JournalFault.NvFault) ⊎ (f ≡ JournalFault.GenerationsSpent)) }
+        ensures dead { result ≡ Err JournalFault.NvFault → self.new.journal.live ≡ false }
+        ensures count { N.faults self.old.journal.nv ≤ N.faults self.new.journal.nv }
+        ensures rose { result ≡ Err JournalFault.NvFault
+            → Rose (N.faults self.old.journal.nv) (N.faults self.new.journal.nv) }
+        ensures holds { IsTrue N.tells → OnOk result (Holds (N.content self.new.journal.nv) self.new.tables) }
+    {
+        let body = write_command(command);
+        match self.make_room(body.as_slice()) {
+            Ok(()) => self.keep(command, body.as_slice()),
+            Err(fault) => Err(fault),
+        }
+    }
+
+    /// Writes the tables as a snapshot into the other bank where a record with this body doesn't fit into the bank in use.
+    fn make_room(&mut self, body: &[u8]) -> Result<(), JournalFault>
+        requires live { IsTrue self.old.journal.live }
+        requires started { IsSome self.old.journal.state.in_use }
+        requires version { self.old.journal.state.version ≡ 2 }
+        requires short { length body.now ≤ 61 }
+        ensures spent { (result ≡ Err JournalFault.GenerationsSpent)
+            ↔ ((fits self.old.journal.state body.now ≡ false) × (self.old.journal.state.generation ≡ 4294967295)) }
+        ensures unchanged { result ≡ Err JournalFault.GenerationsSpent → self.new ≡ self.old }
+        ensures made { result ≢ Err JournalFault.GenerationsSpent → AreMade N.writes
+            (room_writes self.old.journal.state self.old.tables body.now) self.old.journal.nv (is_ok result) self.new.journal.nv }
+        ensures state { OnOk result (self.new.journal.state ≡ with_room self.old.journal.state self.old.tables body.now) }
+        ensures used { OnOk result (IsSome self.new.journal.state.in_use) }
+        ensures room { OnOk result (length body.now + 5 ≤ left self.new.journal.state) }
+        ensures two { OnOk result (self.new.journal.state.version ≡ 2) }
+        ensures tables { self.new.tables ≡ self.old.tables }
+        ensures live { OnOk result (IsTrue self.new.journal.live) }
+        ensures fault { IfErr result (λ f. (f ≡ JournalFault.NvFault) ⊎ (f ≡ JournalFault.GenerationsSpent)) }
+        ensures dead { result ≡ Err JournalFault.NvFault → self.new.journal.live ≡ false }
+        ensures count { N.faults self.old.journal.nv ≤ N.faults self.new.journal.nv }
+        ensures rose { result ≡ Err JournalFault.NvFault
+            → Rose (N.faults self.old.journal.nv) (N.faults self.new.journal.nv) }
+    {
+        if body.len() as u32 + 5 <= self.journal.left() {
+            return Ok(());
+        }
+        let snapshot = snapshot_of(&self.tables);
+        self.journal.compact(&snapshot)
+    }
+
+    /// Appends the record of a command that fits, and does what it says.
+    fn keep(&mut self, command: &Command, body: &[u8]) -> Result<(), JournalFault>
+        requires live { IsTrue self.old.journal.live }
+        requires room { HasRoom self.old.journal.state body.now }
+        requires command { IsCommand command.now }
+        requires body { body.now ≡ body_of command.now }
+        ensures made { AreMade N.writes (append_writes self.old.journal.state body.now) self.old.journal.nv (is_ok result)
+            self.new.journal.nv }
+        ensures state { OnOk result (self.new.journal.state ≡ appended self.old.journal.state body.now) }
+        ensures tables { OnOk result (self.new.tables ≡ apply self.old.tables command.now) }
+        ensures live { self.new.journal.live ≡ is_ok result }
+        ensures fault { IfErr result (λ f. f ≡ JournalFault.NvFault) }
+        ensures count { N.faults self.old.journal.nv ≤ N.faults self.new.journal.nv }
+        ensures rose { OnErr result (Rose (N.faults self.old.journal.nv) (N.faults self.new.journal.nv)) }
+        ensures holds { IsTrue N.tells → OnOk result (Holds (N.content self.new.journal.nv) self.new.tables) }
+    {
+        match self.journal.append(body) {
+            Ok(()) => {
+                self.tables.apply(command);
+                Ok(())
+            }
+            Err(fault) => Err(fault),
         }
     }
 

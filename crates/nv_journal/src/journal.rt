@@ -1,5 +1,5 @@
 //! A journal over a memory.
-ghost use Rattle.std.specs.Prelude.{◌≡◌, ◌+◌, ◌≤◌, ◌<◌, ◌++◌, ◌↔◌, ℕ, ◌⊎◌, [], ◌∷◌, length, Err, Some, true, false, IsTrue, IsSome, is_ok, OnOk, OnErr, IfOk, IfErr, MatchResult};
+ghost use Rattle.std.specs.Prelude.{◌≡◌, ◌≢◌, ◌+◌, ◌≤◌, ◌<◌, ◌++◌, ◌↔◌, ℕ, ◌⊎◌, [], ◌∷◌, length, Err, Some, true, false, IsTrue, IsSome, is_ok, OnOk, OnErr, IfOk, IfErr, MatchResult};
 ghost use Rattle.swp_base.specs.Outside.{Rose};
 ghost use Rattle.journal_laws.specs.Writes.{AreMade, AreRead};
 ghost use Rattle.journal_laws.specs.Journal.{records, count_of, count, left};
@@ -116,7 +116,7 @@ impl<N: Nv + Drop> Journal<N> {
         requires started { IsSome self.old.state.in_use }
         ensures spent { (result ≡ Err JournalFault.GenerationsSpent) ↔ (self.old.state.generation ≡ 4294967295) }
         ensures unchanged { result ≡ Err JournalFault.GenerationsSpent → self.new ≡ self.old }
-        ensures made { self.old.state.generation < 4294967295 → AreMade N.writes
+        ensures made { result ≢ Err JournalFault.GenerationsSpent → AreMade N.writes
             (compact_writes self.old.state snapshot.now) self.old.nv (is_ok result) self.new.nv }
         ensures state { OnOk result (self.new.state ≡ compacted self.old.state snapshot.now) }
         ensures live { OnOk result (IsTrue self.new.live) }

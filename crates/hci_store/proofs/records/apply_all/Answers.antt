@@ -2,6 +2,7 @@ use Rattle.std.proofs.Common.{◌≡◌, ◌+◌, inr, Some, slice_get, sym, ap,
 use Rattle.journal_laws.specs.declared.state.State.{State}
 use Rattle.journal_laws.specs.Journal.{records, gate_at}
 use Rattle.hci_tables.specs.Bodies.{command_of}
+use Rattle.hci_store.proofs.Recorded.{recordable-apply}
 use Rattle.hci_store.proofs.Applying.{AreApplied, applied_more, other_is_told, journal_fault_is_told, carried}
 use Rattle.hci_store.proofs.records.apply_all.Goals as goal
 
@@ -39,6 +40,7 @@ records-preserved g c =
       count = omega (arith, inv.count, next.count);
       kept = λ tells. next.kept tells ∙ inv.kept tells;
       read = λ first r. next.read first (inv.read first r) (λ e. cc);
+      recordable = rw c.apply.ensures (recordable-apply c.records.tables c.in-Some.command inv.recordable c.in-Some.ensures.recordable);
       so_far = λ tells.
           let there = subst (λ l. slice_get (records l) scan.state.many ≡ Some b) (inv.kept tells) (next.body tells) in
           let more = applied_more (records (content c.args.scan.now.nv)) scan.state.many c.records.tables b c.in-Some.command (inv.so_far tells) there

@@ -1,4 +1,4 @@
-use Rattle.std.proofs.Common.{◌≡◌, ℕ, ◌+◌, [], ◌∷◌, ◌++◌, List, length, ap, ap₂, ◌∙◌, arith}
+use Rattle.std.proofs.Common.{◌≡◌, ℕ, ◌+◌, [], ◌∷◌, ◌++◌, List, length, ap, ◌∙◌, arith}
 use Rattle.journal_laws.specs.Records.{used}
 use Rattle.hci_tables.specs.Bodies.{body_of}
 use Rattle.nv_journal.proofs.Snapshotting.{size_in-append}

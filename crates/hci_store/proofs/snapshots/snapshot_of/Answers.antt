@@ -1,6 +1,5 @@
-use Rattle.std.proofs.Common.{◌≡◌, ◌≤◌, length, sym, ap, ◌∙◌, subst, arith}
+use Rattle.std.proofs.Common.{length, ap, arith}
 use Rattle.sorted_rows.proofs.RowLemmas.{length-rows}
-use Rattle.sorted_rows.specs.Rows.{AreRows}
 use Rattle.pipe_table.specs.PipeRows.{pid_of}
 use Rattle.registry.specs.Values.{place_of}
 use Rattle.journal_laws.specs.Records.{used}
@@ -17,36 +16,89 @@ push_syncs-requires-clause-room c =
 
 pub push_values-requires-clause-room : goal.push_values-requires-clause-room
 push_values-requires-clause-room c =
-    omega (arith, ap used c.new-snapshot.ensures, ap length c.syncs.ensures.syncs, length-rows sync_host 1 8 c.args.tables.now.syncs c.syncs.ensures.sorted, c.push_syncs.ensures.used,
-    ap length c.values.ensures.values, length-rows place_of 2 16 c.registry.result.now c.values.ensures.sorted.sorted)
+    omega (
+      arith,
+      ap used c.new-snapshot.ensures,
+      ap length c.syncs.ensures.syncs,
+      length-rows sync_host 1 8 c.args.tables.now.syncs c.syncs.ensures.sorted,
+      c.push_syncs.ensures.used,
+      ap length c.values.ensures.values,
+      length-rows place_of 2 16 c.registry.result.now c.values.ensures.sorted.sorted,
+    )
 
 pub push_rows-requires-clause-room : goal.push_rows-requires-clause-room
 push_rows-requires-clause-room c =
-    omega (arith, ap used c.new-snapshot.ensures, ap length c.syncs.ensures.syncs, length-rows sync_host 1 8 c.args.tables.now.syncs c.syncs.ensures.sorted, c.push_syncs.ensures.used,
-    ap length c.values.ensures.values, length-rows place_of 2 16 c.registry.result.now c.values.ensures.sorted.sorted, c.push_values.ensures.used,
-    ap length c.rows.ensures.rows, length-rows pid_of 2 112 c.pipes.result.now c.rows.ensures.sorted)
+    omega (
+      arith,
+      ap used c.new-snapshot.ensures,
+      ap length c.syncs.ensures.syncs,
+      length-rows sync_host 1 8 c.args.tables.now.syncs c.syncs.ensures.sorted,
+      c.push_syncs.ensures.used,
+      ap length c.values.ensures.values,
+      length-rows place_of 2 16 c.registry.result.now c.values.ensures.sorted.sorted,
+      c.push_values.ensures.used,
+      ap length c.rows.ensures.rows,
+      length-rows pid_of 2 112 c.pipes.result.now c.rows.ensures.sorted,
+    )
 
 pub push_opened-requires-clause-room : goal.push_opened-requires-clause-room
 push_opened-requires-clause-room c =
-    omega (arith, ap used c.new-snapshot.ensures, ap length c.syncs.ensures.syncs, length-rows sync_host 1 8 c.args.tables.now.syncs c.syncs.ensures.sorted, c.push_syncs.ensures.used,
-    ap length c.values.ensures.values, length-rows place_of 2 16 c.registry.result.now c.values.ensures.sorted.sorted, c.push_values.ensures.used,
-    ap length c.rows.ensures.rows, length-rows pid_of 2 112 c.pipes.result.now c.rows.ensures.sorted, c.push_rows.ensures.used,
-    ap length c.rows-2.ensures.rows, length-rows pid_of 2 112 c.pipes-2.result.now c.rows-2.ensures.sorted)
+    omega (
+      arith,
+      ap used c.new-snapshot.ensures,
+      ap length c.syncs.ensures.syncs,
+      length-rows sync_host 1 8 c.args.tables.now.syncs c.syncs.ensures.sorted,
+      c.push_syncs.ensures.used,
+      ap length c.values.ensures.values,
+      length-rows place_of 2 16 c.registry.result.now c.values.ensures.sorted.sorted,
+      c.push_values.ensures.used,
+      ap length c.rows.ensures.rows,
+      length-rows pid_of 2 112 c.pipes.result.now c.rows.ensures.sorted,
+      c.push_rows.ensures.used,
+      ap length c.rows-2.ensures.rows,
+      length-rows pid_of 2 112 c.pipes-2.result.now c.rows-2.ensures.sorted,
+    )
 
 pub push_statics-requires-clause-room : goal.push_statics-requires-clause-room
 push_statics-requires-clause-room c =
-    omega (arith, ap used c.new-snapshot.ensures, ap length c.syncs.ensures.syncs, length-rows sync_host 1 8 c.args.tables.now.syncs c.syncs.ensures.sorted, c.push_syncs.ensures.used,
-    ap length c.values.ensures.values, length-rows place_of 2 16 c.registry.result.now c.values.ensures.sorted.sorted, c.push_values.ensures.used,
-    ap length c.rows.ensures.rows, length-rows pid_of 2 112 c.pipes.result.now c.rows.ensures.sorted, c.push_rows.ensures.used,
-    ap length c.rows-2.ensures.rows, length-rows pid_of 2 112 c.pipes-2.result.now c.rows-2.ensures.sorted, c.push_opened.ensures.used,
-    ap length c.statics.ensures.statics, length-rows static_place 0 16 c.args.tables.now.statics c.statics.ensures.sorted)
+    omega (
+      arith,
+      ap used c.new-snapshot.ensures,
+      ap length c.syncs.ensures.syncs,
+      length-rows sync_host 1 8 c.args.tables.now.syncs c.syncs.ensures.sorted,
+      c.push_syncs.ensures.used,
+      ap length c.values.ensures.values,
+      length-rows place_of 2 16 c.registry.result.now c.values.ensures.sorted.sorted,
+      c.push_values.ensures.used,
+      ap length c.rows.ensures.rows,
+      length-rows pid_of 2 112 c.pipes.result.now c.rows.ensures.sorted,
+      c.push_rows.ensures.used,
+      ap length c.rows-2.ensures.rows,
+      length-rows pid_of 2 112 c.pipes-2.result.now c.rows-2.ensures.sorted,
+      c.push_opened.ensures.used,
+      ap length c.statics.ensures.statics,
+      length-rows static_place 0 16 c.args.tables.now.statics c.statics.ensures.sorted,
+    )
 
 pub push_statics-requires-clause-may : goal.push_statics-requires-clause-may
 push_statics-requires-clause-may c = rw c.statics.ensures.statics (statics_may c.args.tables.now.statics c.statics.ensures.sorted)
 
 pub returns-clause-records : goal.returns-clause-records
 returns-clause-records c =
-    rw (c.push_statics.ensures.records, c.statics.ensures.statics, c.push_opened.ensures.records, c.rows-2.ensures.rows, c.pipes-2.ensures, c.push_rows.ensures.records,
-    c.rows.ensures.rows, c.pipes.ensures, c.push_values.ensures.records, c.values.ensures.values, c.registry.ensures, c.push_syncs.ensures.records, c.syncs.ensures.syncs,
-    c.new-snapshot.ensures)
+    rw (
+      c.push_statics.ensures.records,
+      c.statics.ensures.statics,
+      c.push_opened.ensures.records,
+      c.rows-2.ensures.rows,
+      c.pipes-2.ensures,
+      c.push_rows.ensures.records,
+      c.rows.ensures.rows,
+      c.pipes.ensures,
+      c.push_values.ensures.records,
+      c.values.ensures.values,
+      c.registry.ensures,
+      c.push_syncs.ensures.records,
+      c.syncs.ensures.syncs,
+      c.new-snapshot.ensures,
+    )
     (snapshot_bodies c.args.tables.now)

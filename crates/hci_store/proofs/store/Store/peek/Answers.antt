@@ -6,6 +6,7 @@ use Rattle.journal_laws.specs.Journal.{journal, IsSound}
 use Rattle.hci_store.specs.Image.{image_fault}
 use Rattle.hci_store.proofs.Applying.{sound_has_no_fault}
 use Rattle.hci_store.proofs.Closing.{close-close}
+use Rattle.hci_store.proofs.Recorded.{recordable-close}
 use Rattle.hci_store.proofs.Refusing.{heads_refused, records_refused}
 use Rattle.hci_store.proofs.store.Store.peek.Goals as goal
 
@@ -25,6 +26,7 @@ invariant_of-result g c =
     let passed = c.in-Ok-apply_all.ensures in
     let content = g.N.Nv.content in
     record {
+      recordable = rw c.close.ensures (recordable-close c.apply_all.new.tables passed.recordable);
       holds = λ live tells.
           let same = ap (λ (j : Kept g.row.N.Denot). content j.nv) c.peek.ensures.journal ∙ passed.kept tells in
           rw (same, c.close.ensures)
