@@ -3,7 +3,7 @@ use Rattle.std.proofs.Common.{◌≡◌, ◌⊎◌, inl, inr, ℕ, ◌≤◌, Bo
 use Rattle.std.specs.Option.{option_map_or}
 use Rattle.swp_base.specs.Outside.{Rose}
 use Rattle.nv_journal.specs.declared.JournalFault.{JournalFault}
-use Rattle.nv_journal.specs.declared.JournalFault.TheVariants.{NvFault, BadRecord}
+use Rattle.nv_journal.specs.declared.JournalFault.TheVariants.{NvFault, GenerationsSpent, BadRecord}
 use Rattle.journal_laws.specs.Journal.{journal, records, gate_at}
 use Rattle.journal_laws.specs.Writes.{AreRead}
 use Rattle.nv_journal.specs.Faults.{is_known, IsKnown, fault}
@@ -52,3 +52,19 @@ module _ {N : Type 0} (reads : N → Bool → N → Type 0) (faults : N → ℕ)
     }),
     λ t. still t ∙ kept t,
   )
+
+  pub rose_of : (f : JournalFault) → IsRefused reads faults tells content first new f → f ≡ NvFault → Rose (faults first) (faults new)
+  rose_of f (inl unread, kept) memory = unread.rose
+  rose_of f (inr unsound, kept) memory = absurd (subst journal_refusals.IsImageFault memory unsound.fault_is)
+
+  pub image_of : (f : JournalFault) → IsRefused reads faults tells content first new f → IsTrue tells → journal_refusals.IsImageFault f
+      → image_fault (content first) ≡ Some f
+  image_of f (inl unread, kept) t image = absurd (subst journal_refusals.IsImageFault unread.fault image)
+  image_of f (inr unsound, kept) t image = unsound.told t
+
+pub memory_is_no_image : (f : JournalFault) → f ≡ NvFault → journal_refusals.IsImageFault f → ⊥
+memory_is_no_image f memory image = subst journal_refusals.IsImageFault memory image
+
+pub start_is_no_image : (f : JournalFault) → (f ≡ NvFault) ⊎ (f ≡ GenerationsSpent) → journal_refusals.IsImageFault f → ⊥
+start_is_no_image f (inl memory) image = subst journal_refusals.IsImageFault memory image
+start_is_no_image f (inr spent) image = subst journal_refusals.IsImageFault spent image

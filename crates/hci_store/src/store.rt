@@ -1,5 +1,5 @@
 //! A store over a memory.
-ghost use Rattle.std.specs.Prelude.{◌≡◌, ◌≢◌, ◌⊎◌, ◌↔◌, ◌+◌, ◌≤◌, length, true, false, is_ok, None, Err, IsSome, IsTrue, IfOk, IfErr, OnOk, OnErr, MatchResult};
+ghost use Rattle.std.specs.Prelude.{◌≡◌, ◌≢◌, ◌⊎◌, ◌↔◌, ◌+◌, ◌≤◌, length, true, false, is_ok, None, Err, Some, IsSome, IsTrue, IfOk, IfErr, OnOk, OnErr, MatchResult};
 ghost use Rattle.swp_base.specs.Outside.{Rose};
 ghost use Rattle.journal_laws.specs.Writes.{AreRead, AreMade};
 ghost use Rattle.journal_laws.specs.Operations.{append_writes, HasRoom, appended};
@@ -9,6 +9,7 @@ ghost use Rattle.hci_tables.specs.Commands.{IsCommand};
 ghost use Rattle.hci_tables.specs.Bodies.{body_of};
 ghost use Rattle.hci_store.specs.Committing.{fits, room_writes, with_room, commit_writes, committed};
 ghost use Rattle.hci_store.specs.Image.{tables_of, are_commands, image_fault};
+ghost use Rattle.nv_journal.specs.Refusals.{IsImageFault};
 
 use crate::records::apply_all;
 use crate::snapshots::snapshot_of;
@@ -70,6 +71,87 @@ impl<N: Nv + Drop> Store<N> {
                 fault,
             }),
         }
+    }
+
+    /// The tables of a memory of 65,536 bytes, all pipes closed, ready to keep commands. One that has no bank with an open gate is
+    /// formatted first. One of version 01 is written anew as a snapshot of version 02 in the other bank. A memory that `peek`
+    /// refuses is refused, and so is one where a write fails or no generation is left.
+    pub fn start(nv: N) -> Result<Self, StartRefused<N>>
+        requires { N.capacity nv ≡ 65536 }
+        ensures live { IfOk result (λ s. IsTrue s.journal.live) }
+        ensures used { IfOk result (λ s. IsSome s.journal.state.in_use) }
+        ensures version { IfOk result (λ s. s.journal.state.version ≡ 2) }
+        ensures tables { IsTrue N.tells → IfOk result (λ s. s.tables ≡ close (tables_of (N.content nv))) }
+        ensures commands { IsTrue N.tells → OnOk result (are_commands (records (N.content nv)) ≡ true) }
+        ensures count { IfOk result (λ s. N.faults nv ≤ N.faults s.journal.nv) }
+        ensures rose { IfErr result (λ e. e.fault ≡ JournalFault.NvFault → Rose (N.faults nv) (N.faults e.nv)) }
+        ensures image { IsTrue N.tells → IfErr result (λ e. IsImageFault e.fault → image_fault (N.content nv) ≡ Some e.fault) }
+    {
+        let mut scan = match Scan::open(nv) {
+            Ok(scan) => scan,
+            Err(refused) => return Err(refused),
+        };
+        let mut tables = Tables::new();
+        match apply_all(&mut scan, &mut tables) {
+            Ok(()) => {}
+            Err(fault) => {
+                return Err(StartRefused {
+                    nv: scan.into_nv(),
+                    fault,
+                });
+            }
+        }
+        tables.close();
+        match scan.start() {
+            Ok(journal) => match Store::ready(Store { journal, tables }) {
+                Ok(store) => Ok(store),
+                Err(refused) => Err(refused),
+            },
+            Err(refused) => Err(refused),
+        }
+    }
+
+    // The store of a memory of version 02.
+    fn ready(self) -> Result<Self, StartRefused<N>>
+        requires live { IsTrue self.journal.live }
+        requires started { IsSome self.journal.state.in_use }
+        ensures live { IfOk result (λ s. IsTrue s.journal.live) }
+        ensures used { IfOk result (λ s. IsSome s.journal.state.in_use) }
+        ensures version { IfOk result (λ s. s.journal.state.version ≡ 2) }
+        ensures tables { IfOk result (λ s. s.tables ≡ self.tables) }
+        ensures count { IfOk result (λ s. N.faults self.journal.nv ≤ N.faults s.journal.nv) }
+        ensures fault { IfErr result (λ e. (e.fault ≡ JournalFault.NvFault) ⊎ (e.fault ≡ JournalFault.GenerationsSpent)) }
+        ensures rose { IfErr result (λ e. e.fault ≡ JournalFault.NvFault
+            → Rose (N.faults self.journal.nv) (N.faults e.nv)) }
+    {
+        let mut store = self;
+        match store.migrate() {
+            Ok(()) => Ok(store),
+            Err(fault) => Err(StartRefused {
+                nv: store.into_nv(),
+                fault,
+            }),
+        }
+    }
+
+    // Writes the tables as a snapshot of version 02 into the other bank where the one in use is of version 01.
+    fn migrate(&mut self) -> Result<(), JournalFault>
+        requires live { IsTrue self.old.journal.live }
+        requires started { IsSome self.old.journal.state.in_use }
+        ensures used { OnOk result (IsSome self.new.journal.state.in_use) }
+        ensures version { OnOk result (self.new.journal.state.version ≡ 2) }
+        ensures tables { self.new.tables ≡ self.old.tables }
+        ensures live { OnOk result (IsTrue self.new.journal.live) }
+        ensures fault { IfErr result (λ f. (f ≡ JournalFault.NvFault) ⊎ (f ≡ JournalFault.GenerationsSpent)) }
+        ensures count { N.faults self.old.journal.nv ≤ N.faults self.new.journal.nv }
+        ensures rose { result ≡ Err JournalFault.NvFault
+            → Rose (N.faults self.old.journal.nv) (N.faults self.new.journal.nv) }
+    {
+        if self.journal.version() == 2 {
+            return Ok(());
+        }
+        let snapshot = snapshot_of(&self.tables);
+        self.journal.compact(&snapshot)
     }
 
     /// Keeps a command, and does what it says. Where its record doesn't fit into the bank in use, the tables are first written as

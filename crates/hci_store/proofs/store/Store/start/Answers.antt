@@ -1,0 +1,65 @@
+use Rattle.std.proofs.Common.{sym, ap, ◌∙◌, fold, arith, Err}
+use Rattle.journal_laws.specs.Journal.{records}
+use Rattle.hci_tables.specs.Tables.{no_tables, close}
+use Rattle.hci_store.specs.Image.{applied, are_commands}
+use Rattle.hci_store.proofs.Closing.{close-close}
+use Rattle.hci_store.proofs.Recorded.{recordable-close}
+use Rattle.hci_store.proofs.Refusing.{heads_refused, records_refused, rose_of, image_of, memory_is_no_image, start_is_no_image}
+use Rattle.nv_journal.proofs.Refusing.{not_of_memory, read_all}
+use Rattle.hci_store.proofs.store.Store.start.Goals as goal
+
+pub invariant_of-ready : goal.invariant_of-ready
+invariant_of-ready g c =
+    let passed = c.in-Ok-apply_all.ensures in
+    record {
+      recordable = rw c.close.ensures (recordable-close c.apply_all.new.tables passed.recordable);
+      holds = λ live tells.
+          let same = c.in-Ok-start.ensures.records tells ∙ ap records (passed.kept tells) in
+          rw c.close.ensures
+          (record {
+            commands = ap are_commands same ∙ passed.commands tells;
+            tables_are = ap (λ l. close (fold applied no_tables l)) same ∙ ap close (sym (passed.tables tells)) ∙ sym (close-close c.apply_all.new.tables);
+          });
+    }
+
+pub returns-in-Err-clause-rose : goal.returns-in-Err-clause-rose
+returns-in-Err-clause-rose g c =
+    let opened = c.in-Err.ensures in
+    rose_of g.N.Nv.reads g.N.Nv.faults g.N.Nv.tells g.N.Nv.content c.args.nv c.in-Err.refused.nv c.in-Err.refused.fault
+    (heads_refused g.N.Nv.reads g.N.Nv.faults g.N.Nv.tells g.N.Nv.content c.args.nv c.in-Err.refused.nv c.in-Err.refused.fault opened.refused opened.unknown)
+
+pub returns-in-Err-clause-image : goal.returns-in-Err-clause-image
+returns-in-Err-clause-image g c =
+    let opened = c.in-Err.ensures in
+    image_of g.N.Nv.reads g.N.Nv.faults g.N.Nv.tells g.N.Nv.content c.args.nv c.in-Err.refused.nv c.in-Err.refused.fault
+    (heads_refused g.N.Nv.reads g.N.Nv.faults g.N.Nv.tells g.N.Nv.content c.args.nv c.in-Err.refused.nv c.in-Err.refused.fault opened.refused opened.unknown)
+
+pub returns-in-Err-apply_all-clause-rose : goal.returns-in-Err-apply_all-clause-rose
+returns-in-Err-apply_all-clause-rose g c = λ memory.
+    rw c.into_nv.ensures (omega (arith, c.in-Ok.ensures.count, c.in-Err-apply_all.ensures.rose (ap Err memory)))
+
+pub returns-in-Err-apply_all-clause-image : goal.returns-in-Err-apply_all-clause-image
+returns-in-Err-apply_all-clause-image g c =
+    let scan = c.in-Ok.scan in
+    let opened = c.in-Ok.ensures in
+    let passed = c.in-Err-apply_all.ensures in
+    let f = c.in-Err-apply_all.fault in
+    image_of g.N.Nv.reads g.N.Nv.faults g.N.Nv.tells g.N.Nv.content c.args.nv c.apply_all.new.scan.nv f
+    (records_refused g.N.Nv.reads g.N.Nv.faults g.N.Nv.tells g.N.Nv.content c.args.nv c.apply_all.new.scan.nv scan.nv f passed.fault
+    (λ memory. passed.unread c.args.nv opened.read (ap Err memory))
+    (λ image. read_all g.N.Nv.reads c.args.nv c.apply_all.new.scan (passed.read c.args.nv opened.read (not_of_memory f image)))
+    opened.count (λ memory. passed.rose (ap Err memory)) opened.kept passed.kept opened.known)
+
+pub returns-in-Err-start-clause-rose : goal.returns-in-Err-start-clause-rose
+returns-in-Err-start-clause-rose g c = λ memory.
+    omega (arith, c.in-Ok.ensures.count, c.in-Ok-apply_all.ensures.count, c.in-Err-start.ensures.count)
+
+pub returns-in-Err-start-clause-image : goal.returns-in-Err-start-clause-image
+returns-in-Err-start-clause-image g c tells = λ image. absurd (memory_is_no_image c.in-Err-start.refused.fault c.in-Err-start.ensures.none.0 image)
+
+pub returns-in-Err-ready-clause-rose : goal.returns-in-Err-ready-clause-rose
+returns-in-Err-ready-clause-rose g c = λ memory.
+    omega (arith, c.in-Ok.ensures.count, c.in-Ok-apply_all.ensures.count, c.in-Ok-start.ensures.count, c.in-Err-ready.ensures.rose memory)
+
+pub returns-in-Err-ready-clause-image : goal.returns-in-Err-ready-clause-image
+returns-in-Err-ready-clause-image g c tells = λ image. absurd (start_is_no_image c.in-Err-ready.refused.fault c.in-Err-ready.ensures.fault image)
