@@ -170,6 +170,7 @@ impl<N: Nv + Drop> Store<N> {
         ensures state { OnOk result (self.new.journal.state
             ≡ committed self.old.journal.state self.old.tables (body_of command.now)) }
         ensures tables { OnOk result (self.new.tables ≡ apply self.old.tables command.now) }
+        ensures untouched { OnErr result (self.new.tables ≡ self.old.tables) }
         ensures live { OnOk result (IsTrue self.new.journal.live) }
         ensures fault { IfErr result (λ f. (f ≡ JournalFault.NvFault) ⊎ (f ≡ JournalFault.GenerationsSpent)) }
         ensures dead { result ≡ Err JournalFault.NvFault → self.new.journal.live ≡ false }
@@ -225,6 +226,7 @@ impl<N: Nv + Drop> Store<N> {
             self.new.journal.nv }
         ensures state { OnOk result (self.new.journal.state ≡ appended self.old.journal.state body.now) }
         ensures tables { OnOk result (self.new.tables ≡ apply self.old.tables command.now) }
+        ensures untouched { OnErr result (self.new.tables ≡ self.old.tables) }
         ensures live { self.new.journal.live ≡ is_ok result }
         ensures fault { IfErr result (λ f. f ≡ JournalFault.NvFault) }
         ensures count { N.faults self.old.journal.nv ≤ N.faults self.new.journal.nv }
