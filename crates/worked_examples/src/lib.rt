@@ -10,6 +10,8 @@ mod chains;
 #[cfg(test)]
 mod checksums;
 #[cfg(test)]
+mod cuts;
+#[cfg(test)]
 mod decodings;
 #[cfg(test)]
 mod frames;

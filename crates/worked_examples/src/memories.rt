@@ -8,15 +8,15 @@ use swp_base::{MemNv, MemSink, MemSource, NoMemory, Nv};
 use swp_tool::{Ended, Status, run};
 
 /// An image of version 01: the identifier 1A2B of host 02 is kept, and its pipe 01 was opened.
-const IMAGE: [u8; 25] = [
+pub const IMAGE: [u8; 25] = [
     0x5A, 0x01, 0x00, 0x00, 0x00, 0x01, 0x00, 0x00, 0x00, 0x00, 0x00, 0x00, 0x5A, 0x04, 0x06, 0x02,
     0x1A, 0x2B, 0x5A, 0x04, 0x04, 0x02, 0x01, 0x01, 0xFF,
 ];
 
-const TABLES: &str = "tables nv 0 0 0 1\nsync 02 1A2B\n";
+pub const TABLES: &str = "tables nv 0 0 0 1\nsync 02 1A2B\n";
 
 /// A memory of 65,536 bytes that begins with these, all others FF.
-fn memory(alloc: Global, image: &[u8]) -> Result<MemNv, NoMemory>
+pub fn memory(alloc: Global, image: &[u8]) -> Result<MemNv, NoMemory>
     requires { length image.now ≤ 64 }
     ensures { IfOk result (λ m. length m.content ≡ 65536) }
 {
@@ -26,7 +26,7 @@ fn memory(alloc: Global, image: &[u8]) -> Result<MemNv, NoMemory>
 }
 
 /// How a run with the word `tables` ended, what it wrote, and the memory.
-fn told(alloc: Global, nv: MemNv) -> Result<(Status, Vec<u8>, MemNv), NoMemory>
+pub fn told(alloc: Global, nv: MemNv) -> Result<(Status, Vec<u8>, MemNv), NoMemory>
     requires { length nv.content ≡ 65536 }
 {
     let mut words = Vec::new(alloc);
