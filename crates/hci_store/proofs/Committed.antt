@@ -1,9 +1,8 @@
 -- What a commit leaves.
-use Rattle.std.proofs.Common.{◌≡◌, ◌⊎◌, inl, inr, ℕ, ◌<◌, Bool, true, false, not, ◌&&◌, ◌==◌, cond, nat_le, nat_lt, List, [], ◌∷◌, ◌++◌, map, filter, fold, Result, Ok, Err, OnOk, IfErr, is_some, IsTrue, sym, ap, ◌∙◌, subst, arith}
+use Rattle.std.proofs.Common.{◌≡◌, ◌⊎◌, inl, inr, ℕ, Bool, true, false, not, ◌&&◌, ◌==◌, cond, nat_le, nat_lt, List, [], ◌∷◌, ◌++◌, map, filter, fold, Result, Ok, Err, OnOk, IfErr, is_some, IsTrue, sym, ap, ◌∙◌, subst, arith}
 use Rattle.std.specs.Option.{option_map_or}
 use Rattle.std.specs.List.{AllByRecursion}
 use Rattle.std.proofs.lemmas.Bool.{and_parts, and_from, true≢false}
-use Rattle.std.proofs.lemmas.Bool.Decides.{nat_tests}
 use Rattle.nv_journal.specs.declared.JournalFault.{JournalFault}
 use Rattle.nv_journal.specs.declared.JournalFault.TheVariants.{NvFault, GenerationsSpent}
 use Rattle.pipe_table.specs.declared.row.PipeRow.{PipeRow}
@@ -86,9 +85,6 @@ pub made-append : {M : Type 0} (writes : M → ℕ → List ℕ → Bool → M �
 made-append writes [] then_these old between ok new a b = subst (λ m. AreMade writes then_these m ok new) a.1 b
 made-append writes (w ∷ first) then_these old between ok new (inl a) b = absurd (true≢false a.0)
 made-append writes (w ∷ first) then_these old between ok new (inr a) b = inr (a.0, a.1, made-append writes first then_these a.0 between ok new a.2 b)
-
-pub not_fitting : (a b : ℕ) → b < a → nat_le a b ≡ false
-not_fitting a b less = grind (arith, nat_tests)
 
 pub on_ok : {T E : Type 0} (r : Result T E) (P Q : Type 0) → OnOk r P → (P → Q) → OnOk r Q
 on_ok (Ok x) P Q p step = step p

@@ -1,5 +1,5 @@
 //! A store over a memory.
-ghost use Rattle.std.specs.Prelude.{◌≡◌, ◌≢◌, ◌⊎◌, ◌↔◌, ◌+◌, ◌≤◌, length, true, false, is_ok, None, Err, Some, IsSome, IsTrue, IfOk, IfErr, OnOk, OnErr, MatchResult};
+ghost use Rattle.std.specs.Prelude.{◌≡◌, ◌≢◌, ◌⊎◌, ◌↔◌, ◌+◌, ◌≤◌, ◌<◌, length, true, false, is_ok, None, Err, Some, IsSome, IsTrue, IfOk, IfErr, OnOk, OnErr, MatchResult};
 ghost use Rattle.swp_base.specs.Outside.{Rose};
 ghost use Rattle.journal_laws.specs.Writes.{AreRead, AreMade};
 ghost use Rattle.journal_laws.specs.Operations.{append_writes, HasRoom, appended};
@@ -13,10 +13,11 @@ ghost use Rattle.nv_journal.specs.Refusals.{IsImageFault};
 
 use crate::records::apply_all;
 use crate::snapshots::snapshot_of;
+use arrayvec::ArrayVec;
 use hci_tables::{Command, Tables, write_command};
 use nv_journal::{Journal, JournalFault, Scan, StartRefused};
 use std::marker::Model;
-use swp_base::Nv;
+use swp_base::{MemNv, Nv};
 
 /// The tables of a node over its journal.
 #[derive(Drop)]
@@ -186,6 +187,21 @@ impl<N: Nv + Drop> Store<N> {
         }
     }
 
+    /// Whether there is room for a command: false exactly where its record doesn't fit into the bank in use and no generation is
+    /// left for a snapshot. It asks for a store that `start` made.
+    pub fn room(&mut self, command: &Command) -> bool
+        requires live { IsTrue self.old.journal.live }
+        requires started { IsSome self.old.journal.state.in_use }
+        requires version { self.old.journal.state.version ≡ 2 }
+        requires command { IsCommand command.now }
+        ensures answer { (result ≡ false)
+            ↔ ((fits self.old.journal.state (body_of command.now) ≡ false) × (self.old.journal.state.generation ≡ 4294967295)) }
+        ensures unchanged { self.new ≡ self.old }
+    {
+        let body = write_command(command);
+        self.is_fitting(body.as_slice()) || self.journal.generation() != u32::MAX
+    }
+
     /// Writes the tables as a snapshot into the other bank where a record with this body doesn't fit into the bank in use.
     fn make_room(&mut self, body: &[u8]) -> Result<(), JournalFault>
         requires live { IsTrue self.old.journal.live }
@@ -209,11 +225,19 @@ impl<N: Nv + Drop> Store<N> {
         ensures rose { result ≡ Err JournalFault.NvFault
             → Rose (N.faults self.old.journal.nv) (N.faults self.new.journal.nv) }
     {
-        if body.len() as u32 + 5 <= self.journal.left() {
+        if self.is_fitting(body) {
             return Ok(());
         }
         let snapshot = snapshot_of(&self.tables);
         self.journal.compact(&snapshot)
+    }
+
+    /// Whether a record with this body fits into the bank in use.
+    fn is_fitting(&self, body: &[u8]) -> bool
+        requires short { length body.now ≤ 61 }
+        ensures { result ≡ fits self.now.journal.state body.now }
+    {
+        body.len() as u32 + 5 <= self.journal.left()
     }
 
     /// Appends the record of a command that fits, and does what it says.
@@ -269,5 +293,20 @@ impl<N: Nv + Drop> Store<N> {
     {
         let Store { journal, tables: _ } = self;
         journal.into_nv()
+    }
+}
+
+impl Store<MemNv> {
+    /// Plans that the `nth` write of the memory from now fails, where 1 is the next. Byte i of its range becomes byte i of `fill`,
+    /// modulo its length. An earlier plan is given up. Nothing else changes.
+    pub fn arm(&mut self, nth: u32, fill: ArrayVec<u8, 64>)
+        requires nth { 0 < nth }
+        requires fill { 0 < length fill.items }
+        ensures tables { self.new.tables ≡ self.old.tables }
+        ensures journal { self.new.journal ≡ record self.old.journal {
+          nv = record self.old.journal.nv { plan = Some (record { nth = nth; fill = fill.items }) };
+        } }
+    {
+        self.journal.arm(nth, fill);
     }
 }

@@ -1,7 +1,6 @@
-use Rattle.std.proofs.Common.{◌+◌, length, ◌∙◌}
-use Rattle.journal_laws.specs.Journal.{left}
+use Rattle.std.proofs.Common.{sym, ◌∙◌}
 use Rattle.hci_store.specs.Stored.{Holds}
-use Rattle.hci_store.proofs.Committed.{holds_snapshot, holds_by, not_fitting, on_ok, room_made}
+use Rattle.hci_store.proofs.Committed.{holds_snapshot, holds_by, on_ok, room_made}
 use Rattle.hci_store.proofs.store.Store.make_room.Goals as goal
 
 pub invariant_of-self : goal.invariant_of-self
@@ -24,4 +23,4 @@ returns-clause-made g c = λ not_spent.
     let k = c.self.inside in
     rw (← c.self.view_is)
     (room_made g.N.Nv.writes k.journal.state k.tables c.args.body.now c.snapshot_of-snapshot.result k.journal.nv _ c.compact.new.self.nv
-    (not_fitting (length c.args.body.now + 5) (left k.journal.state) (rw c.left.ensures at c.if-body-left.false)) c.snapshot_of-snapshot.ensures.records (c.compact.ensures.made not_spent))
+    (rw (← c.self.view_is) at (sym c.is_fitting.ensures ∙ c.if-is_fitting.false)) c.snapshot_of-snapshot.ensures.records (c.compact.ensures.made not_spent))
