@@ -6,3 +6,4 @@ pub mod Recorded
 pub mod ReadAgain
 pub mod SnapshotParts
 pub mod Committed
+pub mod Starting

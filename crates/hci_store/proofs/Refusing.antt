@@ -62,6 +62,17 @@ module _ {N : Type 0} (reads : N → Bool → N → Type 0) (faults : N → ℕ)
   image_of f (inl unread, kept) t image = absurd (subst journal_refusals.IsImageFault unread.fault image)
   image_of f (inr unsound, kept) t image = unsound.told t
 
+  pub fault_of : (f : JournalFault) → IsRefused reads faults tells content first new f → (f ≡ NvFault) ⊎ (f ≡ GenerationsSpent) ⊎ journal_refusals.IsImageFault f
+  fault_of f (inl unread, kept) = inl unread.fault
+  fault_of f (inr unsound, kept) = inr (inr unsound.fault_is)
+
+  pub not_spent : (f : JournalFault) → IsRefused reads faults tells content first new f → f ≡ GenerationsSpent → ⊥
+  not_spent f (inl unread, kept) spent = absurd (memory_is_not_spent (sym unread.fault ∙ spent))
+    where
+      memory_is_not_spent : NvFault ≡ GenerationsSpent → ⊥
+      memory_is_not_spent e = cc
+  not_spent f (inr unsound, kept) spent = absurd (subst journal_refusals.IsImageFault spent unsound.fault_is)
+
 pub memory_is_no_image : (f : JournalFault) → f ≡ NvFault → journal_refusals.IsImageFault f → ⊥
 memory_is_no_image f memory image = subst journal_refusals.IsImageFault memory image
 

@@ -1,7 +1,8 @@
 -- Why a start of a store is refused.
-use Rattle.std.specs.Prelude.{◌≡◌, ◌⊎◌, ℕ, Bool, true, List, Some, IsTrue}
+use Rattle.std.specs.Prelude.{◌≡◌, ◌⊎◌, ℕ, Bool, true, List, None, Some, IsTrue}
 use Rattle.nv_journal.specs.declared.JournalFault.{JournalFault}
 use Rattle.journal_laws.specs.Writes.{AreRead}
+use Rattle.journal_laws.specs.Journal.{journal}
 use Rattle.nv_journal.specs.Refusals.{IsImageFault, IsUnread}
 use Rattle.hci_store.specs.Image.{image_fault}
 
@@ -15,3 +16,10 @@ pub record IsUnsound {N : Type 0} (reads : N → Bool → N → Type 0) (tells :
 abbrev pub IsRefused : {N : Type 0} → (N → Bool → N → Type 0) → (N → ℕ) → Bool → (N → List ℕ) → N → N → JournalFault → Type 0
 IsRefused reads faults tells content old new f =
     (IsUnread reads faults old new f ⊎ IsUnsound reads tells content old new f) × (IsTrue tells → content new ≡ content old)
+
+-- The bank in use has version 01 and the last generation, and nothing is wrong with its records. The memory says what it said.
+pub record IsSpent (old new : List ℕ) : Type 0 where
+  pub version : (journal old).head.version ≡ 1
+  pub generation : (journal old).head.generation ≡ 4294967295
+  pub sound : image_fault old ≡ None
+  pub kept : new ≡ old

@@ -3,7 +3,7 @@ ghost use Rattle.std.specs.Prelude.{◌≡◌, ◌≢◌, ◌⊎◌, ◌↔◌, 
 ghost use Rattle.swp_base.specs.Outside.{Rose};
 ghost use Rattle.journal_laws.specs.Writes.{AreRead, AreMade};
 ghost use Rattle.journal_laws.specs.Operations.{append_writes, HasRoom, appended};
-ghost use Rattle.journal_laws.specs.Journal.{records, count_of, count, left};
+ghost use Rattle.journal_laws.specs.Journal.{journal, records, count_of, count, left};
 ghost use Rattle.hci_tables.specs.Tables.{apply, close};
 ghost use Rattle.hci_tables.specs.Commands.{IsCommand};
 ghost use Rattle.hci_tables.specs.Bodies.{body_of};
@@ -37,7 +37,7 @@ impl<N: Nv + Drop> Model for Store<N> {
 }
 
 impl<N: Nv + Drop> Store<N> {
-    ghost use Rattle.hci_store.specs.Refusals.{IsRefused};
+    ghost use Rattle.hci_store.specs.Refusals.{IsRefused, IsSpent};
     ghost use Rattle.hci_store.specs.Stored.{Holds};
 
     /// The tables of a memory of 65,536 bytes, all pipes closed, without any write: one that has no bank with an open gate reads as
@@ -84,7 +84,15 @@ impl<N: Nv + Drop> Store<N> {
         ensures version { IfOk result (λ s. s.journal.state.version ≡ 2) }
         ensures tables { IsTrue N.tells → IfOk result (λ s. s.tables ≡ close (tables_of (N.content nv))) }
         ensures commands { IsTrue N.tells → OnOk result (are_commands (records (N.content nv)) ≡ true) }
-        ensures count { IfOk result (λ s. N.faults nv ≤ N.faults s.journal.nv) }
+        ensures count { IsTrue N.tells → IfOk result (λ s. count_of s.journal.state ≡ count (N.content nv)) }
+        ensures holds { IsTrue N.tells → IfOk result (λ s. Holds (N.content s.journal.nv) s.tables) }
+        ensures fault { IfErr result (λ e. (e.fault ≡ JournalFault.NvFault) ⊎ (e.fault ≡ JournalFault.GenerationsSpent)
+            ⊎ IsImageFault e.fault) }
+        ensures spent { IsTrue N.tells → IfErr result (λ e. e.fault ≡ JournalFault.GenerationsSpent
+            → IsSpent (N.content nv) (N.content e.nv)) }
+        ensures unspent { IsTrue N.tells → OnOk result ((journal (N.content nv)).head.version ≡ 1
+            → (journal (N.content nv)).head.generation ≢ 4294967295) }
+        ensures faults { IfOk result (λ s. N.faults nv ≤ N.faults s.journal.nv) }
         ensures rose { IfErr result (λ e. e.fault ≡ JournalFault.NvFault → Rose (N.faults nv) (N.faults e.nv)) }
         ensures image { IsTrue N.tells → IfErr result (λ e. IsImageFault e.fault → image_fault (N.content nv) ≡ Some e.fault) }
     {
@@ -120,6 +128,11 @@ impl<N: Nv + Drop> Store<N> {
         ensures used { IfOk result (λ s. IsSome s.journal.state.in_use) }
         ensures version { IfOk result (λ s. s.journal.state.version ≡ 2) }
         ensures tables { IfOk result (λ s. s.tables ≡ self.tables) }
+        ensures kept { IfOk result (λ s. count_of s.journal.state ≡ count_of self.journal.state) }
+        ensures holds { IsTrue N.tells → IfOk result (λ s. Holds (N.content s.journal.nv) s.tables) }
+        ensures spent { IfErr result (λ e. e.fault ≡ JournalFault.GenerationsSpent
+            → (self.journal.state.version ≢ 2) × (self.journal.state.generation ≡ 4294967295) × (e.nv ≡ self.journal.nv)) }
+        ensures unspent { OnOk result (self.journal.state.version ≢ 2 → self.journal.state.generation ≢ 4294967295) }
         ensures count { IfOk result (λ s. N.faults self.journal.nv ≤ N.faults s.journal.nv) }
         ensures fault { IfErr result (λ e. (e.fault ≡ JournalFault.NvFault) ⊎ (e.fault ≡ JournalFault.GenerationsSpent)) }
         ensures rose { IfErr result (λ e. e.fault ≡ JournalFault.NvFault
@@ -142,6 +155,11 @@ impl<N: Nv + Drop> Store<N> {
         ensures used { OnOk result (IsSome self.new.journal.state.in_use) }
         ensures version { OnOk result (self.new.journal.state.version ≡ 2) }
         ensures tables { self.new.tables ≡ self.old.tables }
+        ensures kept { OnOk result (count_of self.new.journal.state ≡ count_of self.old.journal.state) }
+        ensures holds { IsTrue N.tells → OnOk result (Holds (N.content self.new.journal.nv) self.new.tables) }
+        ensures spent { (result ≡ Err JournalFault.GenerationsSpent)
+            ↔ ((self.old.journal.state.version ≢ 2) × (self.old.journal.state.generation ≡ 4294967295)) }
+        ensures unchanged { result ≡ Err JournalFault.GenerationsSpent → self.new ≡ self.old }
         ensures live { OnOk result (IsTrue self.new.journal.live) }
         ensures fault { IfErr result (λ f. (f ≡ JournalFault.NvFault) ⊎ (f ≡ JournalFault.GenerationsSpent)) }
         ensures count { N.faults self.old.journal.nv ≤ N.faults self.new.journal.nv }

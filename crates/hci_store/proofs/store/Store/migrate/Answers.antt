@@ -17,3 +17,10 @@ invariant_of-self g c =
           made.fault made.dead
           (λ spent. rw (made.unchanged spent) (c.self.invariant.holds (rw (← c.self.view_is) at c.requires.live) tells)) live;
     }
+
+pub returns-clause-holds : goal.returns-clause-holds
+returns-clause-holds g c tells =
+    let k = c.self.inside in
+    let content = g.N.Nv.content in
+    on_ok c.compact.result _ _ (c.compact.ensures.records tells)
+    (λ is. holds_snapshot (content c.compact.new.self.nv) k.tables c.self.invariant.recordable c.snapshot_of-snapshot.ensures.tables (is ∙ c.snapshot_of-snapshot.ensures.records))

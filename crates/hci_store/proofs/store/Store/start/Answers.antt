@@ -1,10 +1,12 @@
-use Rattle.std.proofs.Common.{sym, ap, ◌∙◌, fold, arith, Err}
+use Rattle.std.proofs.Common.{◌≡◌, true, sym, ap, ◌∙◌, subst, fold, arith, Err}
 use Rattle.journal_laws.specs.Journal.{records}
 use Rattle.hci_tables.specs.Tables.{no_tables, close}
 use Rattle.hci_store.specs.Image.{applied, are_commands}
 use Rattle.hci_store.proofs.Closing.{close-close}
 use Rattle.hci_store.proofs.Recorded.{recordable-close}
 use Rattle.hci_store.proofs.Refusing.{heads_refused, records_refused, rose_of, image_of, memory_is_no_image, start_is_no_image}
+use Rattle.hci_store.proofs.Starting.{counted, spent, unspent, not_written}
+use Rattle.nv_journal.specs.Kept.{Says}
 use Rattle.nv_journal.proofs.Refusing.{not_of_memory, read_all}
 use Rattle.hci_store.proofs.store.Store.start.Goals as goal
 
@@ -63,3 +65,33 @@ returns-in-Err-ready-clause-rose g c = λ memory.
 
 pub returns-in-Err-ready-clause-image : goal.returns-in-Err-ready-clause-image
 returns-in-Err-ready-clause-image g c tells = λ image. absurd (start_is_no_image c.in-Err-ready.refused.fault c.in-Err-ready.ensures.fault image)
+
+pub returns-in-Ok-ready-clause-count : goal.returns-in-Ok-ready-clause-count
+returns-in-Ok-ready-clause-count g c tells =
+    let scan = c.apply_all.new.scan in
+    let opened = c.in-Ok-start.ensures in
+    let same = c.in-Ok-apply_all.ensures.kept tells ∙ c.in-Ok.ensures.kept tells in
+    c.in-Ok-ready.ensures.kept
+    ∙ counted (g.N.Nv.content c.args.nv) scan.state c.in-Ok-start.journal.state (subst (λ l. Says l scan.state) same (opened.said tells)) opened.state.0
+
+pub returns-in-Ok-ready-clause-unspent : goal.returns-in-Ok-ready-clause-unspent
+returns-in-Ok-ready-clause-unspent g c tells =
+    let scan = c.apply_all.new.scan in
+    let opened = c.in-Ok-start.ensures in
+    let same = c.in-Ok-apply_all.ensures.kept tells ∙ c.in-Ok.ensures.kept tells in
+    unspent (g.N.Nv.content c.args.nv) scan.state c.in-Ok-start.journal.state (subst (λ l. Says l scan.state) same (opened.said tells)) opened.state.0
+    c.in-Ok-ready.ensures.unspent
+
+pub returns-in-Err-ready-clause-spent : goal.returns-in-Err-ready-clause-spent
+returns-in-Err-ready-clause-spent g c tells = λ is.
+    let scan = c.apply_all.new.scan in
+    let j = c.in-Ok-start.journal in
+    let content = g.N.Nv.content in
+    let opened = c.in-Ok-start.ensures in
+    let passed = c.in-Ok-apply_all.ensures in
+    let same = passed.kept tells ∙ c.in-Ok.ensures.kept tells in
+    let says = subst (λ l. Says l scan.state) same (opened.said tells) in
+    let gone = c.in-Err-ready.ensures.spent is in
+    spent (content c.args.nv) scan.state j.state says opened.state.0 (content c.in-Err-ready.refused.nv) gone.0 gone.1
+    (subst (λ l. are_commands (records l) ≡ true) (c.in-Ok.ensures.kept tells) (passed.commands tells))
+    (ap content (gone.2 ∙ not_written (content c.args.nv) scan.state j.state says opened.state.0 g.N.Nv.writes scan.nv j.nv gone.0 opened.made) ∙ same)
