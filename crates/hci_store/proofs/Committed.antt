@@ -86,15 +86,22 @@ made-append writes [] then_these old between ok new a b = subst (λ m. AreMade w
 made-append writes (w ∷ first) then_these old between ok new (inl a) b = absurd (true≢false a.0)
 made-append writes (w ∷ first) then_these old between ok new (inr a) b = inr (a.0, a.1, made-append writes first then_these a.0 between ok new a.2 b)
 
+-- writes that were cut, and then none of the others
+pub made-cut : {M : Type 0} (writes : M → ℕ → List ℕ → Bool → M → Type 0) (first then_these : List Write) (old new : M)
+    → AreMade writes first old false new → AreMade writes (first ++ then_these) old false new
+made-cut writes [] then_these old new a = absurd (true≢false (sym a.0))
+made-cut writes (w ∷ first) then_these old new (inl a) = inl a
+made-cut writes (w ∷ first) then_these old new (inr a) = inr (a.0, a.1, made-cut writes first then_these a.0 new a.2)
+
 pub on_ok : {T E : Type 0} (r : Result T E) (P Q : Type 0) → OnOk r P → (P → Q) → OnOk r Q
 on_ok (Ok x) P Q p step = step p
 on_ok (Err e) P Q p step = tt
 
 module _ {M : Type 0} (writes : M → ℕ → List ℕ → Bool → M → Type 0) (s : State) (t : HciTables) where
-  pub room_made : (body : List ℕ) (snapshot : List (List ℕ)) (old : M) (ok : Bool) (new : M) → fits s body ≡ false → snapshot ≡ snapshot_bodies t
-      → AreMade writes (compact_writes s snapshot) old ok new → AreMade writes (room_writes s t body) old ok new
-  room_made body snapshot old ok new full is made =
-      subst (λ b. AreMade writes (cond b [] (compact_writes s (snapshot_bodies t))) old ok new) (sym full) (subst (λ l. AreMade writes (compact_writes s l) old ok new) is made)
+  pub room_made : (body : List ℕ) (old : M) (ok : Bool) (new : M) → fits s body ≡ false
+      → AreMade writes (compact_writes s (snapshot_bodies t)) old ok new → AreMade writes (room_writes s t body) old ok new
+  room_made body old ok new full made =
+      subst (λ b. AreMade writes (cond b [] (compact_writes s (snapshot_bodies t))) old ok new) (sym full) made
 
   pub commit_made : (body first second : List ℕ) (middle : State) (old between : M) (ok : Bool) (new : M) → first ≡ body → second ≡ body → middle ≡ with_room s t first
       → AreMade writes (room_writes s t first) old true between → AreMade writes (append_writes middle second) between ok new
@@ -104,3 +111,9 @@ module _ {M : Type 0} (writes : M → ℕ → List ℕ → Bool → M → Type 0
       (subst (λ l. AreMade writes (room_writes s t l) old true between) a made)
       (subst (λ l. AreMade writes (append_writes (with_room s t body) l) between ok new) b
       (subst (λ m. AreMade writes (append_writes m second) between ok new) (is ∙ ap (with_room s t) a) more))
+
+  pub commit_cut : (body first : List ℕ) (old new : M) → first ≡ body → AreMade writes (room_writes s t first) old false new
+      → AreMade writes (commit_writes s t body) old false new
+  commit_cut body first old new is made =
+      made-cut writes (room_writes s t body) (append_writes (with_room s t body) body) old new
+      (subst (λ l. AreMade writes (room_writes s t l) old false new) is made)

@@ -7,3 +7,4 @@ pub mod ReadAgain
 pub mod SnapshotParts
 pub mod Committed
 pub mod Starting
+pub mod CutShort

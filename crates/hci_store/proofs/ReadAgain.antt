@@ -13,7 +13,7 @@ use Rattle.hci_tables.specs.Tables.{HciTables, apply}
 use Rattle.hci_store.specs.Image.{applied, are_commands}
 
 -- a value that is allowed is short
-short_value : (host param : ℕ) (value : List ℕ) → is_allowed host param value ≡ true → length value ≤ 20
+pub short_value : (host param : ℕ) (value : List ℕ) → is_allowed host param value ≡ true → length value ≤ 20
 short_value host param value is = by_param (param == 1) is
   where
     by_param : (b : Bool) → cond b (length value == 8) (is_whitelist host value) ≡ true → length value ≤ 20

@@ -128,6 +128,7 @@ pub fn snapshot_of(tables: &Tables) -> Snapshot
     requires { IsRecordable tables.now }
     ensures records { result ≡ map body_of (snapshot_of tables.now) }
     ensures tables { AreTables tables.now }
+    ensures room { used result ≤ 2560 }
 {
     let mut snapshot = Snapshot::new();
     push_syncs(&mut snapshot, tables.syncs());

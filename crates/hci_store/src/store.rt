@@ -2,12 +2,12 @@
 ghost use Rattle.std.specs.Prelude.{◌≡◌, ◌≢◌, ◌⊎◌, ◌↔◌, ◌+◌, ◌≤◌, ◌<◌, length, true, false, is_ok, None, Err, Some, IsSome, IsTrue, IfOk, IfErr, OnOk, OnErr, MatchResult};
 ghost use Rattle.swp_base.specs.Outside.{Rose};
 ghost use Rattle.journal_laws.specs.Writes.{AreRead, AreMade};
-ghost use Rattle.journal_laws.specs.Operations.{append_writes, HasRoom, appended};
+ghost use Rattle.journal_laws.specs.Operations.{append_writes, compact_writes, HasRoom, appended, compacted};
 ghost use Rattle.journal_laws.specs.Journal.{journal, records, count_of, count, left};
 ghost use Rattle.hci_tables.specs.Tables.{apply, close};
 ghost use Rattle.hci_tables.specs.Commands.{IsCommand};
 ghost use Rattle.hci_tables.specs.Bodies.{body_of};
-ghost use Rattle.hci_store.specs.Committing.{fits, room_writes, with_room, commit_writes, committed};
+ghost use Rattle.hci_store.specs.Committing.{fits, snapshot_bodies, room_writes, with_room, commit_writes, committed};
 ghost use Rattle.hci_store.specs.Image.{tables_of, are_commands, image_fault};
 ghost use Rattle.nv_journal.specs.Refusals.{IsImageFault};
 
@@ -169,8 +169,7 @@ impl<N: Nv + Drop> Store<N> {
         if self.journal.version() == 2 {
             return Ok(());
         }
-        let snapshot = snapshot_of(&self.tables);
-        self.journal.compact(&snapshot)
+        self.compact()
     }
 
     /// Keeps a command, and does what it says. Where its record doesn't fit into the bank in use, the tables are first written as
@@ -196,6 +195,8 @@ impl<N: Nv + Drop> Store<N> {
         ensures count { N.faults self.old.journal.nv ≤ N.faults self.new.journal.nv }
         ensures rose { result ≡ Err JournalFault.NvFault
             → Rose (N.faults self.old.journal.nv) (N.faults self.new.journal.nv) }
+        ensures cut { IsTrue N.tells → result ≡ Err JournalFault.NvFault → Holds (N.content self.new.journal.nv) self.old.tables
+            ⊎ Holds (N.content self.new.journal.nv) (apply self.old.tables command.now) }
         ensures holds { IsTrue N.tells → OnOk result (Holds (N.content self.new.journal.nv) self.new.tables) }
     {
         let body = write_command(command);
@@ -242,9 +243,40 @@ impl<N: Nv + Drop> Store<N> {
         ensures count { N.faults self.old.journal.nv ≤ N.faults self.new.journal.nv }
         ensures rose { result ≡ Err JournalFault.NvFault
             → Rose (N.faults self.old.journal.nv) (N.faults self.new.journal.nv) }
+        ensures cut { IsTrue N.tells → result ≡ Err JournalFault.NvFault
+            → Holds (N.content self.new.journal.nv) self.old.tables }
     {
         if self.is_fitting(body) {
             return Ok(());
+        }
+        self.compact()
+    }
+
+    /// Writes the tables as a snapshot into the other bank. Where no generation is left, nothing changes.
+    fn compact(&mut self) -> Result<(), JournalFault>
+        requires live { IsTrue self.old.journal.live }
+        requires started { IsSome self.old.journal.state.in_use }
+        ensures spent { (result ≡ Err JournalFault.GenerationsSpent) ↔ (self.old.journal.state.generation ≡ 4294967295) }
+        ensures unchanged { result ≡ Err JournalFault.GenerationsSpent → self.new ≡ self.old }
+        ensures made { result ≢ Err JournalFault.GenerationsSpent → AreMade N.writes
+            (compact_writes self.old.journal.state (snapshot_bodies self.old.tables))
+            self.old.journal.nv (is_ok result) self.new.journal.nv }
+        ensures state { OnOk result (self.new.journal.state
+            ≡ compacted self.old.journal.state (snapshot_bodies self.old.tables)) }
+        ensures small { OnOk result (self.new.journal.state.size ≤ 2560) }
+        ensures tables { self.new.tables ≡ self.old.tables }
+        ensures live { OnOk result (IsTrue self.new.journal.live) }
+        ensures fault { IfErr result (λ f. (f ≡ JournalFault.NvFault) ⊎ (f ≡ JournalFault.GenerationsSpent)) }
+        ensures dead { result ≡ Err JournalFault.NvFault → self.new.journal.live ≡ false }
+        ensures count { N.faults self.old.journal.nv ≤ N.faults self.new.journal.nv }
+        ensures rose { result ≡ Err JournalFault.NvFault
+            → Rose (N.faults self.old.journal.nv) (N.faults self.new.journal.nv) }
+        ensures holds { IsTrue N.tells → OnOk result (Holds (N.content self.new.journal.nv) self.new.tables) }
+        ensures cut { IsTrue N.tells → result ≡ Err JournalFault.NvFault
+            → Holds (N.content self.new.journal.nv) self.old.tables }
+    {
+        if self.journal.generation() == u32::MAX {
+            return Err(JournalFault::GenerationsSpent);
         }
         let snapshot = snapshot_of(&self.tables);
         self.journal.compact(&snapshot)
@@ -273,6 +305,8 @@ impl<N: Nv + Drop> Store<N> {
         ensures fault { IfErr result (λ f. f ≡ JournalFault.NvFault) }
         ensures count { N.faults self.old.journal.nv ≤ N.faults self.new.journal.nv }
         ensures rose { OnErr result (Rose (N.faults self.old.journal.nv) (N.faults self.new.journal.nv)) }
+        ensures cut { IsTrue N.tells → OnErr result (Holds (N.content self.new.journal.nv) self.old.tables
+            ⊎ Holds (N.content self.new.journal.nv) (apply self.old.tables command.now)) }
         ensures holds { IsTrue N.tells → OnOk result (Holds (N.content self.new.journal.nv) self.new.tables) }
     {
         match self.journal.append(body) {

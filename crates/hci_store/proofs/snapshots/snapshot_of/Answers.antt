@@ -102,3 +102,25 @@ returns-clause-records c =
       c.new-snapshot.ensures,
     )
     (snapshot_bodies c.args.tables.now)
+
+pub returns-clause-room : goal.returns-clause-room
+returns-clause-room c =
+    omega (
+      arith,
+      ap used c.new-snapshot.ensures,
+      ap length c.syncs.ensures.syncs,
+      length-rows sync_host 1 8 c.args.tables.now.syncs c.syncs.ensures.sorted,
+      c.push_syncs.ensures.used,
+      ap length c.values.ensures.values,
+      length-rows place_of 2 16 c.registry.result.now c.values.ensures.sorted.sorted,
+      c.push_values.ensures.used,
+      ap length c.rows.ensures.rows,
+      length-rows pid_of 2 112 c.pipes.result.now c.rows.ensures.sorted,
+      c.push_rows.ensures.used,
+      ap length c.rows-2.ensures.rows,
+      length-rows pid_of 2 112 c.pipes-2.result.now c.rows-2.ensures.sorted,
+      c.push_opened.ensures.used,
+      ap length c.statics.ensures.statics,
+      length-rows static_place 0 16 c.args.tables.now.statics c.statics.ensures.sorted,
+      c.push_statics.ensures.used,
+    )
