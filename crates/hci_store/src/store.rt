@@ -190,6 +190,7 @@ impl<N: Nv + Drop> Store<N> {
         ensures tables { OnOk result (self.new.tables ≡ apply self.old.tables command.now) }
         ensures untouched { OnErr result (self.new.tables ≡ self.old.tables) }
         ensures live { OnOk result (IsTrue self.new.journal.live) }
+        ensures again { OnOk result (IsSome self.new.journal.state.in_use × (self.new.journal.state.version ≡ 2)) }
         ensures fault { IfErr result (λ f. (f ≡ JournalFault.NvFault) ⊎ (f ≡ JournalFault.GenerationsSpent)) }
         ensures dead { result ≡ Err JournalFault.NvFault → self.new.journal.live ≡ false }
         ensures count { N.faults self.old.journal.nv ≤ N.faults self.new.journal.nv }
