@@ -1,11 +1,13 @@
 //! Stores whose writes are cut, one after another.
-ghost use Rattle.std.specs.Prelude.{◌≡◌, ◌≤◌, length, IfOk};
+ghost use Rattle.std.specs.Prelude.{◌≡◌, ◌≤◌, length, IfOk, IsSome, IsTrue};
 
 use crate::memories::{IMAGE, TABLES, memory, told};
 use arrayvec::ArrayVec;
 use hci_store::Store;
-use hci_tables::Command;
+use hci_tables::{Command, Tables};
 use nv_journal::StartRefused;
+use pipe_table::PipeRow;
+use registry::{SESSION_IDENTITY, WHITELIST};
 use std::alloc::Global;
 use std::test::Fail;
 use swp_base::{MemNv, NoMemory, Nv};
@@ -104,5 +106,97 @@ fn a_cut_leaves_the_tables_from_before_or_from_after(rt: HostRuntime) -> Result<
             }
         }
     }
+    Ok(())
+}
+
+/// So many different bytes.
+fn value_of(first: u8, many: u8) -> ArrayVec<u8, 20> {
+    let mut value = ArrayVec::new();
+    for place in 0..many {
+        if !value.is_full() {
+            value.push(first ^ place);
+        }
+    }
+    value
+}
+
+/// A command of each kind in turn, over all hosts, pipes and lengths of values.
+fn command_of(turn: u16) -> Command {
+    let [high, low] = turn.wrapping_mul(40_503).to_be_bytes();
+    let host = 1 + high % 7;
+    let pid = 2 + low % 110;
+    match turn % 7 {
+        0 | 1 => Command::Create(PipeRow {
+            pid,
+            creator: host,
+            creator_gate: low,
+            dest: 0,
+            dest_gate: 4,
+            opened: false,
+        }),
+        2 => Command::Delete { pid },
+        3 => Command::SetOpened {
+            host,
+            pid: low % 112,
+            opened: high % 2 == 0,
+        },
+        4 => Command::Set {
+            host,
+            gate: 0,
+            param: SESSION_IDENTITY,
+            value: value_of(low, 8),
+        },
+        5 => Command::Set {
+            host,
+            gate: 0,
+            param: WHITELIST,
+            value: value_of(8, low % 8),
+        },
+        _ => Command::Sync {
+            host,
+            id: u16::from(low),
+        },
+    }
+}
+
+/// Commits so many commands, and does the same to these tables; whether each was kept.
+fn commit_all(store: &mut Store<MemNv>, tables: &mut Tables, many: u16) -> bool
+    requires live { IsTrue store.old.journal.live }
+    requires started { IsSome store.old.journal.state.in_use }
+    requires version { store.old.journal.state.version ≡ 2 }
+{
+    for turn in 0..many {
+        let command = command_of(turn);
+        if !command.is_recordable() || store.commit(&command).is_err() {
+            return false;
+        }
+        tables.apply(&command);
+    }
+    true
+}
+
+#[test]
+fn thousands_of_commands_are_kept_over_compactions(rt: HostRuntime) -> Result<(), Fail> {
+    let alloc = rt.alloc();
+    let nv = full_memory(alloc)?;
+    let Ok(mut store) = Store::start(nv) else {
+        panic!(rt; "the memory is refused");
+    };
+    let mut tables = Tables::new();
+    tables.apply(&Command::Sync {
+        host: 2,
+        id: 0x0FFD,
+    });
+    assert!(rt; commit_all(&mut store, &mut tables, 6_000));
+    assert_eq!(rt; store.kept(), 10_094);
+    assert!(rt; *store.tables() == tables);
+    let nv = store.into_nv();
+    assert_eq!(rt; nv.size(), 65_536);
+    let Ok(store) = Store::start(nv) else {
+        panic!(rt; "the memory is refused");
+    };
+    tables.close();
+    assert!(rt; *store.tables() == tables);
+    assert_eq!(rt; store.kept(), 10_094);
     Ok(())
 }
