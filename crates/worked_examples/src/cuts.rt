@@ -1,5 +1,5 @@
 //! Stores whose writes are cut, one after another.
-ghost use Rattle.std.specs.Prelude.{◌≡◌, ◌≤◌, length, IfOk, IsSome, IsTrue};
+ghost use Rattle.std.specs.Prelude.{◌≡◌, ◌+◌, ◌≤◌, length, IfOk, IsSome, IsTrue};
 
 use crate::memories::{IMAGE, TABLES, memory, told};
 use arrayvec::ArrayVec;
@@ -198,5 +198,57 @@ fn thousands_of_commands_are_kept_over_compactions(rt: HostRuntime) -> Result<()
     tables.close();
     assert!(rt; *store.tables() == tables);
     assert_eq!(rt; store.kept(), 10_094);
+    Ok(())
+}
+
+/// The bytes of a memory from a place on.
+fn bytes_at(nv: &mut MemNv, at: u32) -> [u8; 29]
+    requires { at + 29 ≤ length nv.old.content }
+{
+    let mut bytes = [0; 29];
+    let _ = nv.read(at, &mut bytes);
+    bytes
+}
+
+#[test]
+fn two_commands_have_these_bytes(rt: HostRuntime) -> Result<(), Fail> {
+    let alloc = rt.alloc();
+    // From the gate of the bank on: version, generation, base, snapshot, and then two records and a closed gate.
+    let new = [
+        0x5A, 2, 0, 0, 0, 1, 0, 0, 0, 0, 0, 0, 0x5A, 4, 0, 0, 6, 2, 0x1A, 0x2B, 0x5A, 4, 0, 1, 4,
+        2, 1, 1, 0xFF,
+    ];
+    // Written anew they are a snapshot of the tables with all pipes closed, and count as two.
+    let written_anew = [
+        0x5A, 2, 0, 0, 0, 2, 0, 0, 0, 2, 0, 1, 0x5A, 4, 0, 0, 6, 2, 0x1A, 0x2B, 0xFF, 0xFF, 0xFF,
+        0xFF, 0xFF, 0xFF, 0xFF, 0xFF, 0xFF,
+    ];
+    let Ok(mut store) = Store::start(memory(alloc, &[])?) else {
+        panic!(rt; "the memory is refused");
+    };
+    let commands = [
+        Command::Sync {
+            host: 2,
+            id: 0x1A2B,
+        },
+        Command::SetOpened {
+            host: 2,
+            pid: 1,
+            opened: true,
+        },
+    ];
+    for command in &commands {
+        assert!(rt; command.is_recordable() && store.commit(command).is_ok());
+    }
+    let mut nv = store.into_nv();
+    assert_eq!(rt; nv.size(), 65_536);
+    assert_eq!(rt; bytes_at(&mut nv, 0), new);
+    // The same commands in a bank of version 01.
+    let Ok(store) = Store::start(memory(alloc, &IMAGE)?) else {
+        panic!(rt; "the memory is refused");
+    };
+    let mut nv = store.into_nv();
+    assert_eq!(rt; nv.size(), 65_536);
+    assert_eq!(rt; bytes_at(&mut nv, 32_768), written_anew);
     Ok(())
 }
