@@ -8,3 +8,4 @@ pub mod PassedReads
 pub mod PassedGates
 pub mod Formatting
 pub mod Refusing
+pub mod Standing

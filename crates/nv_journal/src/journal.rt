@@ -1,10 +1,11 @@
 //! A journal over a memory.
-ghost use Rattle.std.specs.Prelude.{◌≡◌, ◌≢◌, ◌+◌, ◌≤◌, ◌<◌, ◌++◌, ◌↔◌, ℕ, ◌⊎◌, [], ◌∷◌, length, Err, Some, true, false, IsTrue, IsSome, is_ok, OnOk, OnErr, IfOk, IfErr, MatchResult};
+ghost use Rattle.std.specs.Prelude.{◌≡◌, ◌≢◌, ◌+◌, ◌-◌, ◌≤◌, ◌<◌, ◌++◌, ◌↔◌, ℕ, ◌⊎◌, [], ◌∷◌, length, Err, Some, true, false, IsTrue, IsSome, is_ok, OnOk, OnErr, IfOk, IfErr, MatchResult, MatchOption, slice_get};
 ghost use Rattle.swp_base.specs.Outside.{Rose};
 ghost use Rattle.journal_laws.specs.Writes.{AreMade, AreRead};
-ghost use Rattle.journal_laws.specs.Journal.{records, count_of, count, left};
+ghost use Rattle.journal_laws.specs.Journal.{records, count_of, count, left, next_place, gate_at};
 ghost use Rattle.journal_laws.specs.Operations.{append_writes, compact_writes, HasRoom, appended, compacted, LeftByCut};
 
+use crate::gates::read_record;
 use crate::records::write_record;
 use crate::{JournalFault, Scan, Snapshot, StartRefused, banks};
 use arrayvec::ArrayVec;
@@ -32,7 +33,7 @@ impl<N: Nv + Drop> Model for Journal<N> {
 }
 
 impl<N: Nv + Drop> Journal<N> {
-    ghost use Rattle.nv_journal.specs.Kept.{Says, IsKept};
+    ghost use Rattle.nv_journal.specs.Kept.{Says, IsKept, IsGateOf, IsGate};
     ghost use Rattle.nv_journal.specs.Refusals.{IsOpened, IsRefused, IsUnformattable};
 
     /// A live journal over a memory of which this is known.
@@ -140,6 +141,46 @@ impl<N: Nv + Drop> Journal<N> {
         self.state = banks::write_snapshot(&mut self.nv, &self.state, snapshot)?;
         self.live = true;
         Ok(())
+    }
+
+    /// The place in the memory of the gate of the first record, or of the one that comes next where there is none.
+    pub fn first(&self) -> u32
+        ensures place { result ≡ next_place self.now.state - self.now.state.size }
+        ensures told { IsTrue self.now.live → IsTrue N.tells → result ≡ gate_at (N.content self.now.nv) 0 }
+    {
+        self.state.next_place() - self.state.size
+    }
+
+    /// The body of the record whose gate stands at this place of the memory, and the place of the next gate; None exactly behind
+    /// the last record. It asks for the place that `first` gives or for that of a next gate. It makes one read, and at the end none.
+    pub fn body(&mut self, at: u32) -> Result<Option<(ArrayVec<u8, 61>, u32)>, JournalFault>
+        requires gate { IsTrue self.old.live → IsTrue N.tells → IsGate (N.content self.old.nv) at }
+        ensures state { self.new.state ≡ self.old.state }
+        ensures live { self.new.live ≡ self.old.live }
+
+        // Only a failing read is a cause of a fault.
+        ensures read { AreRead N.reads 1 self.old.nv (is_ok result) self.new.nv }
+        ensures fault { IfErr result (λ f. f ≡ JournalFault.NvFault) }
+        ensures count { N.faults self.old.nv ≤ N.faults self.new.nv }
+        ensures rose { OnErr result (Rose (N.faults self.old.nv) (N.faults self.new.nv)) }
+
+        // What a memory says that tells its content.
+        ensures kept { IsTrue N.tells → N.content self.new.nv ≡ N.content self.old.nv }
+        ensures body { IsTrue self.old.live → IsTrue N.tells → (k : ℕ) → IsGateOf (N.content self.old.nv) k at
+            → IfOk result (λ o. MatchOption o (k ≡ length (records (N.content self.old.nv)))
+            (λ b. (slice_get (records (N.content self.old.nv)) k ≡ Some b.0.items) × (b.1 ≡ gate_at (N.content self.old.nv) (k + 1)))) }
+        ensures next { IsTrue self.old.live → IsTrue N.tells → IfOk result (λ o. MatchOption o (Unit {0}) (λ b. IsGate (N.content self.new.nv) b.1)) }
+    {
+        let end = self.state.next_place();
+        if at >= end {
+            return Ok(None);
+        }
+        let rest = self.state.left() + (end - at);
+        let version = self.state.version;
+        let Some((body, gap)) = read_record(&mut self.nv, at, version, rest)? else {
+            return Ok(None);
+        };
+        Ok(Some((body, at + gap)))
     }
 
     /// Whether the journal may be used: no write of it failed.
