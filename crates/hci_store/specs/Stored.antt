@@ -1,6 +1,6 @@
 -- What a store keeps, and what its memory says of that.
 use Rattle.std.specs.Prelude.{◌≡◌, ℕ, Bool, true, List, IsTrue}
-use Rattle.journal_laws.specs.Journal.{records}
+use Rattle.journal_laws.specs.Journal.{journal, records, count, IsSound}
 use Rattle.nv_journal.specs.Kept.{Kept}
 use Rattle.hci_tables.specs.Tables.{HciTables, close}
 use Rattle.hci_store.specs.Image.{tables_of, are_commands}
@@ -15,6 +15,12 @@ pub record Stored (N : Type 0) : Type 0 where
 pub record Holds (content : List ℕ) (tables : HciTables) : Type 0 where
   pub commands : are_commands (records content) ≡ true
   pub tables_are : close (tables_of content) ≡ close tables
+
+-- Nothing is wrong with a memory: a start on it would give these tables, all pipes closed, and would count so many commands.
+pub record Keeps (content : List ℕ) (tables : HciTables) (many : ℕ) : Type 0 where
+  pub sound : IsSound (journal content)
+  pub holds : Holds content tables
+  pub count_is : count content ≡ many
 
 pub record IsStored {N : Type 0} (tells : Bool) (content : N → List ℕ) (s : Stored N) : Type 0 where
   pub recordable : IsRecordable s.tables

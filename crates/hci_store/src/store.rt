@@ -1,5 +1,5 @@
 //! A store over a memory.
-ghost use Rattle.std.specs.Prelude.{◌≡◌, ◌≢◌, ◌⊎◌, ◌↔◌, ◌+◌, ◌≤◌, ◌<◌, length, true, false, is_ok, None, Err, Some, IsSome, IsTrue, IfOk, IfErr, OnOk, OnErr, MatchResult};
+ghost use Rattle.std.specs.Prelude.{◌≡◌, ◌≢◌, ◌⊎◌, ◌↔◌, ◌+◌, ◌-◌, ◌^◌, ◌≤◌, ◌<◌, length, min, true, false, is_ok, None, Err, Some, IsSome, IsTrue, IfOk, IfErr, OnOk, OnErr, MatchResult};
 ghost use Rattle.swp_base.specs.Outside.{Rose};
 ghost use Rattle.journal_laws.specs.Writes.{AreRead, AreMade};
 ghost use Rattle.journal_laws.specs.Operations.{append_writes, compact_writes, HasRoom, appended, compacted};
@@ -38,7 +38,7 @@ impl<N: Nv + Drop> Model for Store<N> {
 
 impl<N: Nv + Drop> Store<N> {
     ghost use Rattle.hci_store.specs.Refusals.{IsRefused, IsSpent};
-    ghost use Rattle.hci_store.specs.Stored.{Holds};
+    ghost use Rattle.hci_store.specs.Stored.{Holds, Keeps};
 
     /// The tables of a memory of 65,536 bytes, all pipes closed, without any write: one that has no bank with an open gate reads as
     /// empty tables. A memory whose bank in use has an unknown version, a bad record or one that is no command is refused, and
@@ -173,7 +173,9 @@ impl<N: Nv + Drop> Store<N> {
     }
 
     /// Keeps a command, and does what it says. Where its record doesn't fit into the bank in use, the tables are first written as
-    /// a snapshot into the other bank. It asks for a store that `start` made.
+    /// a snapshot into the other bank. The count is one more, at most 4,294,967,295; only under a head that names more records of a
+    /// snapshot than its base and its records make it may stay 0. Where a write fails, a start on the memory finds the tables, all
+    /// pipes closed, and the count from before, or those from after. It asks for a store that `start` made.
     pub fn commit(&mut self, command: &Command) -> Result<(), JournalFault>
         requires live { IsTrue self.old.journal.live }
         requires started { IsSome self.old.journal.state.in_use }
@@ -188,6 +190,8 @@ impl<N: Nv + Drop> Store<N> {
         ensures state { OnOk result (self.new.journal.state
             ≡ committed self.old.journal.state self.old.tables (body_of command.now)) }
         ensures tables { OnOk result (self.new.tables ≡ apply self.old.tables command.now) }
+        ensures counted { self.old.journal.state.snapshot ≤ self.old.journal.state.base + self.old.journal.state.many
+            → OnOk result (count_of self.new.journal.state ≡ min (count_of self.old.journal.state + 1) (2 ^ 32 - 1)) }
         ensures untouched { OnErr result (self.new.tables ≡ self.old.tables) }
         ensures live { OnOk result (IsTrue self.new.journal.live) }
         ensures again { OnOk result (IsSome self.new.journal.state.in_use × (self.new.journal.state.version ≡ 2)) }
@@ -196,8 +200,10 @@ impl<N: Nv + Drop> Store<N> {
         ensures count { N.faults self.old.journal.nv ≤ N.faults self.new.journal.nv }
         ensures rose { result ≡ Err JournalFault.NvFault
             → Rose (N.faults self.old.journal.nv) (N.faults self.new.journal.nv) }
-        ensures cut { IsTrue N.tells → result ≡ Err JournalFault.NvFault → Holds (N.content self.new.journal.nv) self.old.tables
-            ⊎ Holds (N.content self.new.journal.nv) (apply self.old.tables command.now) }
+        ensures cut { IsTrue N.tells → result ≡ Err JournalFault.NvFault
+            → Keeps (N.content self.new.journal.nv) self.old.tables (count_of self.old.journal.state)
+            ⊎ Keeps (N.content self.new.journal.nv) (apply self.old.tables command.now)
+            (count_of (committed self.old.journal.state self.old.tables (body_of command.now))) }
         ensures holds { IsTrue N.tells → OnOk result (Holds (N.content self.new.journal.nv) self.new.tables) }
     {
         let body = write_command(command);
@@ -245,7 +251,7 @@ impl<N: Nv + Drop> Store<N> {
         ensures rose { result ≡ Err JournalFault.NvFault
             → Rose (N.faults self.old.journal.nv) (N.faults self.new.journal.nv) }
         ensures cut { IsTrue N.tells → result ≡ Err JournalFault.NvFault
-            → Holds (N.content self.new.journal.nv) self.old.tables }
+            → Keeps (N.content self.new.journal.nv) self.old.tables (count_of self.old.journal.state) }
     {
         if self.is_fitting(body) {
             return Ok(());
@@ -274,7 +280,7 @@ impl<N: Nv + Drop> Store<N> {
             → Rose (N.faults self.old.journal.nv) (N.faults self.new.journal.nv) }
         ensures holds { IsTrue N.tells → OnOk result (Holds (N.content self.new.journal.nv) self.new.tables) }
         ensures cut { IsTrue N.tells → result ≡ Err JournalFault.NvFault
-            → Holds (N.content self.new.journal.nv) self.old.tables }
+            → Keeps (N.content self.new.journal.nv) self.old.tables (count_of self.old.journal.state) }
     {
         if self.journal.generation() == u32::MAX {
             return Err(JournalFault::GenerationsSpent);
@@ -306,8 +312,10 @@ impl<N: Nv + Drop> Store<N> {
         ensures fault { IfErr result (λ f. f ≡ JournalFault.NvFault) }
         ensures count { N.faults self.old.journal.nv ≤ N.faults self.new.journal.nv }
         ensures rose { OnErr result (Rose (N.faults self.old.journal.nv) (N.faults self.new.journal.nv)) }
-        ensures cut { IsTrue N.tells → OnErr result (Holds (N.content self.new.journal.nv) self.old.tables
-            ⊎ Holds (N.content self.new.journal.nv) (apply self.old.tables command.now)) }
+        ensures cut { IsTrue N.tells → OnErr result
+            (Keeps (N.content self.new.journal.nv) self.old.tables (count_of self.old.journal.state)
+            ⊎ Keeps (N.content self.new.journal.nv) (apply self.old.tables command.now)
+            (count_of (appended self.old.journal.state body.now))) }
         ensures holds { IsTrue N.tells → OnOk result (Holds (N.content self.new.journal.nv) self.new.tables) }
     {
         match self.journal.append(body) {
