@@ -8,3 +8,4 @@ pub mod SnapshotParts
 pub mod Committed
 pub mod Starting
 pub mod CutShort
+pub mod LeftBehind

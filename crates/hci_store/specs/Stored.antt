@@ -3,7 +3,7 @@ use Rattle.std.specs.Prelude.{◌≡◌, ℕ, Bool, true, List, IsTrue}
 use Rattle.journal_laws.specs.Journal.{journal, records, count, IsSound}
 use Rattle.nv_journal.specs.Kept.{Kept}
 use Rattle.hci_tables.specs.Tables.{HciTables, close}
-use Rattle.hci_store.specs.Image.{tables_of, are_commands}
+use Rattle.hci_store.specs.Image.{tables_of, are_commands, image_fault}
 use Rattle.hci_store.specs.Recordable.{IsRecordable}
 
 -- the journal, and the tables
@@ -21,6 +21,12 @@ pub record Keeps (content : List ℕ) (tables : HciTables) (many : ℕ) : Type 0
   pub sound : IsSound (journal content)
   pub holds : Holds content tables
   pub count_is : count content ≡ many
+
+-- a start on the new memory would find the tables, all pipes closed, the count and the fault that one on the old memory finds
+pub record FindsSame (old new : List ℕ) : Type 0 where
+  pub tables_are : close (tables_of new) ≡ close (tables_of old)
+  pub count_is : count new ≡ count old
+  pub fault_is : image_fault new ≡ image_fault old
 
 pub record IsStored {N : Type 0} (tells : Bool) (content : N → List ℕ) (s : Stored N) : Type 0 where
   pub recordable : IsRecordable s.tables

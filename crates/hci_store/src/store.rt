@@ -38,7 +38,7 @@ impl<N: Nv + Drop> Model for Store<N> {
 
 impl<N: Nv + Drop> Store<N> {
     ghost use Rattle.hci_store.specs.Refusals.{IsRefused, IsSpent};
-    ghost use Rattle.hci_store.specs.Stored.{Holds, Keeps};
+    ghost use Rattle.hci_store.specs.Stored.{Holds, Keeps, FindsSame};
 
     /// The tables of a memory of 65,536 bytes, all pipes closed, without any write: one that has no bank with an open gate reads as
     /// empty tables. A memory whose bank in use has an unknown version, a bad record or one that is no command is refused, and
@@ -76,7 +76,7 @@ impl<N: Nv + Drop> Store<N> {
 
     /// The tables of a memory of 65,536 bytes, all pipes closed, ready to keep commands. One that has no bank with an open gate is
     /// formatted first. One of version 01 is written anew as a snapshot of version 02 in the other bank. A memory that `peek`
-    /// refuses is refused, and so is one where a write fails or no generation is left.
+    /// refuses is refused, and so is one where a write fails or no generation is left: the next start finds what this one found.
     pub fn start(nv: N) -> Result<Self, StartRefused<N>>
         requires { N.capacity nv ≡ 65536 }
         ensures live { IfOk result (λ s. IsTrue s.journal.live) }
@@ -95,6 +95,7 @@ impl<N: Nv + Drop> Store<N> {
         ensures faults { IfOk result (λ s. N.faults nv ≤ N.faults s.journal.nv) }
         ensures rose { IfErr result (λ e. e.fault ≡ JournalFault.NvFault → Rose (N.faults nv) (N.faults e.nv)) }
         ensures image { IsTrue N.tells → IfErr result (λ e. IsImageFault e.fault → image_fault (N.content nv) ≡ Some e.fault) }
+        ensures left { IsTrue N.tells → IfErr result (λ e. FindsSame (N.content nv) (N.content e.nv)) }
     {
         let mut scan = match Scan::open(nv) {
             Ok(scan) => scan,
@@ -137,6 +138,8 @@ impl<N: Nv + Drop> Store<N> {
         ensures fault { IfErr result (λ e. (e.fault ≡ JournalFault.NvFault) ⊎ (e.fault ≡ JournalFault.GenerationsSpent)) }
         ensures rose { IfErr result (λ e. e.fault ≡ JournalFault.NvFault
             → Rose (N.faults self.journal.nv) (N.faults e.nv)) }
+        ensures cut { IsTrue N.tells → IfErr result (λ e. e.fault ≡ JournalFault.NvFault
+            → Keeps (N.content e.nv) self.tables (count_of self.journal.state)) }
     {
         let mut store = self;
         match store.migrate() {
@@ -165,6 +168,8 @@ impl<N: Nv + Drop> Store<N> {
         ensures count { N.faults self.old.journal.nv ≤ N.faults self.new.journal.nv }
         ensures rose { result ≡ Err JournalFault.NvFault
             → Rose (N.faults self.old.journal.nv) (N.faults self.new.journal.nv) }
+        ensures cut { IsTrue N.tells → result ≡ Err JournalFault.NvFault
+            → Keeps (N.content self.new.journal.nv) self.old.tables (count_of self.old.journal.state) }
     {
         if self.journal.version() == 2 {
             return Ok(());

@@ -1,7 +1,9 @@
 use Rattle.std.proofs.Common.{◌≡◌, true, sym, ap, ◌∙◌, subst, fold, arith, Err}
-use Rattle.journal_laws.specs.Journal.{records}
+use Rattle.journal_laws.specs.Journal.{records, count_of}
 use Rattle.hci_tables.specs.Tables.{no_tables, close}
-use Rattle.hci_store.specs.Image.{applied, are_commands}
+use Rattle.hci_store.specs.Image.{applied, tables_of, are_commands}
+use Rattle.hci_store.specs.Stored.{FindsSame}
+use Rattle.hci_store.proofs.LeftBehind.{same_content, keeps_same, format_same, refused_same}
 use Rattle.hci_store.proofs.Closing.{close-close}
 use Rattle.hci_store.proofs.Recorded.{recordable-close}
 use Rattle.hci_store.proofs.Refusing.{heads_refused, records_refused, rose_of, image_of, memory_is_no_image, start_is_no_image}
@@ -95,3 +97,40 @@ returns-in-Err-ready-clause-spent g c tells = λ is.
     spent (content c.args.nv) scan.state j.state says opened.state.0 (content c.in-Err-ready.refused.nv) gone.0 gone.1
     (subst (λ l. are_commands (records l) ≡ true) (c.in-Ok.ensures.kept tells) (passed.commands tells))
     (ap content (gone.2 ∙ not_written (content c.args.nv) scan.state j.state says opened.state.0 g.N.Nv.writes scan.nv j.nv gone.0 opened.made) ∙ same)
+
+pub returns-in-Err-clause-left : goal.returns-in-Err-clause-left
+returns-in-Err-clause-left g c tells = same_content (g.N.Nv.content c.args.nv) (g.N.Nv.content c.in-Err.refused.nv) (c.in-Err.ensures.refused.1 tells)
+
+pub returns-in-Err-apply_all-clause-left : goal.returns-in-Err-apply_all-clause-left
+returns-in-Err-apply_all-clause-left g c tells =
+    rw c.into_nv.ensures
+    (same_content (g.N.Nv.content c.args.nv) (g.N.Nv.content c.apply_all.new.scan.nv) (c.in-Err-apply_all.ensures.kept tells ∙ c.in-Ok.ensures.kept tells))
+
+pub returns-in-Err-start-clause-left : goal.returns-in-Err-start-clause-left
+returns-in-Err-start-clause-left g c tells =
+    let content = g.N.Nv.content in
+    let opened = c.in-Ok.ensures in
+    let passed = c.in-Ok-apply_all.ensures in
+    let failed = c.in-Err-start.ensures in
+    let scan = c.apply_all.new.scan in
+    let same = passed.kept tells ∙ opened.kept tells in
+    subst (λ l. FindsSame l (content c.in-Err-start.refused.nv)) same
+    (format_same (content scan.nv) (content c.in-Err-start.refused.nv) scan.state (failed.said tells) failed.none.1
+    (ap (λ l. are_commands (records l)) (passed.kept tells) ∙ passed.commands tells) (failed.cut tells))
+
+pub returns-in-Err-ready-clause-left : goal.returns-in-Err-ready-clause-left
+returns-in-Err-ready-clause-left g c tells =
+    let content = g.N.Nv.content in
+    let opened = c.in-Ok.ensures in
+    let passed = c.in-Ok-apply_all.ensures in
+    let scan = c.apply_all.new.scan in
+    let made = c.in-Ok-start.ensures in
+    let e = c.in-Err-ready.refused in
+    let same = passed.kept tells ∙ opened.kept tells in
+    let says = subst (λ l. Says l scan.state) same (made.said tells) in
+    let tables = ap close c.close.ensures ∙ close-close c.apply_all.new.tables ∙ ap close (passed.tables tells ∙ ap tables_of (opened.kept tells)) in
+    refused_same (content c.args.nv) (content e.nv) e.fault c.in-Err-ready.ensures.fault
+    (λ memory. keeps_same (content c.args.nv) (content e.nv) scan.state c.close.new.self (count_of c.in-Ok-start.journal.state) says
+    (ap (λ l. are_commands (records l)) (sym (opened.kept tells)) ∙ passed.commands tells) tables
+    (counted (content c.args.nv) scan.state c.in-Ok-start.journal.state says made.state.0) (c.in-Err-ready.ensures.cut tells memory))
+    (λ spent_is. (returns-in-Err-ready-clause-spent g c tells spent_is).kept)
