@@ -1,5 +1,5 @@
 -- What a failed write of a commit leaves.
-use Rattle.std.proofs.Common.{◌≡◌, ◌⊎◌, inl, inr, ℕ, ◌+◌, ◌-◌, ◌<◌, ◌≤◌, ◌^◌, min, ◌==◌, ◌&&◌, slice_index, Bool, true, false, cond, List, [], ◌∷◌, length, fold, map, IsSome, Result, Ok, Err, OnErr, sym, refl, ap, ap₂, ◌∙◌, subst, arith}
+use Rattle.std.proofs.Common.{◌≡◌, ◌⊎◌, inl, inr, ℕ, ◌+◌, ◌<◌, ◌≤◌, ◌^◌, ◌==◌, ◌&&◌, slice_index, Bool, true, false, cond, List, [], ◌∷◌, length, fold, map, IsSome, Result, Ok, Err, OnErr, sym, refl, ap, ap₂, ◌∙◌, subst, arith}
 use Rattle.std.specs.List.{AllByRecursion}
 use Rattle.journal_laws.specs.declared.state.State.{State}
 use Rattle.journal_laws.specs.Writes.{Write, after, last_place}
@@ -60,7 +60,8 @@ holds_still content new t holds same = record {
 }
 
 -- a memory that says what another one says keeps what that keeps
-pub keeps_still : (content new : List ℕ) (s : State) (t : HciTables) (many : ℕ) → Says content s → Holds content t → count_of s ≡ many → journal new ≡ journal content
+pub keeps_still : (content new : List ℕ) (s : State) (t : HciTables) (many : ℕ) → Says content s
+    → Holds content t → count_of s ≡ many → journal new ≡ journal content
     → Keeps new t many
 keeps_still content new s t many says holds is same = record {
   sound = subst IsSound (sym same) says.sound;
@@ -83,7 +84,8 @@ module _ (content left : List ℕ) (s : State) (t : HciTables) (says : Says cont
           (holds_more content (after (append_writes s body) content) body t c holds (appending.records_after content body s says room) is may) refl more)
 
   -- a snapshot that was cut
-  pub compact_left : (bodies : List (List ℕ)) → IsSome s.in_use → s.generation + 1 < 2 ^ 32 → IsRecordable t → AreTables t → bodies ≡ map body_of (snapshot_of t)
+  pub compact_left : (bodies : List (List ℕ)) → IsSome s.in_use → s.generation + 1 < 2 ^ 32 → IsRecordable t → AreTables t
+      → bodies ≡ map body_of (snapshot_of t)
       → used bodies ≤ 2560 → LeftByCut (compact_writes s bodies) content left → Keeps left t (count_of s)
   compact_left bodies in_use last may are is room cut = either (journal_left (compact_writes s bodies) content left cut)
     where
@@ -99,7 +101,8 @@ module _ (content left : List ℕ) (s : State) (t : HciTables) (says : Says cont
       either (inl same) = keeps_still content left s t (count_of s) says holds refl same
       either (inr whole) =
           keeps_still (after (compact_writes s bodies) content) left (compacted s bodies) t (count_of s) (compacting.says_after content bodies s says can)
-          (holds_snapshot (after (compact_writes s bodies) content) t may are (compacting.records_after content bodies s says can ∙ is)) (compact_count s bodies) whole
+          (holds_snapshot (after (compact_writes s bodies) content) t may are (compacting.records_after content bodies s says can ∙ is))
+          (compact_count s bodies) whole
 
 -- room for a record changes no count
 pub room_count : (s : State) (t : HciTables) (body : List ℕ) → count_of (with_room s t body) ≡ count_of s

@@ -1,5 +1,5 @@
 -- What a start that was refused leaves.
-use Rattle.std.proofs.Common.{◌≡◌, ◌⊎◌, inl, inr, ℕ, Bool, true, false, List, Some, None, IsTrue, Result, Err, sym, refl, ap, ◌∙◌}
+use Rattle.std.proofs.Common.{◌≡◌, ◌⊎◌, inl, inr, ℕ, true, List, None, sym, refl, ap, ◌∙◌}
 use Rattle.std.specs.Option.{option_map_or}
 use Rattle.journal_laws.specs.declared.state.State.{State}
 use Rattle.journal_laws.specs.Writes.{after}
@@ -20,7 +20,8 @@ pub same_content : (old new : List ℕ) → new ≡ old → FindsSame old new
 same_content old new same = record { tables_are = ap (λ l. close (tables_of l)) same; count_is = ap count same; fault_is = ap image_fault same }
 
 -- nothing was wrong before, and what is left keeps the same
-pub keeps_same : (old new : List ℕ) (s : State) (t : HciTables) (many : ℕ) → Says old s → are_commands (records old) ≡ true → close t ≡ close (tables_of old) → many ≡ count old
+pub keeps_same : (old new : List ℕ) (s : State) (t : HciTables) (many : ℕ) → Says old s
+    → are_commands (records old) ≡ true → close t ≡ close (tables_of old) → many ≡ count old
     → Keeps new t many → FindsSame old new
 keeps_same old new s t many says all tables counts keeps = record {
   tables_are = keeps.holds.tables_are ∙ tables;
@@ -29,7 +30,8 @@ keeps_same old new s t many says all tables counts keeps = record {
 }
 
 -- a format that was cut
-pub format_same : (old new : List ℕ) (s : State) → Says old s → s.in_use ≡ None → are_commands (records old) ≡ true → LeftByCut format_writes old new → FindsSame old new
+pub format_same : (old new : List ℕ) (s : State) → Says old s → s.in_use ≡ None
+    → are_commands (records old) ≡ true → LeftByCut format_writes old new → FindsSame old new
 format_same old new s says none all cut = either (journal_left format_writes old new cut)
   where
     holds : Holds old (tables_of old)
@@ -46,7 +48,8 @@ format_same old new s says none all cut = either (journal_left format_writes old
         (holds_still old (after format_writes old) (tables_of old) holds (no_records_then old s says none)) (counted old s formatted says is) done)
 
 -- by the fault of a start: the memory's, or no generation left
-pub refused_same : (old new : List ℕ) (f : JournalFault) → (f ≡ NvFault) ⊎ (f ≡ GenerationsSpent) → (f ≡ NvFault → FindsSame old new) → (f ≡ GenerationsSpent → new ≡ old)
+pub refused_same : (old new : List ℕ) (f : JournalFault)
+    → (f ≡ NvFault) ⊎ (f ≡ GenerationsSpent) → (f ≡ NvFault → FindsSame old new) → (f ≡ GenerationsSpent → new ≡ old)
     → FindsSame old new
 refused_same old new f (inl memory) cut kept = cut memory
 refused_same old new f (inr spent) cut kept = same_content old new (kept spent)

@@ -1,5 +1,5 @@
 -- Where the records of a memory stand.
-use Rattle.std.proofs.Common.{◌≡◌, ◌⊎◌, inl, inr, ℕ, zero, suc, ◌+◌, ◌-◌, ◌<◌, ◌≤◌, ◌==◌, ◌||◌, ◌&&◌, min, Bool, true, false, nat_le, nat_lt, List, [], ◌∷◌, ◌++◌, length, take, drop, slice_index, slice_range, slice_get, Option, Some, None, IsTrue, sym, refl, ap, ap₂, ◌∙◌, subst, arith, length-take, length-drop, take-take, suc-add, add-zero, cond}
+use Rattle.std.proofs.Common.{◌≡◌, ◌⊎◌, inl, inr, ℕ, zero, suc, ◌+◌, ◌-◌, ◌<◌, ◌≤◌, ◌==◌, ◌||◌, ◌&&◌, min, Bool, true, false, nat_le, nat_lt, List, [], ◌∷◌, length, take, drop, slice_index, slice_range, slice_get, Option, Some, None, sym, refl, ap, ap₂, ◌∙◌, subst, arith, length-take, length-drop, take-take, suc-add, add-zero, cond}
 use Rattle.std.specs.Option.{option_map_or}
 use Rattle.std.specs.Int.{w16, from_be_bytes}
 use Rattle.std.proofs.lemmas.List.{drop-drop}
@@ -7,7 +7,7 @@ use Rattle.std.proofs.lemmas.Bool.{cases_Bool, cases_lt, and_parts, leb-true, lt
 use Rattle.journal_laws.specs.declared.banks.Side.{Side}
 use Rattle.journal_laws.specs.declared.state.State.{State}
 use Rattle.journal_laws.specs.Banks.{place, bank, is_open, head, current}
-use Rattle.journal_laws.specs.Records.{index_len, gap, body, is_good, Found, nothing, bad, behind, found_from, size_in}
+use Rattle.journal_laws.specs.Records.{index_len, gap, body, is_good, Found, behind, found_from, size_in}
 use Rattle.journal_laws.specs.Journal.{Journal, unformatted, found_in, journal_at, journal, records, gate_at, next_place, left}
 use Rattle.journal_laws.proofs.Places.{length-bank}
 use Rattle.journal_laws.proofs.Reading.{window, first, is_good_parts, found_good, bad_found, found_closed}
@@ -24,7 +24,8 @@ pub record IsThere (version position : ℕ) (bytes : List ℕ) (bodies : List (L
   pub next : size_in version (take k bodies) + gap version (drop (size_in version (take k bodies)) bytes) ≡ size_in version (take (k + 1) bodies)
 
 -- the body of a good record has its length
-body_size : (version position : ℕ) (bytes : List ℕ) → is_good version position bytes ≡ true → 2 + index_len version + length (body version bytes) ≡ gap version bytes
+body_size : (version position : ℕ) (bytes : List ℕ) → is_good version position bytes ≡ true
+    → 2 + index_len version + length (body version bytes) ≡ gap version bytes
 body_size version position bytes good =
     omega (
       arith,
@@ -73,7 +74,8 @@ module _ (version : ℕ) where
   unfolding found_from
   each_there zero position bytes k below = absurd (omega (arith, below))
   each_there (suc most) position bytes k below =
-      by_gate (each_there most (position + 1) (drop (gap version bytes) bytes)) (cases_Bool (is_open (slice_index bytes 0))) (cases_Bool (is_good version position bytes)) below
+      by_gate (each_there most (position + 1) (drop (gap version bytes) bytes)) (cases_Bool (is_open (slice_index bytes 0)))
+      (cases_Bool (is_good version position bytes)) below
     where
       later : Found
       later = found_from version most (position + 1) (drop (gap version bytes) bytes)
@@ -99,11 +101,13 @@ module _ (version : ℕ) where
           absurd (omega (arith, subst (λ (f : Found). k < length f.bodies) (found_closed version (suc most) position bytes closed) within))
 
   -- they take the bytes that are counted
-  pub found_size : (most position : ℕ) (bytes : List ℕ) → (found_from version most position bytes).size ≡ size_in version (found_from version most position bytes).bodies
+  pub found_size : (most position : ℕ) (bytes : List ℕ)
+      → (found_from version most position bytes).size ≡ size_in version (found_from version most position bytes).bodies
   unfolding found_from
   found_size zero position bytes = refl
   found_size (suc most) position bytes =
-      by_gate (found_size most (position + 1) (drop (gap version bytes) bytes)) (cases_Bool (is_open (slice_index bytes 0))) (cases_Bool (is_good version position bytes))
+      by_gate (found_size most (position + 1) (drop (gap version bytes) bytes)) (cases_Bool (is_open (slice_index bytes 0)))
+      (cases_Bool (is_good version position bytes))
     where
       later : Found
       later = found_from version most (position + 1) (drop (gap version bytes) bytes)
@@ -175,6 +179,18 @@ module _ (c : List ℕ) (state : State) (says : Says c state) where
       either : (k < length (records c)) ⊎ (length (records c) ≤ k) → k ≡ length (records c)
       either (inl below) = absurd (omega (arith, before_end k below, gate.place, behind))
       either (inr last) = omega (arith, gate.within, last)
+
+  pub first_gate : (at : ℕ) → at ≡ next_place state - state.size → (k : ℕ) × IsGateOf c k at
+  first_gate at is = (
+    0,
+    record {
+      within = omega arith;
+      place = is ∙ regroup (option_map_or place state.in_use 0) ∙ ap (λ o. option_map_or place o 0 + 12 + 0) in_use_is;
+    },
+  )
+    where
+      regroup : (n : ℕ) → n + (12 + state.size) - state.size ≡ n + 12 + 0
+      regroup n = omega arith
 
   -- a record, and its first bytes
   module _ (k at n rest : ℕ) (read : List ℕ) (gate : IsGateOf c k at) (before : at < next_place state) (inside : state.size < 32756)
@@ -251,7 +267,8 @@ module _ (c : List ℕ) (state : State) (says : Says c state) where
     within : gap state.version bytes ≤ n
     within =
         let two = and_parts (nat_le 1 len && nat_le len 61) (nat_lt (gap state.version bytes) (length bytes)) fits in
-        omega (arith, n_is, long_bytes, ltb-true (gap state.version bytes) (length bytes) two.1, leb-true len 61 (and_parts (nat_le 1 len) (nat_le len 61) two.0).1, low_index state.version)
+        let short = leb-true len 61 (and_parts (nat_le 1 len) (nat_le len 61) two.0).1 in
+        omega (arith, n_is, long_bytes, ltb-true (gap state.version bytes) (length bytes) two.1, short, low_index state.version)
 
     len_is : slice_index read 1 ≡ len
     len_is = first read bytes n 1 same (omega (arith, within))

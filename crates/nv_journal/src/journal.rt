@@ -1,5 +1,5 @@
 //! A journal over a memory.
-ghost use Rattle.std.specs.Prelude.{◌≡◌, ◌≢◌, ◌+◌, ◌-◌, ◌≤◌, ◌<◌, ◌++◌, ◌↔◌, ℕ, ◌⊎◌, [], ◌∷◌, length, Err, Some, true, false, IsTrue, IsSome, is_ok, OnOk, OnErr, IfOk, IfErr, MatchResult, MatchOption, slice_get};
+ghost use Rattle.std.specs.Prelude.{◌≡◌, ◌≢◌, ◌+◌, ◌-◌, ◌≤◌, ◌<◌, ◌++◌, ◌↔◌, ℕ, ◌⊎◌, [], ◌∷◌, length, Err, Some, true, false, IsTrue, IsSome, is_ok, OnOk, OnErr, IfOk, IfErr, MatchResult, MatchOption, IfSome, slice_get};
 ghost use Rattle.swp_base.specs.Outside.{Rose};
 ghost use Rattle.journal_laws.specs.Writes.{AreMade, AreRead};
 ghost use Rattle.journal_laws.specs.Journal.{records, count_of, count, left, next_place, gate_at};
@@ -147,6 +147,7 @@ impl<N: Nv + Drop> Journal<N> {
     pub fn first(&self) -> u32
         ensures place { result ≡ next_place self.now.state - self.now.state.size }
         ensures told { IsTrue self.now.live → IsTrue N.tells → result ≡ gate_at (N.content self.now.nv) 0 }
+        ensures gate { IsTrue self.now.live → IsTrue N.tells → IsGate (N.content self.now.nv) result }
     {
         self.state.next_place() - self.state.size
     }
@@ -168,8 +169,10 @@ impl<N: Nv + Drop> Journal<N> {
         ensures kept { IsTrue N.tells → N.content self.new.nv ≡ N.content self.old.nv }
         ensures body { IsTrue self.old.live → IsTrue N.tells → (k : ℕ) → IsGateOf (N.content self.old.nv) k at
             → IfOk result (λ o. MatchOption o (k ≡ length (records (N.content self.old.nv)))
-            (λ b. (slice_get (records (N.content self.old.nv)) k ≡ Some b.0.items) × (b.1 ≡ gate_at (N.content self.old.nv) (k + 1)))) }
-        ensures next { IsTrue self.old.live → IsTrue N.tells → IfOk result (λ o. MatchOption o (Unit {0}) (λ b. IsGate (N.content self.new.nv) b.1)) }
+            (λ b. (slice_get (records (N.content self.old.nv)) k ≡ Some b.0.items)
+            × (b.1 ≡ gate_at (N.content self.old.nv) (k + 1)))) }
+        ensures next { IsTrue self.old.live → IsTrue N.tells
+            → IfOk result (λ o. IfSome o (λ b. IsGate (N.content self.new.nv) b.1)) }
     {
         let end = self.state.next_place();
         if at >= end {

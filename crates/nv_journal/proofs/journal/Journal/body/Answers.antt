@@ -1,4 +1,5 @@
-use Rattle.std.proofs.Common.{◌+◌, ◌-◌, ◌∙◌, arith, min, true, false, Some, slice_range, refl, sym, ap, subst}
+use Rattle.std.proofs.Common.{◌≡◌, ◌<◌, ◌+◌, ◌-◌, ◌∙◌, arith, min, true, false, Some, slice_range, refl, sym, ap, subst}
+use Rattle.journal_laws.specs.Journal.{next_place, left}
 use Rattle.nv_journal.specs.Kept.{IsGate}
 use Rattle.journal_laws.proofs.ReadFirst.{no_reads, one_more_read}
 use Rattle.nv_journal.proofs.Compacting.{not_ok}
@@ -38,27 +39,31 @@ returns-in_default-clause-body g c =
     let k = c.self.inside in
     let rest = c.left.result + (c.next_place-end.result - c.args.at) in
     let content = g.N.Nv.content k.nv in
+    let before : c.args.at < next_place k.state = omega (arith, c.next_place-end.ensures.place, c.if-at-end.false) in
+    let rest_is : rest ≡ left k.state + (next_place k.state - c.args.at) = omega (arith, c.left.ensures, c.next_place-end.ensures.place) in
     let none = rw c.in_default.is at c.in_ok-body.ensures.record in
     rw (← c.self.view_is)
     (λ live tells i gate. absurd (has_room content k.state (c.self.invariant.says live tells) i c.args.at (min 65 rest)
-    rest (slice_range content c.args.at (c.args.at + min 65 rest)) gate (omega (arith, c.next_place-end.ensures.place, c.if-at-end.false)) c.self.invariant.inside
-    (omega (arith, c.left.ensures, c.next_place-end.ensures.place)) refl refl (none tells)))
+    rest (slice_range content c.args.at (c.args.at + min 65 rest)) gate before c.self.invariant.inside
+    rest_is refl refl (none tells)))
 
 pub returns-clause-body : goal.returns-clause-body
 returns-clause-body g c =
     let k = c.self.inside in
     let rest = c.left.result + (c.next_place-end.result - c.args.at) in
     let content = g.N.Nv.content k.nv in
+    let before : c.args.at < next_place k.state = omega (arith, c.next_place-end.ensures.place, c.if-at-end.false) in
+    let rest_is : rest ≡ left k.state + (next_place k.state - c.args.at) = omega (arith, c.left.ensures, c.next_place-end.ensures.place) in
     let read = slice_range content c.args.at (c.args.at + min 65 rest) in
     let some = rw c.in-Some.is at c.in_ok-body.ensures.record in
     rw (← c.self.view_is)
     (λ live tells i gate. (
       body_there content k.state (c.self.invariant.says live tells) i c.args.at (min 65 rest) rest read gate
-          (omega (arith, c.next_place-end.ensures.place, c.if-at-end.false)) c.self.invariant.inside (omega (arith, c.left.ensures, c.next_place-end.ensures.place)) refl refl
+          before c.self.invariant.inside rest_is refl refl
           ∙ ap Some (sym (some tells).0),
       ap (λ n. c.args.at + n) (some tells).1
           ∙ next_there content k.state (c.self.invariant.says live tells) i c.args.at (min 65 rest) rest read gate
-          (omega (arith, c.next_place-end.ensures.place, c.if-at-end.false)) c.self.invariant.inside (omega (arith, c.left.ensures, c.next_place-end.ensures.place)) refl refl,
+          before c.self.invariant.inside rest_is refl refl,
     ))
 
 pub returns-clause-next : goal.returns-clause-next
@@ -66,6 +71,8 @@ returns-clause-next g c =
     let k = c.self.inside in
     let rest = c.left.result + (c.next_place-end.result - c.args.at) in
     let content = g.N.Nv.content k.nv in
+    let before : c.args.at < next_place k.state = omega (arith, c.next_place-end.ensures.place, c.if-at-end.false) in
+    let rest_is : rest ≡ left k.state + (next_place k.state - c.args.at) = omega (arith, c.left.ensures, c.next_place-end.ensures.place) in
     let read = slice_range content c.args.at (c.args.at + min 65 rest) in
     let some = rw c.in-Some.is at c.in_ok-body.ensures.record in
     rw (← c.self.view_is)
@@ -74,4 +81,4 @@ returns-clause-next g c =
     subst (λ l. IsGate l (c.args.at + c.in-Some.gap)) (sym (c.in_ok-body.ensures.kept tells))
     (subst (λ n. IsGate content (c.args.at + n)) (sym (some tells).1)
     (next_is_gate content k.state (c.self.invariant.says live tells) gate.0 c.args.at (min 65 rest) rest read gate.1
-    (omega (arith, c.next_place-end.ensures.place, c.if-at-end.false)) c.self.invariant.inside (omega (arith, c.left.ensures, c.next_place-end.ensures.place)) refl refl)))
+    before c.self.invariant.inside rest_is refl refl)))
