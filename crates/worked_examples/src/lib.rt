@@ -16,6 +16,8 @@ mod decodings;
 #[cfg(test)]
 mod frames;
 #[cfg(test)]
+mod journals;
+#[cfg(test)]
 mod library;
 #[cfg(test)]
 mod line_states;

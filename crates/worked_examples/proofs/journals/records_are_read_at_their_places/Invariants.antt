@@ -1,0 +1,9 @@
+use Rattle.std.proofs.Common.{IsTrue}
+use Rattle.nv_journal.specs.Kept.{IsGate}
+use Rattle.worked_examples.proofs.journals.records_are_read_at_their_places.Given as goal
+
+abbrev pub invariant-loop-place : goal.invariant-loop-place
+invariant-loop-place g l = record {
+  live : IsTrue l.journal.live;
+  gate : IsGate l.journal.nv.content l.at;
+}
