@@ -44,7 +44,7 @@ opens_kept old new owner (x ∷ xs) own each =
           ∙ sym (sum_by-cons (λ (y : Open). blocks_for (length (chain_bytes old y.chain))) x xs)));
     }
 
-opens_passed : (old new : PoolState) (owner : ℕ) (P : Open → Type 0) (xs : List Open) → AllByRecursion (λ x. IsOwn old owner x × P x) xs
+pub opens_passed : (old new : PoolState) (owner : ℕ) (P : Open → Type 0) (xs : List Open) → AllByRecursion (λ x. IsOwn old owner x × P x) xs
     → ((x : Open) → IsOwn old owner x × P x → IsLive new x.chain × (chain_bytes new x.chain ≡ chain_bytes old x.chain)) → OpensKept old new owner xs
 opens_passed old new owner P [] own each = record { own = tt; messages = refl; blocks = refl }
 opens_passed old new owner P (x ∷ xs) own each =

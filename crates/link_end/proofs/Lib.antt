@@ -6,3 +6,4 @@ pub mod StepLemmas
 pub mod NodeLemmas
 pub mod MakeLemmas
 pub mod FormLemmas
+pub mod AccountLemmas

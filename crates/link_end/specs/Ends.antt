@@ -1,5 +1,5 @@
 -- What is kept of one end of a link, with its pool, and for which states of its machine it stands.
-use Rattle.std.specs.Prelude.{◌≡◌, ◌≢◌, ℕ, ◌+◌, ◌≤◌, ◌⊎◌, min, true, false, List, [], length, map, drop, None}
+use Rattle.std.specs.Prelude.{◌≡◌, ◌≢◌, ℕ, ◌+◌, ◌≤◌, ◌⊎◌, min, true, false, List, [], length, map, drop, Option, None, Some, IfSome}
 use Rattle.block_pool.specs.declared.chain.Chain.{Chain}
 use Rattle.block_pool.specs.Slots.{blocks_for}
 use Rattle.block_pool.specs.Owners.{owner_at}
@@ -95,3 +95,37 @@ pub record MayPass (pool : PoolState) (k : End) (chain : Chain) : Type 0 where
   pub apart : IsApartFrom (chains_in k.inbox) chain
   pub counted : chain.owner ≡ k.inbox.joiner.owner
       → held_blocks pool (chains_in k.inbox) + blocks_for (length (chain_bytes pool chain)) ≤ used_of pool k.inbox.joiner.owner
+
+-- ---- several ends in one pool
+
+-- two ends use four owners
+pub record HaveOwners (one other : End) : Type 0 where
+  pub senders : one.outbox.owner ≢ other.outbox.owner
+  pub receivers : one.inbox.joiner.owner ≢ other.inbox.joiner.owner
+  pub to : one.outbox.owner ≢ other.inbox.joiner.owner
+  pub from : one.inbox.joiner.owner ≢ other.outbox.owner
+
+-- a chain that was fetched from an end: it lies in the blocks for what comes there, apart from what the end still keeps
+pub record IsFetched (pool : PoolState) (k : End) (chain : Chain) : Type 0 where
+  pub live : IsLive pool chain
+  pub owned : chain.owner ≡ k.inbox.joiner.owner
+  pub apart : IsApartFrom (chains_in k.inbox) chain
+
+-- how many blocks a chain has, where there is one
+abbrev pub blocks_of : PoolState → Option Chain → ℕ
+blocks_of pool None = 0
+blocks_of pool (Some chain) = blocks_for (length (chain_bytes pool chain))
+
+-- Each block for what comes is in a message that the end keeps, or in the one that was fetched and not given away since, where
+-- one was.
+pub record Accounts (k : End) (pool : PoolState) (chain : Option Chain) : Type 0 where
+  pub fetched : IfSome chain (IsFetched pool k)
+  pub used : used_of pool k.inbox.joiner.owner ≡ held_blocks pool (chains_in k.inbox) + blocks_of pool chain
+
+-- An end at rest in its pool: it stands for a state of the machine, the messages that came were fetched, and each block for what
+-- comes is accounted for.
+pub record Rests (k : End) (pool : PoolState) : Type 0 where
+  pub state : Machine
+  pub stands : StandsFor k pool state
+  pub fetched : k.inbox.got ≡ None
+  pub accounts : Accounts k pool None

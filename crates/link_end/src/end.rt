@@ -32,7 +32,7 @@ impl End {
     ghost use Rattle.std.specs.Prelude.{◌≡◌, ◌≢◌, ℕ, ◌+◌, ◌-◌, ◌<◌, ◌≤◌, [], map, length, true, false, None, Some, IfOk, IfSome, OnOk, OnErr, is_some, option_map, if◌then◌else◌};
     ghost use Rattle.shdlc_core.specs.Offering.{StandsBefore};
     ghost use Rattle.shdlc_core.specs.Machine.{stopped, ticked, tick_answer};
-    ghost use Rattle.block_pool.specs.Pool.{PoolState, chain_bytes};
+    ghost use Rattle.block_pool.specs.Pool.{PoolState, used_of, chain_bytes};
     ghost use Rattle.hcp_packet.specs.Packets.{IsSendable};
     ghost use Rattle.link_machine.specs.Machine.{LinkEnd as Machine, moved, put_down, if_up, with_act, activated, heard, report, after_input, next_frame, oldest, new_link_end, in_front as due_in_front};
     ghost use Rattle.link_machine.specs.Machine.LinkInput.{Take, TakeUnknown, Tick, Reset, Start, Stop, FromNode, Fetch};
@@ -42,7 +42,7 @@ impl End {
     ghost use Rattle.link_messages.specs.Outgoing.{LiesIn as OutboxLiesIn, LeavesOthersBut, waiting_in};
     ghost use Rattle.link_messages.specs.Incoming.{LiesIn as InboxLiesIn};
     ghost use Rattle.link_end.specs.Dues.{in_front};
-    ghost use Rattle.link_end.specs.Ends.{IsFree, MayPass, Halfway, StandsFor, LeavesOthers, MayTake, controls_in};
+    ghost use Rattle.link_end.specs.Ends.{IsFree, MayPass, Halfway, StandsFor, LeavesOthers, MayTake, Accounts, controls_in};
     ghost use Rattle.link_end.specs.Inputs.{heard_bit};
     ghost use Rattle.link_end.specs.Steps.{Forgets};
 
@@ -51,7 +51,9 @@ impl End {
 
     /// An end of this role, which is Up where it is bare, with an owner of 128 blocks for what it sends and one of 512 for what comes.
     pub fn make(alloc: Global, role: Role, out_owner: u8, in_owner: u8) -> Result<End, AllocError>
-        ensures { IfOk result (λ k. (pool : PoolState) → IsFree pool out_owner in_owner → StandsFor k pool (new_link_end (new_role role))) }
+        ensures stands { IfOk result (λ k. (pool : PoolState) → IsFree pool out_owner in_owner → StandsFor k pool (new_link_end (new_role role))) }
+        ensures owners { IfOk result (λ k. (k.outbox.owner ≡ out_owner) × (k.inbox.joiner.owner ≡ in_owner)) }
+        ensures accounts { IfOk result (λ k. (pool : PoolState) → used_of pool in_owner ≡ 0 → Accounts k pool None) }
     {
         let outbox = Outbox::make(alloc, out_owner)?;
         Ok(End {
@@ -454,6 +456,9 @@ impl End {
         ensures answer { (pool : PoolState) (m : Machine) → StandsFor self.old pool m
             → option_map (λ x. (x.0, chain_bytes pool x.1)) result ≡ oldest m.got }
         ensures fetched { self.new.inbox.got ≡ None }
+        ensures rest { self.new ≡ record self.old { inbox = record self.old.inbox { got = None } } }
+        ensures accounts { (pool : PoolState) (m : Machine) → StandsFor self.old pool m → Accounts self.old pool None
+            → Accounts self.new pool (option_map (λ x. x.1) result) }
     {
         self.inbox.fetch()
     }

@@ -5,6 +5,7 @@
 mod activation;
 mod acts;
 mod end;
+pub mod laws;
 mod link;
 mod parts;
 mod report;

@@ -30,7 +30,7 @@ impl LinkEnd {
     ghost use Rattle.byte_link.specs.Kept.{StandsFor as ByteLinkStandsFor};
     ghost use Rattle.byte_link.specs.Reading.{given};
     ghost use Rattle.swp_line.specs.Periods.{period_at};
-    ghost use Rattle.block_pool.specs.Pool.{PoolState, chain_bytes};
+    ghost use Rattle.block_pool.specs.Pool.{PoolState, used_of, chain_bytes};
     ghost use Rattle.hcp_packet.specs.Packets.{IsSendable};
     ghost use Rattle.link_messages.specs.Outgoing.{LeavesOthersBut};
     ghost use Rattle.swp_act.specs.declared.ActEvent.TheVariants.{Start as ActStart};
@@ -41,7 +41,7 @@ impl LinkEnd {
     ghost use Rattle.link_end.specs.Roles.{role_of, new_role, MayStart};
     ghost use Rattle.link_end.specs.Reports.{told, give_told, pass_told, reset_told};
     ghost use Rattle.link_end.specs.Inputs.{fed_input, unit_input, after_some, told_some, after_period, told_period, heard_after};
-    ghost use Rattle.link_end.specs.Ends.{IsFree, MayPass, StandsFor, LeavesOthers, MayTake, controls_in};
+    ghost use Rattle.link_end.specs.Ends.{IsFree, MayPass, StandsFor, LeavesOthers, MayTake, Accounts, controls_in};
 
     /// An end of this role, with an owner of 128 blocks for what it sends and one of 512 for what comes. Its window is 4, and it is Up
     /// where it is bare.
@@ -49,6 +49,8 @@ impl LinkEnd {
         ensures stands { IfOk result (λ k. (pool : PoolState) → IsFree pool out_owner in_owner → StandsFor k.link pool (new_link_end (new_role role))) }
         ensures signal { IfOk result (λ k. DeframerStandsFor k.deframer []) }
         ensures units { IfOk result (λ k. ByteLinkStandsFor k.byte_link []) }
+        ensures owners { IfOk result (λ k. (k.link.outbox.owner ≡ out_owner) × (k.link.inbox.joiner.owner ≡ in_owner)) }
+        ensures accounts { IfOk result (λ k. (pool : PoolState) → used_of pool in_owner ≡ 0 → Accounts k.link pool None) }
     {
         let link = End::make(alloc, role, out_owner, in_owner)?;
         Ok(LinkEnd {
@@ -72,6 +74,7 @@ impl LinkEnd {
         ensures answer { (m : Machine) → StandsFor self.old.link pool.old m → result ≡ give_told m (pipe, message.now) }
         ensures refused { OnErr result ((pool.new ≡ pool.old) × (self.new.link ≡ self.old.link)) }
         ensures elsewhere { LeavesOthers pool.old pool.new self.old.link self.new.link }
+        ensures inputs { (self.new.deframer ≡ self.old.deframer) × (self.new.byte_link ≡ self.old.byte_link) }
     {
         self.link.send(pool, pipe, message)
     }
@@ -98,6 +101,7 @@ impl LinkEnd {
         ensures elsewhere { OnOk result (LeavesOthersBut pool.old pool.new self.old.link.outbox.owner chain
             self.old.link.outbox.queue.items self.new.link.outbox.queue.items) }
         ensures inbox { self.new.link.inbox ≡ self.old.link.inbox }
+        ensures inputs { (self.new.deframer ≡ self.old.deframer) × (self.new.byte_link ≡ self.old.byte_link) }
     {
         self.link.send_chain(pool, pipe, chain)
     }
@@ -162,6 +166,7 @@ impl LinkEnd {
         ensures seen { (m : Machine) (seen : List Symbol) → StandsFor self.old.link pool.old m → DeframerStandsFor self.old.deframer seen
             → DeframerStandsFor self.new.deframer (heard_after m.role seen (period_at byte)) }
         ensures elsewhere { LeavesOthers pool.old pool.new self.old.link self.new.link }
+        ensures inputs { self.new.byte_link ≡ self.old.byte_link }
     {
         match period_of(byte) {
             Some(Period::Bits { s1, s2 }) => {
@@ -194,6 +199,7 @@ impl LinkEnd {
             → result ≡ told_some m (unit_input (given (byte ∷ seen))) }
         ensures seen { (seen : List ℕ) → ByteLinkStandsFor self.old.byte_link seen → ByteLinkStandsFor self.new.byte_link (byte ∷ seen) }
         ensures elsewhere { LeavesOthers pool.old pool.new self.old.link self.new.link }
+        ensures inputs { self.new.deframer ≡ self.old.deframer }
     {
         match self.byte_link.feed(byte) {
             Unit::Nothing => LinkReport::nothing(),
@@ -210,6 +216,7 @@ impl LinkEnd {
         ensures stands { (m : Machine) → StandsFor self.old.link pool.old m → StandsFor self.new.link pool.new (after_input m Tick) }
         ensures answer { (m : Machine) → StandsFor self.old.link pool.old m → result ≡ told (report m Tick) }
         ensures elsewhere { LeavesOthers pool.old pool.new self.old.link self.new.link }
+        ensures inputs { (self.new.deframer ≡ self.old.deframer) × (self.new.byte_link ≡ self.old.byte_link) }
     {
         self.link.tick(pool)
     }
@@ -227,6 +234,7 @@ impl LinkEnd {
         ensures stands { (m : Machine) → StandsFor self.old.link pool.old m → StandsFor self.new.link pool.new (after_input m (Reset window)) }
         ensures answer { (m : Machine) → StandsFor self.old.link pool.old m → result ≡ reset_told m window }
         ensures elsewhere { LeavesOthers pool.old pool.new self.old.link self.new.link }
+        ensures inputs { (self.new.deframer ≡ self.old.deframer) × (self.new.byte_link ≡ self.old.byte_link) }
     {
         self.link.reset(pool, window)
     }
@@ -240,6 +248,7 @@ impl LinkEnd {
         ensures stands { (m : Machine) → StandsFor self.old.link pool.old m → StandsFor self.new.link pool.new (after_input m (Start value)) }
         ensures answer { (m : Machine) → StandsFor self.old.link pool.old m → result ≡ told (report m (Start value)) }
         ensures elsewhere { LeavesOthers pool.old pool.new self.old.link self.new.link }
+        ensures inputs { (self.new.deframer ≡ self.old.deframer) × (self.new.byte_link ≡ self.old.byte_link) }
     {
         self.link.activate(pool, value)
     }
@@ -251,6 +260,7 @@ impl LinkEnd {
         ensures stands { (m : Machine) → StandsFor self.old.link pool.old m → StandsFor self.new.link pool.new (after_input m Stop) }
         ensures answer { (m : Machine) → StandsFor self.old.link pool.old m → result ≡ told (report m Stop) }
         ensures elsewhere { LeavesOthers pool.old pool.new self.old.link self.new.link }
+        ensures inputs { (self.new.deframer ≡ self.old.deframer) × (self.new.byte_link ≡ self.old.byte_link) }
     {
         self.link.deactivate(pool)
     }
@@ -262,6 +272,7 @@ impl LinkEnd {
         ensures stands { (m : Machine) → StandsFor self.old.link pool.now m → StandsFor self.new.link pool.now (after_input m Fetch) }
         ensures answer { (m : Machine) → StandsFor self.old.link pool.now m → result ≡ option_map bytes_of (next_frame m) }
         ensures boxes { (self.new.link.outbox ≡ self.old.link.outbox) × (self.new.link.inbox ≡ self.old.link.inbox) }
+        ensures inputs { (self.new.deframer ≡ self.old.deframer) × (self.new.byte_link ≡ self.old.byte_link) }
     {
         match self.link.next_out() {
             Some(control) => Some(write_lpdu(&control)),
@@ -276,6 +287,10 @@ impl LinkEnd {
         ensures answer { (pool : PoolState) (m : Machine) → StandsFor self.old.link pool m
             → option_map (λ x. (x.0, chain_bytes pool x.1)) result ≡ oldest m.got }
         ensures fetched { self.new.link.inbox.got ≡ None }
+        ensures rest { self.new.link ≡ record self.old.link { inbox = record self.old.link.inbox { got = None } } }
+        ensures inputs { (self.new.deframer ≡ self.old.deframer) × (self.new.byte_link ≡ self.old.byte_link) }
+        ensures accounts { (pool : PoolState) (m : Machine) → StandsFor self.old.link pool m → Accounts self.old.link pool None
+            → Accounts self.new.link pool (option_map (λ x. x.1) result) }
     {
         self.link.next_message()
     }
@@ -286,6 +301,7 @@ impl LinkEnd {
         ensures stands { (pool : PoolState) (m : Machine) → StandsFor self.old.link pool m
             → StandsFor self.new.link pool (after_input m (FromNode (Hold held))) }
         ensures boxes { (self.new.link.outbox ≡ self.old.link.outbox) × (self.new.link.inbox ≡ self.old.link.inbox) }
+        ensures inputs { (self.new.deframer ≡ self.old.deframer) × (self.new.byte_link ≡ self.old.byte_link) }
     {
         self.link.hold(held);
     }

@@ -1,0 +1,512 @@
+-- What calls on a pool and on other ends leave of an end: what it stands for, and its account of the blocks for what comes.
+use Rattle.std.proofs.Common.{◌≡◌, ◌≢◌, ℕ, ◌+◌, ◌-◌, ◌≤◌, ◌⊎◌, inl, inr, false, List, [], ◌∷◌, ◌++◌, length, drop, refl, sym, ap, ◌∙◌, subst, arith}
+use Rattle.std.specs.Prelude.{Option, Some, None, option_map, IfSome, IfNone, zero, suc, ◌<◌, slice_get}
+use Rattle.std.specs.List.{AllByRecursion}
+use Rattle.std.proofs.lemmas.List.{append-nil}
+use Rattle.block_pool.specs.declared.chain.Chain.{Chain}
+use Rattle.block_pool.specs.declared.owners.Owner.{Owner}
+use Rattle.block_pool.specs.Slots.{blocks_for}
+use Rattle.block_pool.specs.Owners.{owner_at, with_used, new_owners}
+use Rattle.block_pool.specs.Pool.{PoolState, IsNew, quota_of, used_of, IsLive, IsApart, chain_bytes, Gives, KeepsOthers}
+use Rattle.block_pool.specs.Holdings.{IsOwn as IsChainOf, LiesApart}
+use Rattle.block_pool.proofs.HoldingLemmas.{apart_by_owner, apart_turned, all_mapped, all_joined, kept_each, lies_apart_by_owner, used-with_used, quota-with_used, other-with_used, length-with_used}
+use Rattle.hcp_packet.specs.Packets.{AreSendable, fragments_of}
+use Rattle.hcp_chain.specs.declared.joiner.Open.{Open}
+use Rattle.hcp_chain.specs.Holding.{IsOwn, AreApart, Holds, held_blocks, messages_in as messages_of, IsApartFrom}
+use Rattle.hcp_chain.proofs.HoldingLemmas.{all_front, all_map, apart_front}
+use Rattle.link_machine.specs.Machine.{LinkEnd as Machine}
+use Rattle.link_messages.specs.declared.outbox.Queued.{Queued}
+use Rattle.link_messages.specs.declared.inbox.Got.{Got}
+use Rattle.link_messages.specs.declared.inbox.Inbox.{Inbox}
+use Rattle.link_messages.specs.Outgoing.{chain_in, messages_in, waiting_in, LeavesOthersBut}
+use Rattle.link_messages.specs.Incoming.{got_chains, chains_in}
+use Rattle.link_messages.proofs.OutgoingLemmas.{messages_same}
+use Rattle.link_messages.proofs.IncomingLemmas.{held_both}
+use Rattle.link_end.specs.Ends.{StandsFor, LeavesOthers, MayTake, MayPass, HaveOwners, IsFetched, Accounts, Rests, IsFree, blocks_of}
+use Rattle.link_end.specs.declared.«end».End.{End}
+use Rattle.link_end.proofs.BoxLemmas.{OpensKept, opens_passed}
+
+-- a chain has its bytes still
+abbrev Stays : PoolState → PoolState → Chain → Type 0
+Stays old new chain = IsLive new chain × (chain_bytes new chain ≡ chain_bytes old chain)
+
+-- the chains of an end, and what is counted of its owners, as far as it stands on them
+record Untouched (old new : PoolState) (k : End) : Type 0 where
+  queued : AllByRecursion (λ q. Stays old new q.chain) k.outbox.queue.items
+  opens : AllByRecursion (λ x. Stays old new x.chain) (chains_in k.inbox)
+  sender : owner_at new.owners k.outbox.owner ≡ owner_at old.owners k.outbox.owner
+  quota : quota_of new k.inbox.joiner.owner ≡ quota_of old k.inbox.joiner.owner
+  used : held_blocks old (chains_in k.inbox) ≤ used_of new k.inbox.joiner.owner
+  lengths : length new.owners ≡ length old.owners
+
+all_parted : (X : Type 0) (P : X → Type 0) (xs ys : List X) → AllByRecursion P (xs ++ ys) → AllByRecursion P xs × AllByRecursion P ys
+all_parted X P [] ys all = (tt, all)
+all_parted X P (x ∷ xs) ys all = let rest = all_parted X P xs ys all.1 in ((all.0, rest.0), rest.1)
+
+-- chains of an end that have their bytes still
+opens_stay : (old new : PoolState) (owner : ℕ) (xs : List Open) → AllByRecursion (IsOwn old owner) xs
+    → AllByRecursion (λ x. Stays old new x.chain) xs → OpensKept old new owner xs
+opens_stay old new owner xs own stay =
+    opens_passed old new owner (λ x. Stays old new x.chain) xs (all_joined Open (IsOwn old owner) (λ x. Stays old new x.chain) xs own stay) (λ x p. p.1)
+
+opens_of : (old new : PoolState) (k : End) (m : Machine) → StandsFor k old m → Untouched old new k → OpensKept old new k.inbox.joiner.owner (chains_in k.inbox)
+opens_of old new k m h u = opens_stay old new k.inbox.joiner.owner (chains_in k.inbox) h.half.receives.lies.holds.own u.opens
+
+-- an end whose chains and owners are untouched stands as before
+untouched_stands : (old new : PoolState) (k : End) (m : Machine) → StandsFor k old m → Untouched old new k → StandsFor k new m
+untouched_stands old new k m h u =
+    let half = h.half in
+    let box = k.inbox in
+    let o = k.outbox.owner in
+    let i = box.joiner.owner in
+    let kept = half.sends.lies.kept in
+    let lies = half.receives.lies in
+    let len = u.lengths in
+    let sent = kept_each Queued chain_in old new o k.outbox.queue.items kept.own u.queued in
+    let same : messages_in new k.outbox ≡ messages_in old k.outbox = messages_same old new k.outbox.queue.items sent.bytes in
+    let waits : waiting_in new k.outbox ≡ waiting_in old k.outbox = ap (λ l. drop k.outbox.cut (fragments_of l)) same in
+    let out_used = ap (λ (x : Owner). x.used) u.sender in
+    let out_aside = ap (λ (x : Owner). x.aside) u.sender in
+    let all = opens_of old new k m h u in
+    let parts = all_parted Open (λ x. Stays old new x.chain) box.joiner.open.items (got_chains box.got) u.opens in
+    let owns = all_parted Open (IsOwn old i) box.joiner.open.items (got_chains box.got) lies.holds.own in
+    let some = opens_stay old new i box.joiner.open.items owns.0 parts.0 in
+    let got = opens_stay old new i (got_chains box.got) owns.1 parts.1 in
+    record {
+      half = record {
+        role = half.role;
+        link = record {
+          offered = half.link.offered;
+          out = half.link.out ∙ ap (λ w. half.link.offered ++ w) (sym waits);
+          kept = half.link.kept;
+          narrow = half.link.narrow;
+          session = half.link.session;
+        };
+        acts = half.acts;
+        sends = record {
+          lies = record {
+            kept = record {
+              own = sent.own;
+              apart = kept.apart;
+              sendable = subst AreSendable (sym same) kept.sendable;
+              capacity = kept.capacity;
+              has_quota = omega (arith, len, kept.has_quota);
+              quota = ap (λ (x : Owner). x.quota) u.sender ∙ kept.quota;
+              used = omega (arith, out_used, out_aside, sent.blocks, kept.used);
+              within = omega (arith, out_used, kept.within);
+            };
+            acked = half.sends.lies.acked;
+            cut = subst (λ l. k.outbox.cut ≤ length (fragments_of l)) (sym same) half.sends.lies.cut;
+          };
+          all = half.sends.all;
+          out = half.sends.out;
+          messages = same ∙ half.sends.messages;
+          acked = half.sends.acked;
+        };
+        receives = record {
+          lies = record {
+            holds = record { own = all.own; apart = lies.holds.apart };
+            has_quota = omega (arith, len, lies.has_quota);
+            quota = u.quota ∙ lies.quota;
+            used = omega (arith, all.blocks, u.used);
+          };
+          under = some.messages ∙ half.receives.under;
+          sound = half.receives.sound;
+        };
+        got = got.messages ∙ half.got;
+        aside = out_aside ∙ half.aside;
+        passed_over = half.passed_over;
+        differ = half.differ;
+      };
+      full = elim h.full [ inl none ↦ inl (waits ∙ none) | inr four ↦ inr four ];
+    }
+
+-- a chain of neither owner lies apart from all chains of an end
+far_from : (pool : PoolState) (k : End) (m : Machine) (c : Chain) → StandsFor k pool m → IsLive pool c → c.owner ≢ k.outbox.owner
+    → c.owner ≢ k.inbox.joiner.owner
+    → LiesApart Queued chain_in k.outbox.queue.items c × IsApartFrom (chains_in k.inbox) c
+far_from pool k m c h live out into = (
+  lies_apart_by_owner Queued chain_in pool k.outbox.owner k.outbox.queue.items c h.half.sends.lies.kept.own live out,
+  all_mapped Open (IsOwn pool k.inbox.joiner.owner) (λ x. IsApart c x.chain) (chains_in k.inbox)
+      (λ x o. apart_by_owner pool c x.chain live o.live (λ e. into (e ∙ o.owned))) h.half.receives.lies.holds.own,
+)
+
+-- ---- an end with its account, where nothing of its owners changed
+
+-- the chains of two owners have their bytes still, and their owners count as before
+record OwnersStay (old new : PoolState) (one two : ℕ) : Type 0 where
+  first : (c : Chain) → IsLive old c → c.owner ≡ one → Stays old new c
+  second : (c : Chain) → IsLive old c → c.owner ≡ two → Stays old new c
+  counts : owner_at new.owners one ≡ owner_at old.owners one
+  uses : owner_at new.owners two ≡ owner_at old.owners two
+  lengths : length new.owners ≡ length old.owners
+
+untouched : (old new : PoolState) (k : End) (m : Machine) → StandsFor k old m → OwnersStay old new k.outbox.owner k.inbox.joiner.owner → Untouched old new k
+untouched old new k m h s =
+    let lies = h.half.receives.lies in
+    let used = ap (λ (x : Owner). x.used) s.uses in
+    record {
+      queued = all_mapped Queued (λ q. IsChainOf old k.outbox.owner q.chain) (λ q. Stays old new q.chain) k.outbox.queue.items
+          (λ q o. s.first q.chain o.live o.owned) h.half.sends.lies.kept.own;
+      opens = all_mapped Open (IsOwn old k.inbox.joiner.owner) (λ x. Stays old new x.chain) (chains_in k.inbox)
+          (λ x o. s.second x.chain o.live o.owned) lies.holds.own;
+      sender = s.counts;
+      quota = ap (λ (x : Owner). x.quota) s.uses;
+      used = omega (arith, used, lies.used);
+      lengths = s.lengths;
+    }
+
+fetched_stays : (old new : PoolState) (k : End) (chain : Option Chain)
+    → ((c : Chain) → IsLive old c → c.owner ≡ k.inbox.joiner.owner → Stays old new c) → IfSome chain (IsFetched old k)
+    → IfSome chain (IsFetched new k) × (blocks_of new chain ≡ blocks_of old chain)
+fetched_stays old new k None stay f = (tt, refl)
+fetched_stays old new k (Some c) stay f =
+    let s = stay c f.live f.owned in
+    (record { live = s.0; owned = f.owned; apart = f.apart }, ap (λ bs. blocks_for (length bs)) s.1)
+
+-- an end whose owners count as before, and their chains have their bytes still
+both_stay : (old new : PoolState) (k : End) (m : Machine) (chain : Option Chain) → StandsFor k old m → Accounts k old chain
+    → OwnersStay old new k.outbox.owner k.inbox.joiner.owner → StandsFor k new m × Accounts k new chain
+both_stay old new k m chain h a s =
+    let u = untouched old new k m h s in
+    let f = fetched_stays old new k chain s.second a.fetched in
+    let used = ap (λ (x : Owner). x.used) s.uses in
+    let all = opens_of old new k m h u in (
+      untouched_stands old new k m h u,
+      record { fetched = f.0; used = omega (arith, used, all.blocks, f.1, a.used) },
+    )
+
+-- ---- calls on another end
+
+pub kept_beside_call : (old new : PoolState) (before after other : End) (m n : Machine) (theirs : Option Chain) → StandsFor before old m
+    → LeavesOthers old new before after → HaveOwners before other
+    → StandsFor other old n → Accounts other old theirs → StandsFor other new n × Accounts other new theirs
+kept_beside_call old new before after other m n theirs h l differ g a =
+    let o = other.outbox.owner in
+    let i = other.inbox.joiner.owner in
+    both_stay old new other n theirs g a (record {
+      first = λ c live is.
+          let away = far_from old before m c h live (λ e. differ.senders (sym e ∙ is)) (λ e. differ.from (sym e ∙ is)) in
+          let s = l.others c live away.0 away.1 in
+          (s.0, s.1);
+      second = λ c live is.
+          let away = far_from old before m c h live (λ e. differ.to (sym e ∙ is)) (λ e. differ.receivers (sym e ∙ is)) in
+          let s = l.others c live away.0 away.1 in
+          (s.0, s.1);
+      counts = l.counts o (λ e. differ.senders (sym e)) (λ e. differ.from (sym e));
+      uses = l.counts i (λ e. differ.to (sym e)) (λ e. differ.receivers (sym e));
+      lengths = l.lengths;
+    })
+
+-- ---- calls on the end itself
+
+pub account_kept : (old new : PoolState) (before after : End) (m : Machine) (chain : Option Chain) → StandsFor before old m
+    → LeavesOthers old new before after → Accounts before old chain → Accounts after new chain
+account_kept old new before after m None h l a =
+    let P : ℕ → Type 0 = λ o. used_of new o ≡ held_blocks new (chains_in after.inbox) + 0 in
+    record { fetched = tt; used = subst P (sym l.receiver) (omega (arith, l.received, a.used)) }
+account_kept old new before after m (Some c) h l a =
+    let f = a.fetched in
+    let queue = lies_apart_by_owner Queued chain_in old before.outbox.owner before.outbox.queue.items c h.half.sends.lies.kept.own f.live
+    (λ e. h.half.differ (sym e ∙ f.owned)) in
+    let s = l.others c f.live queue f.apart in
+    let blocks = ap (λ bs. blocks_for (length bs)) s.1 in
+    let P : ℕ → Type 0 = λ o. used_of new o ≡ held_blocks new (chains_in after.inbox) + blocks_for (length (chain_bytes new c)) in
+    record {
+      fetched = record { live = s.0; owned = f.owned ∙ sym l.receiver; apart = s.3 };
+      used = subst P (sym l.receiver) (omega (arith, l.received, a.used, blocks));
+    }
+
+-- ---- calls that leave what comes as it is
+
+fetched_moved : (pool : PoolState) (k after : End) (chain : Option Chain) → after.inbox ≡ k.inbox → IfSome chain (IsFetched pool k)
+    → IfSome chain (IsFetched pool after)
+fetched_moved pool k after None inbox f = tt
+fetched_moved pool k after (Some c) inbox f = record {
+  live = f.live;
+  owned = f.owned ∙ ap (λ (b : Inbox). b.joiner.owner) (sym inbox);
+  apart = subst (λ (b : Inbox). IsApartFrom (chains_in b) c) (sym inbox) f.apart;
+}
+
+pub account_moved : (pool : PoolState) (before after : End) (chain : Option Chain) → after.inbox ≡ before.inbox → Accounts before pool chain
+    → Accounts after pool chain
+account_moved pool before after chain inbox a =
+    let P : Inbox → Type 0 = λ b. used_of pool b.joiner.owner ≡ held_blocks pool (chains_in b) + blocks_of pool chain in
+    record { fetched = fetched_moved pool before after chain inbox a.fetched; used = subst P (sym inbox) a.used }
+
+-- ---- a frame may be taken
+
+none_got : (pool : PoolState) (g : Option Got) → messages_of pool (got_chains g) ≡ [] → g ≡ None
+none_got pool None e = refl
+none_got pool (Some g) e = cc
+
+fetched_all : (pool : PoolState) (k : End) (m : Machine) → StandsFor k pool m → m.got ≡ [] → k.inbox.got ≡ None
+fetched_all pool k m h none = none_got pool k.inbox.got (h.half.got ∙ none)
+
+pub rests_may_take : (k : End) (pool : PoolState) → Rests k pool → MayTake k pool
+rests_may_take k pool r =
+    let got = r.fetched in
+    let chains : chains_in k.inbox ≡ k.inbox.joiner.open.items = ap (λ g. k.inbox.joiner.open.items ++ got_chains g) got
+    ∙ append-nil k.inbox.joiner.open.items in
+    let held = ap (held_blocks pool) chains in
+    record { fetched = got; free = inl (omega (arith, r.accounts.used, held)) }
+
+pub rests : (k : End) (pool : PoolState) (m : Machine) → StandsFor k pool m → Accounts k pool None → m.got ≡ [] → Rests k pool
+rests k pool m h a none = record { state = m; stands = h; fetched = fetched_all pool k m h none; accounts = a }
+
+pub may_take_held : (k : End) (pool : PoolState) (m : Machine) → StandsFor k pool m → m.shdlc.ready ≡ false → m.got ≡ [] → MayTake k pool
+may_take_held k pool m h held none = record { fetched = fetched_all pool k m h none; free = inr (h.half.link.kept.ready ∙ held) }
+
+-- ---- a message is fetched
+
+pub none_counted : (pool : PoolState) (k : End) (owner : ℕ) → chains_in k.inbox ≡ [] → k.inbox.joiner.owner ≡ owner → used_of pool owner ≡ 0
+    → Accounts k pool None
+none_counted pool k owner none is unused =
+    let held = ap (held_blocks pool) none in
+    let used = ap (used_of pool) is in
+    record { fetched = tt; used = omega (arith, held, used, unused) }
+
+pub fetched_counted : (pool : PoolState) (k : End) (inbox : Inbox) (m : Machine) (x : Option (ℕ × Chain)) → StandsFor k pool m
+    → Accounts k pool None → inbox.joiner ≡ k.inbox.joiner → inbox.got ≡ None
+    → IfSome x (λ y. k.inbox.got ≡ Some (record { pipe = y.0; chain = y.1 })) → IfNone x (k.inbox.got ≡ None)
+    → Accounts (record k { inbox = inbox }) pool (option_map (λ y. y.1) x)
+fetched_counted pool k inbox m None h a joiner none some same =
+    let P : Inbox → Type 0 = λ b. Accounts (record k { inbox = b }) pool None in
+    subst P (ap (λ j. record { joiner = j; got = k.inbox.got }) (sym joiner) ∙ ap (λ g. record { joiner = inbox.joiner; got = g }) (same ∙ sym none)) a
+fetched_counted pool k inbox m (Some y) h a joiner none some same =
+    let P : Inbox → Type 0 = λ b. Accounts (record k { inbox = b }) pool (Some y.1) in
+    let xs = k.inbox.joiner.open.items in
+    let o = k.inbox.joiner.owner in
+    let one : Open = record { pipe = y.0; chain = y.1 } in
+    let chains : chains_in k.inbox ≡ xs ++ one ∷ [] = ap (λ g. xs ++ got_chains g) some in
+    let holds = subst (Holds pool o) chains h.half.receives.lies.holds in
+    let own = all_front (IsOwn pool o) xs one holds.own in
+    let apart = all_map (λ x. AreApart x one) (λ x. IsApart y.1 x.chain) xs (λ x d first p q. d.chains first q p) (apart_front xs one holds.apart).1 in
+    let sum = held_both pool xs (one ∷ []) in
+    let held = ap (held_blocks pool) chains in
+    let front = ap (held_blocks pool) (append-nil xs) in
+    subst P (ap (λ j. record { joiner = j; got = None }) (sym joiner) ∙ ap (λ g. record { joiner = inbox.joiner; got = g }) (sym none)) (record {
+      fetched = record { live = own.1.live; owned = own.1.owned; apart = subst (λ l. IsApartFrom l y.1) (sym (append-nil xs)) apart };
+      used = omega (arith, a.used, held, sum, front);
+    })
+
+-- ---- a message that was fetched goes away
+
+-- what lies apart from its chain has its bytes still
+goes_own : (old new : PoolState) (k : End) (m : Machine) (chain : Chain) → StandsFor k old m → Accounts k old (Some chain)
+    → ((c : Chain) → IsLive old c → IsApart c chain → (c.owner ≡ k.outbox.owner) ⊎ (c.owner ≡ k.inbox.joiner.owner) → Stays old new c)
+    → owner_at new.owners k.outbox.owner ≡ owner_at old.owners k.outbox.owner
+    → quota_of new k.inbox.joiner.owner ≡ quota_of old k.inbox.joiner.owner
+    → used_of new k.inbox.joiner.owner ≡ used_of old k.inbox.joiner.owner - blocks_for (length (chain_bytes old chain))
+    → length new.owners ≡ length old.owners → StandsFor k new m × Accounts k new None
+goes_own old new k m chain h a stay counts quota used lengths =
+    let o = k.outbox.owner in
+    let i = k.inbox.joiner.owner in
+    let f = a.fetched in
+    let lies = h.half.receives.lies in
+    let opens = all_joined Open (IsOwn old i) (λ x. IsApart chain x.chain) (chains_in k.inbox) lies.holds.own f.apart in
+    let u : Untouched old new k = record {
+      queued = all_mapped Queued (λ q. IsChainOf old o q.chain) (λ q. Stays old new q.chain) k.outbox.queue.items
+          (λ q own. stay q.chain own.live (apart_by_owner old q.chain chain own.live f.live (λ e. h.half.differ (sym own.owned ∙ (e
+          ∙ f.owned)))) (inl own.owned)) h.half.sends.lies.kept.own;
+      opens = all_mapped Open (λ x. IsOwn old i x × IsApart chain x.chain) (λ x. Stays old new x.chain) (chains_in k.inbox)
+          (λ x own. stay x.chain own.0.live (apart_turned chain x.chain own.1) (inr own.0.owned)) opens;
+      sender = counts;
+      quota = quota;
+      used = omega (arith, used, a.used);
+      lengths = lengths;
+    } in
+    let all = opens_of old new k m h u in (
+      untouched_stands old new k m h u,
+      record { fetched = tt; used = omega (arith, used, a.used, all.blocks) },
+    )
+
+pub given_own : (old new : PoolState) (k : End) (m : Machine) (chain : Chain) → StandsFor k old m → Accounts k old (Some chain)
+    → Gives old new chain → KeepsOthers old new chain chain
+    → StandsFor k new m × Accounts k new None
+given_own old new k m chain h a gives keeps =
+    let i = k.inbox.joiner.owner in
+    let n = blocks_for (length (chain_bytes old chain)) in
+    let has = h.half.receives.lies.has_quota in
+    let owners : new.owners ≡ with_used old.owners i (used_of old i - n) = gives.owners ∙ ap
+    (λ q. with_used old.owners q (used_of old q - n)) a.fetched.owned in
+    let stay : (c : Chain) → IsLive old c → IsApart c chain → Stays old new c = λ c live apart. (let s = keeps c live apart in (s.1, s.2)) in
+    goes_own old new k m chain h a (λ c live apart e. stay c live apart)
+    (ap (λ os. owner_at os k.outbox.owner) owners ∙ other-with_used old.owners i (used_of old i - n) k.outbox.owner h.half.differ)
+    (ap (λ os. (owner_at os i).quota) owners ∙ quota-with_used old.owners i (used_of old i - n) has)
+    (ap (λ os. (owner_at os i).used) owners ∙ used-with_used old.owners i (used_of old i - n) has)
+    (ap length owners ∙ length-with_used old.owners i (used_of old i - n))
+
+pub given_beside : (old new : PoolState) (k other : End) (n : Machine) (chain : Chain) (theirs : Option Chain) → Accounts k old (Some chain)
+    → Gives old new chain → KeepsOthers old new chain chain
+    → HaveOwners k other → StandsFor other old n → Accounts other old theirs → StandsFor other new n × Accounts other new theirs
+given_beside old new k other n chain theirs a gives keeps differ g b =
+    let i = k.inbox.joiner.owner in
+    let f = a.fetched in
+    let left = used_of old i - blocks_for (length (chain_bytes old chain)) in
+    let owners : new.owners ≡ with_used old.owners i left = gives.owners ∙ ap
+    (λ q. with_used old.owners q (used_of old q - blocks_for (length (chain_bytes old chain)))) f.owned in
+    let stay : (c : Chain) → IsLive old c → c.owner ≢ i → Stays old new c = λ c live away. (let s = keeps c live (apart_by_owner old c chain live f.live (λ e. away (e ∙ f.owned))) in (s.1, s.2)) in
+    both_stay old new other n theirs g b (record {
+      first = λ c live is. stay c live (λ e. differ.from (sym e ∙ is));
+      second = λ c live is. stay c live (λ e. differ.receivers (sym e ∙ is));
+      counts = ap (λ os. owner_at os other.outbox.owner) owners ∙ other-with_used old.owners i left other.outbox.owner (λ e. differ.from (sym e));
+      uses = ap (λ os. owner_at os other.inbox.joiner.owner) owners ∙ other-with_used old.owners i left other.inbox.joiner.owner
+          (λ e. differ.receivers (sym e));
+      lengths = ap length owners ∙ length-with_used old.owners i left;
+    })
+
+-- ---- a message that was fetched is passed to an end
+
+pub may_send_back : (pool : PoolState) (k : End) (m : Machine) (chain : Chain) → StandsFor k pool m → Accounts k pool (Some chain) → MayPass pool k chain
+may_send_back pool k m chain h a = record {
+  live = a.fetched.live;
+  other = λ e. h.half.differ (sym e ∙ a.fetched.owned);
+  apart = a.fetched.apart;
+  counted = λ e. omega (arith, a.used);
+}
+
+pub may_pass_on : (pool : PoolState) (from to : End) (m n : Machine) (chain : Chain) → StandsFor from pool m → Accounts from pool (Some chain)
+    → HaveOwners from to → StandsFor to pool n → MayPass pool to chain
+may_pass_on pool from to m n chain h a differ g =
+    let f = a.fetched in
+    record {
+      live = f.live;
+      other = λ e. differ.from (sym f.owned ∙ e);
+      apart = (far_from pool to n chain g f.live (λ e. differ.from (sym f.owned ∙ e)) (λ e. differ.receivers (sym f.owned ∙ e))).1;
+      counted = λ e. absurd (differ.receivers (sym f.owned ∙ e));
+    }
+
+pub sent_back_own : (old new : PoolState) (k after : End) (m : Machine) (chain : Chain) → StandsFor k old m → Accounts k old (Some chain)
+    → after.inbox ≡ k.inbox
+    → LeavesOthersBut old new k.outbox.owner chain k.outbox.queue.items after.outbox.queue.items → Accounts after new None
+sent_back_own old new k after m chain h a inbox l =
+    let i = k.inbox.joiner.owner in
+    let f = a.fetched in
+    let lies = h.half.receives.lies in
+    let opens = all_joined Open (IsOwn old i) (λ x. IsApart chain x.chain) (chains_in k.inbox) lies.holds.own f.apart in
+    let all = opens_passed old new i (λ x. IsApart chain x.chain) (chains_in k.inbox) opens (λ x own.
+    let queue = lies_apart_by_owner Queued chain_in old k.outbox.owner k.outbox.queue.items x.chain h.half.sends.lies.kept.own own.0.live
+    (λ e. h.half.differ (sym e ∙ own.0.owned)) in
+    let s = l.others x.chain own.0.live queue (apart_turned chain x.chain own.1) in
+    (s.0, s.1)) in
+    let used : used_of new i ≡ used_of old i - blocks_for (length (chain_bytes old chain)) =
+    ap (used_of new) (sym f.owned) ∙ (l.giver_used ∙ ap (λ p. used_of old p - blocks_for (length (chain_bytes old chain))) f.owned) in
+    let P : Inbox → Type 0 = λ b. used_of new b.joiner.owner ≡ held_blocks new (chains_in b) + 0 in
+    record { fetched = tt; used = subst P (sym inbox) (omega (arith, used, a.used, all.blocks)) }
+
+-- an end whose owners are neither the one that gave the chain nor the one that took it
+passed_by : (old new : PoolState) (giver : ℕ) (to after other : End) (n o : Machine) (chain : Chain) (theirs : Option Chain) → IsLive old chain
+    → chain.owner ≡ giver → StandsFor to old n
+    → LeavesOthersBut old new to.outbox.owner chain to.outbox.queue.items after.outbox.queue.items
+    → giver ≢ other.outbox.owner → giver ≢ other.inbox.joiner.owner → to.outbox.owner ≢ other.outbox.owner → to.outbox.owner ≢ other.inbox.joiner.owner
+    → StandsFor other old o → Accounts other old theirs → StandsFor other new o × Accounts other new theirs
+passed_by old new giver to after other n o chain theirs live_chain owned h l a b c d g acc =
+    let stay : (x : Chain) (p : ℕ) → IsLive old x → x.owner ≡ p → giver ≢ p → to.outbox.owner ≢ p → Stays old new x =
+    λ x p live is u v.
+    (let queue = lies_apart_by_owner Queued chain_in old to.outbox.owner to.outbox.queue.items x h.half.sends.lies.kept.own live (λ e. v (sym e ∙ is)) in
+    let s = l.others x live queue (apart_by_owner old x chain live live_chain (λ e. u (sym owned ∙ (sym e ∙ is)))) in
+    (s.0, s.1)) in
+    both_stay old new other o theirs g acc (record {
+      first = λ x live is. stay x other.outbox.owner live is a c;
+      second = λ x live is. stay x other.inbox.joiner.owner live is b d;
+      counts = l.counts other.outbox.owner (λ e. c (sym e)) (λ e. a (sym owned ∙ sym e));
+      uses = l.counts other.inbox.joiner.owner (λ e. d (sym e)) (λ e. b (sym owned ∙ sym e));
+      lengths = l.lengths;
+    })
+
+pub sent_back_beside : (old new : PoolState) (k after other : End) (m n : Machine) (chain : Chain) (theirs : Option Chain) → StandsFor k old m
+    → Accounts k old (Some chain)
+    → LeavesOthersBut old new k.outbox.owner chain k.outbox.queue.items after.outbox.queue.items → HaveOwners k other → StandsFor other old n
+    → Accounts other old theirs
+    → StandsFor other new n × Accounts other new theirs
+sent_back_beside old new k after other m n chain theirs h a l differ g b =
+    passed_by old new k.inbox.joiner.owner k after other m n chain theirs a.fetched.live a.fetched.owned h l differ.from differ.receivers differ.senders differ.to g b
+
+pub passed_giver : (old new : PoolState) (from to after : End) (m n : Machine) (chain : Chain) → StandsFor from old m
+    → Accounts from old (Some chain) → HaveOwners from to → StandsFor to old n
+    → LeavesOthersBut old new to.outbox.owner chain to.outbox.queue.items after.outbox.queue.items → StandsFor from new m × Accounts from new None
+passed_giver old new from to after m n chain h a differ g l =
+    let i = from.inbox.joiner.owner in
+    let f = a.fetched in
+    let stay : (c : Chain) (p : ℕ) → IsLive old c → IsApart c chain → c.owner ≡ p → to.outbox.owner ≢ p → Stays old new c =
+    λ c p live apart is v.
+    (let queue = lies_apart_by_owner Queued chain_in old to.outbox.owner to.outbox.queue.items c g.half.sends.lies.kept.own live (λ e. v (sym e ∙ is)) in
+    let s = l.others c live queue apart in
+    (s.0, s.1)) in
+    goes_own old new from m chain h a (λ c live apart which. elim which [
+      | inl is ↦ stay c from.outbox.owner live apart is
+          (λ e. differ.senders (sym e))
+      | inr is ↦ stay c i live apart is (λ e. differ.from (sym e))
+    ])
+    (l.counts from.outbox.owner differ.senders (λ e. h.half.differ (e ∙ f.owned)))
+    (ap (quota_of new) (sym f.owned) ∙ (l.giver_quota ∙ ap (quota_of old) f.owned))
+    (ap (used_of new) (sym f.owned) ∙ (l.giver_used ∙ ap (λ p. used_of old p - blocks_for (length (chain_bytes old chain))) f.owned))
+    l.lengths
+
+pub passed_beside : (old new : PoolState) (from to after other : End) (n o : Machine) (chain : Chain) (theirs : Option Chain)
+    → Accounts from old (Some chain) → StandsFor to old n
+    → LeavesOthersBut old new to.outbox.owner chain to.outbox.queue.items after.outbox.queue.items → HaveOwners from other → HaveOwners to other
+    → StandsFor other old o → Accounts other old theirs
+    → StandsFor other new o × Accounts other new theirs
+passed_beside old new from to after other n o chain theirs a h l differ apart g b =
+    passed_by old new from.inbox.joiner.owner to after other n o chain theirs a.fetched.live a.fetched.owned h l differ.from differ.receivers apart.senders apart.to g b
+
+pub passed_taker : (old new : PoolState) (from to after : End) (n : Machine) (chain : Chain) (theirs : Option Chain)
+    → Accounts from old (Some chain) → HaveOwners from to → StandsFor to old n
+    → Accounts to old theirs → after.inbox ≡ to.inbox → LeavesOthersBut old new to.outbox.owner chain to.outbox.queue.items after.outbox.queue.items
+    → Accounts after new theirs
+passed_taker old new from to after n chain theirs a differ g b inbox l =
+    let i = to.inbox.joiner.owner in
+    let f = a.fetched in
+    let stay : (c : Chain) → IsLive old c → c.owner ≡ i → Stays old new c =
+    λ c live is.
+    (let queue = lies_apart_by_owner Queued chain_in old to.outbox.owner to.outbox.queue.items c g.half.sends.lies.kept.own live
+    (λ e. g.half.differ (sym e ∙ is)) in
+    let s = l.others c live queue (apart_by_owner old c chain live f.live (λ e. differ.receivers (sym f.owned ∙ (sym e ∙ is)))) in
+    (s.0, s.1)) in
+    let own = g.half.receives.lies.holds.own in
+    let all = opens_stay old new i (chains_in to.inbox) own (all_mapped Open (IsOwn old i) (λ x. Stays old new x.chain) (chains_in to.inbox)
+    (λ x o. stay x.chain o.live o.owned) own) in
+    let moved = fetched_stays old new to theirs stay b.fetched in
+    let used = ap (λ (x : Owner). x.used) (l.counts i (λ e. g.half.differ (sym e)) (λ e. differ.receivers (sym f.owned ∙ sym e))) in
+    let P : Inbox → Type 0 = λ box. used_of new box.joiner.owner ≡ held_blocks new (chains_in box) + blocks_of new theirs in
+    record { fetched = fetched_moved new to after theirs inbox moved.0; used = subst P (sym inbox) (omega (arith, used, b.used, all.blocks, moved.1)) }
+
+-- ---- a new pool
+
+at_quota : (quotas : List ℕ) (o n : ℕ) → slice_get quotas o ≡ Some n
+    → (owner_at (new_owners quotas) o ≡ record { quota = n; used = 0; aside = 0 }) × (o < length (new_owners quotas))
+at_quota [] o n is = cc
+at_quota (q ∷ quotas) zero n is = (let e : q ≡ n = cc in ap (λ x. record { quota = x; used = 0; aside = 0 }) e, omega arith)
+at_quota (q ∷ quotas) (suc o) n is = let rest = at_quota quotas o n is in (rest.0, omega (arith, rest.1))
+
+none_used : (quotas : List ℕ) (o : ℕ) → (owner_at (new_owners quotas) o).used ≡ 0
+none_used [] o = refl
+none_used (q ∷ quotas) zero = refl
+none_used (q ∷ quotas) (suc o) = none_used quotas o
+
+none_aside : (quotas : List ℕ) (o : ℕ) → (owner_at (new_owners quotas) o).aside ≡ 0
+none_aside [] o = refl
+none_aside (q ∷ quotas) zero = refl
+none_aside (q ∷ quotas) (suc o) = none_aside quotas o
+
+pub new_unused : (pool : PoolState) (quotas : List ℕ) (owner : ℕ) → IsNew pool quotas → used_of pool owner ≡ 0
+new_unused pool quotas owner new = ap (λ os. (owner_at os owner).used) new.owners ∙ none_used quotas owner
+
+pub new_free : (pool : PoolState) (quotas : List ℕ) (sender receiver : ℕ) → IsNew pool quotas → slice_get quotas sender ≡ Some 128
+    → slice_get quotas receiver ≡ Some 512 → IsFree pool sender receiver
+new_free pool quotas sender receiver new out into =
+    let a = at_quota quotas sender 128 out in
+    let b = at_quota quotas receiver 512 into in
+    let len = ap length new.owners in
+    record {
+      has_sender = omega (arith, len, a.1);
+      sender_quota = ap (λ os. (owner_at os sender).quota) new.owners ∙ ap (λ (x : Owner). x.quota) a.0;
+      sender_used = new_unused pool quotas sender new;
+      sender_aside = ap (λ os. (owner_at os sender).aside) new.owners ∙ none_aside quotas sender;
+      has_receiver = omega (arith, len, b.1);
+      receiver_quota = ap (λ os. (owner_at os receiver).quota) new.owners ∙ ap (λ (x : Owner). x.quota) b.0;
+      differ = λ e. (let q : 128 ≡ 512 = sym (ap (λ (x : Owner). x.quota) a.0) ∙ (ap (λ o. (owner_at (new_owners quotas) o).quota) e ∙ ap
+          (λ (x : Owner). x.quota) b.0) in omega (arith, q));
+    }

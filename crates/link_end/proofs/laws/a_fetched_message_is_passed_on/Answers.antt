@@ -1,0 +1,14 @@
+use Rattle.link_end.proofs.AccountLemmas.{may_pass_on, passed_giver, passed_taker, passed_beside}
+use Rattle.link_end.proofs.laws.a_fetched_message_is_passed_on.Goals as goal
+
+pub returns-clause-may : goal.returns-clause-may
+returns-clause-may c = may_pass_on
+
+pub returns-clause-giver : goal.returns-clause-giver
+returns-clause-giver c = passed_giver
+
+pub returns-clause-taker : goal.returns-clause-taker
+returns-clause-taker c = passed_taker
+
+pub returns-clause-others : goal.returns-clause-others
+returns-clause-others c = passed_beside
