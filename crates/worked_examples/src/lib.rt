@@ -22,9 +22,13 @@ mod library;
 #[cfg(test)]
 mod line_states;
 #[cfg(test)]
+mod link_ends;
+#[cfg(test)]
 mod lpdus;
 #[cfg(test)]
 mod memories;
+#[cfg(test)]
+mod nodes;
 #[cfg(test)]
 mod outside;
 #[cfg(test)]

@@ -1,0 +1,4 @@
+use Rattle.worked_examples.proofs.nodes.Node.tick.Goals as goal
+
+pub fetch-none-requires-clause-stands : goal.fetch-none-requires-clause-stands
+fetch-none-requires-clause-stands g c = (_, c.tick-report.ensures.stands c.self.invariant.0.state c.self.invariant.0.stands)

@@ -1,0 +1,310 @@
+//! Worked examples of whole link ends.
+ghost use Rattle.std.specs.Prelude.{◌<◌};
+
+use crate::nodes::{Form, Message, NOTHING, Node, Told};
+use link_end::{LinkReport, SendRefused};
+use shdlc_core::LinkState;
+use std::process::Abort;
+use swp_base::{Cause, FrameFault, Lpdu, NoMemory, Role};
+
+/// The LPDU of these bytes.
+fn lpdu(rt: &impl Abort, bytes: &[u8]) -> Lpdu {
+    match Lpdu::from_bytes(bytes) {
+        Some(lpdu) => lpdu,
+        None => panic!(rt; "no LPDU has these bytes"),
+    }
+}
+
+/// The end sends this frame next, or nothing where it is empty.
+fn sends(rt: &impl Abort, node: &mut Node, frame: &[u8]) {
+    match node.next_out() {
+        Some(out) => assert_eq!(rt; out.bytes(), frame),
+        None => assert!(rt; frame.is_empty()),
+    }
+}
+
+/// The end takes a frame, tells this of it, and sends one frame then, or nothing where it is empty.
+fn takes(rt: &impl Abort, node: &mut Node, frame: &[u8], report: LinkReport, reply: &[u8]) {
+    let told = node.take(rt, Form::Lpdus, &lpdu(rt, frame));
+    assert_eq!(rt; told.report, report);
+    assert_eq!(rt; told.message.is_some(), report.got);
+    sends(rt, node, reply);
+    sends(rt, node, &[]);
+}
+
+/// What a row of frames did at the end that they came to.
+#[derive(Clone, Copy, Debug, PartialEq, Eq)]
+struct Seen {
+    frames: u16,
+    acked: u16,
+    messages: u16,
+    last: Option<Message>,
+    began: bool,
+    became_active: bool,
+    sync: Option<u16>,
+    ended: Option<Cause>,
+}
+
+impl Seen {
+    fn new() -> Seen {
+        Seen {
+            frames: 0,
+            acked: 0,
+            messages: 0,
+            last: None,
+            began: false,
+            became_active: false,
+            sync: None,
+            ended: None,
+        }
+    }
+
+    fn add(&mut self, told: &Told) {
+        let report = told.report;
+        self.frames = self.frames.saturating_add(1);
+        self.acked = self.acked.saturating_add(report.acked);
+        self.began = self.began || report.began;
+        self.became_active = self.became_active || report.became_active;
+        self.sync = self.sync.or(report.sync);
+        self.ended = self.ended.or(report.ended);
+        if told.message.is_some() {
+            self.messages = self.messages.saturating_add(1);
+            self.last = told.message;
+        }
+    }
+}
+
+/// The frames that one end sends now come to the other, at most 16.
+fn deliver(rt: &impl Abort, form: Form, from: &mut Node, to: &mut Node) -> Seen {
+    let mut seen = Seen::new();
+    for _frame in 0..16u8 {
+        match from.next_out() {
+            Some(frame) => seen.add(&to.take(rt, form, &frame)),
+            None => return seen,
+        }
+    }
+    seen
+}
+
+/// Two ends become active, with the sync identifier 0001 and low power, and a session begins.
+fn connect(rt: &impl Abort, form: Form, clf: &mut Node, uicc: &mut Node) {
+    let _started = clf.activate(rt, 0);
+    let _started = uicc.activate(rt, 1);
+    sends(rt, clf, &[]);
+    let asked = deliver(rt, form, uicc, clf);
+    assert_eq!(rt; asked.sync, Some(1));
+    let powered = deliver(rt, form, clf, uicc);
+    assert!(rt; powered.became_active);
+    let ready = deliver(rt, form, uicc, clf);
+    assert!(rt; ready.became_active);
+    assert!(rt; clf.state() == LinkState::Down && uicc.state() == LinkState::Down);
+    assert_eq!(rt; clf.reset(rt, None), Ok(NOTHING));
+    let heard = deliver(rt, form, clf, uicc);
+    let accepted = deliver(rt, form, uicc, clf);
+    assert!(rt; heard.began && accepted.began);
+    assert!(rt; clf.state() == LinkState::Up && uicc.state() == LinkState::Up);
+}
+
+/// A message of one end comes to the other, whose answer acknowledges it.
+fn exchange(rt: &impl Abort, form: Form, from: &mut Node, to: &mut Node, pipe: u8, len: u32)
+    requires { pipe < 112 }
+{
+    let bytes = [0x42; 60];
+    let count = (len as usize).clamp(1, 60);
+    assert_eq!(rt; from.send(pipe, &bytes[..count]), Ok(()));
+    let came = deliver(rt, form, from, to);
+    let front = if count > 1 { [0x42, 0x42] } else { [0x42, 0] };
+    let len = count as u32;
+    assert_eq!(rt; came.last, Some(Message { pipe, len, front }));
+    let back = deliver(rt, form, to, from);
+    assert_eq!(rt; back.acked, 1);
+}
+
+#[test]
+fn two_ends_exchange_messages_in_each_form(rt: HostRuntime) -> Result<(), NoMemory> {
+    for form in [Form::Lpdus, Form::Periods, Form::Bytes] {
+        let mut clf = Node::make(rt.alloc(), Role::Clf)?;
+        let mut uicc = Node::make(rt.alloc(), Role::Uicc)?;
+        connect(&rt, form, &mut clf, &mut uicc);
+        exchange(&rt, form, &mut clf, &mut uicc, 1, 60);
+        exchange(&rt, form, &mut uicc, &mut clf, 111, 1);
+        exchange(&rt, form, &mut uicc, &mut clf, 0, 29);
+        assert_eq!(rt; clf.deactivate(&rt).ended, Some(Cause::Act));
+        assert_eq!(rt; uicc.deactivate(&rt).ended, Some(Cause::Act));
+        assert_eq!(rt; clf.send(1, &[3]), Err(SendRefused::NotUp));
+        sends(&rt, &mut clf, &[]);
+        sends(&rt, &mut uicc, &[]);
+    }
+    Ok(())
+}
+
+#[test]
+fn a_bare_end_takes_whatever_comes(rt: HostRuntime) -> Result<(), NoMemory> {
+    let mut node = Node::make(rt.alloc(), Role::Bare)?;
+    let end = &mut node;
+    let got = LinkReport {
+        got: true,
+        ..NOTHING
+    };
+    let begins = LinkReport {
+        ended: Some(Cause::Peer),
+        began: true,
+        ..NOTHING
+    };
+    takes(&rt, end, &[0x81, 0x81, 0x03], NOTHING, &[]);
+    takes(&rt, end, &[0xD8], NOTHING, &[]);
+    takes(&rt, end, &[0x40], NOTHING, &[]);
+    takes(&rt, end, &[0x00], NOTHING, &[]);
+    takes(&rt, end, &[0xC0, 0x00], NOTHING, &[]);
+    takes(&rt, end, &[0x88, 0x81, 0x03], NOTHING, &[0xC8]);
+    takes(&rt, end, &[0x90, 0x81, 0x03], NOTHING, &[]);
+    takes(&rt, end, &[0x80, 0x81, 0x03], got, &[0xC1]);
+    takes(&rt, end, &[0x80, 0x81, 0x03], NOTHING, &[0xC1]);
+    takes(&rt, end, &[0x88, 0xF0, 0x03], NOTHING, &[0xC2]);
+    takes(&rt, end, &[0xF9, 0x00, 0x00], NOTHING, &[]);
+    takes(&rt, end, &[0xF9, 0x07], begins, &[0xE6]);
+    Ok(())
+}
+
+#[test]
+fn a_broken_frame_is_told(rt: HostRuntime) -> Result<(), NoMemory> {
+    let mut node = Node::make(rt.alloc(), Role::Bare)?;
+    let mut told = None;
+    for byte in [0x00, 0x01, 0xC1, 0xD7, 0x63] {
+        told = node.take_byte(&rt, byte).report.refused;
+    }
+    let fault = FrameFault::Crc {
+        want: 0xD762,
+        got: 0xD763,
+    };
+    assert_eq!(rt; told, Some(fault));
+    sends(&rt, &mut node, &[]);
+    Ok(())
+}
+
+#[test]
+fn message_of_4096_bytes(rt: HostRuntime) -> Result<(), NoMemory> {
+    let mut node = Node::make(rt.alloc(), Role::Bare)?;
+    let mut other = Node::make(rt.alloc(), Role::Bare)?;
+    let bytes = [0x42; 4097];
+    assert_eq!(rt;
+        node.send(1, &bytes),
+        Err(SendRefused::TooLong { len: 4097 })
+    );
+    assert_eq!(rt; node.send(1, &bytes[..4096]), Ok(()));
+    let full = SendRefused::Full { need: 1, spare: 0 };
+    assert_eq!(rt; node.send(1, &[3]), Err(full));
+    let mut frames = 0u16;
+    let mut acked = 0u16;
+    for _round in 0..37u8 {
+        let came = deliver(&rt, Form::Lpdus, &mut node, &mut other);
+        frames = frames.saturating_add(came.frames);
+        if let Some(message) = came.last {
+            assert_eq!(rt; message.len, 4096);
+        }
+        acked = acked.saturating_add(deliver(&rt, Form::Lpdus, &mut other, &mut node).acked);
+    }
+    assert_eq!(rt; frames, 147);
+    assert_eq!(rt; acked, 1);
+    assert_eq!(rt; node.send(1, &[3]), Ok(()));
+    let full = SendRefused::Full {
+        need: 128,
+        spare: 127,
+    };
+    assert_eq!(rt; node.send(1, &bytes[..4096]), Err(full));
+    Ok(())
+}
+
+#[test]
+fn a_header_alone_is_one_fragment(rt: HostRuntime) -> Result<(), NoMemory> {
+    let mut node = Node::make(rt.alloc(), Role::Bare)?;
+    assert_eq!(rt; node.send(1, &[3]), Ok(()));
+    sends(&rt, &mut node, &[0x80, 0x81, 0x03]);
+    sends(&rt, &mut node, &[]);
+    Ok(())
+}
+
+#[test]
+fn a_fifth_message_under_way_ends_the_session(rt: HostRuntime) -> Result<(), NoMemory> {
+    let mut node = Node::make(rt.alloc(), Role::Bare)?;
+    let end = &mut node;
+    takes(&rt, end, &[0x80, 0x02, 0x41], NOTHING, &[0xC1]);
+    takes(&rt, end, &[0x88, 0x03, 0x41], NOTHING, &[0xC2]);
+    takes(&rt, end, &[0x90, 0x04, 0x41], NOTHING, &[0xC3]);
+    takes(&rt, end, &[0x98, 0x05, 0x41], NOTHING, &[0xC4]);
+    let over = LinkReport {
+        ended: Some(Cause::Chain),
+        ..NOTHING
+    };
+    takes(&rt, end, &[0xA0, 0x06, 0x41], over, &[]);
+    assert!(rt; end.state() == LinkState::Down);
+    Ok(())
+}
+
+#[test]
+fn a_message_of_4097_bytes_ends_the_session(rt: HostRuntime) -> Result<(), NoMemory> {
+    let mut node = Node::make(rt.alloc(), Role::Bare)?;
+    let mut frame = [0x41; 30];
+    frame[1] = 0x02;
+    for number in 0..146u8 {
+        frame[0] = 0x80 + 8 * (number % 8);
+        takes(&rt, &mut node, &frame, NOTHING, &[0xC0 + (number + 1) % 8]);
+    }
+    frame[0] = 0x80 + 8 * 2;
+    let over = LinkReport {
+        ended: Some(Cause::Chain),
+        ..NOTHING
+    };
+    takes(&rt, &mut node, &frame[..11], over, &[]);
+    assert!(rt; node.state() == LinkState::Down);
+    Ok(())
+}
+
+#[test]
+fn an_end_that_is_not_answered_gives_up_after_three_tries(rt: HostRuntime) -> Result<(), NoMemory> {
+    let mut node = Node::make(rt.alloc(), Role::Uicc)?;
+    let _started = node.activate(&rt, 1);
+    sends(&rt, &mut node, &[0x61, 0x00, 0x01]);
+    for tick in 1..=40u8 {
+        let gave_up = if tick == 30 { Some(3) } else { None };
+        assert_eq!(rt; node.tick(&rt).gave_up, gave_up, "at tick {tick}");
+        match tick {
+            10 | 20 => sends(&rt, &mut node, &[0x61, 0x00, 0x01]),
+            _ => sends(&rt, &mut node, &[]),
+        }
+    }
+    Ok(())
+}
+
+#[test]
+fn a_window_of_one_lets_one_fragment_out(rt: HostRuntime) -> Result<(), NoMemory> {
+    let mut node = Node::make(rt.alloc(), Role::Bare)?;
+    let end = &mut node;
+    let begins = LinkReport {
+        ended: Some(Cause::Peer),
+        began: true,
+        ..NOTHING
+    };
+    takes(&rt, end, &[0xF9, 0x01, 0x00], begins, &[0xE6]);
+    assert_eq!(rt; end.send(1, &[3]), Ok(()));
+    assert_eq!(rt; end.send(1, &[0x42]), Ok(()));
+    sends(&rt, end, &[0x80, 0x81, 0x03]);
+    sends(&rt, end, &[]);
+    let acked = LinkReport {
+        acked: 1,
+        ..NOTHING
+    };
+    takes(&rt, end, &[0xC1], acked, &[0x88, 0x81, 0x42]);
+    Ok(())
+}
+
+#[test]
+fn a_held_end_takes_no_fragments(rt: HostRuntime) -> Result<(), NoMemory> {
+    let mut node = Node::make(rt.alloc(), Role::Bare)?;
+    node.hold(&rt, true);
+    takes(&rt, &mut node, &[0x80, 0x81, 0x03], NOTHING, &[0xD0]);
+    node.hold(&rt, false);
+    sends(&rt, &mut node, &[0xC0]);
+    sends(&rt, &mut node, &[]);
+    Ok(())
+}
