@@ -29,7 +29,7 @@ pub struct End {
 }
 
 impl End {
-    ghost use Rattle.std.specs.Prelude.{◌≡◌, ◌≢◌, ℕ, ◌+◌, ◌-◌, ◌<◌, ◌≤◌, [], map, length, true, false, None, Some, IfOk, IfSome, OnOk, OnErr, is_some, option_map, if◌then◌else◌};
+    ghost use Rattle.std.specs.Prelude.{◌≡◌, ◌≢◌, ℕ, ◌+◌, ◌-◌, ◌<◌, ◌≤◌, [], map, length, true, false, None, Some, IfOk, IfErr, IfSome, OnOk, OnErr, is_some, option_map, if◌then◌else◌};
     ghost use Rattle.shdlc_core.specs.Offering.{StandsBefore};
     ghost use Rattle.shdlc_core.specs.Machine.{stopped, ticked, tick_answer};
     ghost use Rattle.block_pool.specs.Pool.{PoolState, used_of, chain_bytes};
@@ -520,8 +520,10 @@ impl End {
             → StandsFor self.new pool.new (after_input m (FromNode (Give (pipe, chain_bytes pool.old chain)))) }
         ensures answer { (m : Machine) → StandsFor self.old pool.old m → result ≡ pass_told m (pipe, chain_bytes pool.old chain) chain }
         ensures refused { OnErr result ((pool.new ≡ pool.old) × (self.new ≡ self.old)) }
+        ensures back { IfErr result (λ e. e.0 ≡ chain) }
         ensures elsewhere { OnOk result (LeavesOthersBut pool.old pool.new self.old.outbox.owner chain self.old.outbox.queue.items self.new.outbox.queue.items) }
         ensures inbox { self.new.inbox ≡ self.old.inbox }
+        ensures owner { self.new.outbox.owner ≡ self.old.outbox.owner }
     {
         match self.shdlc.state() {
             LinkState::Up => self.pass_up(pool, pipe, chain),
@@ -545,8 +547,10 @@ impl End {
             → StandsFor self.new pool.new (after_input m (FromNode (Give (pipe, chain_bytes pool.old chain)))) }
         ensures answer { (m : Machine) → StandsFor self.old pool.old m → result ≡ pass_told m (pipe, chain_bytes pool.old chain) chain }
         ensures refused { OnErr result ((pool.new ≡ pool.old) × (self.new ≡ self.old)) }
+        ensures back { IfErr result (λ e. e.0 ≡ chain) }
         ensures elsewhere { OnOk result (LeavesOthersBut pool.old pool.new self.old.outbox.owner chain self.old.outbox.queue.items self.new.outbox.queue.items) }
         ensures inbox { self.new.inbox ≡ self.old.inbox }
+        ensures owner { self.new.outbox.owner ≡ self.old.outbox.owner }
     {
         let len = pool.len(&chain);
         if len > MAX_MESSAGE {

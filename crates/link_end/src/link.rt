@@ -23,7 +23,7 @@ pub struct LinkEnd {
 }
 
 impl LinkEnd {
-    ghost use Rattle.std.specs.Prelude.{◌≡◌, ◌≢◌, ℕ, ◌≤◌, ◌∷◌, [], List, None, IfOk, IfSome, OnOk, OnErr, OnSome, option_map};
+    ghost use Rattle.std.specs.Prelude.{◌≡◌, ◌≢◌, ℕ, ◌≤◌, ◌∷◌, [], List, None, IfOk, IfErr, IfSome, OnOk, OnErr, OnSome, option_map};
     ghost use Rattle.swp_base.specs.declared.link_terms.Role.{Role as Named};
     ghost use Rattle.swp_frame.specs.Signal.{Symbol};
     ghost use Rattle.swp_frame.specs.Kept.{StandsFor as DeframerStandsFor};
@@ -98,9 +98,11 @@ impl LinkEnd {
             → StandsFor self.new.link pool.new (after_input m (FromNode (Give (pipe, chain_bytes pool.old chain)))) }
         ensures answer { (m : Machine) → StandsFor self.old.link pool.old m → result ≡ pass_told m (pipe, chain_bytes pool.old chain) chain }
         ensures refused { OnErr result ((pool.new ≡ pool.old) × (self.new.link ≡ self.old.link)) }
+        ensures back { IfErr result (λ e. e.0 ≡ chain) }
         ensures elsewhere { OnOk result (LeavesOthersBut pool.old pool.new self.old.link.outbox.owner chain
             self.old.link.outbox.queue.items self.new.link.outbox.queue.items) }
         ensures inbox { self.new.link.inbox ≡ self.old.link.inbox }
+        ensures owner { self.new.link.outbox.owner ≡ self.old.link.outbox.owner }
         ensures inputs { (self.new.deframer ≡ self.old.deframer) × (self.new.byte_link ≡ self.old.byte_link) }
     {
         self.link.send_chain(pool, pipe, chain)

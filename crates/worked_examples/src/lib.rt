@@ -36,6 +36,8 @@ mod packets;
 #[cfg(test)]
 mod periods;
 #[cfg(test)]
+mod relays;
+#[cfg(test)]
 mod runs;
 #[cfg(test)]
 mod texts;

@@ -2,6 +2,7 @@
 ghost use Rattle.std.specs.Prelude.{◌<◌};
 
 use crate::nodes::{Form, Message, NOTHING, Node, Told};
+use crate::relays::Relay;
 use link_end::{LinkReport, SendRefused};
 use shdlc_core::LinkState;
 use std::process::Abort;
@@ -306,5 +307,21 @@ fn a_held_end_takes_no_fragments(rt: HostRuntime) -> Result<(), NoMemory> {
     node.hold(&rt, false);
     sends(&rt, &mut node, &[0xC0]);
     sends(&rt, &mut node, &[]);
+    Ok(())
+}
+
+#[test]
+fn messages_are_passed_on_in_one_pool(rt: HostRuntime) -> Result<(), NoMemory> {
+    let mut relay = Relay::make(rt.alloc())?;
+    for number in 0..140u8 {
+        let come = [0x80 + 8 * (number % 8), 0x81, 0x42, number];
+        relay.take(&rt, &lpdu(&rt, &come));
+        assert!(rt; relay.next_back().is_some());
+        match relay.next_out() {
+            Some(out) => assert_eq!(rt; out.bytes(), come.as_slice()),
+            None => panic!(rt; "it wasn't passed on"),
+        }
+        relay.take_back(&rt, &lpdu(&rt, &[0xC0 + (number + 1) % 8]));
+    }
     Ok(())
 }

@@ -195,7 +195,7 @@ impl Node {
 }
 
 /// At most six control frames wait to be fetched.
-fn has_room(rt: &impl Abort, end: &LinkEnd)
+pub fn has_room(rt: &impl Abort, end: &LinkEnd)
     ensures { controls_in end.now.link ≤ 6 }
 {
     if end.controls_due() > 6 {

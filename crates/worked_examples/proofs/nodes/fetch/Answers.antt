@@ -1,7 +1,7 @@
-use Rattle.std.proofs.Common.{◌≡◌, ℕ, [], sym, ap, ◌∙◌, subst}
-use Rattle.std.specs.Prelude.{Option, Some, None, option_map}
+use Rattle.std.proofs.Common.{ℕ, subst}
+use Rattle.std.specs.Prelude.{Option, option_map}
 use Rattle.block_pool.specs.declared.chain.Chain.{Chain}
-use Rattle.link_end.specs.Ends.{Accounts, Rests}
+use Rattle.link_end.specs.Ends.{Accounts}
 use Rattle.link_end.proofs.AccountLemmas.{given_own}
 use Rattle.worked_examples.proofs.nodes.fetch.Goals as goal
 

@@ -1,4 +1,4 @@
-use Rattle.std.proofs.Common.{◌≡◌, ℕ, List, sym, ap, ◌∙◌, subst}
+use Rattle.std.proofs.Common.{List, sym, ◌∙◌, subst}
 use Rattle.swp_frame.specs.Signal.{Symbol}
 use Rattle.swp_line.specs.Periods.{period_at}
 use Rattle.link_end.specs.Inputs.{heard_after}
