@@ -11,13 +11,15 @@ use Rattle.link_end.specs.Ends.{StandsFor, LeavesOthers, HaveOwners, Accounts, R
 use Rattle.link_end.proofs.AccountLemmas.{given_own, given_beside, passed_giver, passed_taker, kept_beside_call}
 
 -- the message that was fetched, by its chain
-pub fetched_chain : (k : End) (pool : PoolState) (x : Option (ℕ × Chain)) (y : ℕ × Chain) → x ≡ Some y → Accounts k pool (option_map (λ z. z.1) x) → Accounts k pool (Some y.1)
+pub fetched_chain : (k : End) (pool : PoolState) (x : Option (ℕ × Chain)) (y : ℕ × Chain) → x ≡ Some y → Accounts k pool (option_map (λ z. z.1) x)
+    → Accounts k pool (Some y.1)
 fetched_chain k pool x y is a = let P : Option (ℕ × Chain) → Type 0 = λ o. Accounts k pool (option_map (λ z. z.1) o) in subst P is a
 
 pub none_fetched : (k : End) (pool : PoolState) (x : Option (ℕ × Chain)) → x ≡ None → Accounts k pool (option_map (λ z. z.1) x) → Accounts k pool None
 none_fetched k pool x is a = let P : Option (ℕ × Chain) → Type 0 = λ o. Accounts k pool (option_map (λ z. z.1) o) in subst P is a
 
-pub given_back : (old new : PoolState) (k to : End) (m : Machine) (chain : Chain) → StandsFor k old m → k.inbox.got ≡ None → Accounts k old (Some chain) → HaveOwners k to → Rests to old
+pub given_back : (old new : PoolState) (k to : End) (m : Machine) (chain : Chain) → StandsFor k old m → k.inbox.got ≡ None
+    → Accounts k old (Some chain) → HaveOwners k to → Rests to old
     → Gives old new chain → KeepsOthers old new chain chain → Rests k new × Rests to new
 given_back old new k to m chain h none a differ r gives keeps =
     let own = given_own old new k m chain h a gives keeps in
@@ -26,8 +28,10 @@ given_back old new k to m chain h none a differ r gives keeps =
       record { state = r.state; stands = other.0; fetched = r.fetched; accounts = other.1 },
     )
 
-pub passed_on : (old new : PoolState) (k to after : End) (m n : Machine) (chain : Chain) → StandsFor k old m → k.inbox.got ≡ None → Accounts k old (Some chain) → HaveOwners k to → Rests to old
-    → StandsFor after new n → after.inbox ≡ to.inbox → LeavesOthersBut old new to.outbox.owner chain to.outbox.queue.items after.outbox.queue.items → Rests k new × Rests after new
+pub passed_on : (old new : PoolState) (k to after : End) (m n : Machine) (chain : Chain) → StandsFor k old m → k.inbox.got ≡ None
+    → Accounts k old (Some chain) → HaveOwners k to → Rests to old
+    → StandsFor after new n → after.inbox ≡ to.inbox → LeavesOthersBut old new to.outbox.owner chain to.outbox.queue.items after.outbox.queue.items
+    → Rests k new × Rests after new
 passed_on old new k to after m n chain h none a differ r stands inbox leaves =
     let giver = passed_giver old new k to after m r.state chain h a differ r.stands leaves in (
       record { state = m; stands = giver.0; fetched = none; accounts = giver.1 },
@@ -39,7 +43,8 @@ passed_on old new k to after m n chain h none a differ r stands inbox leaves =
       },
     )
 
-pub rests_beside : (old new : PoolState) (before after other : End) (m : Machine) → StandsFor before old m → LeavesOthers old new before after → HaveOwners before other → Rests other old → Rests other new
+pub rests_beside : (old new : PoolState) (before after other : End) (m : Machine) → StandsFor before old m → LeavesOthers old new before after
+    → HaveOwners before other → Rests other old → Rests other new
 rests_beside old new before after other m h leaves differ r =
     let both = kept_beside_call old new before after other m r.state None h leaves differ r.stands r.accounts in
     record { state = r.state; stands = both.0; fetched = r.fetched; accounts = both.1 }
@@ -52,7 +57,8 @@ turned one other o = record {
   from = λ e. o.to (sym e);
 }
 
-pub owners_kept : (k after to : End) → after.outbox.owner ≡ k.outbox.owner → after.inbox.joiner.owner ≡ k.inbox.joiner.owner → HaveOwners k to → HaveOwners after to
+pub owners_kept : (k after to : End) → after.outbox.owner ≡ k.outbox.owner → after.inbox.joiner.owner ≡ k.inbox.joiner.owner → HaveOwners k to
+    → HaveOwners after to
 owners_kept k after to sender receiver o = record {
   senders = λ e. o.senders (sym sender ∙ e);
   receivers = λ e. o.receivers (sym receiver ∙ e);

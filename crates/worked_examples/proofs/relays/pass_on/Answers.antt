@@ -39,7 +39,8 @@ returns-then-pipe-ge112-clause-from c =
     let m = c.requires.stands.0 in
     let stands = e.stands old m c.requires.stands.1 in
     let a = fetched_chain k old _ (c.in-Some.pipe, c.in-Some.chain) c.in-Some.is (e.accounts old m c.requires.stands.1 c.requires.accounts) in
-    let differ = owners_kept c.args.from.now.link k to (ap (λ (x : End). x.outbox.owner) e.rest) (ap (λ (x : End). x.inbox.joiner.owner) e.rest) c.requires.owners in
+    let differ = owners_kept c.args.from.now.link k to (ap (λ (x : End). x.outbox.owner) e.rest) (ap (λ (x : End). x.inbox.joiner.owner) e.rest)
+    c.requires.owners in
     (given_back old c.give.new.self k to _ c.in-Some.chain stands e.fetched a differ c.requires.rests c.give.ensures.given c.give.ensures.others).0
 
 pub returns-then-pipe-ge112-clause-to : goal.returns-then-pipe-ge112-clause-to
@@ -51,7 +52,8 @@ returns-then-pipe-ge112-clause-to c =
     let m = c.requires.stands.0 in
     let stands = e.stands old m c.requires.stands.1 in
     let a = fetched_chain k old _ (c.in-Some.pipe, c.in-Some.chain) c.in-Some.is (e.accounts old m c.requires.stands.1 c.requires.accounts) in
-    let differ = owners_kept c.args.from.now.link k to (ap (λ (x : End). x.outbox.owner) e.rest) (ap (λ (x : End). x.inbox.joiner.owner) e.rest) c.requires.owners in
+    let differ = owners_kept c.args.from.now.link k to (ap (λ (x : End). x.outbox.owner) e.rest) (ap (λ (x : End). x.inbox.joiner.owner) e.rest)
+    c.requires.owners in
     (given_back old c.give.new.self k to _ c.in-Some.chain stands e.fetched a differ c.requires.rests c.give.ensures.given c.give.ensures.others).1
 
 pub send_chain-requires-clause-chain : goal.send_chain-requires-clause-chain
@@ -63,7 +65,8 @@ send_chain-requires-clause-chain c =
     let m = c.requires.stands.0 in
     let stands = e.stands old m c.requires.stands.1 in
     let a = fetched_chain k old _ (c.in-Some.pipe, c.in-Some.chain) c.in-Some.is (e.accounts old m c.requires.stands.1 c.requires.accounts) in
-    let differ = owners_kept c.args.from.now.link k to (ap (λ (x : End). x.outbox.owner) e.rest) (ap (λ (x : End). x.inbox.joiner.owner) e.rest) c.requires.owners in
+    let differ = owners_kept c.args.from.now.link k to (ap (λ (x : End). x.outbox.owner) e.rest) (ap (λ (x : End). x.inbox.joiner.owner) e.rest)
+    c.requires.owners in
     may_pass_on old k to _ c.requires.rests.state c.in-Some.chain stands a differ c.requires.rests.stands
 
 pub give-requires-in-Err : goal.give-requires-in-Err
@@ -75,7 +78,8 @@ give-requires-in-Err c =
     let m = c.requires.stands.0 in
     let stands = e.stands old m c.requires.stands.1 in
     let a = fetched_chain k old _ (c.in-Some.pipe, c.in-Some.chain) c.in-Some.is (e.accounts old m c.requires.stands.1 c.requires.accounts) in
-    let differ = owners_kept c.args.from.now.link k to (ap (λ (x : End). x.outbox.owner) e.rest) (ap (λ (x : End). x.inbox.joiner.owner) e.rest) c.requires.owners in
+    let differ = owners_kept c.args.from.now.link k to (ap (λ (x : End). x.outbox.owner) e.rest) (ap (λ (x : End). x.inbox.joiner.owner) e.rest)
+    c.requires.owners in
     let refused = c.in-Err.ensures.refused in
     subst (λ x. IsLive x c.in-Err.chain) (sym refused.0) (subst (IsLive old) (sym c.in-Err.ensures.back) a.fetched.live)
 
@@ -88,10 +92,13 @@ returns-in-Err-clause-from c =
     let m = c.requires.stands.0 in
     let stands = e.stands old m c.requires.stands.1 in
     let a = fetched_chain k old _ (c.in-Some.pipe, c.in-Some.chain) c.in-Some.is (e.accounts old m c.requires.stands.1 c.requires.accounts) in
-    let differ = owners_kept c.args.from.now.link k to (ap (λ (x : End). x.outbox.owner) e.rest) (ap (λ (x : End). x.inbox.joiner.owner) e.rest) c.requires.owners in
+    let differ = owners_kept c.args.from.now.link k to (ap (λ (x : End). x.outbox.owner) e.rest) (ap (λ (x : End). x.inbox.joiner.owner) e.rest)
+    c.requires.owners in
     let refused = c.in-Err.ensures.refused in
-    let gives = subst (λ x. Gives old c.give-in-Err.new.self x) c.in-Err.ensures.back (subst (λ p. Gives p c.give-in-Err.new.self c.in-Err.chain) refused.0 c.give-in-Err.ensures.given) in
-    let keeps = subst (λ x. KeepsOthers old c.give-in-Err.new.self x x) c.in-Err.ensures.back (subst (λ p. KeepsOthers p c.give-in-Err.new.self c.in-Err.chain c.in-Err.chain) refused.0 c.give-in-Err.ensures.others) in
+    let gives = subst (λ x. Gives old c.give-in-Err.new.self x) c.in-Err.ensures.back (subst (λ p. Gives p c.give-in-Err.new.self
+    c.in-Err.chain) refused.0 c.give-in-Err.ensures.given) in
+    let keeps = subst (λ x. KeepsOthers old c.give-in-Err.new.self x x) c.in-Err.ensures.back (subst (λ p. KeepsOthers p c.give-in-Err.new.self
+    c.in-Err.chain c.in-Err.chain) refused.0 c.give-in-Err.ensures.others) in
     (given_back old c.give-in-Err.new.self k to _ c.in-Some.chain stands e.fetched a differ c.requires.rests gives keeps).0
 
 pub returns-in-Err-clause-to : goal.returns-in-Err-clause-to
@@ -103,11 +110,15 @@ returns-in-Err-clause-to c =
     let m = c.requires.stands.0 in
     let stands = e.stands old m c.requires.stands.1 in
     let a = fetched_chain k old _ (c.in-Some.pipe, c.in-Some.chain) c.in-Some.is (e.accounts old m c.requires.stands.1 c.requires.accounts) in
-    let differ = owners_kept c.args.from.now.link k to (ap (λ (x : End). x.outbox.owner) e.rest) (ap (λ (x : End). x.inbox.joiner.owner) e.rest) c.requires.owners in
+    let differ = owners_kept c.args.from.now.link k to (ap (λ (x : End). x.outbox.owner) e.rest) (ap (λ (x : End). x.inbox.joiner.owner) e.rest)
+    c.requires.owners in
     let refused = c.in-Err.ensures.refused in
-    let gives = subst (λ x. Gives old c.give-in-Err.new.self x) c.in-Err.ensures.back (subst (λ p. Gives p c.give-in-Err.new.self c.in-Err.chain) refused.0 c.give-in-Err.ensures.given) in
-    let keeps = subst (λ x. KeepsOthers old c.give-in-Err.new.self x x) c.in-Err.ensures.back (subst (λ p. KeepsOthers p c.give-in-Err.new.self c.in-Err.chain c.in-Err.chain) refused.0 c.give-in-Err.ensures.others) in
-    subst (λ x. Rests x c.give-in-Err.new.self) (sym refused.1) (given_back old c.give-in-Err.new.self k to _ c.in-Some.chain stands e.fetched a differ c.requires.rests gives keeps).1
+    let gives = subst (λ x. Gives old c.give-in-Err.new.self x) c.in-Err.ensures.back (subst (λ p. Gives p c.give-in-Err.new.self
+    c.in-Err.chain) refused.0 c.give-in-Err.ensures.given) in
+    let keeps = subst (λ x. KeepsOthers old c.give-in-Err.new.self x x) c.in-Err.ensures.back (subst (λ p. KeepsOthers p c.give-in-Err.new.self
+    c.in-Err.chain c.in-Err.chain) refused.0 c.give-in-Err.ensures.others) in
+    subst (λ x. Rests x c.give-in-Err.new.self) (sym refused.1) (given_back old c.give-in-Err.new.self k to _ c.in-Some.chain stands e.fetched a differ
+    c.requires.rests gives keeps).1
 
 pub returns-in-Ok-clause-from : goal.returns-in-Ok-clause-from
 returns-in-Ok-clause-from c =
@@ -118,7 +129,8 @@ returns-in-Ok-clause-from c =
     let m = c.requires.stands.0 in
     let stands = e.stands old m c.requires.stands.1 in
     let a = fetched_chain k old _ (c.in-Some.pipe, c.in-Some.chain) c.in-Some.is (e.accounts old m c.requires.stands.1 c.requires.accounts) in
-    let differ = owners_kept c.args.from.now.link k to (ap (λ (x : End). x.outbox.owner) e.rest) (ap (λ (x : End). x.inbox.joiner.owner) e.rest) c.requires.owners in
+    let differ = owners_kept c.args.from.now.link k to (ap (λ (x : End). x.outbox.owner) e.rest) (ap (λ (x : End). x.inbox.joiner.owner) e.rest)
+    c.requires.owners in
     let s = c.in-Ok.ensures in
     (passed_on old c.send_chain.new.pool k to c.send_chain.new.self.link _ _ c.in-Some.chain stands e.fetched a differ c.requires.rests
     (s.stands c.requires.rests.state c.requires.rests.stands) s.inbox s.elsewhere).0
@@ -132,7 +144,8 @@ returns-in-Ok-clause-to c =
     let m = c.requires.stands.0 in
     let stands = e.stands old m c.requires.stands.1 in
     let a = fetched_chain k old _ (c.in-Some.pipe, c.in-Some.chain) c.in-Some.is (e.accounts old m c.requires.stands.1 c.requires.accounts) in
-    let differ = owners_kept c.args.from.now.link k to (ap (λ (x : End). x.outbox.owner) e.rest) (ap (λ (x : End). x.inbox.joiner.owner) e.rest) c.requires.owners in
+    let differ = owners_kept c.args.from.now.link k to (ap (λ (x : End). x.outbox.owner) e.rest) (ap (λ (x : End). x.inbox.joiner.owner) e.rest)
+    c.requires.owners in
     let s = c.in-Ok.ensures in
     (passed_on old c.send_chain.new.pool k to c.send_chain.new.self.link _ _ c.in-Some.chain stands e.fetched a differ c.requires.rests
     (s.stands c.requires.rests.state c.requires.rests.stands) s.inbox s.elsewhere).1

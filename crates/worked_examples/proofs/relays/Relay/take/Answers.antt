@@ -7,5 +7,6 @@ pass_on-requires-clause-stands g c = (_, c.take_lpdu-report.ensures.stands c.sel
 pub pass_on-requires-clause-rests : goal.pass_on-requires-clause-rests
 pass_on-requires-clause-rests g c =
     let i = c.self.invariant in
-    rests_beside c.self.inside.pool c.take_lpdu-report.new.pool c.self.inside.first.link c.take_lpdu-report.new.self.link c.self.inside.second.link i.0.state i.0.stands
+    rests_beside c.self.inside.pool c.take_lpdu-report.new.pool c.self.inside.first.link c.take_lpdu-report.new.self.link c.self.inside.second.link
+    i.0.state i.0.stands
     c.take_lpdu-report.ensures.elsewhere (i.2) i.1
