@@ -1,17 +1,28 @@
 use crate::{End, Header, Line, Octets};
-use swp_base::Lpdu;
+use hci_tables::{Command, Tables};
+use swp_base::{Cause, Lpdu};
 
-/// Why a line was refused and changed nothing.
+/// Why a line was refused and changed nothing. Where several hold, the first of these is told.
 #[derive(Clone, Copy, Debug, PartialEq, Eq)]
 pub enum NoCause {
+    /// A node that the line needs isn't running.
+    Off,
+    /// The node that is to start runs already.
+    Running,
+    /// The link isn't activated.
+    Inactive,
     /// The end that sends isn't up.
     NotUp,
+    /// Something has to be answered first: a reset by the other end, or a command of the host by the controller.
+    Waiting,
     /// The message is too long.
     TooLong,
     /// The message needs more blocks of memory than the end has to spare.
     Full { need: u16, spare: u16 },
     /// No frame stands on the wire.
     Empty,
+    /// A place lies behind the frame, which has so many bits.
+    Beyond { bits: u16 },
 }
 
 /// Why a frame was lost on its way.
@@ -35,7 +46,7 @@ pub enum LostCause {
     Nothing,
 }
 
-/// A line of the transcript.
+/// A line of the transcript (this project's own).
 #[derive(Debug, Drop, PartialEq, Eq)]
 pub enum Entry {
     /// The header, as it was read.
@@ -46,6 +57,20 @@ pub enum Entry {
     Up {
         at: End,
         session: u32,
+    },
+    /// A session ends at an end.
+    Down {
+        at: End,
+        cause: Cause,
+    },
+    /// An end is activated.
+    Active {
+        at: End,
+    },
+    /// An end gave up after so many tries.
+    GaveUp {
+        at: End,
+        tries: u8,
     },
     /// A message was accepted for sending.
     Sent {
@@ -82,6 +107,66 @@ pub enum Entry {
         at: End,
         lpdu: Lpdu,
         cause: LostCause,
+    },
+    /// The node of an end handles a message.
+    Turn {
+        at: End,
+        pid: u8,
+        message: Octets,
+    },
+    /// The first waiting message at an end lacks room: it needs more blocks of memory than there are to spare.
+    Held {
+        at: End,
+        need: u16,
+        spare: u16,
+    },
+    /// The notice of a creation goes to a host, which is asked.
+    Ask {
+        host: u8,
+        message: Octets,
+    },
+    /// The message that was handled last was dropped.
+    Dropped {
+        at: End,
+        pid: u8,
+    },
+    /// A commit of a command is begun at a node.
+    Command {
+        node: u8,
+        command: Command,
+    },
+    /// ANY_OK was sent for the command of this number of a node.
+    AnyOk {
+        node: u8,
+        count: u32,
+    },
+    /// A session was initialised, and the host's identity is the one that is kept.
+    InitSame {
+        at: End,
+    },
+    /// A session was initialised anew, and so many pipes were made.
+    InitMade {
+        at: End,
+        count: u8,
+    },
+    /// The initialisation of a session ended with a response of this code.
+    InitFailed {
+        at: End,
+        code: u8,
+    },
+    /// The power of a node was cut.
+    Cut {
+        node: u8,
+    },
+    /// A node has started, and found so many commands in its memory.
+    Booted {
+        node: u8,
+        count: u32,
+    },
+    /// The tables of a node.
+    Tables {
+        node: u8,
+        tables: Box<Tables>,
     },
     /// The line was refused and changed nothing.
     No {

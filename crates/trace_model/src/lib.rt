@@ -4,7 +4,9 @@
 mod entry;
 mod line;
 mod octets;
+mod watch;
 
 pub use entry::{Entry, LostCause, NoCause};
 pub use line::{End, Header, Line};
 pub use octets::Octets;
+pub use watch::Watch;
