@@ -76,3 +76,9 @@ holds_nothing start = record { whole = λ _. sym (append-nil start); front = λ 
 -- the words of one more host
 pub hosts-more : (f : ℕ → List ℕ) (hosts : List ℕ) (i : ℕ) → i < length hosts → map f (take (i + 1) hosts) ≡ map f (take i hosts) ++ f (get_or hosts i 0) ∷ []
 hosts-more f hosts i h = rw (take_more hosts i 0 h, map-append) refl
+
+-- a line and what stands behind its LF
+pub holds_line : (start text behind more items : List ℕ) (short : Bool) → behind ≡ more → Holds start ((text ++ (10 ∷ [])) ++ behind) items short
+    → Holds start (text ++ (10 ∷ more)) items short
+holds_line start text behind more items short e h =
+    subst (λ t. Holds start t items short) (append_assoc text (10 ∷ []) behind ∙ ap (λ b. text ++ (10 ∷ b)) e) h

@@ -1,9 +1,10 @@
 pub mod AgainLemmas
 pub mod FaultsLemmas
+pub mod FormsLemmas
 pub mod GrowthLemmas
 pub mod HexLemmas
 pub mod LinesLemmas
 pub mod NumbersLemmas
-pub mod ReadAgainLemmas
+pub mod PlacesLemmas
 pub mod RowsLemmas
 pub mod WordsLemmas

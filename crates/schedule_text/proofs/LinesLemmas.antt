@@ -1,23 +1,28 @@
--- What is read is inside the grammar.
-use Rattle.std.proofs.Common.{◌≡◌, ◌==◌, ◌&&◌, ◌||◌, ℕ, suc, ◌≤◌, Bool, true, false, not, cond, nat_lt, nat_le, List, [], ◌∷◌, length, get_or, refl, sym, ◌∙◌, subst, arith, Option, Some, None, Result, Ok, Err, IfSome, Contains, All, IsTrue, slice_get, eqb-true}
-use Rattle.std.proofs.lemmas.Bool.{leb-true}
+-- What is read is inside the grammar: a line for each form, by what its words are.
+use Rattle.std.proofs.Common.{◌≡◌, ◌==◌, ◌||◌, ℕ, suc, ◌<◌, ◌≤◌, Bool, true, false, not, cond, nat_lt, List, [], ◌∷◌, length, get_or, refl, sym, ◌∙◌, subst, arith, Option, Some, None, Result, Ok, Err, IfSome, Contains, All, IsTrue, IsSome, slice_get, eqb-true}
 use Rattle.std.specs.List.{list_any}
-use Rattle.trace_model.specs.declared.line.End.{End}
+use Rattle.std.specs.Result.{result_ok}
+use Rattle.std.proofs.lemmas.List.{get_or_default}
+use Rattle.hex.specs.Hex.{decode_of}
+use Rattle.hex.specs.declared.error.FromHexError.{FromHexError}
+use Rattle.hex.proofs.HexLemmas.{decode_of-ok}
 use Rattle.trace_model.specs.declared.line.Header.{Header}
 use Rattle.trace_model.specs.declared.line.Line.{Line}
 use Rattle.trace_model.specs.declared.line.Line.TheVariants as line
 use Rattle.trace_model.specs.Lines.{IsHost, IsHeader, IsLineOf}
 use Rattle.schedule_text.specs.declared.fault.LineFault.{LineFault}
 use Rattle.schedule_text.specs.declared.fault.LineFault.TheVariants as fault
+use Rattle.schedule_text.specs.declared.forms.Name.TheVariants as name
 use Rattle.schedule_text.specs.declared.read.Read.{Read}
 use Rattle.schedule_text.specs.declared.read.Read.TheVariants as read
 use Rattle.schedule_text.specs.Words.{words}
-use Rattle.schedule_text.specs.Values.{byte_value, bytes_value, number_value, end_value, option_if}
-use Rattle.schedule_text.specs.Forms.{row_for, header_row, send_row, deliver_row}
+use Rattle.schedule_text.specs.Values.{bytes_value, number_in}
+use Rattle.schedule_text.specs.Forms.{Row, rows, row_for, header_row, send_row, deliver_row, lose_row, damage_row, tick_row, reset_row, busy_row, ready_row}
 use Rattle.schedule_text.specs.Rules.{words_fault}
-use Rattle.schedule_text.specs.Lines.{◌>>=◌, header_of, send_of, deliver_of, unless_fault, by_row, by_words, is_comment, line_of}
-use Rattle.schedule_text.specs.Answers.{IsInGrammar}
-use Rattle.schedule_text.proofs.RowsLemmas.{no_fault, send_words, deliver_words, header_host, row_cases, both}
+use Rattle.schedule_text.specs.Lines.{◌>>=◌, number_at, read_of, unless_fault, by_row, by_words, is_comment, line_of}
+use Rattle.schedule_text.specs.Answers.{CanBeRead, IsInGrammar}
+use Rattle.schedule_text.proofs.RowsLemmas.{Right, no_fault, row_cases}
+use Rattle.schedule_text.proofs.PlacesLemmas.{number-range, places-read, rise-increasing, rise-below}
 
 found_at : (t : Bool) (x q : ℕ) (xs : List ℕ) → (x == q) ≡ t → (list_any (λ y. y == q) xs ≡ true → Contains xs q)
     → (t || list_any (λ y. y == q) xs) ≡ true → Contains (x ∷ xs) q
@@ -25,7 +30,7 @@ found_at true x q xs e behind h = (0, omega arith, eqb-true x q e)
 found_at false x q xs e behind h = let found = behind h in (suc found.0, omega arith, found.2)
 
 -- an element that a test finds
-pub contains_found : (xs : List ℕ) (q : ℕ) → list_any (λ x. x == q) xs ≡ true → Contains xs q
+contains_found : (xs : List ℕ) (q : ℕ) → list_any (λ x. x == q) xs ≡ true → Contains xs q
 contains_found [] q h = cc
 contains_found (x ∷ xs) q h = found_at (x == q) x q xs refl (contains_found xs q) h
 
@@ -33,7 +38,116 @@ implied : (a b : Bool) → (not a || b) ≡ true → IsTrue a → IsTrue b
 implied true b h t = h
 implied false b h t = cc
 
--- a line that is read has no fault, and says what its words say
+ok_of : (r : Result (List ℕ) FromHexError) (bytes : List ℕ) → result_ok r ≡ Some bytes → r ≡ Ok bytes
+ok_of (Ok bs) bytes h = cc
+ok_of (Err e) bytes h = cc
+
+-- what digits stand for are bytes
+are_bytes : (word bytes : List ℕ) → bytes_value word ≡ Some bytes → All (λ b. b < 256) bytes
+are_bytes word bytes h =
+    let small = (decode_of-ok word bytes (ok_of (decode_of word) bytes h)).3 in
+    λ k d within. subst (λ b. b < 256) (get_or_default bytes k 0 d within) (small k)
+
+number_bounds : (high : ℕ) (word : List ℕ) (o : Option ℕ) → number_in 1 high word ≡ o → IfSome o (λ n. (1 ≤ n) × (n ≤ high))
+number_bounds high word None e = tt
+number_bounds high word (Some n) e = let range = number-range 1 high n word e in (range.1, range.2)
+
+-- a number that may be absent is in its range
+number_ranges : (high : ℕ) (o : Option (List ℕ)) → IfSome (o >>= number_in 1 high) (λ n. (1 ≤ n) × (n ≤ high))
+number_ranges high None = tt
+number_ranges high (Some word) = number_bounds high word (number_in 1 high word) refl
+
+-- what the words of a line say that have no fault
+abbrev Says : Header → Row → List (List ℕ) → Type 0
+Says header row ws = Right header.hci header.hosts.items row ws → (said : Line) × (read_of row.name ws ≡ Some (read.Line said)) × IsLineOf header said
+
+says_send : (header : Header) (ws : List (List ℕ)) → Says header send_row ws
+says_send header [] right = absurd (let h = right.least in omega arith)
+says_send header (a ∷ []) right = absurd (let h = right.least in omega arith)
+says_send header (a ∷ b ∷ []) right = absurd (let h = right.least in omega arith)
+says_send header (a ∷ b ∷ c ∷ ws) right =
+    let at = right.words.0 in
+    let pid = right.words.1.0 in
+    let message = right.words.1.1.0 in (
+      line.Send at.0 pid.0 message.0,
+      rw (at.1, pid.1, message.1) refl,
+      record {
+        known = contains_found header.hosts.items at.0.link at.2;
+        sender = implied header.hci at.0.at_host at.3;
+        pipe = pid.2;
+        some = message.2;
+        bytes = are_bytes c message.0 message.1;
+      },
+    )
+
+says_deliver : (header : Header) (ws : List (List ℕ)) → Says header deliver_row ws
+says_deliver header [] right = absurd (let h = right.least in omega arith)
+says_deliver header (a ∷ ws) right =
+    let at = right.words.0 in
+    (line.Deliver at.0 (number_at 64 (a ∷ ws) 1), rw at.1 refl, (contains_found header.hosts.items at.0.link at.2, number_ranges 64 (slice_get ws 0)))
+
+says_lose : (header : Header) (ws : List (List ℕ)) → Says header lose_row ws
+says_lose header [] right = absurd (let h = right.least in omega arith)
+says_lose header (a ∷ ws) right = let at = right.words.0 in (line.Lose at.0, rw at.1 refl, contains_found header.hosts.items at.0.link at.2)
+
+says_damage : (header : Header) (ws : List (List ℕ)) → Says header damage_row ws
+says_damage header [] right = absurd (let h = right.least in omega arith)
+says_damage header (a ∷ ws) right =
+    let at = right.words.0 in
+    let places = places-read header.hci header.hosts.items 0 ws right.words.1 in
+    let least = right.least in
+    let most = right.most in (
+      line.Damage at.0 (record { items = places.0 }),
+      rw (at.1, places.1) refl,
+      (
+        contains_found header.hosts.items at.0.link at.2,
+        record {
+          some = let long = places.2 in omega arith;
+          most = let long = places.2 in omega arith;
+          rising = rise-increasing 0 places.0 places.3;
+          inside = rise-below 0 places.0 places.3;
+        },
+      ),
+    )
+
+says_tick : (header : Header) (ws : List (List ℕ)) → Says header tick_row ws
+says_tick header ws right = (line.Tick (number_at 100 ws 0), refl, number_ranges 100 (slice_get ws 0))
+
+says_reset : (header : Header) (ws : List (List ℕ)) → Says header reset_row ws
+says_reset header [] right = absurd (let h = right.least in omega arith)
+says_reset header (a ∷ ws) right =
+    let at = right.words.0 in
+    (line.Reset at.0 (number_at 4 (a ∷ ws) 1), rw at.1 refl, (contains_found header.hosts.items at.0.link at.2, number_ranges 4 (slice_get ws 0)))
+
+says_busy : (header : Header) (ws : List (List ℕ)) → header.hci ≡ false → Says header busy_row ws
+says_busy header [] bare right = absurd (let h = right.least in omega arith)
+says_busy header (a ∷ ws) bare right = let at = right.words.0 in (line.Busy at.0, rw at.1 refl, (bare, contains_found header.hosts.items at.0.link at.2))
+
+says_ready : (header : Header) (ws : List (List ℕ)) → header.hci ≡ false → Says header ready_row ws
+says_ready header [] bare right = absurd (let h = right.least in omega arith)
+says_ready header (a ∷ ws) bare right = let at = right.words.0 in (line.Ready at.0, rw at.1 refl, (bare, contains_found header.hosts.items at.0.link at.2))
+
+one_host : (host : ℕ) → IsHost host → All IsHost (host ∷ [])
+one_host host range = λ k d within. let z : k ≡ 0 = omega arith in subst (λ n. IsHost (get_or (host ∷ []) n d)) (sym z) range
+
+-- what a header says
+says_header : (ws : List (List ℕ)) → Right false [] header_row ws → (said : Header) × (read_of name.Header ws ≡ Some (read.Header said)) × IsHeader said
+says_header [] right = absurd (let h = right.least in omega arith)
+says_header (a ∷ []) right = absurd (let h = right.least in omega arith)
+says_header (a ∷ b ∷ []) right = absurd (let h = right.least in omega arith)
+says_header (a ∷ b ∷ c ∷ ws) right =
+    let host = right.words.1.1.0 in (
+      record { hci = false; hosts = record { items = host.0 ∷ [] } },
+      rw host.1 refl,
+      record { bare = refl; one = refl; hosts = one_host host.0 (host.2, host.4) },
+    )
+
+-- a header, or a line below it
+abbrev pub IsWhole : Option Header → Read → Type 0
+IsWhole None (read.Header said) = IsHeader said
+IsWhole (Some header) (read.Line said) = IsLineOf header said
+IsWhole header r = ⊥
+
 unless_ok : (f : Option LineFault) (said : Option Read) (r : Read) → unless_fault f said ≡ Ok r → (f ≡ None) × (said ≡ Some r)
 unless_ok (Some f) said r h = cc
 unless_ok None (Some r') r h = (refl, cc)
@@ -45,81 +159,84 @@ same_read a b h = cc
 ok_is : (a b : Read) → Ok a ≡ (let r : Result Read LineFault = Ok b in r) → a ≡ b
 ok_is a b h = cc
 
-send_reads : (ws : List (List ℕ)) (at : End) (pid : ℕ) (message : List ℕ) → (slice_get ws 0 >>= end_value) ≡ Some at → (slice_get ws 1 >>= byte_value) ≡ Some pid
-    → (slice_get ws 2 >>= bytes_value) ≡ Some message → send_of ws ≡ Some (read.Line (line.Send at pid message))
-send_reads ws at pid message a b c = rw (a, b, c) refl
-
--- `send`
-send_fits : (header : Header) (ws : List (List ℕ)) (r : Read)
-    → unless_fault (words_fault header.hci header.hosts.items send_row ws) (send_of ws) ≡ Ok r → IsInGrammar (Some header) r
-send_fits header ws r h =
+whole_line : (header : Header) (row : Row) (ws : List (List ℕ)) (r : Read) → Says header row ws
+    → unless_fault (words_fault header.hci header.hosts.items row ws) (read_of row.name ws) ≡ Ok r → IsWhole (Some header) r
+whole_line header row ws r says h =
     let right = unless_ok _ _ _ h in
-    let said = send_words header.hci header.hosts.items ws (no_fault header.hci header.hosts.items send_row ws right.0) in
-    let reads = send_reads ws said.at said.pid said.message said.end_is said.pid_is said.message_is in
-    subst (IsInGrammar (Some header)) (same_read _ _ (sym reads ∙ right.1)) (record {
-      known = contains_found header.hosts.items said.at.link said.known;
-      sender = implied header.hci said.at.at_host said.sender;
-      pipe = said.below;
-      some = said.some;
-      bytes = said.bytes;
-    })
+    let said = says (no_fault header.hci header.hosts.items row ws right.0) in
+    subst (IsWhole (Some header)) (same_read _ _ (sym said.1 ∙ right.1)) said.2
 
-in_range : (low high : ℕ) (o : Option ℕ) → IfSome (option_if (λ n. nat_le low n && nat_le n high) o) (λ n. (low ≤ n) × (n ≤ high))
-in_range low high None = tt
-in_range low high (Some n) = go (nat_le low n && nat_le n high) refl
-  where
-    go : (t : Bool) → (nat_le low n && nat_le n high) ≡ t → IfSome (cond t (Some n) None) (λ n. (low ≤ n) × (n ≤ high))
-    go true e = let parts = both _ _ e in (leb-true _ _ parts.0, leb-true _ _ parts.1)
-    go false e = tt
-
-count_in_range : (o : Option (List ℕ)) → IfSome (o >>= (λ word. option_if (λ n. nat_le 1 n && nat_le n 64) (number_value word))) (λ n. (1 ≤ n) × (n ≤ 64))
-count_in_range None = tt
-count_in_range (Some word) = in_range 1 64 (number_value word)
-
-deliver_reads : (a : List ℕ) (ws : List (List ℕ)) (at : End) → end_value a ≡ Some at
-    → deliver_of (a ∷ ws) ≡ Some (read.Line (line.Deliver at (slice_get ws 0 >>= (λ word. option_if (λ n. nat_le 1 n && nat_le n 64) (number_value word)))))
-deliver_reads a ws at e = rw e refl
-
--- `deliver`
-deliver_fits : (header : Header) (ws : List (List ℕ)) (r : Read)
-    → unless_fault (words_fault header.hci header.hosts.items deliver_row ws) (deliver_of ws) ≡ Ok r → IsInGrammar (Some header) r
-deliver_fits header [] r h = cc
-deliver_fits header (a ∷ ws) r h =
+whole_header : (ws : List (List ℕ)) (r : Read) → unless_fault (words_fault false [] header_row ws) (read_of name.Header ws) ≡ Ok r → IsWhole None r
+whole_header ws r h =
     let right = unless_ok _ _ _ h in
-    let said = deliver_words header.hci header.hosts.items a ws (no_fault header.hci header.hosts.items deliver_row (a ∷ ws) right.0) in
-    let reads = deliver_reads a ws said.0 said.1 in
-    subst (IsInGrammar (Some header)) (same_read _ _ (sym reads ∙ right.1)) (contains_found header.hosts.items said.0.link said.2, count_in_range (slice_get ws 0))
+    let said = says_header ws (no_fault false [] header_row ws right.0) in
+    subst (IsWhole None) (same_read _ _ (sym said.1 ∙ right.1)) said.2
 
-some_host : (o : Option ℕ) (r : Read) → (o >>= (λ host. Some (read.Header (record { hci = false; hosts = record { items = host ∷ [] } })))) ≡ Some r
-    → (host : ℕ) × (o ≡ Some host) × (r ≡ read.Header (record { hci = false; hosts = record { items = host ∷ [] } }))
-some_host None r h = cc
-some_host (Some host) r h = (host, refl, cc)
-
-one_host : (host : ℕ) → (1 ≤ host) × (host ≤ 7) → All IsHost (host ∷ [])
-one_host host range = λ k d within. let z : k ≡ 0 = omega arith in subst (λ n. IsHost (get_or (host ∷ []) n d)) (sym z) range
-
--- the first line
-first_fits : (ws : List (List ℕ)) (r : Read) → unless_fault (words_fault false [] header_row ws) (header_of ws) ≡ Ok r → IsInGrammar None r
-first_fits ws r h =
-    let right = unless_ok _ _ _ h in
-    let said = some_host _ _ right.1 in
-    let range = header_host false [] ws said.0 (no_fault false [] header_row ws right.0) said.1 in
-    subst (IsInGrammar None) (sym said.2) (record { bare = refl; one = refl; hosts = one_host said.0 range })
-
-skip_fits : (header : Option Header) → IsInGrammar header read.Skip
-skip_fits None = tt
-skip_fits (Some header) = tt
+whole_bare : (header : Header) (row : Row) (ws : List (List ℕ)) (r : Read) (t : Bool) → header.hci ≡ t → (header.hci ≡ false → Says header row ws)
+    → cond (not t) (unless_fault (words_fault header.hci header.hosts.items row ws) (read_of row.name ws)) (Err fault.Order) ≡ Ok r → IsWhole (Some header) r
+whole_bare header row ws r true e says h = cc
+whole_bare header row ws r false e says h = whole_line header row ws r (says e) h
 
 -- a line by its row
+pub row_whole : (header : Option Header) (first : List ℕ) (ws : List (List ℕ)) (r : Read) → by_row header (row_for first) ws ≡ Ok r → IsWhole header r
+row_whole None first ws r =
+    row_cases (λ o. by_row None o ws ≡ Ok r → IsWhole None r) rows first
+    (λ e h. whole_header ws r h, (λ e h. cc, (λ e h. cc, (λ e h. cc, (λ e h. cc, (λ e h. cc, (λ e h. cc, (λ e h. cc, (λ e h. cc, tt))))))))) (λ e h. cc)
+row_whole (Some header) first ws r =
+    row_cases (λ o. by_row (Some header) o ws ≡ Ok r → IsWhole (Some header) r) rows first (
+      λ e h. cc,
+      (
+        λ e. whole_line header send_row ws r (says_send header ws),
+        (
+          λ e. whole_line header deliver_row ws r (says_deliver header ws),
+          (
+            λ e. whole_line header lose_row ws r (says_lose header ws),
+            (
+              λ e. whole_line header damage_row ws r (says_damage header ws),
+              (
+                λ e. whole_line header tick_row ws r (says_tick header ws),
+                (
+                  λ e. whole_line header reset_row ws r (says_reset header ws),
+                  (
+                    λ e. whole_bare header busy_row ws r header.hci refl (says_busy header ws),
+                    (λ e. whole_bare header ready_row ws r header.hci refl (says_ready header ws), tt),
+                  ),
+                ),
+              ),
+            ),
+          ),
+        ),
+      ),
+    ) (λ e h. cc)
+
+fits_whole : (header : Option Header) (r : Read) → IsWhole header r → IsInGrammar header r
+fits_whole None (read.Header said) h = h
+fits_whole None (read.Line said) h = absurd h
+fits_whole None read.Skip h = tt
+fits_whole None read.NoMemory h = tt
+fits_whole (Some header) (read.Header said) h = absurd h
+fits_whole (Some header) (read.Line said) h = h
+fits_whole (Some header) read.Skip h = tt
+fits_whole (Some header) read.NoMemory h = tt
+
 pub row_fits : (header : Option Header) (first : List ℕ) (ws : List (List ℕ)) (r : Read) → by_row header (row_for first) ws ≡ Ok r → IsInGrammar header r
-row_fits None first ws r =
-    row_cases (λ o. by_row None o ws ≡ Ok r → IsInGrammar None r) first (first_fits ws r) (λ h. cc) (λ h. cc) (λ h. cc)
-row_fits (Some header) first ws r =
-    row_cases (λ o. by_row (Some header) o ws ≡ Ok r → IsInGrammar (Some header) r) first (λ h. cc) (send_fits header ws r) (deliver_fits header ws r) (λ h. cc)
+row_fits header first ws r h = fits_whole header r (row_whole header first ws r h)
+
+no_skip : (header : Option Header) → IsWhole header read.Skip → ⊥
+no_skip None h = h
+no_skip (Some header) h = h
+
+-- a line of a form isn't skipped
+pub never_skipped : (header : Option Header) (first : List ℕ) (ws : List (List ℕ)) → by_row header (row_for first) ws ≡ Ok read.Skip → ⊥
+never_skipped header first ws h = no_skip header (row_whole header first ws read.Skip h)
 
 pub memory_fits : (header : Option Header) → IsInGrammar header read.NoMemory
 memory_fits None = tt
 memory_fits (Some header) = tt
+
+skip_fits : (header : Option Header) → IsInGrammar header read.Skip
+skip_fits None = tt
+skip_fits (Some header) = tt
 
 words_fit : (header : Option Header) (ws : List (List ℕ)) (r : Read) → by_words header ws ≡ Ok r → IsInGrammar header r
 words_fit header [] r h = subst (IsInGrammar header) (ok_is _ _ h) (skip_fits header)
@@ -143,3 +260,24 @@ IsLineOf-line_of header bytes said h = line_fits (Some header) bytes (read.Line 
 
 pub IsHeader-line_of : (bytes : List ℕ) (header : Header) → line_of None bytes ≡ Ok (read.Header header) → IsHeader header
 IsHeader-line_of bytes header h = line_fits None bytes (read.Header header) h
+
+-- a message is read, and no more places than a line has
+abbrev Ready : Bool → List ℕ → List (List ℕ) → Option Row → Type 0
+Ready hci hosts ws None = Unit {0}
+Ready hci hosts ws (Some row) = Right hci hosts row ws → CanBeRead row.name ws
+
+ready_send : (hci : Bool) (hosts : List ℕ) (ws : List (List ℕ)) → Ready hci hosts ws (Some send_row)
+ready_send hci hosts [] right = absurd (let h = right.least in omega arith)
+ready_send hci hosts (a ∷ []) right = absurd (let h = right.least in omega arith)
+ready_send hci hosts (a ∷ b ∷ []) right = absurd (let h = right.least in omega arith)
+ready_send hci hosts (a ∷ b ∷ c ∷ ws) right = let message = right.words.1.1.0 in subst IsSome (sym message.1) refl
+
+ready : (hci : Bool) (hosts : List ℕ) (first : List ℕ) (ws : List (List ℕ)) → Ready hci hosts ws (row_for first)
+ready hci hosts first ws =
+    row_cases (Ready hci hosts ws) rows first
+    (λ e r. tt, (λ e. ready_send hci hosts ws, (λ e r. tt, (λ e r. tt, (λ e r. r.most, (λ e r. tt, (λ e r. tt, (λ e r. tt, (λ e r. tt, tt)))))))))
+    (λ e. tt)
+
+pub can_be_read : (hci : Bool) (hosts : List ℕ) (first : List ℕ) (row : Row) (ws : List (List ℕ)) → Some row ≡ row_for first
+    → words_fault hci hosts row ws ≡ None → CanBeRead row.name ws
+can_be_read hci hosts first row ws e h = subst (Ready hci hosts ws) (sym e) (ready hci hosts first ws) (no_fault hci hosts row ws h)

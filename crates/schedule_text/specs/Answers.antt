@@ -1,39 +1,40 @@
 -- What a reader answers beside the definition: want of memory, where the line has no fault.
-use Rattle.std.specs.Prelude.{◌≡◌, ◌≢◌, ◌⊎◌, List, [], ◌∷◌, ℕ, IsTrue, codes, Option, Some, None, Result, Ok, Err, IsSome, slice_get}
+use Rattle.std.specs.Prelude.{◌≡◌, ◌≢◌, ◌≤◌, ◌⊎◌, List, [], ◌∷◌, ℕ, length, IsTrue, codes, Option, Some, None, Result, Ok, Err, IsSome, IsSomeAnd, IsOkAnd}
 use Rattle.schedule_text.specs.declared.fault.LineFault.{LineFault}
+use Rattle.schedule_text.specs.declared.forms.Name.{Name}
+use Rattle.schedule_text.specs.declared.forms.Name.TheVariants as name
 use Rattle.schedule_text.specs.declared.read.Read.{Read}
 use Rattle.schedule_text.specs.declared.read.Read.TheVariants as read
-use Rattle.schedule_text.specs.Values.{bytes_value}
-use Rattle.schedule_text.specs.Lines.{◌>>=◌, is_comment}
+use Rattle.schedule_text.specs.Lines.{bytes_at, is_comment}
 use Rattle.trace_model.specs.declared.line.Header.{Header}
+use Rattle.trace_model.specs.declared.line.Line.TheVariants as line
 use Rattle.trace_model.specs.Lines.{IsHeader, IsLineOf}
 
--- the words of a line of which the third is a message
-abbrev pub HasMessage : List (List ℕ) → Type 0
-HasMessage ws = IsSome (slice_get ws 2 >>= bytes_value)
+-- what must be known of the words of a line before they are read: the third of `send` is a message, and `damage` has no more
+-- than 16 places
+abbrev pub CanBeRead : Name → List (List ℕ) → Type 0
+CanBeRead name.Send ws = IsSome (bytes_at ws 2)
+CanBeRead name.Damage ws = length ws ≤ 17
+CanBeRead name.Header ws = Unit {0}
+CanBeRead name.Deliver ws = Unit {0}
+CanBeRead name.Lose ws = Unit {0}
+CanBeRead name.Tick ws = Unit {0}
+CanBeRead name.Reset ws = Unit {0}
+CanBeRead name.Busy ws = Unit {0}
+CanBeRead name.Ready ws = Unit {0}
 
--- a line below the header
-abbrev pub IsALine : Read → Type 0
-IsALine (read.Line said) = Unit {0}
-IsALine (read.Header header) = ⊥
-IsALine read.Skip = ⊥
-IsALine read.NoMemory = ⊥
+-- a line with a message, which takes memory
+abbrev pub TakesMemory : Read → Type 0
+TakesMemory (read.Line (line.Send at pid message)) = Unit {0}
+TakesMemory r = ⊥
 
-abbrev pub SaysALine : Option Read → Type 0
-SaysALine (Some r) = IsALine r
-SaysALine None = ⊥
-
-abbrev pub ReadsALine : Result Read LineFault → Type 0
-ReadsALine (Ok r) = IsALine r
-ReadsALine (Err f) = ⊥
-
--- what was said, or want of memory for a line
+-- what was said, or want of memory for a line with a message
 abbrev pub IsSaid : Option Read → Option Read → Type 0
-IsSaid answer said = (answer ≡ said) ⊎ ((answer ≡ Some read.NoMemory) × SaysALine said)
+IsSaid answer said = (answer ≡ said) ⊎ ((answer ≡ Some read.NoMemory) × IsSomeAnd said TakesMemory)
 
--- what was read, or want of memory for a line
+-- what was read, or want of memory for a line with a message
 abbrev pub IsRead : Result Read LineFault → Result Read LineFault → Type 0
-IsRead answer said = (answer ≡ said) ⊎ ((answer ≡ Ok read.NoMemory) × ReadsALine said)
+IsRead answer said = (answer ≡ said) ⊎ ((answer ≡ Ok read.NoMemory) × IsOkAnd said TakesMemory)
 
 -- what may come of a line: first a header, below it lines of that world
 abbrev pub IsInGrammar : Option Header → Read → Type 0
@@ -49,8 +50,12 @@ abbrev pub IsSkipped : List (List ℕ) → Type 0
 IsSkipped [] = Unit {0}
 IsSkipped (first ∷ ws) = IsTrue (is_comment first)
 
--- a first line that isn't a header, or a header below one
+-- the first word of a line that no header `hci` allows
+abbrev pub IsBareForm : List ℕ → Type 0
+IsBareForm first = (first ≡ codes "busy") ⊎ (first ≡ codes "ready")
+
+-- a first line that isn't a header; below a header another one, or a line that this header doesn't allow
 abbrev pub IsOutOfOrder : Option Header → List (List ℕ) → Type 0
 IsOutOfOrder header [] = ⊥
 IsOutOfOrder None (first ∷ ws) = ¬ IsTrue (is_comment first) × (first ≢ codes "swp")
-IsOutOfOrder (Some header) (first ∷ ws) = first ≡ codes "swp"
+IsOutOfOrder (Some header) (first ∷ ws) = (first ≡ codes "swp") ⊎ (IsTrue header.hci × IsBareForm first)

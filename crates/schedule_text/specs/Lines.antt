@@ -1,6 +1,7 @@
 -- A line of a schedule: what it says, or what is wrong with it.
-use Rattle.std.specs.Prelude.{ℕ, ◌==◌, ◌&&◌, nat_lt, nat_le, Bool, false, not, if◌then◌else◌, List, [], ◌∷◌, length, slice_get, slice_index, Option, Some, None, is_some, Result, Ok, Err}
+use Rattle.std.specs.Prelude.{ℕ, ◌==◌, nat_lt, Bool, false, not, if◌then◌else◌, List, [], ◌∷◌, length, drop, slice_get, slice_index, Option, Some, None, is_some, Result, Ok, Err}
 use Rattle.std.specs.Option.{option_and_then, option_map_or, ok_or}
+use Rattle.trace_model.specs.declared.line.End.{End}
 use Rattle.trace_model.specs.declared.line.Header.{Header}
 use Rattle.trace_model.specs.declared.line.Line.TheVariants as line
 use Rattle.schedule_text.specs.declared.fault.LineFault.{LineFault}
@@ -12,7 +13,7 @@ use Rattle.schedule_text.specs.declared.forms.Name.TheVariants as name
 use Rattle.schedule_text.specs.declared.forms.Place.{Place}
 use Rattle.schedule_text.specs.declared.forms.Place.TheVariants as place
 use Rattle.schedule_text.specs.Words.{words}
-use Rattle.schedule_text.specs.Values.{byte_value, bytes_value, number_value, end_value, option_if}
+use Rattle.schedule_text.specs.Values.{byte_value, bytes_value, number_in, end_value}
 use Rattle.schedule_text.specs.Forms.{Row, row_for}
 use Rattle.schedule_text.specs.Rules.{words_fault}
 
@@ -20,36 +21,64 @@ infixl 10 ◌>>=◌
 abbrev pub ◌>>=◌ : {A B : Type 0} → Option A → (A → Option B) → Option B
 o >>= f = option_and_then f o
 
--- `swp 1 bare H`, of the words behind the first
-abbrev pub header_of : List (List ℕ) → Option Read
-header_of ws = do
-  host ← slice_get ws 2 >>= byte_value
-  Some (read.Header (record { hci = false; hosts = record { items = host ∷ [] } }))
+-- what word k says, counted from 0
+abbrev pub end_at : List (List ℕ) → ℕ → Option End
+end_at ws k = slice_get ws k >>= end_value
 
--- `send E PID HEX`
-abbrev pub send_of : List (List ℕ) → Option Read
-send_of ws = do
-  at ← slice_get ws 0 >>= end_value
-  pid ← slice_get ws 1 >>= byte_value
-  message ← slice_get ws 2 >>= bytes_value
-  Some (read.Line (line.Send at pid message))
+abbrev pub byte_at : List (List ℕ) → ℕ → Option ℕ
+byte_at ws k = slice_get ws k >>= byte_value
 
--- `deliver E`, `deliver E N`
-abbrev pub deliver_of : List (List ℕ) → Option Read
-deliver_of ws = do
-  at ← slice_get ws 0 >>= end_value
-  Some (read.Line (line.Deliver at (slice_get ws 1 >>= (λ word. option_if (λ n. nat_le 1 n && nat_le n 64) (number_value word)))))
+abbrev pub bytes_at : List (List ℕ) → ℕ → Option (List ℕ)
+bytes_at ws k = slice_get ws k >>= bytes_value
+
+-- a number from 1 to `high`; none also where there is no such word
+abbrev pub number_at : ℕ → List (List ℕ) → ℕ → Option ℕ
+number_at high ws k = slice_get ws k >>= number_in 1 high
+
+-- places of bits
+abbrev pub places_of : List (List ℕ) → Option (List ℕ)
+places_of [] = Some []
+places_of (word ∷ ws) = do
+  place ← number_in 0 399 word
+  places ← places_of ws
+  Some (place ∷ places)
 
 -- what the words behind the first say
 abbrev pub read_of : Name → List (List ℕ) → Option Read
-read_of name.Header ws = header_of ws
-read_of name.Send ws = send_of ws
-read_of name.Deliver ws = deliver_of ws
+read_of name.Header ws = do
+  host ← byte_at ws 2
+  Some (read.Header (record { hci = false; hosts = record { items = host ∷ [] } }))
+read_of name.Send ws = do
+  at ← end_at ws 0
+  pid ← byte_at ws 1
+  message ← bytes_at ws 2
+  Some (read.Line (line.Send at pid message))
+read_of name.Deliver ws = do
+  at ← end_at ws 0
+  Some (read.Line (line.Deliver at (number_at 64 ws 1)))
+read_of name.Lose ws = do
+  at ← end_at ws 0
+  Some (read.Line (line.Lose at))
+read_of name.Damage ws = do
+  at ← end_at ws 0
+  places ← places_of (drop 1 ws)
+  Some (read.Line (line.Damage at (record { items = places })))
+read_of name.Tick ws = Some (read.Line (line.Tick (number_at 100 ws 0)))
+read_of name.Reset ws = do
+  at ← end_at ws 0
+  Some (read.Line (line.Reset at (number_at 4 ws 1)))
+read_of name.Busy ws = do
+  at ← end_at ws 0
+  Some (read.Line (line.Busy at))
+read_of name.Ready ws = do
+  at ← end_at ws 0
+  Some (read.Line (line.Ready at))
 
 -- whether a line may stand there
 abbrev pub may_stand : Place → Option Header → Bool
 may_stand place.First header = not (is_some header)
 may_stand place.Below header = is_some header
+may_stand place.BelowBare header = option_map_or (λ h. not h.hci) header false
 
 -- whether the world has nodes, and its hosts
 abbrev pub has_nodes : Option Header → Bool

@@ -1,14 +1,14 @@
 -- What may be wrong with the words of a line, by one rule over the kinds that its row in the table gives them.
-use Rattle.std.specs.Prelude.{ℕ, ◌+◌, ◌==◌, ◌&&◌, ◌||◌, nat_le, nat_lt, Bool, true, false, not, if◌then◌else◌, List, [], ◌∷◌, length, Option, Some, None, is_some, unwrap_or, codes}
+use Rattle.std.specs.Prelude.{ℕ, ◌+◌, ◌==◌, ◌&&◌, ◌||◌, nat_le, nat_lt, Bool, true, false, not, if◌then◌else◌, List, [], ◌∷◌, length, Option, Some, None, is_some, codes}
 use Rattle.std.specs.List.{list_all, list_any}
-use Rattle.std.specs.Option.{option_map, option_or}
+use Rattle.std.specs.Option.{option_map, option_map_or, option_or}
 use Rattle.std.specs.Str.{bytes_eq}
 use Rattle.trace_model.specs.declared.line.End.{End}
 use Rattle.schedule_text.specs.declared.fault.LineFault.{LineFault}
 use Rattle.schedule_text.specs.declared.fault.LineFault.TheVariants as fault
 use Rattle.schedule_text.specs.declared.forms.Kind.{Kind}
 use Rattle.schedule_text.specs.declared.forms.Kind.TheVariants as kind
-use Rattle.schedule_text.specs.Values.{byte_value, bytes_value, number_value, end_value, option_if}
+use Rattle.schedule_text.specs.Values.{byte_value, bytes_value, number_in, end_value, option_if}
 use Rattle.schedule_text.specs.Forms.{Row}
 
 -- a word and what it may be
@@ -42,6 +42,7 @@ has_shape hci kind.NewHost word = true
 has_shape hci (kind.Byte below) word = true
 has_shape hci (kind.Bytes low high) word = true
 has_shape hci (kind.Number low high) word = true
+has_shape hci (kind.Rising high) word = true
 
 -- a byte below a number
 abbrev pub has_byte : ℕ → Option ℕ → Bool
@@ -53,50 +54,57 @@ abbrev pub has_bytes : ℕ → ℕ → Option (List ℕ) → Bool
 has_bytes low high None = false
 has_bytes low high (Some bytes) = nat_le low (length bytes) && nat_le (length bytes) high
 
--- the digits of a word, and the range of what they stand for
-abbrev pub digits_fault : ℕ → Kind → List ℕ → Option LineFault
-digits_fault at kind.Version word = None
-digits_fault at kind.Bare word = None
-digits_fault at kind.End word = None
-digits_fault at kind.Sender word = None
-digits_fault at kind.NewHost word = if is_some (byte_value word) then None else Some (fault.Hex at)
-digits_fault at (kind.Byte below) word = if has_byte below (byte_value word) then None else Some (fault.Hex at)
-digits_fault at (kind.Bytes low high) word = if has_bytes low high (bytes_value word) then None else Some (fault.Hex at)
-digits_fault at (kind.Number low high) word =
-    if is_some (option_if (λ n. nat_le low n && nat_le n high) (number_value word)) then None else Some (fault.Number at)
+-- What a word of rising numbers or hosts is at least, behind this one. The numbers are those from `from` on.
+abbrev pub rising : ℕ → Kind → List ℕ → ℕ
+rising from kind.NewHost word = option_map_or (λ h. h + 1) (byte_value word) from
+rising from (kind.Rising high) word = option_map_or (λ n. n + 1) (number_in from high word) from
+rising from kind.Version word = from
+rising from kind.Bare word = from
+rising from kind.End word = from
+rising from kind.Sender word = from
+rising from (kind.Byte below) word = from
+rising from (kind.Bytes low high) word = from
+rising from (kind.Number low high) word = from
+
+-- the digits of a word, and the range and the order of what they stand for
+abbrev pub digits_fault : ℕ → ℕ → Kind → List ℕ → Option LineFault
+digits_fault at from kind.Version word = None
+digits_fault at from kind.Bare word = None
+digits_fault at from kind.End word = None
+digits_fault at from kind.Sender word = None
+digits_fault at from kind.NewHost word = if is_some (byte_value word) then None else Some (fault.Hex at)
+digits_fault at from (kind.Byte below) word = if has_byte below (byte_value word) then None else Some (fault.Hex at)
+digits_fault at from (kind.Bytes low high) word = if has_bytes low high (bytes_value word) then None else Some (fault.Hex at)
+digits_fault at from (kind.Number low high) word = if is_some (number_in low high word) then None else Some (fault.Number at)
+digits_fault at from (kind.Rising high) word = if is_some (number_in from high word) then None else Some (fault.Number at)
 
 -- the first word with wrong digits, where the first of these is word `at` of its line
-abbrev pub first_digits_fault : ℕ → List Slot → Option LineFault
-first_digits_fault at [] = None
-first_digits_fault at (s ∷ ss) = option_or (digits_fault at s.kind s.word) (first_digits_fault (at + 1) ss)
+abbrev pub first_digits_fault : ℕ → ℕ → List Slot → Option LineFault
+first_digits_fault at from [] = None
+first_digits_fault at from (s ∷ ss) =
+    option_or (digits_fault at from s.kind s.word) (first_digits_fault (at + 1) (rising from s.kind s.word) ss)
+
+-- the host, if it isn't in the header
+abbrev pub stranger : List ℕ → Option ℕ → Option ℕ
+stranger hosts host = option_if (λ h. not (list_any (λ known. known == h) hosts)) host
 
 -- a host that a word names and that isn't in the header; in a header one that isn't 01 to 07 or not above the one before
 abbrev pub host_fault : List ℕ → ℕ → Kind → List ℕ → Option ℕ
-host_fault hosts before kind.NewHost word = option_if (λ h. not (nat_lt before h && nat_le h 7)) (byte_value word)
-host_fault hosts before kind.End word = option_if (λ h. not (list_any (λ host. host == h) hosts)) (option_map (λ e. e.link) (end_value word))
-host_fault hosts before kind.Sender word = option_if (λ h. not (list_any (λ host. host == h) hosts)) (option_map (λ e. e.link) (end_value word))
-host_fault hosts before kind.Version word = None
-host_fault hosts before kind.Bare word = None
-host_fault hosts before (kind.Byte below) word = None
-host_fault hosts before (kind.Bytes low high) word = None
-host_fault hosts before (kind.Number low high) word = None
-
--- the host that a header has named last
-abbrev pub named_host : ℕ → Kind → List ℕ → ℕ
-named_host before kind.NewHost word = unwrap_or (byte_value word) before
-named_host before kind.Version word = before
-named_host before kind.Bare word = before
-named_host before kind.End word = before
-named_host before kind.Sender word = before
-named_host before (kind.Byte below) word = before
-named_host before (kind.Bytes low high) word = before
-named_host before (kind.Number low high) word = before
+host_fault hosts from kind.NewHost word = option_if (λ h. not (nat_lt 0 h && (nat_le from h && nat_le h 7))) (byte_value word)
+host_fault hosts from kind.End word = stranger hosts (option_map (λ e. e.link) (end_value word))
+host_fault hosts from kind.Sender word = stranger hosts (option_map (λ e. e.link) (end_value word))
+host_fault hosts from kind.Version word = None
+host_fault hosts from kind.Bare word = None
+host_fault hosts from (kind.Byte below) word = None
+host_fault hosts from (kind.Bytes low high) word = None
+host_fault hosts from (kind.Number low high) word = None
+host_fault hosts from (kind.Rising high) word = None
 
 -- the first such host
 abbrev pub first_host_fault : List ℕ → ℕ → List Slot → Option ℕ
-first_host_fault hosts before [] = None
-first_host_fault hosts before (s ∷ ss) =
-    option_or (host_fault hosts before s.kind s.word) (first_host_fault hosts (named_host before s.kind s.word) ss)
+first_host_fault hosts from [] = None
+first_host_fault hosts from (s ∷ ss) =
+    option_or (host_fault hosts from s.kind s.word) (first_host_fault hosts (rising from s.kind s.word) ss)
 
 -- the number of words and their shapes
 abbrev pub is_well_formed : Bool → Row → List (List ℕ) → Bool
@@ -107,5 +115,5 @@ is_well_formed hci row ws =
 abbrev pub words_fault : Bool → List ℕ → Row → List (List ℕ) → Option LineFault
 words_fault hci hosts row ws =
     if is_well_formed hci row ws
-    then option_or (first_digits_fault 2 (slots row.kinds ws)) (option_map fault.Host (first_host_fault hosts 0 (slots row.kinds ws)))
+    then option_or (first_digits_fault 2 0 (slots row.kinds ws)) (option_map fault.Host (first_host_fault hosts 0 (slots row.kinds ws)))
     else Some fault.Word

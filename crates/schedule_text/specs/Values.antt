@@ -1,5 +1,5 @@
 -- What one word of a line stands for.
-use Rattle.std.specs.Prelude.{ℕ, ◌==◌, ◌&&◌, ◌||◌, nat_lt, Bool, true, false, if◌then◌else◌, List, [], ◌∷◌, length, slice_index, Option, Some, None}
+use Rattle.std.specs.Prelude.{ℕ, ◌==◌, ◌&&◌, ◌||◌, nat_le, nat_lt, Bool, true, false, if◌then◌else◌, List, [], ◌∷◌, length, slice_index, Option, Some, None}
 use Rattle.std.specs.Option.{option_map, option_and_then}
 use Rattle.std.specs.Result.{result_ok}
 use Rattle.std.specs.Str.{all_ascii_digits}
@@ -31,6 +31,10 @@ is_bad_front word = length word == 0 || (slice_index word 0 == 48 && nat_lt 1 (l
 -- the decimal number of a word, without leading zero
 abbrev pub number_value : List ℕ → Option ℕ
 number_value word = if is_bad_front word then None else digits_number word
+
+-- the same, if it is from `low` to `high`
+abbrev pub number_in : ℕ → ℕ → List ℕ → Option ℕ
+number_in low high word = option_if (λ n. nat_le low n && nat_le n high) (number_value word)
 
 -- the letter of a link's end: `c` for the controller's, `h` for the host's
 abbrev pub side_value : ℕ → Option Bool

@@ -1,8 +1,9 @@
 //! The forms of the lines of a schedule, as a table: a row has the first word of a line, the headers that allow it, and
 //! the kinds of the words behind it.
-ghost use Rattle.std.specs.Prelude.{◌≡◌};
+ghost use Rattle.std.specs.Prelude.{◌≡◌, map, find};
+ghost use Rattle.std.specs.Str.{bytes_eq};
 ghost use Rattle.std.specs.Option.{option_map};
-ghost use Rattle.schedule_text.specs.Forms.{row_of, row_for};
+ghost use Rattle.schedule_text.specs.Forms.{row_of, row_in, row_for};
 
 /// What a word of a line may be.
 #[derive(Clone, Copy)]
@@ -23,6 +24,8 @@ pub(crate) enum Kind {
     Bytes { low: u16, high: u16 },
     /// A decimal number from `low` to `high`.
     Number { low: u16, high: u16 },
+    /// A decimal number up to `high`, above the one before it.
+    Rising { high: u16 },
 }
 
 /// Where a line may stand.
@@ -32,6 +35,8 @@ pub(crate) enum Place {
     First,
     /// Below every header.
     Below,
+    /// Below a header `bare`.
+    BelowBare,
 }
 
 /// Which line it is.
@@ -40,11 +45,18 @@ pub(crate) enum Name {
     Header,
     Send,
     Deliver,
+    Lose,
+    Damage,
+    Tick,
+    Reset,
+    Busy,
+    Ready,
 }
 
 /// A row of the table. The last kind is that of all further words.
-#[derive(Drop)]
+#[derive(Clone, Copy)]
 pub(crate) struct Form {
+    pub first: &'static [u8],
     pub name: Name,
     pub place: Place,
     pub kinds: &'static [Kind],
@@ -54,39 +66,101 @@ pub(crate) struct Form {
     pub most: usize,
 }
 
+/// The forms.
+const FORMS: [Form; 9] = [
+    Form {
+        first: b"swp",
+        name: Name::Header,
+        place: Place::First,
+        kinds: &[Kind::Version, Kind::Bare, Kind::NewHost],
+        least: 3,
+        most: 3,
+    },
+    Form {
+        first: b"send",
+        name: Name::Send,
+        place: Place::Below,
+        kinds: &[
+            Kind::Sender,
+            Kind::Byte { below: 0x70 },
+            Kind::Bytes { low: 1, high: 4500 },
+        ],
+        least: 3,
+        most: 3,
+    },
+    Form {
+        first: b"deliver",
+        name: Name::Deliver,
+        place: Place::Below,
+        kinds: &[Kind::End, Kind::Number { low: 1, high: 64 }],
+        least: 1,
+        most: 2,
+    },
+    Form {
+        first: b"lose",
+        name: Name::Lose,
+        place: Place::Below,
+        kinds: &[Kind::End],
+        least: 1,
+        most: 1,
+    },
+    Form {
+        first: b"damage",
+        name: Name::Damage,
+        place: Place::Below,
+        kinds: &[Kind::End, Kind::Rising { high: 399 }],
+        least: 2,
+        most: 17,
+    },
+    Form {
+        first: b"tick",
+        name: Name::Tick,
+        place: Place::Below,
+        kinds: &[Kind::Number { low: 1, high: 100 }],
+        least: 0,
+        most: 1,
+    },
+    Form {
+        first: b"reset",
+        name: Name::Reset,
+        place: Place::Below,
+        kinds: &[Kind::End, Kind::Number { low: 1, high: 4 }],
+        least: 1,
+        most: 2,
+    },
+    Form {
+        first: b"busy",
+        name: Name::Busy,
+        place: Place::BelowBare,
+        kinds: &[Kind::End],
+        least: 1,
+        most: 1,
+    },
+    Form {
+        first: b"ready",
+        name: Name::Ready,
+        place: Place::BelowBare,
+        kinds: &[Kind::End],
+        least: 1,
+        most: 1,
+    },
+];
+
 /// The form of the lines that begin with a word.
 pub(crate) fn form_of(first: &[u8]) -> Option<Form>
     ensures { option_map row_of result ≡ row_for first.now }
 {
-    if first == b"swp".as_slice() {
-        Some(Form {
-            name: Name::Header,
-            place: Place::First,
-            kinds: &[Kind::Version, Kind::Bare, Kind::NewHost],
-            least: 3,
-            most: 3,
-        })
-    } else if first == b"send".as_slice() {
-        Some(Form {
-            name: Name::Send,
-            place: Place::Below,
-            kinds: &[
-                Kind::Sender,
-                Kind::Byte { below: 0x70 },
-                Kind::Bytes { low: 1, high: 4500 },
-            ],
-            least: 3,
-            most: 3,
-        })
-    } else if first == b"deliver".as_slice() {
-        Some(Form {
-            name: Name::Deliver,
-            place: Place::Below,
-            kinds: &[Kind::End, Kind::Number { low: 1, high: 64 }],
-            least: 1,
-            most: 2,
-        })
-    } else {
-        None
-    }
+    form_in(&FORMS, first)
+}
+
+fn form_in(forms: &[Form], first: &[u8]) -> Option<Form>
+    ensures { option_map row_of result ≡ row_in (map row_of forms.now) first.now }
+{
+    found(forms, first)
+}
+
+fn found(forms: &[Form], first: &[u8]) -> Option<Form>
+    ensures { result ≡ find (λ form. bytes_eq form.first.now first.now) forms.now }
+{
+    forms.iter().copied().find(|form| form.first == first)
 }

@@ -1,10 +1,12 @@
 //! A line of a schedule is read.
-ghost use Rattle.std.specs.Prelude.{◌≡◌, ◌+◌, ◌<◌, ◌≤◌, ◌∷◌, length, is_some, slice_get, true, ◌↔◌, Ok, Err, IfOk};
-ghost use Rattle.std.specs.Option.{option_copied};
+ghost use Rattle.std.specs.Prelude.{◌≡◌, ◌≤◌, ◌<◌, length, ◌↔◌, Ok, Err, IfOk};
+ghost use Rattle.std.specs.Option.{option_copied, option_map};
+ghost use Rattle.schedule_text.specs.declared.forms.Name.TheVariants as name;
+ghost use Rattle.schedule_text.specs.declared.read.Read.TheVariants as read;
 ghost use Rattle.schedule_text.specs.Words.{words};
-ghost use Rattle.schedule_text.specs.Lines.{is_comment, may_stand, has_nodes, hosts_of, by_row, header_of, send_of, deliver_of, line_of};
+ghost use Rattle.schedule_text.specs.Lines.{is_comment, may_stand, has_nodes, hosts_of, by_row, end_at, byte_at, number_at, places_of, read_of, line_of};
 ghost use Rattle.schedule_text.specs.Forms.{row_for};
-ghost use Rattle.schedule_text.specs.Answers.{IsSaid, IsRead, HasMessage, IsInGrammar, IsSkipped, IsOutOfOrder};
+ghost use Rattle.schedule_text.specs.Answers.{IsSaid, IsRead, CanBeRead, IsInGrammar, IsSkipped, IsOutOfOrder};
 
 use crate::LineFault;
 use crate::forms::{Name, Place, form_of};
@@ -14,7 +16,7 @@ use crate::words::{next_word, word_at};
 use arrayvec::ArrayVec;
 use hex::FromHexError;
 use std::alloc::Global;
-use trace_model::{Header, Line, Octets};
+use trace_model::{End, Header, Line, Octets};
 
 /// The most bytes of a line, without the end of the line (this project's own).
 const MAX_LINE: usize = 9000;
@@ -87,12 +89,7 @@ fn read_words(
     if let Some(fault) = fault_in(nodes(header), hosts(header), &form, rest) {
         return Err(fault);
     }
-    let said = match form.name {
-        Name::Header => header_line(rest),
-        Name::Send => send_line(alloc, rest),
-        Name::Deliver => deliver_line(rest),
-    };
-    said.ok_or(LineFault::Word)
+    said(alloc, form.name, rest).ok_or(LineFault::Word)
 }
 
 fn allowed(place: Place, header: Option<&Header>) -> bool
@@ -101,6 +98,10 @@ fn allowed(place: Place, header: Option<&Header>) -> bool
     match place {
         Place::First => header.is_none(),
         Place::Below => header.is_some(),
+        Place::BelowBare => match header {
+            Some(header) => !header.hci,
+            None => false,
+        },
     }
 }
 
@@ -122,23 +123,74 @@ fn hosts(header: Option<&Header>) -> &[u8]
     }
 }
 
-fn header_line(rest: &[u8]) -> Option<Read>
-    ensures { result ≡ header_of (words rest.now) }
+// What the words behind the first one say.
+fn said(alloc: Global, name: Name, rest: &[u8]) -> Option<Read>
+    requires { CanBeRead name (words rest.now) }
+    ensures { IsSaid result (read_of name (words rest.now)) }
 {
-    let host = byte_of(word_at(rest, 2)?)?;
+    let line = match name {
+        Name::Header => return header(rest),
+        Name::Send => return send(alloc, rest),
+        Name::Deliver => Line::Deliver {
+            at: end_at(rest, 0)?,
+            count: number_at(rest, 1, 64),
+        },
+        Name::Lose => Line::Lose {
+            at: end_at(rest, 0)?,
+        },
+        Name::Damage => damage(rest)?,
+        Name::Tick => Line::Tick {
+            times: number_at(rest, 0, 100),
+        },
+        Name::Reset => Line::Reset {
+            at: end_at(rest, 0)?,
+            window: number_at(rest, 1, 4),
+        },
+        Name::Busy => Line::Busy {
+            at: end_at(rest, 0)?,
+        },
+        Name::Ready => Line::Ready {
+            at: end_at(rest, 0)?,
+        },
+    };
+    Some(Read::Line(line))
+}
+
+fn end_at(rest: &[u8], k: usize) -> Option<End>
+    ensures { result ≡ end_at (words rest.now) k }
+{
+    end_of(word_at(rest, k)?)
+}
+
+fn byte_at(rest: &[u8], k: usize) -> Option<u8>
+    ensures { result ≡ byte_at (words rest.now) k }
+{
+    byte_of(word_at(rest, k)?)
+}
+
+fn number_at(rest: &[u8], k: usize, high: u8) -> Option<u8>
+    ensures { result ≡ number_at high (words rest.now) k }
+{
+    let number = number_of(word_at(rest, k)?, 1, u16::from(high))?;
+    u8::try_from(number).ok()
+}
+
+fn header(rest: &[u8]) -> Option<Read>
+    ensures { result ≡ read_of name.Header (words rest.now) }
+{
+    let host = byte_at(rest, 2)?;
     let mut hosts = ArrayVec::new();
     hosts.push(host);
     Some(Read::Header(Header { hci: false, hosts }))
 }
 
-fn send_line(alloc: Global, rest: &[u8]) -> Option<Read>
-    requires { HasMessage (words rest.now) }
-    ensures { IsSaid result (send_of (words rest.now)) }
+fn send(alloc: Global, rest: &[u8]) -> Option<Read>
+    requires { CanBeRead name.Send (words rest.now) }
+    ensures { IsSaid result (read_of name.Send (words rest.now)) }
 {
-    let at = end_of(word_at(rest, 0)?)?;
-    let pid = byte_of(word_at(rest, 1)?)?;
-    let message = word_at(rest, 2)?;
-    match hex::decode(alloc, message) {
+    let at = end_at(rest, 0)?;
+    let pid = byte_at(rest, 1)?;
+    match hex::decode(alloc, word_at(rest, 2)?) {
         Ok(bytes) => Some(Read::Line(Line::Send {
             at,
             pid,
@@ -149,13 +201,26 @@ fn send_line(alloc: Global, rest: &[u8]) -> Option<Read>
     }
 }
 
-fn deliver_line(rest: &[u8]) -> Option<Read>
-    ensures { result ≡ deliver_of (words rest.now) }
+fn damage(rest: &[u8]) -> Option<Line>
+    requires { CanBeRead name.Damage (words rest.now) }
+    ensures { option_map read.Line result ≡ read_of name.Damage (words rest.now) }
 {
-    let at = end_of(word_at(rest, 0)?)?;
-    let count = match word_at(rest, 1) {
-        Some(word) => number_of(word, 1, 64).and_then(|count| u8::try_from(count).ok()),
-        None => None,
-    };
-    Some(Read::Line(Line::Deliver { at, count }))
+    let (first, more) = next_word(rest)?;
+    Some(Line::Damage {
+        at: end_of(first)?,
+        places: places_in(more)?,
+    })
+}
+
+fn places_in(rest: &[u8]) -> Option<ArrayVec<u16, 16>>
+    requires { length (words rest.now) ≤ 16 }
+    ensures { option_map (λ places. places.items) result ≡ places_of (words rest.now) }
+{
+    let mut places = ArrayVec::new();
+    let mut left = rest;
+    'words: while let Some((word, more)) = next_word(left) {
+        places.push(number_of(word, 0, 399)?);
+        left = more;
+    }
+    Some(places)
 }

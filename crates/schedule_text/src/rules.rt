@@ -1,11 +1,11 @@
 //! What may be wrong with the words of a line: one rule over the kinds that its row in the table gives them.
-ghost use Rattle.std.specs.Prelude.{◌≡◌, ◌≤◌, ◌+◌, length};
+ghost use Rattle.std.specs.Prelude.{◌≡◌, ◌≤◌, length, is_some};
 ghost use Rattle.std.specs.List.{list_all};
 ghost use Rattle.std.specs.Option.{option_map};
 ghost use Rattle.schedule_text.specs.Words.{words};
 ghost use Rattle.schedule_text.specs.Forms.{row_of};
-ghost use Rattle.schedule_text.specs.Rules.{slots, later, has_shape, digits_fault, first_digits_fault, host_fault, named_host, first_host_fault, is_well_formed, words_fault, has_byte, has_bytes};
-ghost use Rattle.schedule_text.specs.Values.{byte_value, bytes_value};
+ghost use Rattle.schedule_text.specs.Rules.{slots, has_shape, rising, digits_fault, first_digits_fault, host_fault, first_host_fault, is_well_formed, words_fault, has_byte, has_bytes};
+ghost use Rattle.schedule_text.specs.Values.{byte_value, bytes_value, number_in};
 ghost use Rattle.hex.specs.Hex.{is_hex_digit};
 
 use crate::LineFault;
@@ -81,22 +81,28 @@ fn shaped(hci: bool, kind: Kind, word: &[u8]) -> bool
             Some(at) => !hci || at.at_host,
             None => false,
         },
-        Kind::NewHost | Kind::Byte { .. } | Kind::Bytes { .. } | Kind::Number { .. } => true,
+        Kind::NewHost
+        | Kind::Byte { .. }
+        | Kind::Bytes { .. }
+        | Kind::Number { .. }
+        | Kind::Rising { .. } => true,
     }
 }
 
 fn first_wrong_digits(kinds: &[Kind], rest: &[u8]) -> Option<LineFault>
     requires { length rest.now ≤ 9000 }
-    ensures { result ≡ first_digits_fault 2 (slots kinds.now (words rest.now)) }
+    ensures { result ≡ first_digits_fault 2 0 (slots kinds.now (words rest.now)) }
 {
     let mut coming = kinds;
     let mut left = rest;
     let mut at = 2;
+    let mut from = 0;
     'words: while let Some((word, more)) = next_word(left) {
         let (kind, others) = coming.split_first()?;
-        if let Some(fault) = wrong_digits(at, *kind, word) {
+        if let Some(fault) = wrong_digits(at, from, *kind, word) {
             return Some(fault);
         }
+        from = rising(from, *kind, word);
         if !others.is_empty() {
             coming = others;
         }
@@ -106,8 +112,8 @@ fn first_wrong_digits(kinds: &[Kind], rest: &[u8]) -> Option<LineFault>
     None
 }
 
-fn wrong_digits(at: u32, kind: Kind, word: &[u8]) -> Option<LineFault>
-    ensures { result ≡ digits_fault at kind word.now }
+fn wrong_digits(at: u32, from: u32, kind: Kind, word: &[u8]) -> Option<LineFault>
+    ensures { result ≡ digits_fault at from kind word.now }
 {
     let (is_right, fault) = match kind {
         Kind::Version | Kind::Bare | Kind::End | Kind::Sender => return None,
@@ -115,11 +121,18 @@ fn wrong_digits(at: u32, kind: Kind, word: &[u8]) -> Option<LineFault>
         Kind::Byte { below } => (byte_below(word, below), LineFault::Hex { at }),
         Kind::Bytes { low, high } => (is_bytes(word, low, high), LineFault::Hex { at }),
         Kind::Number { low, high } => (
-            number_of(word, low, high).is_some(),
+            is_number(word, u32::from(low), high),
             LineFault::Number { at },
         ),
+        Kind::Rising { high } => (is_number(word, from, high), LineFault::Number { at }),
     };
     if is_right { None } else { Some(fault) }
+}
+
+fn is_number(word: &[u8], low: u32, high: u16) -> bool
+    ensures { result ≡ is_some (number_in low high word.now) }
+{
+    number_of(word, low, high).is_some()
 }
 
 fn byte_below(word: &[u8], below: u8) -> bool
@@ -167,13 +180,13 @@ fn first_unknown_host(hosts: &[u8], kinds: &[Kind], rest: &[u8]) -> Option<u8>
 {
     let mut coming = kinds;
     let mut left = rest;
-    let mut before = 0;
+    let mut from = 0;
     'words: while let Some((word, more)) = next_word(left) {
         let (kind, others) = coming.split_first()?;
-        if let Some(id) = unknown_host(hosts, before, *kind, word) {
+        if let Some(id) = unknown_host(hosts, from, *kind, word) {
             return Some(id);
         }
-        before = host_named(before, *kind, word);
+        from = rising(from, *kind, word);
         if !others.is_empty() {
             coming = others;
         }
@@ -182,12 +195,12 @@ fn first_unknown_host(hosts: &[u8], kinds: &[Kind], rest: &[u8]) -> Option<u8>
     None
 }
 
-fn unknown_host(hosts: &[u8], before: u8, kind: Kind, word: &[u8]) -> Option<u8>
-    ensures { result ≡ host_fault hosts.now before kind word.now }
+fn unknown_host(hosts: &[u8], from: u32, kind: Kind, word: &[u8]) -> Option<u8>
+    ensures { result ≡ host_fault hosts.now from kind word.now }
 {
     match kind {
         Kind::NewHost => match byte_of(word) {
-            Some(host) if before < host && host <= 7 => None,
+            Some(host) if 0 < host && from <= u32::from(host) && host <= 7 => None,
             other => other,
         },
         Kind::End | Kind::Sender => match end_of(word) {
@@ -195,16 +208,34 @@ fn unknown_host(hosts: &[u8], before: u8, kind: Kind, word: &[u8]) -> Option<u8>
             Some(at) => Some(at.link),
             None => None,
         },
-        Kind::Version | Kind::Bare | Kind::Byte { .. } | Kind::Bytes { .. } | Kind::Number { .. } =>
-            None,
+        Kind::Version
+        | Kind::Bare
+        | Kind::Byte { .. }
+        | Kind::Bytes { .. }
+        | Kind::Number { .. }
+        | Kind::Rising { .. } => None,
     }
 }
 
-fn host_named(before: u8, kind: Kind, word: &[u8]) -> u8
-    ensures { result ≡ named_host before kind word.now }
+/// What the next word of rising numbers or hosts is at least.
+fn rising(from: u32, kind: Kind, word: &[u8]) -> u32
+    ensures { result ≡ rising from kind word.now }
 {
     match kind {
-        Kind::NewHost => byte_of(word).unwrap_or(before),
-        _ => before,
+        Kind::NewHost => match byte_of(word) {
+            Some(host) => u32::from(host) + 1,
+            None => from,
+        },
+        Kind::Rising { high } => match number_of(word, from, high) {
+            Some(number) => u32::from(number) + 1,
+            None => from,
+        },
+        Kind::Version
+        | Kind::Bare
+        | Kind::End
+        | Kind::Sender
+        | Kind::Byte { .. }
+        | Kind::Bytes { .. }
+        | Kind::Number { .. } => from,
     }
 }

@@ -1,14 +1,40 @@
 //! Text that grows at the end of a vector until memory runs out.
-ghost use Rattle.std.specs.Prelude.{◌≡◌, List, ℕ, [], ◌∷◌, ◌++◌, if◌then◌else◌};
+ghost use Rattle.std.specs.Prelude.{◌≡◌, List, ℕ, [], ◌∷◌, ◌++◌, map, if◌then◌else◌};
 ghost use Rattle.std.specs.Fmt.{decimal};
 ghost use Rattle.hex.specs.Hex.{encode_upper};
-ghost use Rattle.schedule_text.specs.Entries.{end_text, byte_text};
+ghost use Rattle.schedule_text.specs.Entries.{end_text, byte_text, two_bytes_text, number_words};
 ghost use Rattle.schedule_text.specs.Growth.{Holds, HoldsWords};
+ghost use Rattle.schedule_text.specs.Parts.{part_words, parts_words};
 
 use trace_model::End;
 
 /// The sixteen hexadecimal digits.
 const DIGITS: &[u8; 16] = b"0123456789ABCDEF";
+
+/// Words to be written, by their kind.
+#[derive(Clone, Copy)]
+pub(crate) enum Part<'a> {
+    /// A word as it stands.
+    Word(&'a [u8]),
+    /// An end, as `02c` or `02h`.
+    End(End),
+    /// A byte as two hexadecimal digits.
+    Byte(u8),
+    /// Two bytes as four hexadecimal digits, the high byte first.
+    TwoBytes(u16),
+    /// Bytes as pairs of hexadecimal digits, in one word.
+    Bytes(&'a [u8]),
+    /// A decimal number.
+    Number(u64),
+    /// A decimal number, if there is one.
+    Maybe(Option<u8>),
+    /// Decimal numbers, each a word.
+    Numbers(&'a [u16]),
+    /// Bytes, each a word of two hexadecimal digits.
+    EachByte(&'a [u8]),
+    /// Bytes in threes, each three a word.
+    EachThree(&'a [[u8; 3]]),
+}
 
 /// Text that grows at the end of a vector. Once memory has run out nothing is appended.
 #[derive(Drop)]
@@ -32,8 +58,89 @@ impl Text {
         }
     }
 
+    /// Appends a word and behind it parts, as the first ones of a line.
+    pub(crate) fn entry(&mut self, word: &[u8], parts: &[Part<'_>])
+        ensures { (start : List ℕ) → Holds start [] self.old.bytes.items self.old.short
+            → HoldsWords start (word.now ∷ parts_words parts.now) self.new.bytes.items self.new.short }
+    {
+        self.push(word);
+        self.parts(parts);
+    }
+
+    /// Appends parts, a space before each word.
+    pub(crate) fn parts(&mut self, parts: &[Part<'_>])
+        ensures { (start first : List ℕ) (more : List (List ℕ)) → HoldsWords start (first ∷ more) self.old.bytes.items self.old.short
+            → HoldsWords start (first ∷ (more ++ parts_words parts.now)) self.new.bytes.items self.new.short }
+    {
+        for part in parts {
+            self.part(part);
+        }
+    }
+
+    fn part(&mut self, part: &Part<'_>)
+        ensures { (start first : List ℕ) (more : List (List ℕ)) → HoldsWords start (first ∷ more) self.old.bytes.items self.old.short
+            → HoldsWords start (first ∷ (more ++ part_words part.now)) self.new.bytes.items self.new.short }
+    {
+        match part {
+            Part::Word(word) => self.word(word),
+            Part::End(at) => self.end(*at),
+            Part::Byte(byte) => self.byte(*byte),
+            Part::TwoBytes(number) => self.two_bytes(*number),
+            Part::Bytes(bytes) => self.hex(bytes),
+            Part::Number(number) => self.number(*number),
+            Part::Maybe(number) => self.maybe(*number),
+            Part::Numbers(numbers) => self.numbers(numbers),
+            Part::EachByte(bytes) => self.each_byte(bytes),
+            Part::EachThree(threes) => self.each_three(threes),
+        }
+    }
+
+    fn two_bytes(&mut self, number: u16)
+        ensures { (start first : List ℕ) (more : List (List ℕ)) → HoldsWords start (first ∷ more) self.old.bytes.items self.old.short
+            → HoldsWords start (first ∷ (more ++ two_bytes_text number ∷ [])) self.new.bytes.items self.new.short }
+    {
+        let [high, low] = number.to_be_bytes();
+        self.hex(&[high, low]);
+    }
+
+    fn maybe(&mut self, number: Option<u8>)
+        ensures { (start first : List ℕ) (more : List (List ℕ)) → HoldsWords start (first ∷ more) self.old.bytes.items self.old.short
+            → HoldsWords start (first ∷ (more ++ number_words number)) self.new.bytes.items self.new.short }
+    {
+        if let Some(number) = number {
+            self.number(u64::from(number));
+        }
+    }
+
+    fn numbers(&mut self, numbers: &[u16])
+        ensures { (start first : List ℕ) (more : List (List ℕ)) → HoldsWords start (first ∷ more) self.old.bytes.items self.old.short
+            → HoldsWords start (first ∷ (more ++ map decimal numbers.now)) self.new.bytes.items self.new.short }
+    {
+        for number in numbers {
+            self.number(u64::from(*number));
+        }
+    }
+
+    fn each_byte(&mut self, bytes: &[u8])
+        ensures { (start first : List ℕ) (more : List (List ℕ)) → HoldsWords start (first ∷ more) self.old.bytes.items self.old.short
+            → HoldsWords start (first ∷ (more ++ map byte_text bytes.now)) self.new.bytes.items self.new.short }
+    {
+        for byte in bytes {
+            self.byte(*byte);
+        }
+    }
+
+    fn each_three(&mut self, threes: &[[u8; 3]])
+        ensures { (start first : List ℕ) (more : List (List ℕ)) → HoldsWords start (first ∷ more) self.old.bytes.items self.old.short
+            → HoldsWords start (first ∷ (more ++ map encode_upper threes.now)) self.new.bytes.items self.new.short }
+    {
+        for three in threes {
+            self.hex(three);
+        }
+    }
+
     /// Appends a space and a word.
-    pub(crate) fn word(&mut self, word: &[u8])
+    fn word(&mut self, word: &[u8])
         ensures { (start first : List ℕ) (more : List (List ℕ)) → HoldsWords start (first ∷ more) self.old.bytes.items self.old.short
             → HoldsWords start (first ∷ (more ++ word.now ∷ [])) self.new.bytes.items self.new.short }
     {
@@ -42,7 +149,7 @@ impl Text {
     }
 
     /// Appends a space and an end, as `02c` or `02h`.
-    pub(crate) fn end(&mut self, at: End)
+    fn end(&mut self, at: End)
         ensures { (start first : List ℕ) (more : List (List ℕ)) → HoldsWords start (first ∷ more) self.old.bytes.items self.old.short
             → HoldsWords start (first ∷ (more ++ end_text at ∷ [])) self.new.bytes.items self.new.short }
     {
@@ -50,7 +157,7 @@ impl Text {
     }
 
     /// Appends a space and a byte as two hexadecimal digits.
-    pub(crate) fn byte(&mut self, byte: u8)
+    fn byte(&mut self, byte: u8)
         ensures { (start first : List ℕ) (more : List (List ℕ)) → HoldsWords start (first ∷ more) self.old.bytes.items self.old.short
             → HoldsWords start (first ∷ (more ++ byte_text byte ∷ [])) self.new.bytes.items self.new.short }
     {
@@ -58,7 +165,7 @@ impl Text {
     }
 
     /// Appends a space and bytes as pairs of hexadecimal digits.
-    pub(crate) fn hex(&mut self, bytes: &[u8])
+    fn hex(&mut self, bytes: &[u8])
         ensures { (start first : List ℕ) (more : List (List ℕ)) → HoldsWords start (first ∷ more) self.old.bytes.items self.old.short
             → HoldsWords start (first ∷ (more ++ encode_upper bytes.now ∷ [])) self.new.bytes.items self.new.short }
     {
@@ -76,7 +183,7 @@ impl Text {
     }
 
     /// Appends a space and a decimal number.
-    pub(crate) fn number(&mut self, number: u32)
+    fn number(&mut self, number: u64)
         ensures { (start first : List ℕ) (more : List (List ℕ)) → HoldsWords start (first ∷ more) self.old.bytes.items self.old.short
             → HoldsWords start (first ∷ (more ++ decimal number ∷ [])) self.new.bytes.items self.new.short }
     {
@@ -84,7 +191,7 @@ impl Text {
         self.digits(number);
     }
 
-    fn digits(&mut self, number: u32)
+    fn digits(&mut self, number: u64)
         ensures { (start text : List ℕ) → Holds start text self.old.bytes.items self.old.short
             → Holds start (text ++ decimal number) self.new.bytes.items self.new.short }
     {

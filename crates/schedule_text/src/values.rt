@@ -1,6 +1,6 @@
 //! What one word of a line stands for.
-ghost use Rattle.std.specs.Prelude.{◌≡◌, nat_le, ◌&&◌};
-ghost use Rattle.schedule_text.specs.Values.{byte_value, end_value, number_value, digits_number, option_if, side_value};
+ghost use Rattle.std.specs.Prelude.{◌≡◌, nat_le};
+ghost use Rattle.schedule_text.specs.Values.{byte_value, end_value, number_in, digits_number, option_if, side_value};
 
 use trace_model::End;
 
@@ -38,14 +38,18 @@ fn side_of(letter: u8) -> Option<bool>
 }
 
 /// The decimal number of a word, without leading zero, if it is from `low` to `high`.
-pub(crate) fn number_of(word: &[u8], low: u16, high: u16) -> Option<u16>
-    ensures { result ≡ option_if (λ n. nat_le low n && nat_le n high) (number_value word.now) }
+pub(crate) fn number_of(word: &[u8], low: u32, high: u16) -> Option<u16>
+    ensures { result ≡ number_in low high word.now }
 {
     if word.is_empty() || (word[0] == b'0' && word.len() > 1) {
         return None;
     }
     let number = number_up_to(word, high)?;
-    if number < low { None } else { Some(number) }
+    if u32::from(number) < low {
+        None
+    } else {
+        Some(number)
+    }
 }
 
 /// The number that decimal digits write, if it is at most `high`.

@@ -1,31 +1,44 @@
 //! An entry of a transcript is written.
-ghost use Rattle.std.specs.Prelude.{◌≡◌, List, ℕ, [], ◌∷◌, ◌++◌, OnOk, OnErr, codes, if◌then◌else◌};
-ghost use Rattle.std.specs.Fmt.{decimal};
-ghost use Rattle.hex.specs.Hex.{encode_upper};
-ghost use Rattle.schedule_text.specs.Entries.{end_text, byte_text, header_words, line_words, lost_word, cause_words, entry_words, entry_line};
+ghost use Rattle.std.specs.Prelude.{◌≡◌, List, ℕ, [], ◌∷◌, ◌++◌, OnOk, OnErr, IfOk, codes, if◌then◌else◌};
+ghost use Rattle.tables_text.specs.Tables.{hex_or_dash};
+ghost use Rattle.schedule_text.specs.Parts.{part_words};
+ghost use Rattle.schedule_text.specs.Entries.{header_words, line_words, down_word, lost_word, cause_words, command_words, count_words, entry_words, lines_behind, entry_line};
 ghost use Rattle.schedule_text.specs.Growth.{Holds, HoldsWords, IsFront};
 
-use crate::text::Text;
-use std::alloc::Global;
+use crate::text::{Part, Text};
+use hci_tables::{Command, Tables};
+use std::alloc::{AllocError, Global};
 use std::mem;
-use swp_base::NoMemory;
-use trace_model::{End, Entry, Header, Line, LostCause, NoCause};
+use swp_base::{Cause, NoMemory};
+use trace_model::{Entry, Header, Line, LostCause, NoCause};
 
-/// Appends an entry as a line of the transcript, LF included (this project's own text). Where there is no memory for the
-/// whole line, `out` has its old bytes and then a shorter front of the line, which may be empty.
+/// Appends an entry as a line of the transcript, LF included, and tables as several lines (this project's own text). Where
+/// there is no memory for all of it, `out` has its old bytes and then a shorter front of it, which may be empty.
 pub fn write_entry(alloc: Global, entry: &Entry, out: &mut Vec<u8>) -> Result<(), NoMemory>
     ensures ok { OnOk result (out.new.items ≡ out.old.items ++ entry_line entry.now) }
     ensures err { OnErr result (IsFront out.old.items (entry_line entry.now) out.new.items) }
 {
+    let behind = lines_behind(alloc, entry)?;
     let mut text = Text {
         bytes: mem::replace(out, Vec::new(alloc)),
         short: false,
     };
     write_words(&mut text, entry);
     text.push(b"\n");
+    text.push(behind.as_slice());
     let Text { bytes, short } = text;
     *out = bytes;
     if short { Err(NoMemory) } else { Ok(()) }
+}
+
+fn lines_behind(alloc: Global, entry: &Entry) -> Result<Vec<u8>, AllocError>
+    ensures { IfOk result (λ lines. lines.items ≡ lines_behind entry.now) }
+{
+    let mut lines = Vec::new(alloc);
+    if let Entry::Tables { tables, .. } = entry {
+        tables_text::write_rows(alloc, tables, &mut lines)?;
+    }
+    Ok(lines)
 }
 
 fn write_words(text: &mut Text, entry: &Entry)
@@ -34,67 +47,159 @@ fn write_words(text: &mut Text, entry: &Entry)
 {
     match entry {
         Entry::Head(header) => {
-            text.push(b">");
+            text.entry(b">", &[]);
             write_header(text, header);
         }
         Entry::Echo(line) => {
-            text.push(b">");
+            text.entry(b">", &[]);
             write_line(text, line);
         }
-        Entry::Up { at, session } => write_session(text, b"up", *at, *session),
+        Entry::Up { at, session } => text.entry(
+            b"up",
+            &[Part::End(*at), Part::Number(u64::from(*session))],
+        ),
+        Entry::Down { at, cause } => text.entry(
+            b"down",
+            &[Part::End(*at), Part::Word(cause_of_end(*cause))],
+        ),
+        Entry::Active { at } => text.entry(b"active", &[Part::End(*at)]),
+        Entry::GaveUp { at, tries } => text.entry(
+            b"gaveup",
+            &[Part::End(*at), Part::Number(u64::from(*tries))],
+        ),
         Entry::Sent {
             at,
             session,
             pid,
             message,
-        } => {
-            write_session(text, b"sent", *at, *session);
-            text.byte(*pid);
-            text.hex(message.as_slice());
-        }
+        } => text.entry(
+            b"sent",
+            &[
+                Part::End(*at),
+                Part::Number(u64::from(*session)),
+                Part::Byte(*pid),
+                Part::Bytes(message.as_slice()),
+            ],
+        ),
         Entry::Got {
             at,
             session,
             pid,
             message,
-        } => {
-            write_session(text, b"got", *at, *session);
-            text.byte(*pid);
-            text.hex(message.as_slice());
+        } => text.entry(
+            b"got",
+            &[
+                Part::End(*at),
+                Part::Number(u64::from(*session)),
+                Part::Byte(*pid),
+                Part::Bytes(message.as_slice()),
+            ],
+        ),
+        Entry::Acked { at, session, count } => text.entry(
+            b"acked",
+            &[
+                Part::End(*at),
+                Part::Number(u64::from(*session)),
+                Part::Number(u64::from(*count)),
+            ],
+        ),
+        Entry::Emit { at, lpdu } => text.entry(
+            b"emit",
+            &[Part::End(*at), Part::Bytes(lpdu.bytes())],
+        ),
+        Entry::Took { at, lpdu } => text.entry(
+            b"took",
+            &[Part::End(*at), Part::Bytes(lpdu.bytes())],
+        ),
+        Entry::Lost { at, lpdu, cause } => text.entry(
+            b"lost",
+            &[
+                Part::End(*at),
+                Part::Bytes(lpdu.bytes()),
+                Part::Word(cause_of_loss(*cause)),
+            ],
+        ),
+        Entry::Turn { at, pid, message } => text.entry(
+            b"turn",
+            &[
+                Part::End(*at),
+                Part::Byte(*pid),
+                Part::Bytes(message.as_slice()),
+            ],
+        ),
+        Entry::Held { at, need, spare } => text.entry(
+            b"held",
+            &[
+                Part::End(*at),
+                Part::Number(u64::from(*need)),
+                Part::Number(u64::from(*spare)),
+            ],
+        ),
+        Entry::Ask { host, message } => text.entry(
+            b"ask",
+            &[Part::Byte(*host), Part::Bytes(message.as_slice())],
+        ),
+        Entry::Dropped { at, pid } => text.entry(b"drop", &[Part::End(*at), Part::Byte(*pid)]),
+        Entry::Command { node, command } => {
+            text.entry(b"command", &[Part::Byte(*node)]);
+            write_command(text, command);
         }
-        Entry::Acked { at, session, count } => {
-            write_session(text, b"acked", *at, *session);
-            text.number(*count);
-        }
-        Entry::Emit { at, lpdu } => write_frame(text, b"emit", *at, lpdu.bytes()),
-        Entry::Took { at, lpdu } => write_frame(text, b"took", *at, lpdu.bytes()),
-        Entry::Lost { at, lpdu, cause } => {
-            write_frame(text, b"lost", *at, lpdu.bytes());
-            text.word(cause_of_loss(*cause));
-        }
+        Entry::AnyOk { node, count } => text.entry(
+            b"ok",
+            &[Part::Byte(*node), Part::Number(u64::from(*count))],
+        ),
+        Entry::InitSame { at } => text.entry(b"init", &[Part::End(*at), Part::Word(b"same")]),
+        Entry::InitMade { at, count } => text.entry(
+            b"init",
+            &[
+                Part::End(*at),
+                Part::Word(b"made"),
+                Part::Number(u64::from(*count)),
+            ],
+        ),
+        Entry::InitFailed { at, code } => text.entry(
+            b"init",
+            &[Part::End(*at), Part::Word(b"failed"), Part::Byte(*code)],
+        ),
+        Entry::Cut { node } => text.entry(b"cut", &[Part::Byte(*node)]),
+        Entry::Booted { node, count } => text.entry(
+            b"booted",
+            &[Part::Byte(*node), Part::Number(u64::from(*count))],
+        ),
+        Entry::Tables { node, tables } => write_counts(text, *node, tables),
         Entry::No { cause } => {
-            text.push(b"no");
+            text.entry(b"no", &[]);
             write_cause(text, *cause);
         }
     }
 }
 
-fn write_session(text: &mut Text, word: &[u8], at: End, session: u32)
+fn write_counts(text: &mut Text, node: u8, tables: &Tables)
     ensures { (start : List ℕ) → Holds start [] text.old.bytes.items text.old.short
-        → HoldsWords start (word.now ∷ end_text at ∷ decimal session ∷ []) text.new.bytes.items text.new.short }
+        → HoldsWords start (count_words node tables.now) text.new.bytes.items text.new.short }
 {
-    text.push(word);
-    text.end(at);
-    text.number(session);
+    text.entry(
+        b"tables",
+        &[
+            Part::Byte(node),
+            Part::Number(tables.pipes().rows().len() as u64),
+            Part::Number(tables.statics().len() as u64),
+            Part::Number(tables.registry().values().len() as u64),
+            Part::Number(tables.syncs().len() as u64),
+        ],
+    );
 }
 
-fn write_frame(text: &mut Text, word: &[u8], at: End, bytes: &[u8])
-    ensures { (start : List ℕ) → Holds start [] text.old.bytes.items text.old.short
-        → HoldsWords start (word.now ∷ end_text at ∷ encode_upper bytes.now ∷ []) text.new.bytes.items text.new.short }
+fn cause_of_end(cause: Cause) -> &'static [u8]
+    ensures { result.now ≡ down_word cause }
 {
-    text.push(word);
-    text.end(at);
-    text.hex(bytes);
+    match cause {
+        Cause::Asked => b"asked",
+        Cause::NoAnswer => b"noanswer",
+        Cause::Peer => b"peer",
+        Cause::Act => b"act",
+        Cause::Chain => b"chain",
+    }
 }
 
 fn cause_of_loss(cause: LostCause) -> &'static [u8]
@@ -113,15 +218,15 @@ fn cause_of_loss(cause: LostCause) -> &'static [u8]
 }
 
 fn write_header(text: &mut Text, header: &Header)
-    ensures { (start first : List ℕ) → HoldsWords start (first ∷ []) text.old.bytes.items text.old.short
-        → HoldsWords start (first ∷ header_words header.now) text.new.bytes.items text.new.short }
+    ensures { (start first : List ℕ) (more : List (List ℕ)) → HoldsWords start (first ∷ more) text.old.bytes.items text.old.short
+        → HoldsWords start (first ∷ (more ++ header_words header.now)) text.new.bytes.items text.new.short }
 {
-    text.word(b"swp");
-    text.word(b"1");
-    text.word(world_of(header.hci));
-    for host in header.hosts.as_slice() {
-        text.byte(*host);
-    }
+    text.parts(&[
+        Part::Word(b"swp"),
+        Part::Word(b"1"),
+        Part::Word(world_of(header.hci)),
+        Part::EachByte(header.hosts.as_slice()),
+    ]);
 }
 
 fn world_of(hci: bool) -> &'static [u8]
@@ -131,38 +236,137 @@ fn world_of(hci: bool) -> &'static [u8]
 }
 
 fn write_line(text: &mut Text, line: &Line)
-    ensures { (start first : List ℕ) → HoldsWords start (first ∷ []) text.old.bytes.items text.old.short
-        → HoldsWords start (first ∷ line_words line.now) text.new.bytes.items text.new.short }
+    ensures { (start first : List ℕ) (more : List (List ℕ)) → HoldsWords start (first ∷ more) text.old.bytes.items text.old.short
+        → HoldsWords start (first ∷ (more ++ line_words line.now)) text.new.bytes.items text.new.short }
 {
     match line {
-        Line::Send { at, pid, message } => {
-            text.word(b"send");
-            text.end(*at);
-            text.byte(*pid);
-            text.hex(message.as_slice());
-        }
+        Line::Send { at, pid, message } => text.parts(&[
+            Part::Word(b"send"),
+            Part::End(*at),
+            Part::Byte(*pid),
+            Part::Bytes(message.as_slice()),
+        ]),
         Line::Deliver { at, count } => {
-            text.word(b"deliver");
-            text.end(*at);
-            if let Some(count) = count {
-                text.number(u32::from(*count));
-            }
+            text.parts(&[Part::Word(b"deliver"), Part::End(*at), Part::Maybe(*count)])
         }
+        Line::Lose { at } => text.parts(&[Part::Word(b"lose"), Part::End(*at)]),
+        Line::Damage { at, places } => text.parts(&[
+            Part::Word(b"damage"),
+            Part::End(*at),
+            Part::Numbers(places.as_slice()),
+        ]),
+        Line::Tick { times } => text.parts(&[Part::Word(b"tick"), Part::Maybe(*times)]),
+        Line::Reset { at, window } => {
+            text.parts(&[Part::Word(b"reset"), Part::End(*at), Part::Maybe(*window)])
+        }
+        Line::Busy { at } => text.parts(&[Part::Word(b"busy"), Part::End(*at)]),
+        Line::Ready { at } => text.parts(&[Part::Word(b"ready"), Part::End(*at)]),
+        Line::Boot { node } => text.parts(&[Part::Word(b"boot"), Part::Byte(*node)]),
+        Line::Cut { node } => text.parts(&[Part::Word(b"cut"), Part::Byte(*node)]),
+        Line::Activate { host, sync, power } => text.parts(&[
+            Part::Word(b"activate"),
+            Part::Byte(*host),
+            Part::TwoBytes(*sync),
+            Part::Byte(*power),
+        ]),
+        Line::Arm { node, nth, fill } => text.parts(&[
+            Part::Word(b"arm"),
+            Part::Byte(*node),
+            Part::Number(u64::from(*nth)),
+            Part::Bytes(fill.as_slice()),
+        ]),
+        Line::Init {
+            at,
+            identity,
+            pipes,
+        } => text.parts(&[
+            Part::Word(b"init"),
+            Part::End(*at),
+            Part::Bytes(identity),
+            Part::EachThree(pipes.as_slice()),
+        ]),
+        Line::Tables { node } => text.parts(&[Part::Word(b"tables"), Part::Byte(*node)]),
     }
 }
 
 fn write_cause(text: &mut Text, cause: NoCause)
-    ensures { (start first : List ℕ) → HoldsWords start (first ∷ []) text.old.bytes.items text.old.short
-        → HoldsWords start (first ∷ cause_words cause) text.new.bytes.items text.new.short }
+    ensures { (start first : List ℕ) (more : List (List ℕ)) → HoldsWords start (first ∷ more) text.old.bytes.items text.old.short
+        → HoldsWords start (first ∷ (more ++ cause_words cause)) text.new.bytes.items text.new.short }
 {
     match cause {
-        NoCause::NotUp => text.word(b"not-up"),
-        NoCause::TooLong => text.word(b"too-long"),
-        NoCause::Full { need, spare } => {
-            text.word(b"full");
-            text.number(u32::from(need));
-            text.number(u32::from(spare));
-        }
-        NoCause::Empty => text.word(b"empty"),
+        NoCause::Off => text.parts(&[Part::Word(b"off")]),
+        NoCause::Running => text.parts(&[Part::Word(b"running")]),
+        NoCause::Inactive => text.parts(&[Part::Word(b"inactive")]),
+        NoCause::NotUp => text.parts(&[Part::Word(b"not-up")]),
+        NoCause::Waiting => text.parts(&[Part::Word(b"waiting")]),
+        NoCause::TooLong => text.parts(&[Part::Word(b"too-long")]),
+        NoCause::Full { need, spare } => text.parts(&[
+            Part::Word(b"full"),
+            Part::Number(u64::from(need)),
+            Part::Number(u64::from(spare)),
+        ]),
+        NoCause::Empty => text.parts(&[Part::Word(b"empty")]),
+        NoCause::Beyond { bits } => text.parts(&[
+            Part::Word(b"beyond"),
+            Part::Number(u64::from(bits)),
+        ]),
     }
+}
+
+fn write_command(text: &mut Text, command: &Command)
+    ensures { (start first : List ℕ) (more : List (List ℕ)) → HoldsWords start (first ∷ more) text.old.bytes.items text.old.short
+        → HoldsWords start (first ∷ (more ++ command_words command.now)) text.new.bytes.items text.new.short }
+{
+    match command {
+        Command::Create(row) => text.parts(&[
+            Part::Word(b"create"),
+            Part::Byte(row.pid),
+            Part::Byte(row.creator),
+            Part::Byte(row.creator_gate),
+            Part::Byte(row.dest),
+            Part::Byte(row.dest_gate),
+        ]),
+        Command::Delete { pid } => text.parts(&[Part::Word(b"delete"), Part::Byte(*pid)]),
+        Command::Clear { host } => text.parts(&[Part::Word(b"clear"), Part::Byte(*host)]),
+        Command::SetOpened { host, pid, opened } => text.parts(&[
+            Part::Word(b"opened"),
+            Part::Byte(*host),
+            Part::Byte(*pid),
+            Part::Byte(flag_of(*opened)),
+        ]),
+        Command::Set {
+            host,
+            gate,
+            param,
+            value,
+        } => text.parts(&[
+            Part::Word(b"set"),
+            Part::Byte(*host),
+            Part::Byte(*gate),
+            Part::Byte(*param),
+            value_of(value.as_slice()),
+        ]),
+        Command::Sync { host, id } => text.parts(&[
+            Part::Word(b"sync"),
+            Part::Byte(*host),
+            Part::TwoBytes(*id),
+        ]),
+    }
+}
+
+/// The bytes of a value, and a dash where there are none.
+fn value_of(value: &[u8]) -> Part<'_>
+    ensures { part_words result ≡ hex_or_dash value.now ∷ [] }
+{
+    if value.is_empty() {
+        Part::Word(b"-")
+    } else {
+        Part::Bytes(value)
+    }
+}
+
+fn flag_of(opened: bool) -> u8
+    ensures { result ≡ (if opened then 1 else 0) }
+{
+    u8::from(opened)
 }

@@ -52,7 +52,10 @@ value_line value = line (
 abbrev pub sync_line : ℕ × ℕ → List ℕ
 sync_line sync = line (codes "sync" ∷ byte_word sync.0 ∷ encode_upper (sync.1 / 256 ∷ sync.1 % 256 ∷ []) ∷ [])
 
+-- the lines of the rows
+abbrev pub rows_text : HciTables → List ℕ
+rows_text t = flat_map pipe_line t.rows ++ flat_map static_line t.statics ++ flat_map value_line t.values ++ flat_map sync_line t.syncs
+
 -- the tables of a node, which is told by this word
 abbrev pub text_of : List ℕ → HciTables → List ℕ
-text_of node t =
-    head_line node t ++ flat_map pipe_line t.rows ++ flat_map static_line t.statics ++ flat_map value_line t.values ++ flat_map sync_line t.syncs
+text_of node t = head_line node t ++ rows_text t

@@ -7,7 +7,7 @@
 
 ghost use Rattle.std.specs.Prelude.{◌≡◌, ◌++◌, length, IfOk, OnOk, string_bytes};
 ghost use Rattle.std.specs.List.{flat_map};
-ghost use Rattle.tables_text.specs.Tables.{state_of, end_words, head_line, pipe_line, static_line, value_line, sync_line, hex_or_dash, text_of};
+ghost use Rattle.tables_text.specs.Tables.{state_of, end_words, head_line, pipe_line, static_line, value_line, sync_line, hex_or_dash, rows_text, text_of};
 
 use hci_tables::Tables;
 use pipe_table::PipeRow;
@@ -25,6 +25,14 @@ pub fn write_tables(
     ensures { OnOk result (out.new.items ≡ out.old.items ++ text_of node.now tables.now) }
 {
     push_head(alloc, node, tables, out)?;
+    write_rows(alloc, tables, out)
+}
+
+/// Appends the lines behind the first one: a line for each row of the tables. Where there is no memory, `out` has its old bytes and
+/// some whole lines behind them.
+pub fn write_rows(alloc: Global, tables: &Tables, out: &mut Vec<u8>) -> Result<(), AllocError>
+    ensures { OnOk result (out.new.items ≡ out.old.items ++ rows_text tables.now) }
+{
     push_pipes(alloc, tables.pipes().rows(), out)?;
     push_statics(alloc, tables.statics(), out)?;
     push_values(alloc, tables.registry().values(), out)?;

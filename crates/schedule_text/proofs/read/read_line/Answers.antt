@@ -2,9 +2,10 @@ use Rattle.std.proofs.Common.{sym, subst, arith}
 use Rattle.std.specs.Option.{option_copied}
 use Rattle.schedule_text.specs.declared.fault.LineFault.TheVariants as fault
 use Rattle.schedule_text.specs.Words.{words}
-use Rattle.schedule_text.specs.Answers.{IsInGrammar, IsOutOfOrder}
-use Rattle.schedule_text.proofs.FaultsLemmas.{not_too_long, order_iff, same_fault, answer_fits}
-use Rattle.schedule_text.proofs.LinesLemmas.{row_fits, memory_fits}
+use Rattle.schedule_text.specs.Forms.{row_for}
+use Rattle.schedule_text.specs.Answers.{IsInGrammar, IsOutOfOrder, IsSkipped}
+use Rattle.schedule_text.proofs.FaultsLemmas.{not_too_long, order_iff, same_fault, same_skip, answer_fits}
+use Rattle.schedule_text.proofs.LinesLemmas.{row_fits, memory_fits, never_skipped}
 use Rattle.schedule_text.proofs.read.read_line.Goals as goal
 
 pub returns-clause-fits : goal.returns-clause-fits
@@ -14,8 +15,14 @@ returns-clause-fits c =
 
 pub returns-clause-too_long : goal.returns-clause-too_long
 returns-clause-too_long c = (
-  λ h. absurd (not_too_long (option_copied c.args.header) c.in-Some.first.now (words c.in-Some.rest.now) ((same_fault c.read_words.result _ fault.TooLong c.read_words.ensures).0 h)),
+  λ h. absurd (not_too_long (option_copied c.args.header) (row_for c.in-Some.first.now) (words c.in-Some.rest.now) ((same_fault c.read_words.result _ fault.TooLong c.read_words.ensures).0 h)),
   λ long. absurd (omega arith),
+)
+
+pub returns-clause-skip : goal.returns-clause-skip
+returns-clause-skip c = (
+  λ h. absurd (never_skipped (option_copied c.args.header) c.in-Some.first.now (words c.in-Some.rest.now) (same_skip c.read_words.result _ c.read_words.ensures h)),
+  λ h. absurd (let comment = subst IsSkipped c.in-Some.ensures.some h.1 in let other = c.if-comment.ensures in cc),
 )
 
 pub returns-clause-order : goal.returns-clause-order

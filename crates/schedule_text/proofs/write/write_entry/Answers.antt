@@ -1,18 +1,26 @@
-use Rattle.std.proofs.Common.{[], false, sym, subst}
+use Rattle.std.proofs.Common.{◌≡◌, [], ◌∷◌, ◌++◌, false, sym, subst}
 use Rattle.schedule_text.specs.Words.{spaced}
-use Rattle.schedule_text.specs.Entries.{entry_words}
+use Rattle.schedule_text.specs.Entries.{entry_words, lines_behind}
 use Rattle.schedule_text.specs.Growth.{Holds}
-use Rattle.schedule_text.proofs.GrowthLemmas.{holds_nothing}
+use Rattle.schedule_text.proofs.GrowthLemmas.{holds_nothing, holds_line}
 use Rattle.schedule_text.proofs.write.write_entry.Goals as goal
 
 pub returns-then-short-clause-err : goal.returns-then-short-clause-err
 returns-then-short-clause-err c =
-    (c.push.ensures c.args.out.now.items (spaced (entry_words c.args.entry.now))
-    (c.write_words.ensures c.args.out.now.items (subst (λ v. Holds c.args.out.now.items [] v.items false) (sym c.replace.ensures.value) (holds_nothing c.args.out.now.items)))).front
+    let start = c.args.out.now.items in
+    let text = spaced (entry_words c.args.entry.now) in
+    let behind : c.as_slice.result.now ≡ lines_behind c.args.entry.now = cc (c.in_ok-behind.ensures) in
+    let empty = subst (λ v. Holds start [] v.items false) (sym c.replace.ensures.value) (holds_nothing start) in
+    (holds_line start text c.as_slice.result.now (lines_behind c.args.entry.now) _ _ behind
+    (c.push-2.ensures start (text ++ (10 ∷ [])) (c.push.ensures start text (c.write_words.ensures start empty)))).front
     c.if-short.true
 
-pub returns-else-short-clause-ok : goal.returns-else-short-clause-ok
-returns-else-short-clause-ok c =
-    (c.push.ensures c.args.out.now.items (spaced (entry_words c.args.entry.now))
-    (c.write_words.ensures c.args.out.now.items (subst (λ v. Holds c.args.out.now.items [] v.items false) (sym c.replace.ensures.value) (holds_nothing c.args.out.now.items)))).whole
+pub returns-clause-ok : goal.returns-clause-ok
+returns-clause-ok c =
+    let start = c.args.out.now.items in
+    let text = spaced (entry_words c.args.entry.now) in
+    let behind : c.as_slice.result.now ≡ lines_behind c.args.entry.now = cc (c.in_ok-behind.ensures) in
+    let empty = subst (λ v. Holds start [] v.items false) (sym c.replace.ensures.value) (holds_nothing start) in
+    (holds_line start text c.as_slice.result.now (lines_behind c.args.entry.now) _ _ behind
+    (c.push-2.ensures start (text ++ (10 ∷ [])) (c.push.ensures start text (c.write_words.ensures start empty)))).whole
     c.if-short.false

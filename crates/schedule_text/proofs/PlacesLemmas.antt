@@ -1,0 +1,71 @@
+-- Places of bits, word by word.
+use Rattle.std.proofs.Common.{◌≡◌, ◌&&◌, ℕ, zero, suc, ◌+◌, ◌<◌, ◌≤◌, Bool, true, false, cond, nat_le, List, [], ◌∷◌, ◌++◌, length, slice_index, refl, sym, ap, subst, arith, Option, Some, None, All, append_assoc, append-nil}
+use Rattle.std.specs.List.Sorted.{IsStrictlyIncreasing}
+use Rattle.std.specs.Option.{option_map, option_map_or}
+use Rattle.std.proofs.lemmas.Bool.{leb-true, le-leb}
+use Rattle.schedule_text.specs.declared.forms.Kind.TheVariants as kind
+use Rattle.schedule_text.specs.Values.{number_value, number_in, option_if}
+use Rattle.schedule_text.specs.Rules.{slots}
+use Rattle.schedule_text.specs.Lines.{◌>>=◌, places_of}
+use Rattle.schedule_text.proofs.RowsLemmas.{AllFit, both}
+
+-- the places of these words, behind others
+abbrev pub places_behind : List ℕ → List (List ℕ) → Option (List ℕ)
+places_behind front ws = option_map (λ more. front ++ more) (places_of ws)
+
+pub places-none : (front : List ℕ) → places_behind front [] ≡ Some front
+places-none front = ap Some (append-nil front)
+
+pub places-wrong : (front word : List ℕ) (ws : List (List ℕ)) → number_in 0 399 word ≡ None → places_behind front (word ∷ ws) ≡ None
+places-wrong front word ws h = rw h refl
+
+pub places-more : (front word : List ℕ) (ws : List (List ℕ)) (n : ℕ) → number_in 0 399 word ≡ Some n
+    → places_behind front (word ∷ ws) ≡ places_behind (front ++ n ∷ []) ws
+places-more front word ws n h = rw h (go (places_of ws))
+  where
+    go : (o : Option (List ℕ)) → option_map (λ more. front ++ more) (o >>= (λ more. Some (n ∷ more))) ≡ option_map (λ more. (front ++ n ∷ []) ++ more) o
+    go None = refl
+    go (Some more) = ap Some (sym (append_assoc front (n ∷ []) more))
+
+-- numbers that rise from one on, up to 399
+abbrev pub RiseFrom : ℕ → List ℕ → Type 0
+RiseFrom from [] = Unit {0}
+RiseFrom from (p ∷ ps) = (from ≤ p) × (p ≤ 399) × RiseFrom (p + 1) ps
+
+in_range : (low high n : ℕ) (o : Option ℕ) → option_if (λ k. nat_le low k && nat_le k high) o ≡ Some n → (o ≡ Some n) × (low ≤ n) × (n ≤ high)
+in_range low high n None h = cc
+in_range low high n (Some k) h = go (nat_le low k && nat_le k high) refl h
+  where
+    go : (t : Bool) → (nat_le low k && nat_le k high) ≡ t → cond t (Some k) None ≡ Some n → (Some k ≡ Some n) × (low ≤ n) × (n ≤ high)
+    go true e h = let same : k ≡ n = cc in let parts = both _ _ e in (h, subst (λ m. low ≤ m) same (leb-true _ _ parts.0), subst (λ m. m ≤ high) same (leb-true _ _ parts.1))
+    go false e h = cc
+
+-- a number that is read is in its range
+pub number-range : (low high n : ℕ) (word : List ℕ) → number_in low high word ≡ Some n → (number_value word ≡ Some n) × (low ≤ n) × (n ≤ high)
+number-range low high n word h = in_range low high n (number_value word) h
+
+pub number-in : (low high n : ℕ) (word : List ℕ) → number_value word ≡ Some n → low ≤ n → n ≤ high → number_in low high word ≡ Some n
+number-in low high n word e a b = rw (e, le-leb low n a, le-leb n high b) refl
+
+-- words of places are read
+pub places-read : (hci : Bool) (hosts : List ℕ) (from : ℕ) (ws : List (List ℕ)) → AllFit hci hosts from (slots (kind.Rising 399 ∷ []) ws)
+    → (ps : List ℕ) × (places_of ws ≡ Some ps) × (length ps ≡ length ws) × RiseFrom from ps
+places-read hci hosts from [] h = ([], refl, refl, tt)
+places-read hci hosts from (w ∷ ws) h =
+    let range = number-range from 399 h.0.0 w h.0.1 in
+    let next : option_map_or (λ n. n + 1) (number_in from 399 w) from ≡ h.0.0 + 1 = ap (λ o. option_map_or (λ n. n + 1) o from) h.0.1 in
+    let more = places-read hci hosts (h.0.0 + 1) ws (subst (λ n. AllFit hci hosts n (slots (kind.Rising 399 ∷ []) ws)) next h.1) in
+    (h.0.0 ∷ more.0, rw (number-in 0 399 h.0.0 w range.0 (omega arith) range.2, more.1) refl, ap suc more.2, (range.1, range.2, more.3))
+
+pub rise-increasing : (from : ℕ) (ps : List ℕ) → RiseFrom from ps → IsStrictlyIncreasing ps
+rise-increasing from [] h k within = absurd (omega arith)
+rise-increasing from (p ∷ []) h k within = absurd (omega arith)
+rise-increasing from (p ∷ q ∷ ps) h zero within = let next : p + 1 ≤ q = h.2.0 in omega arith
+rise-increasing from (p ∷ q ∷ ps) h (suc k) within =
+    let next : suc (k + 1) ≡ suc k + 1 = omega arith in
+    subst (λ m. slice_index (q ∷ ps) k < slice_index (p ∷ q ∷ ps) m) next (rise-increasing (p + 1) (q ∷ ps) h.2 k (omega arith))
+
+pub rise-below : (from : ℕ) (ps : List ℕ) → RiseFrom from ps → All (λ p. p < 400) ps
+rise-below from [] h k d within = absurd (omega arith)
+rise-below from (p ∷ ps) h zero d within = let high : p ≤ 399 = h.1 in omega arith
+rise-below from (p ∷ ps) h (suc k) d within = rise-below (p + 1) ps h.2 k d (omega arith)
