@@ -1,9 +1,9 @@
 -- The table of the program is that of the definition.
-use Rattle.std.proofs.Common.{◌≡◌, ℕ, Bool, true, false, cond, List, [], ◌∷◌, refl, Option, Some, None, map, find}
+use Rattle.std.proofs.Common.{◌≡◌, ℕ, Bool, true, false, cond, List, [], ◌∷◌, refl, Some, map, find}
 use Rattle.std.specs.Option.{option_map}
 use Rattle.std.specs.Str.{bytes_eq}
 use Rattle.schedule_text.specs.declared.forms.Form.{Form}
-use Rattle.schedule_text.specs.Forms.{Row, row_of, row_in}
+use Rattle.schedule_text.specs.Forms.{row_of, row_in}
 
 -- the row of the form that is found
 pub row-find : (forms : List Form) (first : List ℕ) → option_map row_of (find (λ form. bytes_eq form.first.now first) forms) ≡ row_in (map row_of forms) first

@@ -6,5 +6,6 @@ pub mod HexLemmas
 pub mod LinesLemmas
 pub mod NumbersLemmas
 pub mod PlacesLemmas
+pub mod ReadAgainLemmas
 pub mod RowsLemmas
 pub mod WordsLemmas

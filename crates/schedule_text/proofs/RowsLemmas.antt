@@ -1,5 +1,5 @@
 -- What is known of the words of a line without fault: one lemma for each kind of word, both ways.
-use Rattle.std.proofs.Common.{◌≡◌, ◌==◌, ◌&&◌, ◌||◌, ℕ, ◌+◌, ◌<◌, ◌≤◌, Bool, true, false, not, cond, List, [], ◌∷◌, length, refl, sym, ◌∙◌, ap, arith, Option, Some, None, is_some, codes, nat_lt, nat_le}
+use Rattle.std.proofs.Common.{◌≡◌, ◌==◌, ◌&&◌, ◌||◌, ℕ, ◌+◌, ◌<◌, ◌≤◌, Bool, true, false, not, cond, List, [], ◌∷◌, length, refl, sym, ◌∙◌, ap, Option, Some, None, is_some, codes, nat_lt, nat_le}
 use Rattle.std.proofs.lemmas.Bool.{leb-true, ltb-true, lt-ltb, le-leb}
 use Rattle.std.specs.List.{list_all, list_any, AllByRecursion}
 use Rattle.std.specs.Option.{option_map, option_or}
@@ -10,7 +10,7 @@ use Rattle.schedule_text.specs.declared.fault.LineFault.{LineFault}
 use Rattle.schedule_text.specs.declared.fault.LineFault.TheVariants as fault
 use Rattle.schedule_text.specs.declared.forms.Kind.{Kind}
 use Rattle.schedule_text.specs.declared.forms.Kind.TheVariants as kind
-use Rattle.schedule_text.specs.Values.{byte_value, bytes_value, number_value, number_in, end_value, option_if}
+use Rattle.schedule_text.specs.Values.{byte_value, bytes_value, number_in, end_value, option_if}
 use Rattle.schedule_text.specs.Forms.{Row, row_in}
 use Rattle.schedule_text.specs.Rules.{Slot, slots, is_sender, has_byte, has_bytes, has_shape, rising, stranger, digits_fault, host_fault, is_well_formed, first_digits_fault, first_host_fault, words_fault}
 

@@ -1,5 +1,5 @@
 -- What a reader answers beside the definition: want of memory, where the line has no fault.
-use Rattle.std.specs.Prelude.{◌≡◌, ◌≢◌, ◌≤◌, ◌⊎◌, List, [], ◌∷◌, ℕ, length, IsTrue, codes, Option, Some, None, Result, Ok, Err, IsSome, IsSomeAnd, IsOkAnd}
+use Rattle.std.specs.Prelude.{◌≡◌, ◌≢◌, ◌≤◌, ◌⊎◌, List, [], ◌∷◌, ℕ, length, IsTrue, codes, Option, Some, None, Result, Ok, IsSome, IsSomeAnd, IsOkAnd}
 use Rattle.schedule_text.specs.declared.fault.LineFault.{LineFault}
 use Rattle.schedule_text.specs.declared.forms.Name.{Name}
 use Rattle.schedule_text.specs.declared.forms.Name.TheVariants as name

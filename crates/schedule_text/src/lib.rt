@@ -3,6 +3,7 @@
 
 mod fault;
 mod forms;
+mod laws;
 mod read;
 mod rules;
 mod text;
@@ -11,5 +12,6 @@ mod words;
 mod write;
 
 pub use fault::LineFault;
+pub use laws::texts_are_read_again;
 pub use read::{Read, read_line};
 pub use write::write_entry;

@@ -1,0 +1,255 @@
+-- What is written of a line or a header is read again as it: one lemma for each kind of word, and a line for each form.
+use Rattle.std.proofs.Common.{◌≡◌, ◌==◌, ◌||◌, ℕ, zero, suc, ◌+◌, ◌^◌, ◌<◌, ◌≤◌, Bool, true, false, not, cond, List, [], ◌∷◌, ◌++◌, length, get_or, slice_get, slice_index, map, refl, sym, ◌∙◌, ap, subst, arith, Option, Some, None, Ok, Err, IsTrue, IfSome, Contains, All, codes, length-append}
+use Rattle.std.specs.List.{list_any, AllByRecursion}
+use Rattle.std.specs.List.Sorted.{IsStrictlyIncreasing}
+use Rattle.std.specs.Option.{option_map_or}
+use Rattle.std.specs.Fmt.{decimal}
+use Rattle.std.proofs.lemmas.Bool.{le-ltb, eq-eqb}
+use Rattle.std.proofs.lemmas.Fmt.{decimal_digit}
+use Rattle.std.proofs.lemmas.List.{get_or_default, length-map}
+use Rattle.hex.specs.Hex.{encode_upper}
+use Rattle.trace_model.specs.declared.line.End.{End}
+use Rattle.trace_model.specs.declared.line.Header.{Header}
+use Rattle.trace_model.specs.declared.line.Line.{Line}
+use Rattle.trace_model.specs.declared.line.Line.TheVariants as line
+use Rattle.trace_model.specs.Lines.{IsHost, IsHeader, IsLineOf}
+use Rattle.schedule_text.specs.declared.fault.LineFault.TheVariants as fault
+use Rattle.schedule_text.specs.declared.forms.Kind.TheVariants as kind
+use Rattle.schedule_text.specs.declared.read.Read.{Read}
+use Rattle.schedule_text.specs.declared.read.Read.TheVariants as read
+use Rattle.schedule_text.specs.Words.{spaced}
+use Rattle.schedule_text.specs.Values.{number_value, number_in, end_value}
+use Rattle.schedule_text.specs.Forms.{Row, header_row, send_row, deliver_row, lose_row, damage_row, tick_row, reset_row, busy_row, ready_row}
+use Rattle.schedule_text.specs.Rules.{slots, words_fault}
+use Rattle.schedule_text.specs.Lines.{◌>>=◌, read_of, places_of, unless_fault, by_words, line_of}
+use Rattle.schedule_text.specs.Entries.{byte_text, end_text, number_words, header_words, line_words, line_text}
+use Rattle.schedule_text.proofs.AgainLemmas.{IsWord, words-spaced, byte_again, end_again, bytes_again, number_again, hex_word, end_word, number_word, length-hex}
+use Rattle.schedule_text.proofs.RowsLemmas.{IsKnown, Fits, AllFit, Right, right_words}
+use Rattle.schedule_text.proofs.PlacesLemmas.{RiseFrom, number-in}
+
+-- a test that finds an element of the list
+found : (xs : List ℕ) (q k : ℕ) → k < length xs → get_or xs k 0 ≡ q → list_any (λ x. x == q) xs ≡ true
+found [] q k h e = absurd (omega arith)
+found (x ∷ xs) q zero h e = rw (eq-eqb x q e) refl
+found (x ∷ xs) q (suc k) h e = go (x == q) (found xs q k (omega arith) e)
+  where
+    go : (t : Bool) → list_any (λ x. x == q) xs ≡ true → (t || list_any (λ x. x == q) xs) ≡ true
+    go true h = refl
+    go false h = h
+
+pub found_in : (xs : List ℕ) (q : ℕ) → Contains xs q → IsKnown xs q
+found_in xs q h = found xs q h.0 h.1 (get_or_default xs h.0 0 q h.1 ∙ h.2)
+
+-- the link of an end of a world is a byte
+link_fits : (header : Header) (e : End) → IsHeader header → Contains header.hosts.items e.link → e.link < 256
+link_fits header e known h = let host = known.hosts h.0 e.link h.1 in let small : get_or header.hosts.items h.0 e.link ≤ 7 = host.1 in omega (arith, small, h.2)
+
+sender_again : (hci at_host : Bool) → (IsTrue hci → IsTrue at_host) → (not hci || at_host) ≡ true
+sender_again true at_host h = h refl
+sender_again false at_host h = refl
+
+-- an end that is written fits
+end_fits : (header : Header) (e : End) → IsHeader header → Contains header.hosts.items e.link → Fits header.hci header.hosts.items 0 kind.End (end_text e)
+end_fits header e world known = (e, end_again e (link_fits header e world known), found_in header.hosts.items e.link known)
+
+-- a number that is written is read again
+number_any : (n : ℕ) → n < 2 ^ 64 → number_value (decimal n) ≡ Some n
+number_any zero fits = ap number_value (decimal_digit 0 (omega arith))
+number_any (suc n) fits = number_again (suc n) (omega arith) fits
+
+number_back : (low high n : ℕ) → low ≤ n → n ≤ high → high < 1000 → number_in low high (decimal n) ≡ Some n
+number_back low high n a b small = number-in low high n (decimal n) (number_any n (omega arith)) a b
+
+-- a number that may be absent
+abbrev IsIn : ℕ → Option ℕ → Type 0
+IsIn high o = IfSome o (λ n. (1 ≤ n) × (n ≤ high))
+
+numbers_fit : (hci : Bool) (hosts : List ℕ) (from high : ℕ) (o : Option ℕ) → high < 1000 → IsIn high o
+    → AllFit hci hosts from (slots (kind.Number 1 high ∷ []) (number_words o))
+numbers_fit hci hosts from high None small range = tt
+numbers_fit hci hosts from high (Some n) small range = ((n, number_back 1 high n range.0 range.1 small), tt)
+
+numbers_are_words : (high : ℕ) (o : Option ℕ) → high < 1000 → IsIn high o → AllByRecursion IsWord (number_words o)
+numbers_are_words high None small range = tt
+numbers_are_words high (Some n) small range = let most : n ≤ high = range.1 in (number_word n (omega arith), tt)
+
+numbers_are_few : (o : Option ℕ) → length (number_words o) ≤ 1
+numbers_are_few None = omega arith
+numbers_are_few (Some n) = omega arith
+
+number_comes_back : (high : ℕ) (o : Option ℕ) → high < 1000 → IsIn high o → (slice_get (number_words o) 0 >>= number_in 1 high) ≡ o
+number_comes_back high None small range = refl
+number_comes_back high (Some n) small range = number_back 1 high n range.0 range.1 small
+
+-- places
+places_fit : (hci : Bool) (hosts : List ℕ) (from : ℕ) (ps : List ℕ) → RiseFrom from ps → AllFit hci hosts from (slots (kind.Rising 399 ∷ []) (map decimal ps))
+places_fit hci hosts from [] h = tt
+places_fit hci hosts from (p ∷ ps) h =
+    let back = number_back from 399 p h.0 h.1 (omega arith) in
+    let next : option_map_or (λ n. n + 1) (number_in from 399 (decimal p)) from ≡ p + 1 = ap (λ o. option_map_or (λ n. n + 1) o from) back in
+    ((p, back), subst (λ n. AllFit hci hosts n (slots (kind.Rising 399 ∷ []) (map decimal ps))) (sym next) (places_fit hci hosts (p + 1) ps h.2))
+
+places_are_words : (from : ℕ) (ps : List ℕ) → RiseFrom from ps → AllByRecursion IsWord (map decimal ps)
+places_are_words from [] h = tt
+places_are_words from (p ∷ ps) h = let high : p ≤ 399 = h.1 in (number_word p (omega arith), places_are_words (p + 1) ps h.2)
+
+places_come_back : (from : ℕ) (ps : List ℕ) → RiseFrom from ps → places_of (map decimal ps) ≡ Some ps
+places_come_back from [] h = refl
+places_come_back from (p ∷ ps) h =
+    rw (number_back 0 399 p (omega arith) h.1 (omega arith), places_come_back (p + 1) ps h.2) refl
+
+below : (p : ℕ) (ps : List ℕ) → All (λ q. q < 400) (p ∷ ps) → p ≤ 399
+below p ps h = let small : p < 400 = h 0 0 (omega arith) in omega arith
+
+rises : (p q : ℕ) (ps : List ℕ) → IsStrictlyIncreasing (p ∷ q ∷ ps) → p < q
+rises p q ps h = h 0 (omega arith)
+
+behind_rises : (p : ℕ) (ps : List ℕ) → IsStrictlyIncreasing (p ∷ ps) → IsStrictlyIncreasing ps
+behind_rises p ps h k within =
+    let next : suc k + 1 ≡ suc (k + 1) = omega arith in
+    subst (λ m. slice_index ps k < slice_index (p ∷ ps) m) next (h (suc k) (omega arith))
+
+rise_behind : (p : ℕ) (ps : List ℕ) → IsStrictlyIncreasing (p ∷ ps) → All (λ q. q < 400) (p ∷ ps) → RiseFrom (p + 1) ps
+rise_behind p [] up all = tt
+rise_behind p (q ∷ ps) up all =
+    let tail : All (λ q. q < 400) (q ∷ ps) = λ k d within. all (suc k) d (omega arith) in
+    let more : p < q = rises p q ps up in
+    (omega arith, below q ps tail, rise_behind q ps (behind_rises p (q ∷ ps) up) tail)
+
+rise_all : (ps : List ℕ) → IsStrictlyIncreasing ps → All (λ q. q < 400) ps → RiseFrom 0 ps
+rise_all [] up all = tt
+rise_all (p ∷ ps) up all = (omega arith, below p ps all, rise_behind p ps up all)
+
+-- a line of at most 9,000 bytes is what its words say
+by_its_words : (header : Option Header) (ws : List (List ℕ)) (r : Read) → length (spaced ws) ≤ 9000 → AllByRecursion IsWord ws → by_words header ws ≡ Ok r
+    → line_of header (spaced ws) ≡ Ok r
+by_its_words header ws r short each h = rw (le-ltb 9000 (length (spaced ws)) short, words-spaced ws each) h
+
+again : (hci : Bool) (hosts : List ℕ) (row : Row) (ws : List (List ℕ)) (r : Read) → Right hci hosts row ws → read_of row.name ws ≡ Some r
+    → unless_fault (words_fault hci hosts row ws) (read_of row.name ws) ≡ Ok r
+again hci hosts row ws r right reads = rw (right_words hci hosts row ws right, reads) refl
+
+again_bare : (header : Header) (row : Row) (ws : List (List ℕ)) (r : Read) → header.hci ≡ false → Right header.hci header.hosts.items row ws
+    → read_of row.name ws ≡ Some r
+    → cond (not header.hci) (unless_fault (words_fault header.hci header.hosts.items row ws) (read_of row.name ws)) (Err fault.Order) ≡ Ok r
+again_bare header row ws r bare right reads =
+    ap (λ t. cond (not t) (unless_fault (words_fault header.hci header.hosts.items row ws) (read_of row.name ws)) (Err fault.Order)) bare
+    ∙ again header.hci header.hosts.items row ws r right reads
+
+-- a message of a line is no longer than half of it
+message_fits : (e : End) (pid : ℕ) (message : List ℕ) → length (line_text (line.Send e pid message)) ≤ 9000 → length message ≤ 4500
+message_fits e pid message h =
+    let front = length-append (end_text e) (32 ∷ (byte_text pid ++ 32 ∷ encode_upper message)) in
+    let back = length-append (byte_text pid) (32 ∷ encode_upper message) in
+    let hex = length-hex message in
+    omega (arith, h, front, back, hex)
+
+with_number : (a : List ℕ) (ws : List (List ℕ)) (e : End) (high : ℕ) (o : Option ℕ) (make : End → Option ℕ → Line) → end_value a ≡ Some e
+    → (slice_get ws 0 >>= number_in 1 high) ≡ o
+    → (end_value a >>= (λ at. Some (read.Line (make at (slice_get ws 0 >>= number_in 1 high))))) ≡ Some (read.Line (make e o))
+with_number a ws e high o make ea eo =
+    ap (λ at. at >>= (λ at. Some (read.Line (make at (slice_get ws 0 >>= number_in 1 high))))) ea ∙ ap (λ n. Some (read.Line (make e n))) eo
+
+-- a line
+pub line_again : (header : Header) (said : Line) → IsHeader header → IsLineOf header said → length (line_text said) ≤ 9000
+    → line_of (Some header) (line_text said) ≡ Ok (read.Line said)
+line_again header (line.Send e pid message) world fits short =
+    let end = end_again e (link_fits header e world fits.known) in
+    let byte = byte_again pid (let low = fits.pipe in omega arith) in
+    let bytes = bytes_again message fits.bytes in
+    by_its_words (Some header) (line_words (line.Send e pid message)) _ short
+    ((omega arith, refl), (end_word e, (hex_word (pid ∷ []) (omega arith), (hex_word message fits.some, tt))))
+    (again header.hci header.hosts.items send_row (end_text e ∷ byte_text pid ∷ encode_upper message ∷ []) _
+    (record {
+      least = omega arith;
+      most = omega arith;
+      words = (
+        (e, end, found_in header.hosts.items e.link fits.known, sender_again header.hci e.at_host fits.sender),
+        ((pid, byte, fits.pipe), ((message, bytes, fits.some, message_fits e pid message short), tt)),
+      );
+    })
+    (rw (end, byte, bytes) refl))
+line_again header (line.Deliver e count) world fits short =
+    let end = end_again e (link_fits header e world fits.0) in
+    let few = numbers_are_few count in
+    by_its_words (Some header) (line_words (line.Deliver e count)) _ short ((omega arith, refl), (end_word e, numbers_are_words 64 count (omega arith) fits.1))
+    (again header.hci header.hosts.items deliver_row (end_text e ∷ number_words count) _
+    (record {
+      least = omega arith;
+      most = omega arith;
+      words = (end_fits header e world fits.0, numbers_fit header.hci header.hosts.items 0 64 count (omega arith) fits.1);
+    })
+    (with_number (end_text e) (number_words count) e 64 count line.Deliver end (number_comes_back 64 count (omega arith) fits.1)))
+line_again header (line.Lose e) world fits short =
+    by_its_words (Some header) (line_words (line.Lose e)) _ short ((omega arith, refl), (end_word e, tt))
+    (again header.hci header.hosts.items lose_row (end_text e ∷ []) _
+    (record { least = omega arith; most = omega arith; words = (end_fits header e world fits, tt) })
+    (rw (end_again e (link_fits header e world fits)) refl))
+line_again header (line.Damage e places) world fits short =
+    let ps = places.items in
+    let rise = rise_all ps fits.1.rising fits.1.inside in
+    let least = fits.1.some in
+    let most = fits.1.most in
+    let long = length-map ps decimal in
+    by_its_words (Some header) (line_words (line.Damage e places)) _ short ((omega arith, refl), (end_word e, places_are_words 0 ps rise))
+    (again header.hci header.hosts.items damage_row (end_text e ∷ map decimal ps) _
+    (record { least = omega arith; most = omega arith; words = (end_fits header e world fits.0, places_fit header.hci header.hosts.items 0 ps rise) })
+    (rw (end_again e (link_fits header e world fits.0), places_come_back 0 ps rise) refl))
+line_again header (line.Tick times) world fits short =
+    let few = numbers_are_few times in
+    by_its_words (Some header) (line_words (line.Tick times)) _ short ((omega arith, refl), numbers_are_words 100 times (omega arith) fits)
+    (again header.hci header.hosts.items tick_row (number_words times) _
+    (record { least = omega arith; most = omega arith; words = numbers_fit header.hci header.hosts.items 0 100 times (omega arith) fits })
+    (ap (λ o. Some (read.Line (line.Tick o))) (number_comes_back 100 times (omega arith) fits)))
+line_again header (line.Reset e window) world fits short =
+    let end = end_again e (link_fits header e world fits.0) in
+    let few = numbers_are_few window in
+    by_its_words (Some header) (line_words (line.Reset e window)) _ short ((omega arith, refl), (end_word e, numbers_are_words 4 window (omega arith) fits.1))
+    (again header.hci header.hosts.items reset_row (end_text e ∷ number_words window) _
+    (record {
+      least = omega arith;
+      most = omega arith;
+      words = (end_fits header e world fits.0, numbers_fit header.hci header.hosts.items 0 4 window (omega arith) fits.1);
+    })
+    (with_number (end_text e) (number_words window) e 4 window line.Reset end (number_comes_back 4 window (omega arith) fits.1)))
+line_again header (line.Busy e) world fits short =
+    by_its_words (Some header) (line_words (line.Busy e)) _ short ((omega arith, refl), (end_word e, tt))
+    (again_bare header busy_row (end_text e ∷ []) _ fits.0
+    (record { least = omega arith; most = omega arith; words = (end_fits header e world fits.1, tt) })
+    (rw (end_again e (link_fits header e world fits.1)) refl))
+line_again header (line.Ready e) world fits short =
+    by_its_words (Some header) (line_words (line.Ready e)) _ short ((omega arith, refl), (end_word e, tt))
+    (again_bare header ready_row (end_text e ∷ []) _ fits.0
+    (record { least = omega arith; most = omega arith; words = (end_fits header e world fits.1, tt) })
+    (rw (end_again e (link_fits header e world fits.1)) refl))
+line_again header (line.Boot node) world fits short = absurd fits
+line_again header (line.Cut node) world fits short = absurd fits
+line_again header (line.Activate host sync power) world fits short = absurd fits
+line_again header (line.Arm node nth fill) world fits short = absurd fits
+line_again header (line.Init e identity pipes) world fits short = absurd fits
+line_again header (line.Tables node) world fits short = absurd fits
+
+one_item : (items : List ℕ) → length items ≡ 1 → (h : ℕ) × (items ≡ h ∷ [])
+one_item [] e = absurd (omega arith)
+one_item (h ∷ []) e = (h, refl)
+one_item (h ∷ k ∷ items) e = absurd (omega arith)
+
+one_again : (h : ℕ) → IsHost h → line_of None (spaced (codes "swp" ∷ codes "1" ∷ codes "bare" ∷ byte_text h ∷ []))
+    ≡ Ok (read.Header (record { hci = false; hosts = record { items = h ∷ [] } }))
+one_again h host =
+    let high : h ≤ 7 = host.1 in
+    let byte = byte_again h (omega arith) in
+    by_its_words None (codes "swp" ∷ codes "1" ∷ codes "bare" ∷ byte_text h ∷ []) _ (let hex = length-hex (h ∷ []) in omega (arith, hex))
+    ((omega arith, refl), ((omega arith, refl), ((omega arith, refl), (hex_word (h ∷ []) (omega arith), tt))))
+    (again false [] header_row (codes "1" ∷ codes "bare" ∷ byte_text h ∷ []) _
+    (record { least = omega arith; most = omega arith; words = (refl, (refl, ((h, byte, host.0, omega arith, high), tt))) })
+    (rw byte refl))
+
+-- a header
+pub header_again : (header : Header) → IsHeader header → line_of None (spaced (header_words header)) ≡ Ok (read.Header header)
+header_again header known =
+    let items = one_item header.hosts.items known.one in
+    let P : Bool → List ℕ → Type 0 = λ hci hosts.
+    let made : Header = record { hci = hci; hosts = record { items = hosts } } in line_of None (spaced (header_words made)) ≡ Ok (read.Header made) in
+    let host : IsHost items.0 = subst (λ hosts. IsHost (get_or hosts 0 0)) items.1 (known.hosts 0 0 (omega (arith, known.one))) in
+    subst (λ hci. P hci header.hosts.items) (sym known.bare) (subst (P false) (sym items.1) (one_again items.0 host))
