@@ -3,6 +3,7 @@ pub mod FaultsLemmas
 pub mod FormsLemmas
 pub mod GrowthLemmas
 pub mod HexLemmas
+pub mod HostsLemmas
 pub mod LinesLemmas
 pub mod NumbersLemmas
 pub mod PlacesLemmas

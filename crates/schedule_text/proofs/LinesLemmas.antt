@@ -58,10 +58,10 @@ number_ranges high None = tt
 number_ranges high (Some word) = number_bounds high word (number_in 1 high word) refl
 
 -- what the words of a line say that have no fault
-abbrev Says : Header → Row → List (List ℕ) → Type 0
+abbrev pub Says : Header → Row → List (List ℕ) → Type 0
 Says header row ws = Right header.hci header.hosts.items row ws → (said : Line) × (read_of row.name ws ≡ Some (read.Line said)) × IsLineOf header said
 
-says_send : (header : Header) (ws : List (List ℕ)) → Says header send_row ws
+pub says_send : (header : Header) (ws : List (List ℕ)) → Says header send_row ws
 says_send header [] right = absurd (let h = right.least in omega arith)
 says_send header (a ∷ []) right = absurd (let h = right.least in omega arith)
 says_send header (a ∷ b ∷ []) right = absurd (let h = right.least in omega arith)
@@ -80,17 +80,17 @@ says_send header (a ∷ b ∷ c ∷ ws) right =
       },
     )
 
-says_deliver : (header : Header) (ws : List (List ℕ)) → Says header deliver_row ws
+pub says_deliver : (header : Header) (ws : List (List ℕ)) → Says header deliver_row ws
 says_deliver header [] right = absurd (let h = right.least in omega arith)
 says_deliver header (a ∷ ws) right =
     let at = right.words.0 in
     (line.Deliver at.0 (number_at 64 (a ∷ ws) 1), rw at.1 refl, (contains_found header.hosts.items at.0.link at.2, number_ranges 64 (slice_get ws 0)))
 
-says_lose : (header : Header) (ws : List (List ℕ)) → Says header lose_row ws
+pub says_lose : (header : Header) (ws : List (List ℕ)) → Says header lose_row ws
 says_lose header [] right = absurd (let h = right.least in omega arith)
 says_lose header (a ∷ ws) right = let at = right.words.0 in (line.Lose at.0, rw at.1 refl, contains_found header.hosts.items at.0.link at.2)
 
-says_damage : (header : Header) (ws : List (List ℕ)) → Says header damage_row ws
+pub says_damage : (header : Header) (ws : List (List ℕ)) → Says header damage_row ws
 says_damage header [] right = absurd (let h = right.least in omega arith)
 says_damage header (a ∷ ws) right =
     let at = right.words.0 in
@@ -110,20 +110,20 @@ says_damage header (a ∷ ws) right =
       ),
     )
 
-says_tick : (header : Header) (ws : List (List ℕ)) → Says header tick_row ws
+pub says_tick : (header : Header) (ws : List (List ℕ)) → Says header tick_row ws
 says_tick header ws right = (line.Tick (number_at 100 ws 0), refl, number_ranges 100 (slice_get ws 0))
 
-says_reset : (header : Header) (ws : List (List ℕ)) → Says header reset_row ws
+pub says_reset : (header : Header) (ws : List (List ℕ)) → Says header reset_row ws
 says_reset header [] right = absurd (let h = right.least in omega arith)
 says_reset header (a ∷ ws) right =
     let at = right.words.0 in
     (line.Reset at.0 (number_at 4 (a ∷ ws) 1), rw at.1 refl, (contains_found header.hosts.items at.0.link at.2, number_ranges 4 (slice_get ws 0)))
 
-says_busy : (header : Header) (ws : List (List ℕ)) → header.hci ≡ false → Says header busy_row ws
+pub says_busy : (header : Header) (ws : List (List ℕ)) → header.hci ≡ false → Says header busy_row ws
 says_busy header [] bare right = absurd (let h = right.least in omega arith)
 says_busy header (a ∷ ws) bare right = let at = right.words.0 in (line.Busy at.0, rw at.1 refl, (bare, contains_found header.hosts.items at.0.link at.2))
 
-says_ready : (header : Header) (ws : List (List ℕ)) → header.hci ≡ false → Says header ready_row ws
+pub says_ready : (header : Header) (ws : List (List ℕ)) → header.hci ≡ false → Says header ready_row ws
 says_ready header [] bare right = absurd (let h = right.least in omega arith)
 says_ready header (a ∷ ws) bare right = let at = right.words.0 in (line.Ready at.0, rw at.1 refl, (bare, contains_found header.hosts.items at.0.link at.2))
 
@@ -131,7 +131,7 @@ one_host : (host : ℕ) → IsHost host → All IsHost (host ∷ [])
 one_host host range = λ k d within. let z : k ≡ 0 = omega arith in subst (λ n. IsHost (get_or (host ∷ []) n d)) (sym z) range
 
 -- what a header says
-says_header : (ws : List (List ℕ)) → Right false [] header_row ws → (said : Header) × (read_of name.Header ws ≡ Some (read.Header said)) × IsHeader said
+pub says_header : (ws : List (List ℕ)) → Right false [] header_row ws → (said : Header) × (read_of name.Header ws ≡ Some (read.Header said)) × IsHeader said
 says_header [] right = absurd (let h = right.least in omega arith)
 says_header (a ∷ []) right = absurd (let h = right.least in omega arith)
 says_header (a ∷ b ∷ []) right = absurd (let h = right.least in omega arith)

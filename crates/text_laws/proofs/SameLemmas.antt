@@ -1,10 +1,12 @@
 -- Entries with the same words are the same.
-use Rattle.std.proofs.Common.{◌≡◌, ℕ, ◌<◌, ◌≤◌, Bool, true, false, List, [], ◌∷◌, length, get_or, refl, sym, ◌∙◌, ap, arith, Some, None, All, map}
+use Rattle.std.proofs.Common.{◌≡◌, ℕ, zero, suc, ◌/◌, ◌%◌, ◌<◌, ◌≤◌, Bool, true, false, List, [], ◌∷◌, get_or, refl, sym, ◌∙◌, ap, arith, Option, Some, None, IfSome, All, map, codes}
 use Rattle.std.specs.Str.{bytes_eq}
 use Rattle.std.proofs.lemmas.Slice.Eq.{bytes_eq-Decides}
 use Rattle.std.specs.Fmt.{decimal}
 use Rattle.std.proofs.lemmas.Fmt.{decimal_injective}
 use Rattle.hex.specs.Hex.{encode_upper}
+use Rattle.swp_base.specs.declared.link_terms.Cause.{Cause}
+use Rattle.swp_base.specs.declared.link_terms.Cause.TheVariants as why
 use Rattle.trace_model.specs.declared.line.End.{End}
 use Rattle.trace_model.specs.declared.line.Header.{Header}
 use Rattle.trace_model.specs.declared.line.Line.{Line}
@@ -17,9 +19,9 @@ use Rattle.trace_model.specs.declared.entry.Entry.{Entry}
 use Rattle.trace_model.specs.declared.entry.Entry.TheVariants as entry
 use Rattle.trace_model.specs.Lines.{IsHeader}
 use Rattle.schedule_text.specs.Values.{byte_value, bytes_value, end_value}
-use Rattle.schedule_text.specs.Entries.{byte_text, end_text, header_words, line_words, lost_word, cause_words, entry_words}
+use Rattle.schedule_text.specs.Entries.{byte_text, two_bytes_text, end_text, number_words, header_words, line_words, down_word, lost_word, cause_words, entry_words}
 use Rattle.schedule_text.proofs.AgainLemmas.{byte_again, bytes_again, end_again}
-use Rattle.text_laws.specs.Ranges.{IsEnd, AreBytes, IsNumber, IsSaid, IsCause, IsEntry}
+use Rattle.text_laws.specs.Ranges.{IsByte, IsEnd, AreBytes, IsNumber, IsTwoBytes, IsSaid, IsCause, IsEntry}
 
 -- other words
 abbrev head : List (List ℕ) → List ℕ
@@ -62,60 +64,127 @@ same_lost lost.Broken lost.Broken h = refl
 same_lost lost.Nothing lost.Nothing h = refl
 same_lost a b h = absurd (other_word (lost_word a) (lost_word b) refl h)
 
+-- words of the same kind
+same_map : (f : ℕ → List ℕ) (R : ℕ → Type 0) → ((x y : ℕ) → R x → R y → f x ≡ f y → x ≡ y) → (xs ys : List ℕ) → All R xs → All R ys → map f xs ≡ map f ys → xs ≡ ys
+same_map f R same [] [] rx ry h = refl
+same_map f R same [] (y ∷ ys) rx ry h = cc
+same_map f R same (x ∷ xs) [] rx ry h = cc
+same_map f R same (x ∷ xs) (y ∷ ys) rx ry h =
+    let first : x ≡ y = same x y (rx 0 x (omega arith)) (ry 0 y (omega arith)) cc in
+    let rest : map f xs ≡ map f ys = cc in
+    let more : xs ≡ ys = same_map f R same xs ys (λ k d within. rx (suc k) d (omega arith)) (λ k d within. ry (suc k) d (omega arith)) rest in cc
+
+same_maybe : (a b : Option ℕ) → IfSome a IsNumber → IfSome b IsNumber → number_words a ≡ number_words b → a ≡ b
+same_maybe None None ra rb h = refl
+same_maybe None (Some n) ra rb h = cc
+same_maybe (Some n) None ra rb h = cc
+same_maybe (Some n) (Some m) ra rb h = ap Some (same_number n m ra rb cc)
+
+two : (high low : ℕ) → high < 256 → low < 256 → AreBytes (high ∷ low ∷ [])
+two high low a b = (omega arith, go)
+  where
+    go : All IsByte (high ∷ low ∷ [])
+    go zero d within = a
+    go (suc zero) d within = b
+    go (suc (suc k)) d within = absurd (omega arith)
+
+same_two : (a b : ℕ) → IsTwoBytes a → IsTwoBytes b → two_bytes_text a ≡ two_bytes_text b → a ≡ b
+same_two a b ra rb h =
+    let bytes = same_bytes (a / 256 ∷ a % 256 ∷ []) (b / 256 ∷ b % 256 ∷ []) (two _ _ (omega arith) (omega arith)) (two _ _ (omega arith) (omega arith)) h in
+    let high : a / 256 ≡ b / 256 = cc (bytes) in
+    let low : a % 256 ≡ b % 256 = cc (bytes) in
+    omega arith
+
+same_down : (a b : Cause) → down_word a ≡ down_word b → a ≡ b
+same_down why.Asked why.Asked h = refl
+same_down why.NoAnswer why.NoAnswer h = refl
+same_down why.Peer why.Peer h = refl
+same_down why.Act why.Act h = refl
+same_down why.Chain why.Chain h = refl
+same_down a b h = absurd (other_word (down_word a) (down_word b) refl h)
+
 same_cause : (a b : NoCause) → IsCause a → IsCause b → cause_words a ≡ cause_words b → a ≡ b
+same_cause cause.Off cause.Off ra rb h = refl
+same_cause cause.Running cause.Running ra rb h = refl
+same_cause cause.Inactive cause.Inactive ra rb h = refl
 same_cause cause.NotUp cause.NotUp ra rb h = refl
+same_cause cause.Waiting cause.Waiting ra rb h = refl
 same_cause cause.TooLong cause.TooLong ra rb h = refl
 same_cause cause.Empty cause.Empty ra rb h = refl
 same_cause (cause.Full n s) (cause.Full m t) ra rb h =
     let need : n ≡ m = same_number n m ra.0 rb.0 cc in
     let spare : s ≡ t = same_number s t ra.1 rb.1 cc in cc
+same_cause (cause.Beyond n) (cause.Beyond m) ra rb h = ap cause.Beyond (same_number n m ra rb cc)
 same_cause a b ra rb h = absurd (other_words (cause_words a) (cause_words b) refl h)
+
+behind : (a b : List ℕ) (xs ys : List (List ℕ)) → a ∷ xs ≡ b ∷ ys → xs ≡ ys
+behind a b xs ys h = cc
+
+behind_two : (a b c d : List ℕ) (xs ys : List (List ℕ)) → a ∷ b ∷ xs ≡ c ∷ d ∷ ys → xs ≡ ys
+behind_two a b c d xs ys h = cc
 
 same_said : (a b : Line) → IsSaid a → IsSaid b → line_words a ≡ line_words b → a ≡ b
 same_said (line.Send e p m) (line.Send f q n) ra rb h =
     let end : e ≡ f = same_end e f ra.0 rb.0 cc in
     let pid : p ≡ q = same_byte p q ra.1 rb.1 cc in
     let message : m ≡ n = same_bytes m n ra.2 rb.2 cc in cc
-same_said (line.Deliver e None) (line.Deliver f None) ra rb h = let end : e ≡ f = same_end e f ra.0 rb.0 cc in cc
-same_said (line.Deliver e (Some n)) (line.Deliver f (Some m)) ra rb h =
+same_said (line.Deliver e n) (line.Deliver f m) ra rb h =
     let end : e ≡ f = same_end e f ra.0 rb.0 cc in
-    let number : n ≡ m = same_number n m ra.1 rb.1 cc in cc
-same_said (line.Deliver e None) (line.Deliver f (Some m)) ra rb h = cc
-same_said (line.Deliver e (Some n)) (line.Deliver f None) ra rb h = cc
-same_said (line.Send e p m) (line.Deliver f None) ra rb h = absurd (other_words _ _ refl h)
-same_said (line.Send e p m) (line.Deliver f (Some n)) ra rb h = absurd (other_words _ _ refl h)
-same_said (line.Deliver e None) (line.Send f p m) ra rb h = absurd (other_words _ _ refl h)
-same_said (line.Deliver e (Some n)) (line.Send f p m) ra rb h = absurd (other_words _ _ refl h)
+    let number : n ≡ m = same_maybe n m ra.1 rb.1 (behind_two _ _ _ _ _ _ h) in cc
+same_said (line.Lose e) (line.Lose f) ra rb h = ap line.Lose (same_end e f ra rb cc)
+same_said (line.Damage e p) (line.Damage f q) ra rb h =
+    let end : e ≡ f = same_end e f ra.0 rb.0 cc in
+    let places : p.items ≡ q.items = same_map decimal IsNumber same_number p.items q.items ra.1 rb.1 (behind_two _ _ _ _ _ _ h) in
+    ap (λ at. line.Damage at p) end ∙ ap (λ ps. line.Damage f (record { items = ps })) places
+same_said (line.Tick n) (line.Tick m) ra rb h = ap line.Tick (same_maybe n m ra rb (behind _ _ _ _ h))
+same_said (line.Reset e n) (line.Reset f m) ra rb h =
+    let end : e ≡ f = same_end e f ra.0 rb.0 cc in
+    let number : n ≡ m = same_maybe n m ra.1 rb.1 (behind_two _ _ _ _ _ _ h) in cc
+same_said (line.Busy e) (line.Busy f) ra rb h = ap line.Busy (same_end e f ra rb cc)
+same_said (line.Ready e) (line.Ready f) ra rb h = ap line.Ready (same_end e f ra rb cc)
+same_said (line.Boot n) (line.Boot m) ra rb h = ap line.Boot (same_byte n m ra rb cc)
+same_said (line.Cut n) (line.Cut m) ra rb h = ap line.Cut (same_byte n m ra rb cc)
+same_said (line.Activate n s p) (line.Activate m t q) ra rb h =
+    let host : n ≡ m = same_byte n m ra.0 rb.0 cc in
+    let sync : s ≡ t = same_two s t ra.1 rb.1 cc in
+    let power : p ≡ q = same_byte p q ra.2 rb.2 cc in cc
+same_said (line.Arm n k x) (line.Arm m l y) ra rb h =
+    let node : n ≡ m = same_byte n m ra.0 rb.0 cc in
+    let nth : k ≡ l = same_number k l ra.1 rb.1 cc in
+    let fill : x.items ≡ y.items = same_bytes x.items y.items ra.2 rb.2 cc in
+    ap (λ i. line.Arm i k x) node ∙ ap (λ i. line.Arm m i x) nth ∙ ap (λ xs. line.Arm m l (record { items = xs })) fill
+same_said (line.Init e i p) b ra rb h = absurd ra
+same_said (line.Tables n) (line.Tables m) ra rb h = ap line.Tables (same_byte n m ra rb cc)
+same_said a b ra rb h = absurd (other_words (line_words a) (line_words b) refl h)
 
-one_item : (items : List ℕ) → length items ≡ 1 → (h : ℕ) × (items ≡ h ∷ [])
-one_item [] e = absurd (omega arith)
-one_item (h ∷ []) e = (h, refl)
-one_item (h ∷ k ∷ items) e = absurd (omega arith)
-
-same_hosts : (xs ys : List ℕ) → length xs ≡ 1 → length ys ≡ 1 → All (λ h. h < 256) xs → All (λ h. h < 256) ys → map byte_text xs ≡ map byte_text ys → xs ≡ ys
-same_hosts (x ∷ []) (y ∷ []) a b rx ry h = let same : x ≡ y = same_byte x y (rx 0 0 (omega arith)) (ry 0 0 (omega arith)) cc in cc
-same_hosts [] ys a b rx ry h = absurd (omega arith)
-same_hosts (x ∷ y ∷ xs) ys a b rx ry h = absurd (omega arith)
-same_hosts (x ∷ []) [] a b rx ry h = absurd (omega arith)
-same_hosts (x ∷ []) (y ∷ z ∷ ys) a b rx ry h = absurd (omega arith)
-
-hosts_are_bytes : (header : Header) → IsHeader header → All (λ h. h < 256) header.hosts.items
+hosts_are_bytes : (header : Header) → IsHeader header → All IsByte header.hosts.items
 hosts_are_bytes header known = λ k d within. let small : get_or header.hosts.items k d ≤ 7 = (known.hosts k d within).1 in omega (arith, small)
 
 same_header : (a b : Header) → IsHeader a → IsHeader b → header_words a ≡ header_words b → a ≡ b
 same_header a b ra rb h =
     let hosts : map byte_text a.hosts.items ≡ map byte_text b.hosts.items = cc in
-    let items = same_hosts a.hosts.items b.hosts.items ra.one rb.one (hosts_are_bytes a ra) (hosts_are_bytes b rb) hosts in
+    let items = same_map byte_text IsByte same_byte a.hosts.items b.hosts.items (hosts_are_bytes a ra) (hosts_are_bytes b rb) hosts in
     let made : Bool → List ℕ → Header = λ hci xs. record { hci = hci; hosts = record { items = xs } } in
     ap (λ hci. made hci a.hosts.items) (ra.bare ∙ sym rb.bare) ∙ ap (made b.hci) items
 
-no_line : (header : Header) (said : Line) → header_words header ≡ line_words said → ⊥
-no_line header (line.Send e p m) h = other_words _ _ refl h
-no_line header (line.Deliver e None) h = other_words _ _ refl h
-no_line header (line.Deliver e (Some n)) h = other_words _ _ refl h
+no_swp : (said : Line) → bytes_eq (codes "swp") (head (line_words said)) ≡ false
+no_swp (line.Send e p m) = refl
+no_swp (line.Deliver e n) = refl
+no_swp (line.Lose e) = refl
+no_swp (line.Damage e p) = refl
+no_swp (line.Tick n) = refl
+no_swp (line.Reset e n) = refl
+no_swp (line.Busy e) = refl
+no_swp (line.Ready e) = refl
+no_swp (line.Boot n) = refl
+no_swp (line.Cut n) = refl
+no_swp (line.Activate h s p) = refl
+no_swp (line.Arm n k x) = refl
+no_swp (line.Init e i p) = refl
+no_swp (line.Tables n) = refl
 
-behind : (a b : List ℕ) (xs ys : List (List ℕ)) → a ∷ xs ≡ b ∷ ys → xs ≡ ys
-behind a b xs ys h = cc
+no_line : (header : Header) (said : Line) → header_words header ≡ line_words said → ⊥
+no_line header said h = other_words (header_words header) (line_words said) (no_swp said) h
 
 -- entries with the same words
 pub same_entry : (a b : Entry) → IsEntry a → IsEntry b → entry_words a ≡ entry_words b → a ≡ b
@@ -150,5 +219,48 @@ same_entry (entry.Lost e x c) (entry.Lost f y d) ra rb h =
     let end : e ≡ f = same_end e f ra.0 rb.0 cc in
     let bytes : x ≡ y = same_bytes x y ra.1 rb.1 cc in
     let why : c ≡ d = same_lost c d cc in cc
+same_entry (entry.Down e c) (entry.Down f d) ra rb h =
+    let end : e ≡ f = same_end e f ra rb cc in
+    let cause : c ≡ d = same_down c d cc in cc
+same_entry (entry.Active e) (entry.Active f) ra rb h = ap entry.Active (same_end e f ra rb cc)
+same_entry (entry.GaveUp e n) (entry.GaveUp f m) ra rb h =
+    let end : e ≡ f = same_end e f ra.0 rb.0 cc in
+    let tries : n ≡ m = same_number n m ra.1 rb.1 cc in cc
+same_entry (entry.Turn e p x) (entry.Turn f q y) ra rb h =
+    let end : e ≡ f = same_end e f ra.0 rb.0 cc in
+    let pid : p ≡ q = same_byte p q ra.1 rb.1 cc in
+    let message : x ≡ y = same_bytes x y ra.2 rb.2 cc in cc
+same_entry (entry.Held e n s) (entry.Held f m t) ra rb h =
+    let end : e ≡ f = same_end e f ra.0 rb.0 cc in
+    let need : n ≡ m = same_number n m ra.1 rb.1 cc in
+    let spare : s ≡ t = same_number s t ra.2 rb.2 cc in cc
+same_entry (entry.Ask n x) (entry.Ask m y) ra rb h =
+    let host : n ≡ m = same_byte n m ra.0 rb.0 cc in
+    let message : x ≡ y = same_bytes x y ra.1 rb.1 cc in cc
+same_entry (entry.Dropped e p) (entry.Dropped f q) ra rb h =
+    let end : e ≡ f = same_end e f ra.0 rb.0 cc in
+    let pid : p ≡ q = same_byte p q ra.1 rb.1 cc in cc
+same_entry (entry.Command n c) b ra rb h = absurd ra
+same_entry (entry.AnyOk n k) (entry.AnyOk m l) ra rb h =
+    let node : n ≡ m = same_byte n m ra.0 rb.0 cc in
+    let count : k ≡ l = same_number k l ra.1 rb.1 cc in cc
+same_entry (entry.InitSame e) (entry.InitSame f) ra rb h = ap entry.InitSame (same_end e f ra rb cc)
+same_entry (entry.InitSame e) (entry.InitMade f m) ra rb h = absurd (other_word (codes "same") (codes "made") refl cc)
+same_entry (entry.InitSame e) (entry.InitFailed f c) ra rb h = absurd (other_word (codes "same") (codes "failed") refl cc)
+same_entry (entry.InitMade e n) (entry.InitSame f) ra rb h = absurd (other_word (codes "made") (codes "same") refl cc)
+same_entry (entry.InitMade e n) (entry.InitMade f m) ra rb h =
+    let end : e ≡ f = same_end e f ra.0 rb.0 cc in
+    let count : n ≡ m = same_number n m ra.1 rb.1 cc in cc
+same_entry (entry.InitMade e n) (entry.InitFailed f c) ra rb h = absurd (other_word (codes "made") (codes "failed") refl cc)
+same_entry (entry.InitFailed e c) (entry.InitSame f) ra rb h = absurd (other_word (codes "failed") (codes "same") refl cc)
+same_entry (entry.InitFailed e c) (entry.InitMade f m) ra rb h = absurd (other_word (codes "failed") (codes "made") refl cc)
+same_entry (entry.InitFailed e c) (entry.InitFailed f d) ra rb h =
+    let end : e ≡ f = same_end e f ra.0 rb.0 cc in
+    let code : c ≡ d = same_byte c d ra.1 rb.1 cc in cc
+same_entry (entry.Cut n) (entry.Cut m) ra rb h = ap entry.Cut (same_byte n m ra rb cc)
+same_entry (entry.Booted n k) (entry.Booted m l) ra rb h =
+    let node : n ≡ m = same_byte n m ra.0 rb.0 cc in
+    let count : k ≡ l = same_number k l ra.1 rb.1 cc in cc
+same_entry (entry.Tables n t) b ra rb h = absurd ra
 same_entry (entry.No c) (entry.No d) ra rb h = ap entry.No (same_cause c d ra rb (behind _ _ _ _ h))
 same_entry a b ra rb h = absurd (other_words (entry_words a) (entry_words b) refl h)

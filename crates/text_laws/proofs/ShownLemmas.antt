@@ -1,5 +1,5 @@
 -- The texts of entries end at their first LF.
-use Rattle.std.proofs.Common.{◌≡◌, ◌==◌, ◌&&◌, ℕ, suc, ◌/◌, ◌%◌, ◌<◌, ◌≤◌, Bool, true, false, not, cond, nat_lt, List, [], ◌∷◌, ◌++◌, length, slice_index, refl, sym, ◌∙◌, ap, subst, arith, Some, None, All, codes, map, append_assoc, length-append}
+use Rattle.std.proofs.Common.{◌≡◌, ◌==◌, ◌&&◌, ℕ, suc, ◌/◌, ◌%◌, ◌<◌, ◌≤◌, Bool, true, false, not, cond, nat_lt, List, [], ◌∷◌, ◌++◌, length, slice_index, refl, sym, ◌∙◌, ap, subst, arith, Option, Some, None, IfSome, All, codes, map, append_assoc, length-append}
 use Rattle.std.specs.List.{list_all, flat_map, AllByRecursion}
 use Rattle.std.specs.Char.{is_ascii_digit}
 use Rattle.std.specs.Str.{all_ascii_digits}
@@ -14,6 +14,8 @@ use Rattle.std.proofs.lemmas.List.Sums.{AllPass-from_list_all}
 use Rattle.std.proofs.lemmas.List.Folds.{list_all-append}
 use Rattle.std.proofs.Math.ListN.{get_or-eq_default}
 use Rattle.hex.specs.Hex.{encode_with, encode_upper, upper_digits}
+use Rattle.swp_base.specs.declared.link_terms.Cause.{Cause}
+use Rattle.swp_base.specs.declared.link_terms.Cause.TheVariants as why
 use Rattle.trace_model.specs.declared.line.End.{End}
 use Rattle.trace_model.specs.declared.line.Line.{Line}
 use Rattle.trace_model.specs.declared.line.Line.TheVariants as line
@@ -24,7 +26,7 @@ use Rattle.trace_model.specs.declared.entry.NoCause.TheVariants as cause
 use Rattle.trace_model.specs.declared.entry.Entry.{Entry}
 use Rattle.trace_model.specs.declared.entry.Entry.TheVariants as entry
 use Rattle.schedule_text.specs.Words.{words, spaced}
-use Rattle.schedule_text.specs.Entries.{byte_text, end_text, line_words, lost_word, cause_words, entry_words, entry_text, entry_line}
+use Rattle.schedule_text.specs.Entries.{byte_text, two_bytes_text, end_text, number_words, line_words, down_word, lost_word, cause_words, entry_words, lines_behind, entry_text, entry_line}
 use Rattle.schedule_text.proofs.AgainLemmas.{IsWord, words-spaced, hex_word, end_word, number_word}
 use Rattle.text_laws.specs.Ranges.{IsNumber, IsSaid, IsCause, IsEntry}
 use Rattle.text_laws.proofs.SameLemmas.{same_entry}
@@ -101,29 +103,86 @@ hosts_clean : (hosts : List ℕ) → AllByRecursion IsClean (map byte_text hosts
 hosts_clean [] = tt
 hosts_clean (h ∷ hosts) = (byte_clean h, hosts_clean hosts)
 
+down_clean : (why : Cause) → IsClean (down_word why)
+down_clean why.Asked = ((omega arith, refl), refl)
+down_clean why.NoAnswer = ((omega arith, refl), refl)
+down_clean why.Peer = ((omega arith, refl), refl)
+down_clean why.Act = ((omega arith, refl), refl)
+down_clean why.Chain = ((omega arith, refl), refl)
+
+maybe_clean : (o : Option ℕ) → IfSome o IsNumber → AllByRecursion IsClean (number_words o)
+maybe_clean None h = tt
+maybe_clean (Some n) h = (number_clean n h, tt)
+
+numbers_clean : (ns : List ℕ) → All IsNumber ns → AllByRecursion IsClean (map decimal ns)
+numbers_clean [] h = tt
+numbers_clean (n ∷ ns) h = (number_clean n (h 0 n (omega arith)), numbers_clean ns (λ k d within. h (suc k) d (omega arith)))
+
+two_clean : (n : ℕ) → IsClean (two_bytes_text n)
+two_clean n = hex_clean (n / 256 ∷ n % 256 ∷ []) (omega arith)
+
 cause_clean : (why : NoCause) → IsCause why → AllByRecursion IsClean (cause_words why)
+cause_clean cause.Off h = (((omega arith, refl), refl), tt)
+cause_clean cause.Running h = (((omega arith, refl), refl), tt)
+cause_clean cause.Inactive h = (((omega arith, refl), refl), tt)
 cause_clean cause.NotUp h = (((omega arith, refl), refl), tt)
+cause_clean cause.Waiting h = (((omega arith, refl), refl), tt)
 cause_clean cause.TooLong h = (((omega arith, refl), refl), tt)
 cause_clean cause.Empty h = (((omega arith, refl), refl), tt)
 cause_clean (cause.Full n s) h = (((omega arith, refl), refl), (number_clean n h.0, (number_clean s h.1, tt)))
+cause_clean (cause.Beyond n) h = (((omega arith, refl), refl), (number_clean n h, tt))
 
 said_clean : (said : Line) → IsSaid said → AllByRecursion IsClean (line_words said)
 said_clean (line.Send e p m) h = (((omega arith, refl), refl), (end_clean e, (byte_clean p, (hex_clean m h.2.0, tt))))
-said_clean (line.Deliver e None) h = (((omega arith, refl), refl), (end_clean e, tt))
-said_clean (line.Deliver e (Some n)) h = (((omega arith, refl), refl), (end_clean e, (number_clean n h.1, tt)))
+said_clean (line.Deliver e n) h = (((omega arith, refl), refl), (end_clean e, maybe_clean n h.1))
+said_clean (line.Lose e) h = (((omega arith, refl), refl), (end_clean e, tt))
+said_clean (line.Damage e p) h = (((omega arith, refl), refl), (end_clean e, numbers_clean p.items h.1))
+said_clean (line.Tick n) h = (((omega arith, refl), refl), maybe_clean n h)
+said_clean (line.Reset e n) h = (((omega arith, refl), refl), (end_clean e, maybe_clean n h.1))
+said_clean (line.Busy e) h = (((omega arith, refl), refl), (end_clean e, tt))
+said_clean (line.Ready e) h = (((omega arith, refl), refl), (end_clean e, tt))
+said_clean (line.Boot n) h = (((omega arith, refl), refl), (byte_clean n, tt))
+said_clean (line.Cut n) h = (((omega arith, refl), refl), (byte_clean n, tt))
+said_clean (line.Activate n s p) h = (((omega arith, refl), refl), (byte_clean n, (two_clean s, (byte_clean p, tt))))
+said_clean (line.Arm n k x) h = (((omega arith, refl), refl), (byte_clean n, (number_clean k h.1, (hex_clean x.items h.2.0, tt))))
+said_clean (line.Init e i p) h = absurd h
+said_clean (line.Tables n) h = (((omega arith, refl), refl), (byte_clean n, tt))
 
 entry_clean : (a : Entry) → IsEntry a → AllByRecursion IsClean (entry_words a)
 entry_clean (entry.Head header) h =
     (((omega arith, refl), refl), (((omega arith, refl), refl), (((omega arith, refl), refl), (world_clean header.hci, hosts_clean header.hosts.items))))
 entry_clean (entry.Echo said) h = (((omega arith, refl), refl), said_clean said h)
 entry_clean (entry.Up e n) h = (((omega arith, refl), refl), (end_clean e, (number_clean n h.1, tt)))
+entry_clean (entry.Down e why) h = (((omega arith, refl), refl), (end_clean e, (down_clean why, tt)))
+entry_clean (entry.Active e) h = (((omega arith, refl), refl), (end_clean e, tt))
+entry_clean (entry.GaveUp e n) h = (((omega arith, refl), refl), (end_clean e, (number_clean n h.1, tt)))
 entry_clean (entry.Sent e n p m) h = (((omega arith, refl), refl), (end_clean e, (number_clean n h.1, (byte_clean p, (hex_clean m h.3.0, tt)))))
 entry_clean (entry.Got e n p m) h = (((omega arith, refl), refl), (end_clean e, (number_clean n h.1, (byte_clean p, (hex_clean m h.3.0, tt)))))
 entry_clean (entry.Acked e n k) h = (((omega arith, refl), refl), (end_clean e, (number_clean n h.1, (number_clean k h.2, tt))))
 entry_clean (entry.Emit e l) h = (((omega arith, refl), refl), (end_clean e, (hex_clean l h.1.0, tt)))
 entry_clean (entry.Took e l) h = (((omega arith, refl), refl), (end_clean e, (hex_clean l h.1.0, tt)))
 entry_clean (entry.Lost e l why) h = (((omega arith, refl), refl), (end_clean e, (hex_clean l h.1.0, (lost_clean why, tt))))
+entry_clean (entry.Turn e p m) h = (((omega arith, refl), refl), (end_clean e, (byte_clean p, (hex_clean m h.2.0, tt))))
+entry_clean (entry.Held e n s) h = (((omega arith, refl), refl), (end_clean e, (number_clean n h.1, (number_clean s h.2, tt))))
+entry_clean (entry.Ask n m) h = (((omega arith, refl), refl), (byte_clean n, (hex_clean m h.1.0, tt)))
+entry_clean (entry.Dropped e p) h = (((omega arith, refl), refl), (end_clean e, (byte_clean p, tt)))
+entry_clean (entry.Command n c) h = absurd h
+entry_clean (entry.AnyOk n k) h = (((omega arith, refl), refl), (byte_clean n, (number_clean k h.1, tt)))
+entry_clean (entry.InitSame e) h = (((omega arith, refl), refl), (end_clean e, (((omega arith, refl), refl), tt)))
+entry_clean (entry.InitMade e n) h = (((omega arith, refl), refl), (end_clean e, (((omega arith, refl), refl), (number_clean n h.1, tt))))
+entry_clean (entry.InitFailed e c) h = (((omega arith, refl), refl), (end_clean e, (((omega arith, refl), refl), (byte_clean c, tt))))
+entry_clean (entry.Cut n) h = (((omega arith, refl), refl), (byte_clean n, tt))
+entry_clean (entry.Booted n k) h = (((omega arith, refl), refl), (byte_clean n, (number_clean k h.1, tt)))
+entry_clean (entry.Tables n t) h = absurd h
 entry_clean (entry.No why) h = (((omega arith, refl), refl), cause_clean why h)
+
+-- such an entry is one line
+nothing_behind : (a : Entry) → IsEntry a → lines_behind a ≡ []
+nothing_behind (entry.Tables n t) h = absurd h
+nothing_behind a h = refl
+
+one_line : (a : Entry) → IsEntry a → entry_line a ≡ entry_text a ++ 10 ∷ []
+one_line a h = ap (λ lines. entry_text a ++ (10 ∷ lines)) (nothing_behind a h)
 
 all_words : (ws : List (List ℕ)) → AllByRecursion IsClean ws → AllByRecursion IsWord ws
 all_words [] h = tt
@@ -163,9 +222,12 @@ cut (c ∷ x) (d ∷ y) r s a b h =
 no_text : (a : Entry) (rest : List ℕ) → entry_line a ++ rest ≡ [] → ⊥
 no_text a rest h =
     let long = length-append (entry_line a) rest in
-    let line = length-append (entry_text a) (10 ∷ []) in
+    let line = length-append (entry_text a) (10 ∷ lines_behind a) in
     let none : length (entry_line a ++ rest) ≡ 0 = ap length h in
     omega (arith, long, line, none)
+
+split : (a : Entry) (xs : List Entry) → IsEntry a → flat_map entry_line (a ∷ xs) ≡ entry_text a ++ (10 ∷ flat_map entry_line xs)
+split a xs h = ap (λ line. line ++ flat_map entry_line xs) (one_line a h) ∙ append_assoc (entry_text a) (10 ∷ []) (flat_map entry_line xs)
 
 -- transcripts with the same text
 pub same_transcript : (xs ys : List Entry) → All IsEntry xs → All IsEntry ys → flat_map entry_line xs ≡ flat_map entry_line ys → xs ≡ ys
@@ -177,6 +239,6 @@ same_transcript (a ∷ xs) (b ∷ ys) ra rb h =
     let is_b = rb 0 b (omega arith) in
     let parts = cut (entry_text a) (entry_text b) (flat_map entry_line xs) (flat_map entry_line ys)
     (spaced_inside _ (entry_clean a is_a)) (spaced_inside _ (entry_clean b is_b))
-    (sym (append_assoc (entry_text a) (10 ∷ []) (flat_map entry_line xs)) ∙ h ∙ append_assoc (entry_text b) (10 ∷ []) (flat_map entry_line ys)) in
+    (sym (split a xs is_a) ∙ h ∙ split b ys is_b) in
     let first : a ≡ b = same_text a b is_a is_b parts.0 in
     let rest : xs ≡ ys = same_transcript xs ys (λ k d within. ra (suc k) d (omega arith)) (λ k d within. rb (suc k) d (omega arith)) parts.1 in cc

@@ -9,34 +9,74 @@ use Rattle.trace_model.specs.declared.entry.Entry.{Entry}
 use Rattle.trace_model.specs.declared.entry.Entry.TheVariants as entry
 use Rattle.trace_model.specs.Lines.{IsHeader}
 
--- a link is a byte, and so is a pipe; a message has a byte at least, and so has an LPDU
+-- a link is a byte, and so are a pipe, a host and a node; a message has a byte at least, and so has an LPDU
+abbrev pub IsByte : ℕ → Type 0
+IsByte n = n < 256
+
 abbrev pub IsEnd : End → Type 0
-IsEnd e = e.link < 256
+IsEnd e = IsByte e.link
 
 abbrev pub AreBytes : List ℕ → Type 0
-AreBytes bytes = (0 < length bytes) × All (λ b. b < 256) bytes
+AreBytes bytes = (0 < length bytes) × All IsByte bytes
 
 abbrev pub IsNumber : ℕ → Type 0
 IsNumber n = n < 2 ^ 32
 
+abbrev pub IsTwoBytes : ℕ → Type 0
+IsTwoBytes n = n < 2 ^ 16
+
+-- a line, but `init`
 abbrev pub IsSaid : Line → Type 0
-IsSaid (line.Send at pid message) = IsEnd at × (pid < 256) × AreBytes message
+IsSaid (line.Send at pid message) = IsEnd at × IsByte pid × AreBytes message
 IsSaid (line.Deliver at count) = IsEnd at × IfSome count IsNumber
+IsSaid (line.Lose at) = IsEnd at
+IsSaid (line.Damage at places) = IsEnd at × All IsNumber places.items
+IsSaid (line.Tick times) = IfSome times IsNumber
+IsSaid (line.Reset at window) = IsEnd at × IfSome window IsNumber
+IsSaid (line.Busy at) = IsEnd at
+IsSaid (line.Ready at) = IsEnd at
+IsSaid (line.Boot node) = IsByte node
+IsSaid (line.Cut node) = IsByte node
+IsSaid (line.Activate host sync power) = IsByte host × IsTwoBytes sync × IsByte power
+IsSaid (line.Arm node nth fill) = IsByte node × IsNumber nth × AreBytes fill.items
+IsSaid (line.Init at identity pipes) = ⊥
+IsSaid (line.Tables node) = IsByte node
 
 abbrev pub IsCause : NoCause → Type 0
 IsCause (cause.Full need spare) = IsNumber need × IsNumber spare
+IsCause (cause.Beyond bits) = IsNumber bits
+IsCause cause.Off = Unit {0}
+IsCause cause.Running = Unit {0}
+IsCause cause.Inactive = Unit {0}
 IsCause cause.NotUp = Unit {0}
+IsCause cause.Waiting = Unit {0}
 IsCause cause.TooLong = Unit {0}
 IsCause cause.Empty = Unit {0}
 
+-- an entry, but a command and tables
 abbrev pub IsEntry : Entry → Type 0
 IsEntry (entry.Head header) = IsHeader header
 IsEntry (entry.Echo said) = IsSaid said
 IsEntry (entry.Up at session) = IsEnd at × IsNumber session
-IsEntry (entry.Sent at session pid message) = IsEnd at × IsNumber session × (pid < 256) × AreBytes message
-IsEntry (entry.Got at session pid message) = IsEnd at × IsNumber session × (pid < 256) × AreBytes message
+IsEntry (entry.Down at cause) = IsEnd at
+IsEntry (entry.Active at) = IsEnd at
+IsEntry (entry.GaveUp at tries) = IsEnd at × IsNumber tries
+IsEntry (entry.Sent at session pid message) = IsEnd at × IsNumber session × IsByte pid × AreBytes message
+IsEntry (entry.Got at session pid message) = IsEnd at × IsNumber session × IsByte pid × AreBytes message
 IsEntry (entry.Acked at session count) = IsEnd at × IsNumber session × IsNumber count
 IsEntry (entry.Emit at lpdu) = IsEnd at × AreBytes lpdu
 IsEntry (entry.Took at lpdu) = IsEnd at × AreBytes lpdu
 IsEntry (entry.Lost at lpdu cause) = IsEnd at × AreBytes lpdu
+IsEntry (entry.Turn at pid message) = IsEnd at × IsByte pid × AreBytes message
+IsEntry (entry.Held at need spare) = IsEnd at × IsNumber need × IsNumber spare
+IsEntry (entry.Ask host message) = IsByte host × AreBytes message
+IsEntry (entry.Dropped at pid) = IsEnd at × IsByte pid
+IsEntry (entry.Command node command) = ⊥
+IsEntry (entry.AnyOk node count) = IsByte node × IsNumber count
+IsEntry (entry.InitSame at) = IsEnd at
+IsEntry (entry.InitMade at count) = IsEnd at × IsNumber count
+IsEntry (entry.InitFailed at code) = IsEnd at × IsByte code
+IsEntry (entry.Cut node) = IsByte node
+IsEntry (entry.Booted node count) = IsByte node × IsNumber count
+IsEntry (entry.Tables node tables) = ⊥
 IsEntry (entry.No cause) = IsCause cause
