@@ -15,6 +15,7 @@ part_words (part.Byte byte) = byte_text byte ∷ []
 part_words (part.TwoBytes number) = two_bytes_text number ∷ []
 part_words (part.Bytes bytes) = encode_upper bytes.now ∷ []
 part_words (part.Number number) = decimal number ∷ []
+part_words (part.Count count) = decimal count ∷ []
 part_words (part.Maybe number) = number_words number
 part_words (part.Numbers numbers) = map decimal numbers.now
 part_words (part.EachByte bytes) = map byte_text bytes.now

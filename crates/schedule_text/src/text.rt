@@ -25,7 +25,9 @@ pub(crate) enum Part<'a> {
     /// Bytes as pairs of hexadecimal digits, in one word.
     Bytes(&'a [u8]),
     /// A decimal number.
-    Number(u64),
+    Number(u32),
+    /// How many there are of something, decimal.
+    Count(usize),
     /// A decimal number, if there is one.
     Maybe(Option<u8>),
     /// Decimal numbers, each a word.
@@ -87,7 +89,8 @@ impl Text {
             Part::Byte(byte) => self.byte(*byte),
             Part::TwoBytes(number) => self.two_bytes(*number),
             Part::Bytes(bytes) => self.hex(bytes),
-            Part::Number(number) => self.number(*number),
+            Part::Number(number) => self.number(u64::from(*number)),
+            Part::Count(count) => self.number(*count as u64),
             Part::Maybe(number) => self.maybe(*number),
             Part::Numbers(numbers) => self.numbers(numbers),
             Part::EachByte(bytes) => self.each_byte(bytes),

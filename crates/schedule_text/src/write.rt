@@ -5,7 +5,10 @@ ghost use Rattle.schedule_text.specs.Parts.{part_words};
 ghost use Rattle.schedule_text.specs.Entries.{header_words, line_words, down_word, lost_word, cause_words, command_words, count_words, entry_words, lines_behind, entry_line};
 ghost use Rattle.schedule_text.specs.Growth.{Holds, HoldsWords, IsFront};
 
-use crate::text::{Part, Text};
+use crate::text::Part::{
+    self, Byte, Bytes, Count, EachByte, EachThree, End, Maybe, Number, Numbers, TwoBytes, Word,
+};
+use crate::text::Text;
 use hci_tables::{Command, Tables};
 use std::alloc::{AllocError, Global};
 use std::mem;
@@ -54,18 +57,12 @@ fn write_words(text: &mut Text, entry: &Entry)
             text.entry(b">", &[]);
             write_line(text, line);
         }
-        Entry::Up { at, session } => text.entry(
-            b"up",
-            &[Part::End(*at), Part::Number(u64::from(*session))],
-        ),
-        Entry::Down { at, cause } => text.entry(
-            b"down",
-            &[Part::End(*at), Part::Word(cause_of_end(*cause))],
-        ),
-        Entry::Active { at } => text.entry(b"active", &[Part::End(*at)]),
+        Entry::Up { at, session } => text.entry(b"up", &[End(*at), Number(*session)]),
+        Entry::Down { at, cause } => text.entry(b"down", &[End(*at), Word(cause_of_end(*cause))]),
+        Entry::Active { at } => text.entry(b"active", &[End(*at)]),
         Entry::GaveUp { at, tries } => text.entry(
             b"gaveup",
-            &[Part::End(*at), Part::Number(u64::from(*tries))],
+            &[End(*at), Number(u32::from(*tries))],
         ),
         Entry::Sent {
             at,
@@ -75,10 +72,10 @@ fn write_words(text: &mut Text, entry: &Entry)
         } => text.entry(
             b"sent",
             &[
-                Part::End(*at),
-                Part::Number(u64::from(*session)),
-                Part::Byte(*pid),
-                Part::Bytes(message.as_slice()),
+                End(*at),
+                Number(*session),
+                Byte(*pid),
+                Bytes(message.as_slice()),
             ],
         ),
         Entry::Got {
@@ -89,83 +86,55 @@ fn write_words(text: &mut Text, entry: &Entry)
         } => text.entry(
             b"got",
             &[
-                Part::End(*at),
-                Part::Number(u64::from(*session)),
-                Part::Byte(*pid),
-                Part::Bytes(message.as_slice()),
+                End(*at),
+                Number(*session),
+                Byte(*pid),
+                Bytes(message.as_slice()),
             ],
         ),
         Entry::Acked { at, session, count } => text.entry(
             b"acked",
-            &[
-                Part::End(*at),
-                Part::Number(u64::from(*session)),
-                Part::Number(u64::from(*count)),
-            ],
+            &[End(*at), Number(*session), Number(*count)],
         ),
-        Entry::Emit { at, lpdu } => text.entry(
-            b"emit",
-            &[Part::End(*at), Part::Bytes(lpdu.bytes())],
-        ),
-        Entry::Took { at, lpdu } => text.entry(
-            b"took",
-            &[Part::End(*at), Part::Bytes(lpdu.bytes())],
-        ),
+        Entry::Emit { at, lpdu } => text.entry(b"emit", &[End(*at), Bytes(lpdu.bytes())]),
+        Entry::Took { at, lpdu } => text.entry(b"took", &[End(*at), Bytes(lpdu.bytes())]),
         Entry::Lost { at, lpdu, cause } => text.entry(
             b"lost",
-            &[
-                Part::End(*at),
-                Part::Bytes(lpdu.bytes()),
-                Part::Word(cause_of_loss(*cause)),
-            ],
+            &[End(*at), Bytes(lpdu.bytes()), Word(cause_of_loss(*cause))],
         ),
         Entry::Turn { at, pid, message } => text.entry(
             b"turn",
-            &[
-                Part::End(*at),
-                Part::Byte(*pid),
-                Part::Bytes(message.as_slice()),
-            ],
+            &[End(*at), Byte(*pid), Bytes(message.as_slice())],
         ),
         Entry::Held { at, need, spare } => text.entry(
             b"held",
             &[
-                Part::End(*at),
-                Part::Number(u64::from(*need)),
-                Part::Number(u64::from(*spare)),
+                End(*at),
+                Number(u32::from(*need)),
+                Number(u32::from(*spare)),
             ],
         ),
         Entry::Ask { host, message } => text.entry(
             b"ask",
-            &[Part::Byte(*host), Part::Bytes(message.as_slice())],
+            &[Byte(*host), Bytes(message.as_slice())],
         ),
-        Entry::Dropped { at, pid } => text.entry(b"drop", &[Part::End(*at), Part::Byte(*pid)]),
+        Entry::Dropped { at, pid } => text.entry(b"drop", &[End(*at), Byte(*pid)]),
         Entry::Command { node, command } => {
-            text.entry(b"command", &[Part::Byte(*node)]);
+            text.entry(b"command", &[Byte(*node)]);
             write_command(text, command);
         }
-        Entry::AnyOk { node, count } => text.entry(
-            b"ok",
-            &[Part::Byte(*node), Part::Number(u64::from(*count))],
-        ),
-        Entry::InitSame { at } => text.entry(b"init", &[Part::End(*at), Part::Word(b"same")]),
+        Entry::AnyOk { node, count } => text.entry(b"ok", &[Byte(*node), Number(*count)]),
+        Entry::InitSame { at } => text.entry(b"init", &[End(*at), Word(b"same")]),
         Entry::InitMade { at, count } => text.entry(
             b"init",
-            &[
-                Part::End(*at),
-                Part::Word(b"made"),
-                Part::Number(u64::from(*count)),
-            ],
+            &[End(*at), Word(b"made"), Number(u32::from(*count))],
         ),
         Entry::InitFailed { at, code } => text.entry(
             b"init",
-            &[Part::End(*at), Part::Word(b"failed"), Part::Byte(*code)],
+            &[End(*at), Word(b"failed"), Byte(*code)],
         ),
-        Entry::Cut { node } => text.entry(b"cut", &[Part::Byte(*node)]),
-        Entry::Booted { node, count } => text.entry(
-            b"booted",
-            &[Part::Byte(*node), Part::Number(u64::from(*count))],
-        ),
+        Entry::Cut { node } => text.entry(b"cut", &[Byte(*node)]),
+        Entry::Booted { node, count } => text.entry(b"booted", &[Byte(*node), Number(*count)]),
         Entry::Tables { node, tables } => write_counts(text, *node, tables),
         Entry::No { cause } => {
             text.entry(b"no", &[]);
@@ -181,11 +150,11 @@ fn write_counts(text: &mut Text, node: u8, tables: &Tables)
     text.entry(
         b"tables",
         &[
-            Part::Byte(node),
-            Part::Number(tables.pipes().rows().len() as u64),
-            Part::Number(tables.statics().len() as u64),
-            Part::Number(tables.registry().values().len() as u64),
-            Part::Number(tables.syncs().len() as u64),
+            Byte(node),
+            Count(tables.pipes().rows().len()),
+            Count(tables.statics().len()),
+            Count(tables.registry().values().len()),
+            Count(tables.syncs().len()),
         ],
     );
 }
@@ -222,10 +191,10 @@ fn write_header(text: &mut Text, header: &Header)
         → HoldsWords start (first ∷ (more ++ header_words header.now)) text.new.bytes.items text.new.short }
 {
     text.parts(&[
-        Part::Word(b"swp"),
-        Part::Word(b"1"),
-        Part::Word(world_of(header.hci)),
-        Part::EachByte(header.hosts.as_slice()),
+        Word(b"swp"),
+        Word(b"1"),
+        Word(world_of(header.hci)),
+        EachByte(header.hosts.as_slice()),
     ]);
 }
 
@@ -241,51 +210,47 @@ fn write_line(text: &mut Text, line: &Line)
 {
     match line {
         Line::Send { at, pid, message } => text.parts(&[
-            Part::Word(b"send"),
-            Part::End(*at),
-            Part::Byte(*pid),
-            Part::Bytes(message.as_slice()),
+            Word(b"send"),
+            End(*at),
+            Byte(*pid),
+            Bytes(message.as_slice()),
         ]),
-        Line::Deliver { at, count } => {
-            text.parts(&[Part::Word(b"deliver"), Part::End(*at), Part::Maybe(*count)])
-        }
-        Line::Lose { at } => text.parts(&[Part::Word(b"lose"), Part::End(*at)]),
+        Line::Deliver { at, count } => { text.parts(&[Word(b"deliver"), End(*at), Maybe(*count)]) }
+        Line::Lose { at } => text.parts(&[Word(b"lose"), End(*at)]),
         Line::Damage { at, places } => text.parts(&[
-            Part::Word(b"damage"),
-            Part::End(*at),
-            Part::Numbers(places.as_slice()),
+            Word(b"damage"),
+            End(*at),
+            Numbers(places.as_slice()),
         ]),
-        Line::Tick { times } => text.parts(&[Part::Word(b"tick"), Part::Maybe(*times)]),
-        Line::Reset { at, window } => {
-            text.parts(&[Part::Word(b"reset"), Part::End(*at), Part::Maybe(*window)])
-        }
-        Line::Busy { at } => text.parts(&[Part::Word(b"busy"), Part::End(*at)]),
-        Line::Ready { at } => text.parts(&[Part::Word(b"ready"), Part::End(*at)]),
-        Line::Boot { node } => text.parts(&[Part::Word(b"boot"), Part::Byte(*node)]),
-        Line::Cut { node } => text.parts(&[Part::Word(b"cut"), Part::Byte(*node)]),
+        Line::Tick { times } => text.parts(&[Word(b"tick"), Maybe(*times)]),
+        Line::Reset { at, window } => { text.parts(&[Word(b"reset"), End(*at), Maybe(*window)]) }
+        Line::Busy { at } => text.parts(&[Word(b"busy"), End(*at)]),
+        Line::Ready { at } => text.parts(&[Word(b"ready"), End(*at)]),
+        Line::Boot { node } => text.parts(&[Word(b"boot"), Byte(*node)]),
+        Line::Cut { node } => text.parts(&[Word(b"cut"), Byte(*node)]),
         Line::Activate { host, sync, power } => text.parts(&[
-            Part::Word(b"activate"),
-            Part::Byte(*host),
-            Part::TwoBytes(*sync),
-            Part::Byte(*power),
+            Word(b"activate"),
+            Byte(*host),
+            TwoBytes(*sync),
+            Byte(*power),
         ]),
         Line::Arm { node, nth, fill } => text.parts(&[
-            Part::Word(b"arm"),
-            Part::Byte(*node),
-            Part::Number(u64::from(*nth)),
-            Part::Bytes(fill.as_slice()),
+            Word(b"arm"),
+            Byte(*node),
+            Number(*nth),
+            Bytes(fill.as_slice()),
         ]),
         Line::Init {
             at,
             identity,
             pipes,
         } => text.parts(&[
-            Part::Word(b"init"),
-            Part::End(*at),
-            Part::Bytes(identity),
-            Part::EachThree(pipes.as_slice()),
+            Word(b"init"),
+            End(*at),
+            Bytes(identity),
+            EachThree(pipes.as_slice()),
         ]),
-        Line::Tables { node } => text.parts(&[Part::Word(b"tables"), Part::Byte(*node)]),
+        Line::Tables { node } => text.parts(&[Word(b"tables"), Byte(*node)]),
     }
 }
 
@@ -294,22 +259,19 @@ fn write_cause(text: &mut Text, cause: NoCause)
         → HoldsWords start (first ∷ (more ++ cause_words cause)) text.new.bytes.items text.new.short }
 {
     match cause {
-        NoCause::Off => text.parts(&[Part::Word(b"off")]),
-        NoCause::Running => text.parts(&[Part::Word(b"running")]),
-        NoCause::Inactive => text.parts(&[Part::Word(b"inactive")]),
-        NoCause::NotUp => text.parts(&[Part::Word(b"not-up")]),
-        NoCause::Waiting => text.parts(&[Part::Word(b"waiting")]),
-        NoCause::TooLong => text.parts(&[Part::Word(b"too-long")]),
+        NoCause::Off => text.parts(&[Word(b"off")]),
+        NoCause::Running => text.parts(&[Word(b"running")]),
+        NoCause::Inactive => text.parts(&[Word(b"inactive")]),
+        NoCause::NotUp => text.parts(&[Word(b"not-up")]),
+        NoCause::Waiting => text.parts(&[Word(b"waiting")]),
+        NoCause::TooLong => text.parts(&[Word(b"too-long")]),
         NoCause::Full { need, spare } => text.parts(&[
-            Part::Word(b"full"),
-            Part::Number(u64::from(need)),
-            Part::Number(u64::from(spare)),
+            Word(b"full"),
+            Number(u32::from(need)),
+            Number(u32::from(spare)),
         ]),
-        NoCause::Empty => text.parts(&[Part::Word(b"empty")]),
-        NoCause::Beyond { bits } => text.parts(&[
-            Part::Word(b"beyond"),
-            Part::Number(u64::from(bits)),
-        ]),
+        NoCause::Empty => text.parts(&[Word(b"empty")]),
+        NoCause::Beyond { bits } => text.parts(&[Word(b"beyond"), Number(u32::from(bits))]),
     }
 }
 
@@ -319,20 +281,20 @@ fn write_command(text: &mut Text, command: &Command)
 {
     match command {
         Command::Create(row) => text.parts(&[
-            Part::Word(b"create"),
-            Part::Byte(row.pid),
-            Part::Byte(row.creator),
-            Part::Byte(row.creator_gate),
-            Part::Byte(row.dest),
-            Part::Byte(row.dest_gate),
+            Word(b"create"),
+            Byte(row.pid),
+            Byte(row.creator),
+            Byte(row.creator_gate),
+            Byte(row.dest),
+            Byte(row.dest_gate),
         ]),
-        Command::Delete { pid } => text.parts(&[Part::Word(b"delete"), Part::Byte(*pid)]),
-        Command::Clear { host } => text.parts(&[Part::Word(b"clear"), Part::Byte(*host)]),
+        Command::Delete { pid } => text.parts(&[Word(b"delete"), Byte(*pid)]),
+        Command::Clear { host } => text.parts(&[Word(b"clear"), Byte(*host)]),
         Command::SetOpened { host, pid, opened } => text.parts(&[
-            Part::Word(b"opened"),
-            Part::Byte(*host),
-            Part::Byte(*pid),
-            Part::Byte(flag_of(*opened)),
+            Word(b"opened"),
+            Byte(*host),
+            Byte(*pid),
+            Byte(flag_of(*opened)),
         ]),
         Command::Set {
             host,
@@ -340,17 +302,13 @@ fn write_command(text: &mut Text, command: &Command)
             param,
             value,
         } => text.parts(&[
-            Part::Word(b"set"),
-            Part::Byte(*host),
-            Part::Byte(*gate),
-            Part::Byte(*param),
+            Word(b"set"),
+            Byte(*host),
+            Byte(*gate),
+            Byte(*param),
             value_of(value.as_slice()),
         ]),
-        Command::Sync { host, id } => text.parts(&[
-            Part::Word(b"sync"),
-            Part::Byte(*host),
-            Part::TwoBytes(*id),
-        ]),
+        Command::Sync { host, id } => text.parts(&[Word(b"sync"), Byte(*host), TwoBytes(*id)]),
     }
 }
 
@@ -359,9 +317,9 @@ fn value_of(value: &[u8]) -> Part<'_>
     ensures { part_words result ≡ hex_or_dash value.now ∷ [] }
 {
     if value.is_empty() {
-        Part::Word(b"-")
+        Word(b"-")
     } else {
-        Part::Bytes(value)
+        Bytes(value)
     }
 }
 
