@@ -1,8 +1,10 @@
 use arrayvec::ArrayVec;
+use hci_tables::{Command, Tables};
+use pipe_table::PipeRow;
 use schedule_text::{LineFault, Read, read_line, write_entry};
 use std::alloc::{AllocError, Global};
 use std::test::Fail;
-use swp_base::Lpdu;
+use swp_base::{Cause, Lpdu};
 use trace_model::{End, Entry, Header, Line, LostCause, NoCause, Octets};
 
 const HOST: End = End {
@@ -15,10 +17,20 @@ const CONTROLLER: End = End {
     at_host: false,
 };
 
-fn header() -> Header {
+fn header_of(hci: bool) -> Header {
     let mut hosts = ArrayVec::new();
     hosts.push(2);
-    Header { hci: false, hosts }
+    Header { hci, hosts }
+}
+
+fn header() -> Header {
+    header_of(false)
+}
+
+fn places(numbers: &[u16]) -> ArrayVec<u16, 16> {
+    let mut places = ArrayVec::new();
+    let _ = places.try_extend_from_slice(numbers);
+    places
 }
 
 fn send(alloc: Global, pid: u8, message: &[u8]) -> Result<Line, AllocError> {
@@ -38,24 +50,9 @@ fn lines_are_read(rt: HostRuntime) -> Result<(), Fail> {
     );
     let known = header();
     let table = [
-        ("send 02h 01 03", Read::Line(send(alloc, 1, &[3])?)),
         (
             " send  02h 6f 81aA ",
             Read::Line(send(alloc, 0x6F, &[0x81, 0xAA])?),
-        ),
-        (
-            "deliver 02c",
-            Read::Line(Line::Deliver {
-                at: CONTROLLER,
-                count: None,
-            }),
-        ),
-        (
-            "deliver 02h 64",
-            Read::Line(Line::Deliver {
-                at: HOST,
-                count: Some(64),
-            }),
         ),
         ("", Read::Skip),
         ("   ", Read::Skip),
@@ -68,6 +65,74 @@ fn lines_are_read(rt: HostRuntime) -> Result<(), Fail> {
             Ok(said),
             "{line}"
         );
+    }
+    Ok(())
+}
+
+#[test]
+fn each_form_is_read_and_written(rt: HostRuntime) -> Result<(), Fail> {
+    let alloc = rt.alloc();
+    let known = header();
+    let table = [
+        ("send 02h 01 03", send(alloc, 1, &[3])?),
+        (
+            "deliver 02c",
+            Line::Deliver {
+                at: CONTROLLER,
+                count: None,
+            },
+        ),
+        (
+            "deliver 02h 64",
+            Line::Deliver {
+                at: HOST,
+                count: Some(64),
+            },
+        ),
+        ("lose 02h", Line::Lose { at: HOST }),
+        (
+            "damage 02c 0",
+            Line::Damage {
+                at: CONTROLLER,
+                places: places(&[0]),
+            },
+        ),
+        (
+            "damage 02c 24 28 399",
+            Line::Damage {
+                at: CONTROLLER,
+                places: places(&[24, 28, 399]),
+            },
+        ),
+        ("tick", Line::Tick { times: None }),
+        ("tick 100", Line::Tick { times: Some(100) }),
+        (
+            "reset 02h",
+            Line::Reset {
+                at: HOST,
+                window: None,
+            },
+        ),
+        (
+            "reset 02c 4",
+            Line::Reset {
+                at: CONTROLLER,
+                window: Some(4),
+            },
+        ),
+        ("busy 02c", Line::Busy { at: CONTROLLER }),
+        ("ready 02h", Line::Ready { at: HOST }),
+    ];
+    for (text, line) in table {
+        assert_eq!(rt;
+            read_line(alloc, Some(&known), text.as_bytes()),
+            Ok(Read::Line(line.clone()?)),
+            "{text}"
+        );
+        let mut out = Vec::new(alloc);
+        write_entry(alloc, &Entry::Echo(line), &mut out).map_err(|_| AllocError)?;
+        let echo = format!(in alloc; "> {text}\n")?;
+        assert_eq!(rt; out.as_slice(), echo.as_bytes());
     }
     Ok(())
 }
@@ -114,10 +179,46 @@ fn faults_below_a_header(rt: HostRuntime) -> Result<(), Fail> {
         ("deliver 02c 01", LineFault::Number { at: 3 }),
         ("deliver 02c +1", LineFault::Number { at: 3 }),
         ("deliver 1Fh", LineFault::Host { id: 0x1F }),
+        ("lose 02", LineFault::Word),
+        ("lose 02c 1", LineFault::Word),
+        ("damage 02c", LineFault::Word),
+        (
+            "damage 02c 0 1 2 3 4 5 6 7 8 9 10 11 12 13 14 15 16",
+            LineFault::Word,
+        ),
+        ("damage 02c 400", LineFault::Number { at: 3 }),
+        ("damage 02c 5 5", LineFault::Number { at: 4 }),
+        ("damage 03c 7 9 8", LineFault::Number { at: 5 }),
+        ("damage 03c 7", LineFault::Host { id: 3 }),
+        ("tick 1 1", LineFault::Word),
+        ("tick 0", LineFault::Number { at: 2 }),
+        ("tick 101", LineFault::Number { at: 2 }),
+        ("reset 02c 5", LineFault::Number { at: 3 }),
+        ("busy 02c 1", LineFault::Word),
+        ("ready 03h", LineFault::Host { id: 3 }),
         ("send 02h 70 03", LineFault::Hex { at: 3 }),
         ("send 03h 1 3", LineFault::Hex { at: 3 }),
         ("send 03h 01 030", LineFault::Hex { at: 4 }),
         ("send 03h 01 03", LineFault::Host { id: 3 }),
+    ];
+    for (line, fault) in table {
+        assert_eq!(rt;
+            read_line(alloc, Some(&known), line.as_bytes()),
+            Err(fault),
+            "{line}"
+        );
+    }
+    Ok(())
+}
+
+#[test]
+fn a_world_of_nodes_has_no_readiness(rt: HostRuntime) -> Result<(), Fail> {
+    let alloc = rt.alloc();
+    let known = header_of(true);
+    let table = [
+        ("busy 02c", LineFault::Order),
+        ("ready 02c 1", LineFault::Order),
+        ("send 02c 01 03", LineFault::Word),
     ];
     for (line, fault) in table {
         assert_eq!(rt;
@@ -146,10 +247,17 @@ fn lpdu(bytes: &[u8]) -> Result<Lpdu, Fail> {
     Ok(Lpdu::from_bytes(bytes).ok_or("no LPDU")?)
 }
 
+fn written(alloc: Global, entries: &[Entry]) -> Result<Vec<u8>, AllocError> {
+    let mut out = Vec::new(alloc);
+    for entry in entries {
+        write_entry(alloc, entry, &mut out).map_err(|_| AllocError)?;
+    }
+    Ok(out)
+}
+
 #[test]
 fn entries_are_written(rt: HostRuntime) -> Result<(), Fail> {
     let alloc = rt.alloc();
-    let mut out = Vec::new(alloc);
     let entries = [
         Entry::Head(header()),
         Entry::Up {
@@ -201,11 +309,8 @@ fn entries_are_written(rt: HostRuntime) -> Result<(), Fail> {
             cause: NoCause::TooLong,
         },
     ];
-    for entry in &entries {
-        write_entry(alloc, entry, &mut out).map_err(|_| AllocError)?;
-    }
     assert_eq!(rt;
-        out.as_slice(),
+        written(alloc, &entries)?.as_slice(),
         b"> swp 1 bare 02
 up 02c 0
 > send 02h 01 03
@@ -218,6 +323,322 @@ acked 02h 0 4294967295
 lost 02h C1 none
 no full 129 128
 no too-long
+"
+            .as_slice()
+    );
+    Ok(())
+}
+
+#[test]
+fn ends_of_sessions_and_losses_are_written(rt: HostRuntime) -> Result<(), Fail> {
+    let alloc = rt.alloc();
+    let entries = [
+        Entry::Down {
+            at: HOST,
+            cause: Cause::Asked,
+        },
+        Entry::Down {
+            at: HOST,
+            cause: Cause::NoAnswer,
+        },
+        Entry::Down {
+            at: CONTROLLER,
+            cause: Cause::Peer,
+        },
+        Entry::Down {
+            at: CONTROLLER,
+            cause: Cause::Act,
+        },
+        Entry::Down {
+            at: CONTROLLER,
+            cause: Cause::Chain,
+        },
+        Entry::Active { at: HOST },
+        Entry::GaveUp { at: HOST, tries: 5 },
+        Entry::Lost {
+            at: HOST,
+            lpdu: lpdu(&[0xF9, 4, 0])?,
+            cause: LostCause::Asked,
+        },
+        Entry::Lost {
+            at: HOST,
+            lpdu: lpdu(&[0xC1])?,
+            cause: LostCause::Age,
+        },
+        Entry::Lost {
+            at: HOST,
+            lpdu: lpdu(&[0xC1])?,
+            cause: LostCause::Full,
+        },
+        Entry::Lost {
+            at: HOST,
+            lpdu: lpdu(&[0xC1])?,
+            cause: LostCause::Length,
+        },
+        Entry::Lost {
+            at: HOST,
+            lpdu: lpdu(&[0xC1])?,
+            cause: LostCause::Alignment,
+        },
+        Entry::Lost {
+            at: HOST,
+            lpdu: lpdu(&[0xC1])?,
+            cause: LostCause::Crc,
+        },
+        Entry::Lost {
+            at: HOST,
+            lpdu: lpdu(&[0xC1])?,
+            cause: LostCause::Broken,
+        },
+    ];
+    assert_eq!(rt;
+        written(alloc, &entries)?.as_slice(),
+        b"down 02h asked
+down 02h noanswer
+down 02c peer
+down 02c act
+down 02c chain
+active 02h
+gaveup 02h 5
+lost 02h F90400 asked
+lost 02h C1 age
+lost 02h C1 full
+lost 02h C1 length
+lost 02h C1 alignment
+lost 02h C1 crc
+lost 02h C1 broken
+"
+            .as_slice()
+    );
+    Ok(())
+}
+
+#[test]
+fn causes_of_refusals_are_written(rt: HostRuntime) -> Result<(), Fail> {
+    let alloc = rt.alloc();
+    let entries = [
+        Entry::No {
+            cause: NoCause::Off,
+        },
+        Entry::No {
+            cause: NoCause::Running,
+        },
+        Entry::No {
+            cause: NoCause::Inactive,
+        },
+        Entry::No {
+            cause: NoCause::NotUp,
+        },
+        Entry::No {
+            cause: NoCause::Waiting,
+        },
+        Entry::No {
+            cause: NoCause::Empty,
+        },
+        Entry::No {
+            cause: NoCause::Beyond { bits: 71 },
+        },
+    ];
+    assert_eq!(rt;
+        written(alloc, &entries)?.as_slice(),
+        b"no off
+no running
+no inactive
+no not-up
+no waiting
+no empty
+no beyond 71
+"
+            .as_slice()
+    );
+    Ok(())
+}
+
+#[test]
+fn turns_of_nodes_are_written(rt: HostRuntime) -> Result<(), Fail> {
+    let alloc = rt.alloc();
+    let entries = [
+        Entry::Turn {
+            at: CONTROLLER,
+            pid: 1,
+            message: Octets::from_slice(alloc, &[2, 1])?,
+        },
+        Entry::Held {
+            at: CONTROLLER,
+            need: 32,
+            spare: 0,
+        },
+        Entry::Ask {
+            host: 1,
+            message: Octets::from_slice(alloc, &[0x12, 2, 0x41, 1, 0x41, 2])?,
+        },
+        Entry::Dropped {
+            at: HOST,
+            pid: 0x0A,
+        },
+        Entry::AnyOk {
+            node: 0,
+            count: 114,
+        },
+        Entry::InitSame { at: HOST },
+        Entry::InitMade { at: HOST, count: 3 },
+        Entry::InitFailed {
+            at: HOST,
+            code: 0x0B,
+        },
+        Entry::Cut { node: 0 },
+        Entry::Booted { node: 2, count: 1 },
+    ];
+    assert_eq!(rt;
+        written(alloc, &entries)?.as_slice(),
+        b"turn 02c 01 0201
+held 02c 32 0
+ask 01 120241014102
+drop 02h 0A
+ok 00 114
+init 02h same
+init 02h made 3
+init 02h failed 0B
+cut 00
+booted 02 1
+"
+            .as_slice()
+    );
+    Ok(())
+}
+
+fn value(bytes: &[u8]) -> ArrayVec<u8, 20> {
+    let mut value = ArrayVec::new();
+    let _ = value.try_extend_from_slice(bytes);
+    value
+}
+
+#[test]
+fn commands_and_tables_are_written(rt: HostRuntime) -> Result<(), Fail> {
+    let alloc = rt.alloc();
+    let row = PipeRow {
+        pid: 2,
+        creator: 2,
+        creator_gate: 0x20,
+        dest: 0,
+        dest_gate: 4,
+        opened: false,
+    };
+    let mut tables = Tables::new();
+    let sync = Command::Sync {
+        host: 2,
+        id: 0x1A2B,
+    };
+    let created = Command::Create(row);
+    if created.is_recordable() && sync.is_recordable() {
+        tables.apply(&created);
+        tables.apply(&sync);
+    }
+    let entries = [
+        Entry::Command {
+            node: 0,
+            command: created,
+        },
+        Entry::Command {
+            node: 0,
+            command: Command::Delete { pid: 5 },
+        },
+        Entry::Command {
+            node: 0,
+            command: Command::Clear { host: 2 },
+        },
+        Entry::Command {
+            node: 0,
+            command: Command::SetOpened {
+                host: 1,
+                pid: 1,
+                opened: true,
+            },
+        },
+        Entry::Command {
+            node: 2,
+            command: Command::Set {
+                host: 2,
+                gate: 0,
+                param: 3,
+                value: value(&[1, 2]),
+            },
+        },
+        Entry::Command {
+            node: 2,
+            command: Command::Set {
+                host: 2,
+                gate: 0,
+                param: 3,
+                value: value(&[]),
+            },
+        },
+        Entry::Command {
+            node: 0,
+            command: sync,
+        },
+        Entry::Tables {
+            node: 0,
+            tables: Box::new(alloc, tables)?,
+        },
+    ];
+    assert_eq!(rt;
+        written(alloc, &entries)?.as_slice(),
+        b"command 00 create 02 02 20 00 04
+command 00 delete 05
+command 00 clear 02
+command 00 opened 01 01 01
+command 02 set 02 00 03 0102
+command 02 set 02 00 03 -
+command 00 sync 02 1A2B
+tables 00 1 0 0 1
+pipe 02 02 20 00 04 closed
+sync 02 1A2B
+"
+            .as_slice()
+    );
+    Ok(())
+}
+
+fn triples(triple: [u8; 3]) -> ArrayVec<[u8; 3], 8> {
+    let mut triples = ArrayVec::new();
+    triples.push(triple);
+    triples
+}
+
+#[test]
+fn lines_of_a_world_of_nodes_are_written(rt: HostRuntime) -> Result<(), Fail> {
+    let alloc = rt.alloc();
+    let mut fill = ArrayVec::new();
+    fill.push(0x13);
+    let entries = [
+        Entry::Echo(Line::Boot { node: 0 }),
+        Entry::Echo(Line::Cut { node: 2 }),
+        Entry::Echo(Line::Activate {
+            host: 2,
+            sync: 0x1A2B,
+            power: 1,
+        }),
+        Entry::Echo(Line::Arm {
+            node: 0,
+            nth: 1000,
+            fill,
+        }),
+        Entry::Echo(Line::Init {
+            at: HOST,
+            identity: [1, 2, 3, 4, 5, 6, 7, 8],
+            pipes: triples([0x20, 0, 4]),
+        }),
+        Entry::Echo(Line::Tables { node: 0 }),
+    ];
+    assert_eq!(rt;
+        written(alloc, &entries)?.as_slice(),
+        b"> boot 00
+> cut 02
+> activate 02 1A2B 01
+> arm 00 1000 13
+> init 02h 0102030405060708 200004
+> tables 00
 "
             .as_slice()
     );
