@@ -7,7 +7,7 @@ pub enum LineFault {
     /// The first word, a fixed word of a header, the number of words or the form of an end is wrong.
     #[error("unknown word")]
     Word,
-    /// Word `at`, counted from 1, is no decimal number of its form or outside its range.
+    /// Word `at`, counted from 1, is no decimal number of its form, outside its range, or not above the place before it.
     #[error("bad number in word {at}")]
     Number { at: u32 },
     /// Word `at`, counted from 1, has wrong hexadecimal digits, a wrong length, or a value outside its range.

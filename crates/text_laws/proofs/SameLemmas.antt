@@ -1,5 +1,5 @@
 -- Entries with the same words are the same.
-use Rattle.std.proofs.Common.{◌≡◌, ℕ, zero, suc, ◌/◌, ◌%◌, ◌<◌, ◌≤◌, Bool, true, false, List, [], ◌∷◌, get_or, refl, sym, ◌∙◌, ap, arith, Option, Some, None, IfSome, All, map, codes}
+use Rattle.std.proofs.Common.{◌≡◌, ℕ, zero, suc, ◌/◌, ◌%◌, ◌<◌, ◌≤◌, Bool, true, false, cond, List, [], ◌∷◌, length, get_or, refl, sym, ◌∙◌, ap, arith, Option, Some, None, IfSome, All, map, codes}
 use Rattle.std.specs.Str.{bytes_eq}
 use Rattle.std.proofs.lemmas.Slice.Eq.{bytes_eq-Decides}
 use Rattle.std.specs.Fmt.{decimal}
@@ -7,6 +7,10 @@ use Rattle.std.proofs.lemmas.Fmt.{decimal_injective}
 use Rattle.hex.specs.Hex.{encode_upper}
 use Rattle.swp_base.specs.declared.link_terms.Cause.{Cause}
 use Rattle.swp_base.specs.declared.link_terms.Cause.TheVariants as why
+use Rattle.pipe_table.specs.declared.row.PipeRow.{PipeRow}
+use Rattle.hci_tables.specs.declared.command.Command.{Command}
+use Rattle.hci_tables.specs.declared.command.Command.TheVariants as command
+use Rattle.tables_text.specs.Tables.{hex_or_dash}
 use Rattle.trace_model.specs.declared.line.End.{End}
 use Rattle.trace_model.specs.declared.line.Header.{Header}
 use Rattle.trace_model.specs.declared.line.Line.{Line}
@@ -19,9 +23,9 @@ use Rattle.trace_model.specs.declared.entry.Entry.{Entry}
 use Rattle.trace_model.specs.declared.entry.Entry.TheVariants as entry
 use Rattle.trace_model.specs.Lines.{IsHeader}
 use Rattle.schedule_text.specs.Values.{byte_value, bytes_value, end_value}
-use Rattle.schedule_text.specs.Entries.{byte_text, two_bytes_text, end_text, number_words, header_words, line_words, down_word, lost_word, cause_words, entry_words}
-use Rattle.schedule_text.proofs.AgainLemmas.{byte_again, bytes_again, end_again}
-use Rattle.text_laws.specs.Ranges.{IsByte, IsEnd, AreBytes, IsNumber, IsTwoBytes, IsSaid, IsCause, IsEntry}
+use Rattle.schedule_text.specs.Entries.{byte_text, two_bytes_text, end_text, number_words, header_words, line_words, down_word, lost_word, cause_words, command_words, entry_words}
+use Rattle.schedule_text.proofs.AgainLemmas.{byte_again, bytes_again, end_again, length-hex}
+use Rattle.text_laws.specs.Ranges.{IsByte, IsEnd, AreBytes, IsNumber, IsTwoBytes, IsSaid, IsCause, IsSaidCommand, IsEntry}
 
 -- other words
 abbrev head : List (List ℕ) → List ℕ
@@ -65,7 +69,8 @@ same_lost lost.Nothing lost.Nothing h = refl
 same_lost a b h = absurd (other_word (lost_word a) (lost_word b) refl h)
 
 -- words of the same kind
-same_map : (f : ℕ → List ℕ) (R : ℕ → Type 0) → ((x y : ℕ) → R x → R y → f x ≡ f y → x ≡ y) → (xs ys : List ℕ) → All R xs → All R ys → map f xs ≡ map f ys → xs ≡ ys
+same_map : {X : Type 0} (f : X → List ℕ) (R : X → Type 0) → ((x y : X) → R x → R y → f x ≡ f y → x ≡ y) → (xs ys : List X) → All R xs → All R ys
+    → map f xs ≡ map f ys → xs ≡ ys
 same_map f R same [] [] rx ry h = refl
 same_map f R same [] (y ∷ ys) rx ry h = cc
 same_map f R same (x ∷ xs) [] rx ry h = cc
@@ -123,6 +128,55 @@ behind a b xs ys h = cc
 behind_two : (a b c d : List ℕ) (xs ys : List (List ℕ)) → a ∷ b ∷ xs ≡ c ∷ d ∷ ys → xs ≡ ys
 behind_two a b c d xs ys h = cc
 
+differ : (a b : ℕ) → a < 256 → b < 256 → a < b → byte_text a ≡ byte_text b → ⊥
+differ a b ra rb less h = let same : a ≡ b = same_byte a b ra rb h in omega arith
+
+same_flag : (a b : Bool) → byte_text (cond a 1 0) ≡ byte_text (cond b 1 0) → a ≡ b
+same_flag true true h = refl
+same_flag true false h = absurd (differ 0 1 (omega arith) (omega arith) (omega arith) (sym h))
+same_flag false true h = absurd (differ 0 1 (omega arith) (omega arith) (omega arith) h)
+same_flag false false h = refl
+
+same_value : (xs ys : List ℕ) → All IsByte xs → All IsByte ys → hex_or_dash xs ≡ hex_or_dash ys → xs ≡ ys
+same_value [] [] rx ry h = refl
+same_value [] (y ∷ ys) rx ry h = let long = length-hex (y ∷ ys) in let one = ap length h in absurd (omega (arith, long, one))
+same_value (x ∷ xs) [] rx ry h = let long = length-hex (x ∷ xs) in let one = ap length h in absurd (omega (arith, long, one))
+same_value (x ∷ xs) (y ∷ ys) rx ry h = same_bytes (x ∷ xs) (y ∷ ys) (omega arith, rx) (omega arith, ry) h
+
+same_row : (a b : PipeRow) → a.opened ≡ b.opened → a.pid ≡ b.pid → a.creator ≡ b.creator → a.creator_gate ≡ b.creator_gate → a.dest ≡ b.dest
+    → a.dest_gate ≡ b.dest_gate → a ≡ b
+same_row a b opened pid creator creator_gate dest dest_gate =
+    ap (λ x. record a { opened = x }) opened ∙ ap (λ x. record a { opened = b.opened; pid = x }) pid
+    ∙ ap (λ x. record a { opened = b.opened; pid = b.pid; creator = x }) creator
+    ∙ ap (λ x. record a { opened = b.opened; pid = b.pid; creator = b.creator; creator_gate = x }) creator_gate
+    ∙ ap (λ x. record b { dest = x; dest_gate = a.dest_gate }) dest ∙ ap (λ x. record b { dest_gate = x }) dest_gate
+
+same_command : (a b : Command) → IsSaidCommand a → IsSaidCommand b → command_words a ≡ command_words b → a ≡ b
+same_command (command.Create r) (command.Create s) ra rb h =
+    let pid : r.pid ≡ s.pid = same_byte r.pid s.pid ra.1 rb.1 cc in
+    let creator : r.creator ≡ s.creator = same_byte r.creator s.creator ra.2 rb.2 cc in
+    let creator_gate : r.creator_gate ≡ s.creator_gate = same_byte r.creator_gate s.creator_gate ra.3 rb.3 cc in
+    let dest : r.dest ≡ s.dest = same_byte r.dest s.dest ra.4 rb.4 cc in
+    let dest_gate : r.dest_gate ≡ s.dest_gate = same_byte r.dest_gate s.dest_gate ra.5 rb.5 cc in
+    ap command.Create (same_row r s (ra.0 ∙ sym rb.0) pid creator creator_gate dest dest_gate)
+same_command (command.Delete p) (command.Delete q) ra rb h = ap command.Delete (same_byte p q ra rb cc)
+same_command (command.Clear n) (command.Clear m) ra rb h = ap command.Clear (same_byte n m ra rb cc)
+same_command (command.SetOpened n p o) (command.SetOpened m q u) ra rb h =
+    let host : n ≡ m = same_byte n m ra.0 rb.0 cc in
+    let pid : p ≡ q = same_byte p q ra.1 rb.1 cc in
+    let opened : o ≡ u = same_flag o u cc in cc
+same_command (command.Set n g p x) (command.Set m k q y) ra rb h =
+    let host : n ≡ m = same_byte n m ra.0 rb.0 cc in
+    let gate : g ≡ k = same_byte g k ra.1 rb.1 cc in
+    let param : p ≡ q = same_byte p q ra.2 rb.2 cc in
+    let value : x.items ≡ y.items = same_value x.items y.items ra.3 rb.3 cc in
+    ap (λ i. command.Set i g p x) host ∙ ap (λ i. command.Set m i p x) gate ∙ ap (λ i. command.Set m k i x) param
+    ∙ ap (λ xs. command.Set m k q (record { items = xs })) value
+same_command (command.Sync n i) (command.Sync m j) ra rb h =
+    let host : n ≡ m = same_byte n m ra.0 rb.0 cc in
+    let id : i ≡ j = same_two i j ra.1 rb.1 cc in cc
+same_command a b ra rb h = absurd (other_words (command_words a) (command_words b) refl h)
+
 same_said : (a b : Line) → IsSaid a → IsSaid b → line_words a ≡ line_words b → a ≡ b
 same_said (line.Send e p m) (line.Send f q n) ra rb h =
     let end : e ≡ f = same_end e f ra.0 rb.0 cc in
@@ -153,7 +207,11 @@ same_said (line.Arm n k x) (line.Arm m l y) ra rb h =
     let nth : k ≡ l = same_number k l ra.1 rb.1 cc in
     let fill : x.items ≡ y.items = same_bytes x.items y.items ra.2 rb.2 cc in
     ap (λ i. line.Arm i k x) node ∙ ap (λ i. line.Arm m i x) nth ∙ ap (λ xs. line.Arm m l (record { items = xs })) fill
-same_said (line.Init e i p) b ra rb h = absurd ra
+same_said (line.Init e i p) (line.Init f j q) ra rb h =
+    let end : e ≡ f = same_end e f ra.0 rb.0 cc in
+    let identity : i ≡ j = same_bytes i j ra.1 rb.1 cc in
+    let pipes : p.items ≡ q.items = same_map encode_upper AreBytes same_bytes p.items q.items ra.2 rb.2 (behind _ _ _ _ (behind_two _ _ _ _ _ _ h)) in
+    ap (λ at. line.Init at i p) end ∙ ap (λ bytes. line.Init f bytes p) identity ∙ ap (λ ps. line.Init f j (record { items = ps })) pipes
 same_said (line.Tables n) (line.Tables m) ra rb h = ap line.Tables (same_byte n m ra rb cc)
 same_said a b ra rb h = absurd (other_words (line_words a) (line_words b) refl h)
 
@@ -240,7 +298,9 @@ same_entry (entry.Ask n x) (entry.Ask m y) ra rb h =
 same_entry (entry.Dropped e p) (entry.Dropped f q) ra rb h =
     let end : e ≡ f = same_end e f ra.0 rb.0 cc in
     let pid : p ≡ q = same_byte p q ra.1 rb.1 cc in cc
-same_entry (entry.Command n c) b ra rb h = absurd ra
+same_entry (entry.Command n c) (entry.Command m d) ra rb h =
+    let node : n ≡ m = same_byte n m ra.0 rb.0 cc in
+    let command : c ≡ d = same_command c d ra.1 rb.1 (behind_two _ _ _ _ _ _ h) in cc
 same_entry (entry.AnyOk n k) (entry.AnyOk m l) ra rb h =
     let node : n ≡ m = same_byte n m ra.0 rb.0 cc in
     let count : k ≡ l = same_number k l ra.1 rb.1 cc in cc

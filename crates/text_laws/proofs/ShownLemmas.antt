@@ -16,6 +16,9 @@ use Rattle.std.proofs.Math.ListN.{get_or-eq_default}
 use Rattle.hex.specs.Hex.{encode_with, encode_upper, upper_digits}
 use Rattle.swp_base.specs.declared.link_terms.Cause.{Cause}
 use Rattle.swp_base.specs.declared.link_terms.Cause.TheVariants as why
+use Rattle.hci_tables.specs.declared.command.Command.{Command}
+use Rattle.hci_tables.specs.declared.command.Command.TheVariants as command
+use Rattle.tables_text.specs.Tables.{hex_or_dash}
 use Rattle.trace_model.specs.declared.line.End.{End}
 use Rattle.trace_model.specs.declared.line.Line.{Line}
 use Rattle.trace_model.specs.declared.line.Line.TheVariants as line
@@ -26,9 +29,9 @@ use Rattle.trace_model.specs.declared.entry.NoCause.TheVariants as cause
 use Rattle.trace_model.specs.declared.entry.Entry.{Entry}
 use Rattle.trace_model.specs.declared.entry.Entry.TheVariants as entry
 use Rattle.schedule_text.specs.Words.{words, spaced}
-use Rattle.schedule_text.specs.Entries.{byte_text, two_bytes_text, end_text, number_words, line_words, down_word, lost_word, cause_words, entry_words, lines_behind, entry_text, entry_line}
+use Rattle.schedule_text.specs.Entries.{byte_text, two_bytes_text, end_text, number_words, line_words, down_word, lost_word, cause_words, command_words, entry_words, lines_behind, entry_text, entry_line}
 use Rattle.schedule_text.proofs.AgainLemmas.{IsWord, words-spaced, hex_word, end_word, number_word}
-use Rattle.text_laws.specs.Ranges.{IsNumber, IsSaid, IsCause, IsEntry}
+use Rattle.text_laws.specs.Ranges.{AreBytes, IsNumber, IsSaid, IsCause, IsEntry}
 use Rattle.text_laws.proofs.SameLemmas.{same_entry}
 
 -- no LF
@@ -132,6 +135,23 @@ cause_clean cause.Empty h = (((omega arith, refl), refl), tt)
 cause_clean (cause.Full n s) h = (((omega arith, refl), refl), (number_clean n h.0, (number_clean s h.1, tt)))
 cause_clean (cause.Beyond n) h = (((omega arith, refl), refl), (number_clean n h, tt))
 
+each_clean : (xs : List (List ℕ)) → All AreBytes xs → AllByRecursion IsClean (map encode_upper xs)
+each_clean [] h = tt
+each_clean (x ∷ xs) h = (hex_clean x (h 0 x (omega arith)).0, each_clean xs (λ k d within. h (suc k) d (omega arith)))
+
+value_clean : (xs : List ℕ) → IsClean (hex_or_dash xs)
+value_clean [] = ((omega arith, refl), refl)
+value_clean (x ∷ xs) = hex_clean (x ∷ xs) (omega arith)
+
+command_clean : (c : Command) → AllByRecursion IsClean (command_words c)
+command_clean (command.Create r) =
+    (((omega arith, refl), refl), (byte_clean r.pid, (byte_clean r.creator, (byte_clean r.creator_gate, (byte_clean r.dest, (byte_clean r.dest_gate, tt))))))
+command_clean (command.Delete p) = (((omega arith, refl), refl), (byte_clean p, tt))
+command_clean (command.Clear n) = (((omega arith, refl), refl), (byte_clean n, tt))
+command_clean (command.SetOpened n p o) = (((omega arith, refl), refl), (byte_clean n, (byte_clean p, (byte_clean (cond o 1 0), tt))))
+command_clean (command.Set n g p x) = (((omega arith, refl), refl), (byte_clean n, (byte_clean g, (byte_clean p, (value_clean x.items, tt)))))
+command_clean (command.Sync n i) = (((omega arith, refl), refl), (byte_clean n, (two_clean i, tt)))
+
 said_clean : (said : Line) → IsSaid said → AllByRecursion IsClean (line_words said)
 said_clean (line.Send e p m) h = (((omega arith, refl), refl), (end_clean e, (byte_clean p, (hex_clean m h.2.0, tt))))
 said_clean (line.Deliver e n) h = (((omega arith, refl), refl), (end_clean e, maybe_clean n h.1))
@@ -145,7 +165,7 @@ said_clean (line.Boot n) h = (((omega arith, refl), refl), (byte_clean n, tt))
 said_clean (line.Cut n) h = (((omega arith, refl), refl), (byte_clean n, tt))
 said_clean (line.Activate n s p) h = (((omega arith, refl), refl), (byte_clean n, (two_clean s, (byte_clean p, tt))))
 said_clean (line.Arm n k x) h = (((omega arith, refl), refl), (byte_clean n, (number_clean k h.1, (hex_clean x.items h.2.0, tt))))
-said_clean (line.Init e i p) h = absurd h
+said_clean (line.Init e i p) h = (((omega arith, refl), refl), (end_clean e, (hex_clean i h.1.0, each_clean p.items h.2)))
 said_clean (line.Tables n) h = (((omega arith, refl), refl), (byte_clean n, tt))
 
 entry_clean : (a : Entry) → IsEntry a → AllByRecursion IsClean (entry_words a)
@@ -166,7 +186,7 @@ entry_clean (entry.Turn e p m) h = (((omega arith, refl), refl), (end_clean e, (
 entry_clean (entry.Held e n s) h = (((omega arith, refl), refl), (end_clean e, (number_clean n h.1, (number_clean s h.2, tt))))
 entry_clean (entry.Ask n m) h = (((omega arith, refl), refl), (byte_clean n, (hex_clean m h.1.0, tt)))
 entry_clean (entry.Dropped e p) h = (((omega arith, refl), refl), (end_clean e, (byte_clean p, tt)))
-entry_clean (entry.Command n c) h = absurd h
+entry_clean (entry.Command n c) h = (((omega arith, refl), refl), (byte_clean n, command_clean c))
 entry_clean (entry.AnyOk n k) h = (((omega arith, refl), refl), (byte_clean n, (number_clean k h.1, tt)))
 entry_clean (entry.InitSame e) h = (((omega arith, refl), refl), (end_clean e, (((omega arith, refl), refl), tt)))
 entry_clean (entry.InitMade e n) h = (((omega arith, refl), refl), (end_clean e, (((omega arith, refl), refl), (number_clean n h.1, tt))))

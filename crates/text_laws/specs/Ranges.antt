@@ -1,5 +1,7 @@
 -- The ranges of what an entry of a transcript says.
-use Rattle.std.specs.Prelude.{ℕ, ◌^◌, ◌<◌, List, length, All, IfSome}
+use Rattle.std.specs.Prelude.{◌≡◌, ℕ, ◌^◌, ◌<◌, false, List, length, All, IfSome}
+use Rattle.hci_tables.specs.declared.command.Command.{Command}
+use Rattle.hci_tables.specs.declared.command.Command.TheVariants as command
 use Rattle.trace_model.specs.declared.line.End.{End}
 use Rattle.trace_model.specs.declared.line.Line.{Line}
 use Rattle.trace_model.specs.declared.line.Line.TheVariants as line
@@ -25,7 +27,7 @@ IsNumber n = n < 2 ^ 32
 abbrev pub IsTwoBytes : ℕ → Type 0
 IsTwoBytes n = n < 2 ^ 16
 
--- a line, but `init`
+-- a line
 abbrev pub IsSaid : Line → Type 0
 IsSaid (line.Send at pid message) = IsEnd at × IsByte pid × AreBytes message
 IsSaid (line.Deliver at count) = IsEnd at × IfSome count IsNumber
@@ -39,7 +41,7 @@ IsSaid (line.Boot node) = IsByte node
 IsSaid (line.Cut node) = IsByte node
 IsSaid (line.Activate host sync power) = IsByte host × IsTwoBytes sync × IsByte power
 IsSaid (line.Arm node nth fill) = IsByte node × IsNumber nth × AreBytes fill.items
-IsSaid (line.Init at identity pipes) = ⊥
+IsSaid (line.Init at identity pipes) = IsEnd at × AreBytes identity × All AreBytes pipes.items
 IsSaid (line.Tables node) = IsByte node
 
 abbrev pub IsCause : NoCause → Type 0
@@ -53,7 +55,17 @@ IsCause cause.Waiting = Unit {0}
 IsCause cause.TooLong = Unit {0}
 IsCause cause.Empty = Unit {0}
 
--- an entry, but a command and tables
+-- a command: a created pipe is closed, which its text doesn't tell
+abbrev pub IsSaidCommand : Command → Type 0
+IsSaidCommand (command.Create row) =
+    (row.opened ≡ false) × IsByte row.pid × IsByte row.creator × IsByte row.creator_gate × IsByte row.dest × IsByte row.dest_gate
+IsSaidCommand (command.Delete pid) = IsByte pid
+IsSaidCommand (command.Clear host) = IsByte host
+IsSaidCommand (command.SetOpened host pid opened) = IsByte host × IsByte pid
+IsSaidCommand (command.Set host gate param value) = IsByte host × IsByte gate × IsByte param × All IsByte value.items
+IsSaidCommand (command.Sync host id) = IsByte host × IsTwoBytes id
+
+-- an entry, but tables
 abbrev pub IsEntry : Entry → Type 0
 IsEntry (entry.Head header) = IsHeader header
 IsEntry (entry.Echo said) = IsSaid said
@@ -71,7 +83,7 @@ IsEntry (entry.Turn at pid message) = IsEnd at × IsByte pid × AreBytes message
 IsEntry (entry.Held at need spare) = IsEnd at × IsNumber need × IsNumber spare
 IsEntry (entry.Ask host message) = IsByte host × AreBytes message
 IsEntry (entry.Dropped at pid) = IsEnd at × IsByte pid
-IsEntry (entry.Command node command) = ⊥
+IsEntry (entry.Command node command) = IsByte node × IsSaidCommand command
 IsEntry (entry.AnyOk node count) = IsByte node × IsNumber count
 IsEntry (entry.InitSame at) = IsEnd at
 IsEntry (entry.InitMade at count) = IsEnd at × IsNumber count
