@@ -1,10 +1,10 @@
 //! What may be wrong with the words of a line: one rule over the kinds that its row in the table gives them.
-ghost use Rattle.std.specs.Prelude.{◌≡◌, ◌≤◌, length, is_some};
+ghost use Rattle.std.specs.Prelude.{◌≡◌, ◌≤◌, ◌&&◌, length, is_some};
 ghost use Rattle.std.specs.List.{list_all};
-ghost use Rattle.std.specs.Option.{option_map};
+ghost use Rattle.std.specs.Option.{option_map, option_or};
 ghost use Rattle.schedule_text.specs.Words.{words};
 ghost use Rattle.schedule_text.specs.Forms.{row_of};
-ghost use Rattle.schedule_text.specs.Rules.{slots, has_shape, rising, digits_fault, first_digits_fault, host_fault, first_host_fault, is_well_formed, words_fault, has_byte, has_bytes};
+ghost use Rattle.schedule_text.specs.Rules.{slots, has_shape, rising, digits_fault, first_digits_fault, host_fault, first_host_fault, words_fault, has_byte, has_bytes};
 ghost use Rattle.schedule_text.specs.Values.{byte_value, bytes_value, number_in};
 ghost use Rattle.hex.specs.Hex.{is_hex_digit};
 
@@ -19,22 +19,16 @@ pub(crate) fn fault_in(hci: bool, hosts: &[u8], form: &Form, rest: &[u8]) -> Opt
     requires { length rest.now ≤ 9000 }
     ensures { result ≡ words_fault hci hosts.now (row_of form.now) (words rest.now) }
 {
-    if !well_formed(hci, form, rest) {
+    let count = count_words(rest);
+    let seen = look_over(hci, hosts, form.kinds, rest);
+    if count < form.least || form.most < count || !seen.shaped {
         return Some(LineFault::Word);
     }
-    if let Some(fault) = first_wrong_digits(form.kinds, rest) {
-        return Some(fault);
+    match (seen.digits, seen.host) {
+        (Some(fault), _) => Some(fault),
+        (None, Some(id)) => Some(LineFault::Host { id }),
+        (None, None) => None,
     }
-    let id = first_unknown_host(hosts, form.kinds, rest)?;
-    Some(LineFault::Host { id })
-}
-
-fn well_formed(hci: bool, form: &Form, rest: &[u8]) -> bool
-    requires { length rest.now ≤ 9000 }
-    ensures { result ≡ is_well_formed hci (row_of form.now) (words rest.now) }
-{
-    let count = count_words(rest);
-    form.least <= count && count <= form.most && all_shaped(hci, form.kinds, rest)
 }
 
 fn count_words(rest: &[u8]) -> usize
@@ -50,24 +44,87 @@ fn count_words(rest: &[u8]) -> usize
     count
 }
 
-fn all_shaped(hci: bool, kinds: &[Kind], rest: &[u8]) -> bool
-    ensures { result ≡ list_all (λ s. has_shape hci s.kind s.word) (slots kinds.now (words rest.now)) }
+/// What is seen of the words behind the first one: whether all have their shapes, and the first that has wrong digits or
+/// names an unknown host.
+#[derive(Clone, Copy)]
+struct Seen {
+    shaped: bool,
+    digits: Option<LineFault>,
+    host: Option<u8>,
+}
+
+fn look_over(hci: bool, hosts: &[u8], kinds: &[Kind], rest: &[u8]) -> Seen
+    requires { length rest.now ≤ 9000 }
+    ensures shaped { result.shaped ≡ list_all (λ s. has_shape hci s.kind s.word) (slots kinds.now (words rest.now)) }
+    ensures digits { result.digits ≡ first_digits_fault 2 0 (slots kinds.now (words rest.now)) }
+    ensures host { result.host ≡ first_host_fault hosts.now 0 (slots kinds.now (words rest.now)) }
 {
     let mut coming = kinds;
     let mut left = rest;
+    let mut at = 2;
+    let mut from = 0;
+    let mut seen = Seen {
+        shaped: true,
+        digits: None,
+        host: None,
+    };
     'words: while let Some((word, more)) = next_word(left) {
         let Some((kind, others)) = coming.split_first() else {
-            return true;
+            return seen;
         };
-        if !shaped(hci, *kind, word) {
-            return false;
-        }
+        seen = seen_with(seen, hci, hosts, at, from, *kind, word);
+        from = rising(from, *kind, word);
         if !others.is_empty() {
             coming = others;
         }
         left = more;
+        at += 1;
     }
-    true
+    seen
+}
+
+fn seen_with(
+    seen: Seen,
+    hci: bool,
+    hosts: &[u8],
+    at: u32,
+    from: u32,
+    kind: Kind,
+    word: &[u8],
+) -> Seen
+    ensures shaped { result.shaped ≡ (seen.shaped && has_shape hci kind word.now) }
+    ensures digits { result.digits ≡ option_or seen.digits (digits_fault at from kind word.now) }
+    ensures host { result.host ≡ option_or seen.host (host_fault hosts.now from kind word.now) }
+{
+    Seen {
+        shaped: seen.shaped && shaped(hci, kind, word),
+        digits: digits_or(seen.digits, at, from, kind, word),
+        host: host_or(seen.host, hosts, from, kind, word),
+    }
+}
+
+fn digits_or(
+    found: Option<LineFault>,
+    at: u32,
+    from: u32,
+    kind: Kind,
+    word: &[u8],
+) -> Option<LineFault>
+    ensures { result ≡ option_or found (digits_fault at from kind word.now) }
+{
+    match found {
+        Some(fault) => Some(fault),
+        None => wrong_digits(at, from, kind, word),
+    }
+}
+
+fn host_or(found: Option<u8>, hosts: &[u8], from: u32, kind: Kind, word: &[u8]) -> Option<u8>
+    ensures { result ≡ option_or found (host_fault hosts.now from kind word.now) }
+{
+    match found {
+        Some(host) => Some(host),
+        None => unknown_host(hosts, from, kind, word),
+    }
 }
 
 fn shaped(hci: bool, kind: Kind, word: &[u8]) -> bool
@@ -87,29 +144,6 @@ fn shaped(hci: bool, kind: Kind, word: &[u8]) -> bool
         | Kind::Number { .. }
         | Kind::Rising { .. } => true,
     }
-}
-
-fn first_wrong_digits(kinds: &[Kind], rest: &[u8]) -> Option<LineFault>
-    requires { length rest.now ≤ 9000 }
-    ensures { result ≡ first_digits_fault 2 0 (slots kinds.now (words rest.now)) }
-{
-    let mut coming = kinds;
-    let mut left = rest;
-    let mut at = 2;
-    let mut from = 0;
-    'words: while let Some((word, more)) = next_word(left) {
-        let (kind, others) = coming.split_first()?;
-        if let Some(fault) = wrong_digits(at, from, *kind, word) {
-            return Some(fault);
-        }
-        from = rising(from, *kind, word);
-        if !others.is_empty() {
-            coming = others;
-        }
-        left = more;
-        at += 1;
-    }
-    None
 }
 
 fn wrong_digits(at: u32, from: u32, kind: Kind, word: &[u8]) -> Option<LineFault>
@@ -173,26 +207,6 @@ fn is_hex(digit: u8) -> bool
     ensures { result ≡ is_hex_digit digit }
 {
     matches!(digit, b'A'..=b'F' | b'a'..=b'f' | b'0'..=b'9')
-}
-
-fn first_unknown_host(hosts: &[u8], kinds: &[Kind], rest: &[u8]) -> Option<u8>
-    ensures { result ≡ first_host_fault hosts.now 0 (slots kinds.now (words rest.now)) }
-{
-    let mut coming = kinds;
-    let mut left = rest;
-    let mut from = 0;
-    'words: while let Some((word, more)) = next_word(left) {
-        let (kind, others) = coming.split_first()?;
-        if let Some(id) = unknown_host(hosts, from, *kind, word) {
-            return Some(id);
-        }
-        from = rising(from, *kind, word);
-        if !others.is_empty() {
-            coming = others;
-        }
-        left = more;
-    }
-    None
 }
 
 fn unknown_host(hosts: &[u8], from: u32, kind: Kind, word: &[u8]) -> Option<u8>
