@@ -111,7 +111,13 @@ abbrev pub is_empty : List (List ℕ) → Bool
 is_empty [] = true
 is_empty (lpdu ∷ lpdus) = false
 
--- why a line is refused: the first cause that applies
+-- the program plays the lines `send` and `deliver`
+abbrev pub is_played : Line → Bool
+is_played (Send e pid message) = true
+is_played (Deliver e count) = true
+is_played _ = false
+
+-- Why a line is refused: the first cause that applies. A line that isn't played stands in no history.
 abbrev pub refusal : List Entry → Line → Option NoCause
 refusal t (Send e pid message) =
     or_else (not_up (session_of t e))
@@ -119,16 +125,18 @@ refusal t (Send e pid message) =
     (refused_if (nat_lt (spare_in t e (number_at t e)) (blocks_of (length message)))
     (Full (blocks_of (length message)) (spare_in t e (number_at t e)))))
 refusal t (Deliver e count) = refused_if (is_empty (wire_to t e)) Empty
+refusal t _ = None
 
 -- the frames that a `deliver` line takes of those on the wire when it begins: the first ones, or all
 abbrev pub first_of : Option ℕ → List (List ℕ) → List (List ℕ)
 first_of None wire = wire
 first_of (Some n) wire = take n wire
 
--- the events of a line that isn't refused
+-- The events of a line that isn't refused. One that isn't played stands in no history.
 abbrev pub caused_by : List Entry → Line → List Event
 caused_by t (Send e pid message) = sent_event t e pid message ∷ []
 caused_by t (Deliver e count) = took_events t e (first_of count (wire_to t e))
+caused_by t _ = []
 
 -- what becomes of a line
 abbrev pub outcome_of : List Entry → Line → Outcome

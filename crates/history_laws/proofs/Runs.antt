@@ -11,7 +11,7 @@ use Rattle.trace_model.specs.declared.entry.NoCause.{NoCause}
 use Rattle.trace_model.specs.declared.line.End.{End}
 use Rattle.trace_model.specs.declared.line.Header.{Header}
 use Rattle.trace_model.specs.declared.line.Line.{Line}
-use Rattle.trace_model.specs.declared.line.Line.TheVariants.{Send, Deliver}
+use Rattle.trace_model.specs.declared.line.Line.TheVariants.{Send, Deliver, Lose, Damage, Tick, Reset, Busy, Ready, Boot, Cut, Activate, Arm, Init, Tables}
 use Rattle.trace_model.specs.Ends.{other_end}
 use Rattle.trace_model.specs.Lines.{IsLineOf}
 use Rattle.history.specs.Histories.{Event, Outcome, Step, Refused, Caused, events_of, entries_of}
@@ -173,6 +173,18 @@ keep_line laws header t line valid h = go (refusal t line)
     caused (Send e pid message) valid' = keep_sent laws t e pid message valid'.pipe valid'.some h
     caused (Deliver e None) valid' = keep_took laws t e (wire_to t e) [] (sym (append-nil (wire_to t e))) h
     caused (Deliver e (Some n)) valid' = keep_took laws t e (take n (wire_to t e)) (drop n (wire_to t e)) (sym (take-append-drop n (wire_to t e))) h
+    caused (Lose e) valid' = keep_none t h
+    caused (Damage e places) valid' = keep_none t h
+    caused (Tick times) valid' = keep_none t h
+    caused (Reset e window) valid' = keep_none t h
+    caused (Busy e) valid' = keep_none t h
+    caused (Ready e) valid' = keep_none t h
+    caused (Boot node) valid' = keep_none t h
+    caused (Cut node) valid' = keep_none t h
+    caused (Activate host sync power) valid' = keep_none t h
+    caused (Arm node nth fill) valid' = keep_none t h
+    caused (Init e identity pipes) valid' = keep_none t h
+    caused (Tables node) valid' = keep_none t h
 
     decided : Option NoCause → Outcome
     decided (Some cause) = Refused cause

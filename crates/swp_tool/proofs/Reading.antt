@@ -18,7 +18,7 @@ use Rattle.swp_tool.specs.declared.replay.Replay.{Replay}
 use Rattle.swp_tool.specs.declared.replay.Halt.{Halt}
 use Rattle.swp_tool.specs.declared.replay.Halt.TheVariants as halt
 use Rattle.swp_tool.specs.declared.pieces.Pieces.{Pieces}
-use Rattle.swp_tool.specs.Schedules.{Stop, AtFault, Too_many, Schedule, nothing_read, with_said, with_line, with_lines, ended, schedule_of}
+use Rattle.swp_tool.specs.Schedules.{Stop, AtFault, Too_many, Schedule, nothing_read, with_said, as_played, said_by, with_line, with_lines, ended, schedule_of}
 use Rattle.swp_tool.specs.Transcripts.{IsTextOf, IsTranscript, done_line}
 use Rattle.swp_tool.specs.Replays.{IsAt, HasPlayed, HaltsAt}
 use Rattle.swp_tool.specs.Pieces.{LacksLineFeed, ended_line, AllLackLineFeed, schedule_so_far, HasRead, IsReading, IsFrontTranscript, StopsAt, Halts, HaltsAtEnd, schedule_read, IsCompleteTranscript}
@@ -57,7 +57,7 @@ pub record StopsThere (s s' : Schedule) : Type 0 where
 pub stops_there : (s : Schedule) (why : Stop) (bytes : List ℕ) → s.stop ≡ None → (with_line s bytes).stop ≡ Some why → StopsThere s (with_line s bytes)
 stops_there s why bytes running stop =
     (let P : Option Stop → Type 0 = λ o. (with_line (record s { stop = o }) bytes).stop ≡ Some why → StopsThere s (with_line (record s { stop = o }) bytes) in
-    subst P (sym running) (go (eqb s.count 20000) (line_of s.header bytes))) stop
+    subst P (sym running) (go (eqb s.count 20000) (said_by s.header bytes))) stop
   where
     go : (b : Bool) (r : Result Read LineFault)
         → (cond b (record s { count = s.count + 1; stop = Some Too_many }) (with_said (record s { stop = None }) r)).stop ≡ Some why
@@ -145,7 +145,7 @@ halts_too_many p bytes written byte reading full h = λ rest.
     at_limit s line running count =
         let P : Option Stop → Type 0 = λ o. (with_line (record s { stop = o }) line).stop ≡ Some Too_many in
         subst P (sym running)
-        (ap (λ b. (cond b (record s { count = s.count + 1; stop = Some Too_many }) (with_said (record s { stop = None }) (line_of s.header line))).stop) (ap (λ n. eqb n 20000) count))
+        (ap (λ b. (cond b (record s { count = s.count + 1; stop = Some Too_many }) (with_said (record s { stop = None }) (said_by s.header line))).stop) (ap (λ n. eqb n 20000) count))
 
 pub halts_too_long : (p : Pieces) (bytes written : List ℕ) (byte : ℕ) → p.replay.count < 20000 → 9000 < length p.partial.items → (eqb byte 10 ≡ false) → HasRead p bytes written
     → Halts (halt.Fault fault.TooLong) p.replay.count (bytes ++ byte ∷ []) (written ++ p.replay.text.items)
@@ -166,8 +166,8 @@ halts_too_long p bytes written byte room long other h = λ rest.
         let fault_is : line_of s.header line ≡ Err fault.TooLong =
         ap (λ b. cond b (Err fault.TooLong) (by_words s.header (words line))) (let l : ltb 9000 (length line) ≡ true = grind (arith, common_steps) in l) in
         subst P (sym running)
-        (ap (λ b. (cond b (record s { count = s.count + 1; stop = Some Too_many }) (with_said (record s { stop = None }) (line_of s.header line))).stop) below
-        ∙ ap (λ r. (with_said (record s { stop = None }) r).stop) fault_is)
+        (ap (λ b. (cond b (record s { count = s.count + 1; stop = Some Too_many }) (with_said (record s { stop = None }) (said_by s.header line))).stop) below
+        ∙ ap (λ r. (with_said (record s { stop = None }) (as_played r)).stop) fault_is)
 
 -- ## A line that has ended
 

@@ -9,6 +9,7 @@ use Rattle.schedule_text.specs.declared.fault.LineFault.TheVariants as fault
 use Rattle.schedule_text.specs.declared.read.Read.{Read}
 use Rattle.schedule_text.specs.declared.read.Read.TheVariants as read
 use Rattle.schedule_text.specs.Lines.{line_of}
+use Rattle.history.specs.Follows.{is_played}
 
 -- why bytes stop being a schedule: a line is outside the forms, or one line more begins than a schedule may have
 pub data Stop : Type 0 where
@@ -38,6 +39,18 @@ with_said s (Ok (read.Header header)) = record s { header = Some header; count =
 with_said s (Ok (read.Line line)) = record s { lines = s.lines ++ line ∷ []; count = s.count + 1 }
 with_said s (Ok read.NoMemory) = s
 
+-- a line that the program doesn't play yet is told as one with an unknown word
+abbrev pub as_played : Result Read LineFault → Result Read LineFault
+as_played (Ok (read.Line line)) = if is_played line then Ok (read.Line line) else Err fault.Word
+as_played (Ok read.Skip) = Ok read.Skip
+as_played (Ok (read.Header header)) = Ok (read.Header header)
+as_played (Ok read.NoMemory) = Ok read.NoMemory
+as_played (Err f) = Err f
+
+-- what a line says to the program
+abbrev pub said_by : Option Header → List ℕ → Result Read LineFault
+said_by header bytes = as_played (line_of header bytes)
+
 -- a schedule with one line more; behind a line at which it stopped nothing is read
 abbrev pub with_line : Schedule → List ℕ → Schedule
 with_line s bytes = unless s.stop where
@@ -46,7 +59,7 @@ with_line s bytes = unless s.stop where
   unless None =
       if s.count == most_lines
       then record s { count = s.count + 1; stop = Some Too_many }
-      else with_said s (line_of s.header bytes)
+      else with_said s (said_by s.header bytes)
 
 abbrev pub with_lines : Schedule → List (List ℕ) → Schedule
 with_lines s bytes = fold with_line s bytes

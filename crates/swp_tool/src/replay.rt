@@ -1,12 +1,12 @@
 //! The lines of a schedule are played one by one, and the transcript is gathered.
-ghost use Rattle.std.specs.Prelude.{◌≡◌, ◌+◌, ◌<◌, ◌++◌, ◌∷◌, [], List, ℕ, Ok, None, OnOk, OnErr, IfOk, IfErr, IsSomeAnd, ◌⊎◌, ◌≢◌};
+ghost use Rattle.std.specs.Prelude.{◌≡◌, ◌+◌, ◌<◌, ◌++◌, ◌∷◌, [], List, ℕ, Ok, None, OnOk, OnErr, IfOk, IfErr, IsSomeAnd, IsTrue, ◌⊎◌, ◌≢◌};
 ghost use Rattle.trace_model.specs.declared.line.Header.{Header};
 ghost use Rattle.trace_model.specs.declared.line.Line.{Line};
 ghost use Rattle.trace_model.specs.Lines.{IsHeader, IsLineOf};
 ghost use Rattle.swp_tool.specs.Schedules.{Schedule, with_line, with_said, nothing_read};
 ghost use Rattle.swp_tool.specs.Replays.{Runs, WasStepped, HasPlayed, HasFew, HaltsAt};
 ghost use Rattle.swp_tool.specs.Transcripts.{text_of, done_line};
-ghost use Rattle.history.specs.Follows.{opened};
+ghost use Rattle.history.specs.Follows.{is_played, opened};
 ghost use Rattle.world.specs.Worlds.{StandsFor, HasRoom};
 
 use crate::transcript::note;
@@ -100,7 +100,13 @@ impl Replay {
                 Ok(())
             }
             Ok(Read::Header(header)) => self.begin(alloc, &header),
-            Ok(Read::Line(line)) => self.go_on(alloc, line),
+            Ok(Read::Line(line)) => {
+                if is_played(&line) {
+                    self.go_on(alloc, line)
+                } else {
+                    Err(Halt::Fault(LineFault::Word))
+                }
+            }
         }
     }
 
@@ -125,6 +131,7 @@ impl Replay {
     /// Steps the world by the next line, which is one below the header.
     fn go_on(&mut self, alloc: Global, line: Line) -> Result<(), Halt>
         requires world { IsSomeAnd self.old.world (λ w. IsLineOf w.header line) }
+        requires plays { IsTrue (is_played line) }
         requires few { HasFew self.old }
         requires next { self.old.count < 20000 }
         ensures played { OnOk result ((s : Schedule) (written : List ℕ) → HasPlayed self.old s written
@@ -158,6 +165,13 @@ impl Replay {
             Err(_) => Err(Halt::NoMemory),
         }
     }
+}
+
+/// Whether the program plays a line: `send` and `deliver` so far.
+fn is_played(line: &Line) -> bool
+    ensures { result ≡ is_played line.now }
+{
+    matches!(line, Line::Send { .. } | Line::Deliver { .. })
 }
 
 /// Appends the last line of a transcript. Where there is no memory, the text stays as it was.
@@ -197,6 +211,7 @@ fn echo_of(header: &Header) -> Result<Entry, NoMemory>
 /// Steps a world by a line, and gathers the text of the line and of what it caused.
 fn step(alloc: Global, world: &mut World, line: Line, text: &mut Vec<u8>) -> Result<(), Halt>
     requires line { IsLineOf world.old.header line }
+    requires plays { IsTrue (is_played line) }
     requires room { HasRoom world.old }
     ensures runs { OnOk result ((header : Header) (lines : List Line) (before : List ℕ) → Runs world.old header lines (before ++ text.old.items)
         → Runs world.new header (lines ++ line ∷ []) (before ++ text.new.items)) }

@@ -1,19 +1,19 @@
 -- The world stands for the history of its header, and for a history with one line more.
 use Rattle.std.proofs.Common.{◌≡◌, ℕ, zero, suc, ◌+◌, ◌<◌, ◌≤◌, Bool, true, false, List, [], ◌∷◌, ◌++◌, length, refl, sym, ap, ◌∙◌, arith, subst, length-append}
-use Rattle.std.specs.Prelude.{Some, None, slice_index, slice_index_or, if◌then◌else◌}
+use Rattle.std.specs.Prelude.{Some, None, IsTrue, slice_index, slice_index_or, if◌then◌else◌}
 use Rattle.std.specs.List.{AllByRecursion, flat_map, Contains}
 use Rattle.trace_model.specs.declared.entry.Entry.{Entry}
 use Rattle.trace_model.specs.declared.entry.Entry.TheVariants.{Up}
 use Rattle.trace_model.specs.declared.line.End.{End}
 use Rattle.trace_model.specs.declared.line.Header.{Header}
 use Rattle.trace_model.specs.declared.line.Line.{Line}
-use Rattle.trace_model.specs.declared.line.Line.TheVariants.{Send, Deliver}
+use Rattle.trace_model.specs.declared.line.Line.TheVariants.{Send, Deliver, Lose, Damage, Tick, Reset, Busy, Ready, Boot, Cut, Activate, Arm, Init, Tables}
 use Rattle.trace_model.specs.Ends.{other_end}
 use Rattle.trace_model.specs.Lines.{IsHeader, IsLineOf}
 use Rattle.history.specs.Histories.{History, events_of, entries_of, all_entries}
 use Rattle.history.specs.Filters.{Message, session_of, same_end, wire_to, sent_in, acked_in}
 use Rattle.history.specs.LinkMachine.{bare_end}
-use Rattle.history.specs.Follows.{machine_at, Follows, outcome_of, opened, with_step}
+use Rattle.history.specs.Follows.{is_played, machine_at, Follows, outcome_of, opened, with_step}
 use Rattle.history.specs.Legal.{Legal}
 use Rattle.history.proofs.Grow.{all_entries-step, follows_grow, follows_opened}
 use Rattle.history_laws.proofs.Ends.{same_end_self}
@@ -121,16 +121,32 @@ only_host (h ∷ []) x one has = go has.0 has.1 has.2
     go (suc k) within is = absurd (omega arith)
 only_host (h ∷ i ∷ hosts) x one has = absurd (omega (arith, one))
 
-link_is : (header : Header) (line : Line) → IsHeader header → IsLineOf header line → (end_of_line line).link ≡ slice_index header.hosts.items 0
-link_is header (Send e pid message) h is = only_host header.hosts.items e.link h.one is.known
-link_is header (Deliver e count) h is = only_host header.hosts.items e.link h.one is.0
+-- a line that the program plays
+abbrev pub IsPlayed : Header → Line → Type 0
+IsPlayed header line = IsLineOf header line × IsTrue (is_played line)
+
+link_is : (header : Header) (line : Line) → IsHeader header → IsPlayed header line → (end_of_line line).link ≡ slice_index header.hosts.items 0
+link_is header (Send e pid message) h is = only_host header.hosts.items e.link h.one is.0.known
+link_is header (Deliver e count) h is = only_host header.hosts.items e.link h.one is.0.0
+link_is header (Lose e) h is = (let z : false ≡ true = is.1 in cc)
+link_is header (Damage e places) h is = (let z : false ≡ true = is.1 in cc)
+link_is header (Tick times) h is = (let z : false ≡ true = is.1 in cc)
+link_is header (Reset e window) h is = (let z : false ≡ true = is.1 in cc)
+link_is header (Busy e) h is = (let z : false ≡ true = is.1 in cc)
+link_is header (Ready e) h is = (let z : false ≡ true = is.1 in cc)
+link_is header (Boot node) h is = (let z : false ≡ true = is.1 in cc)
+link_is header (Cut node) h is = (let z : false ≡ true = is.1 in cc)
+link_is header (Activate host sync power) h is = (let z : false ≡ true = is.1 in cc)
+link_is header (Arm node nth fill) h is = (let z : false ≡ true = is.1 in cc)
+link_is header (Init e identity pipes) h is = (let z : false ≡ true = is.1 in cc)
+link_is header (Tables node) h is = (let z : false ≡ true = is.1 in cc)
 
 -- the end of a line is the controller's or the host's
-pub host_is : (header : Header) (line : Line) → IsHeader header → IsLineOf header line → (end_of_line line).at_host ≡ true → other_end (controller_end header) ≡ end_of_line line
+pub host_is : (header : Header) (line : Line) → IsHeader header → IsPlayed header line → (end_of_line line).at_host ≡ true → other_end (controller_end header) ≡ end_of_line line
 host_is header line h is at_host =
     sym (ap (λ l. record { link = l; at_host = (end_of_line line).at_host }) (link_is header line h is) ∙ ap (λ b. record { link = slice_index header.hosts.items 0; at_host = b }) at_host)
 
-pub controller_is : (header : Header) (line : Line) → IsHeader header → IsLineOf header line → (end_of_line line).at_host ≡ false → controller_end header ≡ end_of_line line
+pub controller_is : (header : Header) (line : Line) → IsHeader header → IsPlayed header line → (end_of_line line).at_host ≡ false → controller_end header ≡ end_of_line line
 controller_is header line h is at_host =
     sym (ap (λ l. record { link = l; at_host = (end_of_line line).at_host }) (link_is header line h is) ∙ ap (λ b. record { link = slice_index header.hosts.items 0; at_host = b }) at_host)
 
@@ -141,26 +157,26 @@ swapped header near far t h = record { here = h.there; there = h.here }
 swapped_back : (header : Header) (near far : Side) (t : List Entry) → BothStandFor far near (other_end (controller_end header)) t → BothStandFor near far (controller_end header) t
 swapped_back header near far t h = record { here = h.there; there = h.here }
 
-pub seen_from_host : (w : World) (header : Header) (lines : List Line) (t : History) (line : Line) → StandsFor w header lines t → IsLineOf header line → (end_of_line line).at_host ≡ true
+pub seen_from_host : (w : World) (header : Header) (lines : List Line) (t : History) (line : Line) → StandsFor w header lines t → IsPlayed header line → (end_of_line line).at_host ≡ true
     → BothStandFor w.host w.controller (end_of_line line) (all_entries t)
 seen_from_host w header lines t line h is at_host =
     let P : End → Type 0 = λ e. BothStandFor w.host w.controller e (all_entries t) in
     subst P (host_is header line h.is_header is at_host) (swapped header w.controller w.host (all_entries t) h.both)
 
-pub seen_from_controller : (w : World) (header : Header) (lines : List Line) (t : History) (line : Line) → StandsFor w header lines t → IsLineOf header line → (end_of_line line).at_host ≡ false
+pub seen_from_controller : (w : World) (header : Header) (lines : List Line) (t : History) (line : Line) → StandsFor w header lines t → IsPlayed header line → (end_of_line line).at_host ≡ false
     → BothStandFor w.controller w.host (end_of_line line) (all_entries t)
 seen_from_controller w header lines t line h is at_host =
     let P : End → Type 0 = λ e. BothStandFor w.controller w.host e (all_entries t) in
     subst P (controller_is header line h.is_header is at_host) h.both
 
-step_stands : Law → (w now : World) (header : Header) (lines : List Line) (t : History) (line : Line) → StandsFor w header lines t → IsLineOf header line → now.header ≡ w.header
+step_stands : Law → (w now : World) (header : Header) (lines : List Line) (t : History) (line : Line) → StandsFor w header lines t → IsPlayed header line → now.header ≡ w.header
     → BothStandFor now.controller now.host (controller_end header) (all_entries t ++ entries_of (events_of (outcome_of (all_entries t) line)))
     → now.controller.sent ≤ w.controller.sent + 1 → now.host.sent ≤ w.host.sent + 1
     → StandsFor now header (lines ++ line ∷ []) (with_step t line)
 step_stands law w now header lines t line h is header_is both controller_sent host_sent =
     let P : List Entry → Type 0 = λ l. BothStandFor now.controller now.host (controller_end header) l in
     let follows = follows_grow header lines t line h.follows in
-    let lines_are = all_append (IsLineOf header) lines (line ∷ []) h.lines_are (is, tt) in
+    let lines_are = all_append (IsLineOf header) lines (line ∷ []) h.lines_are (is.0, tt) in
     let more : length (lines ++ line ∷ []) ≡ length lines + 1 = length-append lines (line ∷ []) in
     record {
       header_is = header_is ∙ h.header_is;
@@ -173,7 +189,7 @@ step_stands law w now header lines t line h is header_is both controller_sent ho
       host_sent = omega (arith, host_sent, h.host_sent, more);
     }
 
-pub host_steps : Law → (w now : World) (header : Header) (lines : List Line) (t : History) (line : Line) (entries : List Entry) → StandsFor w header lines t → IsLineOf header line → now.header ≡ w.header
+pub host_steps : Law → (w now : World) (header : Header) (lines : List Line) (t : History) (line : Line) (entries : List Entry) → StandsFor w header lines t → IsPlayed header line → now.header ≡ w.header
     → (end_of_line line).at_host ≡ true → Does now.host now.controller (end_of_line line) (all_entries t) entries (outcome_of (all_entries t) line)
     → now.controller.sent ≡ w.controller.sent → now.host.sent ≤ w.host.sent + 1
     → StandsFor now header (lines ++ line ∷ []) (with_step t line)
@@ -183,7 +199,7 @@ host_steps law w now header lines t line entries h is header_is at_host does con
     step_stands law w now header lines t line h is header_is
     (swapped_back header now.controller now.host after (subst P (sym (host_is header line h.is_header is at_host)) does.both)) (omega (arith, controller_sent)) host_sent
 
-pub controller_steps : Law → (w now : World) (header : Header) (lines : List Line) (t : History) (line : Line) (entries : List Entry) → StandsFor w header lines t → IsLineOf header line → now.header ≡ w.header
+pub controller_steps : Law → (w now : World) (header : Header) (lines : List Line) (t : History) (line : Line) (entries : List Entry) → StandsFor w header lines t → IsPlayed header line → now.header ≡ w.header
     → (end_of_line line).at_host ≡ false → Does now.controller now.host (end_of_line line) (all_entries t) entries (outcome_of (all_entries t) line)
     → now.controller.sent ≤ w.controller.sent + 1 → now.host.sent ≡ w.host.sent
     → StandsFor now header (lines ++ line ∷ []) (with_step t line)

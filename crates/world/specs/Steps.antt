@@ -1,5 +1,5 @@
 -- What an event or a line adds to a history and to what is noted.
-use Rattle.std.specs.Prelude.{◌≡◌, List, ◌++◌}
+use Rattle.std.specs.Prelude.{◌≡◌, false, List, ◌++◌}
 use Rattle.trace_model.specs.declared.entry.Entry.{Entry}
 use Rattle.trace_model.specs.declared.line.End.{End}
 use Rattle.trace_model.specs.declared.line.Line.{Line}
@@ -18,7 +18,8 @@ pub record Does (near far : Side) (e : End) (t : List Entry) (entries_now : List
   pub both : BothStandFor near far e (t ++ entries_of (events_of outcome))
   pub entries_are : entries_now ≡ noted outcome
 
--- the end that a line speaks of
+-- the end that a line speaks of, where it is played
 abbrev pub end_of_line : Line → End
 end_of_line (Send e pid message) = e
 end_of_line (Deliver e count) = e
+end_of_line _ = record { link = 0; at_host = false }

@@ -1,12 +1,12 @@
 //! What the two ends of a link do at one line of the schedule.
-ghost use Rattle.std.specs.Prelude.{◌≡◌, ℕ, ◌+◌, ◌-◌, ◌/◌, ◌<◌, ◌≤◌, ◌^◌, [], List, length, take, OnOk, IfNone};
+ghost use Rattle.std.specs.Prelude.{◌≡◌, ℕ, ◌+◌, ◌-◌, ◌/◌, ◌<◌, ◌≤◌, ◌^◌, [], List, length, take, OnOk, IfNone, IsTrue};
 ghost use Rattle.trace_model.specs.declared.End.{End};
 ghost use Rattle.trace_model.specs.declared.Entry.{Entry};
 ghost use Rattle.trace_model.specs.declared.Line.{Line};
 ghost use Rattle.trace_model.specs.declared.Header.{Header};
 ghost use Rattle.trace_model.specs.Lines.{IsLineOf};
 ghost use Rattle.history.specs.Filters.{blocks_of};
-ghost use Rattle.history.specs.Follows.{refusal, first_of, outcome_of};
+ghost use Rattle.history.specs.Follows.{refusal, first_of, outcome_of, is_played};
 ghost use Rattle.world.specs.Sides.{SideStandsFor, BothStandFor};
 ghost use Rattle.world.specs.Steps.{Does, end_of_line};
 
@@ -110,12 +110,19 @@ pub(crate) fn deliver_line(
     take_frames(alloc, at, frame_count(count, on_wire), near, far, entries)
 }
 
-/// The end that a line speaks of.
+/// Stands for the end of a line that isn't played.
+const NO_END: End = End {
+    link: 0,
+    at_host: false,
+};
+
+/// The end that a line speaks of, where it is played.
 pub(crate) fn end_of(line: &Line) -> End
     ensures { result ≡ end_of_line line.now }
 {
     match line {
         Line::Send { at, .. } | Line::Deliver { at, .. } => *at,
+        _ => NO_END,
     }
 }
 
@@ -129,6 +136,7 @@ pub(crate) fn line_step(
 ) -> Result<(), AllocError>
     requires state { (t : List Entry) × BothStandFor near.old far.old (end_of_line line.now) t }
     requires line { (header : Header) × IsLineOf header line.now }
+    requires played { IsTrue (is_played line.now) }
     requires room { near.old.sent + 1 < 2 ^ 32 }
     requires nothing { entries.old.items ≡ [] }
     ensures stands { (t : List Entry) → BothStandFor near.old far.old (end_of_line line.now) t
@@ -138,5 +146,6 @@ pub(crate) fn line_step(
     match line {
         Line::Send { at, pid, message } => send_line(*at, near, far, *pid, message, entries),
         Line::Deliver { at, count } => deliver_line(alloc, *at, near, far, *count, entries),
+        _ => Ok(()),
     }
 }

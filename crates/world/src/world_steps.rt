@@ -1,10 +1,10 @@
 //! The world, line by line.
-ghost use Rattle.std.specs.Prelude.{◌≡◌, [], ◌∷◌, ◌++◌, List, OnOk, IfOk, false, true};
+ghost use Rattle.std.specs.Prelude.{◌≡◌, [], ◌∷◌, ◌++◌, List, OnOk, IfOk, IsTrue, false, true};
 ghost use Rattle.trace_model.specs.declared.Entry.{Entry};
 ghost use Rattle.trace_model.specs.declared.Line.{Line};
 ghost use Rattle.trace_model.specs.Lines.{IsHeader, IsLineOf};
 ghost use Rattle.history.specs.Histories.{History, all_entries, noted};
-ghost use Rattle.history.specs.Follows.{opening_of, outcome_of, opened, with_step};
+ghost use Rattle.history.specs.Follows.{opening_of, outcome_of, opened, with_step, is_played};
 
 use crate::line_steps::{end_of, line_step};
 use crate::side::{SESSION, Side};
@@ -58,7 +58,7 @@ impl World {
         })
     }
 
-    /// Does what a line asks for, or refuses it. Fewer than 20,000 lines were stepped before.
+    /// Does what a line `send` or `deliver` asks for, or refuses it. Fewer than 20,000 lines were stepped before.
     ///
     /// # Errors
     ///
@@ -66,6 +66,7 @@ impl World {
     pub fn step(&mut self, alloc: Global, line: &Line) -> Result<(), WorldFault>
         requires room { HasRoom self.old }
         requires line { IsLineOf self.old.header line.now }
+        requires played { IsTrue (is_played line.now) }
         ensures stands { (lines : List Line) (t : History) → StandsFor self.old self.old.header lines t
             → OnOk result (StandsFor self.new self.old.header (lines ++ line.now ∷ []) (with_step t line.now)) }
         ensures entries { (lines : List Line) (t : History) → StandsFor self.old self.old.header lines t
