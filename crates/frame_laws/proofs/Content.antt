@@ -4,14 +4,14 @@ use Rattle.std.proofs.lemmas.List.{length-map}
 use Rattle.swp_base.specs.Bits.{bits_of}
 use Rattle.swp_base.specs.DataUnits.{IsLpdu}
 use Rattle.swp_crc.specs.Crc.{remainder_of, crc_of}
-use Rattle.swp_crc.specs.Running.{running_of}
 use Rattle.swp_crc.proofs.Numbers.{number_of-lt}
 use Rattle.swp_crc.proofs.Steps.{length-remainder}
 use Rattle.swp_frame.specs.declared.fed.Fed.TheVariants.{Frame}
 use Rattle.swp_frame.specs.Stuffing.{with_crc}
-use Rattle.swp_frame.specs.Content.{judged, judged_bytes}
-use Rattle.swp_frame.specs.Kept.{AreBytes, KeepsBits}
-use Rattle.swp_frame.proofs.ContentLemmas.{length-bits_of, whole_bytes, judged_whole, crc_is_right}
+use Rattle.swp_frame.specs.Content.{judged, judged_bytes, bytes_of}
+use Rattle.swp_frame.specs.Kept.{AreBytes}
+use Rattle.swp_frame.proofs.ContentLemmas.{length-bits_of, bytes_in_front, judged_whole, crc_is_right}
+use Rattle.swp_frame.proofs.WritingLemmas.{take_all}
 
 crc_small : (lpdu : List ℕ) → crc_of lpdu < 65536
 crc_small lpdu =
@@ -57,7 +57,7 @@ right_bytes lpdu crc is =
 pub right_content : (lpdu : List ℕ) → IsLpdu lpdu → AreBytes lpdu → judged (bits_of (with_crc lpdu)) ≡ Frame lpdu
 right_content lpdu sized bytes =
     judged_whole (bits_of (with_crc lpdu)) (omega (arith, long, sized.0)) (omega (arith, long, sized.1)) whole
-    ∙ ap judged_bytes (whole_bytes (with_crc lpdu) 0 (running_of (take (length (with_crc lpdu) - 2) (with_crc lpdu))) (bits_of (with_crc lpdu)) kept whole)
+    ∙ ap judged_bytes spelled
     ∙ right_bytes lpdu (crc_of lpdu) refl
   where
     long : length (bits_of (with_crc lpdu)) ≡ 8 * (length lpdu + 2)
@@ -69,12 +69,10 @@ right_content lpdu sized bytes =
     high_small : crc_of lpdu / 256 < 256
     high_small = omega (arith, crc_small lpdu)
 
-    kept : KeepsBits (with_crc lpdu) 0 (running_of (take (length (with_crc lpdu) - 2) (with_crc lpdu))) (bits_of (with_crc lpdu))
-    kept = record {
-      rest = [];
-      whole = sym (append-nil (bits_of (with_crc lpdu)));
-      short = omega arith;
-      number = refl;
-      in_range = bytes_with lpdu (crc_of lpdu / 256) (crc_of lpdu % 256) bytes high_small (omega arith);
-      running = refl;
-    }
+    in_range : AreBytes (with_crc lpdu)
+    in_range = bytes_with lpdu (crc_of lpdu / 256) (crc_of lpdu % 256) bytes high_small (omega arith)
+
+    spelled : bytes_of (bits_of (with_crc lpdu)) ≡ with_crc lpdu
+    spelled =
+        bytes_in_front (with_crc lpdu) (bits_of (with_crc lpdu)) [] (length (with_crc lpdu)) in_range (sym (append-nil (bits_of (with_crc lpdu)))) (length-bits_of (with_crc lpdu)) (omega arith)
+        ∙ take_all (with_crc lpdu) (length (with_crc lpdu)) (omega arith)

@@ -1,13 +1,14 @@
 -- The lines that come with further bytes.
-use Rattle.std.proofs.Common.{◌≡◌, ℕ, ◌+◌, ◌<◌, Bool, List, [], ◌∷◌, ◌++◌, length, reverse, take, get_or, refl, sym, ap, subst, ◌∙◌, arith, append_assoc, append-nil, length-append}
+use Rattle.std.proofs.Common.{◌≡◌, ℕ, ◌+◌, ◌-◌, ◌<◌, ◌≤◌, Bool, false, List, [], ◌∷◌, ◌++◌, Some, length, reverse, take, drop, get_or, refl, sym, ap, ap₂, subst, ◌∙◌, arith, append_assoc, append-nil, length-append, take-add}
 use Rattle.std.proofs.lemmas.List.{reverse-append, take_more, length-reverse}
-use Rattle.swp_frame.specs.Signal.{HasNoMark}
+use Rattle.swp_frame.specs.Signal.{HasNoMark, symbol_of}
 use Rattle.swp_decode.specs.declared.line.Wire.{Wire}
 use Rattle.swp_decode.specs.declared.line.Wire.TheVariants.{S1, S2}
 use Rattle.swp_decode.specs.Readings.{with_reading, readings_on, AreBits, signal, symbols}
 use Rattle.swp_decode.specs.declared.decoder.Decoder.{Decoder}
 use Rattle.swp_decode.specs.Kept.{ReadsSignal, StandsFor}
 use Rattle.swp_decode.proofs.FurtherBits.{lines_on-quiet}
+use Rattle.swp_decode.proofs.Gathering.{AreBits-take, AreBits-drop, AreBits-at}
 use Rattle.swp_decode.specs.Decoded.{line_with, line_at, lines_on, lines_behind, transcript, record_lines}
 
 -- older bytes with one more behind them
@@ -95,30 +96,6 @@ s1_silent (byte ∷ bytes) older e =
     ap (λ lines. (lines ++ line_at S2 (byte ∷ older)) ++ lines_behind (byte ∷ older) bytes) none.0
     ∙ ap (λ lines. line_at S2 (byte ∷ older) ++ lines) (s1_silent bytes (byte ∷ older) none.1)
 
-s2_silent : (bytes older : List ℕ) → wire_lines S2 older bytes ≡ [] → lines_behind older bytes ≡ wire_lines S1 older bytes
-s2_silent [] older e = refl
-s2_silent (byte ∷ bytes) older e =
-    let none = no_parts (line_at S2 (byte ∷ older)) (wire_lines S2 (byte ∷ older) bytes) e in
-    ap (λ lines. (line_at S1 (byte ∷ older) ++ lines) ++ lines_behind (byte ∷ older) bytes) none.0
-    ∙ ap (λ lines. lines ++ lines_behind (byte ∷ older) bytes) (append-nil (line_at S1 (byte ∷ older)))
-    ∙ ap (λ lines. line_at S1 (byte ∷ older) ++ lines) (s2_silent bytes (byte ∷ older) none.1)
-
--- Where no mark ends with the bits on one wire, the lines that come are those of the other.
-pub lines_of_s2 : (old : Decoder) (bytes older : List ℕ) (first second : List Bool) → AreBits S1 bytes first → AreBits S2 bytes second → StandsFor old older
-    → HasNoMark (symbols (signal S1 older)) first → lines_on S2 old.count second (signal S2 older) ≡ lines_behind older bytes
-lines_of_s2 old bytes older first second s1 s2 stands quiet =
-    let silent = lines_on-quiet S1 (length older) first (signal S1 older) quiet in
-    ap (λ n. lines_on S2 n second (signal S2 older)) stands.count ∙ sym (wire_lines-bits S2 bytes second older s2)
-    ∙ sym (s1_silent bytes older (wire_lines-bits S1 bytes first older s1 ∙ silent))
-
--- the same of the other wire
-pub lines_of_s1 : (old : Decoder) (bytes older : List ℕ) (first second : List Bool) → AreBits S1 bytes first → AreBits S2 bytes second → StandsFor old older
-    → HasNoMark (symbols (signal S2 older)) second → lines_on S1 old.count first (signal S1 older) ≡ lines_behind older bytes
-lines_of_s1 old bytes older first second s1 s2 stands quiet =
-    let silent = lines_on-quiet S2 (length older) second (signal S2 older) quiet in
-    ap (λ n. lines_on S1 n first (signal S1 older)) stands.count ∙ sym (wire_lines-bits S1 bytes first older s1)
-    ∙ sym (s2_silent bytes older (wire_lines-bits S2 bytes second older s2 ∙ silent))
-
 -- Where both readers have read the bits of further bytes, the decoder stands for these too.
 pub stands_behind : (old new : Decoder) (bytes older : List ℕ) (first second : List Bool) → AreBits S1 bytes first → AreBits S2 bytes second → StandsFor old older
     → new.count ≡ old.count + length bytes → ReadsSignal new.s1 (readings_on old.count first (signal S1 older)) → ReadsSignal new.s2 (readings_on old.count second (signal S2 older))
@@ -128,3 +105,53 @@ stands_behind old new bytes older first second s1 s2 stands count reads_s1 reads
   s1 = subst (ReadsSignal new.s1) (ap (λ n. readings_on n first (signal S1 older)) stands.count ∙ sym (signal-bits S1 bytes first older s1)) reads_s1;
   s2 = subst (ReadsSignal new.s2) (ap (λ n. readings_on n second (signal S2 older)) stands.count ∙ sym (signal-bits S2 bytes second older s2)) reads_s2;
 }
+
+-- ---- the first of some bytes that have bits
+
+pub signal_at : (wire : Wire) (bytes older : List ℕ) (bits : List Bool) (n : ℕ) → AreBits wire bytes bits
+    → signal wire (reverse (take n bytes) ++ older) ≡ readings_on (length older) (take n bits) (signal wire older)
+signal_at wire bytes older bits n are = signal-bits wire (take n bytes) (take n bits) older (AreBits-take wire n bytes bits are)
+
+-- no line comes where no mark ends on either wire
+no_lines : (bytes older : List ℕ) (first second : List Bool) → AreBits S1 bytes first → AreBits S2 bytes second
+    → HasNoMark (symbols (signal S1 older)) first → HasNoMark (symbols (signal S2 older)) second → lines_behind older bytes ≡ []
+no_lines bytes older first second s1 s2 quiet_s1 quiet_s2 =
+    s1_silent bytes older (wire_lines-bits S1 bytes first older s1 ∙ lines_on-quiet S1 (length older) first (signal S1 older) quiet_s1)
+    ∙ wire_lines-bits S2 bytes second older s2 ∙ lines_on-quiet S2 (length older) second (signal S2 older) quiet_s2
+
+pub lines_between : (bytes older : List ℕ) (first second : List Bool) (from to : ℕ) → AreBits S1 bytes first → AreBits S2 bytes second → from ≤ to
+    → HasNoMark (symbols (readings_on (length older) (take from first) (signal S1 older))) (take (to - from) (drop from first))
+    → HasNoMark (symbols (readings_on (length older) (take from second) (signal S2 older))) (take (to - from) (drop from second))
+    → lines_behind older (take to bytes) ≡ lines_behind older (take from bytes)
+lines_between bytes older first second from to s1 s2 order quiet_s1 quiet_s2 =
+    let part = take (to - from) (drop from bytes) in
+    let seen = reverse (take from bytes) ++ older in
+    let sum : to ≡ from + (to - from) = omega (arith, order) in
+    ap (λ k. lines_behind older (take k bytes)) sum
+    ∙ ap (lines_behind older) (take-add from (to - from) bytes)
+    ∙ lines_behind-append older (take from bytes) part
+    ∙ ap (λ lines. lines_behind older (take from bytes) ++ lines)
+    (no_lines part seen (take (to - from) (drop from first)) (take (to - from) (drop from second))
+    (AreBits-take S1 (to - from) (drop from bytes) (drop from first) (AreBits-drop S1 from bytes first s1))
+    (AreBits-take S2 (to - from) (drop from bytes) (drop from second) (AreBits-drop S2 from bytes second s2))
+    (subst (λ readings. HasNoMark (symbols readings) (take (to - from) (drop from first))) (sym (signal_at S1 bytes older first from s1)) quiet_s1)
+    (subst (λ readings. HasNoMark (symbols readings) (take (to - from) (drop from second))) (sym (signal_at S2 bytes older second from s2)) quiet_s2))
+    ∙ append-nil (lines_behind older (take from bytes))
+
+line_there : (wire : Wire) (bytes older : List ℕ) (bits : List Bool) (i : ℕ) → AreBits wire bytes bits → i < length bytes
+    → line_at wire (get_or bytes i 0 ∷ (reverse (take i bytes) ++ older)) ≡ line_with wire (Some (symbol_of (get_or bits i false))) (readings_on (length older) (take i bits) (signal wire older))
+line_there wire bytes older bits i are h = ap₂ (line_with wire) (AreBits-at wire i bytes bits are h) (signal_at wire bytes older bits i are)
+
+-- where no mark ends on either wire from one place up to another, the lines that come with the bytes through the other are those of its bits
+pub lines_through : (text bytes older : List ℕ) (first second : List Bool) (from last : ℕ) → AreBits S1 bytes first → AreBits S2 bytes second → from ≤ last → last < length bytes
+    → HasNoMark (symbols (readings_on (length older) (take from first) (signal S1 older))) (take (last - from) (drop from first))
+    → HasNoMark (symbols (readings_on (length older) (take from second) (signal S2 older))) (take (last - from) (drop from second))
+    → ((text ++ lines_behind older (take from bytes))
+    ++ line_with S1 (Some (symbol_of (get_or first last false))) (readings_on (length older) (take last first) (signal S1 older)))
+    ++ line_with S2 (Some (symbol_of (get_or second last false))) (readings_on (length older) (take last second) (signal S2 older))
+    ≡ text ++ lines_behind older (take (last + 1) bytes)
+lines_through text bytes older first second from last s1 s2 order h quiet_s1 quiet_s2 =
+    ap₂ (λ a b. ((text ++ lines_behind older (take from bytes)) ++ a) ++ b) (sym (line_there S1 bytes older first last s1 h)) (sym (line_there S2 bytes older second last s2 h))
+    ∙ ap (λ lines. ((text ++ lines) ++ line_at S1 (get_or bytes last 0 ∷ (reverse (take last bytes) ++ older))) ++ line_at S2 (get_or bytes last 0 ∷ (reverse (take last bytes) ++ older)))
+    (sym (lines_between bytes older first second from last s1 s2 order quiet_s1 quiet_s2))
+    ∙ lines_behind-more text older bytes last h

@@ -1,5 +1,5 @@
 -- Bytes that have bits are periods with bits.
-use Rattle.std.proofs.Common.{◌≡◌, ℕ, suc, zero, ◌<◌, Bool, true, false, List, [], ◌∷◌, Option, Some, None, length, get_or, refl, arith}
+use Rattle.std.proofs.Common.{◌≡◌, ℕ, suc, zero, ◌<◌, Bool, true, false, List, [], ◌∷◌, ◌++◌, Option, Some, None, length, get_or, take, drop, refl, arith}
 use Rattle.swp_line.specs.declared.period.Period.{Period}
 use Rattle.swp_line.specs.declared.period.Period.TheVariants.{Bits, Suspended, ResumeAsked, Deactivated}
 use Rattle.swp_line.specs.Periods.{period_at}
@@ -31,3 +31,33 @@ bits_there bytes bits i are h = let there = symbol_there S1 bytes bits i are h i
     with_bit (Some ResumeAsked) bit e = absurd (cc)
     with_bit (Some Deactivated) bit e = absurd (no_break bit e)
     with_bit None bit e = absurd (no_break bit e)
+
+-- bytes that have bits, and more of them
+pub AreBits-append : (wire : Wire) (bytes more : List ℕ) (bits further : List Bool) → AreBits wire bytes bits → AreBits wire more further → AreBits wire (bytes ++ more) (bits ++ further)
+AreBits-append wire [] more [] further are later = later
+AreBits-append wire [] more (bit ∷ bits) further are later = absurd are
+AreBits-append wire (byte ∷ bytes) more [] further are later = absurd are
+AreBits-append wire (byte ∷ bytes) more (bit ∷ bits) further are later = (are.0, AreBits-append wire bytes more bits further are.1 later)
+
+-- some of them
+pub AreBits-take : (wire : Wire) (n : ℕ) (bytes : List ℕ) (bits : List Bool) → AreBits wire bytes bits → AreBits wire (take n bytes) (take n bits)
+AreBits-take wire zero bytes bits are = tt
+AreBits-take wire (suc n) [] [] are = tt
+AreBits-take wire (suc n) [] (bit ∷ bits) are = absurd are
+AreBits-take wire (suc n) (byte ∷ bytes) [] are = absurd are
+AreBits-take wire (suc n) (byte ∷ bytes) (bit ∷ bits) are = (are.0, AreBits-take wire n bytes bits are.1)
+
+pub AreBits-drop : (wire : Wire) (n : ℕ) (bytes : List ℕ) (bits : List Bool) → AreBits wire bytes bits → AreBits wire (drop n bytes) (drop n bits)
+AreBits-drop wire zero bytes bits are = are
+AreBits-drop wire (suc n) [] [] are = tt
+AreBits-drop wire (suc n) [] (bit ∷ bits) are = absurd are
+AreBits-drop wire (suc n) (byte ∷ bytes) [] are = absurd are
+AreBits-drop wire (suc n) (byte ∷ bytes) (bit ∷ bits) are = AreBits-drop wire n bytes bits are.1
+
+-- the one at a place
+pub AreBits-at : (wire : Wire) (i : ℕ) (bytes : List ℕ) (bits : List Bool) → AreBits wire bytes bits → i < length bytes
+    → symbol_on wire (period_at (get_or bytes i 0)) ≡ Some (symbol_of (get_or bits i false))
+AreBits-at wire i [] bits are h = absurd (omega arith)
+AreBits-at wire i (byte ∷ bytes) [] are h = absurd are
+AreBits-at wire zero (byte ∷ bytes) (bit ∷ bits) are h = are.0
+AreBits-at wire (suc i) (byte ∷ bytes) (bit ∷ bits) are h = AreBits-at wire i bytes bits are.1 (omega arith)

@@ -3,5 +3,5 @@ pub mod FurtherBits
 pub mod Gathering
 pub mod FurtherLines
 pub mod Lanes
-pub mod FewBits
+pub mod Marks
 pub mod StartPlaces

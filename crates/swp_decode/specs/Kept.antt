@@ -1,6 +1,7 @@
 -- What a decoder keeps of the record that it has read.
-use Rattle.std.specs.Prelude.{ℕ, ◌≡◌, List, length}
+use Rattle.std.specs.Prelude.{ℕ, ◌-◌, ◌/◌, ◌%◌, ◌^◌, ◌≡◌, List, length}
 use Rattle.swp_frame.specs.Kept.{StandsFor as DeframerStandsFor}
+use Rattle.swp_frame.specs.declared.word.Word.{Word}
 use Rattle.swp_decode.specs.declared.line.Wire.TheVariants.{S1, S2}
 use Rattle.swp_decode.specs.declared.decoder.Decoder.{Decoder}
 use Rattle.swp_decode.specs.declared.signal.SignalReader.{SignalReader}
@@ -17,3 +18,7 @@ pub record StandsFor (decoder : Decoder) (bytes : List ℕ) : Type 0 where
   pub count : decoder.count ≡ length bytes
   pub s1 : ReadsSignal decoder.s1 (signal S1 bytes)
   pub s2 : ReadsSignal decoder.s2 (signal S2 bytes)
+
+-- no mark ends with a bit of the word from one place up to another, counted from the oldest
+abbrev pub IsQuiet : Word → ℕ → ℕ → Type 0
+IsQuiet word from to = word.marks / 2 ^ (64 - to) % 2 ^ (to - from) ≡ 0

@@ -1,14 +1,14 @@
-//! Decodes a record, byte by byte or eight bytes at once.
-ghost use Rattle.std.specs.Prelude.{ℕ, List, [], ◌∷◌, ◌++◌, ◌≡◌, ◌+◌, ◌<◌, ◌≤◌, length, reverse};
-ghost use Rattle.swp_base.specs.Bits.{bits_of_byte};
+//! Decodes a record, byte by byte or sixty-four bytes at once.
+ghost use Rattle.std.specs.Prelude.{ℕ, List, [], ◌∷◌, ◌++◌, ◌≡◌, ◌+◌, ◌<◌, ◌≤◌, length, reverse, take};
+ghost use Rattle.swp_frame.specs.Words.{low_bits};
 
-use crate::eight::{EightBits, eight_bits};
 use crate::line::Wire;
+use crate::many::{ManyBits, many_bits};
 use crate::signal::SignalReader;
 use crate::words::{Text, push_decimal, push_text};
 use swp_line::{Period, period_of};
 
-/// Decodes a line record, byte by byte or eight bytes at once. It takes no memory, however long the record is.
+/// Decodes a line record, byte by byte or sixty-four bytes at once. It takes no memory, however long the record is.
 #[derive(Debug, Drop)]
 pub struct Decoder {
     /// The bytes read.
@@ -29,8 +29,11 @@ impl Decoder {
     /// How much room in a text a step asks for.
     pub const ROOM: usize = 256;
 
-    /// How much room in a text a step of eight bytes asks for.
-    pub const ROOM_OF_EIGHT: usize = 2048;
+    /// How much room in a text a step of many bytes asks for.
+    pub const ROOM_OF_MANY: usize = 2048;
+
+    /// At how many places of a step of many bytes lines can come: as many as the room is for.
+    const MOST_PLACES: u32 = 8;
 
     /// A decoder that has read nothing.
     pub fn new() -> Self
@@ -46,7 +49,7 @@ impl Decoder {
     /// Reads a byte of the record, and appends the lines that it gives, that of S1 first: the bits of a period in both
     /// directions; a break in both where the line is deactivated or the byte is no period; nothing where the line is
     /// suspended or a resume is asked.
-    #[inline]
+    #[inline(always)]
     pub fn step(&mut self, byte: u8, text: &mut Text)
         requires few { self.old.count < Self.MAX_BYTES }
         requires room { length text.old.items + Self.ROOM ≤ 8192 }
@@ -69,61 +72,75 @@ impl Decoder {
         }
     }
 
-    /// Reads eight bytes of the record, and appends the lines that they give, as eight steps would.
-    #[inline]
-    pub fn step_eight(&mut self, bytes: &[u8; 8], text: &mut Text)
-        requires few { self.old.count + 8 ≤ Self.MAX_BYTES }
-        requires room { length text.old.items + Self.ROOM_OF_EIGHT ≤ 8192 }
-        ensures count { self.new.count ≡ self.old.count + 8 }
-        ensures stands { (older : List ℕ) → StandsFor self.old older → StandsFor self.new (reverse bytes.now ++ older) }
-        ensures lines { (older : List ℕ) → StandsFor self.old older → text.new.items ≡ text.old.items ++ lines_behind older bytes.now }
-        ensures sized { length text.new.items ≤ length text.old.items + Self.ROOM_OF_EIGHT }
+    /// Reads the first of these bytes of the record, at least one, and appends the lines that they give, as so many steps would.
+    /// It answers how many it read: all where they are periods with bits and lines come at no more than eight places.
+    #[inline(always)]
+    pub fn step_many(&mut self, bytes: &[u8; 64], text: &mut Text) -> usize
+        requires few { self.old.count + 64 ≤ Self.MAX_BYTES }
+        requires room { length text.old.items + Self.ROOM_OF_MANY ≤ 8192 }
+        ensures some { 0 < result }
+        ensures within { result ≤ 64 }
+        ensures count { self.new.count ≡ self.old.count + result }
+        ensures stands { (older : List ℕ) → StandsFor self.old older → StandsFor self.new (reverse (take result bytes.now) ++ older) }
+        ensures lines { (older : List ℕ) → StandsFor self.old older → text.new.items ≡ text.old.items ++ lines_behind older (take result bytes.now) }
+        ensures sized { length text.new.items ≤ length text.old.items + Self.ROOM_OF_MANY }
     {
-        match eight_bits(bytes) {
+        match many_bits(bytes) {
             Some(bits) => self.step_bits(bits, bytes, text),
-            None => self.step_each(bytes, text),
+            None => {
+                self.step_each(&bytes[..8], text);
+                8
+            }
         }
     }
 
-    /// Reads eight periods with bits. A wire is read at once where its reader can, and bit by bit else. Where neither can,
-    /// both are read period by period, since the lines of both are in the order of the bytes.
-    #[inline(always)]
-    fn step_bits(&mut self, bits: EightBits, bytes: &[u8; 8], text: &mut Text)
-        requires s1 { AreBits Wire.S1 bytes.now (bits_of_byte bits.s1) }
-        requires s2 { AreBits Wire.S2 bytes.now (bits_of_byte bits.s2) }
-        requires few { self.old.count + 8 ≤ Self.MAX_BYTES }
-        requires room { length text.old.items + Self.ROOM_OF_EIGHT ≤ 8192 }
-        ensures count { self.new.count ≡ self.old.count + 8 }
-        ensures stands { (older : List ℕ) → StandsFor self.old older → StandsFor self.new (reverse bytes.now ++ older) }
-        ensures lines { (older : List ℕ) → StandsFor self.old older → text.new.items ≡ text.old.items ++ lines_behind older bytes.now }
-        ensures sized { length text.new.items ≤ length text.old.items + Self.ROOM_OF_EIGHT }
+    /// Reads periods with bits. Each wire is read at once up to the next place at which a mark ends on one of them.
+    #[inline(never)]
+    fn step_bits(&mut self, bits: ManyBits, bytes: &[u8; 64], text: &mut Text) -> usize
+        requires s1 { AreBits Wire.S1 bytes.now (low_bits 64 bits.s1) }
+        requires s2 { AreBits Wire.S2 bytes.now (low_bits 64 bits.s2) }
+        requires few { self.old.count + 64 ≤ Self.MAX_BYTES }
+        requires room { length text.old.items + Self.ROOM_OF_MANY ≤ 8192 }
+        ensures some { 0 < result }
+        ensures within { result ≤ 64 }
+        ensures count { self.new.count ≡ self.old.count + result }
+        ensures stands { (older : List ℕ) → StandsFor self.old older → StandsFor self.new (reverse (take result bytes.now) ++ older) }
+        ensures lines { (older : List ℕ) → StandsFor self.old older → text.new.items ≡ text.old.items ++ lines_behind older (take result bytes.now) }
+        ensures sized { length text.new.items ≤ length text.old.items + Self.ROOM_OF_MANY }
     {
         let place = self.count;
-        let s1_read = self.s1.read_eight(bits.s1, place);
-        let s2_read = self.s2.read_eight(bits.s2, place);
-        match (s1_read, s2_read) {
-            (true, true) => self.count += 8,
-            (true, false) => {
-                self.s2.decode_eight(text, Wire::S2, bits.s2, place);
-                self.count += 8;
-            }
-            (false, true) => {
-                self.s1.decode_eight(text, Wire::S1, bits.s1, place);
-                self.count += 8;
-            }
-            (false, false) => self.step_each(bytes, text),
+        let s1 = self.s1.word(bits.s1);
+        let s2 = self.s2.word(bits.s2);
+        let mut marks = s1.marks | s2.marks;
+        let mut read = 0;
+        let mut passed = 0;
+        'marks: while marks != 0 && passed < Self::MOST_PLACES {
+            let last = marks.leading_zeros();
+            self.s1
+                .decode_through(text, Wire::S1, &s1, read, last, place);
+            self.s2
+                .decode_through(text, Wire::S2, &s2, read, last, place);
+            read = last + 1;
+            marks %= 1 << (63 - last);
+            passed += 1;
         }
+        let to = marks.leading_zeros();
+        self.s1.read_between(&s1, read, to, place);
+        self.s2.read_between(&s2, read, to, place);
+        self.count = place + to;
+        to as usize
     }
 
-    /// Reads eight bytes of the record one after another.
+    /// Reads a few bytes of the record one after another.
     #[inline(never)]
-    fn step_each(&mut self, bytes: &[u8; 8], text: &mut Text)
-        requires few { self.old.count + 8 ≤ Self.MAX_BYTES }
-        requires room { length text.old.items + Self.ROOM_OF_EIGHT ≤ 8192 }
-        ensures count { self.new.count ≡ self.old.count + 8 }
+    fn step_each(&mut self, bytes: &[u8], text: &mut Text)
+        requires short { length bytes.now ≤ 8 }
+        requires few { self.old.count + length bytes.now ≤ Self.MAX_BYTES }
+        requires room { length text.old.items + Self.ROOM_OF_MANY ≤ 8192 }
+        ensures count { self.new.count ≡ self.old.count + length bytes.now }
         ensures stands { (older : List ℕ) → StandsFor self.old older → StandsFor self.new (reverse bytes.now ++ older) }
         ensures lines { (older : List ℕ) → StandsFor self.old older → text.new.items ≡ text.old.items ++ lines_behind older bytes.now }
-        ensures sized { length text.new.items ≤ length text.old.items + Self.ROOM_OF_EIGHT }
+        ensures sized { length text.new.items ≤ length text.old.items + Self.ROOM_OF_MANY }
     {
         for byte in bytes {
             self.step(*byte, text);

@@ -5,9 +5,9 @@
 #![tactic(auto)]
 
 mod decoder;
-mod eight;
 pub mod laws;
 mod line;
+mod many;
 mod signal;
 mod words;
 

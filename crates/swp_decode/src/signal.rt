@@ -1,12 +1,10 @@
 //! The frames of one direction, and where they start.
-ghost use Rattle.std.specs.Prelude.{ℕ, Bool, List, take, [], ◌∷◌, ◌++◌, ◌≡◌, ◌↔◌, ◌+◌, ◌^◌, ◌<◌, ◌≤◌, length, IsTrue};
-ghost use Rattle.std.specs.Bool.{OnTrue, OnFalse};
-ghost use Rattle.swp_base.specs.Bits.{bits_of_byte};
-ghost use Rattle.swp_crc.specs.Division.{number_of};
+ghost use Rattle.std.specs.Prelude.{ℕ, List, take, [], ◌∷◌, ◌++◌, ◌≡◌, ◌+◌, ◌-◌, ◌^◌, ◌<◌, ◌≤◌, length};
+ghost use Rattle.swp_base.specs.Bits.{bit};
 
 use crate::line::{Wire, push_line};
 use crate::words::Text;
-use swp_frame::{Deframer, Fed};
+use swp_frame::{Deframer, Fed, Part, Word};
 
 /// Reads one direction of a record.
 #[derive(Debug, Drop)]
@@ -19,11 +17,12 @@ pub struct SignalReader {
 }
 
 impl SignalReader {
-    ghost use Rattle.swp_frame.specs.Signal.{break, symbol_of, run_of, HasNoMark, has_runs_below};
+    ghost use Rattle.swp_frame.specs.Signal.{break, symbol_of, run_of, HasNoMark};
+    ghost use Rattle.swp_frame.specs.Words.{word_bits, part_bits, IsWordBehind, IsPartBehind};
     ghost use Rattle.swp_frame.specs.Verdicts.{verdict};
     ghost use Rattle.swp_decode.specs.Readings.{Reading, symbols, with_reading, readings_on};
-    ghost use Rattle.swp_decode.specs.Decoded.{line_with, lines_on};
-    ghost use Rattle.swp_decode.specs.Kept.{ReadsSignal};
+    ghost use Rattle.swp_decode.specs.Decoded.{line_with};
+    ghost use Rattle.swp_decode.specs.Kept.{ReadsSignal, IsQuiet};
 
     pub fn new() -> Self
         ensures { ReadsSignal result [] }
@@ -49,22 +48,79 @@ impl SignalReader {
         self.deframer.feed(bit)
     }
 
-    /// Reads the bits of eight places at once, the most significant first, where the deframer can; no line comes with them
-    /// then. Else it reads nothing.
+    /// What sixty-four bits are behind those that were read, the most significant first.
     #[inline(always)]
-    pub fn read_eight(&mut self, bits: u8, place: u32) -> bool
-        requires { place + 7 < 2 ^ 32 }
-        ensures whole { (older : List Reading) → ReadsSignal self.old older → IsTrue result ↔ IsTrue (has_runs_below 6 (run_of (symbols older)) (bits_of_byte bits)) }
-        ensures reads { OnTrue result ((older : List Reading) → ReadsSignal self.old older → ReadsSignal self.new (readings_on place (bits_of_byte bits) older)) }
-        ensures quiet { OnTrue result ((older : List Reading) → ReadsSignal self.old older → HasNoMark (symbols older) (bits_of_byte bits)) }
-        ensures unread { OnFalse result (self.new ≡ self.old) }
+    pub fn word(&self, bits: u64) -> Word
+        ensures bits { result.bits ≡ bits }
+        ensures behind { (older : List Reading) → ReadsSignal self.now older → IsWordBehind result (run_of (symbols older)) }
     {
-        if !self.deframer.feed_eight(bits) {
-            return false;
+        self.deframer.word(bits)
+    }
+
+    /// Reads some neighbouring bits of a word at once, at a place and those behind it, where no mark ends with one of them.
+    #[inline(always)]
+    fn read_part(&mut self, part: Part, place: u32)
+        requires some { 0 < part.width }
+        requires place { place + part.width < 2 ^ 32 }
+        ensures { (older : List Reading) → ReadsSignal self.old older → IsPartBehind part (run_of (symbols older)) → HasNoMark (symbols older) (part_bits part)
+            → ReadsSignal self.new (readings_on place (part_bits part) older) }
+    {
+        self.deframer.feed_part(part);
+        let ones = part.bits.trailing_ones();
+        self.front = Some(if ones < part.width {
+            // The last 0 stands in front of the 1 bits at the end.
+            place + part.width - 1 - ones
+        } else {
+            self.front.unwrap_or(place)
+        });
+    }
+
+    /// Reads the bits of a word, whose oldest is at this place, from one up to another, where no mark ends with one of them.
+    #[inline(always)]
+    pub fn read_between(&mut self, word: &Word, from: u32, to: u32, place: u32)
+        requires order { from ≤ to }
+        requires within { to ≤ 64 }
+        requires place { place + 64 < 2 ^ 32 }
+        ensures { (older : List Reading) → IsWordBehind word.now (run_of (symbols older)) → IsQuiet word.now from to
+            → ReadsSignal self.old (readings_on place (take from (word_bits word.now)) older)
+            → ReadsSignal self.new (readings_on place (take to (word_bits word.now)) older) }
+    {
+        if from < to {
+            self.read_part(word.part(from, to), place + from);
         }
-        // The last 0 stands in front of the 1 bits at the end.
-        self.front = Some(place + 7 - bits.trailing_ones());
-        true
+    }
+
+    /// Reads the bits of a word, whose oldest is at this place, from one through another, where a mark ends with none of them but
+    /// perhaps the last, and appends the line of what came with that.
+    #[inline(always)]
+    pub fn decode_through(
+        &mut self,
+        text: &mut Text,
+        wire: Wire,
+        word: &Word,
+        from: u32,
+        last: u32,
+        place: u32,
+    )
+        requires order { from ≤ last }
+        requires within { last < 64 }
+        requires place { place + 64 < 2 ^ 32 }
+        requires room { length text.old.items + 128 ≤ 8192 }
+        ensures reads { (older : List Reading) → IsWordBehind word.now (run_of (symbols older)) → IsQuiet word.now from last
+            → ReadsSignal self.old (readings_on place (take from (word_bits word.now)) older)
+            → ReadsSignal self.new (readings_on place (take (last + 1) (word_bits word.now)) older) }
+        ensures items { (older : List Reading) → IsWordBehind word.now (run_of (symbols older)) → IsQuiet word.now from last
+            → ReadsSignal self.old (readings_on place (take from (word_bits word.now)) older)
+            → text.new.items ≡ text.old.items ++ line_with wire (Some (symbol_of (bit word.now.bits (63 - last)))) (readings_on place (take last (word_bits word.now)) older) }
+        ensures sized { length text.new.items ≤ length text.old.items + 128 }
+    {
+        if (word.marks >> (63 - last)) % 2 == 0 {
+            self.read_between(word, from, last + 1, place);
+        } else {
+            self.read_between(word, from, last, place);
+            let bit = (word.bits >> (63 - last)) % 2 == 1;
+            self.decode_mark(text, wire, bit, place + last);
+        }
     }
 
     /// Reads a break.
@@ -107,74 +163,6 @@ impl SignalReader {
         let start = self.start;
         let fed = self.read_bit(bit, place);
         push_line(text, wire, start, &fed);
-    }
-
-    /// Reads a few bits, the most significant of this number first, up to the first one with which a mark ends. It answers how
-    /// many it read.
-    #[inline(always)]
-    fn read_quiet(&mut self, bits: u8, width: u8, place: u32) -> u8
-        requires width { width ≤ 8 }
-        requires bits { bits < 2 ^ width }
-        requires place { place + width < 2 ^ 32 }
-        ensures few { result ≤ width }
-        ensures reads { (older : List Reading) (more : List Bool) → ReadsSignal self.old older → length more ≡ width → number_of more ≡ bits
-            → ReadsSignal self.new (readings_on place (take result more) older) }
-        ensures quiet { (older : List Reading) (more : List Bool) → ReadsSignal self.old older → length more ≡ width → number_of more ≡ bits
-            → HasNoMark (symbols older) (take result more) }
-    {
-        let quiet = self.deframer.bits_before_mark(bits, width);
-        if quiet > 0 {
-            self.read_some(bits >> (width - quiet), quiet, place);
-        }
-        quiet
-    }
-
-    /// Reads a few bits at once, the most significant of this number first, where no mark ends with one of them.
-    #[inline(always)]
-    fn read_some(&mut self, bits: u8, width: u8, place: u32)
-        requires some { 0 < width }
-        requires width { width ≤ 8 }
-        requires bits { bits < 2 ^ width }
-        requires place { place + width < 2 ^ 32 }
-        ensures { (older : List Reading) (more : List Bool) → ReadsSignal self.old older → length more ≡ width → number_of more ≡ bits → HasNoMark (symbols older) more
-            → ReadsSignal self.new (readings_on place more older) }
-    {
-        self.deframer.feed_some(bits, width);
-        self.front = Some(if u16::from(bits) + 1 == 1 << width {
-            self.front.unwrap_or(place)
-        } else {
-            // The last 0 stands in front of the 1 bits at the end.
-            place + u32::from(width) - 1 - bits.trailing_ones()
-        });
-    }
-
-    /// Reads the bits of eight places, the most significant first, and appends the lines of what came with them. Those before a
-    /// bit with which a mark ends are read at once, and so are those behind it.
-    #[inline(never)]
-    pub fn decode_eight(&mut self, text: &mut Text, wire: Wire, bits: u8, place: u32)
-        requires place { place + 8 < 2 ^ 32 }
-        requires room { length text.old.items + 1024 ≤ 8192 }
-        ensures reads { (older : List Reading) → ReadsSignal self.old older → ReadsSignal self.new (readings_on place (bits_of_byte bits) older) }
-        ensures items { (older : List Reading) → ReadsSignal self.old older
-            → text.new.items ≡ text.old.items ++ lines_on wire place (bits_of_byte bits) older }
-        ensures sized { length text.new.items ≤ length text.old.items + 1024 }
-    {
-        let mut left = bits;
-        let mut width = 8;
-        while width > 0 {
-            width -= self.read_quiet(left, width, place + (8 - u32::from(width)));
-            left = (u16::from(left) % (1 << width)) as u8;
-            if width > 0 {
-                width -= 1;
-                self.decode_bit(
-                    text,
-                    wire,
-                    left >> width == 1,
-                    place + (7 - u32::from(width)),
-                );
-                left %= 1 << width;
-            }
-        }
     }
 
     /// Reads a break, and appends the line of what came with it.

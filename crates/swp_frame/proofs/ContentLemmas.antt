@@ -1,17 +1,20 @@
 -- Bits kept as whole bytes and a rest.
-use Rattle.std.proofs.Common.{◌≡◌, ℕ, suc, ◌+◌, ◌-◌, ◌*◌, ◌/◌, ◌%◌, ◌^◌, ◌≤◌, ◌<◌, Bool, true, false, List, [], ◌∷◌, ◌++◌, length, take, drop, get_or, refl, sym, ap, ◌∙◌, subst, arith, length-append, length-take, length-drop, append_assoc, append-nil, take-append-drop}
+use Rattle.std.proofs.Common.{◌≡◌, ℕ, zero, suc, ◌+◌, ◌-◌, ◌*◌, ◌/◌, ◌%◌, ◌^◌, ◌≤◌, ◌<◌, Bool, true, false, List, [], ◌∷◌, ◌++◌, length, take, drop, get_or, refl, sym, ap, ap₂, w64, ◌∙◌, subst, arith, length-append, length-take, length-drop, append_assoc, take-append-drop}
 use mir.Val.{bool_byte}
 use Rattle.std.proofs.Math.ListN.{length-replicate}
 use Rattle.std.proofs.Math.Seq.{take-append_seam}
-use Rattle.std.proofs.lemmas.List.{take_more, take-append-le}
-use Rattle.std.proofs.lemmas.Nat.{div-mul-add, mod-mul-add}
+use Rattle.std.proofs.lemmas.List.{length-take-le}
+use Rattle.std.proofs.lemmas.Nat.{div-mul-add, mod-mul-add, shl-shr}
 use Rattle.swp_base.specs.Bits.{bits_of, bits_of_byte}
 use Rattle.swp_crc.specs.Division.{number_of}
-use Rattle.swp_crc.specs.Running.{running_of}
-use Rattle.swp_crc.proofs.Numbers.{number_of-append, number_of-lt, number_of-injective}
+use Rattle.swp_crc.proofs.Numbers.{number_of-append, number_of-lt}
 use Rattle.swp_crc.proofs.Entries.{number_of_byte}
-use Rattle.swp_crc.proofs.Steps.{length-byte, bits_of-push}
-use Rattle.swp_frame.proofs.Shifts.{one_shifted}
+use Rattle.swp_crc.proofs.Steps.{length-byte}
+use Rattle.swp_base.proofs.BitLemmas.{bits_of-append}
+use Rattle.swp_frame.specs.Words.{low_bits}
+use Rattle.swp_frame.proofs.LowBits.{byte_bits, low_bits-same, low_bits-add, low_bits-number_of}
+use Rattle.swp_frame.proofs.Shifts.{no_wrap, upper_joined, lower_joined}
+use Rattle.std.specs.Int.{to_be_bytes}
 use Rattle.std.proofs.lemmas.Bool.{le-ltb, eq-eqb, ne_eqb}
 use Rattle.swp_crc.specs.Crc.{crc_of}
 use Rattle.swp_base.specs.declared.link_terms.FrameFault.TheVariants.{Crc}
@@ -27,52 +30,96 @@ AreBytes-push : (bytes : List ℕ) (b : ℕ) → AreBytes bytes → b < 256 → 
 AreBytes-push [] b h s = (s, tt)
 AreBytes-push (x ∷ bytes) b h s = (h.0, AreBytes-push bytes b h.1 s)
 
--- how much of a byte is under way
-pub length-rest : (bytes : List ℕ) (partial register : ℕ) (bits : List Bool) (kept : KeepsBits bytes partial register bits)
-    → (length kept.rest ≡ length bits % 8) × (length bytes ≡ length bits / 8)
-length-rest bytes partial register bits kept =
+-- how much of a word is under way
+pub length-rest : (bytes : List ℕ) (partial : ℕ) (bits : List Bool) (kept : KeepsBits bytes partial bits)
+    → (length kept.rest ≡ length bits % 64) × (length bytes ≡ 8 * (length bits / 64))
+length-rest bytes partial bits kept =
     let whole : length bits ≡ 8 * length bytes + length kept.rest =
     ap length kept.whole ∙ length-append (bits_of bytes) kept.rest ∙ ap (λ n. n + length kept.rest) (length-bits_of bytes) in
-    (omega (arith, whole, kept.short), omega (arith, whole, kept.short))
+    (omega (arith, whole, kept.short, kept.words), omega (arith, whole, kept.short, kept.words))
 
--- more bits that stay in the byte under way
-pub more_within : (bytes : List ℕ) (partial register : ℕ) (bits more : List Bool) (value width : ℕ) → KeepsBits bytes partial register bits
-    → length more ≡ width → number_of more ≡ value → length bits % 8 + width < 8
-    → KeepsBits bytes (partial * 2 ^ width + value) register (bits ++ more)
-more_within bytes partial register bits more value width kept l n h = record {
+-- more bits that stay in the word under way
+pub more_within : (bytes : List ℕ) (partial : ℕ) (bits more : List Bool) (value width : ℕ) → KeepsBits bytes partial bits
+    → length more ≡ width → number_of more ≡ value → length bits % 64 + width < 64
+    → KeepsBits bytes (partial * 2 ^ width + value) (bits ++ more)
+more_within bytes partial bits more value width kept l n h = record {
   rest = kept.rest ++ more;
   whole = ap (λ xs. xs ++ more) kept.whole ∙ append_assoc (bits_of bytes) kept.rest more;
-  short = omega (arith, length-append kept.rest more, (length-rest bytes partial register bits kept).0, l);
+  short = omega (arith, length-append kept.rest more, (length-rest bytes partial bits kept).0, l);
+  words = kept.words;
   number =
       ap (λ x. x * 2 ^ width + value) kept.number
       ∙ rw (← l, ← n) (sym (number_of-append kept.rest more));
   in_range = kept.in_range;
-  running = kept.running;
 }
 
--- more bits that make the byte under way whole
-pub more_than_byte : (bytes : List ℕ) (partial register after : ℕ) (bits more : List Bool) (value width : ℕ) → KeepsBits bytes partial register bits
-    → length more ≡ width → number_of more ≡ value → width ≤ 8 → 8 ≤ length bits % 8 + width
-    → let surplus = length bits % 8 + width - 8 in
-    let joined = partial * 2 ^ width + value in
-    (after ≡ running_of (take (length (bytes ++ joined / 2 ^ surplus ∷ []) - 2) (bytes ++ joined / 2 ^ surplus ∷ []))
-    → KeepsBits (bytes ++ joined / 2 ^ surplus ∷ []) (joined % 2 ^ surplus) after (bits ++ more))
-more_than_byte bytes partial register after bits more value width kept l n w h running = record {
+-- ---- the bytes of a word
+
+front_byte : (x n b : ℕ) (bytes : List ℕ) → b ≡ x / 2 ^ n % 256 → bits_of bytes ≡ low_bits n x → bits_of (b ∷ bytes) ≡ low_bits (8 + n) x
+front_byte x n b bytes e same =
+    ap₂ (λ xs ys. xs ++ ys)
+    (ap bits_of_byte e ∙ byte_bits (x / 2 ^ n % 256) ∙ low_bits-same 8 (x / 2 ^ n % 256) (x / 2 ^ n) (omega arith))
+    same
+    ∙ sym (low_bits-add 8 n (8 + n) x refl)
+
+none_left : (x : ℕ) → bits_of [] ≡ low_bits 0 x
+unfolding low_bits
+none_left x = refl
+
+-- the bytes of a word, the highest first, have its bits
+pub word_bytes : (x : ℕ) → bits_of (to_be_bytes w64 x) ≡ low_bits 64 x
+word_bytes x =
+    let one : List ℕ = x % 256 ∷ [] in
+    let two : List ℕ = x / 2 ^ 8 % 256 ∷ one in
+    let three : List ℕ = x / 2 ^ 16 % 256 ∷ two in
+    let four : List ℕ = x / 2 ^ 24 % 256 ∷ three in
+    let five : List ℕ = x / 2 ^ 32 % 256 ∷ four in
+    let six : List ℕ = x / 2 ^ 40 % 256 ∷ five in
+    let seven : List ℕ = x / 2 ^ 48 % 256 ∷ six in
+    let s1 = front_byte x 0 (x % 256) [] (omega arith) (none_left x) in
+    let s2 = front_byte x 8 (x / 2 ^ 8 % 256) one refl s1 in
+    let s3 = front_byte x 16 (x / 2 ^ 16 % 256) two refl s2 in
+    let s4 = front_byte x 24 (x / 2 ^ 24 % 256) three refl s3 in
+    let s5 = front_byte x 32 (x / 2 ^ 32 % 256) four refl s4 in
+    let s6 = front_byte x 40 (x / 2 ^ 40 % 256) five refl s5 in
+    let s7 = front_byte x 48 (x / 2 ^ 48 % 256) six refl s6 in
+    front_byte x 56 (x / 2 ^ 56 % 256) seven refl s7
+
+word_in_range : (x : ℕ) → AreBytes (to_be_bytes w64 x)
+word_in_range x = (omega arith, (omega arith, (omega arith, (omega arith, (omega arith, (omega arith, (omega arith, (omega arith, tt))))))))
+
+AreBytes-append : (xs ys : List ℕ) → AreBytes xs → AreBytes ys → AreBytes (xs ++ ys)
+AreBytes-append [] ys h k = k
+AreBytes-append (x ∷ xs) ys h k = (h.0, AreBytes-append xs ys h.1 k)
+
+AreBytes-take : (n : ℕ) (xs : List ℕ) → AreBytes xs → AreBytes (take n xs)
+AreBytes-take zero xs h = tt
+AreBytes-take (suc n) [] h = tt
+AreBytes-take (suc n) (x ∷ xs) h = (h.0, AreBytes-take n xs h.1)
+
+-- more bits that make the word under way whole
+pub more_than_word : (bytes : List ℕ) (partial : ℕ) (bits more : List Bool) (value width surplus : ℕ) → KeepsBits bytes partial bits
+    → length more ≡ width → number_of more ≡ value → length bits % 64 + width ≡ 64 + surplus → surplus < 64
+    → KeepsBits (bytes ++ to_be_bytes w64 (partial * 2 ^ (64 - length bits % 64) + value / 2 ^ surplus)) (value % 2 ^ surplus) (bits ++ more)
+more_than_word bytes partial bits more value width surplus kept l n h few = record {
   rest = low;
   whole =
       ap (λ xs. xs ++ more) kept.whole ∙ append_assoc (bits_of bytes) kept.rest more
-      ∙ ap (λ xs. bits_of bytes ++ xs) (sym (take-append-drop 8 queue))
+      ∙ ap (λ xs. bits_of bytes ++ xs) (sym (take-append-drop 64 queue))
       ∙ sym (append_assoc (bits_of bytes) high low)
-      ∙ ap (λ xs. (bits_of bytes ++ xs) ++ low) (sym byte)
-      ∙ ap (λ xs. xs ++ low) (sym (bits_of-push bytes (joined / 2 ^ surplus)));
-  short = omega (arith, low_length, (length-rest bytes partial register bits kept).0, kept.short, w);
-  number = ap (λ x. x % 2 ^ surplus) parts ∙ mod-mul-add (number_of high) (2 ^ surplus) (number_of low) low_small;
-  in_range = AreBytes-push bytes (joined / 2 ^ surplus) kept.in_range (rw quotient small);
-  running = running;
+      ∙ ap (λ xs. (bits_of bytes ++ xs) ++ low) (sym spelled)
+      ∙ ap (λ xs. xs ++ low) (sym (bits_of-append bytes (to_be_bytes w64 word)));
+  short = omega (arith, low_length, few);
+  words = omega (arith, length-append bytes (to_be_bytes w64 word), eight word, kept.words);
+  number = sym (quotient_and_rest.1 ∙ lower_joined partial value filled width surplus h (omega arith));
+  in_range = AreBytes-append bytes (to_be_bytes w64 word) kept.in_range (word_in_range word);
 }
   where
-    surplus : ℕ
-    surplus = length bits % 8 + width - 8
+    filled : ℕ
+    filled = length bits % 64
+
+    word : ℕ
+    word = partial * 2 ^ (64 - filled) + value / 2 ^ surplus
 
     joined : ℕ
     joined = partial * 2 ^ width + value
@@ -81,19 +128,22 @@ more_than_byte bytes partial register after bits more value width kept l n w h r
     queue = kept.rest ++ more
 
     high : List Bool
-    high = take 8 queue
+    high = take 64 queue
 
     low : List Bool
-    low = drop 8 queue
+    low = drop 64 queue
 
-    queue_length : length queue ≡ 8 + surplus
-    queue_length = omega (arith, length-append kept.rest more, (length-rest bytes partial register bits kept).0, l, h)
+    eight : (x : ℕ) → length (to_be_bytes w64 x) ≡ 8
+    eight x = refl
 
-    high_length : length high ≡ 8
-    high_length = omega (arith, length-take 8 queue, queue_length)
+    queue_length : length queue ≡ 64 + surplus
+    queue_length = omega (arith, length-append kept.rest more, (length-rest bytes partial bits kept).0, l, h)
+
+    high_length : length high ≡ 64
+    high_length = omega (arith, length-take 64 queue, queue_length)
 
     low_length : length low ≡ surplus
-    low_length = omega (arith, length-drop 8 queue, queue_length)
+    low_length = omega (arith, length-drop 64 queue, queue_length)
 
     low_small : number_of low < 2 ^ surplus
     low_small = subst (λ x. number_of low < 2 ^ x) low_length (number_of-lt low)
@@ -102,62 +152,80 @@ more_than_byte bytes partial register after bits more value width kept l n w h r
     parts =
         ap (λ x. x * 2 ^ width + value) kept.number
         ∙ rw (← l, ← n) (sym (number_of-append kept.rest more))
-        ∙ ap number_of (sym (take-append-drop 8 queue))
+        ∙ ap number_of (sym (take-append-drop 64 queue))
         ∙ number_of-append high low
         ∙ ap (λ x. number_of high * 2 ^ x + number_of low) low_length
 
-    quotient : joined / 2 ^ surplus ≡ number_of high
-    quotient = ap (λ x. x / 2 ^ surplus) parts ∙ div-mul-add (number_of high) (2 ^ surplus) (number_of low) low_small
+    quotient_and_rest : (number_of high ≡ joined / 2 ^ surplus) × (number_of low ≡ joined % 2 ^ surplus)
+    quotient_and_rest = (
+      sym (ap (λ x. x / 2 ^ surplus) parts ∙ div-mul-add (number_of high) (2 ^ surplus) (number_of low) low_small),
+      sym (ap (λ x. x % 2 ^ surplus) parts ∙ mod-mul-add (number_of high) (2 ^ surplus) (number_of low) low_small),
+    )
 
-    small : number_of high < 256
-    small = subst (λ x. number_of high < 2 ^ x) high_length (number_of-lt high)
+    value_fits : value < 2 ^ width
+    value_fits = rw (← n, ← l) (number_of-lt more)
 
-    byte : bits_of_byte (joined / 2 ^ surplus) ≡ high
-    byte =
-        ap bits_of_byte quotient
-        ∙ number_of-injective (bits_of_byte (number_of high)) high (length-byte (number_of high) ∙ sym high_length) (number_of_byte (number_of high) small)
-
--- the same from what the code computes: the joined bits, how many are left over, and the new bytes
-pub after_byte : (bytes new : List ℕ) (partial register after : ℕ) (bits more : List Bool) (value width joined surplus : ℕ) → KeepsBits bytes partial register bits
-    → length more ≡ width → number_of more ≡ value → width ≤ 8 → 8 ≤ length bits % 8 + width
-    → joined ≡ partial * 2 ^ width + value → surplus ≡ length bits % 8 + width - 8
-    → new ≡ bytes ++ joined / 2 ^ surplus ∷ [] → after ≡ running_of (take (length new - 2) new)
-    → KeepsBits new (joined % (1 * 2 ^ surplus % 65536)) after (bits ++ more)
-after_byte bytes new partial register after bits more value width joined surplus kept l n w h is_joined is_surplus is_new running =
-    let small : surplus < 16 = omega (arith, is_surplus, (length-rest bytes partial register bits kept).0, kept.short) in
-    rw (one_shifted surplus small, is_new, is_joined, is_surplus)
-    (more_than_byte bytes partial register after bits more value width kept l n w h (rw (is_new, is_joined, is_surplus) at running))
+    spelled : bits_of (to_be_bytes w64 word) ≡ high
+    spelled =
+        word_bytes word
+        ∙ ap (low_bits 64) (sym (quotient_and_rest.0 ∙ upper_joined partial value filled width surplus value_fits h (omega arith)))
+        ∙ low_bits-number_of high 64 high_length
 
 bytes_from-bits_of : (bytes : List ℕ) → AreBytes bytes → bytes_from (length bytes) (bits_of bytes) ≡ bytes
 unfolding bits_of_byte
 bytes_from-bits_of [] h = refl
 bytes_from-bits_of (b ∷ bytes) h = ap (λ x. x ∷ bytes_from (length bytes) (bits_of bytes)) (number_of_byte b h.0) ∙ ap (λ xs. b ∷ xs) (bytes_from-bits_of bytes h.1)
 
--- whole bytes are read as the bytes that are kept
-pub whole_bytes : (bytes : List ℕ) (partial register : ℕ) (bits : List Bool) → KeepsBits bytes partial register bits → length bits % 8 ≡ 0
-    → bytes_of bits ≡ bytes
-whole_bytes bytes partial register bits kept h =
-    ap (λ n. bytes_from n bits) (sym ((length-rest bytes partial register bits kept).1))
-    ∙ ap (bytes_from (length bytes)) (kept.whole ∙ none kept.rest (omega (arith, (length-rest bytes partial register bits kept).0, h)))
-    ∙ bytes_from-bits_of bytes kept.in_range
+-- bytes whose bits begin with these are these, as far as they go
+pub bytes_in_front : (bytes : List ℕ) (bits junk : List Bool) (n : ℕ) → AreBytes bytes → bits_of bytes ≡ bits ++ junk → length bits ≡ 8 * n → n ≤ length bytes
+    → bytes_of bits ≡ take n bytes
+bytes_in_front bytes bits junk n are same l h =
+    let front = take n bytes in
+    let count : length front ≡ n = length-take-le n bytes h in
+    let sized : length (bits_of front) ≡ length bits = length-bits_of front ∙ ap (λ k. 8 * k) count ∙ sym l in
+    let split : bits_of front ++ bits_of (drop n bytes) ≡ bits ++ junk =
+    sym (bits_of-append front (drop n bytes)) ∙ ap bits_of (take-append-drop n bytes) ∙ same in
+    let spelled : bits_of front ≡ bits =
+    sym (take-append_seam (bits_of front) (bits_of (drop n bytes))) ∙ ap₂ take sized split ∙ take-append_seam bits junk in
+    ap (λ k. bytes_from k bits) (omega (arith, l, count))
+    ∙ ap (bytes_from (length front)) (sym spelled)
+    ∙ bytes_from-bits_of front (AreBytes-take n bytes are)
+
+-- the bytes of a content, from those of the whole words and of the word under way, which is moved to the top
+pub content_bytes : (bytes : List ℕ) (partial last n : ℕ) (bits end : List Bool) → KeepsBits bytes partial (bits ++ end) → length bits ≡ 8 * n → length end < 8 → 0 < length end
+    → last ≡ partial * 2 ^ (64 - length (bits ++ end) % 64) % 2 ^ 64 → bytes_of bits ≡ take n (bytes ++ to_be_bytes w64 last)
+content_bytes bytes partial last n bits end kept l short some is =
+    bytes_in_front (bytes ++ to_be_bytes w64 last) bits (end ++ zeros) n (AreBytes-append bytes (to_be_bytes w64 last) kept.in_range (word_in_range last))
+    (bits_of-append bytes (to_be_bytes w64 last)
+    ∙ ap (λ xs. bits_of bytes ++ xs) (word_bytes last ∙ ap (low_bits 64) moved ∙ low_bits-add filled (64 - filled) 64 top (omega arith) ∙ ap (λ xs. xs ++ zeros) spelled)
+    ∙ sym (append_assoc (bits_of bytes) kept.rest zeros)
+    ∙ ap (λ xs. xs ++ zeros) (sym kept.whole)
+    ∙ append_assoc bits end zeros)
+    l (omega (arith, length-append bytes (to_be_bytes w64 last), eight last, lengths.1, length-append bits end, l, short, some))
   where
-    none : (rest : List Bool) → length rest ≡ 0 → bits_of bytes ++ rest ≡ bits_of bytes
-    none [] e = append-nil (bits_of bytes)
-    none (x ∷ rest) e = absurd (omega arith)
+    filled : ℕ
+    filled = length (bits ++ end) % 64
 
--- all bytes but the last two, after one more
-pub body_more : (bytes : List ℕ) (b : ℕ) → 2 ≤ length bytes
-    → take (length (bytes ++ b ∷ []) - 2) (bytes ++ b ∷ []) ≡ take (length bytes - 2) bytes ++ get_or bytes (length bytes - 2) 0 ∷ []
-body_more bytes b h =
-    let places : length (bytes ++ b ∷ []) - 2 ≡ (length bytes - 2) + 1 = omega (arith, length-append bytes (b ∷ [])) in
-    ap (λ n. take n (bytes ++ b ∷ [])) places
-    ∙ take-append-le ((length bytes - 2) + 1) bytes (b ∷ []) (omega arith)
-    ∙ take_more bytes (length bytes - 2) 0 (omega arith)
+    top : ℕ
+    top = partial * 2 ^ (64 - filled)
 
-pub body_none : (bytes : List ℕ) (b : ℕ) → length bytes < 2 → take (length (bytes ++ b ∷ []) - 2) (bytes ++ b ∷ []) ≡ take (length bytes - 2) bytes
-body_none [] b h = refl
-body_none (x ∷ []) b h = refl
-body_none (x ∷ y ∷ bytes) b h = absurd (omega arith)
+    zeros : List Bool
+    zeros = low_bits (64 - filled) top
+
+    eight : (x : ℕ) → length (to_be_bytes w64 x) ≡ 8
+    eight x = refl
+
+    lengths : (length kept.rest ≡ filled) × (length bytes ≡ 8 * (length (bits ++ end) / 64))
+    lengths = length-rest bytes partial (bits ++ end) kept
+
+    partial_fits : partial < 2 ^ filled
+    partial_fits = rw (kept.number, ← lengths.0) (number_of-lt kept.rest)
+
+    moved : last ≡ top
+    moved = is ∙ no_wrap partial filled (64 - filled) partial_fits (omega arith)
+
+    spelled : low_bits filled (top / 2 ^ (64 - filled)) ≡ kept.rest
+    spelled = ap (low_bits filled) (shl-shr partial (64 - filled) ∙ kept.number) ∙ low_bits-number_of kept.rest filled lengths.0
 
 pub length-run_bits : (held : Bool) (ones : ℕ) → length (run_bits held ones) ≡ ones + bool_byte held
 length-run_bits true ones = ap suc (length-replicate ones true) ∙ omega arith
@@ -193,21 +261,3 @@ last_two result n bytes slice back is at same count long =
     let second : get_or back 1 0 ≡ get_or bytes (length bytes - 1) 0 =
     at 1 0 ∙ ap (λ xs. get_or xs (n - 2 + 1) 0) same ∙ ap (λ i. get_or bytes i 0) (omega (arith, count, long)) in
     omega (arith, is, first, second)
-
--- whole bytes, and less than a byte behind them
-pub without_end : (bytes : List ℕ) (partial register : ℕ) (bits end : List Bool) → KeepsBits bytes partial register (bits ++ end) → length bits % 8 ≡ 0 → length end < 8
-    → KeepsBits bytes 0 register bits
-without_end bytes partial register bits end kept whole short = record {
-  rest = [];
-  whole = sym (take-append_seam bits end) ∙ ap (λ xs. take (length bits) xs) kept.whole ∙ ap (λ n. take n (bits_of bytes ++ kept.rest)) same ∙ take-append_seam (bits_of bytes) kept.rest ∙ sym (append-nil (bits_of bytes));
-  short = omega arith;
-  number = refl;
-  in_range = kept.in_range;
-  running = kept.running;
-}
-  where
-    lengths : length bits + length end ≡ 8 * length bytes + length kept.rest
-    lengths = sym (length-append bits end) ∙ ap length kept.whole ∙ length-append (bits_of bytes) kept.rest ∙ ap (λ n. n + length kept.rest) (length-bits_of bytes)
-
-    same : length bits ≡ length (bits_of bytes)
-    same = omega (arith, lengths, whole, short, kept.short, length-bits_of bytes)

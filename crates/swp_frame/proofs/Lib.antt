@@ -1,8 +1,8 @@
 pub mod Shifts
+pub mod LowBits
+pub mod Windows
 pub mod ContentLemmas
 pub mod Runs
 pub mod WritingLemmas
-pub mod ShortRuns
-pub mod EightBits
-pub mod Gatherings
-pub mod FewBits
+pub mod FurtherBits
+pub mod Places

@@ -1,8 +1,7 @@
 -- What a deframer keeps of what it has read.
-use Rattle.std.specs.Prelude.{ℕ, ◌-◌, ◌≡◌, ◌<◌, ◌≤◌, min, Bool, true, false, List, [], ◌∷◌, ◌++◌, length, take, drop, replicate, reverse, Option, Some, None}
+use Rattle.std.specs.Prelude.{ℕ, ◌%◌, ◌≡◌, ◌<◌, ◌≤◌, min, Bool, true, false, List, [], ◌∷◌, ◌++◌, length, drop, replicate, reverse, Option, Some, None}
 use Rattle.swp_base.specs.Bits.{bits_of}
 use Rattle.swp_crc.specs.Division.{number_of}
-use Rattle.swp_crc.specs.Running.{running_of}
 use Rattle.swp_frame.specs.declared.content.Content.{Content}
 use Rattle.swp_frame.specs.declared.deframer.Deframer.{Deframer}
 use Rattle.swp_frame.specs.Signal.{Symbol, bit_0, bit_1, break, run_of, since_start, unstuffed}
@@ -19,19 +18,19 @@ abbrev pub AreBytes : List ℕ → Type 0
 AreBytes [] = Unit {0}
 AreBytes (b ∷ bs) = (b < 256) × AreBytes bs
 
--- the bits are whole bytes and a rest of less than one; the rest is kept as a number, and the CRC of all bytes but the last two
-pub record KeepsBits (bytes : List ℕ) (partial register : ℕ) (bits : List Bool) : Type 0 where
+-- the bits are whole bytes, eight at a time, and a rest of less than 64; the rest is kept as a number
+pub record KeepsBits (bytes : List ℕ) (partial : ℕ) (bits : List Bool) : Type 0 where
   pub rest : List Bool
   pub whole : bits ≡ bits_of bytes ++ rest
-  pub short : length rest < 8
+  pub short : length rest < 64
+  pub words : length bytes % 8 ≡ 0
   pub number : partial ≡ number_of rest
   pub in_range : AreBytes bytes
-  pub running : register ≡ running_of (take (length bytes - 2) bytes)
 
 -- the content stands for these bits; of more than 263 only their number is kept, up to 4,294,967,295
 pub record KeepsContent (kept : Content) (bits : List Bool) : Type 0 where
   pub count : kept.bits ≡ min 4294967295 (length bits)
-  pub few : length bits ≤ 263 → KeepsBits kept.bytes.items kept.partial kept.register bits
+  pub few : length bits ≤ 263 → KeepsBits kept.bytes.items kept.partial bits
 
 -- a run of 1 bits, and the 0 in front of it where that is content
 abbrev pub run_bits : Bool → ℕ → List Bool

@@ -4,4 +4,4 @@ pub mod Content
 pub mod Verdicts
 pub mod Kept
 pub mod Writing
-pub mod Gathering
+pub mod Words

@@ -1,5 +1,5 @@
 -- What is read from one direction of a line, bits and breaks, and the marks in it. A list has the newest first.
-use Rattle.std.specs.Prelude.{ℕ, suc, ◌==◌, ◌&&◌, nat_lt, ◌≡◌, Bool, true, false, List, [], ◌∷◌, Option, Some, None, option_map, if◌then◌else◌}
+use Rattle.std.specs.Prelude.{ℕ, suc, ◌==◌, ◌≡◌, Bool, true, false, List, [], ◌∷◌, Option, Some, None, option_map, if◌then◌else◌}
 
 pub data Symbol : Type 0 where
   bit_0 : Symbol
@@ -59,10 +59,3 @@ read_on seen (next ∷ bits) = read_on (symbol_of next ∷ seen) bits
 abbrev pub HasNoMark : List Symbol → List Bool → Type 0
 HasNoMark seen [] = Unit {0}
 HasNoMark seen (next ∷ bits) = (mark_of (symbol_of next ∷ seen) ≡ no_mark) × HasNoMark (symbol_of next ∷ seen) bits
-
--- Each run of 1 bits in these bits, the oldest first, is shorter than this, where so many 1 bits stood before them. Where it is
--- shorter than six, no mark ends with one of them; where it is shorter than five, none was put in.
-abbrev pub has_runs_below : ℕ → ℕ → List Bool → Bool
-has_runs_below limit ones [] = nat_lt ones limit
-has_runs_below limit ones (true ∷ bits) = has_runs_below limit (suc ones) bits
-has_runs_below limit ones (false ∷ bits) = nat_lt ones limit && has_runs_below limit 0 bits

@@ -1,14 +1,9 @@
 //! Finds the frames in what is read bit by bit.
-ghost use Rattle.std.specs.Prelude.{IsTrue, ◌↔◌, List, Bool, length, take, ◌≡◌, ◌≢◌, ◌<◌, ◌≤◌, ◌^◌, ◌∷◌, []};
-ghost use Rattle.std.specs.Bool.{OnTrue, OnFalse};
-ghost use Rattle.swp_base.specs.Bits.{bits_of_byte};
-ghost use Rattle.swp_crc.specs.Division.{number_of};
+ghost use Rattle.std.specs.Prelude.{IsTrue, ◌↔◌, List, ◌≡◌, ◌≢◌, ◌≤◌, ◌∷◌, []};
 
 use crate::content::Content;
-use crate::eight::ones_to_six;
 use crate::fed::Fed;
-use crate::gathered::{before_mark, run_behind};
-use std::mem;
+use crate::word::{Part, Word};
 use swp_base::FrameFault;
 
 /// The length of a start of frame's run of 1 bits; one more ends a frame.
@@ -31,7 +26,8 @@ pub struct Deframer {
 impl Deframer {
     ghost use Rattle.swp_base.specs.declared.link_terms.FrameFault.TheVariants.{Broken};
     ghost use Rattle.swp_frame.specs.declared.fed.Fed.TheVariants.{Nothing, Refused};
-    ghost use Rattle.swp_frame.specs.Signal.{Symbol, bit_0, bit_1, break, symbol_of, mark_of, start_mark, run_of, read_on, HasNoMark, has_runs_below};
+    ghost use Rattle.swp_frame.specs.Signal.{Symbol, bit_0, bit_1, break, symbol_of, mark_of, start_mark, run_of, read_on, HasNoMark};
+    ghost use Rattle.swp_frame.specs.Words.{part_bits, IsWordBehind, IsPartBehind};
     ghost use Rattle.swp_frame.specs.Verdicts.{verdict};
     ghost use Rattle.swp_frame.specs.Kept.{StandsFor};
 
@@ -59,50 +55,25 @@ impl Deframer {
         Fed::Nothing
     }
 
-    /// Reads eight bits at once, the most significant first, where fewer than six 1 bits in a row stand at each place, with
-    /// those before them: so none of these bits ends a mark. Else it reads nothing.
+    /// What sixty-four bits are behind those that were read, the most significant first: with which of them a mark ends, and
+    /// which were put in.
     #[inline(always)]
-    pub fn feed_eight(&mut self, bits: u8) -> bool
-        ensures read { (seen : List Symbol) → StandsFor self.old seen → IsTrue result ↔ IsTrue (has_runs_below 6 (run_of seen) (bits_of_byte bits)) }
-        ensures stands { OnTrue result ((seen : List Symbol) → StandsFor self.old seen → StandsFor self.new (read_on seen (bits_of_byte bits))) }
-        ensures quiet { OnTrue result ((seen : List Symbol) → StandsFor self.old seen → HasNoMark seen (bits_of_byte bits)) }
-        ensures zero { OnTrue result (bits < 255) }
-        ensures unread { OnFalse result (self.new ≡ self.old) }
+    pub fn word(&self, bits: u64) -> Word
+        ensures bits { result.bits ≡ bits }
+        ensures behind { (seen : List Symbol) → StandsFor self.now seen → IsWordBehind result (run_of seen) }
     {
-        if self.ones >= ones_to_six(bits) {
-            return false;
-        }
-        let ones = mem::replace(&mut self.ones, bits.trailing_ones() as u8);
-        if let Some(content) = &mut self.content {
-            content.push_eight(bits, ones);
-        }
-        true
+        Word::new(bits, self.ones)
     }
 
-    /// How many of a few bits, the most significant of this number first, can be read before one with which a mark ends.
+    /// Reads some neighbouring bits of a word at once, where no mark ends with one of them.
     #[inline(always)]
-    pub fn bits_before_mark(&self, bits: u8, width: u8) -> u8
-        requires width { width ≤ 8 }
-        requires bits { bits < 2 ^ width }
-        ensures few { result ≤ width }
-        ensures quiet { (seen : List Symbol) (more : List Bool) → StandsFor self.now seen → length more ≡ width → number_of more ≡ bits
-            → HasNoMark seen (take result more) }
+    pub fn feed_part(&mut self, part: Part)
+        ensures { (seen : List Symbol) → StandsFor self.old seen → IsPartBehind part (run_of seen) → HasNoMark seen (part_bits part)
+            → StandsFor self.new (read_on seen (part_bits part)) }
     {
-        before_mark(bits, width, self.ones)
-    }
-
-    /// Reads a few bits at once, the most significant of this number first, where no mark ends with one of them.
-    #[inline(always)]
-    pub fn feed_some(&mut self, bits: u8, width: u8)
-        requires width { width ≤ 8 }
-        requires bits { bits < 2 ^ width }
-        ensures { (seen : List Symbol) (more : List Bool) → StandsFor self.old seen → length more ≡ width → number_of more ≡ bits → HasNoMark seen more
-            → StandsFor self.new (read_on seen more) }
-    {
-        let ones = self.ones;
-        self.ones = run_behind(bits, width, ones);
+        self.ones = part.run_behind(self.ones);
         if let Some(content) = &mut self.content {
-            content.push_some(bits, width, ones);
+            content.push_part(part);
         }
     }
 
@@ -147,8 +118,7 @@ impl Deframer {
     }
 
     /// Reads a bit behind six 1 bits, which ends a mark.
-    #[cold]
-    #[inline(never)]
+    #[inline(always)]
     fn read_mark(&mut self, bit: bool) -> Fed
         requires { self.old.ones ≡ 6 }
         ensures stands { (seen : List Symbol) → StandsFor self.old seen → StandsFor self.new (symbol_of bit ∷ seen) }
@@ -162,6 +132,7 @@ impl Deframer {
     }
 
     /// Reads the seventh 1 bit in a row: a frame that is open ends.
+    #[inline(always)]
     fn read_end(&mut self) -> Fed
         requires { self.old.ones ≡ 6 }
         ensures stands { (seen : List Symbol) → StandsFor self.old seen → StandsFor self.new (bit_1 ∷ seen) }
@@ -175,6 +146,7 @@ impl Deframer {
     }
 
     /// Reads a 0 behind six 1 bits: a frame starts, and one that is open is refused.
+    #[inline(always)]
     fn read_start(&mut self) -> Fed
         requires { self.old.ones ≡ 6 }
         ensures stands { (seen : List Symbol) → StandsFor self.old seen → StandsFor self.new (bit_0 ∷ seen) }

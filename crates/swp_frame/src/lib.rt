@@ -6,11 +6,11 @@
 
 mod content;
 mod deframer;
-mod eight;
 mod fed;
 mod frame_bits;
-mod gathered;
+mod word;
 
 pub use deframer::Deframer;
 pub use fed::Fed;
 pub use frame_bits::{FrameBits, write_frame};
+pub use word::{Part, Word};

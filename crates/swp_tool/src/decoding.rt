@@ -17,7 +17,7 @@ const PIECE: usize = 8192;
 /// The most bytes that are read at once where the end of the longest record is near.
 const LAST_PIECE: usize = 4096;
 
-/// The most text that is gathered before a step: behind it there is room for the lines of eight bytes.
+/// The most text that is gathered before a step: behind it there is room for the lines of a step of many bytes.
 const MOST_GATHERED: usize = 6144;
 
 /// A decoding under way: what is kept of the record, and the lines that aren't written yet.
@@ -76,29 +76,30 @@ fn take_byte<K: Sink>(sink: &mut K, decoding: &mut Decoding, byte: u8) -> Result
     Ok(())
 }
 
-/// Reads eight bytes of the record.
-fn take_eight<K: Sink>(sink: &mut K, decoding: &mut Decoding, bytes: &[u8; 8]) -> Result<(), Failed>
-    requires few { decoding.old.decoder.count + 8 ≤ 16777216 }
+/// Reads the first of some bytes of the record, at least one. It answers how many were read.
+fn take_first<K: Sink>(
+    sink: &mut K,
+    decoding: &mut Decoding,
+    bytes: &[u8; 64],
+) -> Result<usize, Failed>
+    requires few { decoding.old.decoder.count + 64 ≤ 16777216 }
     ensures count { K.faults sink.old ≤ K.faults sink.new }
     ensures fault { OnErr result (Rose (K.faults sink.old) (K.faults sink.new)) }
-    ensures read { OnOk result (decoding.new.decoder.count ≡ decoding.old.decoder.count + 8) }
-    ensures goes { OnOk result ((read before : List ℕ) → IsDecoding K.tells decoding.old read before (K.written sink.old)
-        → IsDecoding K.tells decoding.new (read ++ bytes.now) before (K.written sink.new)) }
+    ensures some { IfOk result (λ n. 0 < n) }
+    ensures within { IfOk result (λ n. n ≤ 64) }
+    ensures read { IfOk result (λ n. decoding.new.decoder.count ≡ decoding.old.decoder.count + n) }
+    ensures goes { IfOk result (λ n. (read before : List ℕ) → IsDecoding K.tells decoding.old read before (K.written sink.old)
+        → IsDecoding K.tells decoding.new (read ++ take n bytes.now) before (K.written sink.new)) }
     ensures ends { OnErr result ((read before : List ℕ) → IsDecoding K.tells decoding.old read before (K.written sink.old)
         → IsFrontOfLines K.tells read before (K.written sink.new)) }
 {
     make_room(sink, decoding)?;
-    decoding.decoder.step_eight(bytes, &mut decoding.text);
-    Ok(())
+    Ok(decoding.decoder.step_many(bytes, &mut decoding.text))
 }
 
-/// Reads the bytes of a piece of the record eight at a time, as far as so many are left of it and the record may have so many
-/// more. It answers how many were read.
-fn take_eights<K: Sink>(
-    sink: &mut K,
-    decoding: &mut Decoding,
-    piece: &[u8],
-) -> Result<usize, Failed>
+/// Reads the bytes of a piece of the record up to sixty-four at a time, as far as so many are left of it and the record may have so
+/// many more. It answers how many were read.
+fn take_many<K: Sink>(sink: &mut K, decoding: &mut Decoding, piece: &[u8]) -> Result<usize, Failed>
     requires few { decoding.old.decoder.count ≤ 16777216 }
     ensures count { K.faults sink.old ≤ K.faults sink.new }
     ensures fault { OnErr result (Rose (K.faults sink.old) (K.faults sink.new)) }
@@ -111,12 +112,12 @@ fn take_eights<K: Sink>(
         → IsFrontOfSome K.tells (bytes ++ piece.now ++ rest) before (K.written sink.new)) }
 {
     let mut read = 0;
-    'eights: while let Some((eight, _)) = piece[read..].split_first_chunk::<8>() {
-        if decoding.decoder.count > Decoder::MAX_BYTES - 8 {
+    'piece: while let Some((first, _)) = piece[read..].split_first_chunk::<64>() {
+        if decoding.decoder.count > Decoder::MAX_BYTES - 64 {
             break;
         }
-        take_eight(sink, decoding, eight)?;
-        read += 8;
+        let further = take_first(sink, decoding, first)?;
+        read += further;
     }
     Ok(read)
 }
@@ -186,7 +187,7 @@ fn take_all<K: Sink>(sink: &mut K, decoding: &mut Decoding, piece: &[u8]) -> Res
     ensures ends { IfErr result (λ status. (bytes left rest before : List ℕ) → IsDecoding K.tells decoding.old bytes before (K.written sink.old)
         → DecodedBy K.tells status (bytes ++ piece.now ++ rest) left before (K.written sink.new)) }
 {
-    match take_eights(sink, decoding, piece) {
+    match take_many(sink, decoding, piece) {
         Ok(read) => take_each(sink, decoding, &piece[read..]),
         Err(Failed) => Err(Status::WriteFault),
     }

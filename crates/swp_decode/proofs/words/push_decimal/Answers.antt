@@ -1,6 +1,6 @@
-use Rattle.std.proofs.Common.{◌≤◌, length, ap, arith, length-append}
+use Rattle.std.proofs.Common.{◌≤◌, ◌++◌, ◌∙◌, length, ap, sym, arith, length-append}
 use Rattle.std.specs.Prelude.{decimal}
-use Rattle.std.proofs.lemmas.Fmt.{length-decimal-le}
+use Rattle.std.proofs.lemmas.Fmt.{length-decimal-le, decimal_digit}
 use Rattle.swp_decode.proofs.words.push_decimal.Goals as goal
 
 pub push_digits-requires : goal.push_digits-requires
@@ -12,3 +12,6 @@ pub returns-clause-sized : goal.returns-clause-sized
 returns-clause-sized c =
     let short : length (decimal c.args.n) ≤ 10 = length-decimal-le 10 c.args.n (omega arith) (omega (arith, c.ranges.n.fits)) (omega (arith, c.ranges.n.fits)) in
     omega (arith, short, ap length c.push_digits.ensures, length-append c.args.text.now.items (decimal c.args.n))
+
+pub returns-then-n-lt10-clause-items : goal.returns-then-n-lt10-clause-items
+returns-then-n-lt10-clause-items c = c.push.ensures.items ∙ ap (λ xs. c.args.text.now.items ++ xs) (sym (decimal_digit c.args.n c.if-n-lt10.true))

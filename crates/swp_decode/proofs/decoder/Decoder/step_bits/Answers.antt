@@ -1,50 +1,160 @@
-use Rattle.std.proofs.Common.{◌∙◌, ◌++◌, ap, sym, arith, append-nil}
-use Rattle.swp_base.specs.Bits.{bits_of_byte}
+use Rattle.std.proofs.Common.{◌≡◌, ◌≤◌, ◌<◌, ◌∙◌, ◌+◌, ◌-◌, ◌%◌, ◌^◌, ◌++◌, ℕ, List, false, length, take, drop, get_or, Some, refl, sym, ap, ap₂, arith, append-nil, rules}
+use Rattle.std.specs.Int.RustNames.{bit_or}
+use lib.Count.{count_leading_zeros}
+use Rattle.std.proofs.Math.Nat.{mod-eq_of_lt}
+use Rattle.std.proofs.lemmas.List.{length-take-le}
+use Rattle.std.proofs.lemmas.Nat.{or_lt, mod_below, pow_pos}
+use Rattle.swp_base.specs.Bits.{bit}
+use Rattle.swp_frame.specs.Signal.{symbol_of, HasNoMark}
+use Rattle.swp_frame.specs.Words.{low_bits, word_bits}
+use Rattle.swp_frame.specs.declared.word.Word.{Word}
+use Rattle.swp_frame.proofs.LowBits.{low_bits-at}
+use Rattle.swp_decode.specs.declared.line.Wire.{Wire}
 use Rattle.swp_decode.specs.declared.line.Wire.TheVariants.{S1, S2}
-use Rattle.swp_decode.specs.Readings.{signal}
-use Rattle.swp_decode.proofs.FurtherBits.{lines_on-quiet}
-use Rattle.swp_decode.proofs.FurtherLines.{lines_of_s1, lines_of_s2, stands_behind}
+use Rattle.swp_decode.specs.Readings.{Reading, signal, symbols, readings_on, AreBits}
+use Rattle.swp_decode.specs.Decoded.{line_with, lines_behind}
+use Rattle.swp_decode.proofs.FurtherBits.{quiet_between}
+use Rattle.swp_decode.proofs.Gathering.{AreBits-take}
+use Rattle.swp_decode.proofs.FurtherLines.{lines_between, lines_through, stands_behind}
+use Rattle.swp_decode.proofs.Marks.{IsNext, next_place, none_before, marks_left}
 use Rattle.swp_decode.proofs.decoder.Decoder.step_bits.Goals as goal
+use Rattle.swp_decode.proofs.decoder.Decoder.step_bits.Goals.{then-marks-test+else-passed-lt-MOST_PLACES, else-marks-test}
 
-pub returns-in-true-true-clause-stands : goal.returns-in-true-true-clause-stands
-returns-in-true-true-clause-stands c = λ older stands.
-    stands_behind c.args.self.now _ c.args.bytes.now older (bits_of_byte c.args.bits.s1) (bits_of_byte c.args.bits.s2) c.requires.s1 c.requires.s2 stands (omega arith)
-    (c.in-true-true.ensures.reads (signal S1 older) stands.s1)
-    (c.in-true-true.ensures'.reads (signal S2 older) stands.s2)
+-- what is left of the marks
+next_of : (marks all read : ℕ) → read ≤ 64 → marks ≡ all % 2 ^ (64 - read) → IsNext marks read (count_leading_zeros 64 marks)
+next_of marks all read few is = next_place marks read (count_leading_zeros 64 marks) few (rw is (mod_below all (2 ^ (64 - read)) (pow_pos (64 - read)))) refl
 
-pub returns-in-true-true-clause-lines : goal.returns-in-true-true-clause-lines
-returns-in-true-true-clause-lines c = λ older stands.
-    let second = bits_of_byte c.args.bits.s2 in
-    let text = c.args.text.now.items in
-    let quiet_s2 = c.in-true-true.ensures'.quiet (signal S2 older) stands.s2 in
-    sym (append-nil text)
-    ∙ ap (λ lines. text ++ lines)
-    (sym (lines_on-quiet S2 c.args.self.now.count second (signal S2 older) quiet_s2)
-    ∙ lines_of_s2 c.args.self.now c.args.bytes.now older (bits_of_byte c.args.bits.s1) second c.requires.s1 c.requires.s2 stands
-    (c.in-true-true.ensures.quiet (signal S1 older) stands.s1))
+pub marks-init : goal.marks-init
+marks-init c = record {
+  within = omega arith;
+  few = omega arith;
+  progress = omega arith;
+  marks = sym (mod-eq_of_lt (or_lt 64 c.word-s1.result.marks c.word-s2.result.marks (search rules) (search rules)));
+  s1 = λ older reads. reads;
+  s2 = λ older reads. reads;
+  lines = λ older stands. sym (append-nil c.args.text.now.items);
+  sized = omega arith;
+}
 
-pub returns-in-true-false-clause-stands : goal.returns-in-true-false-clause-stands
-returns-in-true-false-clause-stands c = λ older stands.
-    stands_behind c.args.self.now _ c.args.bytes.now older (bits_of_byte c.args.bits.s1) (bits_of_byte c.args.bits.s2) c.requires.s1 c.requires.s2 stands (omega arith)
-    (c.in-true-false.ensures.reads (signal S1 older) stands.s1)
-    (c.decode_eight.ensures.reads (signal S2 older) (rw c.in-true-false.ensures'.unread stands.s2))
+pub decode_through-requires-clause-order : goal.decode_through-requires-clause-order
+decode_through-requires-clause-order c =
+    (next_of c.marks.marks (bit_or c.word-s1.result.marks c.word-s2.result.marks) c.marks.read c.marks.invariant.within c.marks.invariant.marks).behind
 
-pub returns-in-true-false-clause-lines : goal.returns-in-true-false-clause-lines
-returns-in-true-false-clause-lines c = λ older stands.
-    c.decode_eight.ensures.items (signal S2 older) (rw c.in-true-false.ensures'.unread stands.s2)
+pub decode_through-requires-in-marks-clause-order : goal.decode_through-requires-in-marks-clause-order
+decode_through-requires-in-marks-clause-order c =
+    (next_of c.marks.marks (bit_or c.word-s1.result.marks c.word-s2.result.marks) c.marks.read c.marks.invariant.within c.marks.invariant.marks).behind
+
+pub read_between-requires-clause-order : goal.read_between-requires-clause-order
+read_between-requires-clause-order c =
+    (next_of c.marks.marks (bit_or c.word-s1.result.marks c.word-s2.result.marks) c.marks.read c.marks.invariant.within c.marks.invariant.marks).behind
+
+pub read_between-requires-2-clause-order : goal.read_between-requires-2-clause-order
+read_between-requires-2-clause-order c =
+    (next_of c.marks.marks (bit_or c.word-s1.result.marks c.word-s2.result.marks) c.marks.read c.marks.invariant.within c.marks.invariant.marks).behind
+
+-- a wire whose bits were read up to a place, with the bits of its word
+bits_of_word : (wire : Wire) (bytes : List ℕ) (given : ℕ) (word : Word) → word.bits ≡ given → AreBits wire bytes (low_bits 64 given) → AreBits wire bytes (word_bits word)
+bits_of_word wire bytes given word is are = rw is are
+
+-- the line that comes with a bit of a word
+abbrev line_of_word : Wire → Word → ℕ → ℕ → List Reading → List ℕ
+line_of_word wire word place last older = line_with wire (Some (symbol_of (bit word.bits (63 - last)))) (readings_on place (take last (word_bits word)) older)
+
+-- the lines of both wires are those of the bytes
+through : (text bytes older : List ℕ) (word1 word2 : Word) (place from last : ℕ) → length bytes ≡ 64 → AreBits S1 bytes (word_bits word1) → AreBits S2 bytes (word_bits word2)
+    → from ≤ last → last < 64 → place ≡ length older
+    → HasNoMark (symbols (readings_on (length older) (take from (word_bits word1)) (signal S1 older))) (take (last - from) (drop from (word_bits word1)))
+    → HasNoMark (symbols (readings_on (length older) (take from (word_bits word2)) (signal S2 older))) (take (last - from) (drop from (word_bits word2)))
+    → ((text ++ lines_behind older (take from bytes)) ++ line_of_word S1 word1 place last (signal S1 older)) ++ line_of_word S2 word2 place last (signal S2 older)
+    ≡ text ++ lines_behind older (take (last + 1) bytes)
+through text bytes older word1 word2 place from last l s1 s2 order h is quiet1 quiet2 =
+    ap₂ (λ a b. ((text ++ lines_behind older (take from bytes)) ++ a) ++ b) (there S1 word1) (there S2 word2)
+    ∙ lines_through text bytes older (word_bits word1) (word_bits word2) from last s1 s2 order (omega (arith, l, h)) quiet1 quiet2
+  where
+    there : (wire : Wire) (word : Word) → line_of_word wire word place last (signal wire older)
+        ≡ line_with wire (Some (symbol_of (get_or (word_bits word) last false))) (readings_on (length older) (take last (word_bits word)) (signal wire older))
+    there wire word =
+        ap₂ (λ b n. line_with wire (Some (symbol_of b)) (readings_on n (take last (word_bits word)) (signal wire older)))
+        (sym (low_bits-at 64 last word.bits h ∙ ap (bit word.bits) (omega arith))) is
+
+pub marks-preserved : goal.marks-preserved
+marks-preserved c =
+    let bytes = c.args.bytes.now in
+    let place : ℕ = c.args.self.now.count in
+    let word1 = c.word-s1.result in
+    let word2 = c.word-s2.result in
+    let kept = c.marks.invariant in
+    let read = c.marks.read in
+    let last : ℕ = count_leading_zeros 64 c.marks.marks in
+    let all : ℕ = bit_or word1.marks word2.marks in
+    let next = next_of c.marks.marks all read kept.within kept.marks in
+    let inside : last < 64 = next.there (omega (arith, c.marks-test.true)) in
+    let quiet = none_before word1.marks word2.marks c.marks.marks read last next.behind next.within kept.marks next.below in
+    let s1 = bits_of_word S1 bytes c.args.bits.s1 word1 c.word-s1.ensures.bits c.requires.s1 in
+    let s2 = bits_of_word S2 bytes c.args.bits.s2 word2 c.word-s2.ensures.bits c.requires.s2 in
+    record {
+      within = omega (arith, inside);
+      few = omega (arith, c.if-passed-lt-MOST_PLACES.true);
+      progress = omega (arith, kept.progress, next.behind);
+      marks = marks_left c.marks.marks all read last next.behind inside kept.marks;
+      s1 = λ older reads. c.decode_through.ensures.reads older (c.word-s1.ensures.behind older reads) quiet.0 (kept.s1 older reads);
+      s2 = λ older reads. c.decode_through-in-marks.ensures.reads older (c.word-s2.ensures.behind older reads) quiet.1 (kept.s2 older reads);
+      lines = λ older stands.
+          let behind1 = c.word-s1.ensures.behind (signal S1 older) stands.s1 in
+          let behind2 = c.word-s2.ensures.behind (signal S2 older) stands.s2 in
+          c.decode_through-in-marks.ensures.items (signal S2 older) behind2 quiet.1 (kept.s2 (signal S2 older) stands.s2)
+          ∙ ap (λ text. text ++ line_of_word S2 word2 place last (signal S2 older))
+          (c.decode_through.ensures.items (signal S1 older) behind1 quiet.0 (kept.s1 (signal S1 older) stands.s1)
+          ∙ ap (λ text. text ++ line_of_word S1 word1 place last (signal S1 older)) (kept.lines older stands))
+          ∙ through c.args.text.now.items bytes older word1 word2 place read last c.told-bytes s1 s2 next.behind inside stands.count
+          (quiet_between word1 (length older) read last (signal S1 older) next.behind next.within behind1 quiet.0)
+          (quiet_between word2 (length older) read last (signal S2 older) next.behind next.within behind2 quiet.1);
+      sized = omega (arith, kept.sized, c.decode_through.ensures.sized, c.decode_through-in-marks.ensures.sized);
+    }
+
+pub returns-clause-some : goal.returns-clause-some
+unfolding count_leading_zeros
+returns-clause-some c =
+    let next = next_of c.marks.marks (bit_or c.word-s1.result.marks c.word-s2.result.marks) c.marks.read c.marks.invariant.within c.marks.invariant.marks in
+    elim c.marks-test.branch [
+      | then-marks-test+else-passed-lt-MOST_PLACES w ↦ omega (arith, w.if-passed-lt-MOST_PLACES.false, c.marks.invariant.progress, next.behind)
+      | else-marks-test w ↦
+          let none : c.marks.marks ≡ 0 = omega (arith, w.marks-test.false) in
+          let all : count_leading_zeros 64 c.marks.marks ≡ 64 = ap (count_leading_zeros 64) none in
+          omega (arith, all)
+    ]
+
+pub returns-clause-stands : goal.returns-clause-stands
+returns-clause-stands c = λ older stands.
+    let bytes = c.args.bytes.now in
+    let word1 = c.word-s1.result in
+    let word2 = c.word-s2.result in
+    let kept = c.marks.invariant in
+    let to : ℕ = count_leading_zeros 64 c.marks.marks in
+    let next = next_of c.marks.marks (bit_or word1.marks word2.marks) c.marks.read kept.within kept.marks in
+    let quiet = none_before word1.marks word2.marks c.marks.marks c.marks.read to next.behind next.within kept.marks next.below in
+    let s1 = bits_of_word S1 bytes c.args.bits.s1 word1 c.word-s1.ensures.bits c.requires.s1 in
+    let s2 = bits_of_word S2 bytes c.args.bits.s2 word2 c.word-s2.ensures.bits c.requires.s2 in
+    stands_behind c.args.self.now _ (take to bytes) older (take to (word_bits word1)) (take to (word_bits word2))
+    (AreBits-take S1 to bytes (word_bits word1) s1) (AreBits-take S2 to bytes (word_bits word2) s2) stands
+    (omega (arith, length-take-le to bytes (omega (arith, next.within, c.told-bytes))))
+    (c.read_between.ensures (signal S1 older) (c.word-s1.ensures.behind (signal S1 older) stands.s1) quiet.0 (kept.s1 (signal S1 older) stands.s1))
+    (c.read_between-2.ensures (signal S2 older) (c.word-s2.ensures.behind (signal S2 older) stands.s2) quiet.1 (kept.s2 (signal S2 older) stands.s2))
+
+pub returns-clause-lines : goal.returns-clause-lines
+returns-clause-lines c = λ older stands.
+    let bytes = c.args.bytes.now in
+    let word1 = c.word-s1.result in
+    let word2 = c.word-s2.result in
+    let kept = c.marks.invariant in
+    let read = c.marks.read in
+    let to : ℕ = count_leading_zeros 64 c.marks.marks in
+    let next = next_of c.marks.marks (bit_or word1.marks word2.marks) read kept.within kept.marks in
+    let quiet = none_before word1.marks word2.marks c.marks.marks read to next.behind next.within kept.marks next.below in
+    let s1 = bits_of_word S1 bytes c.args.bits.s1 word1 c.word-s1.ensures.bits c.requires.s1 in
+    let s2 = bits_of_word S2 bytes c.args.bits.s2 word2 c.word-s2.ensures.bits c.requires.s2 in
+    kept.lines older stands
     ∙ ap (λ lines. c.args.text.now.items ++ lines)
-    (lines_of_s2 c.args.self.now c.args.bytes.now older (bits_of_byte c.args.bits.s1) (bits_of_byte c.args.bits.s2) c.requires.s1 c.requires.s2 stands
-    (c.in-true-false.ensures.quiet (signal S1 older) stands.s1))
-
-pub returns-in-false-true-clause-stands : goal.returns-in-false-true-clause-stands
-returns-in-false-true-clause-stands c = λ older stands.
-    stands_behind c.args.self.now _ c.args.bytes.now older (bits_of_byte c.args.bits.s1) (bits_of_byte c.args.bits.s2) c.requires.s1 c.requires.s2 stands (omega arith)
-    (c.decode_eight-in-false-true.ensures.reads (signal S1 older) (rw c.in-false-true.ensures.unread stands.s1))
-    (c.in-false-true.ensures'.reads (signal S2 older) stands.s2)
-
-pub returns-in-false-true-clause-lines : goal.returns-in-false-true-clause-lines
-returns-in-false-true-clause-lines c = λ older stands.
-    c.decode_eight-in-false-true.ensures.items (signal S1 older) (rw c.in-false-true.ensures.unread stands.s1)
-    ∙ ap (λ lines. c.args.text.now.items ++ lines)
-    (lines_of_s1 c.args.self.now c.args.bytes.now older (bits_of_byte c.args.bits.s1) (bits_of_byte c.args.bits.s2) c.requires.s1 c.requires.s2 stands
-    (c.in-false-true.ensures'.quiet (signal S2 older) stands.s2))
+    (sym (lines_between bytes older (word_bits word1) (word_bits word2) read to s1 s2 next.behind
+    (quiet_between word1 (length older) read to (signal S1 older) next.behind next.within (c.word-s1.ensures.behind (signal S1 older) stands.s1) quiet.0)
+    (quiet_between word2 (length older) read to (signal S2 older) next.behind next.within (c.word-s2.ensures.behind (signal S2 older) stands.s2) quiet.1)))

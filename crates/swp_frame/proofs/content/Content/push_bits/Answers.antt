@@ -1,75 +1,67 @@
-use Rattle.std.proofs.Common.{◌≡◌, ◌+◌, ◌-◌, ◌*◌, ◌/◌, ◌%◌, ◌^◌, ◌<◌, ◌≤◌, ℕ, length, ◌∙◌, subst, arith, length-append}
-use Rattle.std.proofs.Math.Pow.{pow_mono}
-use Rattle.swp_frame.proofs.Shifts.{joined_fits, upper_fits, as_joined}
-use Rattle.swp_frame.proofs.ContentLemmas.{more_within, after_byte}
+use Rattle.std.proofs.Common.{◌≡◌, ◌∙◌, ◌+◌, ◌-◌, ◌*◌, ◌/◌, ◌%◌, ◌^◌, ◌<◌, ◌≤◌, ◌++◌, ℕ, length, ap, arith, w64, length-append}
+use Rattle.std.proofs.lemmas.Nat.{one_shl}
+use Rattle.std.specs.Int.{to_be_bytes}
+use Rattle.swp_frame.proofs.Shifts.{joined_fits, fits_word, no_wrap, to_top, upper_fits}
+use Rattle.swp_frame.proofs.ContentLemmas.{more_within, more_than_word}
 use Rattle.swp_frame.proofs.content.Content.push_bits.Goals as goal
 
--- what is kept within a byte fits it
-within_fits : (p v f w : ℕ) → p < 2 ^ f → v < 2 ^ w → f + w < 8 → p * 2 ^ w + v < 256
-within_fits p v f w a b h =
-    let bound : 2 ^ (f + w) ≤ 256 = pow_mono {i = f + w} {j = 8} (omega arith) in omega (arith, joined_fits p v f w a b, bound)
-
-pub overflow_cast-self : goal.overflow_cast-self
-overflow_cast-self c =
+pub overflow_add-self : goal.overflow_add-self
+overflow_add-self c =
     let old = c.args.self.now in
-    let fits : old.partial < 2 ^ (old.bits % 8) = old.within_byte (omega arith) in
-    let whole : c.from-3.result * 2 ^ c.args.width % 65536 + c.from-4.result ≡ old.partial * 2 ^ c.args.width + c.args.value =
-    as_joined old.partial c.from-3.result (old.bits % 8) c.args.width c.args.value c.from-4.result c.from-3.ensures c.from-4.ensures fits (omega arith) in
-    let small : c.from-3.result * 2 ^ c.args.width % 65536 + c.from-4.result < 256 =
-    rw whole (within_fits old.partial c.args.value (old.bits % 8) c.args.width fits c.requires.value (omega arith)) in
+    let fits : old.partial < 2 ^ (old.bits % 64) = old.within_word (omega arith) in
+    let small : old.partial * 2 ^ c.args.width % 2 ^ 64 + c.args.value < 2 ^ 64 =
+    rw (no_wrap old.partial (old.bits % 64) c.args.width fits (omega arith))
+    (fits_word old.partial c.args.value (old.bits % 64) c.args.width fits c.requires.value (omega arith)) in
     omega (arith, small)
 
-pub invariant_of-self-then-filled-lt8 : goal.invariant_of-self-then-filled-lt8
-invariant_of-self-then-filled-lt8 c =
+pub invariant_of-self-then-filled-width-lt64 : goal.invariant_of-self-then-filled-width-lt64
+invariant_of-self-then-filled-width-lt64 c =
     let old = c.args.self.now in
     let few : old.bits ≤ 263 = omega arith in
-    let fits : old.partial < 2 ^ (old.bits % 8) = old.within_byte few in
-    let whole : c.from-3.result * 2 ^ c.args.width % 65536 + c.from-4.result ≡ old.partial * 2 ^ c.args.width + c.args.value =
-    as_joined old.partial c.from-3.result (old.bits % 8) c.args.width c.args.value c.from-4.result c.from-3.ensures c.from-4.ensures fits (omega arith) in
-    let filled : c.saturating_add-self.result % 8 ≡ old.bits % 8 + c.args.width = omega arith in
+    let fits : old.partial < 2 ^ (old.bits % 64) = old.within_word few in
+    let filled : c.saturating_add-self.result % 64 ≡ old.bits % 64 + c.args.width = omega arith in
     record {
-      whole_bytes = λ h. old.whole_bytes few ∙ omega arith;
-      within_byte = λ h. rw (whole, filled) (joined_fits old.partial c.args.value (old.bits % 8) c.args.width fits c.requires.value);
+      whole_words = λ h. old.whole_words few ∙ omega arith;
+      within_word = λ h. rw (no_wrap old.partial (old.bits % 64) c.args.width fits (omega arith), filled)
+          (joined_fits old.partial c.args.value (old.bits % 64) c.args.width fits c.requires.value);
     }
 
-pub returns-then-filled-lt8-clause-bits : goal.returns-then-filled-lt8-clause-bits
-returns-then-filled-lt8-clause-bits c = λ bits more kept l n.
+pub returns-then-filled-width-lt64-clause-bits : goal.returns-then-filled-width-lt64-clause-bits
+returns-then-filled-width-lt64-clause-bits c = λ bits more kept l n.
     let old = c.args.self.now in
-    let fits : old.partial < 2 ^ (old.bits % 8) = old.within_byte (omega arith) in
-    let whole : c.from-3.result * 2 ^ c.args.width % 65536 + c.from-4.result ≡ old.partial * 2 ^ c.args.width + c.args.value =
-    as_joined old.partial c.from-3.result (old.bits % 8) c.args.width c.args.value c.from-4.result c.from-3.ensures c.from-4.ensures fits (omega arith) in
+    let fits : old.partial < 2 ^ (old.bits % 64) = old.within_word (omega arith) in
     record {
       count = omega (arith, kept.count, length-append bits more, l);
-      few = λ h. rw whole (more_within old.bytes.items old.partial old.register bits more c.args.value c.args.width
+      few = λ h. rw (no_wrap old.partial (old.bits % 64) c.args.width fits (omega arith))
+          (more_within old.bytes.items old.partial bits more c.args.value c.args.width
           (kept.few (omega (arith, length-append bits more))) l n (omega (arith, kept.count, length-append bits more)));
     }
 
-pub overflow_cast-partial-2 : goal.overflow_cast-partial-2
-overflow_cast-partial-2 c =
+pub overflow_add-word : goal.overflow_add-word
+overflow_add-word c =
     let old = c.args.self.now in
-    let fits : old.partial < 2 ^ (old.bits % 8) = old.within_byte (omega arith) in
-    let whole : c.from-3.result * 2 ^ c.args.width % 65536 + c.from-4.result ≡ old.partial * 2 ^ c.args.width + c.args.value =
-    as_joined old.partial c.from-3.result (old.bits % 8) c.args.width c.args.value c.from-4.result c.from-3.ensures c.from-4.ensures fits (omega arith) in
-    let places : old.bits % 8 + c.args.width ≡ 8 + (old.bits % 8 + c.from.result - 8) = omega arith in
-    let small : (c.from-3.result * 2 ^ c.args.width % 65536 + c.from-4.result) / 2 ^ (old.bits % 8 + c.from.result - 8) < 256 =
-    rw whole (upper_fits (old.partial * 2 ^ c.args.width + c.args.value) (old.bits % 8 + c.from.result - 8)
-    (subst (λ x. old.partial * 2 ^ c.args.width + c.args.value < 2 ^ x) places
-    (joined_fits old.partial c.args.value (old.bits % 8) c.args.width fits c.requires.value))) in
+    let fits : old.partial < 2 ^ (old.bits % 64) = old.within_word (omega arith) in
+    let surplus : ℕ = old.bits % 64 + c.args.width - 64 in
+    let small : old.partial * 2 ^ (63 - old.bits % 64) % 2 ^ 64 * 2 % 2 ^ 64 + c.args.value / 2 ^ surplus < 2 ^ 64 =
+    rw (to_top old.partial (old.bits % 64) fits (omega arith))
+    (upper_fits old.partial c.args.value (old.bits % 64) c.args.width surplus fits c.requires.value (omega arith) (omega arith)) in
     omega (arith, small)
 
 pub returns-clause-bits : goal.returns-clause-bits
 returns-clause-bits c = λ bits more kept l n.
     let old = c.args.self.now in
-    let fits : old.partial < 2 ^ (old.bits % 8) = old.within_byte (omega arith) in
-    let whole : c.from-3.result * 2 ^ c.args.width % 65536 + c.from-4.result ≡ old.partial * 2 ^ c.args.width + c.args.value =
-    as_joined old.partial c.from-3.result (old.bits % 8) c.args.width c.args.value c.from-4.result c.from-3.ensures c.from-4.ensures fits (omega arith) in
+    let fits : old.partial < 2 ^ (old.bits % 64) = old.within_word (omega arith) in
+    let surplus : ℕ = old.bits % 64 + c.args.width - 64 in
     record {
       count = omega (arith, kept.count, length-append bits more, l);
       few = λ h.
-          let before : length bits ≤ 263 = omega (arith, length-append bits more) in
-          let same : old.bits ≡ length bits = omega (arith, kept.count) in
-          let kept_bits = kept.few before in
-          after_byte old.bytes.items c.push_byte.new.bytes.items old.partial old.register c.push_byte.new.register bits more c.args.value c.args.width
-          (c.from-3.result * 2 ^ c.args.width % 65536 + c.from-4.result) (old.bits % 8 + c.from.result - 8) kept_bits l n c.requires.width
-          (omega (arith, same)) whole (omega (arith, same)) c.push_byte.ensures.bytes (c.push_byte.ensures.register kept_bits.running);
+          let same : old.bits ≡ length bits = omega (arith, kept.count, length-append bits more) in
+          let places : length bits % 64 + c.args.width ≡ 64 + surplus = omega (arith, same) in
+          let few : surplus < 64 = omega (arith, c.requires.width) in
+          let word : old.partial * 2 ^ (63 - old.bits % 64) % 2 ^ 64 * 2 % 2 ^ 64 + c.args.value / 2 ^ surplus ≡ old.partial * 2 ^ (64 - length bits % 64) + c.args.value / 2 ^ surplus =
+          ap (λ x. x + c.args.value / 2 ^ surplus) (to_top old.partial (old.bits % 64) fits (omega arith) ∙ ap (λ n. old.partial * 2 ^ (64 - n % 64)) same) in
+          let bytes : c.push_word.new.bytes.items ≡ old.bytes.items ++ to_be_bytes w64 (old.partial * 2 ^ (64 - length bits % 64) + c.args.value / 2 ^ surplus) =
+          c.push_word.ensures ∙ ap (λ x. old.bytes.items ++ to_be_bytes w64 x) word in
+          rw (bytes, one_shl surplus 64 few)
+          (more_than_word old.bytes.items old.partial bits more c.args.value c.args.width surplus (kept.few (omega (arith, length-append bits more))) l n places few);
     }

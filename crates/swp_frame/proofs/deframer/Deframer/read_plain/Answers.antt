@@ -3,7 +3,7 @@ use Rattle.std.specs.Prelude.{Some, option_map}
 use Rattle.swp_frame.specs.Signal.{symbol_of, run_of, since_start, read_on}
 use Rattle.swp_frame.specs.Kept.{KeepsOpen}
 use Rattle.swp_frame.proofs.Runs.{since_run, opened}
-use Rattle.swp_frame.proofs.ShortRuns.{no_mark_after, quiet_since}
+use Rattle.swp_frame.proofs.FurtherBits.{no_mark_after, quiet_since}
 use Rattle.swp_frame.proofs.deframer.Deframer.read_plain.Goals as goal
 use Rattle.swp_frame.proofs.deframer.Deframer.read_plain.Goals.{then-bit, else-bit}
 

@@ -1,0 +1,17 @@
+use Rattle.std.proofs.Common.{◌≡◌, ◌-◌, ◌*◌, ◌/◌, ◌≤◌, take}
+use Rattle.swp_frame.specs.Words.{low_bits}
+use Rattle.swp_decode.specs.declared.line.Wire.TheVariants.{S1, S2}
+use Rattle.swp_decode.specs.Readings.{AreBits}
+use Rattle.swp_decode.proofs.many.many_bits.Given as goal
+
+-- the bits of the bytes so far
+abbrev pub invariant-eights : goal.invariant-eights
+invariant-eights l = record {
+  within : l.read ≤ 64;
+  whole : 8 * (l.read / 8) ≡ l.read;
+  s1 : AreBits S1 (take l.read l.bytes) (low_bits l.read l.s1);
+  s2 : AreBits S2 (take l.read l.bytes) (low_bits l.read l.s2);
+}
+
+abbrev pub decreases-eights : goal.decreases-eights
+decreases-eights l = 64 - l.read

@@ -1,0 +1,363 @@
+-- Parts of a word: which of their bits were put in, and what is left without those.
+use Rattle.std.proofs.Common.{◌≡◌, ℕ, suc, zero, ◌+◌, ◌-◌, ◌*◌, ◌/◌, ◌%◌, ◌^◌, ◌<◌, ◌≤◌, min, Bool, true, false, not, cond, eqb, List, [], ◌∷◌, ◌++◌, length, take, drop, replicate, reverse, refl, sym, ap, ap₂, ◌∙◌, subst, arith, w64, append_assoc, append-nil}
+use mir.Val.{bool_byte}
+use mathlib.Core.Logic.{inl, inr}
+use Rattle.std.specs.Int.{bit_at, trailing_zeros, trailing_ones}
+use Rattle.std.proofs.Math.Nat.{mod-eq_of_lt, pow-suc}
+use Rattle.std.proofs.lemmas.Bool.{eq-eqb, ne_eqb, cases_eq, cases_lt}
+use Rattle.std.proofs.lemmas.List.{reverse-append}
+use Rattle.std.proofs.Math.ListN.{length-replicate}
+use Rattle.std.proofs.Math.Pow.{pow_mono}
+use Rattle.std.proofs.lemmas.Nat.{mod-pow-add, mod_below, pow_pos, shr-shr, shr_high, shr_below, shr_split, mod_low}
+use Rattle.std.proofs.lemmas.Nat.Bits.{bit_at-trailing_zeros, bit_at-trailing_ones, bit_at_above, bit_at-zero, bit_at_ones}
+use lib.Count.{count_trailing_zeros}
+use Rattle.swp_base.specs.Bits.{bit}
+use Rattle.swp_crc.specs.Division.{number_of}
+use Rattle.swp_crc.proofs.Numbers.{number_of-append, number_of-lt}
+use Rattle.swp_frame.specs.Signal.{Symbol, bit_0, bit_1, start_mark, end_mark, no_mark, run_of, unstuffed, read_on, HasNoMark}
+use Rattle.swp_frame.specs.Kept.{CountsLastZero}
+use Rattle.swp_frame.specs.Words.{low_bits, places_of_marks, places_put_in, run_after}
+use Rattle.swp_frame.proofs.Shifts.{joined_fits}
+use Rattle.swp_frame.proofs.LowBits.{length-low_bits, number_of-low_bits, low_bits-number_of, low_bits-same, low_bits-add, low_bits-between}
+use Rattle.swp_frame.proofs.Runs.{added, zero_content, zero_counts}
+
+-- ---- places in a part
+
+pub length-put_in : (ones : ℕ) (bits : List Bool) → length (places_put_in ones bits) ≡ length bits
+length-put_in ones [] = refl
+length-put_in ones (true ∷ bits) = ap suc (length-put_in (suc ones) bits)
+length-put_in ones (false ∷ bits) = ap suc (length-put_in 0 bits)
+
+length-marks : (ones : ℕ) (bits : List Bool) → length (places_of_marks ones bits) ≡ length bits
+length-marks ones [] = refl
+length-marks ones (true ∷ bits) = ap suc (length-marks (suc ones) bits)
+length-marks ones (false ∷ bits) = ap suc (length-marks 0 bits)
+
+take-put_in : (n ones : ℕ) (bits : List Bool) → take n (places_put_in ones bits) ≡ places_put_in ones (take n bits)
+take-put_in zero ones bits = refl
+take-put_in (suc n) ones [] = refl
+take-put_in (suc n) ones (true ∷ bits) = ap (λ xs. false ∷ xs) (take-put_in n (suc ones) bits)
+take-put_in (suc n) ones (false ∷ bits) = ap (λ xs. eqb ones 5 ∷ xs) (take-put_in n 0 bits)
+
+drop-put_in : (n ones : ℕ) (bits : List Bool) → drop n (places_put_in ones bits) ≡ places_put_in (run_after ones (take n bits)) (drop n bits)
+drop-put_in zero ones bits = refl
+drop-put_in (suc n) ones [] = refl
+drop-put_in (suc n) ones (true ∷ bits) = drop-put_in n (suc ones) bits
+drop-put_in (suc n) ones (false ∷ bits) = drop-put_in n 0 bits
+
+take-marks : (n ones : ℕ) (bits : List Bool) → take n (places_of_marks ones bits) ≡ places_of_marks ones (take n bits)
+take-marks zero ones bits = refl
+take-marks (suc n) ones [] = refl
+take-marks (suc n) ones (true ∷ bits) = ap (λ xs. eqb ones 6 ∷ xs) (take-marks n (suc ones) bits)
+take-marks (suc n) ones (false ∷ bits) = ap (λ xs. eqb ones 6 ∷ xs) (take-marks n 0 bits)
+
+drop-marks : (n ones : ℕ) (bits : List Bool) → drop n (places_of_marks ones bits) ≡ places_of_marks (run_after ones (take n bits)) (drop n bits)
+drop-marks zero ones bits = refl
+drop-marks (suc n) ones [] = refl
+drop-marks (suc n) ones (true ∷ bits) = drop-marks n (suc ones) bits
+drop-marks (suc n) ones (false ∷ bits) = drop-marks n 0 bits
+
+-- the places put in of a part, from those of the whole
+pub put_in_between : (w from width ones x given : ℕ) → from + width ≤ w → given ≡ number_of (places_put_in ones (low_bits w x))
+    → given / 2 ^ (w - (from + width)) % 2 ^ width ≡ number_of (places_put_in (run_after ones (take from (low_bits w x))) (take width (drop from (low_bits w x))))
+put_in_between w from width ones x given h is =
+    let bits = low_bits w x in
+    let places = places_put_in ones bits in
+    let field : ℕ = given / 2 ^ (w - (from + width)) in
+    let same : low_bits w given ≡ places = ap (low_bits w) is ∙ low_bits-number_of places w (length-put_in ones bits ∙ length-low_bits w x) in
+    sym (number_of-low_bits width (field % 2 ^ width) ∙ mod-eq_of_lt (mod_below field (2 ^ width) (pow_pos width)))
+    ∙ ap number_of (low_bits-between w from width given h)
+    ∙ ap (λ xs. number_of (take width (drop from xs))) same
+    ∙ ap (λ xs. number_of (take width xs)) (drop-put_in from ones bits)
+    ∙ ap number_of (take-put_in width (run_after ones (take from bits)) (drop from bits))
+
+-- the marks in a part, from those of the whole
+pub marks_between : (w from width ones x given : ℕ) → from + width ≤ w → given ≡ number_of (places_of_marks ones (low_bits w x))
+    → given / 2 ^ (w - (from + width)) % 2 ^ width ≡ number_of (places_of_marks (run_after ones (take from (low_bits w x))) (take width (drop from (low_bits w x))))
+marks_between w from width ones x given h is =
+    let bits = low_bits w x in
+    let places = places_of_marks ones bits in
+    let field : ℕ = given / 2 ^ (w - (from + width)) in
+    let same : low_bits w given ≡ places = ap (low_bits w) is ∙ low_bits-number_of places w (length-marks ones bits ∙ length-low_bits w x) in
+    sym (number_of-low_bits width (field % 2 ^ width) ∙ mod-eq_of_lt (mod_below field (2 ^ width) (pow_pos width)))
+    ∙ ap number_of (low_bits-between w from width given h)
+    ∙ ap (λ xs. number_of (take width (drop from xs))) same
+    ∙ ap (λ xs. number_of (take width xs)) (drop-marks from ones bits)
+    ∙ ap number_of (take-marks width (run_after ones (take from bits)) (drop from bits))
+
+-- a great run is counted as 7
+same_five : (r s : ℕ) → min 7 r ≡ min 7 s → eqb r 5 ≡ eqb s 5
+same_five r s h = elim (cases_eq r 5) [
+  | inl is ↦ eq-eqb r 5 is ∙ sym (eq-eqb s 5 (omega (arith, h, is)))
+  | inr other ↦ ne_eqb r 5 other ∙ sym (ne_eqb s 5 (λ is. other (omega (arith, h, is))))
+]
+
+same_six : (r s : ℕ) → min 7 r ≡ min 7 s → eqb r 6 ≡ eqb s 6
+same_six r s h = elim (cases_eq r 6) [
+  | inl is ↦ eq-eqb r 6 is ∙ sym (eq-eqb s 6 (omega (arith, h, is)))
+  | inr other ↦ ne_eqb r 6 other ∙ sym (ne_eqb s 6 (λ is. other (omega (arith, h, is))))
+]
+
+pub same_put_in : (r s : ℕ) (bits : List Bool) → min 7 r ≡ min 7 s → places_put_in r bits ≡ places_put_in s bits
+same_put_in r s [] h = refl
+same_put_in r s (true ∷ bits) h = ap (λ xs. false ∷ xs) (same_put_in (suc r) (suc s) bits (omega (arith, h)))
+same_put_in r s (false ∷ bits) h = ap (λ x. x ∷ places_put_in 0 bits) (same_five r s h)
+
+pub same_marks : (r s : ℕ) (bits : List Bool) → min 7 r ≡ min 7 s → places_of_marks r bits ≡ places_of_marks s bits
+same_marks r s [] h = refl
+same_marks r s (true ∷ bits) h = ap₂ (λ x xs. x ∷ xs) (same_six r s h) (same_marks (suc r) (suc s) bits (omega (arith, h)))
+same_marks r s (false ∷ bits) h = ap (λ x. x ∷ places_of_marks 0 bits) (same_six r s h)
+
+pub same_run : (r s : ℕ) (bits : List Bool) → min 7 r ≡ min 7 s → min 7 (run_after r bits) ≡ min 7 (run_after s bits)
+same_run r s [] h = h
+same_run r s (true ∷ bits) h = same_run (suc r) (suc s) bits (omega (arith, h))
+same_run r s (false ∷ bits) h = refl
+
+none_first : (place : Bool) (places : List Bool) → number_of (place ∷ places) ≡ 0 → (place ≡ false) × (number_of places ≡ 0)
+none_first true places h = absurd (omega (arith, h, pow_pos (length places)))
+none_first false places h = (refl, h)
+
+-- where none of these places is one of a mark, no mark ends there
+pub no_marks : (seen : List Symbol) (bits : List Bool) → number_of (places_of_marks (run_of seen) bits) ≡ 0 → HasNoMark seen bits
+no_marks seen [] h = tt
+no_marks seen (true ∷ bits) h =
+    let first = none_first (eqb (run_of seen) 6) (places_of_marks (suc (run_of seen)) bits) h in
+    (ap (λ six. cond six end_mark no_mark) first.0, no_marks (bit_1 ∷ seen) bits first.1)
+no_marks seen (false ∷ bits) h =
+    let first = none_first (eqb (run_of seen) 6) (places_of_marks 0 bits) h in
+    (ap (λ six. cond six start_mark no_mark) first.0, no_marks (bit_0 ∷ seen) bits first.1)
+
+-- ---- the bits that were not put in
+
+-- bits without those at these places
+abbrev pub without : List Bool → List Bool → List Bool
+without [] bits = bits
+without (place ∷ places) [] = []
+without (true ∷ places) (bit ∷ bits) = without places bits
+without (false ∷ places) (bit ∷ bits) = bit ∷ without places bits
+
+without_one : (places further bits later : List Bool) (bit : Bool) → length places ≡ length bits
+    → without (places ++ true ∷ further) (bits ++ bit ∷ later) ≡ without (places ++ further) (bits ++ later)
+without_one [] further [] later bit l = refl
+without_one [] further (b ∷ bits) later bit l = absurd (omega (arith, l))
+without_one (p ∷ places) further [] later bit l = absurd (omega (arith, l))
+without_one (true ∷ places) further (b ∷ bits) later bit l = without_one places further bits later bit (omega (arith, l))
+without_one (false ∷ places) further (b ∷ bits) later bit l = ap (λ xs. b ∷ xs) (without_one places further bits later bit (omega (arith, l)))
+
+-- bits that are all 0, and all 1
+zeros_of : (k n : ℕ) → ((i : ℕ) → i < k → bit_at n i ≡ 0) → n % 2 ^ k ≡ 0
+zeros_of zero n h = omega arith
+zeros_of (suc k) n h =
+    let same : 1 + k ≡ suc k = omega arith in
+    let one = ap (λ j. n % 2 ^ j) (sym same) ∙ mod-pow-add n 1 k in
+    let none : n / 2 ^ k % 2 ≡ 0 = h k (omega arith) in
+    one ∙ ap₂ (λ d m. d * 2 ^ k + m) none (zeros_of k n (λ i lt. h i (omega (arith, lt)))) ∙ omega arith
+
+ones_of : (k n : ℕ) → ((i : ℕ) → i < k → bit_at n i ≡ 1) → low_bits k n ≡ replicate k true
+unfolding low_bits
+ones_of zero n h = refl
+ones_of (suc k) n h = ap₂ (λ d bits. eqb d 1 ∷ bits) (h k (omega arith)) (ones_of k n (λ i lt. h i (omega (arith, lt))))
+
+-- the bits above a place, the one there, and those below
+low_bits_split : (w a t n : ℕ) → w ≡ a + suc t → low_bits w n ≡ low_bits a (n / 2 ^ suc t) ++ bit n t ∷ low_bits t n
+unfolding low_bits
+low_bits_split w a t n e = low_bits-add a (suc t) w n e
+
+-- what is left of a number without the bit at a place
+abbrev pub squeezed : ℕ → ℕ → ℕ
+squeezed n t = n / 2 ^ suc t * 2 ^ t + n % 2 ^ t
+
+upper_half : (n t : ℕ) → n < 2 ^ 64 → n / 2 ^ suc t * 2 ^ t < 2 ^ 64
+upper_half n t h =
+    let double : n / 2 ^ suc t * 2 ^ suc t ≡ 2 * (n / 2 ^ suc t * 2 ^ t) = ap (λ k. n / 2 ^ suc t * k) (pow-suc 2 t) ∙ omega arith in
+    omega (arith, shr_split n (suc t), double)
+
+-- the same from what the code computes
+pub upper_is : (n t : ℕ) → n < 2 ^ 64 → n / 2 ^ t / 2 * 2 ^ t % 2 ^ 64 ≡ n / 2 ^ suc t * 2 ^ t
+upper_is n t h =
+    let half : n / 2 ^ t / 2 ≡ n / 2 ^ suc t = shr-shr n t 1 ∙ ap (λ k. n / 2 ^ k) (omega arith) in
+    ap (λ k. k * 2 ^ t % 2 ^ 64) half ∙ mod-eq_of_lt (upper_half n t h)
+
+squeezed_bits : (a t n : ℕ) → low_bits (a + t) (squeezed n t) ≡ low_bits a (n / 2 ^ suc t) ++ low_bits t n
+squeezed_bits a t n =
+    let low : n % 2 ^ t < 2 ^ t = mod_below n (2 ^ t) (pow_pos t) in
+    low_bits-add a t (a + t) (squeezed n t) refl
+    ∙ ap₂ (λ xs ys. xs ++ ys)
+    (ap (low_bits a) (shr_high (n / 2 ^ suc t) t (n % 2 ^ t) low))
+    (low_bits-same t (squeezed n t) n (mod_low (n / 2 ^ suc t) t (n % 2 ^ t) low))
+
+squeezed_fits : (a t n : ℕ) → n < 2 ^ (a + suc t) → squeezed n t < 2 ^ (a + t)
+squeezed_fits a t n h = joined_fits (n / 2 ^ suc t) (n % 2 ^ t) a t (shr_below n a (suc t) h) (mod_below n (2 ^ t) (pow_pos t))
+
+-- the last of some places is left out
+pub record IsRemoved (w bits places t : ℕ) : Type 0 where
+  pub within : t < w
+  pub bits_fit : squeezed bits t < 2 ^ (w - 1)
+  pub places_fit : places / 2 ^ suc t * 2 ^ t < 2 ^ (w - 1)
+  pub same : without (low_bits (w - 1) (places / 2 ^ suc t * 2 ^ t)) (low_bits (w - 1) (squeezed bits t)) ≡ without (low_bits w places) (low_bits w bits)
+
+pub removed : (w bits places t : ℕ) → w ≤ 64 → bits < 2 ^ w → places < 2 ^ w → 0 < places → t ≡ trailing_zeros w64 places → IsRemoved w bits places t
+removed w bits places t few bits_fit places_fit some is =
+    let whole : places < 2 ^ 64 = omega (arith, places_fit, pow_mono {i = w} {j = 64} few) in
+    let last = bit_at-trailing_zeros w64 places some whole in
+    let one : bit_at places t ≡ 1 = rw is last.1 in
+    let none : (i : ℕ) → i < t → bit_at places i ≡ 0 = rw is last.2 in
+    let within : t < w = elim (cases_lt t w) [
+      | inl lt ↦ lt
+      | inr over ↦ absurd (omega (arith, one, bit_at_above places w t places_fit over))
+    ] in
+    go w bits places t bits_fit places_fit one (zeros_of t places none) within
+  where
+    go : (w bits places t : ℕ) → bits < 2 ^ w → places < 2 ^ w → bit_at places t ≡ 1 → places % 2 ^ t ≡ 0 → t < w → IsRemoved w bits places t
+    go w bits places t bits_fit places_fit one none within =
+        let a : ℕ = w - suc t in
+        let above : w ≡ a + suc t = omega (arith, within) in
+        let below : a + t ≡ w - 1 = omega (arith, within) in
+        let kept : squeezed places t ≡ places / 2 ^ suc t * 2 ^ t = omega (arith, none) in
+        record {
+          within = within;
+          bits_fit = subst (λ k. squeezed bits t < 2 ^ k) below (squeezed_fits a t bits (subst (λ k. bits < 2 ^ k) above bits_fit));
+          places_fit = subst (λ k. k < 2 ^ (w - 1)) kept (subst (λ k. squeezed places t < 2 ^ k) below (squeezed_fits a t places (subst (λ k. places < 2 ^ k) above places_fit)));
+          same =
+              ap₂ (λ xs ys. without xs ys)
+              (ap₂ low_bits (sym below) (sym kept) ∙ squeezed_bits a t places)
+              (ap (λ k. low_bits k (squeezed bits t)) (sym below) ∙ squeezed_bits a t bits)
+              ∙ sym (without_one (low_bits a (places / 2 ^ suc t)) (low_bits t places) (low_bits a (bits / 2 ^ suc t)) (low_bits t bits) (bit bits t)
+              (length-low_bits a (places / 2 ^ suc t) ∙ sym (length-low_bits a (bits / 2 ^ suc t))))
+              ∙ sym (ap₂ (λ xs ys. without xs ys)
+              (low_bits_split w a t places above ∙ ap (λ d. low_bits a (places / 2 ^ suc t) ++ eqb d 1 ∷ low_bits t places) one)
+              (low_bits_split w a t bits above));
+        }
+
+-- nothing is left out
+pub without_none : (w : ℕ) (bits : List Bool) → length bits ≡ w → without (low_bits w 0) bits ≡ bits
+unfolding low_bits
+without_none zero bits l = refl
+without_none (suc w) [] l = absurd (omega (arith, l))
+without_none (suc w) (b ∷ bits) l =
+    ap (λ d. without (eqb d 1 ∷ low_bits w 0) (b ∷ bits)) (bit_at-zero w) ∙ ap (λ xs. b ∷ xs) (without_none w bits (omega (arith, l)))
+
+abbrev pub kept_of : ℕ → List Bool → List Bool
+kept_of ones [] = []
+kept_of ones (true ∷ bits) = true ∷ kept_of (suc ones) bits
+kept_of ones (false ∷ bits) = added false (not (eqb ones 5)) ++ kept_of 0 bits
+
+-- whether the last 0 was content
+abbrev pub zero_of : Bool → ℕ → List Bool → Bool
+zero_of z ones [] = z
+zero_of z ones (true ∷ bits) = zero_of z (suc ones) bits
+zero_of z ones (false ∷ bits) = zero_of (not (eqb ones 5)) 0 bits
+
+pub kept_content : (seen : List Symbol) (bits : List Bool) → reverse (unstuffed seen) ++ kept_of (run_of seen) bits ≡ reverse (unstuffed (read_on seen bits))
+kept_content seen [] = append-nil (reverse (unstuffed seen))
+kept_content seen (true ∷ bits) =
+    sym (append_assoc (reverse (unstuffed seen)) (true ∷ []) (kept_of (suc (run_of seen)) bits))
+    ∙ ap (λ l. l ++ kept_of (suc (run_of seen)) bits) (sym (reverse-append (true ∷ []) (unstuffed seen)))
+    ∙ kept_content (bit_1 ∷ seen) bits
+kept_content seen (false ∷ bits) =
+    sym (append_assoc (reverse (unstuffed seen)) (added false (not (eqb (run_of seen) 5))) (kept_of 0 bits))
+    ∙ ap (λ l. l ++ kept_of 0 bits) (zero_content seen (not (eqb (run_of seen) 5)) refl)
+    ∙ kept_content (bit_0 ∷ seen) bits
+
+pub kept_zero : (seen : List Symbol) (z : Bool) (bits : List Bool) → CountsLastZero z seen → CountsLastZero (zero_of z (run_of seen) bits) (read_on seen bits)
+kept_zero seen z [] counts = counts
+kept_zero seen z (true ∷ bits) counts = kept_zero (bit_1 ∷ seen) z bits counts
+kept_zero seen z (false ∷ bits) counts = kept_zero (bit_0 ∷ seen) (not (eqb (run_of seen) 5)) bits (zero_counts seen (not (eqb (run_of seen) 5)) refl)
+
+pub without-put_in : (ones : ℕ) (bits : List Bool) → without (places_put_in ones bits) bits ≡ kept_of ones bits
+without-put_in ones [] = refl
+without-put_in ones (true ∷ bits) = ap (λ xs. true ∷ xs) (without-put_in (suc ones) bits)
+without-put_in ones (false ∷ bits) = one (eqb ones 5) (without-put_in 0 bits)
+  where
+    one : (put_in : Bool) → without (places_put_in 0 bits) bits ≡ kept_of 0 bits
+        → without (put_in ∷ places_put_in 0 bits) (false ∷ bits) ≡ added false (not put_in) ++ kept_of 0 bits
+    one true e = e
+    one false e = ap (λ xs. false ∷ xs) e
+
+-- ---- the 1 bits at the end
+
+-- a number whose lowest bits are so many 1 bits
+pub data EndsIn (w n : ℕ) (ones : ℕ) : Type 0 where
+  all_ones : w ≤ ones → low_bits w n ≡ replicate w true → EndsIn w n ones
+  last_zero : ones < w → low_bits w n ≡ low_bits (w - suc ones) (n / 2 ^ suc ones) ++ false ∷ replicate ones true → EndsIn w n ones
+
+pub ends_in : (w n ones : ℕ) → w ≤ 64 → n < 2 ^ w → ones ≡ trailing_ones w64 n → EndsIn w n ones
+unfolding count_trailing_zeros
+ends_in w n ones few fits is = elim (cases_lt (n + 1) (2 ^ 64)) [
+  | inl some ↦ let there = bit_at-trailing_ones w64 n some in zero_there (rw is there.1) (rw is there.2)
+  | inr over ↦ full (omega (arith, over, fits, pow_mono {i = w} {j = 64} few))
+]
+  where
+    zero_there : bit_at n ones ≡ 0 → ((i : ℕ) → i < ones → bit_at n i ≡ 1) → EndsIn w n ones
+    zero_there none one = elim (cases_lt ones w) [
+      | inl lt ↦ last_zero lt
+          (low_bits_split w (w - suc ones) ones n (omega (arith, lt))
+          ∙ ap₂ (λ d bits. low_bits (w - suc ones) (n / 2 ^ suc ones) ++ eqb d 1 ∷ bits) none (ones_of ones n one))
+      | inr over ↦ all_ones over (ones_of w n (λ i lt. one i (omega (arith, lt, over))))
+    ]
+
+    full : n ≡ 2 ^ 64 - 1 → EndsIn w n ones
+    full e =
+        let all : ones ≡ 64 = is ∙ ap (trailing_ones w64) e in
+        all_ones (omega (arith, all, few)) (ones_of w n (λ i lt. ap (λ m. bit_at m i) e ∙ bit_at_ones 64 i (omega (arith, lt, few))))
+
+run_after-ones : (k ones : ℕ) → run_after ones (replicate k true) ≡ ones + k
+run_after-ones zero ones = omega arith
+run_after-ones (suc k) ones = run_after-ones k (suc ones) ∙ omega arith
+
+run_after-zero : (ones k : ℕ) (bits : List Bool) → run_after ones (bits ++ false ∷ replicate k true) ≡ k
+run_after-zero ones k [] = run_after-ones k 0 ∙ omega arith
+run_after-zero ones k (true ∷ bits) = run_after-zero (suc ones) k bits
+run_after-zero ones k (false ∷ bits) = run_after-zero 0 k bits
+
+pub run_at_end : (w n ones before : ℕ) → EndsIn w n ones → (w ≤ ones → run_after before (low_bits w n) ≡ before + w) × (ones < w → run_after before (low_bits w n) ≡ ones)
+run_at_end w n ones before (all_ones over is) = ((λ _. ap (run_after before) is ∙ run_after-ones w before), (λ lt. absurd (omega (arith, lt, over))))
+run_at_end w n ones before (last_zero lt is) =
+    ((λ over. absurd (omega (arith, lt, over))), (λ _. ap (run_after before) is ∙ run_after-zero before ones (low_bits (w - suc ones) (n / 2 ^ suc ones))))
+
+zero_of-ones : (k ones : ℕ) (z : Bool) → zero_of z ones (replicate k true) ≡ z
+zero_of-ones zero ones z = refl
+zero_of-ones (suc k) ones z = zero_of-ones k (suc ones) z
+
+zero_of-zero : (ones k : ℕ) (z : Bool) (bits : List Bool) → zero_of z ones (bits ++ false ∷ replicate k true) ≡ not (eqb (run_after ones bits) 5)
+zero_of-zero ones k z [] = zero_of-ones k 0 (not (eqb ones 5))
+zero_of-zero ones k z (true ∷ bits) = zero_of-zero (suc ones) k z bits
+zero_of-zero ones k z (false ∷ bits) = zero_of-zero 0 k (not (eqb ones 5)) bits
+
+put_in-zero : (ones k : ℕ) (bits : List Bool)
+    → places_put_in ones (bits ++ false ∷ replicate k true) ≡ places_put_in ones bits ++ eqb (run_after ones bits) 5 ∷ places_put_in 0 (replicate k true)
+put_in-zero ones k [] = refl
+put_in-zero ones k (true ∷ bits) = ap (λ xs. false ∷ xs) (put_in-zero (suc ones) k bits)
+put_in-zero ones k (false ∷ bits) = ap (λ xs. eqb ones 5 ∷ xs) (put_in-zero 0 k bits)
+
+-- the bit at a place of a number in three parts
+middle : (xs ys : List Bool) (b : Bool) (k : ℕ) → length ys ≡ k → eqb (number_of (xs ++ b ∷ ys) / 2 ^ k % 2) 0 ≡ not b
+middle xs ys b k l =
+    let low : number_of ys < 2 ^ k = subst (λ n. number_of ys < 2 ^ n) l (number_of-lt ys) in
+    let split : number_of (xs ++ b ∷ ys) ≡ (number_of xs * 2 + bool_byte b) * 2 ^ k + number_of ys =
+    number_of-append xs (b ∷ ys) ∙ ap₂ (λ p n. number_of xs * p + n) (ap (λ n. 2 ^ suc n) l ∙ pow-suc 2 k) (front b ys k l) ∙ spread (number_of xs) (2 ^ k) (bool_byte b) (number_of ys) in
+    ap (λ n. eqb (n % 2) 0) (ap (λ n. n / 2 ^ k) split ∙ shr_high (number_of xs * 2 + bool_byte b) k (number_of ys) low) ∙ parity (number_of xs) b
+  where
+    front : (b : Bool) (ys : List Bool) (k : ℕ) → length ys ≡ k → number_of (b ∷ ys) ≡ bool_byte b * 2 ^ k + number_of ys
+    front true ys k l = rw l (omega arith)
+    front false ys k l = omega arith
+
+    spread : (q p d r : ℕ) → q * (p * 2) + (d * p + r) ≡ (q * 2 + d) * p + r
+    spread q p d r = omega arith
+
+    parity : (q : ℕ) (b : Bool) → eqb ((q * 2 + bool_byte b) % 2) 0 ≡ not b
+    parity q true = ne_eqb _ _ (λ e. absurd (omega (arith, e)))
+    parity q false = eq-eqb _ _ (omega arith)
+
+pub zero_at_end : (w n ones before given : ℕ) (z : Bool) → EndsIn w n ones → given ≡ number_of (places_put_in before (low_bits w n))
+    → (w ≤ ones → zero_of z before (low_bits w n) ≡ z) × (ones < w → zero_of z before (low_bits w n) ≡ eqb (given / 2 ^ ones % 2) 0)
+zero_at_end w n ones before given z (all_ones over is) e =
+    ((λ _. ap (zero_of z before) is ∙ zero_of-ones w before z), (λ lt. absurd (omega (arith, lt, over))))
+zero_at_end w n ones before given z (last_zero lt is) e =
+    let upper = low_bits (w - suc ones) (n / 2 ^ suc ones) in
+    let tail = places_put_in 0 (replicate ones true) in (
+      (λ over. absurd (omega (arith, lt, over))),
+      (λ _. ap (zero_of z before) is ∙ zero_of-zero before ones z upper
+          ∙ sym (middle (places_put_in before upper) tail (eqb (run_after before upper) 5) ones (length-put_in 0 (replicate ones true) ∙ length-replicate ones true))
+          ∙ ap (λ m. eqb (m / 2 ^ ones % 2) 0) (sym (e ∙ ap (λ xs. number_of (places_put_in before xs)) is ∙ ap number_of (put_in-zero before ones upper)))),
+    )

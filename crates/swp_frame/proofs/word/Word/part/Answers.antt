@@ -1,0 +1,21 @@
+use Rattle.std.proofs.Common.{◌∙◌, ◌+◌, ◌-◌, ◌≤◌, ℕ, take, ap, sym, arith}
+use Rattle.swp_crc.specs.Division.{number_of}
+use Rattle.swp_frame.specs.Words.{low_bits, word_bits, places_put_in, run_after}
+use Rattle.swp_frame.proofs.LowBits.{low_bits-between}
+use Rattle.swp_frame.proofs.Places.{put_in_between}
+use Rattle.swp_frame.proofs.word.Word.part.Goals as goal
+
+pub returns-clause-bits : goal.returns-clause-bits
+returns-clause-bits c =
+    let width : ℕ = c.args.to - c.args.from in
+    ap (low_bits width) c.field.ensures ∙ low_bits-between 64 c.args.from width c.args.self.now.bits (omega (arith, c.requires.some, c.requires.within))
+
+pub returns-clause-behind : goal.returns-clause-behind
+returns-clause-behind c ones behind =
+    let width : ℕ = c.args.to - c.args.from in
+    let word = c.args.self.now in
+    let within : c.args.from + width ≤ 64 = omega (arith, c.requires.some, c.requires.within) in
+    c.field-2.ensures
+    ∙ put_in_between 64 c.args.from width ones word.bits word.put_in within behind.put_in
+    ∙ ap (λ xs. number_of (places_put_in (run_after ones (take c.args.from (word_bits word))) xs))
+    (sym (ap (low_bits width) c.field.ensures ∙ low_bits-between 64 c.args.from width word.bits within))
