@@ -22,33 +22,42 @@ fn decoded(rt: &impl Abort, record: &[u8]) -> Text {
     text
 }
 
-/// The same of a record of whole eights, eight bytes at once.
-fn decoded_by_eights(rt: &impl Abort, record: &[u8]) -> Text {
+/// The same, many bytes at once while there are so many.
+fn decoded_by_many(rt: &impl Abort, record: &[u8]) -> Text {
     let mut decoder = Decoder::new();
     let mut text = Text::new();
-    let (eights, rest) = record.as_chunks::<8>();
-    assert!(rt; rest.is_empty());
-    for eight in eights {
-        assert!(rt; decoder.count <= Decoder::MAX_BYTES - 8);
+    let mut left = record;
+    'many: while let Some((many, _)) = left.split_first_chunk::<64>() {
+        assert!(rt; decoder.count <= Decoder::MAX_BYTES - 64);
         assert!(rt; text.len() < 256);
-        decoder.step_eight(eight, &mut text);
+        let read = decoder.step_many(many, &mut text);
+        left = &left[read..];
+    }
+    for byte in left {
+        assert!(rt; decoder.count < Decoder::MAX_BYTES);
+        assert!(rt; text.len() < 256);
+        decoder.step(*byte, &mut text);
     }
     text
 }
 
-/// The bits of a record on S1, and on S2 those of so many bytes before; 0 bits where there are none.
-fn on_both_wires(record: &[u8; 40], later: usize) -> [u8; 40] {
-    let mut both = [0; 40];
-    for (i, byte) in both.iter_mut().enumerate() {
-        let s2 = i >= later && record[i - later] == 0x54;
-        *byte = match (record[i] == 0x54, s2) {
+/// Whether the bit at a place is a 1 where the bits of `RECORD` begin at another.
+fn is_one(place: usize, start: usize) -> bool {
+    place >= start && place - start < 40 && RECORD[place - start] == 0x54
+}
+
+/// A record in which the bits of `RECORD` begin at one place on S1, and at another on S2.
+fn placed(s1: usize, s2: usize) -> [u8; 192] {
+    let mut record = [0; 192];
+    for (place, byte) in record.iter_mut().enumerate() {
+        *byte = match (is_one(place, s1), is_one(place, s2)) {
             (false, false) => 0x40,
             (true, false) => 0x54,
             (false, true) => 0xC0,
             (true, true) => 0xFC,
         };
     }
-    both
+    record
 }
 
 #[test]
@@ -89,21 +98,31 @@ fn both_wires_are_decoded(rt: HostRuntime) -> Result<(), Fail> {
 }
 
 #[test]
-fn eights_are_decoded_as_bytes_are(rt: HostRuntime) -> Result<(), Fail> {
-    let mut invalid = RECORD;
-    invalid[11] = 0x7F;
-    let mut suspended = RECORD;
-    suspended[19] = 0x55;
-    let same = on_both_wires(&RECORD, 0);
-    let shifted = on_both_wires(&RECORD, 5);
-    for record in [RECORD, invalid, suspended, same, shifted] {
-        // Twice in a row, so that there is a frame open on S2 when the first record ends.
-        let twice = [record, record];
-        let record = twice.as_flattened();
-        let text = decoded_by_eights(&rt, record);
-        assert_eq!(rt; text.as_slice(), decoded(&rt, record).as_slice());
+fn marks_at_each_place_of_a_word_are_decoded(rt: HostRuntime) -> Result<(), Fail> {
+    for place in 0..64 {
+        for later in [0, 5, 64] {
+            for record in [placed(place, place + later), placed(place + later, place)] {
+                let text = decoded_by_many(&rt, &record);
+                assert!(rt; text.len() > 20);
+                assert_eq!(rt; text.as_slice(), decoded(&rt, &record).as_slice());
+            }
+        }
     }
-    let text = decoded_by_eights(&rt, &same);
-    assert_eq!(rt; text.as_slice(), b"s1 0 C1 rr 1\ns2 0 C1 rr 1\n".as_slice());
+    Ok(())
+}
+
+#[test]
+fn many_bytes_are_decoded_as_each_is(rt: HostRuntime) -> Result<(), Fail> {
+    let text = decoded_by_many(&rt, &placed(64, 64));
+    assert_eq!(rt;
+        text.as_slice(),
+        b"s1 64 C1 rr 1\ns2 64 C1 rr 1\n".as_slice()
+    );
+    for (place, byte) in [(75, 0x7F), (83, 0x55), (191, 0x00)] {
+        let mut record = placed(64, 69);
+        record[place] = byte;
+        let text = decoded_by_many(&rt, &record);
+        assert_eq!(rt; text.as_slice(), decoded(&rt, &record).as_slice());
+    }
     Ok(())
 }

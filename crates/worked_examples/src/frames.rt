@@ -13,27 +13,6 @@ fn last_of(bits: &[u8]) -> Fed {
     last
 }
 
-/// The same, where eight bits are read at once wherever they can be; how often they were is counted.
-fn last_by_eights(bits: &[u8]) -> (Fed, u32) {
-    let mut deframer = Deframer::new();
-    let mut last = Fed::Nothing;
-    let mut at_once = 0u32;
-    for eight in bits.chunks(8) {
-        let mut byte = 0u8;
-        for bit in eight {
-            byte = (byte % 128) * 2 + u8::from(*bit == b'1');
-        }
-        if eight.len() == 8 && deframer.feed_eight(byte) {
-            at_once = at_once.saturating_add(1);
-            continue;
-        }
-        for bit in eight {
-            last = deframer.feed(*bit == b'1');
-        }
-    }
-    (last, at_once)
-}
-
 fn is_spelled(frame: &FrameBits, bits: &[u8]) -> bool {
     let spelled = frame.bits.as_slice();
     spelled.len() == bits.len()
@@ -78,16 +57,23 @@ fn frames_are_read(rt: HostRuntime) -> Result<(), Fail> {
 }
 
 #[test]
-fn frames_are_read_eight_bits_at_once(rt: HostRuntime) -> Result<(), Fail> {
-    let fragment = Lpdu::from_bytes(&[0x80, 0x81, 0x03]).ok_or("short")?;
+fn word_tells_its_marks_and_stuffed_zeros(rt: HostRuntime) -> Result<(), Fail> {
+    let mut deframer = Deframer::new();
+    // A start of frame, five 1 bits, and at the end four.
+    let first = deframer.word(0x7EF8_0000_0000_000F);
+    assert_eq!(rt; first.marks, 1 << 56);
+    assert_eq!(rt; first.put_in, 1 << 50);
+    deframer.feed_part(first.part(0, 7));
+    assert!(rt; deframer.is_before_start());
+    assert_eq!(rt; deframer.feed(false), Fed::Nothing);
+    deframer.feed_part(first.part(8, 64));
+    // Two more 1 bits, and three: the third of them ends the frame.
+    let second = deframer.word(0xE000_0000_0000_0000);
+    assert_eq!(rt; second.marks, 1 << 61);
+    deframer.feed_part(second.part(0, 2));
     assert_eq!(rt;
-        last_by_eights(b"01111110100000001000000100000011000100001111001101111111"),
-        (Fed::Frame(fragment), 5)
-    );
-    let e6 = Lpdu::from_bytes(&[0xE6]).ok_or("short")?;
-    assert_eq!(rt;
-        last_by_eights(b"01111110111001101000001111100011101111111"),
-        (Fed::Frame(e6), 3)
+        deframer.feed(true),
+        Fed::Refused(FrameFault::Alignment { bits: 50 })
     );
     Ok(())
 }
