@@ -23,7 +23,7 @@ pub struct LinkEnd {
 }
 
 impl LinkEnd {
-    ghost use Rattle.std.specs.Prelude.{◌≡◌, ◌≢◌, ℕ, ◌≤◌, ◌∷◌, [], List, None, IfOk, IfErr, IfSome, OnOk, OnErr, OnSome, option_map};
+    ghost use Rattle.std.specs.Prelude.{◌≡◌, ◌≢◌, ℕ, ◌≤◌, ◌∷◌, [], List, None, Ok, IfOk, IfErr, IfSome, OnOk, OnErr, OnSome, option_map};
     ghost use Rattle.swp_base.specs.declared.link_terms.Role.{Role as Named};
     ghost use Rattle.swp_frame.specs.Signal.{Symbol};
     ghost use Rattle.swp_frame.specs.Kept.{StandsFor as DeframerStandsFor};
@@ -34,7 +34,7 @@ impl LinkEnd {
     ghost use Rattle.hcp_packet.specs.Packets.{IsSendable};
     ghost use Rattle.link_messages.specs.Outgoing.{LeavesOthersBut};
     ghost use Rattle.swp_act.specs.declared.ActEvent.TheVariants.{Start as ActStart};
-    ghost use Rattle.swp_lpdu.specs.Controls.{bytes_of};
+    ghost use Rattle.swp_lpdu.specs.Controls.{bytes_of, control_of};
     ghost use Rattle.link_machine.specs.Machine.{LinkEnd as Machine, new_link_end, after_input, report, lpdu_input, next_frame, oldest};
     ghost use Rattle.link_machine.specs.Machine.LinkInput.{TakeBroken, Tick, Reset, Start, Stop, FromNode, Fetch};
     ghost use Rattle.link_machine.specs.Machine.Turn.{Give, Hold, FetchMessage};
@@ -273,6 +273,7 @@ impl LinkEnd {
         requires { (m : Machine) × StandsFor self.old.link pool.now m }
         ensures stands { (m : Machine) → StandsFor self.old.link pool.now m → StandsFor self.new.link pool.now (after_input m Fetch) }
         ensures answer { (m : Machine) → StandsFor self.old.link pool.now m → result ≡ option_map bytes_of (next_frame m) }
+        ensures read { (m : Machine) → StandsFor self.old.link pool.now m → IfSome (next_frame m) (λ c. control_of (bytes_of c) ≡ Ok c) }
         ensures boxes { (self.new.link.outbox ≡ self.old.link.outbox) × (self.new.link.inbox ≡ self.old.link.inbox) }
         ensures inputs { (self.new.deframer ≡ self.old.deframer) × (self.new.byte_link ≡ self.old.byte_link) }
     {
