@@ -1,0 +1,21 @@
+//! The law of histories whose events have causes: whatever follows a schedule is legal. Nothing here runs.
+#![tactic(auto)]
+
+ghost use Rattle.std.specs.Prelude.{◌≡◌, false, List};
+ghost use Rattle.std.specs.List.{list_any, AllByRecursion};
+ghost use Rattle.trace_model.specs.declared.line.Header.{Header};
+ghost use Rattle.trace_model.specs.declared.line.Line.{Line};
+ghost use Rattle.trace_model.specs.Lines.{IsHeader, IsLineOf};
+ghost use Rattle.cause_history.specs.Histories.{History, all_entries};
+ghost use Rattle.cause_history.specs.Follows.{Follows};
+ghost use Rattle.cause_history.specs.Legal.{Prefix, is_chain_fault};
+
+/// In each history of a bare world that follows a schedule each end has got, at each moment and in each session, a front of the
+/// good messages that the other sent in it; the good ones among those that count as acknowledged are a front of what the other got;
+/// and no more count than were sent. No session ends by a packet that can't be joined.
+pub fn messages_are_in_order()
+    ensures in_order { (header : Header) (lines : List Line) (t : History) → AllByRecursion (IsLineOf header) lines → IsHeader header
+        → Follows header lines t → Prefix t }
+    ensures joined { (header : Header) (lines : List Line) (t : History) → AllByRecursion (IsLineOf header) lines → IsHeader header
+        → Follows header lines t → list_any is_chain_fault (all_entries t) ≡ false }
+{}
