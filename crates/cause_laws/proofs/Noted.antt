@@ -21,7 +21,7 @@ use Rattle.cause_history.specs.Steps.{end_of, entry_of, entries_for}
 
 -- ## At the ends of the link
 
-same_number : (n : ℕ) → (n == n) ≡ true
+pub same_number : (n : ℕ) → (n == n) ≡ true
 same_number n = grind (arith, common_steps)
 
 -- ends of one link are the same where they are at the same side

@@ -115,7 +115,7 @@ order_there h p e n q =
     read_as (entries_for h p) e n [] [] 0 (none_sent e n (entries_for h p) (unsaid h e p q)) (none_acked e n (entries_for h p) (unsaid h e p q))
     (none_got (other_end e) n (entries_for h p) (unsaid h (other_end e) p q)) empty
 
-same_link : (h k : ℕ) → (h == k) ≡ true → h ≡ k
+pub same_link : (h k : ℕ) → (h == k) ≡ true → h ≡ k
 same_link h k q = grind (arith, common_steps)
 
 order_at : (h : ℕ) (p : List Noted) → ((who : Side) (n : ℕ) → InOrderIn p who n) → (e : End) (n : ℕ) → AtEnd (entries_for h p) e n

@@ -42,7 +42,7 @@ at_either l e x near far = go e.at_host
     go false = near
 
 -- it is an event of the link
-can_event : (l : Link) (c : Cause) → CanCause c → IsEvent l (event_of c)
+pub can_event : (l : Link) (c : Cause) → CanCause c → IsEvent l (event_of c)
 can_event l (Given e m) can = at_either l e _ (tt, ((can, tt), tt)) (tt, ((can, tt), tt))
 can_event l (WasReset e window) can = at_either l e _ (can, (tt, tt)) (can, (tt, tt))
 can_event l (Taken e) can = at_either l e _ (tt, (tt, tt)) (tt, (tt, tt))
@@ -114,6 +114,10 @@ of_entries h l (x ∷ xs) a =
 pub of_allowed : (h : ℕ) (l : Link) (xs : List Event) → AreOf h l xs → AllAllowed l (link_events xs)
 of_allowed h l [] a = tt
 of_allowed h l (x ∷ xs) a = (can_event l x.cause a.1, of_allowed h (link_after l x.cause) xs a.2)
+
+pub of_can : (h : ℕ) (l : Link) (xs : List Event) → AreOf h l xs → CanAll (causes_of xs)
+of_can h l [] a = tt
+of_can h l (x ∷ xs) a = (a.1, of_can h (link_after l x.cause) xs a.2)
 
 -- ## Lines
 

@@ -1,0 +1,291 @@
+-- What is noted of a link that is neither started, stopped nor cut off says which session each end has.
+use Rattle.std.proofs.Common.{◌≡◌, ℕ, Bool, true, false, List, [], ◌∷◌, ◌++◌, map, Option, Some, None, refl, ap, sym, ◌∙◌}
+use Rattle.std.specs.Prelude.{is_some, nat_lt, option_to_list, max, length, if◌then◌else◌}
+use Rattle.std.specs.List.{fold}
+use Rattle.std.proofs.lemmas.List.Sums.{fold-append}
+use Rattle.swp_base.specs.declared.control_frames.Control.{Control}
+use Rattle.swp_base.specs.declared.link_terms.Cause.{Cause as EndedBy}
+use Rattle.shdlc_core.specs.declared.answers.LinkState.{LinkState}
+use Rattle.shdlc_core.specs.declared.answers.LinkState.TheVariants.{Down as IsDown, Waiting as IsWaitingNow, Up as IsUpNow}
+use Rattle.shdlc_core.specs.Machine.{most_frames}
+use Rattle.session_laws.specs.Sessions.{OnWire, took_with}
+use Rattle.link_machine.specs.Machine.{LinkEnd, Refused, LinkInput, Turn, Report, report, turn, turned, give_refusal, after_input, ended_by, began_by, whole_acked, frames_out}
+use Rattle.link_machine.specs.Machine.LinkInput.{Take, Tick as HasTick, Reset}
+use Rattle.link_machine.specs.Machine.Turn.{Give, Hold, FetchMessage, SetAside, Release}
+use Rattle.link_machine.proofs.Shifts.{Shift, IsNotUp}
+use Rattle.link_machine.proofs.Shifts.Shift.{Stays, Ends, Renews, Begins, Rests as ShiftRests}
+use Rattle.link_machine.proofs.Reports.{Reports, take_so, tick_so, reset_so}
+use Rattle.message_link.specs.Links.{Half, Link, Loss, number_of, put, becomes, finished, with_ended, has_taken, AreSendableTurns}
+use Rattle.message_link.specs.Links.Ending.{GoesOut}
+use Rattle.message_link.specs.Links.Loss.{TooMany}
+use Rattle.message_link.proofs.Ends.{frames_alike}
+use Rattle.link_entries.specs.Entries.{End, Entry, far, if_so, told, told_of, turn_entry, turn_entries, sent_unless, first_lost, wire_with, put_entries, puts_entries, rest_entries, input_entries, left_after, taken_entries, aged_entries}
+use Rattle.link_entries.specs.Entries.Entry.{Up, Down, Active, GaveUp, Acked, Got}
+use Rattle.link_entries.specs.Filters.{same_end}
+use Rattle.link_entries.proofs.Books.{same_self, same_far, with_side}
+use Rattle.link_entries.proofs.Stepping.{puts_number}
+use Rattle.link_entries.proofs.Noting.{turned_same, IsQuietEnd, quiet_idle, quiet_reset, quiet_tick, Near, Frame, ended_number}
+
+-- ## Sessions
+
+-- the number of the session that an end has, if it is up
+abbrev pub session_now : Half → Option ℕ
+session_now h = by_phase h.side.shdlc.phase where
+  by_phase : LinkState → Option ℕ
+  by_phase IsUpNow = Some (number_of h)
+  by_phase IsWaitingNow = None
+  by_phase IsDown = None
+
+pub up_session : (h : Half) → h.side.shdlc.phase ≡ IsUpNow → session_now h ≡ Some (number_of h)
+up_session h p = rw p refl
+
+pub down_session : (h : Half) → IsNotUp h.side.shdlc → session_now h ≡ None
+down_session h down = go h.side.shdlc.phase refl
+  where
+    go : (p : LinkState) → h.side.shdlc.phase ≡ p → session_now h ≡ None
+    go IsUpNow p = absurd (down p)
+    go IsWaitingNow p = rw p refl
+    go IsDown p = rw p refl
+
+-- an end that has a session is up, and this is its number
+pub session_up : (h : Half) (n : ℕ) → session_now h ≡ Some n → (h.side.shdlc.phase ≡ IsUpNow) × (number_of h ≡ n)
+session_up h n q = go h.side.shdlc.phase refl
+  where
+    go : (p : LinkState) → h.side.shdlc.phase ≡ p → (h.side.shdlc.phase ≡ IsUpNow) × (number_of h ≡ n)
+    go IsUpNow p = (p, (let z : Some (number_of h) ≡ Some n = sym (up_session h p) ∙ q in cc))
+    go IsWaitingNow p = absurd (let z : None ≡ Some n = rw p at q in cc)
+    go IsDown p = absurd (let z : None ≡ Some n = rw p at q in cc)
+
+-- two ends in the same phase with the same number
+same_session : (a b : Half) → a.side.shdlc.phase ≡ b.side.shdlc.phase → (b.side.shdlc.phase ≡ IsUpNow → number_of a ≡ number_of b) → session_now a ≡ session_now b
+same_session a b p n = go b.side.shdlc.phase refl
+  where
+    go : (y : LinkState) → b.side.shdlc.phase ≡ y → session_now a ≡ session_now b
+    go IsUpNow q = up_session a (p ∙ q) ∙ (ap (λ m. Some m) (n q) ∙ sym (up_session b q))
+    go IsWaitingNow q = down_session a (λ u. let z = sym (p ∙ q) ∙ u in cc) ∙ sym (down_session b (λ u. let z = sym q ∙ u in cc))
+    go IsDown q = down_session a (λ u. let z = sym (p ∙ q) ∙ u in cc) ∙ sym (down_session b (λ u. let z = sym q ∙ u in cc))
+
+-- ## What is heard of them
+
+-- the session of an end after one more entry
+abbrev pub heard_one : End → Option ℕ → Entry → Option ℕ
+heard_one who s (Up w n) = if same_end w who then Some n else s
+heard_one who s (Down w cause) = if same_end w who then None else s
+heard_one who s _ = s
+
+-- after these entries, one after another
+abbrev pub heard : End → Option ℕ → List Entry → Option ℕ
+heard who s t = fold (heard_one who) s t
+
+pub heard-append : (who : End) (s : Option ℕ) (t u : List Entry) → heard who s (t ++ u) ≡ heard who (heard who s t) u
+heard-append who s t u = fold-append (heard_one who) s t u
+
+-- these say nothing of the sessions of an end
+abbrev pub Passes : End → List Entry → Type 0
+Passes who t = (s : Option ℕ) → heard who s t ≡ s
+
+pub passes-append : (who : End) (t u : List Entry) → Passes who t → Passes who u → Passes who (t ++ u)
+passes-append who t u p q s = heard-append who s t u ∙ (ap (λ z. heard who z u) (p s) ∙ q s)
+
+passes_so : (who : End) (b : Bool) (e : Entry) → Passes who (e ∷ []) → Passes who (if_so b e)
+passes_so who false e p s = refl
+passes_so who true e p s = p s
+
+passes_map : {A : Type 0} (who : End) (f : A → Entry) (xs : List A) → ((x : A) → Passes who (f x ∷ [])) → Passes who (map f xs)
+passes_map who f [] p s = refl
+passes_map who f (x ∷ xs) p s = ap (λ z. heard who z (map f xs)) (p x s) ∙ passes_map who f xs p s
+
+-- what is told behind the end and the beginning of a session
+abbrev told_rest : End → ℕ → Report → ℕ → List Entry
+told_rest who n r acked =
+    if_so r.became_active (Active who) ++ (map (GaveUp who) (option_to_list r.gave_up) ++ (if_so (nat_lt 0 r.acked) (Acked who n acked) ++ map (Got who n) r.got))
+
+passes_told_rest : (w who : End) (n : ℕ) (r : Report) (acked : ℕ) → Passes w (told_rest who n r acked)
+passes_told_rest w who n r acked =
+    let a = passes-append w (if_so (nat_lt 0 r.acked) (Acked who n acked)) (map (Got who n) r.got)
+    (passes_so w (nat_lt 0 r.acked) (Acked who n acked) (λ s. refl)) (passes_map w (Got who n) r.got (λ m s. refl)) in
+    let b = passes-append w (map (GaveUp who) (option_to_list r.gave_up)) (if_so (nat_lt 0 r.acked) (Acked who n acked) ++ map (Got who n) r.got)
+    (passes_map w (GaveUp who) (option_to_list r.gave_up) (λ m s. refl)) a in
+    passes-append w (if_so r.became_active (Active who))
+    (map (GaveUp who) (option_to_list r.gave_up) ++ (if_so (nat_lt 0 r.acked) (Acked who n acked) ++ map (Got who n) r.got))
+    (passes_so w r.became_active (Active who) (λ s. refl)) b
+
+-- nothing is told of the other end
+passes_told : (who : End) (n : ℕ) (r : Report) (acked : ℕ) → Passes (far who) (told who n r acked)
+passes_told who n r acked =
+    let q = same_far who in
+    let b = passes-append (far who) (if_so r.began (Up who n)) (told_rest who n r acked) (passes_so (far who) r.began (Up who n) (λ s. rw q refl))
+    (passes_told_rest (far who) who n r acked) in
+    passes-append (far who) (map (Down who) (option_to_list r.ended)) (if_so r.began (Up who n) ++ told_rest who n r acked)
+    (passes_map (far who) (Down who) (option_to_list r.ended) (λ c s. rw q refl)) b
+
+-- the session of an end whose session ended or not, and where one with this number began or not
+abbrev after_told : Bool → Bool → ℕ → Option ℕ → Option ℕ
+after_told ended began n s = if began then Some n else (if ended then None else s)
+
+heard_down : (who : End) (o : Option EndedBy) (s : Option ℕ) → heard who s (map (Down who) (option_to_list o)) ≡ (if is_some o then None else s)
+heard_down who None s = refl
+heard_down who (Some c) s = let q = same_self who in rw q refl
+
+heard_up : (who : End) (b : Bool) (n : ℕ) (s : Option ℕ) → heard who s (if_so b (Up who n)) ≡ (if b then Some n else s)
+heard_up who false n s = refl
+heard_up who true n s = let q = same_self who in rw q refl
+
+heard_told : (who : End) (n : ℕ) (r : Report) (acked : ℕ) (s : Option ℕ) → heard who s (told who n r acked) ≡ after_told (is_some r.ended) r.began n s
+heard_told who n r acked s =
+    let first : Option ℕ = if is_some r.ended then None else s in
+    heard-append who s (map (Down who) (option_to_list r.ended)) (if_so r.began (Up who n) ++ told_rest who n r acked)
+    ∙ (ap (λ z. heard who z (if_so r.began (Up who n) ++ told_rest who n r acked)) (heard_down who r.ended s)
+    ∙ (heard-append who first (if_so r.began (Up who n)) (told_rest who n r acked)
+    ∙ (passes_told_rest who who n r acked (heard who first (if_so r.began (Up who n))) ∙ heard_up who r.began n first)))
+
+-- what becomes of the session of h as it becomes k
+shifted : (h k : Half) (ended began : Bool) → Shift h.side.shdlc k.side.shdlc ended began
+    → (h.side.shdlc.phase ≡ IsUpNow → ended ≡ false → number_of k ≡ number_of h) → after_told ended began (number_of k) (session_now h) ≡ session_now k
+shifted h k ended began (Stays p q g) same =
+    rw (p, q) (up_session h g.was ∙ (ap (λ m. Some m) (sym (same g.was p)) ∙ sym (up_session k g.is)))
+shifted h k ended began (Ends p q up still s) same = rw (p, q) (sym (down_session k still))
+shifted h k ended began (Renews p q up new) same = rw q (sym (up_session k new.is))
+shifted h k ended began (Begins p q down new) same = rw q (sym (up_session k new.is))
+shifted h k ended began (ShiftRests p q down still s) same = rw (p, q) (down_session h down ∙ sym (down_session k still))
+
+-- ## Turns and frames
+
+passes_turn : (w who : End) (n : ℕ) (e : LinkEnd) (t : Turn) → Passes w (turn_entry who n e t)
+passes_turn w who n e (Give m) = go (give_refusal e m)
+  where
+    go : (o : Option Refused) → Passes w (sent_unless o who n m)
+    go None s = refl
+    go (Some why) s = refl
+passes_turn w who n e (Hold held) = λ s. refl
+passes_turn w who n e FetchMessage = λ s. refl
+passes_turn w who n e SetAside = λ s. refl
+passes_turn w who n e Release = λ s. refl
+
+passes_turns : (w who : End) (n : ℕ) (e : LinkEnd) (ts : List Turn) → Passes w (turn_entries who n e ts)
+passes_turns w who n e [] = λ s. refl
+passes_turns w who n e (t ∷ ts) =
+    passes-append w (turn_entry who n e t) (turn_entries who n (turn e t) ts) (passes_turn w who n e t) (passes_turns w who n (turn e t) ts)
+
+passes_first : (w who : End) (why : Loss) (xs : List OnWire) → Passes w (first_lost who why xs)
+passes_first w who why [] = λ s. refl
+passes_first w who why (x ∷ xs) = λ s. refl
+
+passes_pushed : (w who : End) (b : Bool) (xs : List OnWire) → Passes w (if b then first_lost who TooMany xs else [])
+passes_pushed w who true xs = passes_first w who TooMany xs
+passes_pushed w who false xs = λ s. refl
+
+passes_puts : (w who : End) (cs : List Control) (l : Link) → Passes w (puts_entries who l cs)
+passes_puts w who [] l = λ s. refl
+passes_puts w who (c ∷ cs) l =
+    passes-append w (put_entries who l c) (puts_entries who (put l c) cs)
+    (passes_pushed w (far who) (nat_lt 64 (length (wire_with l c))) (wire_with l c)) (passes_puts w who cs (put l c))
+
+pub passes_lost : (w who : End) (why : Loss) (xs : List OnWire) → Passes w (first_lost who why xs)
+passes_lost w who why xs = passes_first w who why xs
+
+pub passes_aged : (w who : End) (xs : List OnWire) → Passes w (aged_entries who xs)
+passes_aged w who [] = λ s. refl
+passes_aged w who (x ∷ xs) = go (nat_lt x.age 4) refl (passes_aged w who xs)
+  where
+    go : (b : Bool) → nat_lt x.age 4 ≡ b → Passes w (aged_entries who xs) → Passes w (aged_entries who (x ∷ xs))
+    go true q later s = rw q (later s)
+    go false q later s = rw q (later s)
+
+passes_rest : (w who : End) (l : Link) (e : LinkEnd) (ts : List Turn) → Passes w (rest_entries who l e ts GoesOut)
+passes_rest w who l e ts =
+    passes-append w (turn_entries who (number_of l.controller) e ts) (puts_entries who l (frames_out (turned e ts)))
+    (passes_turns w who (number_of l.controller) e ts) (passes_puts w who (frames_out (turned e ts)) l)
+
+-- a step without an input keeps the session
+rest_session : (l : Link) (e : LinkEnd) (ts : List Turn) → IsQuietEnd e ts
+    → session_now (becomes l (turned e ts)).controller ≡ session_now (with_side l.controller e)
+rest_session l e ts quiet =
+    let f : LinkEnd = turned e ts in
+    same_session (becomes l f).controller (with_side l.controller e) ((frames_alike most_frames f.shdlc).phase ∙ turned_same ts e)
+    (λ up. puts_number l (frames_out f) (quiet (turned_same ts e ∙ up)))
+
+-- ## Steps
+
+-- an input, and what follows it
+input_heard : (who : End) (l k : Link) (took : ℕ) (i : LinkInput) (ts : List Turn) → Reports l.controller.side i
+    → number_of k.controller ≡ max l.controller.emitted took
+    → (l.controller.side.shdlc.phase ≡ IsUpNow → is_some (ended_by l.controller.side i) ≡ false → max l.controller.emitted took ≡ number_of l.controller)
+    → IsQuietEnd (after_input l.controller.side i) ts
+    → heard who (session_now l.controller)
+    (told_of who (record l.controller { took = took }) i ++ rest_entries who k (after_input l.controller.side i) ts GoesOut)
+    ≡ session_now (becomes k (turned (after_input l.controller.side i) ts)).controller
+input_heard who l k took i ts so number same quiet =
+    let e : LinkEnd = l.controller.side in
+    let f : LinkEnd = after_input e i in
+    let h : Half = record l.controller { took = took } in
+    let us : List Entry = told who (number_of h) (report e i) (whole_acked f) in
+    let vs : List Entry = rest_entries who k f ts GoesOut in
+    heard-append who (session_now l.controller) us vs
+    ∙ (passes_rest who who k f ts (heard who (session_now l.controller) us)
+    ∙ (heard_told who (number_of h) (report e i) (whole_acked f) (session_now l.controller)
+    ∙ (shifted l.controller (with_side h f) (is_some (ended_by e i)) (began_by e i) so.shift same
+    ∙ (same_session (with_side h f) (with_side k.controller f) refl (λ up. sym number) ∙ sym (rest_session k f ts quiet)))))
+
+input_far : (who : End) (l k : Link) (took : ℕ) (i : LinkInput) (ts : List Turn)
+    → Passes (far who) (told_of who (record l.controller { took = took }) i ++ rest_entries who k (after_input l.controller.side i) ts GoesOut)
+input_far who l k took i ts =
+    let e : LinkEnd = l.controller.side in
+    let f : LinkEnd = after_input e i in
+    passes-append (far who) (told who (max l.controller.emitted took) (report e i) (whole_acked f)) (rest_entries who k f ts GoesOut)
+    (passes_told who (max l.controller.emitted took) (report e i) (whole_acked f)) (passes_rest (far who) who k f ts)
+
+-- a step tells the session of its end, and nothing of the other end
+pub record Heard (who : End) (l m : Link) (u : List Entry) : Type 0 where
+  pub here : heard who (session_now l.controller) u ≡ session_now m.controller
+  pub there : Passes (far who) u
+
+pub tick_heard : (who : End) (l : Link) (ts : List Turn) → AreSendableTurns ts → Near l
+    → Heard who l (finished (with_ended l (is_some (ended_by l.controller.side HasTick))) (turned (after_input l.controller.side HasTick) ts) GoesOut)
+    (input_entries who l HasTick ts GoesOut)
+tick_heard who l ts a n =
+    let e : LinkEnd = l.controller.side in
+    let k : Link = with_ended l (is_some (ended_by e HasTick)) in
+    record {
+      here = input_heard who l k l.controller.took HasTick ts (tick_so e n.sound) (ended_number l (is_some (ended_by e HasTick))) (λ up q. refl)
+          (quiet_tick l ts a n.tells n.rests);
+      there = input_far who l k l.controller.took HasTick ts;
+    }
+
+pub reset_heard : (who : End) (l : Link) (window : Option ℕ) (ts : List Turn) → AreSendableTurns ts → Near l
+    → Heard who l (finished (with_ended l (is_some (ended_by l.controller.side (Reset window)))) (turned (after_input l.controller.side (Reset window)) ts) GoesOut)
+    (input_entries who l (Reset window) ts GoesOut)
+reset_heard who l window ts a n =
+    let e : LinkEnd = l.controller.side in
+    let k : Link = with_ended l (is_some (ended_by e (Reset window))) in
+    record {
+      here = input_heard who l k l.controller.took (Reset window) ts (reset_so e window n.sound) (ended_number l (is_some (ended_by e (Reset window))))
+          (λ up q. refl) (quiet_reset l window ts a n.tells n.rests);
+      there = input_far who l k l.controller.took (Reset window) ts;
+    }
+
+pub idle_heard : (who : End) (l : Link) (ts : List Turn) → AreSendableTurns ts → Near l
+    → Heard who l (becomes l (turned l.controller.side ts)) (rest_entries who l l.controller.side ts GoesOut)
+idle_heard who l ts a n =
+    record {
+      here = passes_rest who who l l.controller.side ts (session_now l.controller) ∙ sym (rest_session l l.controller.side ts (quiet_idle l ts a n.tells n.rests));
+      there = passes_rest (far who) who l l.controller.side ts;
+    }
+
+pub taken_heard : (who : End) (l : Link) (x : OnWire) (xs : List OnWire) (ts : List Turn) → Near l → Frame l x ts
+    → Heard who l (has_taken l x xs ts GoesOut) (taken_entries who l x xs ts GoesOut)
+taken_heard who l x xs ts n fr =
+    let e : LinkEnd = l.controller.side in
+    let i : LinkInput = Take x.frame in
+    let k : Link = left_after l x xs in
+    let j : ℕ = took_with l.controller.took x in
+    record {
+      here = input_heard who l k j i ts (take_so e x.frame n.sound) (number (is_some (ended_by e i)))
+          (λ up q. ap (max l.controller.emitted) (fr.same up q)) (λ _. fr.quiet);
+      there = input_far who l k j i ts;
+    }
+  where
+    number : (c : Bool) → number_of (record (with_ended (record l { to_controller = xs }) c).controller { took = took_with l.controller.took x })
+        ≡ max l.controller.emitted (took_with l.controller.took x)
+    number false = refl
+    number true = refl
