@@ -30,8 +30,23 @@ use Rattle.cause_laws.proofs.Plain.{plain_trace}
 use Rattle.cause_laws.proofs.Reading.{session-all, none_session, no_bytes, wire-controller, wire-host, since-all, plain_since, undisturbed}
 
 -- the link after these events
-abbrev link_now : List Event → Link
+abbrev pub link_now : List Event → Link
 link_now xs = after bare_link (link_events xs)
+
+-- where the wires are empty as they are read they are empty
+pub empty_controller : (h : ℕ) (xs : List Event) → wire_to (entries_for h (notes_of xs)) (end_of h Controller) ≡ [] → (link_now xs).to_controller ≡ []
+empty_controller h xs q =
+    let t : List Noted = notes_of xs in
+    let plain = plain_trace (causes_of xs) in
+    sym (ap (λ (s : Seen). s.to_controller) (read_off bare_link IsBare (link_events xs)))
+    ∙ no_bytes (see_all nothing_seen t).to_controller (sym (wire-controller h t nothing_seen refl plain) ∙ q)
+
+pub empty_host : (h : ℕ) (xs : List Event) → wire_to (entries_for h (notes_of xs)) (end_of h Host) ≡ [] → (link_now xs).to_host ≡ []
+empty_host h xs q =
+    let t : List Noted = notes_of xs in
+    let plain = plain_trace (causes_of xs) in
+    sym (ap (λ (s : Seen). s.to_host) (read_off bare_link IsBare (link_events xs)))
+    ∙ no_bytes (see_all nothing_seen t).to_host (sym (wire-host h t nothing_seen refl plain) ∙ q)
 
 -- both ends are up with this number, nothing disturbed the link since, and its wires are empty
 record IsStill (h : ℕ) (xs : List Event) (n : ℕ) : Type 0 where
@@ -54,7 +69,6 @@ kept_quiet h xs n a q =
     let near = session_up (link_now xs).controller n (sym (session-all h t Controller ∙ controller_heard (causes_of xs) can) ∙ q.controller) in
     let there = session_up (link_now xs).host n (sym (session-all h t Host ∙ host_heard (causes_of xs) can) ∙ q.host) in
     let plain = plain_trace (causes_of xs) in
-    let seen = read_off bare_link IsBare (link_events xs) in
     let since_is = since-all h n t in
     let calm : list_any disturbs (since n t) ≡ false =
     undisturbed h (since n t) (plain_since n t plain) (sym (ap (has_lost h) since_is) ∙ q.lossless) (sym (ap (has_rnr h) since_is) ∙ q.ready) in
@@ -64,11 +78,8 @@ kept_quiet h xs n a q =
         controller = near.0;
         host = there.0;
         undisturbed = subst P (sym near.1) calm;
-        to_controller =
-            sym (ap (λ (s : Seen). s.to_controller) seen)
-            ∙ no_bytes (see_all nothing_seen t).to_controller (sym (wire-controller h t nothing_seen refl plain) ∙ q.to_controller);
-        to_host =
-            sym (ap (λ (s : Seen). s.to_host) seen) ∙ no_bytes (see_all nothing_seen t).to_host (sym (wire-host h t nothing_seen refl plain) ∙ q.to_host);
+        to_controller = empty_controller h xs q.to_controller;
+        to_host = empty_host h xs q.to_host;
       };
       number = near.1;
     }

@@ -238,7 +238,7 @@ or_left : (a b : Bool) → (a || b) ≡ false → a ≡ true → ⊥
 or_left true b q e = let z : true ≡ false = q in cc
 or_left false b q e = cc
 
-link_same : (h : ℕ) (w : Side) → ((end_of h w).link == h) ≡ true
+pub link_same : (h : ℕ) (w : Side) → ((end_of h w).link == h) ≡ true
 link_same h Controller = same_number h
 link_same h Host = same_number h
 
