@@ -94,6 +94,7 @@ busy_then_ready : noted_by_line 2 bare_link busy_then_ready_lines ≡
     (Emit (end_c 2) (192 ∷ []) ∷ []) ∷
     (Took (end_h 2) (208 ∷ []) ∷ Took (end_h 2) (192 ∷ []) ∷ Emit (end_h 2) (128 ∷ 129 ∷ 3 ∷ []) ∷ []) ∷ []
 busy_then_ready = refl
+
 -- nobody delivers five tries
 abbrev nobody_delivers_five_tries_lines : List Line
 nobody_delivers_five_tries_lines =

@@ -57,7 +57,8 @@ session_up h n q = go h.side.shdlc.phase refl
     go IsDown p = absurd (let z : None ≡ Some n = rw p at q in cc)
 
 -- two ends in the same phase with the same number
-same_session : (a b : Half) → a.side.shdlc.phase ≡ b.side.shdlc.phase → (b.side.shdlc.phase ≡ IsUpNow → number_of a ≡ number_of b) → session_now a ≡ session_now b
+same_session : (a b : Half) → a.side.shdlc.phase ≡ b.side.shdlc.phase → (b.side.shdlc.phase ≡ IsUpNow → number_of a ≡ number_of b)
+    → session_now a ≡ session_now b
 same_session a b p n = go b.side.shdlc.phase refl
   where
     go : (y : LinkState) → b.side.shdlc.phase ≡ y → session_now a ≡ session_now b
@@ -98,7 +99,8 @@ passes_map who f (x ∷ xs) p s = ap (λ z. heard who z (map f xs)) (p x s) ∙ 
 -- what is told behind the end and the beginning of a session
 abbrev told_rest : End → ℕ → Report → ℕ → List Entry
 told_rest who n r acked =
-    if_so r.became_active (Active who) ++ (map (GaveUp who) (option_to_list r.gave_up) ++ (if_so (nat_lt 0 r.acked) (Acked who n acked) ++ map (Got who n) r.got))
+    if_so r.became_active (Active who)
+    ++ (map (GaveUp who) (option_to_list r.gave_up) ++ (if_so (nat_lt 0 r.acked) (Acked who n acked) ++ map (Got who n) r.got))
 
 passes_told_rest : (w who : End) (n : ℕ) (r : Report) (acked : ℕ) → Passes w (told_rest who n r acked)
 passes_told_rest w who n r acked =
@@ -167,12 +169,12 @@ passes_turns w who n e [] = λ s. refl
 passes_turns w who n e (t ∷ ts) =
     passes-append w (turn_entry who n e t) (turn_entries who n (turn e t) ts) (passes_turn w who n e t) (passes_turns w who n (turn e t) ts)
 
-passes_first : (w who : End) (why : Loss) (xs : List OnWire) → Passes w (first_lost who why xs)
-passes_first w who why [] = λ s. refl
-passes_first w who why (x ∷ xs) = λ s. refl
+pub passes_lost : (w who : End) (why : Loss) (xs : List OnWire) → Passes w (first_lost who why xs)
+passes_lost w who why [] = λ s. refl
+passes_lost w who why (x ∷ xs) = λ s. refl
 
 passes_pushed : (w who : End) (b : Bool) (xs : List OnWire) → Passes w (if b then first_lost who TooMany xs else [])
-passes_pushed w who true xs = passes_first w who TooMany xs
+passes_pushed w who true xs = passes_lost w who TooMany xs
 passes_pushed w who false xs = λ s. refl
 
 passes_puts : (w who : End) (cs : List Control) (l : Link) → Passes w (puts_entries who l cs)
@@ -180,9 +182,6 @@ passes_puts w who [] l = λ s. refl
 passes_puts w who (c ∷ cs) l =
     passes-append w (put_entries who l c) (puts_entries who (put l c) cs)
     (passes_pushed w (far who) (nat_lt 64 (length (wire_with l c))) (wire_with l c)) (passes_puts w who cs (put l c))
-
-pub passes_lost : (w who : End) (why : Loss) (xs : List OnWire) → Passes w (first_lost who why xs)
-passes_lost w who why xs = passes_first w who why xs
 
 pub passes_aged : (w who : End) (xs : List OnWire) → Passes w (aged_entries who xs)
 passes_aged w who [] = λ s. refl
@@ -253,7 +252,8 @@ tick_heard who l ts a n =
     }
 
 pub reset_heard : (who : End) (l : Link) (window : Option ℕ) (ts : List Turn) → AreSendableTurns ts → Near l
-    → Heard who l (finished (with_ended l (is_some (ended_by l.controller.side (Reset window)))) (turned (after_input l.controller.side (Reset window)) ts) GoesOut)
+    → Heard who l
+    (finished (with_ended l (is_some (ended_by l.controller.side (Reset window)))) (turned (after_input l.controller.side (Reset window)) ts) GoesOut)
     (input_entries who l (Reset window) ts GoesOut)
 reset_heard who l window ts a n =
     let e : LinkEnd = l.controller.side in
@@ -268,7 +268,8 @@ pub idle_heard : (who : End) (l : Link) (ts : List Turn) → AreSendableTurns ts
     → Heard who l (becomes l (turned l.controller.side ts)) (rest_entries who l l.controller.side ts GoesOut)
 idle_heard who l ts a n =
     record {
-      here = passes_rest who who l l.controller.side ts (session_now l.controller) ∙ sym (rest_session l l.controller.side ts (quiet_idle l ts a n.tells n.rests));
+      here = passes_rest who who l l.controller.side ts (session_now l.controller)
+          ∙ sym (rest_session l l.controller.side ts (quiet_idle l ts a n.tells n.rests));
       there = passes_rest (far who) who l l.controller.side ts;
     }
 

@@ -2,7 +2,6 @@
 use Rattle.std.proofs.Common.{◌≡◌, ℕ, Bool, true, false, List, [], ◌∷◌, ◌++◌, Option, Some, None, max, refl, ap, sym, ◌∙◌, arith}
 use Rattle.std.specs.Prelude.{◌==◌, ◌&&◌, if◌then◌else◌}
 use Rattle.std.specs.List.{cons_option, fold, list_any, AllByRecursion}
-use Rattle.std.proofs.lemmas.Grind.{common_steps}
 use Rattle.std.proofs.lemmas.List.Elements.{filter_map-append}
 use Rattle.swp_base.specs.declared.link_terms.Cause.TheVariants.{Asked, NoAnswer, Peer, Act as ByAct, Chain}
 use Rattle.trace_model.specs.declared.entry.Entry.{Entry}
@@ -13,6 +12,7 @@ use Rattle.link_entries.specs.Entries.End.{Controller, Host}
 use Rattle.link_entries.specs.Entries.Entry.{Up, Down, Active, GaveUp, Acked, Got, Sent, Emit, Took, Lost, Tick, Restarted, Cut}
 use Rattle.link_entries.specs.Filters.{same_end as same_side, sent_in as link_sent, got_in as link_got, acked_in as link_acked}
 use Rattle.link_entries.specs.Order.{is_chain_fault as link_fault}
+use Rattle.link_entries.proofs.Lasting.{same_number}
 use Rattle.link_entries.proofs.Books.{Book, read-append}
 use Rattle.cause_history.specs.Filters.{Saying, same_end, at_end, said_of, sent_by, got_by, acked_after, sent_in, got_in, acked_in}
 use Rattle.cause_history.specs.Filters.Saying.{Begins, Ends, Sends, Gets, Counts}
@@ -20,9 +20,6 @@ use Rattle.cause_history.specs.Legal.{is_chain_fault}
 use Rattle.cause_history.specs.Steps.{end_of, entry_of, entries_for}
 
 -- ## At the ends of the link
-
-pub same_number : (n : ℕ) → (n == n) ≡ true
-same_number n = grind (arith, common_steps)
 
 -- ends of one link are the same where they are at the same side
 pub same_as : (h : ℕ) (w who : Side) → same_end (end_of h w) (end_of h who) ≡ same_side w who
@@ -166,10 +163,6 @@ acked-all h t who n = acked-from h t who n 0 ∙ let z : max 0 (link_acked t who
 -- nothing is said of an end
 abbrev pub Unsaid : End → List Entry → Type 0
 Unsaid e t = AllByRecursion (λ entry. said_of e entry ≡ None) t
-
-link_of : (h : ℕ) (w : Side) → (end_of h w).link ≡ h
-link_of h Controller = refl
-link_of h Host = refl
 
 unsaid_there : (h : ℕ) (e : End) (w : Side) (s : Saying) → (h == e.link) ≡ false → at_end e (Some (end_of h w, s)) ≡ None
 unsaid_there h e Controller s q = rw q refl

@@ -38,7 +38,8 @@ control_numbers e Rnr_due = omega arith
 control_numbers e Rset_due = tt
 control_numbers e Ua_due = tt
 
-due_numbers : (e : EndState) (due : List Due) (q : Option Fragment) (c : Control) → fragment_due e.session ≡ q → frame_due (record e { due = due }) ≡ Some c → HasNumbers c
+due_numbers : (e : EndState) (due : List Due) (q : Option Fragment) (c : Control) → fragment_due e.session ≡ q
+    → frame_due (record e { due = due }) ≡ Some c → HasNumbers c
 due_numbers e (d ∷ due) q c f is = let same : control_due e d ≡ c = cc in subst HasNumbers same (control_numbers e d)
 due_numbers e [] None c f is = absurd (let h : None ≡ Some c = rw f at is in cc)
 due_numbers e [] (Some info) c f is =

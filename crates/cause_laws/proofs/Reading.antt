@@ -18,11 +18,12 @@ use Rattle.link_entries.specs.Entries.Entry.{Up, Down, Active, GaveUp, Acked, Go
 use Rattle.link_entries.specs.Filters.{same_end as same_side}
 use Rattle.link_entries.specs.Reading.{Seen, see, see_all, numbered}
 use Rattle.link_entries.specs.Quiet.{disturbs, begins, since}
+use Rattle.link_entries.proofs.Lasting.{same_number}
 use Rattle.cause_history.specs.Filters.{Saying, same_end, said_of, session_after, session_of, wire_after, wire_to}
 use Rattle.cause_history.specs.Filters.Saying.{Begins, Ends, Sends, Gets, Counts, Puts, Takes, Loses}
 use Rattle.cause_history.specs.Legal.{begins_on, since_up, has_lost, has_rnr, is_rnr}
 use Rattle.cause_history.specs.Steps.{end_of, entries_for}
-use Rattle.cause_laws.proofs.Noted.{same_number, same_as, if_said, Unsaid}
+use Rattle.cause_laws.proofs.Noted.{same_as, if_said, Unsaid}
 use Rattle.cause_laws.proofs.Heard.{heard}
 use Rattle.cause_laws.proofs.Plain.{ArePlain}
 
@@ -120,14 +121,16 @@ unmoved wire x true false q = q.here
 unmoved wire x false true q = q.there
 unmoved wire x false false q = refl
 
-put_seen : (h : ℕ) (who w : Side) (s : Seen) (c : Control) → moved h who w (bytes_on (wire_seen who s)) (Puts (lpdu_of c)) ≡ bytes_on (wire_seen who (see s (Emit w c)))
+put_seen : (h : ℕ) (who w : Side) (s : Seen) (c : Control) → moved h who w (bytes_on (wire_seen who s)) (Puts (lpdu_of c))
+    ≡ bytes_on (wire_seen who (see s (Emit w c)))
 put_seen h Controller Controller s c = let z = same_number h in rw z refl
 put_seen h Controller Host s c =
     let z = same_number h in rw z (sym (map-append (λ (x : OnWire). lpdu_of x.frame) s.to_controller (numbered s c ∷ [])))
 put_seen h Host Controller s c = let z = same_number h in rw z (sym (map-append (λ (x : OnWire). lpdu_of x.frame) s.to_host (numbered s c ∷ [])))
 put_seen h Host Host s c = let z = same_number h in rw z refl
 
-taken_seen : (h : ℕ) (who w : Side) (s : Seen) (c : Control) → moved h who w (bytes_on (wire_seen who s)) (Takes (lpdu_of c)) ≡ bytes_on (wire_seen who (see s (Took w c)))
+taken_seen : (h : ℕ) (who w : Side) (s : Seen) (c : Control) → moved h who w (bytes_on (wire_seen who s)) (Takes (lpdu_of c))
+    ≡ bytes_on (wire_seen who (see s (Took w c)))
 taken_seen h Controller Controller s c = let z = same_number h in rw z (drop-map (λ (x : OnWire). lpdu_of x.frame) 1 s.to_controller)
 taken_seen h Controller Host s c = let z = same_number h in rw z refl
 taken_seen h Host Controller s c = let z = same_number h in rw z refl
@@ -174,7 +177,8 @@ wire-from h who (Tick ∷ t) s p = ap (λ z. wire_from z (end_of h who) (entries
 wire-from h who (Restarted w ∷ t) s p = absurd p.0
 wire-from h who (Cut w ∷ t) s p = absurd p.0
 
-pub wire-controller : (h : ℕ) (t : List Noted) (s : Seen) → s.to_controller ≡ [] → ArePlain t → wire_to (entries_for h t) (end_of h Controller) ≡ bytes_on (see_all s t).to_controller
+pub wire-controller : (h : ℕ) (t : List Noted) (s : Seen) → s.to_controller ≡ [] → ArePlain t
+    → wire_to (entries_for h t) (end_of h Controller) ≡ bytes_on (see_all s t).to_controller
 wire-controller h t s q p = ap (λ z. wire_from (bytes_on z) (end_of h Controller) (entries_for h t)) (sym q) ∙ wire-from h Controller t s p
 
 pub wire-host : (h : ℕ) (t : List Noted) (s : Seen) → s.to_host ≡ [] → ArePlain t → wire_to (entries_for h t) (end_of h Host) ≡ bytes_on (see_all s t).to_host
@@ -243,7 +247,8 @@ link_same h Controller = same_number h
 link_same h Host = same_number h
 
 -- where no frame of it was lost and no RNR put on it nothing disturbed a bare link
-pub undisturbed : (h : ℕ) (t : List Noted) → ArePlain t → has_lost h (entries_for h t) ≡ false → has_rnr h (entries_for h t) ≡ false → list_any disturbs t ≡ false
+pub undisturbed : (h : ℕ) (t : List Noted) → ArePlain t → has_lost h (entries_for h t) ≡ false → has_rnr h (entries_for h t) ≡ false
+    → list_any disturbs t ≡ false
 undisturbed h [] p a b = refl
 undisturbed h (Up w k ∷ t) p a b = undisturbed h t p.1 a b
 undisturbed h (Down w cause ∷ t) p a b = undisturbed h t p.1 a b

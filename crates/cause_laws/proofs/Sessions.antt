@@ -149,7 +149,8 @@ ticks_heard l g r s =
         heard-append who x ps (bs ++ rest)
         ∙ (ap (λ z. heard who z (bs ++ rest)) (p x) ∙ (heard-append who x bs rest ∙ ap (λ z. heard who z rest) (q x)))
 
-event_heard : (l : Link) (c : Cause) → CanCause c → Good l → Reached (core_of l) → Sounds l → BothHeard l (happens l (event_of c)) (event_entries l (event_of c))
+event_heard : (l : Link) (c : Cause) → CanCause c → Good l → Reached (core_of l) → Sounds l
+    → BothHeard l (happens l (event_of c)) (event_entries l (event_of c))
 event_heard l (Given e m) can g r s = at_heard l e _ tt (tt, ((can, tt), tt)) (tt, ((can, tt), tt)) g r s
 event_heard l (Taken e) can g r s = at_heard l e _ tt (tt, (tt, tt)) (tt, (tt, tt)) g r s
 event_heard l (WasLost e why) can g r s = at_heard l e _ tt tt tt g r s
@@ -178,7 +179,9 @@ events_heard (c ∷ cs) t l can g r n =
     }
 
 bare_heard : (cs : List Cause) → CanAll cs → BothHeard bare_link (after bare_link (map event_of cs)) (entries bare_link (map event_of cs))
-bare_heard cs can = events_heard cs (first_entries bare_link.controller.side.role) bare_link can (start_good bare_link IsBare) (start_reached bare_link IsBare) (start_noted bare_link IsBare)
+bare_heard cs can =
+    events_heard cs (first_entries bare_link.controller.side.role) bare_link can (start_good bare_link IsBare) (start_reached bare_link IsBare)
+    (start_noted bare_link IsBare)
 
 -- what is heard of a bare link from its beginning on
 pub controller_heard : (cs : List Cause) → CanAll cs

@@ -57,15 +57,16 @@ reset_noted : (t : List Noted) (l : Link) (e : End) (window : Option ℕ) → Be
     → Spared (event_entries l (event_of (WasReset e window))) → ⊥
 reset_noted t l e window b r q = go e.at_host r q
   where
-    go : (side : Bool) → reset_refusal (machine_of l (with_side e side)) ≡ None → Spared (event_entries l (at (with_side e side) (EndStep (AsksReset window) [] GoesOut))) → ⊥
+    go : (side : Bool) → reset_refusal (machine_of l (with_side e side)) ≡ None
+        → Spared (event_entries l (at (with_side e side) (EndStep (AsksReset window) [] GoesOut))) → ⊥
     go false r q = reset_puts Controller l window b.good.controller (rests_of 0 0 (core_of l) (safe_reached (core_of l) b.reached)) r q
     go true r q =
         reset_puts Host (exchanged l) window b.good.host
         (rests_of 0 0 (core_of (exchanged l)) (safe_exchanged 0 0 (core_of l) (safe_reached (core_of l) b.reached))) r q
 
 -- an event spares the answer where no frame is lost and no RSET put on the link
-cause_sure : (t : List Noted) (h : ℕ) (l : Link) (s : Bool) (c : Cause) → CanCause c → IsAsked h l c → Between t l → s ≡ true → Spared (event_entries l (event_of c))
-    → sure_after s (core_of l) (core_event l (event_of c)) ≡ true
+cause_sure : (t : List Noted) (h : ℕ) (l : Link) (s : Bool) (c : Cause) → CanCause c → IsAsked h l c → Between t l → s ≡ true
+    → Spared (event_entries l (event_of c)) → sure_after s (core_of l) (core_event l (event_of c)) ≡ true
 cause_sure t h l s (Given e m) can a b p q = at_sure s l e _ tt (tt, ((can, tt), tt)) (tt, ((can, tt), tt)) b.good b.reached b.noted.sounds b.bare p q
 cause_sure t h l s (Taken e) can a b p q = at_sure s l e _ tt (tt, (tt, tt)) (tt, (tt, tt)) b.good b.reached b.noted.sounds b.bare p q
 cause_sure t h l s (WasLost e why) can a b p q = at_sure s l e _ tt tt tt b.good b.reached b.noted.sounds b.bare p q
@@ -91,7 +92,8 @@ sure_first s l e es q =
     let m : Bool = sure_after s (core_of l) (core_event l e) in
     sure-append s (core_of l) (core_event l e) (core_events (happens l e) es) ∙ ap (λ z. sure_after m z (core_events (happens l e) es)) (sym q)
 
-event_core : (t : List Noted) (l : Link) (c : Cause) → CanCause c → Between t l → core_of (happens l (event_of c)) ≡ core_after (core_of l) (core_event l (event_of c))
+event_core : (t : List Noted) (l : Link) (c : Cause) → CanCause c → Between t l
+    → core_of (happens l (event_of c)) ≡ core_after (core_of l) (core_event l (event_of c))
 event_core t l c can b = (event_step l (event_of c) (can_event l c can) b.good b.reached).core
 
 -- ## Runs
@@ -172,7 +174,8 @@ of_back : (h : ℕ) (l : Link) (xs ys : List Event) → AreOf h l (xs ++ ys) →
 of_back h l [] ys a = a
 of_back h l (x ∷ xs) ys a = of_back h (link_after l x.cause) xs ys a.2
 
-asked_at : (h : ℕ) (l : Link) (xs : List Event) (x : Event) (ys : List Event) → AreAsked h l (xs ++ x ∷ ys) → IsAsked h (link_after_all l (causes_of xs)) x.cause
+asked_at : (h : ℕ) (l : Link) (xs : List Event) (x : Event) (ys : List Event) → AreAsked h l (xs ++ x ∷ ys)
+    → IsAsked h (link_after_all l (causes_of xs)) x.cause
 asked_at h l [] x ys a = a.0
 asked_at h l (y ∷ xs) x ys a = asked_at h (link_after l y.cause) xs x ys a.1
 

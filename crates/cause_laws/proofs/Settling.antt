@@ -118,8 +118,8 @@ next_between t l c can b =
 
 -- ## Events that spare the answer
 
-pub at_sure : (s : Bool) (l : Link) (e : NamedEnd) (x : EndEvent) → IsUnasked x → IsAllowed l x → IsAllowed (exchanged l) x → Good l → Reached (core_of l) → Sounds l
-    → AreBare l → s ≡ true → Spared (event_entries l (at e x)) → sure_after s (core_of l) (core_event l (at e x)) ≡ true
+pub at_sure : (s : Bool) (l : Link) (e : NamedEnd) (x : EndEvent) → IsUnasked x → IsAllowed l x → IsAllowed (exchanged l) x → Good l → Reached (core_of l)
+    → Sounds l → AreBare l → s ≡ true → Spared (event_entries l (at e x)) → sure_after s (core_of l) (core_event l (at e x)) ≡ true
 at_sure s l e x is near there g r n b p q = go e.at_host q
   where
     named : Bool → NamedEnd
@@ -135,7 +135,8 @@ none_aged : (who : End) (w : List OnWire) → Spared (aged_entries who w) → lo
 none_aged who [] q = refl
 none_aged who (x ∷ xs) q = go (nat_lt x.age 4) (is_act x.frame) refl refl (none_aged who xs)
   where
-    go : (a b : Bool) → nat_lt x.age 4 ≡ a → is_act x.frame ≡ b → (Spared (aged_entries who xs) → loses_aged (sans xs) ≡ false) → loses_aged (sans (x ∷ xs)) ≡ false
+    go : (a b : Bool) → nat_lt x.age 4 ≡ a → is_act x.frame ≡ b → (Spared (aged_entries who xs) → loses_aged (sans xs) ≡ false)
+        → loses_aged (sans (x ∷ xs)) ≡ false
     go false b r s later = absurd (let z : Spared (aged_entries who (x ∷ xs)) = q in true≢false (rw r at z))
     go true true r s later = let z : Spared (aged_entries who (x ∷ xs)) = q in rw s (later (rw r at z))
     go true false r s later = let z : Spared (aged_entries who (x ∷ xs)) = q in rw (s, r) (later (rw r at z))
@@ -231,7 +232,8 @@ reset_puts who l window h r q s =
     let a = spared_parts (told_of who l.controller (Reset window)) (rest_entries who k (after_input e (Reset window)) [] GoesOut) s in
     let none : list_any is_rset (frames_out (after_input e (Reset window))) ≡ false = puts_none (frames_out (after_input e (Reset window))) who k a.1 in
     let some : list_any is_rset (frames_out (after_input e (Reset window))) ≡ true =
-    ap (λ z. list_any is_rset (frames_out z)) is ∙ (ap (λ z. list_any is_rset z) frames ∙ first_rset 11 (reset_with e.shdlc w) (reset_due e.shdlc w t.1 r.due)) in
+    ap (λ z. list_any is_rset (frames_out z)) is
+    ∙ (ap (λ z. list_any is_rset z) frames ∙ first_rset 11 (reset_with e.shdlc w) (reset_due e.shdlc w t.1 r.due)) in
     true≢false (sym some ∙ none)
 
 -- a reset that isn't refused, where the other end isn't waiting
