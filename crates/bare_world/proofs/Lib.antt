@@ -1,0 +1,10 @@
+pub mod Results
+pub mod Noting
+pub mod Nodes
+pub mod Wires
+pub mod Bare
+pub mod Stepping
+pub mod Sending
+pub mod Acting
+pub mod Taking
+pub mod Giving

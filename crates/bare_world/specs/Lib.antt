@@ -1,0 +1,4 @@
+pub mod Noting
+pub mod Nodes
+pub mod Wires
+pub mod Sides

@@ -1,0 +1,48 @@
+-- What is kept of the two sides of a link, and for which links it stands: seen from one side, whose end stands as the controller's.
+use Rattle.std.specs.Prelude.{◌≡◌, ℕ, ◌≤◌, List, [], ◌++◌, length}
+use Rattle.trace_model.specs.declared.entry.Entry.{Entry}
+use Rattle.trace_model.specs.declared.line.End.{End}
+use Rattle.session_laws.specs.Sessions.{OnWire}
+use Rattle.link_machine.specs.Machine.{LinkEnd as Machine}
+use Rattle.message_link.specs.Links.{Half, Link, EndEvent, happens_here}
+use Rattle.link_entries.specs.Entries.{Entry as Noted, here_entries}
+use Rattle.cause_history.specs.Steps.{entries_for}
+use Rattle.bare_world.specs.declared.side.Side.{Side}
+use Rattle.bare_world.specs.Noting.{side_of}
+use Rattle.bare_world.specs.Nodes.{StandsFor as NodeStandsFor}
+use Rattle.bare_world.specs.Wires.{WireStandsFor}
+
+-- one side, whose end may have frames to send
+pub record SideHas (s : Side) (m : Machine) (emitted took : ℕ) (wire : List OnWire) : Type 0 where
+  pub node : NodeStandsFor s.node m
+  pub put_is : s.emitted ≡ emitted
+  pub took_is : s.took ≡ took
+  pub wire_is : WireStandsFor s.wire wire
+
+-- one side, whose end has sent all its frames
+pub record SideStandsFor (s : Side) (h : Half) (wire : List OnWire) : Type 0 where
+  pub has : SideHas s h.side h.emitted h.took wire
+  pub idle : h.side.shdlc.due ≡ []
+
+-- both sides
+pub record LinkStandsFor (near far : Side) (resets : ℕ) (l : Link) : Type 0 where
+  pub here : SideStandsFor near l.controller l.to_controller
+  pub there : SideStandsFor far l.host l.to_host
+  pub count : resets ≡ l.resets
+
+-- both sides, where the end of the near one has become m in a step, and its frames weren't sent yet; at most twelve of them are
+-- control frames
+pub record IsMidway (near far : Side) (resets : ℕ) (l : Link) (m : Machine) : Type 0 where
+  pub here : SideHas near m l.controller.emitted l.controller.took l.to_controller
+  pub few : length m.shdlc.due ≤ 12
+  pub there : SideStandsFor far l.host l.to_host
+  pub count : resets ≡ l.resets
+
+-- these are noted behind those before
+abbrev pub AreNoted : End → List Entry → List Entry → List Noted → Type 0
+AreNoted at before now notes = now ≡ before ++ entries_for at.link notes
+
+-- the two sides stand for the link after this happened at the end of the near one, and it is noted
+pub record HasHappened (near far : Side) (resets : ℕ) (l : Link) (event : EndEvent) (at : End) (before now : List Entry) : Type 0 where
+  pub stands : LinkStandsFor near far resets (happens_here l event)
+  pub noted : AreNoted at before now (here_entries (side_of at) l event)

@@ -1,0 +1,53 @@
+//! One side of a link: the node of an end, the frames on the way to it, and the numbers of RSETs that it knows.
+ghost use Rattle.std.specs.Prelude.{◌≡◌, [], IfOk, max};
+ghost use Rattle.link_machine.specs.Machine.{Bare, new_link_end};
+ghost use Rattle.message_link.specs.Links.{new_half};
+ghost use Rattle.bare_world.specs.Sides.{SideStandsFor};
+
+use crate::node::{Node, Place};
+use crate::wire::{Flying, empty_wire};
+use circular_buffer::HeapCircularBuffer;
+use std::alloc::Global;
+use swp_base::NoMemory;
+use trace_model::End;
+
+/// One side of a link. This project's own.
+#[derive(Drop)]
+pub struct Side {
+    /// The end with its messages.
+    pub(crate) node: Node,
+    /// The frames on the way to the end, the oldest first.
+    pub(crate) wire: HeapCircularBuffer<Flying>,
+    /// The greatest number of an RSET that the end put on the link; 0 where there is none.
+    pub(crate) emitted: u32,
+    /// The greatest number of an RSET that it took; 0 where there is none.
+    pub(crate) took: u32,
+}
+
+impl Side {
+    /// A new end, which is Up in session 0, with no frame on the way to it.
+    ///
+    /// # Errors
+    ///
+    /// No memory is left.
+    pub fn make(alloc: Global) -> Result<Side, NoMemory>
+        ensures { IfOk result (λ s. SideStandsFor s (new_half (new_link_end Bare)) []) }
+    {
+        Ok(Side {
+            node: Node::make(alloc)?,
+            wire: empty_wire(alloc)?,
+            emitted: 0,
+            took: 0,
+        })
+    }
+
+    /// Where something at the end is noted: the number of its session is the greatest that it put on the link or took.
+    pub(crate) fn place(&self, at: End) -> Place
+        ensures { result ≡ record { at = at; session = max self.now.emitted self.now.took } }
+    {
+        Place {
+            at,
+            session: self.emitted.max(self.took),
+        }
+    }
+}
