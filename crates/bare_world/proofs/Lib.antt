@@ -8,3 +8,4 @@ pub mod Sending
 pub mod Acting
 pub mod Taking
 pub mod Giving
+pub mod Damages

@@ -2,3 +2,4 @@ pub mod Noting
 pub mod Nodes
 pub mod Wires
 pub mod Sides
+pub mod Damages

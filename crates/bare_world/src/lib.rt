@@ -2,6 +2,7 @@
 //! one end of it, and what is noted of that. All of it is this project's own.
 #![tactic(auto)]
 
+mod damage;
 mod node;
 mod side;
 mod steps;

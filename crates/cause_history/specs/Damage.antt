@@ -45,14 +45,16 @@ first_refusal (Refused fault ∷ later) = Broken fault
 abbrev pub read_as : List ℕ → List ℕ → Verdict
 read_as lpdu read = if same_bytes read lpdu then Same else Undetected read
 
+-- the first frame that is read decides; where there is none, this is the cause
+abbrev pub first_frame : List ℕ → Loss → List Fed → Verdict
+first_frame lpdu why [] = LostFor why
+first_frame lpdu why (Nothing ∷ later) = first_frame lpdu why later
+first_frame lpdu why (Frame read ∷ later) = read_as lpdu read
+first_frame lpdu why (Refused fault ∷ later) = first_frame lpdu why later
+
 -- the first frame that is read decides; where there is none, the first refusal is the cause
 abbrev pub judged : List ℕ → List Fed → Verdict
-judged lpdu feds = first_frame feds where
-  first_frame : List Fed → Verdict
-  first_frame [] = LostFor (first_refusal feds)
-  first_frame (Frame read ∷ later) = read_as lpdu read
-  first_frame (Nothing ∷ later) = first_frame later
-  first_frame (Refused fault ∷ later) = first_frame later
+judged lpdu feds = first_frame lpdu (first_refusal feds) feds
 
 -- What is read of a frame whose bits at these places are changed, with eight 0 bits behind it.
 abbrev pub verdict_on : List ℕ → List ℕ → Verdict
