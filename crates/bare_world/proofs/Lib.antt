@@ -9,3 +9,4 @@ pub mod Acting
 pub mod Taking
 pub mod Giving
 pub mod Damages
+pub mod LineLemmas

@@ -3,3 +3,4 @@ pub mod Nodes
 pub mod Wires
 pub mod Sides
 pub mod Damages
+pub mod Lines

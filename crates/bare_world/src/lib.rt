@@ -3,6 +3,7 @@
 #![tactic(auto)]
 
 mod damage;
+mod lines;
 mod node;
 mod side;
 mod steps;
