@@ -10,3 +10,4 @@ pub mod Taking
 pub mod Giving
 pub mod Damages
 pub mod LineLemmas
+pub mod FirstFrames

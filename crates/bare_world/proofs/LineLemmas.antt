@@ -76,8 +76,8 @@ happened_does near far resets at l line before now cause event none causes is no
     (caused at.link l line none ∙ ap (λ cs. Caused (events_at at.link l cs)) causes)
     (record {
       stands = (
-        let P : Link → Type 0 = λ m. LinkStandsFor near far resets m in
-        subst P (sym (ap (λ e. seen_from at (happens l e)) is ∙ seen_happens at l event)) has.stands);
+          let P : Link → Type 0 = λ m. LinkStandsFor near far resets m in
+          subst P (sym (ap (λ e. seen_from at (happens l e)) is ∙ seen_happens at l event)) has.stands);
       noted_are =
           has.noted ∙ ap (λ es. es ++ entries_for at.link (here_entries (side_of at) (seen_from at l) event)) nothing
           ∙ ap (entries_for at.link) (sym (ap (event_entries l) is ∙ seen_noted at l event))

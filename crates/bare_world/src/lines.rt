@@ -4,11 +4,15 @@ ghost use Rattle.hcp_packet.specs.Packets.{IsSendable};
 ghost use Rattle.trace_model.specs.declared.line.Line.TheVariants as line;
 ghost use Rattle.message_link.specs.Links.{Link};
 ghost use Rattle.cause_history.specs.Follows.{machine_of};
-ghost use Rattle.bare_world.specs.Lines.{SidesStandFor, Does};
+ghost use Rattle.session_laws.specs.Sessions.{OnWire};
+ghost use Rattle.bare_world.specs.Wires.{WireStandsFor};
+ghost use Rattle.bare_world.specs.Lines.{SidesStandFor, Does, Finds, first_lpdu};
 
+use crate::damage::{Verdict, beyond, verdict_on};
 use crate::side::Side;
 use crate::steps::{give_message, lose_frame, reset_end, set_ready};
 use std::alloc::AllocError;
+use swp_base::Lpdu;
 use trace_model::{End, Entry, LostCause, NoCause, Octets};
 
 /// A line `send`: the message is given to the end, or the line is refused.
@@ -113,4 +117,44 @@ pub(crate) fn lose_line(
         return Ok(());
     }
     lose_frame(at, LostCause::Asked, near, far, resets, entries)
+}
+
+// The first frame on a wire, where there is one.
+fn first_frame(near: &Side) -> Option<Lpdu>
+    ensures { (wire : List OnWire) → WireStandsFor near.now.wire wire → result ≡ first_lpdu wire }
+{
+    match near.wire.front() {
+        Some(flying) => Some(flying.lpdu.copied()),
+        None => None,
+    }
+}
+
+/// What a line `damage` finds.
+#[derive(Drop)]
+pub(crate) enum Damaged {
+    /// The line is refused for this.
+    Refused(NoCause),
+    /// The frame is read as it was.
+    Same,
+    /// No frame is read, and this is why it is lost.
+    Lost(LostCause),
+    /// Another frame is read in place of the one that was sent.
+    Undetected { sent: Lpdu, read: Lpdu },
+}
+
+// What a line `damage` finds on the wire to an end.
+fn damaged_first(near: &Side, places: &[u16]) -> Damaged
+    ensures { (wire : List OnWire) → WireStandsFor near.now.wire wire → Finds wire places.now result }
+{
+    let Some(sent) = first_frame(near) else {
+        return Damaged::Refused(NoCause::Empty);
+    };
+    if let Some(cause) = beyond(&sent, places) {
+        return Damaged::Refused(cause);
+    }
+    match verdict_on(&sent, places) {
+        Verdict::Same => Damaged::Same,
+        Verdict::Lost(cause) => Damaged::Lost(cause),
+        Verdict::Undetected(read) => Damaged::Undetected { sent, read },
+    }
 }

@@ -17,13 +17,15 @@ loop-bit-preserved c =
     let bit = get_or c.args.bits.now k false in
     let later = answers_after (symbol_of bit ∷ seen) (map symbol_of (drop (k + 1) c.args.bits.now)) in
     let step : (lpdu : List ℕ) → told_in lpdu c.loop-bit.refused (c.feed.result ∷ later) ≡ told_in lpdu c.match-feed.refused later =
-        λ lpdu. elim c.match-feed.branch [
-          in-Nothing w ↦
-              ap (λ fed. told_in lpdu c.loop-bit.refused (fed ∷ later)) w.in-Nothing.is ∙ ap (λ r. told_in lpdu r later) (sym w.refused-is)
-        | in-Refused w ↦
-              let now = w.or-refused.ensures ∙ ap (λ cause. option_or c.loop-bit.refused (Some cause)) w.lost_for.ensures in
-              ap (λ fed. told_in lpdu c.loop-bit.refused (fed ∷ later)) w.in-Refused.is ∙ ap (λ r. told_in lpdu r later) (sym (w.refused-is ∙ now))
-        ] in
-    (symbol_of bit ∷ seen, c.feed.ensures.stands seen c.loop-bit.invariant.1,
-    λ lpdu. c.loop-bit.invariant.2 lpdu ∙ read_one lpdu c.loop-bit.refused c.match-feed.refused seen c.args.bits.now k false c.feed.result c.loop-bit-test.true
-    (c.feed.ensures.answer seen c.loop-bit.invariant.1) (step lpdu))
+    λ lpdu. elim c.match-feed.branch [
+      | in-Nothing w ↦
+          ap (λ fed. told_in lpdu c.loop-bit.refused (fed ∷ later)) w.in-Nothing.is ∙ ap (λ r. told_in lpdu r later) (sym w.refused-is)
+      | in-Refused w ↦
+          let now = w.or-refused.ensures ∙ ap (λ cause. option_or c.loop-bit.refused (Some cause)) w.lost_for.ensures in
+          ap (λ fed. told_in lpdu c.loop-bit.refused (fed ∷ later)) w.in-Refused.is ∙ ap (λ r. told_in lpdu r later) (sym (w.refused-is ∙ now))
+    ] in (
+      symbol_of bit ∷ seen,
+      c.feed.ensures.stands seen c.loop-bit.invariant.1,
+      λ lpdu. c.loop-bit.invariant.2 lpdu ∙ read_one lpdu c.loop-bit.refused c.match-feed.refused seen c.args.bits.now k false c.feed.result c.loop-bit-test.true
+          (c.feed.ensures.answer seen c.loop-bit.invariant.1) (step lpdu),
+    )
