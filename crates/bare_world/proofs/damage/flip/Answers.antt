@@ -1,4 +1,4 @@
-use Rattle.std.proofs.Common.{◌≡◌, ℕ, Bool, false, not, ◌<◌, ◌≤◌, get_or, set, length, subst, sym, ap, ◌∙◌}
+use Rattle.std.proofs.Common.{false, sym, ap, ◌∙◌}
 use Rattle.cause_history.specs.Damage.{flipped}
 use Rattle.bare_world.proofs.Damages.{flipped_past, flipped_at_place}
 use Rattle.bare_world.proofs.damage.flip.Goals as goal

@@ -1,4 +1,4 @@
-use Rattle.std.proofs.Common.{◌≡◌, ap, sym, ◌∙◌}
+use Rattle.std.proofs.Common.{ap, sym, ◌∙◌}
 use Rattle.bare_world.specs.Damages.{told_of}
 use Rattle.bare_world.proofs.Damages.{told_where_same, told_where_other}
 use Rattle.bare_world.proofs.damage.verdict_of.Goals as goal

@@ -1,15 +1,14 @@
-use Rattle.std.proofs.Common.{◌≡◌, [], ◌∷◌, ◌++◌, refl, sym, ap, ◌∙◌}
-use Rattle.std.specs.Prelude.{true, false, not, None, Some}
-use Rattle.trace_model.specs.declared.entry.Entry.TheVariants.{No}
+use Rattle.std.proofs.Common.{[], ◌∷◌, refl}
+use Rattle.std.specs.Prelude.{false, not}
 use Rattle.trace_model.specs.declared.line.Line.TheVariants as line
-use Rattle.link_machine.specs.Machine.Turn.{Give, Hold}
+use Rattle.link_machine.specs.Machine.Turn.{Hold}
 use Rattle.message_link.specs.Links.Ending.{GoesOut}
-use Rattle.message_link.specs.Links.Comes.{AsksReset, NoInput}
+use Rattle.message_link.specs.Links.Comes.{NoInput}
 use Rattle.message_link.specs.Links.EndEvent.{Step}
-use Rattle.cause_history.specs.Histories.Cause.{Given, WasReset, Readied}
+use Rattle.cause_history.specs.Histories.Cause.{Readied}
 use Rattle.cause_history.specs.Follows.{seen_from}
 use Rattle.bare_world.proofs.Results.{on_ok}
-use Rattle.bare_world.proofs.LineLemmas.{refused_does, happened_does, some_holds}
+use Rattle.bare_world.proofs.LineLemmas.{happened_does}
 use Rattle.bare_world.proofs.lines.busy_line.Goals as goal
 
 pub returns-clause-stands : goal.returns-clause-stands

@@ -1,4 +1,4 @@
-use Rattle.std.proofs.Common.{◌≡◌, sym, ◌∙◌}
+use Rattle.std.proofs.Common.{sym, ◌∙◌}
 use Rattle.bare_world.proofs.FirstFrames.{finds_lost}
 use Rattle.bare_world.proofs.lines.damaged_first.Goals as goal
 
