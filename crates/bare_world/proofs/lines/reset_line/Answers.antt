@@ -19,13 +19,16 @@ pub returns-in_ok-push-clause-stands : goal.returns-in_ok-push-clause-stands
 returns-in_ok-push-clause-stands c l h sent =
     let k = c.in_ok-cause.ensures in
     let none = some_holds c.in_ok-cause.field-0 c.in-Some.cause c.in-Some.is (k.unchanged (seen_from c.args.at l) h) in
-    refused_does c.reset_end.new.near c.reset_end.new.far c.reset_end.new.resets c.args.at l (line.Reset c.args.at c.args.window) c.push.new.self.items c.in-Some.cause
+    refused_does c.reset_end.new.near c.reset_end.new.far c.reset_end.new.resets c.args.at l (line.Reset c.args.at c.args.window)
+    c.push.new.self.items c.in-Some.cause
     (sym (k.refused (seen_from c.args.at l) h) ∙ c.in-Some.is) none.0
     (c.in_ok-push.ensures.items ∙ ap (λ es. es ++ No c.in-Some.cause ∷ []) (none.1 ∙ c.requires.nothing))
 
 pub returns-in_default-clause-stands : goal.returns-in_default-clause-stands
 returns-in_default-clause-stands c l h sent =
     let k = c.in_ok-cause.ensures in
-    happened_does c.reset_end.new.near c.reset_end.new.far c.reset_end.new.resets c.args.at l (line.Reset c.args.at c.args.window) c.args.entries.now.items c.reset_end.new.entries.items
-    (WasReset c.args.at c.args.window) (Step (AsksReset c.args.window) [] GoesOut) (sym (k.refused (seen_from c.args.at l) h) ∙ c.in_default.is) refl refl c.requires.nothing
+    happened_does c.reset_end.new.near c.reset_end.new.far c.reset_end.new.resets c.args.at l (line.Reset c.args.at c.args.window)
+    c.args.entries.now.items c.reset_end.new.entries.items
+    (WasReset c.args.at c.args.window) (Step (AsksReset c.args.window) [] GoesOut) (sym (k.refused (seen_from c.args.at l) h) ∙
+    c.in_default.is) refl refl c.requires.nothing
     (k.stands (seen_from c.args.at l) h sent c.in_default.is)
