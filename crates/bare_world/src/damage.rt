@@ -15,7 +15,7 @@ use trace_model::{LostCause, NoCause};
 
 /// What a reader makes of a damaged frame.
 #[derive(Debug, Drop)]
-pub(crate) enum Verdict {
+pub enum Verdict {
     /// The frame is read as it was.
     Same,
     /// None is read, and this is why it is lost.
@@ -98,14 +98,14 @@ fn verdict_of(lpdu: &Lpdu, read: Result<Lpdu, LostCause>) -> Verdict
 }
 
 /// What is read of a frame whose bits at these places are changed, with eight 0 bits behind it.
-pub(crate) fn verdict_on(lpdu: &Lpdu, places: &[u16]) -> Verdict
+pub fn verdict_on(lpdu: &Lpdu, places: &[u16]) -> Verdict
     ensures { result ≡ told_as (verdict_on lpdu.now places.now) }
 {
     verdict_of(lpdu, first_read(damaged(lpdu, places).bits.as_slice()))
 }
 
 /// Where one of these places is past the frame of an LPDU, which has so many bits.
-pub(crate) fn beyond(lpdu: &Lpdu, places: &[u16]) -> Option<NoCause>
+pub fn beyond(lpdu: &Lpdu, places: &[u16]) -> Option<NoCause>
     ensures { result ≡ if_beyond (length (frame_of lpdu.now)) places.now }
 {
     let bits = write_frame(lpdu).bits.len() as u16;

@@ -16,7 +16,7 @@ use swp_base::Lpdu;
 use trace_model::{End, Entry, LostCause, NoCause, Octets};
 
 /// A line `send`: the message is given to the end, or the line is refused.
-pub(crate) fn send_line(
+pub fn send_line(
     at: End,
     near: &mut Side,
     far: &mut Side,
@@ -40,7 +40,7 @@ pub(crate) fn send_line(
 }
 
 /// A line `reset`: a reset is asked for at the end, or the line is refused.
-pub(crate) fn reset_line(
+pub fn reset_line(
     at: End,
     near: &mut Side,
     far: &mut Side,
@@ -63,7 +63,7 @@ pub(crate) fn reset_line(
 }
 
 /// A line `busy`: the end takes no fragments from now on.
-pub(crate) fn busy_line(
+pub fn busy_line(
     at: End,
     near: &mut Side,
     far: &mut Side,
@@ -81,7 +81,7 @@ pub(crate) fn busy_line(
 }
 
 /// A line `ready`: the end takes fragments again.
-pub(crate) fn ready_line(
+pub fn ready_line(
     at: End,
     near: &mut Side,
     far: &mut Side,
@@ -99,7 +99,7 @@ pub(crate) fn ready_line(
 }
 
 /// A line `lose`: the first frame on the wire to the end is lost, or the line is refused where there is none.
-pub(crate) fn lose_line(
+pub fn lose_line(
     at: End,
     near: &mut Side,
     far: &Side,

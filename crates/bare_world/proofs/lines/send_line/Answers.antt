@@ -26,6 +26,8 @@ returns-in_default-clause-stands c l h =
     let k = c.in_ok-cause.ensures in
     happened_does c.give_message.new.near c.give_message.new.far c.give_message.new.resets c.args.at l (line.Send c.args.at c.args.pid
     c.args.message.now) c.args.entries.now.items c.give_message.new.entries.items
-    (Given c.args.at (c.args.pid, c.args.message.now)) (Step NoInput (Give (c.args.pid,
-    c.args.message.now) ∷ []) GoesOut) (sym (k.refused (seen_from c.args.at l) h) ∙ c.in_default.is) refl refl c.requires.nothing
+    (Given c.args.at (c.args.pid, c.args.message.now)) (Step NoInput (Give (
+      c.args.pid,
+      c.args.message.now,
+    ) ∷ []) GoesOut) (sym (k.refused (seen_from c.args.at l) h) ∙ c.in_default.is) refl refl c.requires.nothing
     (k.stands (seen_from c.args.at l) h c.in_default.is)
