@@ -1,4 +1,4 @@
-//! The law of histories whose events have causes: whatever follows a schedule is legal. Nothing here runs.
+//! The law of histories: whatever follows a schedule is legal. Nothing here runs.
 #![tactic(auto)]
 
 ghost use Rattle.std.specs.Prelude.{◌≡◌, false, List};

@@ -4,16 +4,15 @@ use Rattle.std.proofs.Common.{inl, inr}
 use Rattle.std.specs.Prelude.{Option, Some, None, Result, Ok, Err, OnOk, OnErr, IfErr, is_err}
 use Rattle.std.specs.Str.Lines.{lines}
 use Rattle.std.proofs.lemmas.List.{append-nil}
-use Rattle.std.proofs.Math.Seq.{take-append-add}
 use Rattle.trace_model.specs.declared.line.Header.{Header}
 use Rattle.trace_model.specs.declared.line.Line.{Line}
 use Rattle.swp_tool.specs.declared.replay.Halt.{Halt}
 use Rattle.swp_tool.specs.declared.replay.Halt.TheVariants as halt
 use Rattle.swp_tool.specs.declared.pieces.Pieces.{Pieces}
-use Rattle.swp_tool.specs.Schedules.{Stop, AtFault, Too_many, Schedule, ended}
-use Rattle.swp_tool.specs.Transcripts.{IsTextOf}
-use Rattle.swp_tool.specs.Pieces.{IsReading, IsRunning, HasRead, IsFrontTranscript, IsCompleteTranscript, StopsAt, Halts, HaltsAtEnd, schedule_read, schedule_so_far}
-use Rattle.swp_tool.specs.Runs.{status_of, Appends, IsSomeTranscript, IsFrontOfTranscript, Replayed, IsUnderWay}
+use Rattle.swp_tool.specs.Schedules.{Stop, AtFault, AtMisread, Too_many, Schedule, ended}
+use Rattle.swp_tool.specs.Transcripts.{IsTextOf, IsTranscript}
+use Rattle.swp_tool.specs.Pieces.{IsReading, IsRunning, HasRead, IsFrontTranscript, IsWholeTranscript, IsCompleteTranscript, StopsAt, Halts, HaltsAtEnd, schedule_read, schedule_so_far}
+use Rattle.swp_tool.specs.Runs.{status_of, Appends, IsSomeTranscript, IsCutShort, Replayed, IsUnderWay}
 use Rattle.swp_tool.proofs.Reading.{front_so_far, played_transcript}
 
 -- the end of a schedule adds no line
@@ -36,11 +35,13 @@ stops_front bytes why count text h =
 
 halts_front : (why : Halt) (count : ℕ) (bytes text rest : List ℕ) → Halts why count bytes text → IsFrontTranscript (bytes ++ rest) text
 halts_front (halt.Fault f) count bytes text rest h = stops_front (bytes ++ rest) (AtFault f) (count + 1) text (h rest)
+halts_front halt.Undetected count bytes text rest h = stops_front (bytes ++ rest) AtMisread (count + 1) text (h rest)
 halts_front halt.TooMany count bytes text rest h = stops_front (bytes ++ rest) Too_many (count + 1) text (h rest)
 halts_front halt.NoMemory count bytes text rest h = h rest
 
 halts_end_front : (why : Halt) (count : ℕ) (bytes text : List ℕ) → HaltsAtEnd why count bytes text → IsFrontTranscript bytes text
 halts_end_front (halt.Fault f) count bytes text h = stops_front bytes (AtFault f) (count + 1) text h
+halts_end_front halt.Undetected count bytes text h = stops_front bytes AtMisread (count + 1) text h
 halts_end_front halt.TooMany count bytes text h = absurd h
 halts_end_front halt.NoMemory count bytes text h = h
 
@@ -48,12 +49,14 @@ halts_end_front halt.NoMemory count bytes text h = h
 pub halted_replayed : (tells : Bool) (why : Halt) (count : ℕ) (bytes text rest before after : List ℕ) → Halts why count bytes text
     → (IsTrue tells → after ≡ before ++ text) → Replayed tells (status_of why count) (bytes ++ rest) rest before after
 halted_replayed tells (halt.Fault f) count bytes text rest before after h is = (text, h rest, is)
+halted_replayed tells halt.Undetected count bytes text rest before after h is = (text, h rest, is)
 halted_replayed tells halt.TooMany count bytes text rest before after h is = (text, h rest, is)
 halted_replayed tells halt.NoMemory count bytes text rest before after h is = (text, h rest, is)
 
 pub halted_at_end : (tells : Bool) (why : Halt) (count : ℕ) (bytes text before after : List ℕ) → HaltsAtEnd why count bytes text
     → (IsTrue tells → after ≡ before ++ text) → Replayed tells (status_of why count) bytes [] before after
 halted_at_end tells (halt.Fault f) count bytes text before after h is = (text, h, is)
+halted_at_end tells halt.Undetected count bytes text before after h is = (text, h, is)
 halted_at_end tells halt.TooMany count bytes text before after h is = absurd h
 halted_at_end tells halt.NoMemory count bytes text before after h is = (text, h, is)
 
@@ -99,13 +102,38 @@ pub behind : (tells : Bool) (before text items written after : List ℕ) → (Is
 behind tells before text items written after was now told =
     now told ∙ (ap (λ l. l ++ items) (was told) ∙ append_assoc before text items)
 
--- a front of what was gathered stands behind what was written
-pub cut_off : (tells : Bool) (input text items before written after : List ℕ) → IsSomeTranscript input (text ++ items)
+-- where nothing is gathered, the transcript of the whole lines was written
+pub whole_transcript : (p : Pieces) (bytes text : List ℕ) → HasRead p bytes text → p.replay.text.items ≡ [] → IsWholeTranscript bytes text
+whole_transcript p bytes text h gathered =
+    let P : List ℕ → Type 0 = λ l. IsTranscript (schedule_so_far h.whole) l in
+    record {
+      whole = h.whole;
+      rest = p.partial.items;
+      cut = h.cut;
+      lack = h.lack;
+      rest_lacks = h.partial_lacks;
+      transcript = subst P (ap (λ l. text ++ l) gathered ∙ append-nil text) (played_transcript p.replay (schedule_so_far h.whole) text h.played);
+    }
+
+-- a front of what was gathered of a piece stands behind what was written before it
+pub cut_short : (tells : Bool) (input bytes piece left text items before written after : List ℕ) → input ≡ bytes ++ (piece ++ left) → length piece ≤ 4096
+    → IsWholeTranscript bytes text → IsSomeTranscript input (text ++ items)
     → (IsTrue tells → written ≡ before ++ text) → (n : ℕ) × (IsTrue tells → after ≡ written ++ take n items)
-    → Appends tells (IsFrontOfTranscript input) before after
-cut_off tells input text items before written after some is front = (
+    → Appends tells (IsCutShort 4096 input left) before after
+cut_short tells input bytes piece left text items before written after input_is few whole some is front = (
   text ++ take front.0 items,
-  (text ++ items, length text + front.0, some, sym (take-append-add text items front.0)),
+  record {
+    bytes = bytes;
+    piece = piece;
+    input_is = input_is;
+    few = few;
+    written = text;
+    whole = whole;
+    behind = items;
+    n = front.0;
+    some = some;
+    front_is = refl;
+  },
   behind tells before text (take front.0 items) written after is front.1,
 )
 

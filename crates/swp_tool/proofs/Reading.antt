@@ -18,7 +18,7 @@ use Rattle.swp_tool.specs.declared.replay.Replay.{Replay}
 use Rattle.swp_tool.specs.declared.replay.Halt.{Halt}
 use Rattle.swp_tool.specs.declared.replay.Halt.TheVariants as halt
 use Rattle.swp_tool.specs.declared.pieces.Pieces.{Pieces}
-use Rattle.swp_tool.specs.Schedules.{Stop, AtFault, Too_many, Schedule, nothing_read, with_said, as_played, said_by, with_line, with_lines, ended, schedule_of}
+use Rattle.swp_tool.specs.Schedules.{Stop, AtFault, AtMisread, Too_many, Schedule, nothing_read, misread_behind, with_played, with_said, with_line, with_lines, ended, schedule_of}
 use Rattle.swp_tool.specs.Transcripts.{IsTextOf, IsTranscript, done_line}
 use Rattle.swp_tool.specs.Replays.{IsAt, HasPlayed, HaltsAt}
 use Rattle.swp_tool.specs.Pieces.{LacksLineFeed, ended_line, AllLackLineFeed, schedule_so_far, HasRead, IsReading, IsFrontTranscript, StopsAt, Halts, HaltsAtEnd, schedule_read, IsCompleteTranscript}
@@ -57,8 +57,13 @@ pub record StopsThere (s s' : Schedule) : Type 0 where
 pub stops_there : (s : Schedule) (why : Stop) (bytes : List ℕ) → s.stop ≡ None → (with_line s bytes).stop ≡ Some why → StopsThere s (with_line s bytes)
 stops_there s why bytes running stop =
     (let P : Option Stop → Type 0 = λ o. (with_line (record s { stop = o }) bytes).stop ≡ Some why → StopsThere s (with_line (record s { stop = o }) bytes) in
-    subst P (sym running) (go (eqb s.count 20000) (said_by s.header bytes))) stop
+    subst P (sym running) (go (eqb s.count 20000) (line_of s.header bytes))) stop
   where
+    played : (line : Line) (other : Option (List ℕ)) → (with_played (record s { stop = None }) line other).stop ≡ Some why
+        → StopsThere s (with_played (record s { stop = None }) line other)
+    played line None is = absurd (cc)
+    played line (Some x) is = record { header_is = refl; lines_are = refl; count_is = refl }
+
     go : (b : Bool) (r : Result Read LineFault)
         → (cond b (record s { count = s.count + 1; stop = Some Too_many }) (with_said (record s { stop = None }) r)).stop ≡ Some why
         → StopsThere s (cond b (record s { count = s.count + 1; stop = Some Too_many }) (with_said (record s { stop = None }) r))
@@ -66,7 +71,7 @@ stops_there s why bytes running stop =
     go false (Err f) is = record { header_is = refl; lines_are = refl; count_is = refl }
     go false (Ok read.Skip) is = absurd (cc)
     go false (Ok (read.Header header)) is = absurd (cc)
-    go false (Ok (read.Line line)) is = absurd (cc)
+    go false (Ok (read.Line line)) is = played line (misread_behind s.header s.lines line) is
     go false (Ok read.NoMemory) is = absurd (cc)
 
 -- a text stays the transcript where nothing is added
@@ -120,6 +125,7 @@ front_so_far p bytes written rest text h transcript =
 -- what holds however the bytes go on holds behind more of them
 pub halts_more : (why : Halt) (count : ℕ) (bytes more text : List ℕ) → Halts why count bytes text → Halts why count (bytes ++ more) text
 halts_more (halt.Fault f) count bytes more text h = λ rest. (let P : List ℕ → Type 0 = λ b. StopsAt b (AtFault f) (count + 1) text in subst P (sym (append_assoc bytes more rest)) (h (more ++ rest)))
+halts_more halt.Undetected count bytes more text h = λ rest. (let P : List ℕ → Type 0 = λ b. StopsAt b AtMisread (count + 1) text in subst P (sym (append_assoc bytes more rest)) (h (more ++ rest)))
 halts_more halt.TooMany count bytes more text h = λ rest. (let P : List ℕ → Type 0 = λ b. StopsAt b Too_many (count + 1) text in subst P (sym (append_assoc bytes more rest)) (h (more ++ rest)))
 halts_more halt.NoMemory count bytes more text h = λ rest. (let P : List ℕ → Type 0 = λ b. IsFrontTranscript b text in subst P (sym (append_assoc bytes more rest)) (h (more ++ rest)))
 
@@ -145,7 +151,7 @@ halts_too_many p bytes written byte reading full h = λ rest.
     at_limit s line running count =
         let P : Option Stop → Type 0 = λ o. (with_line (record s { stop = o }) line).stop ≡ Some Too_many in
         subst P (sym running)
-        (ap (λ b. (cond b (record s { count = s.count + 1; stop = Some Too_many }) (with_said (record s { stop = None }) (said_by s.header line))).stop) (ap (λ n. eqb n 20000) count))
+        (ap (λ b. (cond b (record s { count = s.count + 1; stop = Some Too_many }) (with_said (record s { stop = None }) (line_of s.header line))).stop) (ap (λ n. eqb n 20000) count))
 
 pub halts_too_long : (p : Pieces) (bytes written : List ℕ) (byte : ℕ) → p.replay.count < 20000 → 9000 < length p.partial.items → (eqb byte 10 ≡ false) → HasRead p bytes written
     → Halts (halt.Fault fault.TooLong) p.replay.count (bytes ++ byte ∷ []) (written ++ p.replay.text.items)
@@ -166,8 +172,8 @@ halts_too_long p bytes written byte room long other h = λ rest.
         let fault_is : line_of s.header line ≡ Err fault.TooLong =
         ap (λ b. cond b (Err fault.TooLong) (by_words s.header (words line))) (let l : ltb 9000 (length line) ≡ true = grind (arith, common_steps) in l) in
         subst P (sym running)
-        (ap (λ b. (cond b (record s { count = s.count + 1; stop = Some Too_many }) (with_said (record s { stop = None }) (said_by s.header line))).stop) below
-        ∙ ap (λ r. (with_said (record s { stop = None }) (as_played r)).stop) fault_is)
+        (ap (λ b. (cond b (record s { count = s.count + 1; stop = Some Too_many }) (with_said (record s { stop = None }) (line_of s.header line))).stop) below
+        ∙ ap (λ r. (with_said (record s { stop = None }) r).stop) fault_is)
 
 -- ## A line that has ended
 
@@ -224,6 +230,10 @@ halts_at_line p why count now bytes written h count_is now_is halts =
         let R : List ℕ → Type 0 = λ b. StopsAt b (AtFault f) (p.replay.count + 1) text in
         subst R (sym (append_assoc bytes (10 ∷ []) rest))
         (stops_next p bytes written (10 ∷ rest) (AtFault f) text h (strip_carriage_return p.partial.items) (lines rest) (lines-ended p.partial.items rest h.partial_lacks) stop transcript)
+    go halt.Undetected stop = λ rest.
+        let R : List ℕ → Type 0 = λ b. StopsAt b AtMisread (p.replay.count + 1) text in
+        subst R (sym (append_assoc bytes (10 ∷ []) rest))
+        (stops_next p bytes written (10 ∷ rest) AtMisread text h (strip_carriage_return p.partial.items) (lines rest) (lines-ended p.partial.items rest h.partial_lacks) stop transcript)
     go halt.TooMany never = absurd never
     go halt.NoMemory any = λ rest.
         let R : List ℕ → Type 0 = λ b. IsFrontTranscript b text in
@@ -276,6 +286,9 @@ halts_at_rest p why count now bytes written h some count_is now_is halts =
     go (halt.Fault f) stop =
         end_of bytes (λ b. StopsAt b (AtFault f) (p.replay.count + 1) text)
         (stops_next p bytes written [] (AtFault f) text h p.partial.items [] (rest_is p bytes written h some) stop transcript)
+    go halt.Undetected stop =
+        end_of bytes (λ b. StopsAt b AtMisread (p.replay.count + 1) text)
+        (stops_next p bytes written [] AtMisread text h p.partial.items [] (rest_is p bytes written h some) stop transcript)
     go halt.TooMany never = never
     go halt.NoMemory any = end_of bytes (λ b. IsFrontTranscript b text) (front_so_far p bytes written [] text h transcript)
 

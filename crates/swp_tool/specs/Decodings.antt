@@ -55,10 +55,11 @@ pub record IsTooLong (tells : Bool) (input before after : List ℕ) : Type 0 whe
   pub most : length bytes ≡ most_bytes
   pub after_is : IsTrue tells → after ≡ before ++ record_lines bytes
 
--- the lines of all bytes that were read were written
+-- the lines of all bytes that were read were written, and these weren't too many
 pub record IsCutOff (tells : Bool) (input left before after : List ℕ) : Type 0 where
   pub bytes : List ℕ
   pub input_is : input ≡ bytes ++ left
+  pub few : length bytes ≤ most_bytes
   pub after_is : IsTrue tells → after ≡ before ++ record_lines bytes
 
 -- How a decoding of this input ended. On Done all of its text was written; where reading failed or the record was too long,

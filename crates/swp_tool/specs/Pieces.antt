@@ -5,7 +5,7 @@ use Rattle.std.specs.Str.Lines.{lines, strip_carriage_return}
 use Rattle.swp_tool.specs.declared.replay.Halt.{Halt}
 use Rattle.swp_tool.specs.declared.replay.Halt.TheVariants as halt
 use Rattle.swp_tool.specs.declared.pieces.Pieces.{Pieces}
-use Rattle.swp_tool.specs.Schedules.{Stop, AtFault, Too_many, Schedule, nothing_read, with_lines, schedule_of}
+use Rattle.swp_tool.specs.Schedules.{Stop, AtFault, AtMisread, Too_many, Schedule, nothing_read, with_lines, schedule_of}
 use Rattle.swp_tool.specs.Transcripts.{IsTranscript, done_line}
 use Rattle.swp_tool.specs.Replays.{HasPlayed, HasFew}
 
@@ -101,11 +101,13 @@ pub record StopsAt (bytes : List ℕ) (why : Stop) (count : ℕ) (text : List �
 -- However the bytes go on, their schedule stops here, with this text as its transcript.
 abbrev pub Halts : Halt → ℕ → List ℕ → List ℕ → Type 0
 Halts (halt.Fault why) count bytes text = (rest : List ℕ) → StopsAt (bytes ++ rest) (AtFault why) (count + 1) text
+Halts halt.Undetected count bytes text = (rest : List ℕ) → StopsAt (bytes ++ rest) AtMisread (count + 1) text
 Halts halt.TooMany count bytes text = (rest : List ℕ) → StopsAt (bytes ++ rest) Too_many (count + 1) text
 Halts halt.NoMemory count bytes text = (rest : List ℕ) → IsFrontTranscript (bytes ++ rest) text
 
 -- The same where the bytes have ended.
 abbrev pub HaltsAtEnd : Halt → ℕ → List ℕ → List ℕ → Type 0
 HaltsAtEnd (halt.Fault why) count bytes text = StopsAt bytes (AtFault why) (count + 1) text
+HaltsAtEnd halt.Undetected count bytes text = StopsAt bytes AtMisread (count + 1) text
 HaltsAtEnd halt.TooMany count bytes text = ⊥
 HaltsAtEnd halt.NoMemory count bytes text = IsFrontTranscript bytes text

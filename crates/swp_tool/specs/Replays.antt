@@ -1,15 +1,17 @@
 -- What a replay has of the schedule that it reads.
-use Rattle.std.specs.Prelude.{◌≡◌, ℕ, ◌≤◌, List, [], ◌++◌, length, Option, Some, None}
+use Rattle.std.specs.Prelude.{◌≡◌, ℕ, ◌≤◌, List, [], ◌++◌, length, Option, Some, None, IsSome}
 use Rattle.std.specs.Option.{ForSome}
 use Rattle.trace_model.specs.declared.line.Header.{Header}
 use Rattle.trace_model.specs.declared.line.Line.{Line}
 use Rattle.history.specs.Histories.{History}
 use Rattle.world.specs.declared.world_steps.World.{World}
+use Rattle.world.specs.declared.world_steps.WorldFault.{WorldFault}
+use Rattle.world.specs.declared.world_steps.WorldFault.TheVariants as fault
 use Rattle.world.specs.Worlds.{StandsFor}
 use Rattle.swp_tool.specs.declared.replay.Replay.{Replay}
 use Rattle.swp_tool.specs.declared.replay.Halt.{Halt}
 use Rattle.swp_tool.specs.declared.replay.Halt.TheVariants as halt
-use Rattle.swp_tool.specs.Schedules.{Schedule, AtFault, with_line}
+use Rattle.swp_tool.specs.Schedules.{Schedule, AtFault, AtMisread, with_line}
 use Rattle.swp_tool.specs.Transcripts.{text_of}
 
 -- A world stands for a legal history of these lines, whose transcript is this text.
@@ -43,8 +45,27 @@ pub record HasFew (r : Replay) : Type 0 where
   pub count : r.count ≤ 20000
   pub steps : ForSome r.world (λ w. WasStepped w r.count)
 
--- a replay halted at a line: the line has this fault; nothing is said where there was no memory
+-- why a replay halts where the world did
+abbrev pub halt_of : WorldFault → Halt
+halt_of (fault.Undetected sent read) = halt.Undetected
+halt_of fault.NoMemory = halt.NoMemory
+
+-- A replay halted at a line of its world, at which this frame is read in place of another, or none; nothing is said where there
+-- was no memory.
+abbrev pub HaltsOn : Halt → Option (List ℕ) → Type 0
+HaltsOn (halt.Fault why) other = ⊥
+HaltsOn halt.Undetected other = IsSome other
+HaltsOn halt.TooMany other = ⊥
+HaltsOn halt.NoMemory other = Unit {0}
+
+-- A replay halted at the line with which its schedule becomes this one: that stops there, and here is why; nothing is said where
+-- there was no memory.
+abbrev pub HaltsBefore : Halt → Schedule → Type 0
+HaltsBefore (halt.Fault why) s = s.stop ≡ Some (AtFault why)
+HaltsBefore halt.Undetected s = s.stop ≡ Some AtMisread
+HaltsBefore halt.TooMany s = ⊥
+HaltsBefore halt.NoMemory s = Unit {0}
+
+-- a replay halted at a line
 abbrev pub HaltsAt : Halt → Schedule → List ℕ → Type 0
-HaltsAt (halt.Fault why) s bytes = (with_line s bytes).stop ≡ Some (AtFault why)
-HaltsAt halt.TooMany s bytes = ⊥
-HaltsAt halt.NoMemory s bytes = Unit {0}
+HaltsAt why s bytes = HaltsBefore why (with_line s bytes)

@@ -1,22 +1,24 @@
 -- What a run of the program has read and written, by the status with which it ended.
-use Rattle.std.specs.Prelude.{◌≡◌, ℕ, ◌+◌, ◌⊎◌, Bool, IsTrue, List, [], ◌∷◌, ◌++◌, take, codes}
+use Rattle.std.specs.Prelude.{◌≡◌, ℕ, ◌+◌, ◌≤◌, ◌⊎◌, Bool, IsTrue, List, [], ◌∷◌, ◌++◌, length, take, codes}
 use Rattle.swp_tool.specs.declared.pieces.Pieces.{Pieces}
 use Rattle.swp_tool.specs.declared.status.Status.{Status}
 use Rattle.swp_tool.specs.declared.status.Status.TheVariants as status
 use Rattle.swp_tool.specs.declared.replay.Halt.{Halt}
 use Rattle.swp_tool.specs.declared.replay.Halt.TheVariants as halt
-use Rattle.swp_tool.specs.Schedules.{Stop, AtFault, Too_many}
+use Rattle.swp_tool.specs.Schedules.{Stop, AtFault, AtMisread, Too_many}
 use Rattle.swp_tool.specs.Pieces.{HasRead, IsFrontTranscript, IsWholeTranscript, IsCompleteTranscript, IsRunning, StopsAt}
 
 -- the status of a replay that halts behind so many whole lines
 abbrev pub status_of : Halt → ℕ → Status
 status_of (halt.Fault why) count = status.BadSchedule (count + 1) why
+status_of halt.Undetected count = status.Undetected (count + 1)
 status_of halt.TooMany count = status.TooMany (count + 1)
 status_of halt.NoMemory count = status.NoMemory
 
 -- the status of a schedule that stops at this line
 abbrev pub status_at : Stop → ℕ → Status
 status_at (AtFault why) line = status.BadSchedule line why
+status_at AtMisread line = status.Undetected line
 status_at Too_many line = status.TooMany line
 
 -- there is a text of this kind, and a sink that tells what was written says that it was appended
@@ -27,26 +29,36 @@ Appends tells P before after = (text : List ℕ) × P text × (IsTrue tells → 
 abbrev pub IsSomeTranscript : List ℕ → List ℕ → Type 0
 IsSomeTranscript input text = IsFrontTranscript input text ⊎ IsCompleteTranscript input text
 
--- a front of such a text
-abbrev pub IsFrontOfTranscript : List ℕ → List ℕ → Type 0
-IsFrontOfTranscript input front = (text : List ℕ) × (n : ℕ) × IsSomeTranscript input text × (front ≡ take n text)
+-- A write failed: a front of such a text was written. Of what was read, where this is left, all but the piece in hand, of at most so many
+-- bytes, had been played and its transcript written before; so nothing was read behind the write that failed.
+pub record IsCutShort (most : ℕ) (input left front : List ℕ) : Type 0 where
+  pub bytes : List ℕ
+  pub piece : List ℕ
+  pub input_is : input ≡ bytes ++ (piece ++ left)
+  pub few : length piece ≤ most
+  pub written : List ℕ
+  pub whole : IsWholeTranscript bytes written
+  pub behind : List ℕ
+  pub n : ℕ
+  pub some : IsSomeTranscript input (written ++ behind)
+  pub front_is : front ≡ written ++ take n behind
 
 -- the transcript of all whole lines among the bytes that were read, where these are left; no line of them is at fault
 abbrev pub IsTranscriptOfRead : List ℕ → List ℕ → List ℕ → Type 0
 IsTranscriptOfRead input left text = (bytes : List ℕ) × (input ≡ bytes ++ left) × IsWholeTranscript bytes text × IsRunning bytes
 
 -- How a replay of this input ended. The transcript of the lines before the fault was written, on Done all of it; on a
--- fault of writing, a front of it. Whether the sink tells what was written comes first: without it there is such a text, and
+-- fault of writing, a front of it, all of the pieces before the last among it. Whether the sink tells what was written comes first: without it there is such a text, and
 -- nothing is said of where it went.
 abbrev pub Replayed : Bool → Status → List ℕ → List ℕ → List ℕ → List ℕ → Type 0
 Replayed tells status.Done input left before after = (left ≡ []) × Appends tells (IsCompleteTranscript input) before after
 Replayed tells (status.BadSchedule line why) input left before after = Appends tells (StopsAt input (AtFault why) line) before after
+Replayed tells (status.Undetected line) input left before after = Appends tells (StopsAt input AtMisread line) before after
 Replayed tells (status.TooMany count) input left before after = Appends tells (StopsAt input Too_many count) before after
 Replayed tells status.ReadFault input left before after = Appends tells (IsTranscriptOfRead input left) before after
-Replayed tells status.WriteFault input left before after = Appends tells (IsFrontOfTranscript input) before after
+Replayed tells status.WriteFault input left before after = Appends tells (IsCutShort 4096 input left) before after
 Replayed tells status.NoMemory input left before after = Appends tells (IsFrontTranscript input) before after
 Replayed tells status.BadWords input left before after = ⊥
-Replayed tells (status.Undetected line) input left before after = ⊥
 Replayed tells status.NvFault input left before after = ⊥
 Replayed tells (status.BadImage why) input left before after = ⊥
 
@@ -54,12 +66,12 @@ Replayed tells (status.BadImage why) input left before after = ⊥
 abbrev pub IsOfReplay : Status → Type 0
 IsOfReplay status.Done = Unit {0}
 IsOfReplay (status.BadSchedule line why) = Unit {0}
+IsOfReplay (status.Undetected line) = Unit {0}
 IsOfReplay status.ReadFault = Unit {0}
 IsOfReplay status.WriteFault = Unit {0}
 IsOfReplay status.NoMemory = Unit {0}
 IsOfReplay (status.TooMany count) = Unit {0}
 IsOfReplay status.BadWords = ⊥
-IsOfReplay (status.Undetected line) = ⊥
 IsOfReplay status.NvFault = ⊥
 IsOfReplay (status.BadImage why) = ⊥
 

@@ -1,4 +1,4 @@
--- The schedule that bytes are: the lines below its header, or the first line at which they stop being one.
+-- The schedule that bytes are: the lines below its header, or the first line at which they stop being one that is played.
 use Rattle.std.specs.Prelude.{ℕ, ◌+◌, ◌==◌, if◌then◌else◌, List, [], ◌∷◌, ◌++◌, Option, Some, None, Result, Ok, Err}
 use Rattle.std.specs.List.{fold}
 use Rattle.std.specs.Str.Lines.{lines}
@@ -9,11 +9,14 @@ use Rattle.schedule_text.specs.declared.fault.LineFault.TheVariants as fault
 use Rattle.schedule_text.specs.declared.read.Read.{Read}
 use Rattle.schedule_text.specs.declared.read.Read.TheVariants as read
 use Rattle.schedule_text.specs.Lines.{line_of}
-use Rattle.history.specs.Follows.{is_played}
+use Rattle.history.specs.Steps.{bare_link}
+use Rattle.history.specs.Follows.{host_of, link_after_lines, misread}
 
--- why bytes stop being a schedule: a line is outside the forms, or one line more begins than a schedule may have
+-- why bytes stop being a schedule: a line is outside the forms, it damages a frame so that another one is read in its place, or
+-- one line more begins than a schedule may have
 pub data Stop : Type 0 where
   AtFault : LineFault → Stop
+  AtMisread : Stop
   Too_many : Stop
 
 pub record Schedule : Type 0 where
@@ -31,25 +34,23 @@ nothing_read = record { header = None; lines = []; count = 0; stop = None }
 abbrev pub most_lines : ℕ
 most_lines = 20000
 
+-- the frame that is read in place of another, where a line behind these damages that one so that its CRC doesn't show it
+abbrev pub misread_behind : Option Header → List Line → Line → Option (List ℕ)
+misread_behind None before line = None
+misread_behind (Some header) before line = misread (link_after_lines (host_of header) bare_link before) line
+
+-- a schedule with one line more, unless that line damages a frame so that another one is read
+abbrev pub with_played : Schedule → Line → Option (List ℕ) → Schedule
+with_played s line None = record s { lines = s.lines ++ line ∷ []; count = s.count + 1 }
+with_played s line (Some other) = record s { count = s.count + 1; stop = Some AtMisread }
+
 -- a schedule with one line more, that says this
 abbrev pub with_said : Schedule → Result Read LineFault → Schedule
 with_said s (Err f) = record s { count = s.count + 1; stop = Some (AtFault f) }
 with_said s (Ok read.Skip) = record s { count = s.count + 1 }
 with_said s (Ok (read.Header header)) = record s { header = Some header; count = s.count + 1 }
-with_said s (Ok (read.Line line)) = record s { lines = s.lines ++ line ∷ []; count = s.count + 1 }
+with_said s (Ok (read.Line line)) = with_played s line (misread_behind s.header s.lines line)
 with_said s (Ok read.NoMemory) = s
-
--- a line that the program doesn't play yet is told as one with an unknown word
-abbrev pub as_played : Result Read LineFault → Result Read LineFault
-as_played (Ok (read.Line line)) = if is_played line then Ok (read.Line line) else Err fault.Word
-as_played (Ok read.Skip) = Ok read.Skip
-as_played (Ok (read.Header header)) = Ok (read.Header header)
-as_played (Ok read.NoMemory) = Ok read.NoMemory
-as_played (Err f) = Err f
-
--- what a line says to the program
-abbrev pub said_by : Option Header → List ℕ → Result Read LineFault
-said_by header bytes = as_played (line_of header bytes)
 
 -- a schedule with one line more; behind a line at which it stopped nothing is read
 abbrev pub with_line : Schedule → List ℕ → Schedule
@@ -59,7 +60,7 @@ with_line s bytes = unless s.stop where
   unless None =
       if s.count == most_lines
       then record s { count = s.count + 1; stop = Some Too_many }
-      else with_said s (said_by s.header bytes)
+      else with_said s (line_of s.header bytes)
 
 abbrev pub with_lines : Schedule → List (List ℕ) → Schedule
 with_lines s bytes = fold with_line s bytes

@@ -4,9 +4,10 @@ ghost use Rattle.trace_model.specs.declared.line.Header.{Header};
 ghost use Rattle.trace_model.specs.declared.line.Line.{Line};
 ghost use Rattle.trace_model.specs.Lines.{IsHeader, IsLineOf};
 ghost use Rattle.swp_tool.specs.Schedules.{Schedule, with_line, with_said, nothing_read};
-ghost use Rattle.swp_tool.specs.Replays.{Runs, WasStepped, HasPlayed, HasFew, HaltsAt};
+ghost use Rattle.swp_tool.specs.Replays.{Runs, WasStepped, HasPlayed, HasFew, HaltsOn, HaltsBefore, HaltsAt};
 ghost use Rattle.swp_tool.specs.Transcripts.{text_of, done_line};
-ghost use Rattle.history.specs.Follows.{is_played, opened};
+ghost use Rattle.history.specs.Histories.{History};
+ghost use Rattle.history.specs.Follows.{link_at, misread, opened};
 ghost use Rattle.world.specs.Worlds.{StandsFor, HasRoom};
 
 use crate::transcript::note;
@@ -21,6 +22,8 @@ use world::{World, WorldFault};
 pub enum Halt {
     /// The line just begun or read is outside the forms.
     Fault(LineFault),
+    /// The line just read damages a frame so that another one is read in its place.
+    Undetected,
     /// One line more begins than a schedule may have.
     TooMany,
     /// There was no memory.
@@ -40,12 +43,13 @@ impl From<NoMemory> for Halt {
 
 impl From<WorldFault> for Halt {
     ghost use Rattle.std.specs.Prelude.{◌≡◌};
-    ghost use Rattle.swp_tool.specs.declared.replay.Halt.TheVariants as halt;
+    ghost use Rattle.swp_tool.specs.Replays.{halt_of};
 
-    ghost from_gives = { λ _ h. h ≡ halt.NoMemory };
+    ghost from_gives = { λ fault why. why ≡ halt_of fault };
 
     fn from(fault: WorldFault) -> Self {
         match fault {
+            WorldFault::Undetected { .. } => Halt::Undetected,
             WorldFault::NoMemory => Halt::NoMemory,
         }
     }
@@ -100,13 +104,7 @@ impl Replay {
                 Ok(())
             }
             Ok(Read::Header(header)) => self.begin(alloc, &header),
-            Ok(Read::Line(line)) => {
-                if is_played(&line) {
-                    self.go_on(alloc, line)
-                } else {
-                    Err(Halt::Fault(LineFault::Word))
-                }
-            }
+            Ok(Read::Line(line)) => self.go_on(alloc, line),
         }
     }
 
@@ -131,12 +129,12 @@ impl Replay {
     /// Steps the world by the next line, which is one below the header.
     fn go_on(&mut self, alloc: Global, line: Line) -> Result<(), Halt>
         requires world { IsSomeAnd self.old.world (λ w. IsLineOf w.header line) }
-        requires plays { IsTrue (is_played line) }
         requires few { HasFew self.old }
         requires next { self.old.count < 20000 }
         ensures played { OnOk result ((s : Schedule) (written : List ℕ) → HasPlayed self.old s written
             → HasPlayed self.new (with_said s (Ok (Read.Line line))) written) }
-        ensures halts { IfErr result (λ why. why ≡ Halt.NoMemory) }
+        ensures halts { IfErr result (λ why. (s : Schedule) (written : List ℕ) → HasPlayed self.old s written
+            → HaltsBefore why (with_said s (Ok (Read.Line line)))) }
         ensures few { OnOk result (HasFew self.new) }
         ensures count { OnOk result (self.new.count ≡ self.old.count + 1) }
         ensures same { OnErr result (self.new.text.items ≡ self.old.text.items) }
@@ -145,9 +143,13 @@ impl Replay {
         let Some(world) = &mut self.world else {
             return Err(Halt::Fault(LineFault::Order));
         };
-        step(alloc, world, line, &mut self.text)?;
-        self.count += 1;
-        Ok(())
+        match step(alloc, world, line, &mut self.text) {
+            Ok(()) => {
+                self.count += 1;
+                Ok(())
+            }
+            Err(why) => Err(why),
+        }
     }
 
     /// Gathers the last line of the transcript, with the number of lines; without a header the schedule is no schedule.
@@ -165,13 +167,6 @@ impl Replay {
             Err(_) => Err(Halt::NoMemory),
         }
     }
-}
-
-/// Whether the program plays a line: `send` and `deliver` so far.
-fn is_played(line: &Line) -> bool
-    ensures { result ≡ is_played line.now }
-{
-    matches!(line, Line::Send { .. } | Line::Deliver { .. })
 }
 
 /// Appends the last line of a transcript. Where there is no memory, the text stays as it was.
@@ -211,12 +206,13 @@ fn echo_of(header: &Header) -> Result<Entry, NoMemory>
 /// Steps a world by a line, and gathers the text of the line and of what it caused.
 fn step(alloc: Global, world: &mut World, line: Line, text: &mut Vec<u8>) -> Result<(), Halt>
     requires line { IsLineOf world.old.header line }
-    requires plays { IsTrue (is_played line) }
     requires room { HasRoom world.old }
     ensures runs { OnOk result ((header : Header) (lines : List Line) (before : List ℕ) → Runs world.old header lines (before ++ text.old.items)
         → Runs world.new header (lines ++ line ∷ []) (before ++ text.new.items)) }
+    ensures told { OnOk result ((header : Header) (lines : List Line) (t : History) → StandsFor world.old header lines t → misread (link_at t) line ≡ None) }
     ensures stepped { OnOk result ((most : ℕ) → WasStepped world.old most → WasStepped world.new (most + 1)) }
-    ensures halts { IfErr result (λ why. why ≡ Halt.NoMemory) }
+    ensures halts { IfErr result (λ why. (header : Header) (lines : List Line) (t : History) → StandsFor world.old header lines t
+        → HaltsOn why (misread (link_at t) line)) }
     ensures same { OnErr result (text.new.items ≡ text.old.items) }
 {
     world.step(alloc, &line)?;

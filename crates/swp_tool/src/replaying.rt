@@ -26,6 +26,7 @@ fn halted(why: Halt, count: u64) -> Status
             line: count + 1,
             fault,
         },
+        Halt::Undetected => Status::Undetected { line: count + 1 },
         Halt::TooMany => Status::TooMany { count: count + 1 },
         Halt::NoMemory => Status::NoMemory,
     }

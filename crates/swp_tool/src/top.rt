@@ -24,10 +24,10 @@ pub struct Ended<N> {
     pub nv: N,
 }
 
-/// Runs the program: the words are those behind its name. Of its commands three are built. `replay` reads a schedule to its end
-/// or to its first fault, line by line, and writes its transcript. `decode` reads the record of a line and writes a line of text
-/// for each frame or fault in it. `tables` writes what the memory keeps, and reads nothing else. The memory is handed back; its
-/// content is as it was.
+/// Runs the program: the words are those behind its name. Of its commands three are built. `replay` reads a schedule to its end,
+/// to its first fault, or to a line that damages a frame so that another one is read, and writes its transcript. `decode` reads
+/// the record of a line and writes a line of text for each frame or fault in it. `tables` writes what the memory keeps, and
+/// reads nothing else. The memory is handed back; its content is as it was.
 pub fn run<S: Source, K: Sink, N: Nv + Drop>(
     alloc: Global,
     words: &[String],

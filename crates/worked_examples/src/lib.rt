@@ -38,6 +38,8 @@ mod periods;
 #[cfg(test)]
 mod relays;
 #[cfg(test)]
+mod rows;
+#[cfg(test)]
 mod runs;
 #[cfg(test)]
 mod texts;

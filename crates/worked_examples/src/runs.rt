@@ -4,6 +4,7 @@ ghost use Rattle.swp_tool.specs.Schedules.{Stop, schedule_of};
 ghost use Rattle.swp_tool.specs.Runs.{status_at};
 ghost use Rattle.swp_tool.specs.Decodings.{most_bytes};
 
+use crate::rows::*;
 use nv_journal::JournalFault;
 use schedule_text::LineFault;
 use std::alloc::{AllocError, Global};
@@ -11,287 +12,22 @@ use std::test::Fail;
 use swp_base::{MemNv, MemSink, MemSource, NoMemory, SureNv, SureSink, SureSource};
 use swp_tool::*;
 
-const ONE_MESSAGE: [&str; 2] = [
-    "\
-swp 1 bare 02\n\
-send 02h 01 03\n\
-deliver 02c\n\
-deliver 02h\n\
-",
-    "\
-> swp 1 bare 02\n\
-up 02c 0\n\
-up 02h 0\n\
-> send 02h 01 03\n\
-sent 02h 0 01 03\n\
-emit 02h 808103\n\
-> deliver 02c\n\
-took 02c 808103\n\
-got 02c 0 01 03\n\
-emit 02c C1\n\
-> deliver 02h\n\
-took 02h C1\n\
-acked 02h 0 1\n\
-done 4\n\
-",
-];
+/// What a run ended with, what it wrote, and how many bytes it left unread.
+#[derive(Drop)]
+struct Outcome {
+    status: Status,
+    written: Vec<u8>,
+    left: usize,
+}
 
-const WINDOW_OF_FOUR: [&str; 2] = [
-    "\
-swp 1 bare 02\n\
-send 02h 01 03\n\
-send 02h 01 03\n\
-send 02h 01 03\n\
-send 02h 01 03\n\
-send 02h 01 03\n\
-deliver 02c 1\n\
-deliver 02h\n\
-",
-    "\
-> swp 1 bare 02\n\
-up 02c 0\n\
-up 02h 0\n\
-> send 02h 01 03\n\
-sent 02h 0 01 03\n\
-emit 02h 808103\n\
-> send 02h 01 03\n\
-sent 02h 0 01 03\n\
-emit 02h 888103\n\
-> send 02h 01 03\n\
-sent 02h 0 01 03\n\
-emit 02h 908103\n\
-> send 02h 01 03\n\
-sent 02h 0 01 03\n\
-emit 02h 988103\n\
-> send 02h 01 03\n\
-sent 02h 0 01 03\n\
-> deliver 02c 1\n\
-took 02c 808103\n\
-got 02c 0 01 03\n\
-emit 02c C1\n\
-> deliver 02h\n\
-took 02h C1\n\
-acked 02h 0 1\n\
-emit 02h A08103\n\
-done 8\n\
-",
-];
-
-const NUMBERS_WRAP: [&str; 2] = [
-    "\
-swp 1 bare 02\n\
-send 02h 01 03\n\
-deliver 02c\n\
-deliver 02h\n\
-send 02h 01 03\n\
-deliver 02c\n\
-deliver 02h\n\
-send 02h 01 03\n\
-deliver 02c\n\
-deliver 02h\n\
-send 02h 01 03\n\
-deliver 02c\n\
-deliver 02h\n\
-send 02h 01 03\n\
-deliver 02c\n\
-deliver 02h\n\
-send 02h 01 03\n\
-deliver 02c\n\
-deliver 02h\n\
-send 02h 01 03\n\
-deliver 02c\n\
-deliver 02h\n\
-send 02h 01 03\n\
-deliver 02c\n\
-deliver 02h\n\
-send 02h 01 03\n\
-deliver 02c\n\
-deliver 02h\n\
-",
-    "\
-> swp 1 bare 02\n\
-up 02c 0\n\
-up 02h 0\n\
-> send 02h 01 03\n\
-sent 02h 0 01 03\n\
-emit 02h 808103\n\
-> deliver 02c\n\
-took 02c 808103\n\
-got 02c 0 01 03\n\
-emit 02c C1\n\
-> deliver 02h\n\
-took 02h C1\n\
-acked 02h 0 1\n\
-> send 02h 01 03\n\
-sent 02h 0 01 03\n\
-emit 02h 888103\n\
-> deliver 02c\n\
-took 02c 888103\n\
-got 02c 0 01 03\n\
-emit 02c C2\n\
-> deliver 02h\n\
-took 02h C2\n\
-acked 02h 0 2\n\
-> send 02h 01 03\n\
-sent 02h 0 01 03\n\
-emit 02h 908103\n\
-> deliver 02c\n\
-took 02c 908103\n\
-got 02c 0 01 03\n\
-emit 02c C3\n\
-> deliver 02h\n\
-took 02h C3\n\
-acked 02h 0 3\n\
-> send 02h 01 03\n\
-sent 02h 0 01 03\n\
-emit 02h 988103\n\
-> deliver 02c\n\
-took 02c 988103\n\
-got 02c 0 01 03\n\
-emit 02c C4\n\
-> deliver 02h\n\
-took 02h C4\n\
-acked 02h 0 4\n\
-> send 02h 01 03\n\
-sent 02h 0 01 03\n\
-emit 02h A08103\n\
-> deliver 02c\n\
-took 02c A08103\n\
-got 02c 0 01 03\n\
-emit 02c C5\n\
-> deliver 02h\n\
-took 02h C5\n\
-acked 02h 0 5\n\
-> send 02h 01 03\n\
-sent 02h 0 01 03\n\
-emit 02h A88103\n\
-> deliver 02c\n\
-took 02c A88103\n\
-got 02c 0 01 03\n\
-emit 02c C6\n\
-> deliver 02h\n\
-took 02h C6\n\
-acked 02h 0 6\n\
-> send 02h 01 03\n\
-sent 02h 0 01 03\n\
-emit 02h B08103\n\
-> deliver 02c\n\
-took 02c B08103\n\
-got 02c 0 01 03\n\
-emit 02c C7\n\
-> deliver 02h\n\
-took 02h C7\n\
-acked 02h 0 7\n\
-> send 02h 01 03\n\
-sent 02h 0 01 03\n\
-emit 02h B88103\n\
-> deliver 02c\n\
-took 02c B88103\n\
-got 02c 0 01 03\n\
-emit 02c C0\n\
-> deliver 02h\n\
-took 02h C0\n\
-acked 02h 0 8\n\
-> send 02h 01 03\n\
-sent 02h 0 01 03\n\
-emit 02h 808103\n\
-> deliver 02c\n\
-took 02c 808103\n\
-got 02c 0 01 03\n\
-emit 02c C1\n\
-> deliver 02h\n\
-took 02h C1\n\
-acked 02h 0 9\n\
-done 28\n\
-",
-];
-
-const RESERVED_TYPE_IS_ACKNOWLEDGED_NOT_GOT: [&str; 2] = [
-    "\
-swp 1 bare 02\n\
-send 02h 01 C1\n\
-deliver 02c\n\
-deliver 02h\n\
-",
-    "\
-> swp 1 bare 02\n\
-up 02c 0\n\
-up 02h 0\n\
-> send 02h 01 C1\n\
-sent 02h 0 01 C1\n\
-emit 02h 8081C1\n\
-> deliver 02c\n\
-took 02c 8081C1\n\
-emit 02c C1\n\
-> deliver 02h\n\
-took 02h C1\n\
-acked 02h 0 1\n\
-done 4\n\
-",
-];
-
-const DELIVER_ON_EMPTY_WIRE: [&str; 2] = [
-    "\
-swp 1 bare 02\n\
-deliver 02c\n\
-",
-    "\
-> swp 1 bare 02\n\
-up 02c 0\n\
-up 02h 0\n\
-> deliver 02c\n\
-no empty\n\
-done 2\n\
-",
-];
-
-const ECHO_IS_NORMALISED: [&str; 2] = [
-    "\
-swp 1 bare 02\n\
-# spaces, comments and digits of either case\n\
-\n\
-\n\
-",
-    "\
-> swp 1 bare 02\n\
-up 02c 0\n\
-up 02h 0\n\
-done 4\n\
-",
-];
-
-const WORDS_ARE_NORMALISED: [&str; 2] = [
-    "\
-swp 1 bare 02\n\
-# spaces, comments and digits of either case\n\
-\x20 send   02h 1f 0a0B \n\
-\n\
-deliver  02c\n\
-",
-    "\
-> swp 1 bare 02\n\
-up 02c 0\n\
-up 02h 0\n\
-> send 02h 1F 0A0B\n\
-sent 02h 0 1F 0A0B\n\
-emit 02h 809F0A0B\n\
-> deliver 02c\n\
-took 02c 809F0A0B\n\
-got 02c 0 1F 0A0B\n\
-emit 02c C1\n\
-done 5\n\
-",
-];
-
-/// What a run over these words and these bytes ended with, and what it wrote. The calls of these numbers fail; a call moves
-/// at most `piece` bytes.
-fn outcome(
+/// What becomes of a run over these words and these bytes. The calls of these numbers fail; a call moves at most `piece` bytes.
+fn outcome_of(
     alloc: Global,
     words: &[&str],
-    schedule: &[u8],
+    bytes: &[u8],
     fails: (&[u64], &[u64]),
     piece: u32,
-) -> Result<(Status, Vec<u8>), NoMemory>
+) -> Result<Outcome, NoMemory>
     requires { 1 ≤ piece }
 {
     let mut given = Vec::new(alloc);
@@ -302,14 +38,18 @@ fn outcome(
     }
     let (reads, writes) = fails;
     let mut source = MemSource::new(
-        Vec::from_slice(alloc, schedule)?,
+        Vec::from_slice(alloc, bytes)?,
         Vec::from_slice(alloc, reads)?,
         piece,
     );
     let mut sink = MemSink::new(Vec::new(alloc), Vec::from_slice(alloc, writes)?, piece);
     let nv = MemNv::new(alloc, 65_536)?;
     let Ended { status, nv: _ } = run(alloc, given.as_slice(), &mut source, &mut sink, nv);
-    Ok((status, Vec::from_slice(alloc, sink.bytes())?))
+    Ok(Outcome {
+        status,
+        written: Vec::from_slice(alloc, sink.bytes())?,
+        left: source.left().len(),
+    })
 }
 
 /// The words that are this one.
@@ -355,19 +95,42 @@ fn worked_examples_are_replayed(rt: HostRuntime) -> Result<(), Fail> {
         DELIVER_ON_EMPTY_WIRE,
         ECHO_IS_NORMALISED,
         WORDS_ARE_NORMALISED,
+        NOBODY_DELIVERS_FIVE_TRIES,
+        LOST_FRAME_IS_REJECTED_AND_RESENT,
+        LOST_ACK_IS_ANSWERED_AGAIN,
+        BUSY_THEN_READY,
+        DAMAGE_BREAKS_A_FRAME,
+        RESET_AND_ITS_RESEND,
+        CROSSED_RESETS,
+        CROSSED_RESETS_ONE_LOST,
+        RESET_GIVES_UP,
+        HEADER_ALONE_IS_ONE_FRAGMENT,
     ] {
         for piece in [4096, 1] {
-            let (status, written) = outcome(rt.alloc(), &REPLAY, schedule.as_bytes(), NONE, piece)?;
-            assert_eq!(rt; status, Status::Done, "{schedule}");
-            assert_eq!(rt; written.as_slice(), transcript.as_bytes(), "{schedule}");
+            let run = outcome_of(rt.alloc(), &REPLAY, schedule.as_bytes(), NONE, piece)?;
+            assert_eq!(rt; run.status, Status::Done, "{schedule}");
+            assert_eq!(rt; run.written.as_slice(), transcript.as_bytes(), "{schedule}");
+            assert_eq!(rt; run.left, 0, "{schedule}");
         }
     }
     Ok(())
 }
 
 #[test]
+fn damage_that_the_crc_does_not_show_ends_a_replay(rt: HostRuntime) -> Result<(), Fail> {
+    let [schedule, transcript] = DAMAGE_THE_CRC_DOES_NOT_SHOW;
+    for piece in [4096, 1] {
+        let run = outcome_of(rt.alloc(), &REPLAY, schedule.as_bytes(), NONE, piece)?;
+        assert_eq!(rt; run.status, Status::Undetected { line: 3 });
+        assert_eq!(rt; run.written.as_slice(), transcript.as_bytes());
+    }
+    Ok(())
+}
+
+const OPENING: &[u8] = b"> swp 1 bare 02\nup 02c 0\nup 02h 0\n";
+
+#[test]
 fn a_fault_is_told_with_its_line(rt: HostRuntime) -> Result<(), Fail> {
-    let opening = b"> swp 1 bare 02\nup 02c 0\nup 02h 0\n".as_slice();
     for (schedule, line, fault, written) in [
         ("", 1, LineFault::Order, b"".as_slice()),
         ("# nothing\n", 2, LineFault::Order, b"".as_slice()),
@@ -375,25 +138,50 @@ fn a_fault_is_told_with_its_line(rt: HostRuntime) -> Result<(), Fail> {
             "swp 1 bare 02\n\nsend 02h 01\n",
             3,
             LineFault::Word,
-            opening,
+            OPENING,
         ),
-        ("swp 1 bare 02\ntick 3", 2, LineFault::Word, opening),
+        ("swp 1 bare 02\nboot 02", 2, LineFault::Word, OPENING),
+        (
+            "swp 1 bare 02\ndamage 02c 9 9",
+            2,
+            LineFault::Number { at: 4 },
+            OPENING,
+        ),
         (
             "swp 1 bare 02\nsend 03h 01 03",
             2,
             LineFault::Host { id: 3 },
-            opening,
+            OPENING,
         ),
         (
             "swp 1 bare 02\r\ndeliver 02c 65\r\n",
             2,
             LineFault::Number { at: 3 },
-            opening,
+            OPENING,
         ),
     ] {
-        let (status, text) = outcome(rt.alloc(), &REPLAY, schedule.as_bytes(), NONE, 4096)?;
-        assert_eq!(rt; status, Status::BadSchedule { line, fault }, "{schedule}");
-        assert_eq!(rt; text.as_slice(), written, "{schedule}");
+        let run = outcome_of(rt.alloc(), &REPLAY, schedule.as_bytes(), NONE, 4096)?;
+        assert_eq!(rt;
+            run.status,
+            Status::BadSchedule { line, fault },
+            "{schedule}"
+        );
+        assert_eq!(rt; run.written.as_slice(), written, "{schedule}");
+    }
+    Ok(())
+}
+
+#[test]
+fn what_stands_behind_a_bad_line_is_left(rt: HostRuntime) -> Result<(), Fail> {
+    let [damage, _] = DAMAGE_THE_CRC_DOES_NOT_SHOW;
+    for begin in ["swp 1 bare 02\nsent 02h 01 03\n", damage] {
+        let mut schedule = Vec::from_slice(rt.alloc(), begin.as_bytes())?;
+        for _ in 0..10_000 {
+            schedule.extend_from_slice(b"# nothing\n")?;
+        }
+        let run = outcome_of(rt.alloc(), &REPLAY, schedule.as_slice(), NONE, 65_536)?;
+        assert!(rt; run.status != Status::Done, "{begin}");
+        assert!(rt; run.left >= 95_000, "{begin}");
     }
     Ok(())
 }
@@ -404,23 +192,20 @@ fn a_schedule_has_20000_lines_at_most(rt: HostRuntime) -> Result<(), Fail> {
     for _ in 0..19_999 {
         schedule.push(b'\n')?;
     }
-    let (status, text) = outcome(rt.alloc(), &REPLAY, schedule.as_slice(), NONE, 4096)?;
-    assert_eq!(rt; status, Status::Done);
-    assert!(rt; text.as_slice().ends_with(b"\ndone 20000\n"));
+    let run = outcome_of(rt.alloc(), &REPLAY, schedule.as_slice(), NONE, 4096)?;
+    assert_eq!(rt; run.status, Status::Done);
+    assert!(rt; run.written.as_slice().ends_with(b"\ndone 20000\n"));
     schedule.push(b'\n')?;
-    let (status, text) = outcome(rt.alloc(), &REPLAY, schedule.as_slice(), NONE, 4096)?;
-    assert_eq!(rt; status, Status::TooMany { count: 20_001 });
-    assert_eq!(rt;
-        text.as_slice(),
-        b"> swp 1 bare 02\nup 02c 0\nup 02h 0\n".as_slice()
-    );
+    let run = outcome_of(rt.alloc(), &REPLAY, schedule.as_slice(), NONE, 4096)?;
+    assert_eq!(rt; run.status, Status::TooMany { count: 20_001 });
+    assert_eq!(rt; run.written.as_slice(), OPENING);
     Ok(())
 }
 
 /// Whether these words are refused, and nothing is written.
 fn refuses(alloc: Global, words: &[&str]) -> Result<bool, NoMemory> {
-    let (status, text) = outcome(alloc, words, b"swp 1 bare 02\n", NONE, 4096)?;
-    Ok(status == Status::BadWords && text.is_empty())
+    let run = outcome_of(alloc, words, b"swp 1 bare 02\n", NONE, 4096)?;
+    Ok(run.status == Status::BadWords && run.written.is_empty() && run.left == 14)
 }
 
 #[test]
@@ -436,14 +221,48 @@ fn other_words_are_refused_and_nothing_is_written(rt: HostRuntime) -> Result<(),
 #[test]
 fn a_read_that_fails_leaves_the_whole_lines_before_it(rt: HostRuntime) -> Result<(), Fail> {
     let [schedule, transcript] = ONE_MESSAGE;
-    let (status, text) = outcome(rt.alloc(), &REPLAY, schedule.as_bytes(), (&[1], &[]), 4096)?;
-    assert_eq!(rt; status, Status::ReadFault);
-    assert_eq!(rt; text.len(), 0);
-    let (status, text) = outcome(rt.alloc(), &REPLAY, schedule.as_bytes(), (&[2], &[]), 4096)?;
-    assert_eq!(rt; status, Status::ReadFault);
-    let mut whole = text;
+    let run = outcome_of(rt.alloc(), &REPLAY, schedule.as_bytes(), (&[1], &[]), 4096)?;
+    assert_eq!(rt; run.status, Status::ReadFault);
+    assert_eq!(rt; run.written.len(), 0);
+    let run = outcome_of(rt.alloc(), &REPLAY, schedule.as_bytes(), (&[2], &[]), 4096)?;
+    assert_eq!(rt; run.status, Status::ReadFault);
+    let mut whole = Vec::from_slice(rt.alloc(), run.written.as_slice())?;
     whole.extend_from_slice(b"done 4\n")?;
     assert_eq!(rt; whole.as_slice(), transcript.as_bytes());
+    Ok(())
+}
+
+#[test]
+fn each_read_that_fails_ends_a_replay(rt: HostRuntime) -> Result<(), Fail> {
+    let [schedule, transcript] = DAMAGE_BREAKS_A_FRAME;
+    for failing in 1..=56 {
+        let run = outcome_of(
+            rt.alloc(),
+            &REPLAY,
+            schedule.as_bytes(),
+            (&[failing], &[]),
+            1,
+        )?;
+        assert_eq!(rt; run.status, Status::ReadFault, "{failing}");
+        assert!(rt;
+            transcript.as_bytes().starts_with(run.written.as_slice()),
+            "{failing}"
+        );
+    }
+    Ok(())
+}
+
+#[test]
+fn nothing_is_read_behind_the_end_or_a_bad_line(rt: HostRuntime) -> Result<(), Fail> {
+    let [schedule, _] = ONE_MESSAGE;
+    // Two reads give the schedule and its end, and a third would fail.
+    let run = outcome_of(rt.alloc(), &REPLAY, schedule.as_bytes(), (&[3], &[]), 4096)?;
+    assert_eq!(rt; run.status, Status::Done);
+    let run = outcome_of(rt.alloc(), &DECODE, &RECORD, (&[3], &[]), 4096)?;
+    assert_eq!(rt; run.status, Status::Done);
+    let [damage, _] = DAMAGE_THE_CRC_DOES_NOT_SHOW;
+    let run = outcome_of(rt.alloc(), &REPLAY, damage.as_bytes(), (&[2], &[]), 4096)?;
+    assert_eq!(rt; run.status, Status::Undetected { line: 3 });
     Ok(())
 }
 
@@ -451,19 +270,23 @@ fn a_read_that_fails_leaves_the_whole_lines_before_it(rt: HostRuntime) -> Result
 fn a_write_that_fails_leaves_a_front_of_the_transcript(rt: HostRuntime) -> Result<(), Fail> {
     let [schedule, transcript] = ONE_MESSAGE;
     for failing in 1..=48 {
-        let (status, text) = outcome(
+        let run = outcome_of(
             rt.alloc(),
             &REPLAY,
             schedule.as_bytes(),
             (&[], &[failing]),
             2,
         )?;
-        assert_eq!(rt; status, Status::WriteFault, "{failing}");
+        assert_eq!(rt; run.status, Status::WriteFault, "{failing}");
         assert!(rt;
-            transcript.as_bytes().starts_with(text.as_slice()),
+            transcript.as_bytes().starts_with(run.written.as_slice()),
             "{failing}"
         );
     }
+    // The write of the first line fails, and the rest stays unread.
+    let run = outcome_of(rt.alloc(), &REPLAY, schedule.as_bytes(), (&[], &[1]), 14)?;
+    assert_eq!(rt; run.status, Status::WriteFault);
+    assert_eq!(rt; run.left, 39);
     Ok(())
 }
 
@@ -545,9 +368,9 @@ fn records_are_decoded(rt: HostRuntime) -> Result<(), Fail> {
         (&RECORD[..0], "done 0\n"),
     ] {
         for piece in [1, 7, 4096] {
-            let (status, written) = outcome(rt.alloc(), &DECODE, record, NONE, piece)?;
-            assert_eq!(rt; status, Status::Done);
-            assert_eq!(rt; written.as_slice(), text.as_bytes());
+            let run = outcome_of(rt.alloc(), &DECODE, record, NONE, piece)?;
+            assert_eq!(rt; run.status, Status::Done);
+            assert_eq!(rt; run.written.as_slice(), text.as_bytes());
         }
     }
     Ok(())
@@ -570,31 +393,33 @@ fn a_long_record_is_decoded_in_order(rt: HostRuntime) -> Result<(), Fail> {
         )?.as_bytes())?;
     }
     text.extend_from_slice(b"done 32000\n")?;
-    let (status, written) = outcome(rt.alloc(), &DECODE, record.as_slice(), NONE, 4096)?;
-    assert_eq!(rt; status, Status::Done);
-    assert_eq!(rt; written.as_slice(), text.as_slice());
+    let run = outcome_of(rt.alloc(), &DECODE, record.as_slice(), NONE, 4096)?;
+    assert_eq!(rt; run.status, Status::Done);
+    assert_eq!(rt; run.written.as_slice(), text.as_slice());
     Ok(())
 }
 
 #[test]
 fn a_decoding_that_is_cut_off_leaves_the_lines_before_it(rt: HostRuntime) -> Result<(), Fail> {
-    let (status, written) = outcome(rt.alloc(), &DECODE, &RECORD, (&[2], &[]), 4096)?;
-    assert_eq!(rt; status, Status::ReadFault);
-    assert_eq!(rt; written.as_slice(), b"s1 0 C1 rr 1\n".as_slice());
-    let (status, written) = outcome(rt.alloc(), &DECODE, &RECORD, (&[], &[2]), 7)?;
-    assert_eq!(rt; status, Status::WriteFault);
-    assert_eq!(rt; written.as_slice(), b"s1 0 C1".as_slice());
-    let (status, written) = outcome(rt.alloc(), &DECODE, &RECORD, (&[], &[2]), 4096)?;
-    assert_eq!(rt; status, Status::WriteFault);
-    assert_eq!(rt; written.as_slice(), b"s1 0 C1 rr 1\n".as_slice());
+    let run = outcome_of(rt.alloc(), &DECODE, &RECORD, (&[2], &[]), 4096)?;
+    assert_eq!(rt; run.status, Status::ReadFault);
+    assert_eq!(rt; run.written.as_slice(), b"s1 0 C1 rr 1\n".as_slice());
+    let run = outcome_of(rt.alloc(), &DECODE, &RECORD, (&[], &[2]), 7)?;
+    assert_eq!(rt; run.status, Status::WriteFault);
+    assert_eq!(rt; run.written.as_slice(), b"s1 0 C1".as_slice());
+    let run = outcome_of(rt.alloc(), &DECODE, &RECORD, (&[], &[2]), 4096)?;
+    assert_eq!(rt; run.status, Status::WriteFault);
+    assert_eq!(rt; run.written.as_slice(), b"s1 0 C1 rr 1\n".as_slice());
     Ok(())
 }
 
 #[test]
 fn worked_examples_end_alike_over_a_sink_that_tells_nothing(rt: HostRuntime) -> Result<(), Fail> {
     let [schedule, _] = ONE_MESSAGE;
+    let [damage, _] = DAMAGE_THE_CRC_DOES_NOT_SHOW;
     for (word, bytes, wanted) in [
         ("replay", schedule.as_bytes(), Status::Done),
+        ("replay", damage.as_bytes(), Status::Undetected { line: 3 }),
         (
             "replay",
             b"".as_slice(),

@@ -3,10 +3,11 @@ use Rattle.std.proofs.Common.{◌≡◌, ◌++◌, ◌∷◌, [], ap, sym, ◌�
 use Rattle.trace_model.specs.declared.entry.Entry.TheVariants as entry
 use Rattle.trace_model.specs.declared.line.Header.{Header}
 use Rattle.schedule_text.specs.Entries.{entry_line}
-use Rattle.history.specs.Histories.{noted, all_entries}
-use Rattle.history.specs.Follows.{with_step, outcome_of}
+use Rattle.history.specs.Histories.{noted}
+use Rattle.history.specs.Follows.{host_of, link_at, with_step, outcome_of}
 use Rattle.world.specs.Worlds.{StandsFor}
 use Rattle.swp_tool.specs.Transcripts.{entry_lines, text_of}
+use Rattle.swp_tool.proofs.Playing.{under_own_header}
 use Rattle.swp_tool.proofs.Texts.{text_of-step}
 use Rattle.swp_tool.proofs.replay.step.Goals as goal
 
@@ -15,11 +16,10 @@ returns-clause-runs c header lines before runs =
     let t = runs.history in
     let line = c.args.line in
     let w = c.args.world.now in
-    let P : Header → Type 0 = λ h. StandsFor w h lines t in
+    let stands = under_own_header w header lines t runs.stands in
     let Q : Header → Type 0 = λ h. StandsFor c.step.new.self h (lines ++ line ∷ []) (with_step t line) in
-    let stands = subst P (sym runs.stands.header_is) runs.stands in
-    let below : c.entries.result.now ≡ noted (outcome_of (all_entries t) line) =
-    c.entries.ensures ∙ c.in_ok-step.ensures.entries lines t stands in
+    let below : c.entries.result.now ≡ noted (outcome_of (host_of t.header) (link_at t) line) =
+    c.entries.ensures ∙ (c.in_ok-step.ensures.entries lines t stands ∙ ap (λ h. noted (outcome_of (host_of h) (link_at t) line)) (sym stands.follows.header_is)) in
     let more = entry_line (entry.Echo line) ++ entry_lines c.entries.result.now in
     record {
       history = with_step t line;
@@ -29,6 +29,10 @@ returns-clause-runs c header lines before runs =
           ∙ (ap (λ l. l ++ more) runs.text_is
           ∙ (ap (λ l. text_of t ++ (entry_line (entry.Echo line) ++ entry_lines l)) below ∙ sym (text_of-step t line))));
     }
+
+pub returns-clause-told : goal.returns-clause-told
+returns-clause-told c header lines t stands =
+    c.in_ok-step.ensures.told lines t (under_own_header c.args.world.now header lines t stands)
 
 pub returns-clause-stepped : goal.returns-clause-stepped
 returns-clause-stepped c most was =

@@ -1,7 +1,18 @@
-use Rattle.swp_tool.proofs.Playing.{has_room}
+use Rattle.std.proofs.Common.{refl}
+use Rattle.swp_tool.proofs.Playing.{has_room, went_on, halted_there}
 use Rattle.swp_tool.proofs.replay.Replay.go_on.Goals as goal
 
 -- the world was stepped by no more lines than were read
 pub step-requires-clause-room : goal.step-requires-clause-room
 step-requires-clause-room c =
     has_room c.in-Some.world c.args.self.now.count (c.requires.few.steps c.in-Some.world c.in-Some.is) c.requires.next
+
+-- the line was played
+pub returns-in-Ok-clause-played : goal.returns-in-Ok-clause-played
+returns-in-Ok-clause-played c s written h =
+    went_on c.args.self.now _ s written c.in-Some.world c.step.new.world c.args.line h c.in-Some.is refl refl c.in-Ok.ensures.runs c.in-Ok.ensures.told
+
+-- the world halted at the line
+pub returns-in-Err-clause-halts : goal.returns-in-Err-clause-halts
+returns-in-Err-clause-halts c s written h =
+    halted_there c.args.self.now s written c.in-Some.world c.args.line c.in-Err.why h c.in-Some.is c.in-Err.ensures.halts

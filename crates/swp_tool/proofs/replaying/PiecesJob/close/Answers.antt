@@ -1,10 +1,10 @@
 -- What was gathered at the end stands behind what was written.
-use Rattle.std.proofs.Common.{◌≡◌, ◌++◌, List, ℕ, IsTrue, [], sym, ap, ◌∙◌, subst, take, refl}
+use Rattle.std.proofs.Common.{◌≡◌, ◌++◌, List, ℕ, IsTrue, [], sym, ap, ◌∙◌, subst, take, refl, arith}
 use Rattle.std.proofs.lemmas.List.{append-nil}
 use Rattle.swp_tool.specs.declared.status.Status.{Status}
 use Rattle.swp_tool.specs.Pieces.{IsCompleteTranscript}
-use Rattle.swp_tool.specs.Runs.{Appends, IsFrontOfTranscript, Replayed}
-use Rattle.swp_tool.proofs.Ending.{of_err, of_ok, behind, cut_off, finished_front, halted_at_end}
+use Rattle.swp_tool.specs.Runs.{IsSomeTranscript, Replayed}
+use Rattle.swp_tool.proofs.Ending.{of_err, of_ok, behind, whole_transcript, cut_short, finished_front, halted_at_end}
 use Rattle.swp_tool.proofs.replaying.PiecesJob.close.Goals as goal
 
 pub returns-then-is_err-clause-ends : goal.returns-then-is_err-clause-ends
@@ -14,11 +14,12 @@ returns-then-is_err-clause-ends g c input before under =
     let items = c.as_slice.result.now in
     let front = of_err ((n : ℕ) × (IsTrue tells → g.K.Sink.written c.write_all.new.sink ≡ g.K.Sink.written c.args.sink.now ++ take n items)) c.write_all.result c.is_err.result c.is_err.ensures.value c.if-is_err.true c.write_all.ensures.front in
     let input_is : input ≡ under.bytes = under.input_is ∙ append-nil under.bytes in
-    let P : List ℕ → Type 0 = λ i. Appends tells (IsFrontOfTranscript i) before (g.K.Sink.written c.write_all.new.sink) in
-    let some = finished_front c.args.self.now c.finish-finished.new.self c.finish-finished.result under.bytes under.text c.finish-finished.ensures.done c.finish-finished.ensures.halts under.read in
-    subst P (sym input_is)
-    (cut_off tells under.bytes under.text now before (g.K.Sink.written c.args.sink.now) (g.K.Sink.written c.write_all.new.sink) some under.after_is
-    (front.0, λ told. front.1 told ∙ ap (λ l. g.K.Sink.written c.args.sink.now ++ take front.0 l) c.as_slice.ensures.value))
+    let P : List ℕ → Type 0 = λ i. IsSomeTranscript i (under.text ++ now) in
+    let some = subst P (sym input_is)
+    (finished_front c.args.self.now c.finish-finished.new.self c.finish-finished.result under.bytes under.text c.finish-finished.ensures.done c.finish-finished.ensures.halts under.read) in
+    cut_short tells input under.bytes [] [] under.text now before (g.K.Sink.written c.args.sink.now) (g.K.Sink.written c.write_all.new.sink) under.input_is (omega arith)
+    (whole_transcript c.args.self.now under.bytes under.text under.read under.gathered) some under.after_is
+    (front.0, λ told. front.1 told ∙ ap (λ l. g.K.Sink.written c.args.sink.now ++ take front.0 l) c.as_slice.ensures.value)
 
 pub returns-in-Ok-clause-ends : goal.returns-in-Ok-clause-ends
 returns-in-Ok-clause-ends g c input before under =

@@ -1,9 +1,9 @@
 -- What was gathered of a piece stands behind what was written.
 use Rattle.std.proofs.Common.{◌≡◌, ◌++◌, List, ℕ, IsTrue, [], sym, ap, ◌∙◌, append_assoc, subst, take, inl}
 use Rattle.swp_tool.specs.declared.status.Status.{Status}
-use Rattle.swp_tool.specs.Pieces.{HasRead}
-use Rattle.swp_tool.specs.Runs.{Appends, IsFrontOfTranscript, Replayed}
-use Rattle.swp_tool.proofs.Ending.{of_err, of_ok, behind, cut_off, fed_front, halted_replayed}
+use Rattle.swp_tool.specs.Pieces.{HasRead, IsFrontTranscript}
+use Rattle.swp_tool.specs.Runs.{Replayed}
+use Rattle.swp_tool.proofs.Ending.{of_err, of_ok, behind, whole_transcript, cut_short, fed_front, halted_replayed}
 use Rattle.swp_tool.proofs.replaying.PiecesJob.take.Goals as goal
 
 pub returns-then-is_err-clause-ends : goal.returns-then-is_err-clause-ends
@@ -15,10 +15,11 @@ returns-then-is_err-clause-ends g c input rest before under =
     let after = g.K.Sink.written c.flush.new.sink in
     let front = of_err ((n : ℕ) × (IsTrue tells → after ≡ was ++ take n items)) c.flush.result c.is_err.result c.is_err.ensures.value c.if-is_err.true c.flush.ensures.front in
     let input_is : input ≡ (under.bytes ++ piece) ++ rest = under.input_is ∙ sym (append_assoc under.bytes piece rest) in
-    let P : List ℕ → Type 0 = λ i. Appends tells (IsFrontOfTranscript i) before after in
-    subst P (sym input_is)
-    (cut_off tells ((under.bytes ++ piece) ++ rest) under.text items before was after
-    (inl (fed_front c.args.self.now c.feed-fed.new.self c.feed-fed.result piece rest under.bytes under.text c.feed-fed.ensures.read c.feed-fed.ensures.halts under.read)) under.after_is front)
+    let P : List ℕ → Type 0 = λ i. IsFrontTranscript i (under.text ++ items) in
+    let some = subst P (sym input_is)
+    (fed_front c.args.self.now c.feed-fed.new.self c.feed-fed.result piece rest under.bytes under.text c.feed-fed.ensures.read c.feed-fed.ensures.halts under.read) in
+    cut_short tells input under.bytes piece rest under.text items before was after under.input_is c.requires.size
+    (whole_transcript c.args.self.now under.bytes under.text under.read under.gathered) (inl some) under.after_is front
 
 pub returns-in-Ok-clause-on : goal.returns-in-Ok-clause-on
 returns-in-Ok-clause-on g c input rest before under =
