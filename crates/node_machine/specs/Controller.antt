@@ -1,0 +1,214 @@
+-- What a controller does with a message (ETSI TS 102 622, pipe management, administration gate, creation of pipes between
+-- hosts). Which answer comes to a host that isn't asked for, and what is dropped, is this project's own.
+use Rattle.std.specs.Prelude.{ℕ, ◌==◌, ◌&&◌, ◌||◌, Bool, true, false, not, nat_lt, if◌then◌else◌, List, [], ◌∷◌, ◌++◌, map, is_some, Option, Some, None, Result, Ok, Err}
+use Rattle.std.specs.List.{filter, filter_map, list_any}
+use Rattle.std.specs.Option.{option_map_or, option_and_then}
+use Rattle.session_laws.specs.Sessions.{is_up}
+use Rattle.hcp_packet.specs.declared.MessageKind.{MessageKind}
+use Rattle.hcp_packet.specs.declared.MessageKind.TheVariants.{Command as IsCommand, Event as IsEvent, Response as IsResponse}
+use Rattle.hcp_packet.specs.declared.MessageFault.{MessageFault}
+use Rattle.hcp_packet.specs.MessageHeader.{header_of}
+use Rattle.hci_tables.specs.declared.command.Command.{Command}
+use Rattle.hci_tables.specs.declared.command.Command.TheVariants.{Create}
+use Rattle.hci_tables.specs.Tables.{HciTables}
+use Rattle.gate_answers.specs.declared.response.Response.TheVariants as response
+use Rattle.gate_answers.specs.Answers.{answer_of, body_in}
+use Rattle.gate_admin.specs.declared.view.LinkView.{LinkView}
+use Rattle.gate_admin.specs.declared.decision.Decision.{Decision}
+use Rattle.gate_admin.specs.declared.decision.Decision.TheVariants.{Answer, Commit, Ask}
+use Rattle.gate_admin.specs.View.{has, hosts_where, mask_of}
+use Rattle.gate_admin.specs.Decide.{decided, far_end, is_opened}
+use Rattle.gate_link.specs.Link.{served as link_served}
+use Rattle.gate_identity.specs.Identity.{served as identity_served}
+use Rattle.gate_loopback.specs.Loopback.{posts_back}
+use Rattle.link_machine.specs.Machine.{Message}
+use Rattle.node_machine.specs.Parts.{Creation, About, Notice, Core, Port, Deed}
+use Rattle.node_machine.specs.Parts.About.{Waits, Forgotten, Removed}
+use Rattle.node_machine.specs.Parts.Deed.{Commits, Sends, SaysOk, Asks, Releases, Tells, IsAnswered, Drops, SetsErrors}
+use Rattle.node_machine.specs.Carrying.{port_at, finds_room}
+
+-- ## What it knows of its links
+
+-- the link with a host is up
+abbrev pub has_link : List Port → ℕ → Bool
+has_link ports h = option_map_or (λ (p : Port). is_up p.side.shdlc.phase) (port_at ports h) false
+
+-- the creation that a notice is about, while it waits
+abbrev pub creation_in : Option Notice → Option Creation
+creation_in None = None
+creation_in (Some n) = by_about n.about where
+  by_about : About → Option Creation
+  by_about (Waits c) = Some c
+  by_about Forgotten = None
+  by_about Removed = None
+
+-- the creation that this end's host is asked for
+abbrev pub asked_at : Port → Option Creation
+asked_at p = creation_in p.desk.notice
+
+-- the end's host has an unanswered notice of a creation, also of one that was forgotten
+abbrev pub is_asked_at : Port → Bool
+is_asked_at p = by_notice p.desk.notice where
+  by_about : About → Bool
+  by_about (Waits c) = true
+  by_about Forgotten = true
+  by_about Removed = false
+  by_notice : Option Notice → Bool
+  by_notice None = false
+  by_notice (Some n) = by_about n.about
+
+-- a creation that this host asked for waits
+abbrev pub asks_for : List Port → ℕ → Bool
+asks_for ports h = list_any (λ p. option_map_or (λ (c : Creation). c.asker == h) (asked_at p) false) ports
+
+-- the pipe that a command creates
+abbrev pub pipe_of : Command → Option ℕ
+pipe_of (Create row) = Some row.pid
+pipe_of _ = None
+
+-- the pipes of the creations that wait
+abbrev pub waiting_pipes : List Port → List ℕ
+waiting_pipes ports = filter_map (λ p. option_and_then (λ (c : Creation). pipe_of c.command) (asked_at p)) ports
+
+-- the hosts of the ends that pass a test
+abbrev pub hosts_of : (Port → Bool) → List Port → List ℕ
+hosts_of test ports = map (λ (p : Port). p.desk.host) (filter test ports)
+
+-- What a controller knows of its links as a command of a host comes. A host is connected where its link is up and its pipe 01 is
+-- opened.
+abbrev pub view_for : HciTables → List Port → ℕ → LinkView
+view_for t ports h = record {
+  hosts = mask_of (hosts_of (λ p. true) ports);
+  connected = mask_of (hosts_of (λ p. is_up p.side.shdlc.phase && is_opened t p.desk.host 1) ports);
+  noticed = mask_of (hosts_of (λ p. is_some p.desk.notice) ports);
+  asked = mask_of (hosts_of is_asked_at ports);
+  waiting = record { items = waiting_pipes ports };
+  errors = option_map_or (λ (p : Port). p.desk.errors) (port_at ports h) 0;
+}
+
+-- ## Commands
+
+-- an answer to a host on the pipe of its command
+abbrev pub answers_on : ℕ → ℕ → List ℕ → List Deed
+answers_on h pipe message = Sends h (pipe, message) ∷ []
+
+-- a command is committed and answered, and these hosts are told; without room for it the answer is ANY_E_NOK
+abbrev pub commit_deeds : Bool → ℕ → ℕ → Command → List ℕ → List Deed → List Deed
+commit_deeds true h pipe c answer told = Commits c ∷ Sends h (pipe, answer) ∷ SaysOk ∷ told
+commit_deeds false h pipe c answer told = answers_on h pipe (answer_of response.NotOk [])
+
+-- what the administration gate decided is done
+abbrev pub decision_deeds : Core → ℕ → ℕ → Decision → List Deed
+decision_deeds core h pipe (Answer answer) = answers_on h pipe answer.items
+decision_deeds core h pipe (Commit c answer tell notice) =
+    commit_deeds (finds_room core c) h pipe c answer.items (map (λ told. Tells told notice.items) (hosts_where (has tell)))
+decision_deeds core h pipe (Ask asked notice c answer) =
+    Asks asked notice.items (record { asker = h; command = c; answer = answer.items }) ∷ []
+
+-- the answer of the link management gate, and REC_ERROR where it is set
+abbrev pub link_deeds : ℕ → ℕ → List ℕ × Option ℕ → List Deed
+link_deeds h pipe answer = by_value answer.1 where
+  by_value : Option ℕ → List Deed
+  by_value None = answers_on h pipe answer.0
+  by_value (Some errors) = SetsErrors errors ∷ answers_on h pipe answer.0
+
+-- GATES_LIST: the loopback gate and the identity gate
+abbrev pub gates : List ℕ
+gates = 4 ∷ 5 ∷ []
+
+-- a command to a gate of the controller but administration, on a pipe that is opened
+abbrev pub gate_deeds : ℕ → ℕ → ℕ → ℕ → ℕ → List ℕ → List Deed
+gate_deeds gate errors h pipe instruction body =
+    if gate == 6 then link_deeds h pipe (link_served errors instruction body) else
+    (if gate == 5 then answers_on h pipe (identity_served gates instruction body) else
+    answers_on h pipe (answer_of response.CommandNotSupported []))
+
+-- the gate of the controller, but administration, at which a pipe of a host ends
+abbrev pub own_gate : HciTables → ℕ → ℕ → Option ℕ
+own_gate t h pipe = by_end (far_end t h pipe) where
+  by_end : Option (ℕ × ℕ) → Option ℕ
+  by_end None = None
+  by_end (Some end) = if end.0 == 0 && not (end.1 == 0) then Some end.1 else None
+
+-- A command is neither ANY_OPEN_PIPE nor ANY_CLOSE_PIPE, and its pipe is opened.
+abbrev pub goes_through : HciTables → ℕ → ℕ → ℕ → Bool
+goes_through t h pipe instruction = is_opened t h pipe && not (instruction == 3 || instruction == 4)
+
+-- what is done with a command of a host
+abbrev pub command_deeds : Core → List Port → ℕ → ℕ → ℕ → List ℕ → List Deed
+command_deeds core ports h pipe instruction body =
+    by_gate (if goes_through core.tables h pipe instruction then own_gate core.tables h pipe else None) where
+  view : LinkView
+  view = view_for core.tables ports h
+  by_gate : Option ℕ → List Deed
+  by_gate None = decision_deeds core h pipe (decided core.tables view h pipe instruction body)
+  by_gate (Some gate) = gate_deeds gate view.errors h pipe instruction body
+
+-- ## Responses
+
+-- a creation that the asked host agrees to is committed, and the asker gets its answer
+abbrev pub agreed : Bool → Creation → List Deed
+agreed true c = IsAnswered ∷ Commits c.command ∷ Releases c.asker ∷ Sends c.asker (1, c.answer) ∷ SaysOk ∷ []
+agreed false c = IsAnswered ∷ Releases c.asker ∷ Sends c.asker (1, answer_of response.NotOk []) ∷ []
+
+-- a response with this code answers a notice
+abbrev pub notice_deeds : Core → ℕ → Option Notice → List Deed
+notice_deeds core code None = Drops 1 ∷ []
+notice_deeds core code (Some n) = by_creation (creation_in (Some n)) where
+  by_creation : Option Creation → List Deed
+  by_creation None = IsAnswered ∷ []
+  by_creation (Some c) = agreed (code == 0 && finds_room core c.command) c
+
+-- ## Messages
+
+-- the other host, where a message on an opened pipe is for it: a command that opens or closes a pipe isn't
+abbrev pub relayed_to : HciTables → ℕ → Message → Option ℕ
+relayed_to t h m = if is_opened t h m.0 && not (opens_or_closes (header_of m.1)) then by_end (far_end t h m.0) else None where
+  opens_or_closes : Result (MessageKind × ℕ) MessageFault → Bool
+  opens_or_closes (Ok (IsCommand, instruction)) = instruction == 3 || instruction == 4
+  opens_or_closes _ = false
+  by_end : Option (ℕ × ℕ) → Option ℕ
+  by_end None = None
+  by_end (Some end) = if end.0 == 0 then None else Some end.0
+
+-- a message that can't be relayed: a command is answered where its own link is up
+abbrev pub unrelayed : Bool → ℕ → Message → List Deed
+unrelayed up h m = by_header (header_of m.1) where
+  by_header : Result (MessageKind × ℕ) MessageFault → List Deed
+  by_header (Ok (IsCommand, instruction)) = if up then answers_on h m.0 (answer_of response.NotConnected []) else Drops m.0 ∷ []
+  by_header _ = Drops m.0 ∷ []
+
+-- an event to the loopback gate of the controller goes back
+abbrev pub event_deeds : HciTables → ℕ → Message → List Deed
+event_deeds t h m = if is_opened t h m.0 && at_loopback (own_gate t h m.0) && posts_back m.1 then Sends h m ∷ [] else Drops m.0 ∷ [] where
+  at_loopback : Option ℕ → Bool
+  at_loopback None = false
+  at_loopback (Some gate) = gate == 4
+
+-- a message that isn't relayed, and whose link is up
+abbrev pub own_deeds : Core → List Port → ℕ → Message → List Deed
+own_deeds core ports h m = by_header (header_of m.1) where
+  unless_asking : Bool → ℕ → List Deed
+  unless_asking true instruction = Drops m.0 ∷ []
+  unless_asking false instruction = command_deeds core ports h m.0 instruction (body_in m.1)
+  if_notice : Bool → ℕ → List Deed
+  if_notice true code = notice_deeds core code (option_and_then (λ (p : Port). p.desk.notice) (port_at ports h))
+  if_notice false code = Drops m.0 ∷ []
+  by_header : Result (MessageKind × ℕ) MessageFault → List Deed
+  by_header (Ok (IsCommand, instruction)) = unless_asking (m.0 == 1 && asks_for ports h) instruction
+  by_header (Ok (IsEvent, instruction)) = event_deeds core.tables h m
+  by_header (Ok (IsResponse, code)) = if_notice (m.0 == 1) code
+  by_header (Err fault) = Drops m.0 ∷ []
+
+-- What a controller does with a message of a host. One whose link isn't up is dropped, where it isn't relayed.
+abbrev pub controller_deeds : Core → List Port → ℕ → Message → List Deed
+controller_deeds core ports h m = by_relay (relayed_to core.tables h m) where
+  relayed : Bool → ℕ → List Deed
+  relayed true other = Sends other m ∷ []
+  relayed false other = unrelayed (has_link ports h) h m
+  if_up : Bool → List Deed
+  if_up true = own_deeds core ports h m
+  if_up false = Drops m.0 ∷ []
+  by_relay : Option ℕ → List Deed
+  by_relay (Some other) = relayed (has_link ports other) other
+  by_relay None = if_up (has_link ports h)

@@ -1,0 +1,2 @@
+//! The machine of a node. Definitions alone; nothing here runs.
+#![tactic(auto)]

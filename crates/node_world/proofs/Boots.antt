@@ -1,0 +1,70 @@
+-- Worked examples of boots and refusals compute, over memories of 256 bytes.
+use Rattle.std.proofs.Common.{◌≡◌, refl, ℕ, List, [], ◌∷◌, Some, None}
+use Rattle.std.specs.Prelude.{true, false, replicate}
+use Rattle.swp_base.specs.declared.link_terms.Cause.TheVariants as cause
+use Rattle.trace_model.specs.declared.entry.LostCause.TheVariants as lost
+use Rattle.trace_model.specs.declared.entry.NoCause.TheVariants as no
+use Rattle.trace_model.specs.declared.entry.Entry.{Entry}
+use Rattle.trace_model.specs.declared.entry.Entry.TheVariants.{Up, Down, Active, GaveUp, Sent, Got, Acked, Emit, Took, Lost, Turn, Held, Ask, Dropped, Command, AnyOk, InitSame, InitMade, InitFailed, Cut, Booted, No}
+use Rattle.trace_model.specs.declared.line.Line.{Line}
+use Rattle.trace_model.specs.declared.line.Line.TheVariants as line
+use Rattle.hci_tables.specs.declared.command.Command.TheVariants as command
+use Rattle.node_world.specs.World.{NodeWorld, world_over, end_c, end_h}
+use Rattle.node_world.specs.Lines.{noted_lines}
+use Rattle.node_world.specs.Lines.NotedBelow.{Entries, TablesOf}
+use Rattle.journal_laws.specs.Records.{found_from}
+use Rattle.gate_admin.specs.View.{hosts_where}
+use Rattle.pipe_table.specs.PipeRows.{lowest_free}
+
+abbrev pub small_world : List ℕ → NodeWorld
+small_world hosts = world_over (replicate 256 255) hosts
+
+-- boot cut at first write
+abbrev boot_cut_at_first_write_lines : List Line
+boot_cut_at_first_write_lines =
+    line.Arm 0 1 (record { items = 19 ∷ [] }) ∷
+    line.Boot 0 ∷
+    line.Boot 0 ∷ []
+
+boot_cut_at_first_write : noted_lines (small_world (2 ∷ [])) boot_cut_at_first_write_lines ≡
+    Entries [] ∷
+    Entries (Cut 0 ∷ []) ∷
+    Entries (Booted 0 0 ∷ []) ∷ []
+unfolding found_from hosts_where lowest_free
+boot_cut_at_first_write = refl
+
+-- boot cut at second write
+abbrev boot_cut_at_second_write_lines : List Line
+boot_cut_at_second_write_lines =
+    line.Arm 0 2 (record { items = 90 ∷ [] }) ∷
+    line.Boot 0 ∷
+    line.Boot 0 ∷ []
+
+boot_cut_at_second_write : noted_lines (small_world (2 ∷ [])) boot_cut_at_second_write_lines ≡
+    Entries [] ∷
+    Entries (Cut 0 ∷ []) ∷
+    Entries (Booted 0 0 ∷ []) ∷ []
+unfolding found_from hosts_where lowest_free
+boot_cut_at_second_write = refl
+
+-- refusals in order
+abbrev refusals_in_order_lines : List Line
+refusals_in_order_lines =
+    line.Send (end_h 2) 1 (3 ∷ []) ∷
+    line.Boot 0 ∷
+    line.Boot 2 ∷
+    line.Send (end_h 2) 1 (3 ∷ []) ∷
+    line.Reset (end_h 2) None ∷
+    line.Deliver (end_h 2) None ∷
+    line.Boot 2 ∷ []
+
+refusals_in_order : noted_lines (small_world (2 ∷ [])) refusals_in_order_lines ≡
+    Entries (No no.Off ∷ []) ∷
+    Entries (Booted 0 0 ∷ []) ∷
+    Entries (Booted 2 0 ∷ []) ∷
+    Entries (No no.NotUp ∷ []) ∷
+    Entries (No no.Inactive ∷ []) ∷
+    Entries (No no.Empty ∷ []) ∷
+    Entries (No no.Running ∷ []) ∷ []
+unfolding found_from hosts_where lowest_free
+refusals_in_order = refl
