@@ -1,1 +1,5 @@
 pub mod Boots
+pub mod First
+pub mod Cuts
+pub mod Hosts
+pub mod User
