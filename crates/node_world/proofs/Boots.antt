@@ -1,4 +1,4 @@
--- Worked examples of boots and refusals compute, over memories of 256 bytes.
+-- Worked examples of boots and refusals compute.
 use Rattle.std.proofs.Common.{◌≡◌, refl, ℕ, List, [], ◌∷◌, Some, None}
 use Rattle.std.specs.Prelude.{true, false, replicate}
 use Rattle.swp_base.specs.declared.link_terms.Cause.TheVariants as cause
@@ -9,15 +9,12 @@ use Rattle.trace_model.specs.declared.entry.Entry.TheVariants.{Up, Down, Active,
 use Rattle.trace_model.specs.declared.line.Line.{Line}
 use Rattle.trace_model.specs.declared.line.Line.TheVariants as line
 use Rattle.hci_tables.specs.declared.command.Command.TheVariants as command
-use Rattle.node_world.specs.World.{NodeWorld, world_over, end_c, end_h}
+use Rattle.node_world.specs.World.{new_world, end_c, end_h}
 use Rattle.node_world.specs.Lines.{noted_lines}
 use Rattle.node_world.specs.Lines.NotedBelow.{Entries, TablesOf}
 use Rattle.journal_laws.specs.Records.{found_from}
 use Rattle.gate_admin.specs.View.{hosts_where}
 use Rattle.pipe_table.specs.PipeRows.{lowest_free}
-
-abbrev pub small_world : List ℕ → NodeWorld
-small_world hosts = world_over (replicate 256 255) hosts
 
 -- boot cut at first write
 abbrev boot_cut_at_first_write_lines : List Line
@@ -26,7 +23,7 @@ boot_cut_at_first_write_lines =
     line.Boot 0 ∷
     line.Boot 0 ∷ []
 
-boot_cut_at_first_write : noted_lines (small_world (2 ∷ [])) boot_cut_at_first_write_lines ≡
+boot_cut_at_first_write : noted_lines (new_world (2 ∷ [])) boot_cut_at_first_write_lines ≡
     Entries [] ∷
     Entries (Cut 0 ∷ []) ∷
     Entries (Booted 0 0 ∷ []) ∷ []
@@ -40,7 +37,7 @@ boot_cut_at_second_write_lines =
     line.Boot 0 ∷
     line.Boot 0 ∷ []
 
-boot_cut_at_second_write : noted_lines (small_world (2 ∷ [])) boot_cut_at_second_write_lines ≡
+boot_cut_at_second_write : noted_lines (new_world (2 ∷ [])) boot_cut_at_second_write_lines ≡
     Entries [] ∷
     Entries (Cut 0 ∷ []) ∷
     Entries (Booted 0 0 ∷ []) ∷ []
@@ -58,7 +55,7 @@ refusals_in_order_lines =
     line.Deliver (end_h 2) None ∷
     line.Boot 2 ∷ []
 
-refusals_in_order : noted_lines (small_world (2 ∷ [])) refusals_in_order_lines ≡
+refusals_in_order : noted_lines (new_world (2 ∷ [])) refusals_in_order_lines ≡
     Entries (No no.Off ∷ []) ∷
     Entries (Booted 0 0 ∷ []) ∷
     Entries (Booted 2 0 ∷ []) ∷

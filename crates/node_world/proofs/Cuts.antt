@@ -1,4 +1,4 @@
--- Worked examples of cuts compute, over memories of 256 bytes.
+-- Worked examples of cuts compute.
 use Rattle.std.proofs.Common.{◌≡◌, refl, ℕ, List, [], ◌∷◌, Some, None}
 use Rattle.std.specs.Prelude.{true, false, replicate}
 use Rattle.swp_base.specs.declared.link_terms.Cause.TheVariants as cause
@@ -9,15 +9,12 @@ use Rattle.trace_model.specs.declared.entry.Entry.TheVariants.{Up, Down, Active,
 use Rattle.trace_model.specs.declared.line.Line.{Line}
 use Rattle.trace_model.specs.declared.line.Line.TheVariants as line
 use Rattle.hci_tables.specs.declared.command.Command.TheVariants as command
-use Rattle.node_world.specs.World.{NodeWorld, world_over, end_c, end_h}
+use Rattle.node_world.specs.World.{new_world, end_c, end_h}
 use Rattle.node_world.specs.Lines.{noted_lines}
 use Rattle.node_world.specs.Lines.NotedBelow.{Entries, TablesOf}
 use Rattle.journal_laws.specs.Records.{found_from}
 use Rattle.gate_admin.specs.View.{hosts_where}
 use Rattle.pipe_table.specs.PipeRows.{lowest_free}
-
-abbrev pub small_world : List ℕ → NodeWorld
-small_world hosts = world_over (replicate 256 255) hosts
 
 -- cut in first write
 abbrev cut_in_first_write_lines : List Line
@@ -40,7 +37,7 @@ cut_in_first_write_lines =
     line.Boot 0 ∷
     line.Tables 0 ∷ []
 
-cut_in_first_write : noted_lines (small_world (2 ∷ [])) cut_in_first_write_lines ≡
+cut_in_first_write : noted_lines (new_world (2 ∷ [])) cut_in_first_write_lines ≡
     Entries (Booted 0 0 ∷ []) ∷
     Entries (Booted 2 0 ∷ []) ∷
     Entries (Emit (end_h 2) (97 ∷ 26 ∷ 43 ∷ []) ∷ []) ∷
@@ -86,7 +83,7 @@ cut_in_second_write_13_lines =
     line.Boot 0 ∷
     line.Tables 0 ∷ []
 
-cut_in_second_write_13 : noted_lines (small_world (2 ∷ [])) cut_in_second_write_13_lines ≡
+cut_in_second_write_13 : noted_lines (new_world (2 ∷ [])) cut_in_second_write_13_lines ≡
     Entries (Booted 0 0 ∷ []) ∷
     Entries (Booted 2 0 ∷ []) ∷
     Entries (Emit (end_h 2) (97 ∷ 26 ∷ 43 ∷ []) ∷ []) ∷
@@ -132,7 +129,7 @@ cut_in_second_write_FF_lines =
     line.Boot 0 ∷
     line.Tables 0 ∷ []
 
-cut_in_second_write_FF : noted_lines (small_world (2 ∷ [])) cut_in_second_write_FF_lines ≡
+cut_in_second_write_FF : noted_lines (new_world (2 ∷ [])) cut_in_second_write_FF_lines ≡
     Entries (Booted 0 0 ∷ []) ∷
     Entries (Booted 2 0 ∷ []) ∷
     Entries (Emit (end_h 2) (97 ∷ 26 ∷ 43 ∷ []) ∷ []) ∷
@@ -178,7 +175,7 @@ cut_in_second_write_5A_lines =
     line.Boot 0 ∷
     line.Tables 0 ∷ []
 
-cut_in_second_write_5A : noted_lines (small_world (2 ∷ [])) cut_in_second_write_5A_lines ≡
+cut_in_second_write_5A : noted_lines (new_world (2 ∷ [])) cut_in_second_write_5A_lines ≡
     Entries (Booted 0 0 ∷ []) ∷
     Entries (Booted 2 0 ∷ []) ∷
     Entries (Emit (end_h 2) (97 ∷ 26 ∷ 43 ∷ []) ∷ []) ∷
@@ -235,7 +232,7 @@ pipes_closed_by_a_cut_lines =
     line.Deliver (end_h 2) None ∷
     line.Deliver (end_c 2) None ∷ []
 
-pipes_closed_by_a_cut : noted_lines (small_world (2 ∷ [])) pipes_closed_by_a_cut_lines ≡
+pipes_closed_by_a_cut : noted_lines (new_world (2 ∷ [])) pipes_closed_by_a_cut_lines ≡
     Entries (Booted 0 0 ∷ []) ∷
     Entries (Booted 2 0 ∷ []) ∷
     Entries (Emit (end_h 2) (97 ∷ 26 ∷ 43 ∷ []) ∷ []) ∷

@@ -1,4 +1,4 @@
--- Worked examples of activation and a first pipe compute, over memories of 256 bytes.
+-- Worked examples of activation and a first pipe compute.
 use Rattle.std.proofs.Common.{◌≡◌, refl, ℕ, List, [], ◌∷◌, Some, None}
 use Rattle.std.specs.Prelude.{true, false, replicate}
 use Rattle.swp_base.specs.declared.link_terms.Cause.TheVariants as cause
@@ -9,15 +9,12 @@ use Rattle.trace_model.specs.declared.entry.Entry.TheVariants.{Up, Down, Active,
 use Rattle.trace_model.specs.declared.line.Line.{Line}
 use Rattle.trace_model.specs.declared.line.Line.TheVariants as line
 use Rattle.hci_tables.specs.declared.command.Command.TheVariants as command
-use Rattle.node_world.specs.World.{NodeWorld, world_over, end_c, end_h}
+use Rattle.node_world.specs.World.{new_world, end_c, end_h}
 use Rattle.node_world.specs.Lines.{noted_lines}
 use Rattle.node_world.specs.Lines.NotedBelow.{Entries, TablesOf}
 use Rattle.journal_laws.specs.Records.{found_from}
 use Rattle.gate_admin.specs.View.{hosts_where}
 use Rattle.pipe_table.specs.PipeRows.{lowest_free}
-
-abbrev pub small_world : List ℕ → NodeWorld
-small_world hosts = world_over (replicate 256 255) hosts
 
 -- activation and first pipe
 abbrev activation_and_first_pipe_lines : List Line
@@ -37,7 +34,7 @@ activation_and_first_pipe_lines =
     line.Send (end_h 2) 1 (2 ∷ 1 ∷ []) ∷
     line.Deliver (end_c 2) None ∷ []
 
-activation_and_first_pipe : noted_lines (small_world (2 ∷ [])) activation_and_first_pipe_lines ≡
+activation_and_first_pipe : noted_lines (new_world (2 ∷ [])) activation_and_first_pipe_lines ≡
     Entries (Booted 0 0 ∷ []) ∷
     Entries (Booted 2 0 ∷ []) ∷
     Entries (Emit (end_h 2) (97 ∷ 26 ∷ 43 ∷ []) ∷ []) ∷
@@ -76,7 +73,7 @@ parameter_before_opening_lines =
     line.Deliver (end_h 2) None ∷
     line.Deliver (end_c 2) None ∷ []
 
-parameter_before_opening : noted_lines (small_world (2 ∷ [])) parameter_before_opening_lines ≡
+parameter_before_opening : noted_lines (new_world (2 ∷ [])) parameter_before_opening_lines ≡
     Entries (Booted 0 0 ∷ []) ∷
     Entries (Booted 2 0 ∷ []) ∷
     Entries (Emit (end_h 2) (97 ∷ 26 ∷ 43 ∷ []) ∷ []) ∷

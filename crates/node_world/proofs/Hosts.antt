@@ -1,4 +1,4 @@
--- Worked examples with several hosts compute, over memories of 256 bytes.
+-- Worked examples with several hosts compute.
 use Rattle.std.proofs.Common.{◌≡◌, refl, ℕ, List, [], ◌∷◌, Some, None}
 use Rattle.std.specs.Prelude.{true, false, replicate}
 use Rattle.swp_base.specs.declared.link_terms.Cause.TheVariants as cause
@@ -9,15 +9,12 @@ use Rattle.trace_model.specs.declared.entry.Entry.TheVariants.{Up, Down, Active,
 use Rattle.trace_model.specs.declared.line.Line.{Line}
 use Rattle.trace_model.specs.declared.line.Line.TheVariants as line
 use Rattle.hci_tables.specs.declared.command.Command.TheVariants as command
-use Rattle.node_world.specs.World.{NodeWorld, world_over, end_c, end_h}
+use Rattle.node_world.specs.World.{new_world, end_c, end_h}
 use Rattle.node_world.specs.Lines.{noted_lines}
 use Rattle.node_world.specs.Lines.NotedBelow.{Entries, TablesOf}
 use Rattle.journal_laws.specs.Records.{found_from}
 use Rattle.gate_admin.specs.View.{hosts_where}
 use Rattle.pipe_table.specs.PipeRows.{lowest_free}
-
-abbrev pub small_world : List ℕ → NodeWorld
-small_world hosts = world_over (replicate 256 255) hosts
 
 -- creation between hosts
 abbrev creation_between_hosts_lines : List Line
@@ -63,7 +60,7 @@ creation_between_hosts_lines =
     line.Deliver (end_c 2) None ∷
     line.Deliver (end_h 1) None ∷ []
 
-creation_between_hosts : noted_lines (small_world (1 ∷ 2 ∷ [])) creation_between_hosts_lines ≡
+creation_between_hosts : noted_lines (new_world (1 ∷ 2 ∷ [])) creation_between_hosts_lines ≡
     Entries (Booted 0 0 ∷ []) ∷
     Entries (Booted 1 0 ∷ []) ∷
     Entries (Booted 2 0 ∷ []) ∷
@@ -170,7 +167,7 @@ notice_never_answered_lines =
     line.Tick (Some 60) ∷
     line.Deliver (end_h 2) None ∷ []
 
-notice_never_answered : noted_lines (small_world (1 ∷ 2 ∷ [])) notice_never_answered_lines ≡
+notice_never_answered : noted_lines (new_world (1 ∷ 2 ∷ [])) notice_never_answered_lines ≡
     Entries (Booted 0 0 ∷ []) ∷
     Entries (Booted 1 0 ∷ []) ∷
     Entries (Booted 2 0 ∷ []) ∷
@@ -291,7 +288,7 @@ relay_and_strangers_lines =
     line.Deliver (end_h 3) None ∷
     line.Deliver (end_c 3) None ∷ []
 
-relay_and_strangers : noted_lines (small_world (1 ∷ 2 ∷ 3 ∷ [])) relay_and_strangers_lines ≡
+relay_and_strangers : noted_lines (new_world (1 ∷ 2 ∷ 3 ∷ [])) relay_and_strangers_lines ≡
     Entries (Booted 0 0 ∷ []) ∷
     Entries (Booted 1 0 ∷ []) ∷
     Entries (Booted 2 0 ∷ []) ∷

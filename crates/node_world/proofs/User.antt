@@ -1,4 +1,4 @@
--- A user's session over a cut computes, over memories of 1,024 bytes.
+-- A user's session over a cut computes.
 use Rattle.std.proofs.Common.{◌≡◌, refl, ℕ, List, [], ◌∷◌, Some, None}
 use Rattle.std.specs.Prelude.{true, false, replicate}
 use Rattle.swp_base.specs.declared.link_terms.Cause.TheVariants as cause
@@ -9,15 +9,12 @@ use Rattle.trace_model.specs.declared.entry.Entry.TheVariants.{Up, Down, Active,
 use Rattle.trace_model.specs.declared.line.Line.{Line}
 use Rattle.trace_model.specs.declared.line.Line.TheVariants as line
 use Rattle.hci_tables.specs.declared.command.Command.TheVariants as command
-use Rattle.node_world.specs.World.{NodeWorld, world_over, end_c, end_h}
+use Rattle.node_world.specs.World.{new_world, end_c, end_h}
 use Rattle.node_world.specs.Lines.{noted_lines}
 use Rattle.node_world.specs.Lines.NotedBelow.{Entries, TablesOf}
 use Rattle.journal_laws.specs.Records.{found_from}
 use Rattle.gate_admin.specs.View.{hosts_where}
 use Rattle.pipe_table.specs.PipeRows.{lowest_free}
-
-abbrev pub small_world : List ℕ → NodeWorld
-small_world hosts = world_over (replicate 1024 255) hosts
 
 -- users session over a cut
 abbrev users_session_over_a_cut_lines : List Line
@@ -108,7 +105,7 @@ users_session_over_a_cut_lines =
     line.Tables 2 ∷
     line.Tables 0 ∷ []
 
-users_session_over_a_cut : noted_lines (small_world (2 ∷ [])) users_session_over_a_cut_lines ≡
+users_session_over_a_cut : noted_lines (new_world (2 ∷ [])) users_session_over_a_cut_lines ≡
     Entries (Booted 0 0 ∷ []) ∷
     Entries (Booted 2 0 ∷ []) ∷
     Entries (Emit (end_h 2) (97 ∷ 26 ∷ 43 ∷ []) ∷ []) ∷
