@@ -70,18 +70,21 @@ pipe_of _ = None
 abbrev pub waiting_pipes : List Port → List ℕ
 waiting_pipes ports = filter_map (λ p. option_and_then (λ (c : Creation). pipe_of c.command) (asked_at p)) ports
 
--- the hosts of the ends that pass a test
-abbrev pub hosts_of : (Port → Bool) → List Port → List ℕ
-hosts_of test ports = map (λ (p : Port). p.desk.host) (filter test ports)
+-- the mask of the hosts whose ends pass a test
+abbrev pub mask_where : (Port → Bool) → List Port → ℕ
+mask_where test ports = mask_of (hosts_where (λ h. option_map_or test (port_at ports h) false))
 
--- What a controller knows of its links as a command of a host comes. A host is connected where its link is up and its pipe 01 is
--- opened.
+-- a host is connected where its link is up and its pipe 01 is opened
+abbrev pub is_connected_at : HciTables → Port → Bool
+is_connected_at t p = is_up p.side.shdlc.phase && is_opened t p.desk.host 1
+
+-- what a controller knows of its links as a command of a host comes
 abbrev pub view_for : HciTables → List Port → ℕ → LinkView
 view_for t ports h = record {
-  hosts = mask_of (hosts_of (λ p. true) ports);
-  connected = mask_of (hosts_of (λ p. is_up p.side.shdlc.phase && is_opened t p.desk.host 1) ports);
-  noticed = mask_of (hosts_of (λ p. is_some p.desk.notice) ports);
-  asked = mask_of (hosts_of is_asked_at ports);
+  hosts = mask_where (λ p. true) ports;
+  connected = mask_where (is_connected_at t) ports;
+  noticed = mask_where (λ p. is_some p.desk.notice) ports;
+  asked = mask_where is_asked_at ports;
   waiting = record { items = waiting_pipes ports };
   errors = option_map_or (λ (p : Port). p.desk.errors) (port_at ports h) 0;
 }
