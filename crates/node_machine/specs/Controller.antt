@@ -110,10 +110,10 @@ decision_deeds core h pipe (Ask asked notice c answer) =
 
 -- the answer of the link management gate, and REC_ERROR where it is set
 abbrev pub link_deeds : ℕ → ℕ → List ℕ × Option ℕ → List Deed
-link_deeds h pipe answer = by_value answer.1 where
-  by_value : Option ℕ → List Deed
-  by_value None = answers_on h pipe answer.0
-  by_value (Some errors) = SetsErrors errors ∷ answers_on h pipe answer.0
+link_deeds h pipe answer = if_set answer.1 ++ answers_on h pipe answer.0 where
+  if_set : Option ℕ → List Deed
+  if_set None = []
+  if_set (Some errors) = SetsErrors errors ∷ []
 
 -- GATES_LIST: the loopback gate and the identity gate
 abbrev pub gates : List ℕ
@@ -137,15 +137,16 @@ own_gate t h pipe = by_end (far_end t h pipe) where
 abbrev pub goes_through : HciTables → ℕ → ℕ → ℕ → Bool
 goes_through t h pipe instruction = is_opened t h pipe && not (instruction == 3 || instruction == 4)
 
+-- a command at a gate of the controller, or one that the administration gate decides
+abbrev pub served_at : Core → LinkView → ℕ → ℕ → ℕ → List ℕ → Option ℕ → List Deed
+served_at core view h pipe instruction body None = decision_deeds core h pipe (decided core.tables view h pipe instruction body)
+served_at core view h pipe instruction body (Some gate) = gate_deeds gate view.errors h pipe instruction body
+
 -- what is done with a command of a host
 abbrev pub command_deeds : Core → List Port → ℕ → ℕ → ℕ → List ℕ → List Deed
 command_deeds core ports h pipe instruction body =
-    by_gate (if goes_through core.tables h pipe instruction then own_gate core.tables h pipe else None) where
-  view : LinkView
-  view = view_for core.tables ports h
-  by_gate : Option ℕ → List Deed
-  by_gate None = decision_deeds core h pipe (decided core.tables view h pipe instruction body)
-  by_gate (Some gate) = gate_deeds gate view.errors h pipe instruction body
+    served_at core (view_for core.tables ports h) h pipe instruction body
+    (if goes_through core.tables h pipe instruction then own_gate core.tables h pipe else None)
 
 -- ## Responses
 
@@ -154,15 +155,29 @@ abbrev pub agreed : Bool → Creation → List Deed
 agreed true c = IsAnswered ∷ Commits c.command ∷ Releases c.asker ∷ Sends c.asker (1, c.answer) ∷ SaysOk ∷ []
 agreed false c = IsAnswered ∷ Releases c.asker ∷ Sends c.asker (1, answer_of response.NotOk []) ∷ []
 
+-- the asked host has answered with this code: the creation is done or not, where it still waits
+abbrev pub creation_deeds : Core → ℕ → Option Creation → List Deed
+creation_deeds core code None = IsAnswered ∷ []
+creation_deeds core code (Some c) = agreed (code == 0 && finds_room core c.command) c
+
 -- a response with this code answers a notice
 abbrev pub notice_deeds : Core → ℕ → Option Notice → List Deed
 notice_deeds core code None = Drops 1 ∷ []
-notice_deeds core code (Some n) = by_creation (creation_in (Some n)) where
-  by_creation : Option Creation → List Deed
-  by_creation None = IsAnswered ∷ []
-  by_creation (Some c) = agreed (code == 0 && finds_room core c.command) c
+notice_deeds core code (Some n) = creation_deeds core code (creation_in (Some n))
+
+-- a response on pipe 01 at this end
+abbrev pub response_at : Core → ℕ → Option Port → List Deed
+response_at core code None = Drops 1 ∷ []
+response_at core code (Some p) = notice_deeds core code p.desk.notice
 
 -- ## Messages
+
+-- the message is a command
+abbrev pub is_command_message : List ℕ → Bool
+is_command_message message = by_header (header_of message) where
+  by_header : Result (MessageKind × ℕ) MessageFault → Bool
+  by_header (Ok (IsCommand, instruction)) = true
+  by_header _ = false
 
 -- the other host, where a message on an opened pipe is for it: a command that opens or closes a pipe isn't
 abbrev pub relayed_to : HciTables → ℕ → Message → Option ℕ
@@ -176,42 +191,48 @@ relayed_to t h m = if is_opened t h m.0 && not (opens_or_closes (header_of m.1))
 
 -- a message that can't be relayed: a command is answered where its own link is up
 abbrev pub unrelayed : Bool → ℕ → Message → List Deed
-unrelayed up h m = by_header (header_of m.1) where
-  by_header : Result (MessageKind × ℕ) MessageFault → List Deed
-  by_header (Ok (IsCommand, instruction)) = if up then answers_on h m.0 (answer_of response.NotConnected []) else Drops m.0 ∷ []
-  by_header _ = Drops m.0 ∷ []
+unrelayed up h m =
+    if up && is_command_message m.1 then answers_on h m.0 (answer_of response.NotConnected []) else Drops m.0 ∷ []
 
 -- an event to the loopback gate of the controller goes back
 abbrev pub event_deeds : HciTables → ℕ → Message → List Deed
-event_deeds t h m = if is_opened t h m.0 && at_loopback (own_gate t h m.0) && posts_back m.1 then Sends h m ∷ [] else Drops m.0 ∷ [] where
-  at_loopback : Option ℕ → Bool
-  at_loopback None = false
-  at_loopback (Some gate) = gate == 4
+event_deeds t h m =
+    if is_opened t h m.0 && option_map_or (λ gate. gate == 4) (own_gate t h m.0) false && posts_back m.1
+    then Sends h m ∷ [] else Drops m.0 ∷ []
 
--- a message that isn't relayed, and whose link is up
-abbrev pub own_deeds : Core → List Port → ℕ → Message → List Deed
-own_deeds core ports h m = by_header (header_of m.1) where
-  unless_asking : Bool → ℕ → List Deed
-  unless_asking true instruction = Drops m.0 ∷ []
-  unless_asking false instruction = command_deeds core ports h m.0 instruction (body_in m.1)
-  if_notice : Bool → ℕ → List Deed
-  if_notice true code = notice_deeds core code (option_and_then (λ (p : Port). p.desk.notice) (port_at ports h))
-  if_notice false code = Drops m.0 ∷ []
-  by_header : Result (MessageKind × ℕ) MessageFault → List Deed
-  by_header (Ok (IsCommand, instruction)) = unless_asking (m.0 == 1 && asks_for ports h) instruction
-  by_header (Ok (IsEvent, instruction)) = event_deeds core.tables h m
-  by_header (Ok (IsResponse, code)) = if_notice (m.0 == 1) code
-  by_header (Err fault) = Drops m.0 ∷ []
+-- a message on pipe 01 of a host whose creation waits is dropped, where it is a command
+abbrev pub unless_asking : Core → List Port → ℕ → Message → ℕ → Bool → List Deed
+unless_asking core ports h m instruction true = Drops m.0 ∷ []
+unless_asking core ports h m instruction false = command_deeds core ports h m.0 instruction (body_in m.1)
 
--- What a controller does with a message of a host. One whose link isn't up is dropped, where it isn't relayed.
+-- a response answers a notice, where it came on pipe 01
+abbrev pub if_notice : Core → List Port → ℕ → Message → ℕ → Bool → List Deed
+if_notice core ports h m code true = response_at core code (port_at ports h)
+if_notice core ports h m code false = Drops m.0 ∷ []
+
+-- a message with this header
+abbrev pub kind_deeds : Core → List Port → ℕ → Message → Result (MessageKind × ℕ) MessageFault → List Deed
+kind_deeds core ports h m (Ok (IsCommand, instruction)) =
+    unless_asking core ports h m instruction (m.0 == 1 && asks_for ports h)
+kind_deeds core ports h m (Ok (IsEvent, instruction)) = event_deeds core.tables h m
+kind_deeds core ports h m (Ok (IsResponse, code)) = if_notice core ports h m code (m.0 == 1)
+kind_deeds core ports h m (Err fault) = Drops m.0 ∷ []
+
+-- a message that isn't relayed: one whose link isn't up is dropped
+abbrev pub own_deeds : Core → List Port → ℕ → Message → Bool → List Deed
+own_deeds core ports h m true = kind_deeds core ports h m (header_of m.1)
+own_deeds core ports h m false = Drops m.0 ∷ []
+
+-- a message that is for another host, whose link is up or not
+abbrev pub relay_deeds : List Port → ℕ → Message → ℕ → Bool → List Deed
+relay_deeds ports h m other true = Sends other m ∷ []
+relay_deeds ports h m other false = unrelayed (has_link ports h) h m
+
+-- a message is relayed where it is for another host
+abbrev pub deeds_by_relay : Core → List Port → ℕ → Message → Option ℕ → List Deed
+deeds_by_relay core ports h m (Some other) = relay_deeds ports h m other (has_link ports other)
+deeds_by_relay core ports h m None = own_deeds core ports h m (has_link ports h)
+
+-- What a controller does with a message of a host.
 abbrev pub controller_deeds : Core → List Port → ℕ → Message → List Deed
-controller_deeds core ports h m = by_relay (relayed_to core.tables h m) where
-  relayed : Bool → ℕ → List Deed
-  relayed true other = Sends other m ∷ []
-  relayed false other = unrelayed (has_link ports h) h m
-  if_up : Bool → List Deed
-  if_up true = own_deeds core ports h m
-  if_up false = Drops m.0 ∷ []
-  by_relay : Option ℕ → List Deed
-  by_relay (Some other) = relayed (has_link ports other) other
-  by_relay None = if_up (has_link ports h)
+controller_deeds core ports h m = deeds_by_relay core ports h m (relayed_to core.tables h m)

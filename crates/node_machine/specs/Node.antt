@@ -147,9 +147,9 @@ synced core input p = by_input (input_at input p) where
 
 -- ## Steps
 
--- what is owed is given, and then the node has its turns: all that follows the ends' own part of a step
+-- blocks are freed, identifiers are kept, what is owed is given, and then the node has its turns
 abbrev pub answers_and_passes : List Deed → List Deed → List Deed → Work → Work
-answers_and_passes freed syncs owing w = unless_cut passes (all_done 0 owing (all_done 0 syncs (all_done 0 freed w)))
+answers_and_passes freed syncs owing w = unless_cut passes (unless_cut (all_done 0 owing) (all_done 0 syncs (all_done 0 freed w)))
 
 -- A step of a node: a frame is taken, time passes, a link is reset, or activation begins or ends there.
 abbrev pub steps : NodeInput → Work → Work

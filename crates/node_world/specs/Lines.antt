@@ -18,9 +18,10 @@ use Rattle.message_link.specs.Links.Loss.{OnDemand}
 use Rattle.hci_tables.specs.Tables.{HciTables}
 use Rattle.cause_history.specs.Damage.{Verdict}
 use Rattle.cause_history.specs.Damage.Verdict.{Same, LostFor, Undetected}
-use Rattle.cause_history.specs.Follows.{frames_to, machine_of, as_noted, if_empty, if_out_of_reach, taken_of, first_verdict}
+use Rattle.cause_history.specs.Follows.{frames_to, machine_of, as_noted, if_empty, if_out_of_reach, taken_of, first_verdict, other_frame}
 use Rattle.node_machine.specs.Parts.{Running}
-use Rattle.node_world.specs.World.{NodeWorld, Happening, node_at, node_of, link_at, is_order, world_step}
+use Rattle.node_machine.specs.Controller.{is_command_message}
+use Rattle.node_world.specs.World.{NodeWorld, Happening, node_at, node_of, link_at, world_step}
 use Rattle.node_world.specs.World.Happening.{Boots, IsCut, Gives, Inits, Takes, Loses, Ticks, Resets, Activates, Arms}
 
 -- ## Refusals
@@ -61,7 +62,7 @@ if_waiting false why = as_noted why
 
 -- a message that a host's end sends is refused
 abbrev pub if_not_sent : NodeWorld → End → Message → Option NoCause
-if_not_sent w e m = if_waiting (m.0 == 1 && is_order m.1 && has_order (node_at w (node_of e))) (give_refusal (machine_at w e) m)
+if_not_sent w e m = if_waiting (m.0 == 1 && is_command_message m.1 && has_order (node_at w (node_of e))) (give_refusal (machine_at w e) m)
 
 -- Why a line is refused: the first cause that applies.
 abbrev pub refusal_in : NodeWorld → Line → Option NoCause
@@ -105,6 +106,15 @@ happenings w (line.Activate host sync power) = Activates host sync power ∷ []
 happenings w (line.Arm node nth fill) = Arms node (record { nth = nth; fill = fill.items }) ∷ []
 happenings w (line.Init e identity pipes) = Inits e identity pipes.items ∷ []
 happenings w (line.Tables node) = []
+
+-- the frame that is read in place of the first one on its way to an end, where a line damages that one so that its CRC doesn't
+-- show it
+abbrev pub misread_in : NodeWorld → Line → Option (List ℕ)
+misread_in w (line.Damage e places) = unless_refused (refusal_in w (line.Damage e places)) where
+  unless_refused : Option NoCause → Option (List ℕ)
+  unless_refused (Some cause) = None
+  unless_refused None = other_frame (first_verdict (frames_at w e) places.items)
+misread_in w _ = None
 
 -- An event: what happened, and its entries in order.
 pub record Occurrence : Type 0 where

@@ -8,7 +8,7 @@ use Rattle.trace_model.specs.declared.entry.LostCause.{LostCause}
 use Rattle.trace_model.specs.declared.entry.LostCause.TheVariants as lost
 use Rattle.trace_model.specs.declared.line.End.{End}
 use Rattle.hcp_packet.specs.declared.MessageKind.{MessageKind}
-use Rattle.hcp_packet.specs.declared.MessageKind.TheVariants.{Command as IsCommand, Response as IsResponse}
+use Rattle.hcp_packet.specs.declared.MessageKind.TheVariants.{Response as IsResponse}
 use Rattle.hcp_packet.specs.declared.MessageFault.{MessageFault}
 use Rattle.hcp_packet.specs.MessageHeader.{header_of}
 use Rattle.hci_tables.specs.declared.command.Command.{Command}
@@ -17,6 +17,7 @@ use Rattle.gate_answers.specs.Answers.{instruction_in}
 use Rattle.gate_admin.specs.Decide.{is_opened}
 use Rattle.link_machine.specs.Machine.{Message, need, need_of_all}
 use Rattle.cause_history.specs.Filters.{same_end, session_of, sent_in, acked_in}
+use Rattle.node_machine.specs.Controller.{is_command_message}
 use Rattle.node_world.specs.World.{end_c, end_h}
 
 -- ## Commands and tables
@@ -62,13 +63,6 @@ abbrev pub is_response : List ℕ → Bool
 is_response message = by_header (header_of message) where
   by_header : Result (MessageKind × ℕ) MessageFault → Bool
   by_header (Ok (IsResponse, code)) = true
-  by_header _ = false
-
--- the message is a command
-abbrev pub is_command_message : List ℕ → Bool
-is_command_message message = by_header (header_of message) where
-  by_header : Result (MessageKind × ℕ) MessageFault → Bool
-  by_header (Ok (IsCommand, instruction)) = true
   by_header _ = false
 
 -- the notice of a creation, of a pipe that was deleted, or of all pipes of a host

@@ -1,11 +1,11 @@
 -- A run of a world of nodes as a history, and when it follows a schedule.
-use Rattle.std.specs.Prelude.{◌≡◌, ℕ, true, List, [], ◌∷◌, ◌++◌}
+use Rattle.std.specs.Prelude.{◌≡◌, ℕ, true, List, [], ◌∷◌, ◌++◌, None}
 use Rattle.std.specs.List.{flat_map}
 use Rattle.trace_model.specs.declared.entry.Entry.{Entry}
 use Rattle.trace_model.specs.declared.line.Header.{Header}
 use Rattle.trace_model.specs.declared.line.Line.{Line}
 use Rattle.node_world.specs.World.{NodeWorld, new_world}
-use Rattle.node_world.specs.Lines.{Occurrence, LineOutcome, line_step}
+use Rattle.node_world.specs.Lines.{Occurrence, LineOutcome, line_step, misread_in}
 use Rattle.node_world.specs.Lines.LineOutcome.{WasRefused, Occurred, ToldTables}
 
 -- a line and what became of it
@@ -24,12 +24,18 @@ steps_from w [] = []
 steps_from w (line ∷ lines) =
     let o : NodeWorld × LineOutcome = line_step w line in record { line = line; outcome = o.1 } ∷ steps_from o.0 lines
 
+-- no line damages a frame so that another one is read
+abbrev pub NoneIsMisread : NodeWorld → List Line → Type 0
+NoneIsMisread w [] = Unit {0}
+NoneIsMisread w (line ∷ lines) = (misread_in w line ≡ None) × NoneIsMisread (line_step w line).0 lines
+
 -- A history of a world of nodes follows a schedule: each line in order, refused exactly where `refusal_in` says so, and else
--- followed by exactly the events that it causes.
+-- followed by exactly the events that it causes. No line damages a frame so that another one is read.
 pub record FollowsNodes (header : Header) (lines : List Line) (t : NodeHistory) : Type 0 where
   pub nodes : header.hci ≡ true
   pub header_is : t.header ≡ header
   pub steps_are : t.steps ≡ steps_from (new_world header.hosts.items) lines
+  pub sure : NoneIsMisread (new_world header.hosts.items) lines
 
 -- the events of a line
 abbrev pub occurrences_of : LineOutcome → List Occurrence

@@ -12,10 +12,6 @@ use Rattle.session_laws.specs.Sessions.{OnWire, took_with}
 use Rattle.journal_laws.specs.Writes.{Write}
 use Rattle.journal_laws.specs.Journal.{count_of}
 use Rattle.journal_laws.specs.Planned.{fails_within, after_planned}
-use Rattle.hcp_packet.specs.declared.MessageKind.{MessageKind}
-use Rattle.hcp_packet.specs.declared.MessageKind.TheVariants.{Command as IsCommand}
-use Rattle.hcp_packet.specs.declared.MessageFault.{MessageFault}
-use Rattle.hcp_packet.specs.MessageHeader.{header_of}
 use Rattle.link_machine.specs.Machine.{Message, LinkInput, Turn, new_link_end}
 use Rattle.link_machine.specs.Machine.LinkInput.{Take, Tick, Reset, Start, Stop}
 use Rattle.link_machine.specs.Machine.Role.{Bare, Clf, Uicc}
@@ -32,6 +28,7 @@ use Rattle.cause_history.specs.Steps.{at, entries_for}
 use Rattle.cause_history.specs.Follows.{seen_from, frames_to}
 use Rattle.node_machine.specs.Parts.{Desk, Core, Running, Port, Work, Deed, Init}
 use Rattle.node_machine.specs.Parts.Deed.{Sends, Orders, GoesOn}
+use Rattle.node_machine.specs.Controller.{is_command_message}
 use Rattle.node_machine.specs.Carrying.{noting, changed_if, port_at}
 use Rattle.node_machine.specs.Node.{NodeInput, steps, begins, found, boot_writes, with_error}
 use Rattle.node_machine.specs.Node.NodeInput.{AtEnd, TimePasses}
@@ -338,13 +335,14 @@ all_aged w = (
   flat_map (λ (s : Site). entries_for s.host (aged_entries Controller s.link.to_controller ++ aged_entries Host s.link.to_host)) w.sites,
 )
 
--- A link after the tick of its near end's node: an end whose notice is late is reset in place of having its tick.
-abbrev pub ticked_so : Link → Option Port → Ending → Link
-ticked_so l None ending = ticks_here l [] GoesOut
-ticked_so l (Some p) ending = by_notice p.late where
-  by_notice : Bool → Link
-  by_notice true = has_input l (Reset None) p.turns ending
-  by_notice false = ticks_here l p.turns ending
+-- a notice of the end with this host is late
+abbrev pub is_late_at : Work → ℕ → Bool
+is_late_at k h = option_map_or (λ (p : Port). p.late) (port_at k.ports h) false
+
+-- A link after a tick of the controller: an end whose notice is late is reset in place of having its tick.
+abbrev pub ticked_so : Link → Bool → List Turn → Ending → Link
+ticked_so l true turns ending = has_input l (Reset None) turns ending
+ticked_so l false turns ending = ticks_here l turns ending
 
 -- the tick of the controller; where it doesn't run its ends are new
 abbrev pub controller_ticks : NodeWorld → NodeWorld × List Entry
@@ -354,12 +352,12 @@ controller_ticks w = by_node w.controller where
     record {
       memory = after_planned k.writes w.memory;
       controller = runs_on k;
-      sites = map (λ (s : Site). record s { link = ticked_so s.link (port_at k.ports s.host) (ending_of k) }) w.sites;
+      sites = map (λ (s : Site). record s { link = ticked_so s.link (is_late_at k s.host) (turns_at k s.host) (ending_of k) }) w.sites;
     },
     k.entries ++ flat_map (λ (s : Site). frames_noted Controller s.host s.link k) w.sites,
   )
   by_node : Option Running → NodeWorld × List Entry
-  by_node None = (record w { sites = map (λ (s : Site). record s { link = ticked_so s.link None GoesOut }) w.sites }, [])
+  by_node None = (record w { sites = map (λ (s : Site). record s { link = ticks_here s.link [] GoesOut }) w.sites }, [])
   by_node (Some r) = after_work (steps TimePasses (work_of r w.memory.plan (λ h. (link_at w.sites h).controller) []))
 
 -- the tick of a host
@@ -368,14 +366,14 @@ host_ticks s = by_node s.node where
   after_work : Work → Site × List Entry
   after_work k = (
     record s {
-      link = exchanged (ticked_so (exchanged s.link) (port_at k.ports s.host) (ending_of k));
+      link = exchanged (ticks_here (exchanged s.link) (turns_at k s.host) (ending_of k));
       memory = after_planned k.writes s.memory;
       node = runs_on k;
     },
     k.entries ++ frames_noted Host s.host (exchanged s.link) k,
   )
   by_node : Option Running → Site × List Entry
-  by_node None = (record s { link = exchanged (ticked_so (exchanged s.link) None GoesOut) }, [])
+  by_node None = (record s { link = exchanged (ticks_here (exchanged s.link) [] GoesOut) }, [])
   by_node (Some r) = after_work (steps TimePasses (work_of r s.memory.plan (λ h. s.link.host) []))
 
 -- the ticks of hosts, one after another
@@ -396,16 +394,9 @@ world_ticks w =
 
 -- ## Steps of the world
 
--- a message is a command
-abbrev pub is_order : List ℕ → Bool
-is_order message = by_header (header_of message) where
-  by_header : Result (MessageKind × ℕ) MessageFault → Bool
-  by_header (Ok (IsCommand, instruction)) = true
-  by_header _ = false
-
 -- a host sends a message
 abbrev pub sending : ℕ → Message → List Deed
-sending h m = if m.0 == 1 && is_order m.1 then Orders m.1 ∷ [] else Sends h m ∷ []
+sending h m = if m.0 == 1 && is_command_message m.1 then Orders m.1 ∷ [] else Sends h m ∷ []
 
 -- a host begins an init
 abbrev pub beginning : List ℕ → List (List ℕ) → List Deed
