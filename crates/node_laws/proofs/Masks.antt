@@ -1,6 +1,5 @@
 -- A host that passes a test is in the mask of the hosts that pass it.
-use Rattle.std.proofs.Common.{◌≡◌, ℕ, zero, suc, ◌+◌, ◌*◌, ◌/◌, ◌%◌, ◌^◌, ◌≤◌, Bool, true, false, cond, eqb, List, [], ◌∷◌, refl, sym, ap, ◌∙◌, arith}
-use Rattle.std.specs.Prelude.{sum_by}
+use Rattle.std.proofs.Common.{◌≡◌, ℕ, zero, suc, ◌+◌, ◌*◌, ◌/◌, ◌%◌, ◌^◌, ◌≤◌, Bool, true, false, eqb, List, [], ◌∷◌, refl, sym, ap, ◌∙◌, arith}
 use Rattle.std.specs.List.{filter}
 use Rattle.std.proofs.lemmas.Bool.{cond_both}
 use Rattle.std.proofs.lemmas.List.Sums.{sum_by-cons}
@@ -56,8 +55,10 @@ pub is_in_mask : (test : ℕ → Bool) (x : ℕ) → 1 ≤ x → x ≤ 7 → tes
 is_in_mask test x some most passed = by_host x some most passed where
   m : ℕ
   m = mask_of (hosts_where test)
+
   one : (k : ℕ) → m / k % 2 ≡ 1 → eqb (m / k % 2) 1 ≡ true
   one k e = ap (λ n. eqb n 1) e
+
   by_host : (x : ℕ) → 1 ≤ x → x ≤ 7 → test x ≡ true → has m x ≡ true
   by_host zero some most passed = absurd (omega arith)
   by_host (suc zero) some most passed = one 2 (omega (arith, digits test, bit_one (test 1) passed, bit_most (test 2), bit_most (test 3), bit_most (test 4), bit_most (test 5), bit_most (test 6), bit_most (test 7)))

@@ -1,9 +1,9 @@
 -- While a host is asked for a creation, nothing that a controller commits sets or clears its whitelist.
-use Rattle.std.proofs.Common.{◌≡◌, ℕ, Bool, true, false, cond, eqb, ◌&&◌, List, [], ◌∷◌, ◌++◌, refl, sym, ap, ◌∙◌, inl, inr, ◌⊎◌}
+use Rattle.std.proofs.Common.{◌≡◌, ℕ, Bool, true, false, cond, eqb, ◌&&◌, List, [], ◌∷◌, refl, sym, ap, ◌∙◌, inl, inr, ◌⊎◌}
 use Rattle.std.specs.Prelude.{Option, Some, None, Result, Ok, Err, map, unwrap_or}
 use Rattle.std.specs.List.{AllByRecursion}
 use Rattle.std.specs.Option.{option_map_or}
-use Rattle.std.proofs.lemmas.Bool.{cond_both, cases_Bool, eqb-true, false≢true, true≢false}
+use Rattle.std.proofs.lemmas.Bool.{cond_both, cases_Bool, eqb-true, true≢false}
 use Rattle.hcp_packet.specs.declared.MessageKind.{MessageKind}
 use Rattle.hcp_packet.specs.declared.MessageKind.TheVariants.{Command as IsCommand, Event as IsEvent, Response as IsResponse}
 use Rattle.hcp_packet.specs.declared.MessageFault.{MessageFault}
@@ -20,16 +20,15 @@ use Rattle.gate_admin.specs.declared.view.LinkView.{LinkView}
 use Rattle.gate_admin.specs.declared.decision.Decision.{Decision}
 use Rattle.gate_admin.specs.declared.decision.Decision.TheVariants.{Answer, Commit, Ask}
 use Rattle.gate_admin.specs.View.{has, hosts_where, is_asked}
-use Rattle.gate_admin.specs.Decide.{answers, commits, unless_refused, tests_of_pipe, tests_to_open, tests_to_set_it, tests_to_create, tests_to_delete, tests_to_clear, opening, closing, setting, getting, creating, creation, deleting, clearing, carried_out, decided, is_opened, ends_of, created}
+use Rattle.gate_admin.specs.Decide.{commits, unless_refused, tests_of_pipe, tests_to_open, tests_to_set_it, tests_to_create, tests_to_delete, tests_to_clear, opening, closing, setting, getting, creating, creation, deleting, clearing, carried_out, decided, is_opened, ends_of, created}
 use Rattle.gate_admin.proofs.CreationLemmas.{AllFalse, all_false}
 use Rattle.gate_link.specs.Link.{served as link_served}
 use Rattle.gate_identity.specs.Identity.{served as identity_served}
-use Rattle.gate_loopback.specs.Loopback.{posts_back}
 use Rattle.link_machine.specs.Machine.{Message}
-use Rattle.node_machine.specs.Parts.{Creation, About, Notice, Core, Port, Deed}
-use Rattle.node_machine.specs.Parts.Deed.{Commits, Sends, SaysOk, Asks, Releases, Tells, IsAnswered, Drops, SetsErrors}
+use Rattle.node_machine.specs.Parts.{Creation, Notice, Core, Port, Deed}
+use Rattle.node_machine.specs.Parts.Deed.{Sends, Tells, Drops}
 use Rattle.node_machine.specs.Carrying.{port_at, finds_room}
-use Rattle.node_machine.specs.Controller.{has_link, creation_in, asked_at, is_asked_at, asks_for, view_for, answers_on, commit_deeds, decision_deeds, link_deeds, gates, gate_deeds, own_gate, goes_through, served_at, command_deeds, agreed, creation_deeds, notice_deeds, response_at, is_command_message, relayed_to, unrelayed, event_deeds, unless_asking, if_notice, kind_deeds, own_deeds, relay_deeds, deeds_by_relay, controller_deeds}
+use Rattle.node_machine.specs.Controller.{has_link, creation_in, is_asked_at, asks_for, view_for, answers_on, commit_deeds, decision_deeds, link_deeds, gates, gate_deeds, own_gate, goes_through, served_at, agreed, creation_deeds, notice_deeds, response_at, is_command_message, relayed_to, unrelayed, event_deeds, unless_asking, if_notice, kind_deeds, own_deeds, relay_deeds, deeds_by_relay, controller_deeds}
 use Rattle.node_laws.specs.Creations.{LeavesWhitelist, DeedLeavesWhitelist, IsBeingAsked, IsMaking, WaitsForPipes}
 use Rattle.node_laws.proofs.Masks.{is_in_mask}
 
@@ -52,6 +51,7 @@ own_one v h x b asked refused = by_host (cases_Bool (eqb h x)) where
   by_param false refused same = ap (λ c. c && false) same
   by_param true refused same =
       absurd (true≢false (sym asked ∙ (ap (is_asked v) (sym (eqb-true h x same)) ∙ refused)))
+
   by_host : (eqb h x ≡ true) ⊎ (eqb h x ≡ false) → (eqb h x && b) ≡ false
   by_host (inl same) = by_param b refused same
   by_host (inr other) = ap (λ c. c && b) other

@@ -1,5 +1,5 @@
 -- How a node carries out what the handling of a message does, one thing after another, until its memory fails.
-use Rattle.std.specs.Prelude.{ℕ, ◌+◌, ◌==◌, nat_lt, Bool, true, false, not, if◌then◌else◌, List, [], ◌∷◌, ◌++◌, map, length, Option, Some, None}
+use Rattle.std.specs.Prelude.{ℕ, ◌==◌, nat_lt, Bool, true, false, if◌then◌else◌, List, [], ◌∷◌, ◌++◌, map, length, Option, Some, None}
 use Rattle.std.specs.List.{find}
 use Rattle.std.specs.Option.{option_map_or}
 use Rattle.swp_base.specs.InMemory.{Plan, plan_after}
@@ -18,7 +18,7 @@ use Rattle.link_machine.specs.Machine.Turn.{Give, SetAside, Release}
 use Rattle.link_entries.specs.Entries.{End as Side, turn_entry}
 use Rattle.link_entries.specs.Entries.End.{Controller, Host}
 use Rattle.cause_history.specs.Steps.{end_of, entries_for}
-use Rattle.node_machine.specs.Parts.{Creation, About, Notice, Desk, Init, Core, Port, Work, Deed}
+use Rattle.node_machine.specs.Parts.{About, Desk, Core, Port, Work, Deed}
 use Rattle.node_machine.specs.Parts.About.{Waits, Removed}
 use Rattle.node_machine.specs.Parts.Deed.{Commits, Sends, SaysOk, Asks, Releases, Tells, IsAnswered, Drops, SetsErrors, Orders, Hears, GoesOn, Ends}
 
@@ -106,8 +106,10 @@ abbrev pub commit : Command → Work → Work
 commit c w = by_plan (fails_within (length writes) w.plan) where
   writes : List Write
   writes = commit_writes w.core.journal w.core.tables (body_of c)
+
   begun : Work
   begun = noting (entry.Command w.core.node c ∷ []) w
+
   by_plan : Bool → Work
   by_plan true = loses_power writes begun
   by_plan false = keeps c writes begun

@@ -1,7 +1,7 @@
 -- What a controller does with a message (ETSI TS 102 622, pipe management, administration gate, creation of pipes between
 -- hosts). Which answer comes to a host that isn't asked for, and what is dropped, is this project's own.
-use Rattle.std.specs.Prelude.{ℕ, ◌==◌, ◌&&◌, ◌||◌, Bool, true, false, not, nat_lt, if◌then◌else◌, List, [], ◌∷◌, ◌++◌, map, is_some, Option, Some, None, Result, Ok, Err}
-use Rattle.std.specs.List.{filter, filter_map, list_any}
+use Rattle.std.specs.Prelude.{ℕ, ◌==◌, ◌&&◌, ◌||◌, Bool, true, false, not, if◌then◌else◌, List, [], ◌∷◌, ◌++◌, map, is_some, Option, Some, None, Result, Ok, Err}
+use Rattle.std.specs.List.{filter_map, list_any}
 use Rattle.std.specs.Option.{option_map_or, option_and_then}
 use Rattle.session_laws.specs.Sessions.{is_up}
 use Rattle.hcp_packet.specs.declared.MessageKind.{MessageKind}
@@ -53,6 +53,7 @@ is_asked_at p = by_notice p.desk.notice where
   by_about (Waits c) = true
   by_about Forgotten = true
   by_about Removed = false
+
   by_notice : Option Notice → Bool
   by_notice None = false
   by_notice (Some n) = by_about n.about
@@ -185,6 +186,7 @@ relayed_to t h m = if is_opened t h m.0 && not (opens_or_closes (header_of m.1))
   opens_or_closes : Result (MessageKind × ℕ) MessageFault → Bool
   opens_or_closes (Ok (IsCommand, instruction)) = instruction == 3 || instruction == 4
   opens_or_closes _ = false
+
   by_end : Option (ℕ × ℕ) → Option ℕ
   by_end None = None
   by_end (Some end) = if end.0 == 0 then None else Some end.0

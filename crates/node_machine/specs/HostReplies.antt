@@ -1,6 +1,6 @@
 -- What a host does with a message (ETSI TS 102 622, notifications of the host controller, gates of a host), and how it runs an
 -- init, which is this project's own.
-use Rattle.std.specs.Prelude.{ℕ, ◌+◌, ◌==◌, ◌&&◌, ◌||◌, Bool, true, false, not, nat_le, nat_lt, if◌then◌else◌, List, [], ◌∷◌, ◌++◌, map, length, is_some, slice_get, Option, Some, None, Result, Ok, Err}
+use Rattle.std.specs.Prelude.{ℕ, ◌+◌, ◌==◌, ◌&&◌, ◌||◌, Bool, true, false, not, nat_le, if◌then◌else◌, List, [], ◌∷◌, ◌++◌, map, length, is_some, slice_get, Option, Some, None, Result, Ok, Err}
 use Rattle.std.specs.Option.{option_map_or}
 use Rattle.session_laws.specs.Sessions.{is_up}
 use Rattle.hcp_packet.specs.declared.MessageKind.{MessageKind}
@@ -14,7 +14,6 @@ use Rattle.pipe_table.specs.PipeRows.{pipe_at}
 use Rattle.hci_tables.specs.declared.command.Command.{Command}
 use Rattle.hci_tables.specs.declared.command.Command.TheVariants.{Create, Delete, Clear, Set}
 use Rattle.hci_tables.specs.Commands.{is_command, is_host, is_dynamic}
-use Rattle.hci_tables.specs.Tables.{HciTables}
 use Rattle.gate_answers.specs.declared.response.Response.{Response}
 use Rattle.gate_answers.specs.declared.response.Response.TheVariants as response
 use Rattle.gate_answers.specs.Answers.{answer_of, instruction_in, body_in}
@@ -24,7 +23,7 @@ use Rattle.gate_loopback.specs.Loopback.{posts_back}
 use Rattle.link_machine.specs.Machine.{Message}
 use Rattle.cause_history.specs.Damage.{same_bytes}
 use Rattle.node_machine.specs.Parts.{Init, Core, Port, Deed}
-use Rattle.node_machine.specs.Parts.Deed.{Commits, Sends, SaysOk, Drops, Orders, Hears, GoesOn, Ends}
+use Rattle.node_machine.specs.Parts.Deed.{Commits, Sends, Drops, Orders, Hears, GoesOn, Ends}
 use Rattle.node_machine.specs.Carrying.{end_at, finds_room}
 use Rattle.node_machine.specs.Controller.{answers_on, commit_deeds, link_deeds, gates}
 
@@ -163,6 +162,7 @@ host_deeds core p m = if_up (is_up p.side.shdlc.phase) where
   by_header (Ok (IsEvent, instruction)) = if is_gate 4 (gate_of_pipe core m.0) && posts_back m.1 then Sends core.node m ∷ [] else []
   by_header (Ok (IsResponse, code)) = if m.0 == 1 then response_deeds core code (body_in m.1) else []
   by_header (Err fault) = []
+
   if_up : Bool → List Deed
   if_up true = by_header (header_of m.1)
   if_up false = Drops m.0 ∷ []

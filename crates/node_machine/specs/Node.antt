@@ -1,30 +1,26 @@
 -- The steps of a node: what comes to its ends, what it owes to hosts whose creations end so, and its turns.
-use Rattle.std.specs.Prelude.{ℕ, ◌+◌, ◌==◌, ◌&&◌, ◌||◌, Bool, true, false, not, nat_le, min, if◌then◌else◌, List, [], ◌∷◌, ◌++◌, map, is_some, is_none, Option, Some, None}
+use Rattle.std.specs.Prelude.{ℕ, ◌+◌, ◌==◌, ◌&&◌, ◌||◌, Bool, true, false, not, nat_le, min, if◌then◌else◌, List, [], ◌∷◌, ◌++◌, map, is_some, Option, Some, None}
 use Rattle.std.specs.List.{flat_map, filter, filter_map, list_any}
 use Rattle.std.specs.Option.{option_map_or}
-use Rattle.swp_base.specs.InMemory.{Memory, Plan}
 use Rattle.trace_model.specs.declared.entry.Entry.{Entry}
-use Rattle.trace_model.specs.declared.entry.Entry.TheVariants as entry
-use Rattle.journal_laws.specs.Journal.{state_of, count_of}
+use Rattle.journal_laws.specs.Journal.{state_of}
 use Rattle.journal_laws.specs.Operations.{start_writes, started}
-use Rattle.journal_laws.specs.Planned.{fails_within}
 use Rattle.journal_laws.specs.Writes.{Write}
-use Rattle.hci_tables.specs.declared.command.Command.{Command}
 use Rattle.hci_tables.specs.declared.command.Command.TheVariants.{Sync}
 use Rattle.hci_tables.specs.Tables.{close, is_kept_sync}
 use Rattle.hci_store.specs.Image.{tables_of}
 use Rattle.gate_answers.specs.declared.response.Response.{Response}
 use Rattle.gate_answers.specs.declared.response.Response.TheVariants as response
 use Rattle.gate_answers.specs.Answers.{answer_of}
-use Rattle.link_machine.specs.Machine.{LinkEnd, LinkInput, after_input, ended_by, report, whole_acked}
+use Rattle.link_machine.specs.Machine.{LinkInput, after_input, ended_by, report, whole_acked}
 use Rattle.link_machine.specs.Machine.LinkInput.{Tick, Reset}
 use Rattle.link_entries.specs.Entries.{told}
 use Rattle.cause_history.specs.Steps.{entries_for}
-use Rattle.node_machine.specs.Parts.{Creation, About, Notice, Desk, Core, Running, Port, Work, Deed}
-use Rattle.node_machine.specs.Parts.About.{Waits, Forgotten}
+use Rattle.node_machine.specs.Parts.{Creation, Notice, Desk, Core, Running, Port, Work, Deed}
+use Rattle.node_machine.specs.Parts.About.{Forgotten}
 use Rattle.node_machine.specs.Parts.Deed.{Commits, Sends, Releases}
 use Rattle.node_machine.specs.Carrying.{side_of, noting, unless_cut, changed_if, all_done, finds_room}
-use Rattle.node_machine.specs.Controller.{creation_in, asked_at}
+use Rattle.node_machine.specs.Controller.{asked_at}
 use Rattle.node_machine.specs.Turns.{passes}
 
 -- what begins a step of a node: something comes to the end of the link with this host, or time passes at all its ends
@@ -141,6 +137,7 @@ synced core input p = by_input (input_at input p) where
   by_id (Some id) =
       if not (is_kept_sync core.tables.syncs p.desk.host id) && finds_room core (Sync p.desk.host id)
       then Commits (Sync p.desk.host id) ∷ [] else []
+
   by_input : Option LinkInput → List Deed
   by_input None = []
   by_input (Some i) = by_id (report p.side i).sync

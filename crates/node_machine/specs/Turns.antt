@@ -1,5 +1,5 @@
 -- The turns of a node: after each of its steps it goes once through its ends, and handles the messages that came.
-use Rattle.std.specs.Prelude.{ℕ, ◌==◌, Bool, true, false, if◌then◌else◌, List, [], ◌∷◌, ◌++◌, map, Option, Some, None}
+use Rattle.std.specs.Prelude.{ℕ, ◌==◌, Bool, true, false, List, [], ◌∷◌, map, Option, Some, None}
 use Rattle.std.specs.Option.{option_map_or}
 use Rattle.trace_model.specs.declared.entry.Entry.TheVariants as entry
 use Rattle.link_machine.specs.Machine.{Message, is_held}
@@ -46,6 +46,7 @@ have_turns h (m ∷ messages) w = by_room (have_turns h messages) (deeds_of w.co
   if_room : (Work → Work) → List Deed → Option (ℕ × ℕ) → Work
   if_room later deeds None = unless_cut later (handles h m deeds w)
   if_room later deeds (Some short) = holds_back h short w
+
   by_room : (Work → Work) → List Deed → Work
   by_room later deeds = if_room later deeds (lack w.ports (needs h deeds))
 

@@ -1,17 +1,12 @@
 -- Worked examples of boots and refusals compute.
-use Rattle.std.proofs.Common.{◌≡◌, refl, ℕ, List, [], ◌∷◌, Some, None}
-use Rattle.std.specs.Prelude.{true, false, replicate}
-use Rattle.swp_base.specs.declared.link_terms.Cause.TheVariants as cause
-use Rattle.trace_model.specs.declared.entry.LostCause.TheVariants as lost
+use Rattle.std.proofs.Common.{◌≡◌, refl, List, [], ◌∷◌, None}
 use Rattle.trace_model.specs.declared.entry.NoCause.TheVariants as no
-use Rattle.trace_model.specs.declared.entry.Entry.{Entry}
-use Rattle.trace_model.specs.declared.entry.Entry.TheVariants.{Up, Down, Active, GaveUp, Sent, Got, Acked, Emit, Took, Lost, Turn, Held, Ask, Dropped, Command, AnyOk, InitSame, InitMade, InitFailed, Cut, Booted, No}
+use Rattle.trace_model.specs.declared.entry.Entry.TheVariants.{Cut, Booted, No}
 use Rattle.trace_model.specs.declared.line.Line.{Line}
 use Rattle.trace_model.specs.declared.line.Line.TheVariants as line
-use Rattle.hci_tables.specs.declared.command.Command.TheVariants as command
-use Rattle.node_world.specs.World.{new_world, end_c, end_h}
+use Rattle.node_world.specs.World.{new_world, end_h}
 use Rattle.node_world.specs.Lines.{noted_lines}
-use Rattle.node_world.specs.Lines.NotedBelow.{Entries, TablesOf}
+use Rattle.node_world.specs.Lines.NotedBelow.{Entries}
 use Rattle.journal_laws.specs.Records.{found_from}
 use Rattle.gate_admin.specs.View.{hosts_where}
 use Rattle.pipe_table.specs.PipeRows.{lowest_free}

@@ -1,11 +1,8 @@
 -- Worked examples of cuts compute.
-use Rattle.std.proofs.Common.{◌≡◌, refl, ℕ, List, [], ◌∷◌, Some, None}
-use Rattle.std.specs.Prelude.{true, false, replicate}
+use Rattle.std.proofs.Common.{◌≡◌, refl, List, [], ◌∷◌, None}
+use Rattle.std.specs.Prelude.{true, false}
 use Rattle.swp_base.specs.declared.link_terms.Cause.TheVariants as cause
-use Rattle.trace_model.specs.declared.entry.LostCause.TheVariants as lost
-use Rattle.trace_model.specs.declared.entry.NoCause.TheVariants as no
-use Rattle.trace_model.specs.declared.entry.Entry.{Entry}
-use Rattle.trace_model.specs.declared.entry.Entry.TheVariants.{Up, Down, Active, GaveUp, Sent, Got, Acked, Emit, Took, Lost, Turn, Held, Ask, Dropped, Command, AnyOk, InitSame, InitMade, InitFailed, Cut, Booted, No}
+use Rattle.trace_model.specs.declared.entry.Entry.TheVariants.{Up, Down, Active, Sent, Got, Acked, Emit, Took, Turn, Command, AnyOk, Cut, Booted}
 use Rattle.trace_model.specs.declared.line.Line.{Line}
 use Rattle.trace_model.specs.declared.line.Line.TheVariants as line
 use Rattle.hci_tables.specs.declared.command.Command.TheVariants as command
@@ -49,14 +46,14 @@ cut_in_first_write : noted_lines (new_world (2 ∷ [])) cut_in_first_write_lines
     Entries (Took (end_c 2) (230 ∷ []) ∷ Up (end_c 2) 1 ∷ []) ∷
     Entries (Sent (end_h 2) 1 1 (3 ∷ []) ∷ Emit (end_h 2) (128 ∷ 129 ∷ 3 ∷ []) ∷ []) ∷
     Entries (Took (end_c 2) (128 ∷ 129 ∷ 3 ∷ []) ∷ Got (end_c 2) 1 1 (3 ∷ []) ∷ Turn (end_c 2) 1 (3 ∷ []) ∷ Command 0 (command.SetOpened 2 1 true) ∷
-        Sent (end_c 2) 1 1 (128 ∷ 0 ∷ []) ∷ AnyOk 0 2 ∷ Emit (end_c 2) (193 ∷ []) ∷ Emit (end_c 2) (129 ∷ 129 ∷ 128 ∷ 0 ∷ []) ∷ []) ∷
+    Sent (end_c 2) 1 1 (128 ∷ 0 ∷ []) ∷ AnyOk 0 2 ∷ Emit (end_c 2) (193 ∷ []) ∷ Emit (end_c 2) (129 ∷ 129 ∷ 128 ∷ 0 ∷ []) ∷ []) ∷
     Entries (Took (end_h 2) (193 ∷ []) ∷ Acked (end_h 2) 1 1 ∷ Took (end_h 2) (129 ∷ 129 ∷ 128 ∷ 0 ∷ []) ∷ Got (end_h 2) 1 1 (128 ∷ 0 ∷ []) ∷
-        Turn (end_h 2) 1 (128 ∷ 0 ∷ []) ∷ Emit (end_h 2) (193 ∷ []) ∷ []) ∷
+    Turn (end_h 2) 1 (128 ∷ 0 ∷ []) ∷ Emit (end_h 2) (193 ∷ []) ∷ []) ∷
     Entries (Sent (end_h 2) 1 1 (16 ∷ 32 ∷ 0 ∷ 4 ∷ []) ∷ Emit (end_h 2) (137 ∷ 129 ∷ 16 ∷ 32 ∷ 0 ∷ 4 ∷ []) ∷ []) ∷
     Entries [] ∷
     Entries (Took (end_c 2) (193 ∷ []) ∷ Acked (end_c 2) 1 1 ∷ Took (end_c 2) (137 ∷ 129 ∷ 16 ∷ 32 ∷ 0 ∷ 4 ∷ []) ∷ Got (end_c 2) 1 1 (16 ∷ 32 ∷ 0 ∷
-        4 ∷ []) ∷ Turn (end_c 2) 1 (16 ∷ 32 ∷ 0 ∷ 4 ∷ []) ∷
-        Command 0 (command.Create (record { pid = 2; creator = 2; creator_gate = 32; dest = 0; dest_gate = 4; opened = false })) ∷ Cut 0 ∷ []) ∷
+    4 ∷ []) ∷ Turn (end_c 2) 1 (16 ∷ 32 ∷ 0 ∷ 4 ∷ []) ∷
+    Command 0 (command.Create (record { pid = 2; creator = 2; creator_gate = 32; dest = 0; dest_gate = 4; opened = false })) ∷ Cut 0 ∷ []) ∷
     Entries (Booted 0 2 ∷ []) ∷
     TablesOf 0 (record { rows = []; statics = []; values = []; syncs = (2, 6699) ∷ [] }) ∷ []
 unfolding found_from hosts_where lowest_free
@@ -95,14 +92,14 @@ cut_in_second_write_13 : noted_lines (new_world (2 ∷ [])) cut_in_second_write_
     Entries (Took (end_c 2) (230 ∷ []) ∷ Up (end_c 2) 1 ∷ []) ∷
     Entries (Sent (end_h 2) 1 1 (3 ∷ []) ∷ Emit (end_h 2) (128 ∷ 129 ∷ 3 ∷ []) ∷ []) ∷
     Entries (Took (end_c 2) (128 ∷ 129 ∷ 3 ∷ []) ∷ Got (end_c 2) 1 1 (3 ∷ []) ∷ Turn (end_c 2) 1 (3 ∷ []) ∷ Command 0 (command.SetOpened 2 1 true) ∷
-        Sent (end_c 2) 1 1 (128 ∷ 0 ∷ []) ∷ AnyOk 0 2 ∷ Emit (end_c 2) (193 ∷ []) ∷ Emit (end_c 2) (129 ∷ 129 ∷ 128 ∷ 0 ∷ []) ∷ []) ∷
+    Sent (end_c 2) 1 1 (128 ∷ 0 ∷ []) ∷ AnyOk 0 2 ∷ Emit (end_c 2) (193 ∷ []) ∷ Emit (end_c 2) (129 ∷ 129 ∷ 128 ∷ 0 ∷ []) ∷ []) ∷
     Entries (Took (end_h 2) (193 ∷ []) ∷ Acked (end_h 2) 1 1 ∷ Took (end_h 2) (129 ∷ 129 ∷ 128 ∷ 0 ∷ []) ∷ Got (end_h 2) 1 1 (128 ∷ 0 ∷ []) ∷
-        Turn (end_h 2) 1 (128 ∷ 0 ∷ []) ∷ Emit (end_h 2) (193 ∷ []) ∷ []) ∷
+    Turn (end_h 2) 1 (128 ∷ 0 ∷ []) ∷ Emit (end_h 2) (193 ∷ []) ∷ []) ∷
     Entries (Sent (end_h 2) 1 1 (16 ∷ 32 ∷ 0 ∷ 4 ∷ []) ∷ Emit (end_h 2) (137 ∷ 129 ∷ 16 ∷ 32 ∷ 0 ∷ 4 ∷ []) ∷ []) ∷
     Entries [] ∷
     Entries (Took (end_c 2) (193 ∷ []) ∷ Acked (end_c 2) 1 1 ∷ Took (end_c 2) (137 ∷ 129 ∷ 16 ∷ 32 ∷ 0 ∷ 4 ∷ []) ∷ Got (end_c 2) 1 1 (16 ∷ 32 ∷ 0 ∷
-        4 ∷ []) ∷ Turn (end_c 2) 1 (16 ∷ 32 ∷ 0 ∷ 4 ∷ []) ∷
-        Command 0 (command.Create (record { pid = 2; creator = 2; creator_gate = 32; dest = 0; dest_gate = 4; opened = false })) ∷ Cut 0 ∷ []) ∷
+    4 ∷ []) ∷ Turn (end_c 2) 1 (16 ∷ 32 ∷ 0 ∷ 4 ∷ []) ∷
+    Command 0 (command.Create (record { pid = 2; creator = 2; creator_gate = 32; dest = 0; dest_gate = 4; opened = false })) ∷ Cut 0 ∷ []) ∷
     Entries (Booted 0 2 ∷ []) ∷
     TablesOf 0 (record { rows = []; statics = []; values = []; syncs = (2, 6699) ∷ [] }) ∷ []
 unfolding found_from hosts_where lowest_free
@@ -141,14 +138,14 @@ cut_in_second_write_FF : noted_lines (new_world (2 ∷ [])) cut_in_second_write_
     Entries (Took (end_c 2) (230 ∷ []) ∷ Up (end_c 2) 1 ∷ []) ∷
     Entries (Sent (end_h 2) 1 1 (3 ∷ []) ∷ Emit (end_h 2) (128 ∷ 129 ∷ 3 ∷ []) ∷ []) ∷
     Entries (Took (end_c 2) (128 ∷ 129 ∷ 3 ∷ []) ∷ Got (end_c 2) 1 1 (3 ∷ []) ∷ Turn (end_c 2) 1 (3 ∷ []) ∷ Command 0 (command.SetOpened 2 1 true) ∷
-        Sent (end_c 2) 1 1 (128 ∷ 0 ∷ []) ∷ AnyOk 0 2 ∷ Emit (end_c 2) (193 ∷ []) ∷ Emit (end_c 2) (129 ∷ 129 ∷ 128 ∷ 0 ∷ []) ∷ []) ∷
+    Sent (end_c 2) 1 1 (128 ∷ 0 ∷ []) ∷ AnyOk 0 2 ∷ Emit (end_c 2) (193 ∷ []) ∷ Emit (end_c 2) (129 ∷ 129 ∷ 128 ∷ 0 ∷ []) ∷ []) ∷
     Entries (Took (end_h 2) (193 ∷ []) ∷ Acked (end_h 2) 1 1 ∷ Took (end_h 2) (129 ∷ 129 ∷ 128 ∷ 0 ∷ []) ∷ Got (end_h 2) 1 1 (128 ∷ 0 ∷ []) ∷
-        Turn (end_h 2) 1 (128 ∷ 0 ∷ []) ∷ Emit (end_h 2) (193 ∷ []) ∷ []) ∷
+    Turn (end_h 2) 1 (128 ∷ 0 ∷ []) ∷ Emit (end_h 2) (193 ∷ []) ∷ []) ∷
     Entries (Sent (end_h 2) 1 1 (16 ∷ 32 ∷ 0 ∷ 4 ∷ []) ∷ Emit (end_h 2) (137 ∷ 129 ∷ 16 ∷ 32 ∷ 0 ∷ 4 ∷ []) ∷ []) ∷
     Entries [] ∷
     Entries (Took (end_c 2) (193 ∷ []) ∷ Acked (end_c 2) 1 1 ∷ Took (end_c 2) (137 ∷ 129 ∷ 16 ∷ 32 ∷ 0 ∷ 4 ∷ []) ∷ Got (end_c 2) 1 1 (16 ∷ 32 ∷ 0 ∷
-        4 ∷ []) ∷ Turn (end_c 2) 1 (16 ∷ 32 ∷ 0 ∷ 4 ∷ []) ∷
-        Command 0 (command.Create (record { pid = 2; creator = 2; creator_gate = 32; dest = 0; dest_gate = 4; opened = false })) ∷ Cut 0 ∷ []) ∷
+    4 ∷ []) ∷ Turn (end_c 2) 1 (16 ∷ 32 ∷ 0 ∷ 4 ∷ []) ∷
+    Command 0 (command.Create (record { pid = 2; creator = 2; creator_gate = 32; dest = 0; dest_gate = 4; opened = false })) ∷ Cut 0 ∷ []) ∷
     Entries (Booted 0 2 ∷ []) ∷
     TablesOf 0 (record { rows = []; statics = []; values = []; syncs = (2, 6699) ∷ [] }) ∷ []
 unfolding found_from hosts_where lowest_free
@@ -187,17 +184,22 @@ cut_in_second_write_5A : noted_lines (new_world (2 ∷ [])) cut_in_second_write_
     Entries (Took (end_c 2) (230 ∷ []) ∷ Up (end_c 2) 1 ∷ []) ∷
     Entries (Sent (end_h 2) 1 1 (3 ∷ []) ∷ Emit (end_h 2) (128 ∷ 129 ∷ 3 ∷ []) ∷ []) ∷
     Entries (Took (end_c 2) (128 ∷ 129 ∷ 3 ∷ []) ∷ Got (end_c 2) 1 1 (3 ∷ []) ∷ Turn (end_c 2) 1 (3 ∷ []) ∷ Command 0 (command.SetOpened 2 1 true) ∷
-        Sent (end_c 2) 1 1 (128 ∷ 0 ∷ []) ∷ AnyOk 0 2 ∷ Emit (end_c 2) (193 ∷ []) ∷ Emit (end_c 2) (129 ∷ 129 ∷ 128 ∷ 0 ∷ []) ∷ []) ∷
+    Sent (end_c 2) 1 1 (128 ∷ 0 ∷ []) ∷ AnyOk 0 2 ∷ Emit (end_c 2) (193 ∷ []) ∷ Emit (end_c 2) (129 ∷ 129 ∷ 128 ∷ 0 ∷ []) ∷ []) ∷
     Entries (Took (end_h 2) (193 ∷ []) ∷ Acked (end_h 2) 1 1 ∷ Took (end_h 2) (129 ∷ 129 ∷ 128 ∷ 0 ∷ []) ∷ Got (end_h 2) 1 1 (128 ∷ 0 ∷ []) ∷
-        Turn (end_h 2) 1 (128 ∷ 0 ∷ []) ∷ Emit (end_h 2) (193 ∷ []) ∷ []) ∷
+    Turn (end_h 2) 1 (128 ∷ 0 ∷ []) ∷ Emit (end_h 2) (193 ∷ []) ∷ []) ∷
     Entries (Sent (end_h 2) 1 1 (16 ∷ 32 ∷ 0 ∷ 4 ∷ []) ∷ Emit (end_h 2) (137 ∷ 129 ∷ 16 ∷ 32 ∷ 0 ∷ 4 ∷ []) ∷ []) ∷
     Entries [] ∷
     Entries (Took (end_c 2) (193 ∷ []) ∷ Acked (end_c 2) 1 1 ∷ Took (end_c 2) (137 ∷ 129 ∷ 16 ∷ 32 ∷ 0 ∷ 4 ∷ []) ∷ Got (end_c 2) 1 1 (16 ∷ 32 ∷ 0 ∷
-        4 ∷ []) ∷ Turn (end_c 2) 1 (16 ∷ 32 ∷ 0 ∷ 4 ∷ []) ∷
-        Command 0 (command.Create (record { pid = 2; creator = 2; creator_gate = 32; dest = 0; dest_gate = 4; opened = false })) ∷ Cut 0 ∷ []) ∷
+    4 ∷ []) ∷ Turn (end_c 2) 1 (16 ∷ 32 ∷ 0 ∷ 4 ∷ []) ∷
+    Command 0 (command.Create (record { pid = 2; creator = 2; creator_gate = 32; dest = 0; dest_gate = 4; opened = false })) ∷ Cut 0 ∷ []) ∷
     Entries (Booted 0 3 ∷ []) ∷
-    TablesOf 0 (record { rows = (record { pid = 2; creator = 2; creator_gate = 32; dest = 0; dest_gate = 4; opened = false }) ∷
-        []; statics = []; values = []; syncs = (2, 6699) ∷ [] }) ∷ []
+    TablesOf 0 (record {
+      rows = (record { pid = 2; creator = 2; creator_gate = 32; dest = 0; dest_gate = 4; opened = false }) ∷
+          [];
+      statics = [];
+      values = [];
+      syncs = (2, 6699) ∷ [];
+    }) ∷ []
 unfolding found_from hosts_where lowest_free
 cut_in_second_write_5A = refl
 
@@ -244,13 +246,13 @@ pipes_closed_by_a_cut : noted_lines (new_world (2 ∷ [])) pipes_closed_by_a_cut
     Entries (Took (end_c 2) (230 ∷ []) ∷ Up (end_c 2) 1 ∷ []) ∷
     Entries (Sent (end_h 2) 1 1 (3 ∷ []) ∷ Emit (end_h 2) (128 ∷ 129 ∷ 3 ∷ []) ∷ []) ∷
     Entries (Took (end_c 2) (128 ∷ 129 ∷ 3 ∷ []) ∷ Got (end_c 2) 1 1 (3 ∷ []) ∷ Turn (end_c 2) 1 (3 ∷ []) ∷ Command 0 (command.SetOpened 2 1 true) ∷
-        Sent (end_c 2) 1 1 (128 ∷ 0 ∷ []) ∷ AnyOk 0 2 ∷ Emit (end_c 2) (193 ∷ []) ∷ Emit (end_c 2) (129 ∷ 129 ∷ 128 ∷ 0 ∷ []) ∷ []) ∷
+    Sent (end_c 2) 1 1 (128 ∷ 0 ∷ []) ∷ AnyOk 0 2 ∷ Emit (end_c 2) (193 ∷ []) ∷ Emit (end_c 2) (129 ∷ 129 ∷ 128 ∷ 0 ∷ []) ∷ []) ∷
     Entries (Took (end_h 2) (193 ∷ []) ∷ Acked (end_h 2) 1 1 ∷ Took (end_h 2) (129 ∷ 129 ∷ 128 ∷ 0 ∷ []) ∷ Got (end_h 2) 1 1 (128 ∷ 0 ∷ []) ∷
-        Turn (end_h 2) 1 (128 ∷ 0 ∷ []) ∷ Emit (end_h 2) (193 ∷ []) ∷ []) ∷
+    Turn (end_h 2) 1 (128 ∷ 0 ∷ []) ∷ Emit (end_h 2) (193 ∷ []) ∷ []) ∷
     Entries (Sent (end_h 2) 1 1 (2 ∷ 1 ∷ []) ∷ Emit (end_h 2) (137 ∷ 129 ∷ 2 ∷ 1 ∷ []) ∷ []) ∷
     Entries (Took (end_c 2) (193 ∷ []) ∷ Acked (end_c 2) 1 1 ∷ Took (end_c 2) (137 ∷ 129 ∷ 2 ∷ 1 ∷ []) ∷ Got (end_c 2) 1 1 (2 ∷ 1 ∷ []) ∷
-        Turn (end_c 2) 1 (2 ∷ 1 ∷ []) ∷ Sent (end_c 2) 1 1 (128 ∷ 255 ∷ 255 ∷ 255 ∷ 255 ∷ 255 ∷ 255 ∷ 255 ∷ 255 ∷ []) ∷ Emit (end_c 2) (194 ∷ []) ∷
-        Emit (end_c 2) (138 ∷ 129 ∷ 128 ∷ 255 ∷ 255 ∷ 255 ∷ 255 ∷ 255 ∷ 255 ∷ 255 ∷ 255 ∷ []) ∷ []) ∷
+    Turn (end_c 2) 1 (2 ∷ 1 ∷ []) ∷ Sent (end_c 2) 1 1 (128 ∷ 255 ∷ 255 ∷ 255 ∷ 255 ∷ 255 ∷ 255 ∷ 255 ∷ 255 ∷ []) ∷ Emit (end_c 2) (194 ∷ []) ∷
+    Emit (end_c 2) (138 ∷ 129 ∷ 128 ∷ 255 ∷ 255 ∷ 255 ∷ 255 ∷ 255 ∷ 255 ∷ 255 ∷ 255 ∷ []) ∷ []) ∷
     Entries (Cut 0 ∷ []) ∷
     Entries (Booted 0 2 ∷ []) ∷
     Entries (Down (end_h 2) cause.Act ∷ Emit (end_h 2) (97 ∷ 26 ∷ 43 ∷ []) ∷ []) ∷
@@ -262,9 +264,9 @@ pipes_closed_by_a_cut : noted_lines (new_world (2 ∷ [])) pipes_closed_by_a_cut
     Entries (Took (end_c 2) (230 ∷ []) ∷ Up (end_c 2) 2 ∷ []) ∷
     Entries (Sent (end_h 2) 2 1 (2 ∷ 1 ∷ []) ∷ Emit (end_h 2) (128 ∷ 129 ∷ 2 ∷ 1 ∷ []) ∷ []) ∷
     Entries (Took (end_c 2) (128 ∷ 129 ∷ 2 ∷ 1 ∷ []) ∷ Got (end_c 2) 2 1 (2 ∷ 1 ∷ []) ∷ Turn (end_c 2) 1 (2 ∷ 1 ∷ []) ∷ Sent (end_c 2) 2 1 (134 ∷
-        []) ∷ Emit (end_c 2) (193 ∷ []) ∷ Emit (end_c 2) (129 ∷ 129 ∷ 134 ∷ []) ∷ []) ∷
+    []) ∷ Emit (end_c 2) (193 ∷ []) ∷ Emit (end_c 2) (129 ∷ 129 ∷ 134 ∷ []) ∷ []) ∷
     Entries (Took (end_h 2) (193 ∷ []) ∷ Acked (end_h 2) 2 1 ∷ Took (end_h 2) (129 ∷ 129 ∷ 134 ∷ []) ∷ Got (end_h 2) 2 1 (134 ∷ []) ∷
-        Turn (end_h 2) 1 (134 ∷ []) ∷ Emit (end_h 2) (193 ∷ []) ∷ []) ∷
+    Turn (end_h 2) 1 (134 ∷ []) ∷ Emit (end_h 2) (193 ∷ []) ∷ []) ∷
     Entries (Took (end_c 2) (193 ∷ []) ∷ Acked (end_c 2) 2 1 ∷ []) ∷ []
 unfolding found_from hosts_where lowest_free
 pipes_closed_by_a_cut = refl

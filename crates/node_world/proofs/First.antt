@@ -1,17 +1,13 @@
 -- Worked examples of activation and a first pipe compute.
-use Rattle.std.proofs.Common.{◌≡◌, refl, ℕ, List, [], ◌∷◌, Some, None}
-use Rattle.std.specs.Prelude.{true, false, replicate}
-use Rattle.swp_base.specs.declared.link_terms.Cause.TheVariants as cause
-use Rattle.trace_model.specs.declared.entry.LostCause.TheVariants as lost
-use Rattle.trace_model.specs.declared.entry.NoCause.TheVariants as no
-use Rattle.trace_model.specs.declared.entry.Entry.{Entry}
-use Rattle.trace_model.specs.declared.entry.Entry.TheVariants.{Up, Down, Active, GaveUp, Sent, Got, Acked, Emit, Took, Lost, Turn, Held, Ask, Dropped, Command, AnyOk, InitSame, InitMade, InitFailed, Cut, Booted, No}
+use Rattle.std.proofs.Common.{◌≡◌, refl, List, [], ◌∷◌, None}
+use Rattle.std.specs.Prelude.{true}
+use Rattle.trace_model.specs.declared.entry.Entry.TheVariants.{Up, Active, Sent, Got, Acked, Emit, Took, Turn, Command, AnyOk, Booted}
 use Rattle.trace_model.specs.declared.line.Line.{Line}
 use Rattle.trace_model.specs.declared.line.Line.TheVariants as line
 use Rattle.hci_tables.specs.declared.command.Command.TheVariants as command
 use Rattle.node_world.specs.World.{new_world, end_c, end_h}
 use Rattle.node_world.specs.Lines.{noted_lines}
-use Rattle.node_world.specs.Lines.NotedBelow.{Entries, TablesOf}
+use Rattle.node_world.specs.Lines.NotedBelow.{Entries}
 use Rattle.journal_laws.specs.Records.{found_from}
 use Rattle.gate_admin.specs.View.{hosts_where}
 use Rattle.pipe_table.specs.PipeRows.{lowest_free}
@@ -46,13 +42,13 @@ activation_and_first_pipe : noted_lines (new_world (2 ∷ [])) activation_and_fi
     Entries (Took (end_c 2) (230 ∷ []) ∷ Up (end_c 2) 1 ∷ []) ∷
     Entries (Sent (end_h 2) 1 1 (3 ∷ []) ∷ Emit (end_h 2) (128 ∷ 129 ∷ 3 ∷ []) ∷ []) ∷
     Entries (Took (end_c 2) (128 ∷ 129 ∷ 3 ∷ []) ∷ Got (end_c 2) 1 1 (3 ∷ []) ∷ Turn (end_c 2) 1 (3 ∷ []) ∷ Command 0 (command.SetOpened 2 1 true) ∷
-        Sent (end_c 2) 1 1 (128 ∷ 0 ∷ []) ∷ AnyOk 0 2 ∷ Emit (end_c 2) (193 ∷ []) ∷ Emit (end_c 2) (129 ∷ 129 ∷ 128 ∷ 0 ∷ []) ∷ []) ∷
+    Sent (end_c 2) 1 1 (128 ∷ 0 ∷ []) ∷ AnyOk 0 2 ∷ Emit (end_c 2) (193 ∷ []) ∷ Emit (end_c 2) (129 ∷ 129 ∷ 128 ∷ 0 ∷ []) ∷ []) ∷
     Entries (Took (end_h 2) (193 ∷ []) ∷ Acked (end_h 2) 1 1 ∷ Took (end_h 2) (129 ∷ 129 ∷ 128 ∷ 0 ∷ []) ∷ Got (end_h 2) 1 1 (128 ∷ 0 ∷ []) ∷
-        Turn (end_h 2) 1 (128 ∷ 0 ∷ []) ∷ Emit (end_h 2) (193 ∷ []) ∷ []) ∷
+    Turn (end_h 2) 1 (128 ∷ 0 ∷ []) ∷ Emit (end_h 2) (193 ∷ []) ∷ []) ∷
     Entries (Sent (end_h 2) 1 1 (2 ∷ 1 ∷ []) ∷ Emit (end_h 2) (137 ∷ 129 ∷ 2 ∷ 1 ∷ []) ∷ []) ∷
     Entries (Took (end_c 2) (193 ∷ []) ∷ Acked (end_c 2) 1 1 ∷ Took (end_c 2) (137 ∷ 129 ∷ 2 ∷ 1 ∷ []) ∷ Got (end_c 2) 1 1 (2 ∷ 1 ∷ []) ∷
-        Turn (end_c 2) 1 (2 ∷ 1 ∷ []) ∷ Sent (end_c 2) 1 1 (128 ∷ 255 ∷ 255 ∷ 255 ∷ 255 ∷ 255 ∷ 255 ∷ 255 ∷ 255 ∷ []) ∷ Emit (end_c 2) (194 ∷ []) ∷
-        Emit (end_c 2) (138 ∷ 129 ∷ 128 ∷ 255 ∷ 255 ∷ 255 ∷ 255 ∷ 255 ∷ 255 ∷ 255 ∷ 255 ∷ []) ∷ []) ∷ []
+    Turn (end_c 2) 1 (2 ∷ 1 ∷ []) ∷ Sent (end_c 2) 1 1 (128 ∷ 255 ∷ 255 ∷ 255 ∷ 255 ∷ 255 ∷ 255 ∷ 255 ∷ 255 ∷ []) ∷ Emit (end_c 2) (194 ∷ []) ∷
+    Emit (end_c 2) (138 ∷ 129 ∷ 128 ∷ 255 ∷ 255 ∷ 255 ∷ 255 ∷ 255 ∷ 255 ∷ 255 ∷ 255 ∷ []) ∷ []) ∷ []
 unfolding found_from hosts_where lowest_free
 activation_and_first_pipe = refl
 
@@ -85,9 +81,9 @@ parameter_before_opening : noted_lines (new_world (2 ∷ [])) parameter_before_o
     Entries (Took (end_c 2) (230 ∷ []) ∷ Up (end_c 2) 1 ∷ []) ∷
     Entries (Sent (end_h 2) 1 1 (2 ∷ 1 ∷ []) ∷ Emit (end_h 2) (128 ∷ 129 ∷ 2 ∷ 1 ∷ []) ∷ []) ∷
     Entries (Took (end_c 2) (128 ∷ 129 ∷ 2 ∷ 1 ∷ []) ∷ Got (end_c 2) 1 1 (2 ∷ 1 ∷ []) ∷ Turn (end_c 2) 1 (2 ∷ 1 ∷ []) ∷ Sent (end_c 2) 1 1 (134 ∷
-        []) ∷ Emit (end_c 2) (193 ∷ []) ∷ Emit (end_c 2) (129 ∷ 129 ∷ 134 ∷ []) ∷ []) ∷
+    []) ∷ Emit (end_c 2) (193 ∷ []) ∷ Emit (end_c 2) (129 ∷ 129 ∷ 134 ∷ []) ∷ []) ∷
     Entries (Took (end_h 2) (193 ∷ []) ∷ Acked (end_h 2) 1 1 ∷ Took (end_h 2) (129 ∷ 129 ∷ 134 ∷ []) ∷ Got (end_h 2) 1 1 (134 ∷ []) ∷
-        Turn (end_h 2) 1 (134 ∷ []) ∷ Emit (end_h 2) (193 ∷ []) ∷ []) ∷
+    Turn (end_h 2) 1 (134 ∷ []) ∷ Emit (end_h 2) (193 ∷ []) ∷ []) ∷
     Entries (Took (end_c 2) (193 ∷ []) ∷ Acked (end_c 2) 1 1 ∷ []) ∷ []
 unfolding found_from hosts_where lowest_free
 parameter_before_opening = refl

@@ -1,5 +1,5 @@
 -- What each line of a schedule causes in a world of nodes: a refusal, or what happens and what is noted of it.
-use Rattle.std.specs.Prelude.{◌≡◌, ℕ, ◌==◌, ◌&&◌, Bool, true, false, if◌then◌else◌, List, [], ◌∷◌, ◌++◌, map, length, replicate, is_some, unwrap_or, Option, Some, None}
+use Rattle.std.specs.Prelude.{ℕ, ◌==◌, ◌&&◌, Bool, true, false, if◌then◌else◌, List, [], ◌∷◌, replicate, is_some, unwrap_or, Option, Some, None}
 use Rattle.std.specs.List.{flat_map}
 use Rattle.std.specs.Option.{option_map_or}
 use Rattle.trace_model.specs.declared.entry.Entry.{Entry}
@@ -9,11 +9,9 @@ use Rattle.trace_model.specs.declared.entry.NoCause.TheVariants as no
 use Rattle.trace_model.specs.declared.line.End.{End}
 use Rattle.trace_model.specs.declared.line.Line.{Line}
 use Rattle.trace_model.specs.declared.line.Line.TheVariants as line
-use Rattle.swp_lpdu.specs.Controls.{bytes_of as lpdu_of}
 use Rattle.session_laws.specs.Sessions.{OnWire}
 use Rattle.link_machine.specs.Machine.{Message, Refused, LinkEnd, give_refusal, reset_refusal}
 use Rattle.link_machine.specs.Machine.Refused.{NotUp}
-use Rattle.message_link.specs.Links.{Link}
 use Rattle.message_link.specs.Links.Loss.{OnDemand}
 use Rattle.hci_tables.specs.Tables.{HciTables}
 use Rattle.cause_history.specs.Damage.{Verdict}
@@ -132,8 +130,10 @@ all_happen w [] = (w, [])
 all_happen w (c ∷ causes) = if_can (λ next. all_happen next causes) (can_happen w c) where
   behind : List Entry → NodeWorld × List Occurrence → NodeWorld × List Occurrence
   behind entries later = (later.0, record { cause = c; entries = entries } ∷ later.1)
+
   stepped : (NodeWorld → NodeWorld × List Occurrence) → NodeWorld × List Entry → NodeWorld × List Occurrence
   stepped later after = behind after.1 (later after.0)
+
   if_can : (NodeWorld → NodeWorld × List Occurrence) → Bool → NodeWorld × List Occurrence
   if_can later true = stepped later (world_step w c)
   if_can later false = (w, [])

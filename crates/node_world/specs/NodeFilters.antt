@@ -1,7 +1,6 @@
 -- What can be read off the entries of a world of nodes: filters and folds, and nothing else.
-use Rattle.std.specs.Prelude.{ℕ, ◌+◌, ◌-◌, ◌==◌, ◌&&◌, Bool, true, false, not, if◌then◌else◌, min, List, [], ◌∷◌, ◌++◌, length, take, drop, map, is_some, sum_by, Option, Some, None, Result, Ok, Err}
-use Rattle.std.specs.List.{fold, filter, filter_map, list_any}
-use Rattle.std.specs.Option.{option_map_or, option_and_then}
+use Rattle.std.specs.Prelude.{ℕ, ◌+◌, ◌-◌, ◌==◌, ◌&&◌, Bool, true, false, not, if◌then◌else◌, List, [], ◌∷◌, ◌++◌, take, drop, is_some, Option, Some, None, Result, Ok}
+use Rattle.std.specs.List.{fold, list_any}
 use Rattle.trace_model.specs.declared.entry.Entry.{Entry}
 use Rattle.trace_model.specs.declared.entry.Entry.TheVariants as entry
 use Rattle.trace_model.specs.declared.entry.LostCause.{LostCause}
@@ -15,8 +14,8 @@ use Rattle.hci_tables.specs.declared.command.Command.{Command}
 use Rattle.hci_tables.specs.Tables.{HciTables, no_tables, apply, after, close}
 use Rattle.gate_answers.specs.Answers.{instruction_in}
 use Rattle.gate_admin.specs.Decide.{is_opened}
-use Rattle.link_machine.specs.Machine.{Message, need, need_of_all}
-use Rattle.cause_history.specs.Filters.{same_end, session_of, sent_in, acked_in}
+use Rattle.link_machine.specs.Machine.{Message, need_of_all}
+use Rattle.cause_history.specs.Filters.{same_end, sent_in, acked_in}
 use Rattle.node_machine.specs.Controller.{is_command_message}
 use Rattle.node_world.specs.World.{end_c, end_h}
 

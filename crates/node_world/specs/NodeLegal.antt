@@ -1,5 +1,5 @@
 -- What a history of a world of nodes must be. These facts speak of what was noted, and know no machine.
-use Rattle.std.specs.Prelude.{◌≡◌, ◌⊎◌, ℕ, suc, ◌+◌, ◌≤◌, ◌==◌, ◌&&◌, ◌||◌, Bool, true, false, if◌then◌else◌, IsTrue, List, [], ◌∷◌, ◌++◌, length}
+use Rattle.std.specs.Prelude.{◌≡◌, ◌⊎◌, ℕ, suc, ◌≤◌, ◌==◌, ◌||◌, if◌then◌else◌, IsTrue, List, [], ◌∷◌, ◌++◌, length}
 use Rattle.std.specs.List.{filter_map, fold}
 use Rattle.std.specs.Prelude.{Option, Some, None}
 use Rattle.trace_model.specs.declared.entry.Entry.{Entry}
@@ -13,7 +13,7 @@ use Rattle.gate_admin.specs.Decide.{allows}
 use Rattle.link_machine.specs.Machine.{Message}
 use Rattle.cause_history.specs.Filters.{same_end}
 use Rattle.node_world.specs.Lines.LineOutcome.{ToldTables}
-use Rattle.node_world.specs.NodeHistories.{LineStep, NodeHistory, entries_in, occurrences_in, occurrences_of, node_entries}
+use Rattle.node_world.specs.NodeHistories.{LineStep, NodeHistory, entries_in, occurrences_of, node_entries}
 use Rattle.node_world.specs.NodeFilters.{commands_in, tables_in}
 use Rattle.std.specs.List.{flat_map}
 

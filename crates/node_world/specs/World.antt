@@ -1,6 +1,6 @@
 -- The world of a controller and its hosts: nodes that run or don't, their memories, and a link to each host; and what one cause does
 -- to it, with the entries that are noted of it. The links change by the events of the law of one link.
-use Rattle.std.specs.Prelude.{ℕ, ◌==◌, ◌&&◌, Bool, true, false, not, if◌then◌else◌, List, [], ◌∷◌, ◌++◌, map, length, replicate, is_some, slice_index, Option, Some, None, Result, Ok}
+use Rattle.std.specs.Prelude.{ℕ, ◌==◌, ◌&&◌, Bool, true, false, if◌then◌else◌, List, [], ◌∷◌, ◌++◌, map, length, replicate, Option, Some, None}
 use Rattle.std.specs.List.{find, flat_map}
 use Rattle.std.specs.Option.{option_map_or, option_map}
 use Rattle.swp_base.specs.InMemory.{Memory, Plan}
@@ -12,25 +12,25 @@ use Rattle.session_laws.specs.Sessions.{OnWire, took_with}
 use Rattle.journal_laws.specs.Writes.{Write}
 use Rattle.journal_laws.specs.Journal.{count_of}
 use Rattle.journal_laws.specs.Planned.{fails_within, after_planned}
-use Rattle.link_machine.specs.Machine.{Message, LinkInput, Turn, new_link_end}
-use Rattle.link_machine.specs.Machine.LinkInput.{Take, Tick, Reset, Start, Stop}
+use Rattle.link_machine.specs.Machine.{Message, LinkInput, Turn}
+use Rattle.link_machine.specs.Machine.LinkInput.{Take, Reset, Start, Stop}
 use Rattle.link_machine.specs.Machine.Role.{Bare, Clf, Uicc}
-use Rattle.message_link.specs.Links.{Half, Link, Ending, Comes, Loss, EndEvent, new_half, new_link, number_of, exchanged, aged, has_input, ticks_here, happens}
+use Rattle.message_link.specs.Links.{Half, Link, Ending, Comes, Loss, new_link, number_of, exchanged, aged, has_input, ticks_here, happens}
 use Rattle.message_link.specs.Links.Ending.{GoesOut, CutOff}
 use Rattle.message_link.specs.Links.Comes.{NextFrame, AsksReset, Starts, Stops, NoInput}
-use Rattle.message_link.specs.Links.Loss.{OnDemand, Broken, Unread, TooOld, TooMany}
+use Rattle.message_link.specs.Links.Loss.{Broken}
 use Rattle.message_link.specs.Links.EndEvent.{Step, Lose}
 use Rattle.message_link.specs.Links.LinkEvent.{AtController, AtHost}
 use Rattle.link_entries.specs.Entries.{End as Side, Entry as Noted, ending_entries, aged_entries, first_lost}
 use Rattle.link_entries.specs.Entries.End.{Controller, Host}
 use Rattle.link_entries.specs.Entries.Entry.{Took}
 use Rattle.cause_history.specs.Steps.{at, entries_for}
-use Rattle.cause_history.specs.Follows.{seen_from, frames_to}
-use Rattle.node_machine.specs.Parts.{Desk, Core, Running, Port, Work, Deed, Init}
+use Rattle.cause_history.specs.Follows.{seen_from}
+use Rattle.node_machine.specs.Parts.{Desk, Running, Port, Work, Deed}
 use Rattle.node_machine.specs.Parts.Deed.{Sends, Orders, GoesOn}
 use Rattle.node_machine.specs.Controller.{is_command_message}
-use Rattle.node_machine.specs.Carrying.{noting, changed_if, port_at}
-use Rattle.node_machine.specs.Node.{NodeInput, steps, begins, found, boot_writes, with_error}
+use Rattle.node_machine.specs.Carrying.{changed_if, port_at}
+use Rattle.node_machine.specs.Node.{steps, begins, found, boot_writes, with_error}
 use Rattle.node_machine.specs.Node.NodeInput.{AtEnd, TimePasses}
 
 -- a host, which runs or doesn't, with its memory and its link to the controller
@@ -99,6 +99,7 @@ node_at w n = by_number (n == 0) where
   by_host : Option Site → Option Running
   by_host None = None
   by_host (Some s) = s.node
+
   by_number : Bool → Option Running
   by_number true = w.controller
   by_number false = by_host (site_at w.sites n)
@@ -236,9 +237,11 @@ host_does w h comes f = by_site (site_at w.sites h) where
     record w { sites = with_site h (after_host comes k) w.sites },
     k.entries ++ frames_noted Host h (wires_for (exchanged s.link) comes) k,
   )
+
   by_node : Site → Option Running → NodeWorld × List Entry
   by_node s None = (w, [])
   by_node s (Some r) = after_work s (host_work s r comes f)
+
   by_site : Option Site → NodeWorld × List Entry
   by_site None = (w, [])
   by_site (Some s) = by_node s s.node
@@ -292,12 +295,16 @@ abbrev pub boots : NodeWorld → ℕ → NodeWorld × List Entry
 boots w n = by_plan (fails_within (length writes) m.plan) where
   m : Memory
   m = memory_at w n
+
   writes : List Write
   writes = boot_writes m.content
+
   written : NodeWorld
   written = with_memory n (after_planned writes m) w
+
   runs : Running → NodeWorld × List Entry
   runs r = (with_node n r written, entry.Booted n (count_of r.core.journal) ∷ [])
+
   by_plan : Bool → NodeWorld × List Entry
   by_plan true = (loses_power_at n written, entry.Cut n ∷ [])
   by_plan false = runs (found n (links_of w n) m.content)
@@ -314,8 +321,10 @@ abbrev pub frame_lost : NodeWorld → End → Loss → NodeWorld × List Entry
 frame_lost w e why = by_side e.at_host where
   l : Link
   l = link_at w.sites e.link
+
   lost : Site → Site
   lost s = record s { link = happens s.link (at e (Lose why)) }
+
   by_side : Bool → NodeWorld × List Entry
   by_side false = (
     record w { controller = counts why e.link w.controller; sites = with_site e.link lost w.sites },
@@ -356,6 +365,7 @@ controller_ticks w = by_node w.controller where
     },
     k.entries ++ flat_map (λ (s : Site). frames_noted Controller s.host s.link k) w.sites,
   )
+
   by_node : Option Running → NodeWorld × List Entry
   by_node None = (record w { sites = map (λ (s : Site). record s { link = ticks_here s.link [] GoesOut }) w.sites }, [])
   by_node (Some r) = after_work (steps TimePasses (work_of r w.memory.plan (λ h. (link_at w.sites h).controller) []))
@@ -372,6 +382,7 @@ host_ticks s = by_node s.node where
     },
     k.entries ++ frames_noted Host s.host (exchanged s.link) k,
   )
+
   by_node : Option Running → Site × List Entry
   by_node None = (record s { link = exchanged (ticks_here (exchanged s.link) [] GoesOut) }, [])
   by_node (Some r) = after_work (steps TimePasses (work_of r s.memory.plan (λ h. s.link.host) []))
