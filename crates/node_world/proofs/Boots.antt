@@ -12,7 +12,7 @@ use Rattle.gate_admin.specs.View.{hosts_where}
 use Rattle.pipe_table.specs.PipeRows.{lowest_free}
 
 -- boot cut at first write
-abbrev boot_cut_at_first_write_lines : List Line
+abbrev pub boot_cut_at_first_write_lines : List Line
 boot_cut_at_first_write_lines =
     line.Arm 0 1 (record { items = 19 ∷ [] }) ∷
     line.Boot 0 ∷
@@ -26,7 +26,7 @@ unfolding found_from hosts_where lowest_free
 boot_cut_at_first_write = refl
 
 -- boot cut at second write
-abbrev boot_cut_at_second_write_lines : List Line
+abbrev pub boot_cut_at_second_write_lines : List Line
 boot_cut_at_second_write_lines =
     line.Arm 0 2 (record { items = 90 ∷ [] }) ∷
     line.Boot 0 ∷
@@ -40,7 +40,7 @@ unfolding found_from hosts_where lowest_free
 boot_cut_at_second_write = refl
 
 -- refusals in order
-abbrev refusals_in_order_lines : List Line
+abbrev pub refusals_in_order_lines : List Line
 refusals_in_order_lines =
     line.Send (end_h 2) 1 (3 ∷ []) ∷
     line.Boot 0 ∷

@@ -14,7 +14,7 @@ use Rattle.gate_admin.specs.View.{hosts_where}
 use Rattle.pipe_table.specs.PipeRows.{lowest_free}
 
 -- cut in first write
-abbrev cut_in_first_write_lines : List Line
+abbrev pub cut_in_first_write_lines : List Line
 cut_in_first_write_lines =
     line.Boot 0 ∷
     line.Boot 2 ∷
@@ -60,7 +60,7 @@ unfolding found_from hosts_where lowest_free
 cut_in_first_write = refl
 
 -- cut in second write 13
-abbrev cut_in_second_write_13_lines : List Line
+abbrev pub cut_in_second_write_13_lines : List Line
 cut_in_second_write_13_lines =
     line.Boot 0 ∷
     line.Boot 2 ∷
@@ -106,7 +106,7 @@ unfolding found_from hosts_where lowest_free
 cut_in_second_write_13 = refl
 
 -- cut in second write FF
-abbrev cut_in_second_write_FF_lines : List Line
+abbrev pub cut_in_second_write_FF_lines : List Line
 cut_in_second_write_FF_lines =
     line.Boot 0 ∷
     line.Boot 2 ∷
@@ -152,7 +152,7 @@ unfolding found_from hosts_where lowest_free
 cut_in_second_write_FF = refl
 
 -- cut in second write 5A
-abbrev cut_in_second_write_5A_lines : List Line
+abbrev pub cut_in_second_write_5A_lines : List Line
 cut_in_second_write_5A_lines =
     line.Boot 0 ∷
     line.Boot 2 ∷
@@ -204,7 +204,7 @@ unfolding found_from hosts_where lowest_free
 cut_in_second_write_5A = refl
 
 -- pipes closed by a cut
-abbrev pipes_closed_by_a_cut_lines : List Line
+abbrev pub pipes_closed_by_a_cut_lines : List Line
 pipes_closed_by_a_cut_lines =
     line.Boot 0 ∷
     line.Boot 2 ∷

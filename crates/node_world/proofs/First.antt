@@ -13,7 +13,7 @@ use Rattle.gate_admin.specs.View.{hosts_where}
 use Rattle.pipe_table.specs.PipeRows.{lowest_free}
 
 -- activation and first pipe
-abbrev activation_and_first_pipe_lines : List Line
+abbrev pub activation_and_first_pipe_lines : List Line
 activation_and_first_pipe_lines =
     line.Boot 0 ∷
     line.Boot 2 ∷
@@ -53,7 +53,7 @@ unfolding found_from hosts_where lowest_free
 activation_and_first_pipe = refl
 
 -- parameter before opening
-abbrev parameter_before_opening_lines : List Line
+abbrev pub parameter_before_opening_lines : List Line
 parameter_before_opening_lines =
     line.Boot 0 ∷
     line.Boot 2 ∷

@@ -15,7 +15,7 @@ use Rattle.gate_admin.specs.View.{hosts_where}
 use Rattle.pipe_table.specs.PipeRows.{lowest_free}
 
 -- creation between hosts
-abbrev creation_between_hosts_lines : List Line
+abbrev pub creation_between_hosts_lines : List Line
 creation_between_hosts_lines =
     line.Boot 0 ∷
     line.Boot 1 ∷
@@ -124,7 +124,7 @@ unfolding found_from hosts_where lowest_free
 creation_between_hosts = refl
 
 -- notice never answered
-abbrev notice_never_answered_lines : List Line
+abbrev pub notice_never_answered_lines : List Line
 notice_never_answered_lines =
     line.Boot 0 ∷
     line.Boot 1 ∷
@@ -225,7 +225,7 @@ unfolding found_from hosts_where lowest_free
 notice_never_answered = refl
 
 -- relay and strangers
-abbrev relay_and_strangers_lines : List Line
+abbrev pub relay_and_strangers_lines : List Line
 relay_and_strangers_lines =
     line.Boot 0 ∷
     line.Boot 1 ∷

@@ -3,3 +3,4 @@ pub mod First
 pub mod Cuts
 pub mod Hosts
 pub mod User
+pub mod Readings

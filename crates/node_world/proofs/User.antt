@@ -14,7 +14,7 @@ use Rattle.gate_admin.specs.View.{hosts_where}
 use Rattle.pipe_table.specs.PipeRows.{lowest_free}
 
 -- users session over a cut
-abbrev users_session_over_a_cut_lines : List Line
+abbrev pub users_session_over_a_cut_lines : List Line
 users_session_over_a_cut_lines =
     line.Boot 0 ∷
     line.Boot 2 ∷
