@@ -1,7 +1,6 @@
 -- What is read off the entries of the worked examples is what the machines keep: at each node that runs, behind each line.
 use Rattle.std.proofs.Common.{◌≡◌, refl, ℕ, List, [], ◌∷◌, ◌++◌}
-use Rattle.std.specs.Prelude.{Bool, true, false, map, length, is_some, if◌then◌else◌, ◌==◌, Option, Some, None}
-use Rattle.std.specs.Option.{option_map_or}
+use Rattle.std.specs.Prelude.{Bool, false, map, length, is_some, if◌then◌else◌, ◌==◌, Option, Some, None}
 use Rattle.trace_model.specs.declared.entry.Entry.{Entry}
 use Rattle.trace_model.specs.declared.line.Line.{Line}
 use Rattle.journal_laws.specs.Records.{found_from}
@@ -18,7 +17,7 @@ use Rattle.node_world.proofs.First.{activation_and_first_pipe_lines, parameter_b
 use Rattle.node_world.proofs.Cuts.{cut_in_first_write_lines, cut_in_second_write_13_lines, cut_in_second_write_FF_lines, cut_in_second_write_5A_lines, pipes_closed_by_a_cut_lines}
 use Rattle.node_world.proofs.Hosts.{creation_between_hosts_lines, notice_never_answered_lines, relay_and_strangers_lines}
 use Rattle.node_world.proofs.User.{users_session_over_a_cut_lines}
-use Rattle.node_world.specs.NodeFilters.{commands_in, tables_in, spare_at, notice_in, order_in, session_now}
+use Rattle.node_world.specs.NodeFilters.{commands_in, tables_in, spare_at, notice_in, order_in}
 
 -- what is known of a node that runs: its tables and how many commands it keeps, what its ends have to spare, which of its hosts
 -- have a notice to answer, and the command that waits
