@@ -1,3 +1,4 @@
 pub mod Deeds
 pub mod Masks
 pub mod Whitelists
+pub mod LinkRuns
