@@ -1,12 +1,11 @@
 -- The links of a world of nodes change by events of the law of one link.
-use Rattle.std.proofs.Common.{◌≡◌, ℕ, true, false, List, [], ◌∷◌, refl}
+use Rattle.std.proofs.Common.{◌≡◌, ℕ, false, List, [], ◌∷◌, refl}
 use Rattle.std.specs.Prelude.{map}
-use Rattle.message_link.specs.Links.{Link, Ending, Comes, Node, aged, exchanged, ticks_here, happens, after}
+use Rattle.message_link.specs.Links.{Link, Comes, Node, aged, exchanged, ticks_here, happens, after}
 use Rattle.message_link.specs.Links.Ending.{CutOff}
 use Rattle.message_link.specs.Links.Comes.{NoInput}
 use Rattle.message_link.specs.Links.EndEvent.{Step}
 use Rattle.message_link.specs.Links.LinkEvent.{AtController, AtHost, Ticks}
-use Rattle.link_machine.specs.Machine.{Turn}
 use Rattle.node_machine.specs.Parts.{Work}
 use Rattle.node_world.specs.World.{NodeWorld, Site, comes_to, turns_at, ending_of, link_after_controller, after_controller, after_host, controller_cut, host_cut, ticked_so}
 use Rattle.node_laws.specs.Links.{HasRun, HaveRun}

@@ -1,6 +1,6 @@
 -- How the links of a world of nodes change: by events of the law of one link.
 use Rattle.std.specs.Prelude.{◌≡◌, List, [], ◌∷◌}
-use Rattle.message_link.specs.Links.{Link, LinkEvent, after}
+use Rattle.message_link.specs.Links.{LinkEvent, after}
 use Rattle.node_world.specs.World.{Site}
 
 -- it is the same host, and its link has become what some events make of it
