@@ -1,5 +1,5 @@
 -- A command that neither sets nor clears the whitelist of a host leaves it as it is.
-use Rattle.std.proofs.Common.{◌≡◌, ◌⊎◌, ℕ, ◌≤◌, Bool, true, false, not, cond, eqb, leb, ◌&&◌, List, refl, ap, ◌∙◌, inl, inr}
+use Rattle.std.proofs.Common.{◌≡◌, ◌⊎◌, ℕ, ◌≤◌, true, false, not, cond, eqb, leb, ◌&&◌, refl, ap, ◌∙◌, inl, inr}
 use Rattle.std.specs.Prelude.{IsTrue}
 use Rattle.std.proofs.lemmas.Bool.{and_from, le-leb, cases_Bool}
 use Rattle.registry.specs.Values.{value_at, is_kept, default_of}
