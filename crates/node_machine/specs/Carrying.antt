@@ -23,12 +23,12 @@ use Rattle.node_machine.specs.Parts.About.{Waits, Removed}
 use Rattle.node_machine.specs.Parts.Deed.{Commits, Sends, SaysOk, Asks, Releases, Tells, IsAnswered, Drops, SetsErrors, Orders, Hears, GoesOn, Ends}
 
 -- which end of its links a node has
-abbrev pub side_of : Core → Side
-side_of core = if core.node == 0 then Controller else Host
+abbrev pub own_side : Core → Side
+own_side core = if core.node == 0 then Controller else Host
 
 -- the end of the link with this host
-abbrev pub end_at : Core → ℕ → End
-end_at core h = end_of h (side_of core)
+abbrev pub end_of_node : Core → ℕ → End
+end_of_node core h = end_of h (own_side core)
 
 -- these are noted
 abbrev pub noting : List Entry → Work → Work
@@ -66,7 +66,7 @@ after_turn t p = record p { side = turn p.side t; turns = p.turns ++ t ∷ [] }
 
 -- what is noted of that
 abbrev pub noted_of : Core → Turn → Port → List Entry
-noted_of core t p = entries_for p.desk.host (turn_entry (side_of core) p.session p.side t)
+noted_of core t p = entries_for p.desk.host (turn_entry (own_side core) p.session p.side t)
 
 -- the node does this to the end of the link with this host
 abbrev pub turn_at : ℕ → Turn → Work → Work
@@ -125,7 +125,7 @@ done h (Asks to message c) w = notified to (Waits c) message (noting (entry.Ask 
 done h (Releases asker) w = turn_at asker Release w
 done h (Tells to message) w = notified to Removed message w
 done h IsAnswered w = with_desk h (λ d. record d { notice = None }) w
-done h (Drops pid) w = noting (entry.Dropped (end_at w.core h) pid ∷ []) w
+done h (Drops pid) w = noting (entry.Dropped (end_of_node w.core h) pid ∷ []) w
 done h (SetsErrors errors) w = with_desk h (λ d. record d { errors = errors }) w
 done h (Orders message) w = turn_at h (Give (1, message)) (record w { core = record w.core { command = Some message } })
 done h Hears w = record w { core = record w.core { command = None } }

@@ -24,7 +24,7 @@ use Rattle.link_machine.specs.Machine.{Message}
 use Rattle.cause_history.specs.Damage.{same_bytes}
 use Rattle.node_machine.specs.Parts.{Init, Core, Port, Deed}
 use Rattle.node_machine.specs.Parts.Deed.{Commits, Sends, Drops, Orders, Hears, GoesOn, Ends}
-use Rattle.node_machine.specs.Carrying.{end_at, finds_room}
+use Rattle.node_machine.specs.Carrying.{end_of_node, finds_room}
 use Rattle.node_machine.specs.Controller.{answers_on, commit_deeds, link_deeds, gates}
 
 -- ## Notices
@@ -47,14 +47,14 @@ is_welcome own row =
     is_host row.creator && not (row.creator == own) && row.dest == own && is_open_gate row.dest_gate && is_dynamic row.pid
 
 -- the pipe that two ends and a number name, as a notice and an answer carry them
-abbrev pub row_in : List ℕ → Option PipeRow
-row_in (creator ∷ creator_gate ∷ dest ∷ dest_gate ∷ pid ∷ []) =
+abbrev pub pipe_named_in : List ℕ → Option PipeRow
+pipe_named_in (creator ∷ creator_gate ∷ dest ∷ dest_gate ∷ pid ∷ []) =
     Some (record { pid = pid; creator = creator; creator_gate = creator_gate; dest = dest; dest_gate = dest_gate; opened = false })
-row_in _ = None
+pipe_named_in _ = None
 
 -- ADM_NOTIFY_PIPE_CREATED
 abbrev pub pipe_created : Core → List ℕ → List Deed
-pipe_created core body = by_row (row_in body) where
+pipe_created core body = by_row (pipe_named_in body) where
   by_row : Option PipeRow → List Deed
   by_row None = replies core response.NotOk
   by_row (Some row) = if is_welcome core.node row then accepts core (Create row) else replies core response.NotOk
@@ -97,16 +97,16 @@ learns core c = if is_command c && finds_room core c then Commits c ∷ [] else 
 
 -- ANY_OK came to a command of an init
 abbrev pub init_agreed : Core → Init → List ℕ → List Deed
-init_agreed core i value = if is_same core i value then Ends (InitSame (end_at core core.node)) ∷ [] else next (slice_get (orders_of i) (i.answered + 1)) where
+init_agreed core i value = if is_same core i value then Ends (InitSame (end_of_node core core.node)) ∷ [] else next (slice_get (orders_of i) (i.answered + 1)) where
   next : Option (List ℕ) → List Deed
   next None =
-      learns core (Set core.node 0 1 (record { items = i.identity })) ++ Ends (InitMade (end_at core core.node) (length i.pipes)) ∷ []
+      learns core (Set core.node 0 1 (record { items = i.identity })) ++ Ends (InitMade (end_of_node core core.node) (length i.pipes)) ∷ []
   next (Some order) = GoesOn (record i { answered = i.answered + 1 }) ∷ Orders order ∷ []
 
 -- a response came to a command of an init
 abbrev pub init_deeds : Core → ℕ → List ℕ → Option Init → List Deed
 init_deeds core code value None = []
-init_deeds core code value (Some i) = if code == 0 then init_agreed core i value else Ends (InitFailed (end_at core core.node) code) ∷ []
+init_deeds core code value (Some i) = if code == 0 then init_agreed core i value else Ends (InitFailed (end_of_node core core.node) code) ∷ []
 
 -- ## Responses
 
@@ -117,7 +117,7 @@ deleted_by core _ = []
 
 -- ANY_OK to a command that creates the pipe that the answer names
 abbrev pub created_by : Core → List ℕ → List Deed
-created_by core value = option_map_or (λ row. learns core (Create row)) (row_in value) []
+created_by core value = option_map_or (λ row. learns core (Create row)) (pipe_named_in value) []
 
 -- what a host keeps of its own command, to which ANY_OK came with this value
 abbrev pub learned : Core → List ℕ → List ℕ → List Deed

@@ -19,7 +19,7 @@ use Rattle.cause_history.specs.Steps.{entries_for}
 use Rattle.node_machine.specs.Parts.{Creation, Notice, Desk, Core, Running, Port, Work, Deed}
 use Rattle.node_machine.specs.Parts.About.{Forgotten}
 use Rattle.node_machine.specs.Parts.Deed.{Commits, Sends, Releases}
-use Rattle.node_machine.specs.Carrying.{side_of, noting, unless_cut, changed_if, all_done, finds_room}
+use Rattle.node_machine.specs.Carrying.{own_side, noting, unless_cut, changed_if, all_done, finds_room}
 use Rattle.node_machine.specs.Controller.{asked_at}
 use Rattle.node_machine.specs.Turns.{passes}
 
@@ -44,7 +44,7 @@ has_come p (Some i) = record p { side = after_input p.side i; ended = is_some (e
 abbrev pub told_at : Core → Port → Option LinkInput → List Entry
 told_at core p None = []
 told_at core p (Some i) =
-    entries_for p.desk.host (told (side_of core) p.session (report p.side i) (whole_acked (after_input p.side i)))
+    entries_for p.desk.host (told (own_side core) p.session (report p.side i) (whole_acked (after_input p.side i)))
 
 -- it comes to all ends
 abbrev pub all_come : NodeInput → Work → Work
@@ -54,15 +54,15 @@ all_come input w =
 -- ## Timeouts
 
 -- a notice that is one tick older
-abbrev pub older : Notice → Notice
-older n = record n { age = n.age + 1 }
+abbrev pub older_notice : Notice → Notice
+older_notice n = record n { age = n.age + 1 }
 
 -- an end whose notice is one tick older
 abbrev pub with_older : Port → Port
 with_older p = record p { desk = record p.desk { notice = by_notice p.desk.notice } } where
   by_notice : Option Notice → Option Notice
   by_notice None = None
-  by_notice (Some n) = Some (older n)
+  by_notice (Some n) = Some (older_notice n)
 
 -- the hundredth tick of an end's notice comes, and its session hasn't ended
 abbrev pub is_late : Port → Bool
@@ -158,8 +158,8 @@ steps input w =
     (record came { core = after_sessions came.core came.ports; ports = map without_notice left })
 
 -- a host sends a message, or its init begins: this is done, and no turn comes of it
-abbrev pub begins : ℕ → List Deed → Work → Work
-begins h deeds w = all_done h deeds w
+abbrev pub begins_with : ℕ → List Deed → Work → Work
+begins_with h deeds w = all_done h deeds w
 
 -- ## Power
 

@@ -5,7 +5,7 @@ use Rattle.trace_model.specs.declared.entry.Entry.TheVariants as entry
 use Rattle.link_machine.specs.Machine.{Message, is_held}
 use Rattle.link_machine.specs.Machine.Turn.{FetchMessage, Hold}
 use Rattle.node_machine.specs.Parts.{Core, Port, Work, Deed}
-use Rattle.node_machine.specs.Carrying.{noting, unless_cut, port_at, with_desk, turn_at, end_at, all_done, needs, lack}
+use Rattle.node_machine.specs.Carrying.{noting, unless_cut, port_at, with_desk, turn_at, end_of_node, all_done, needs, lack}
 use Rattle.node_machine.specs.Controller.{controller_deeds}
 use Rattle.node_machine.specs.HostReplies.{host_deeds}
 
@@ -21,7 +21,7 @@ abbrev pub handles : ℕ → Message → List Deed → Work → Work
 handles h m deeds w =
     all_done h deeds
     (with_desk h (λ d. record d { holds = false })
-    (turn_at h FetchMessage (noting (entry.Turn (end_at w.core h) m.0 m.1 ∷ []) w)))
+    (turn_at h FetchMessage (noting (entry.Turn (end_of_node w.core h) m.0 m.1 ∷ []) w)))
 
 -- a message lacks room: that is noted once, and its end takes no more fragments
 abbrev pub holds_back : ℕ → ℕ × ℕ → Work → Work
@@ -30,7 +30,7 @@ holds_back h short w = by_desk (option_map_or (λ (p : Port). p.desk.holds) (por
   by_desk true = turn_at h (Hold true) w
   by_desk false =
       turn_at h (Hold true)
-      (with_desk h (λ d. record d { holds = true }) (noting (entry.Held (end_at w.core h) short.0 short.1 ∷ []) w))
+      (with_desk h (λ d. record d { holds = true }) (noting (entry.Held (end_of_node w.core h) short.0 short.1 ∷ []) w))
 
 -- no message is held at an end: it takes fragments again
 abbrev pub lets_go : ℕ → Work → Work

@@ -10,7 +10,7 @@ use Rattle.pipe_table.specs.PipeRows.{lowest_free}
 use Rattle.hci_tables.specs.Tables.{HciTables}
 use Rattle.link_machine.specs.Machine.{spare}
 use Rattle.node_machine.specs.Parts.{Desk, Running}
-use Rattle.node_world.specs.World.{NodeWorld, Site, new_world, node_at, link_at, end_c, end_h}
+use Rattle.node_world.specs.World.{NodeWorld, Site, new_world, node_at, link_to, end_c, end_h}
 use Rattle.node_world.specs.Lines.{LineOutcome, line_step}
 use Rattle.node_world.specs.NodeHistories.{entries_in, occurrences_of}
 use Rattle.node_world.proofs.First.{activation_and_first_pipe_lines, parameter_before_opening_lines}
@@ -32,7 +32,7 @@ abbrev hosts_at : NodeWorld → ℕ → List ℕ
 hosts_at w n = if n == 0 then map (λ (s : Site). s.host) w.sites else n ∷ []
 
 abbrev spare_of_machine : NodeWorld → ℕ → ℕ → ℕ
-spare_of_machine w n h = if n == 0 then spare (link_at w.sites h).controller.side else spare (link_at w.sites h).host.side
+spare_of_machine w n h = if n == 0 then spare (link_to w.sites h).controller.side else spare (link_to w.sites h).host.side
 
 -- as the machines keep it
 abbrev kept : NodeWorld → ℕ → Option Running → Option Known

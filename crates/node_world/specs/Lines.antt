@@ -19,15 +19,15 @@ use Rattle.cause_history.specs.Damage.Verdict.{Same, LostFor, Undetected}
 use Rattle.cause_history.specs.Follows.{frames_to, machine_of, as_noted, if_empty, if_out_of_reach, taken_of, first_verdict, other_frame}
 use Rattle.node_machine.specs.Parts.{Running}
 use Rattle.node_machine.specs.Controller.{is_command_message}
-use Rattle.node_world.specs.World.{NodeWorld, Happening, node_at, node_of, link_at, world_step}
+use Rattle.node_world.specs.World.{NodeWorld, Happening, node_at, node_of, link_to, world_step}
 use Rattle.node_world.specs.World.Happening.{Boots, IsCut, Gives, Inits, Takes, Loses, Ticks, Resets, Activates, Arms}
 
 -- ## Refusals
 
 -- the first of two causes that applies
-abbrev pub or_else : Option NoCause → Option NoCause → Option NoCause
-or_else None why = why
-or_else (Some cause) why = Some cause
+abbrev pub first_cause : Option NoCause → Option NoCause → Option NoCause
+first_cause None why = why
+first_cause (Some cause) why = Some cause
 
 -- this cause applies
 abbrev pub if_true : Bool → NoCause → Option NoCause
@@ -42,11 +42,11 @@ abbrev pub if_off : NodeWorld → ℕ → Option NoCause
 if_off w n = if is_running w n then None else Some no.Off
 
 -- the machine of an end, and the frames on their way to it
-abbrev pub machine_at : NodeWorld → End → LinkEnd
-machine_at w e = machine_of (link_at w.sites e.link) e
+abbrev pub machine_in : NodeWorld → End → LinkEnd
+machine_in w e = machine_of (link_to w.sites e.link) e
 
 abbrev pub frames_at : NodeWorld → End → List OnWire
-frames_at w e = frames_to (link_at w.sites e.link) e
+frames_at w e = frames_to (link_to w.sites e.link) e
 
 -- a host has a command on pipe 01 that isn't answered
 abbrev pub has_order : Option Running → Bool
@@ -60,23 +60,23 @@ if_waiting false why = as_noted why
 
 -- a message that a host's end sends is refused
 abbrev pub if_not_sent : NodeWorld → End → Message → Option NoCause
-if_not_sent w e m = if_waiting (m.0 == 1 && is_command_message m.1 && has_order (node_at w (node_of e))) (give_refusal (machine_at w e) m)
+if_not_sent w e m = if_waiting (m.0 == 1 && is_command_message m.1 && has_order (node_at w (node_of e))) (give_refusal (machine_in w e) m)
 
 -- Why a line is refused: the first cause that applies.
 abbrev pub refusal_in : NodeWorld → Line → Option NoCause
-refusal_in w (line.Send e pid message) = or_else (if_off w (node_of e)) (if_not_sent w e (pid, message))
-refusal_in w (line.Deliver e count) = or_else (if_off w (node_of e)) (if_empty (frames_at w e))
-refusal_in w (line.Lose e) = or_else (if_off w (node_of e)) (if_empty (frames_at w e))
-refusal_in w (line.Damage e places) = or_else (if_off w (node_of e)) (if_out_of_reach (frames_at w e) places.items)
+refusal_in w (line.Send e pid message) = first_cause (if_off w (node_of e)) (if_not_sent w e (pid, message))
+refusal_in w (line.Deliver e count) = first_cause (if_off w (node_of e)) (if_empty (frames_at w e))
+refusal_in w (line.Lose e) = first_cause (if_off w (node_of e)) (if_empty (frames_at w e))
+refusal_in w (line.Damage e places) = first_cause (if_off w (node_of e)) (if_out_of_reach (frames_at w e) places.items)
 refusal_in w (line.Tick times) = None
-refusal_in w (line.Reset e window) = or_else (if_off w (node_of e)) (as_noted (reset_refusal (machine_at w e)))
+refusal_in w (line.Reset e window) = first_cause (if_off w (node_of e)) (as_noted (reset_refusal (machine_in w e)))
 refusal_in w (line.Busy e) = None
 refusal_in w (line.Ready e) = None
 refusal_in w (line.Boot node) = if_true (is_running w node) no.Running
 refusal_in w (line.Cut node) = if_off w node
-refusal_in w (line.Activate host sync power) = or_else (if_off w 0) (if_off w host)
+refusal_in w (line.Activate host sync power) = first_cause (if_off w 0) (if_off w host)
 refusal_in w (line.Arm node nth fill) = None
-refusal_in w (line.Init e identity pipes) = or_else (if_off w (node_of e)) (if_not_sent w e (1, 3 ∷ []))
+refusal_in w (line.Init e identity pipes) = first_cause (if_off w (node_of e)) (if_not_sent w e (1, 3 ∷ []))
 refusal_in w (line.Tables node) = if_off w node
 
 -- ## What a line causes

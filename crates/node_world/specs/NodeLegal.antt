@@ -55,12 +55,12 @@ abbrev pub last_in : List Entry → ℕ → Last
 last_in t n = fold (last_after n) NothingYet t
 
 -- A boot finds all commands of a node, or all but the last one, where the power went in that one's writes.
-abbrev pub Finds : List Entry → ℕ → ℕ → Type 0
-Finds front n k = (k ≡ length (commands_in front n)) ⊎ ((suc k ≡ length (commands_in front n)) × (last_in front n ≡ CutBehindCommand))
+abbrev pub FindsCommands : List Entry → ℕ → ℕ → Type 0
+FindsCommands front n k = (k ≡ length (commands_in front n)) ⊎ ((suc k ≡ length (commands_in front n)) × (last_in front n ≡ CutBehindCommand))
 
 -- each boot finds the commands so
 abbrev pub AreFound : List Entry → Type 0
-AreFound t = (front back : List Entry) (n k : ℕ) → t ≡ front ++ (entry.Booted n k ∷ back) → Finds front n k
+AreFound t = (front back : List Entry) (n k : ℕ) → t ≡ front ++ (entry.Booted n k ∷ back) → FindsCommands front n k
 
 -- ANY_OK was sent for the last command of a node
 abbrev pub AreCounted : List Entry → Type 0
@@ -105,12 +105,12 @@ turn_entry_at e (entry.Turn f pid message) = if same_end f e then Some (pid, mes
 turn_entry_at e _ = None
 
 -- the node of an end
-abbrev pub number_at : End → ℕ
-number_at e = if e.at_host then e.link else 0
+abbrev pub node_number : End → ℕ
+node_number e = if e.at_host then e.link else 0
 
 -- Messages have their turns in the order in which they came: since its node booted, those of an end that had one are a front of
 -- those that it got.
 abbrev pub AreInTurn : List Entry → Type 0
 AreInTurn t =
     (front back : List Entry) (e : End) → t ≡ front ++ back
-    → IsFrontOf (filter_map (turn_entry_at e) (since_boot (number_at e) [] front)) (filter_map (got_entry e) (since_boot (number_at e) [] front))
+    → IsFrontOf (filter_map (turn_entry_at e) (since_boot (node_number e) [] front)) (filter_map (got_entry e) (since_boot (node_number e) [] front))

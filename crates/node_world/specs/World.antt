@@ -30,7 +30,7 @@ use Rattle.node_machine.specs.Parts.{Desk, Running, Port, Work, Deed}
 use Rattle.node_machine.specs.Parts.Deed.{Sends, Orders, GoesOn}
 use Rattle.node_machine.specs.Controller.{is_command_message}
 use Rattle.node_machine.specs.Carrying.{changed_if, port_at}
-use Rattle.node_machine.specs.Node.{steps, begins, found, boot_writes, with_error}
+use Rattle.node_machine.specs.Node.{steps, begins_with, found, boot_writes, with_error}
 use Rattle.node_machine.specs.Node.NodeInput.{AtEnd, TimePasses}
 
 -- a host, which runs or doesn't, with its memory and its link to the controller
@@ -109,8 +109,8 @@ abbrev pub node_of : End → ℕ
 node_of e = if e.at_host then e.link else 0
 
 -- the link of an end; where there is none, one without anything on it
-abbrev pub link_at : List Site → ℕ → Link
-link_at sites h = option_map_or (λ (s : Site). s.link) (site_at sites h) (new_link Bare Bare)
+abbrev pub link_to : List Site → ℕ → Link
+link_to sites h = option_map_or (λ (s : Site). s.link) (site_at sites h) (new_link Bare Bare)
 
 -- ## A step of a node
 
@@ -146,12 +146,12 @@ half_in l NextFrame = first l.to_controller where
 half_in l _ = l.controller
 
 -- what is noted first
-abbrev pub taken_first : Side → Link → Comes → List Noted
-taken_first who l NextFrame = first l.to_controller where
+abbrev pub arrival : Side → Link → Comes → List Noted
+arrival who l NextFrame = first l.to_controller where
   first : List OnWire → List Noted
   first [] = []
   first (x ∷ xs) = Took who x.frame ∷ []
-taken_first who l _ = []
+arrival who l _ = []
 
 -- the wires as the frames of the step go out: activation empties them
 abbrev pub wires_for : Link → Comes → Link
@@ -188,8 +188,8 @@ comes_to h comes k = if k == h then comes else NoInput
 -- the controller in this step, in which something comes to its end of the link with the host h
 abbrev pub controller_work : NodeWorld → Running → ℕ → Comes → (Work → Work) → Work
 controller_work w r h comes f =
-    let l : Link = link_at w.sites h in
-    f (work_of r w.memory.plan (λ k. half_in (link_at w.sites k) (comes_to h comes k)) (entries_for h (taken_first Controller l comes)))
+    let l : Link = link_to w.sites h in
+    f (work_of r w.memory.plan (λ k. half_in (link_to w.sites k) (comes_to h comes k)) (entries_for h (arrival Controller l comes)))
 
 -- a link after such a step
 abbrev pub link_after_controller : ℕ → Comes → Work → Site → Site
@@ -219,7 +219,7 @@ controller_does w h comes f = by_node w.controller where
 -- a host in a step, in which something comes to its end
 abbrev pub host_work : Site → Running → Comes → (Work → Work) → Work
 host_work s r comes f =
-    f (work_of r s.memory.plan (λ k. half_in (exchanged s.link) comes) (entries_for s.host (taken_first Host (exchanged s.link) comes)))
+    f (work_of r s.memory.plan (λ k. half_in (exchanged s.link) comes) (entries_for s.host (arrival Host (exchanged s.link) comes)))
 
 -- the host after such a step
 abbrev pub after_host : Comes → Work → Site → Site
@@ -320,7 +320,7 @@ counts _ h node = node
 abbrev pub frame_lost : NodeWorld → End → Loss → NodeWorld × List Entry
 frame_lost w e why = by_side e.at_host where
   l : Link
-  l = link_at w.sites e.link
+  l = link_to w.sites e.link
 
   lost : Site → Site
   lost s = record s { link = happens s.link (at e (Lose why)) }
@@ -368,7 +368,7 @@ controller_ticks w = by_node w.controller where
 
   by_node : Option Running → NodeWorld × List Entry
   by_node None = (record w { sites = map (λ (s : Site). record s { link = ticks_here s.link [] GoesOut }) w.sites }, [])
-  by_node (Some r) = after_work (steps TimePasses (work_of r w.memory.plan (λ h. (link_at w.sites h).controller) []))
+  by_node (Some r) = after_work (steps TimePasses (work_of r w.memory.plan (λ h. (link_to w.sites h).controller) []))
 
 -- the tick of a host
 abbrev pub host_ticks : Site → Site × List Entry
@@ -415,7 +415,7 @@ beginning identity pipes = GoesOn (record { identity = identity; pipes = pipes; 
 
 -- something comes to an end, where its node runs
 abbrev pub comes_at : NodeWorld → End → Comes → NodeWorld × List Entry
-comes_at w e comes = by_input (input_of (seen_from e (link_at w.sites e.link)) comes) e.at_host where
+comes_at w e comes = by_input (input_of (seen_from e (link_to w.sites e.link)) comes) e.at_host where
   by_input : Option LinkInput → Bool → NodeWorld × List Entry
   by_input None at_host = (w, [])
   by_input (Some i) true = host_does w e.link comes (steps (AtEnd e.link i))
@@ -439,8 +439,8 @@ activates w h sync power =
 abbrev pub world_step : NodeWorld → Happening → NodeWorld × List Entry
 world_step w (Boots n) = boots w n
 world_step w (IsCut n) = (loses_power_at n w, entry.Cut n ∷ [])
-world_step w (Gives e m) = host_does w e.link NoInput (begins e.link (sending e.link m))
-world_step w (Inits e identity pipes) = host_does w e.link NoInput (begins e.link (beginning identity pipes))
+world_step w (Gives e m) = host_does w e.link NoInput (begins_with e.link (sending e.link m))
+world_step w (Inits e identity pipes) = host_does w e.link NoInput (begins_with e.link (beginning identity pipes))
 world_step w (Takes e) = comes_at w e NextFrame
 world_step w (Loses e why) = frame_lost w e why
 world_step w Ticks = world_ticks w
