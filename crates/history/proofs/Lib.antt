@@ -1,1 +1,3 @@
-pub mod Grow
+pub mod Examples
+pub mod MoreExamples
+pub mod Leading

@@ -1,14 +1,11 @@
 -- What can be read off the entries of a history: filters and folds, and nothing else.
-use Rattle.std.specs.Prelude.{ℕ, ◌+◌, ◌-◌, ◌/◌, ◌==◌, ◌&&◌, Bool, true, false, not, if◌then◌else◌, max, List, [], ◌∷◌, ◌++◌, length, drop, Option, Some, None, sum_by}
+use Rattle.std.specs.Prelude.{ℕ, ◌==◌, ◌&&◌, Bool, true, false, not, if◌then◌else◌, max, List, [], ◌∷◌, ◌++◌, drop, Option, Some, None}
 use Rattle.std.specs.List.{filter_map, fold}
 use Rattle.trace_model.specs.declared.entry.Entry.{Entry}
-use Rattle.trace_model.specs.declared.entry.Entry.TheVariants.{Up, Sent, Got, Acked, Emit, Took, Lost}
+use Rattle.trace_model.specs.declared.entry.Entry.TheVariants as entry
 use Rattle.trace_model.specs.declared.line.End.{End}
 use Rattle.trace_model.specs.Ends.{other_end}
-
--- a message with its pipe
-abbrev pub Message : Type 0
-Message = ℕ × List ℕ
+use Rattle.link_machine.specs.Machine.{Message}
 
 abbrev pub same_side : Bool → Bool → Bool
 same_side true b = b
@@ -18,68 +15,103 @@ same_side false b = not b
 abbrev pub same_end : End → End → Bool
 same_end e f = (e.link == f.link) && same_side e.at_host f.at_host
 
--- the message that an entry says was accepted for sending at this end in this session
-abbrev pub sent_by : End → ℕ → Entry → Option Message
-sent_by e n (Sent f k pid message) = if same_end f e && (k == n) then Some (pid, message) else None
-sent_by e n _ = None
+-- what an entry says of a link at one of its ends
+pub data Saying : Type 0 where
+  -- a session with this number begins there, or the present one ends
+  Begins : ℕ → Saying
+  Ends : Saying
+  -- a message was sent, or got, in the session with this number, or so many that were sent in it are acknowledged
+  Sends : ℕ → Message → Saying
+  Gets : ℕ → Message → Saying
+  Counts : ℕ → ℕ → Saying
+  -- a frame of these bytes is put on the wire by the end, taken by it, or lost on its way to it
+  Puts : List ℕ → Saying
+  Takes : List ℕ → Saying
+  Loses : List ℕ → Saying
+
+-- What an entry says of a link, and at which end; each entry is named, so that none is passed over unseen.
+abbrev pub said : Entry → Option (End × Saying)
+said (entry.Up e n) = Some (e, Begins n)
+said (entry.Down e cause) = Some (e, Ends)
+said (entry.Sent e n pid message) = Some (e, Sends n (pid, message))
+said (entry.Got e n pid message) = Some (e, Gets n (pid, message))
+said (entry.Acked e n count) = Some (e, Counts n count)
+said (entry.Emit e lpdu) = Some (e, Puts lpdu)
+said (entry.Took e lpdu) = Some (e, Takes lpdu)
+said (entry.Lost e lpdu cause) = Some (e, Loses lpdu)
+said (entry.Head header) = None
+said (entry.Echo line) = None
+said (entry.Active e) = None
+said (entry.GaveUp e tries) = None
+said (entry.Turn e pid message) = None
+said (entry.Held e need spare) = None
+said (entry.Ask host message) = None
+said (entry.Dropped e pid) = None
+said (entry.Command node command) = None
+said (entry.AnyOk node count) = None
+said (entry.InitSame e) = None
+said (entry.InitMade e count) = None
+said (entry.InitFailed e code) = None
+said (entry.Cut node) = None
+said (entry.Booted node count) = None
+said (entry.Tables node tables) = None
+said (entry.No cause) = None
+
+-- what is said of an end, if it is said of this one
+abbrev pub at_end : End → Option (End × Saying) → Option Saying
+at_end e None = None
+at_end e (Some (f, saying)) = if same_end f e then Some saying else None
+
+-- what an entry says of an end
+abbrev pub said_of : End → Entry → Option Saying
+said_of e entry = at_end e (said entry)
+
+-- the message that was sent in this session
+abbrev pub sent_by : ℕ → Option Saying → Option Message
+sent_by n (Some (Sends k m)) = if k == n then Some m else None
+sent_by n _ = None
 
 -- the messages that an end sent in a session
 abbrev pub sent_in : List Entry → End → ℕ → List Message
-sent_in t e n = filter_map (sent_by e n) t
+sent_in t e n = filter_map (λ entry. sent_by n (said_of e entry)) t
 
--- the message that an entry says was delivered to this end in this session
-abbrev pub got_by : End → ℕ → Entry → Option Message
-got_by e n (Got f k pid message) = if same_end f e && (k == n) then Some (pid, message) else None
-got_by e n _ = None
+-- the message that was got in this session
+abbrev pub got_by : ℕ → Option Saying → Option Message
+got_by n (Some (Gets k m)) = if k == n then Some m else None
+got_by n _ = None
 
 -- the messages that an end got in a session
 abbrev pub got_in : List Entry → End → ℕ → List Message
-got_in t e n = filter_map (got_by e n) t
+got_in t e n = filter_map (λ entry. got_by n (said_of e entry)) t
 
--- how many messages of the session are acknowledged at this end after an entry, where so many were before
-abbrev pub acked_after : End → ℕ → ℕ → Entry → ℕ
-acked_after e n before (Acked f k count) = if same_end f e && (k == n) then max before count else before
-acked_after e n before _ = before
+-- how many messages of the session are acknowledged after this was said, where so many were before
+abbrev pub acked_after : ℕ → ℕ → Option Saying → ℕ
+acked_after n before (Some (Counts k count)) = if k == n then max before count else before
+acked_after n before _ = before
 
 -- how many messages that an end sent in a session have been acknowledged: the greatest number noted
 abbrev pub acked_in : List Entry → End → ℕ → ℕ
-acked_in t e n = fold (acked_after e n) 0 t
+acked_in t e n = fold (λ before entry. acked_after n before (said_of e entry)) 0 t
 
--- The wire to an end after an entry: what the other end emits stands behind what stands there, and what the end takes or
--- what is lost on its way is the first frame.
-abbrev pub wire_after : End → List (List ℕ) → Entry → List (List ℕ)
-wire_after e wire (Emit f lpdu) = if same_end f (other_end e) then wire ++ lpdu ∷ [] else wire
-wire_after e wire (Took f lpdu) = if same_end f e then drop 1 wire else wire
-wire_after e wire (Lost f lpdu cause) = if same_end f e then drop 1 wire else wire
-wire_after e wire _ = wire
-
--- the frames that are on their way to an end, first the one that it takes next
-abbrev pub wire_to : List Entry → End → List (List ℕ)
-wire_to t e = fold (wire_after e) [] t
-
--- the session of an end after an entry
-abbrev pub session_after : End → Option ℕ → Entry → Option ℕ
-session_after e session (Up f n) = if same_end f e then Some n else session
-session_after e session _ = session
+-- the session of an end after this was said of it
+abbrev pub session_after : Option ℕ → Option Saying → Option ℕ
+session_after session (Some (Begins n)) = Some n
+session_after session (Some Ends) = None
+session_after session _ = session
 
 -- the number of the session that an end has, if it is up
 abbrev pub session_of : List Entry → End → Option ℕ
-session_of t e = fold (session_after e) None t
+session_of t e = fold (λ session entry. session_after session (said_of e entry)) None t
 
--- the frames that were lost on their way to an end since its session began, after an entry
-abbrev pub losses_after : End → List (List ℕ) → Entry → List (List ℕ)
-losses_after e losses (Up f n) = if same_end f e then [] else losses
-losses_after e losses (Lost f lpdu cause) = if same_end f e then losses ++ lpdu ∷ [] else losses
-losses_after e losses _ = losses
+-- The wire to an end after an entry, which says one thing of the end and another of the other end: what the other end puts
+-- there stands behind what stands there, and what the end takes or what is lost on its way is the first frame.
+abbrev pub wire_after : List (List ℕ) → Option Saying → Option Saying → List (List ℕ)
+wire_after wire _ (Some (Puts lpdu)) = wire ++ lpdu ∷ []
+wire_after wire (Some (Takes lpdu)) _ = drop 1 wire
+wire_after wire (Some (Loses lpdu)) _ = drop 1 wire
+wire_after wire _ _ = wire
 
--- the frames that were lost on their way to an end since its session began
-abbrev pub losses_to : List Entry → End → List (List ℕ)
-losses_to t e = fold (losses_after e) [] t
-
--- the blocks of memory that a message of this length takes
-abbrev pub blocks_of : ℕ → ℕ
-blocks_of len = (len + 31) / 32
-
--- The blocks that an end has to spare for sending in its session: of 128 those that no unacknowledged message takes.
-abbrev pub spare_in : List Entry → End → ℕ → ℕ
-spare_in t e n = 128 - sum_by (λ m. blocks_of (length m.1)) (drop (acked_in t e n) (sent_in t e n))
+-- The frames that are on their way to an end of a link whose nodes lose no power and which isn't activated anew, first the one
+-- that it takes next.
+abbrev pub wire_to : List Entry → End → List (List ℕ)
+wire_to t e = fold (λ wire entry. wire_after wire (said_of e entry) (said_of (other_end e) entry)) [] t

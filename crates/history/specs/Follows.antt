@@ -1,177 +1,189 @@
 -- What each line of a schedule causes, and when a history follows a schedule.
-use Rattle.std.specs.Prelude.{◌≡◌, ℕ, nat_lt, Bool, true, false, if◌then◌else◌, List, [], ◌∷◌, ◌++◌, length, take, drop, map, Option, Some, None, unwrap_or}
-use Rattle.std.specs.List.{fold, flat_map}
+use Rattle.std.specs.Prelude.{◌≡◌, ℕ, nat_lt, min, if◌then◌else◌, true, false, List, [], ◌∷◌, ◌++◌, length, replicate, slice_index, Option, Some, None, unwrap_or}
+use Rattle.swp_lpdu.specs.Controls.{bytes_of as lpdu_of}
+use Rattle.swp_frame.specs.Stuffing.{frame_of}
 use Rattle.trace_model.specs.declared.entry.Entry.{Entry}
-use Rattle.trace_model.specs.declared.entry.Entry.TheVariants.{Up, Sent, Got, Acked, Emit, Took, Lost}
-use Rattle.trace_model.specs.declared.entry.LostCause.TheVariants.{Full as Pushed_out}
+use Rattle.trace_model.specs.declared.entry.Entry.TheVariants.{Up}
 use Rattle.trace_model.specs.declared.entry.NoCause.{NoCause}
-use Rattle.trace_model.specs.declared.entry.NoCause.TheVariants.{NotUp, TooLong, Full, Empty}
+use Rattle.trace_model.specs.declared.entry.NoCause.TheVariants as no
 use Rattle.trace_model.specs.declared.line.End.{End}
 use Rattle.trace_model.specs.declared.line.Header.{Header}
 use Rattle.trace_model.specs.declared.line.Line.{Line}
-use Rattle.trace_model.specs.declared.line.Line.TheVariants.{Send, Deliver}
-use Rattle.trace_model.specs.Ends.{other_end}
-use Rattle.shdlc_core.specs.Machine.{EndState, all_fetched}
-use Rattle.history.specs.Histories.{Event, Outcome, Step, History, Refused, Caused, events_of, entries_of, all_entries}
-use Rattle.history.specs.Filters.{same_end, sent_in, wire_to, session_of, blocks_of, spare_in}
-use Rattle.history.specs.LinkMachine.{bare_end, given, taken_lpdu, lpdus_of, whole_among, messages_got}
+use Rattle.trace_model.specs.declared.line.Line.TheVariants as line
+use Rattle.session_laws.specs.Sessions.{OnWire}
+use Rattle.link_machine.specs.Machine.{LinkEnd, Refused as EndRefused, give_refusal, reset_refusal}
+use Rattle.link_machine.specs.Machine.Refused.{NotUp, TooLong, Full, Inactive, IsWaiting}
+use Rattle.message_link.specs.Links.{Link, exchanged}
+use Rattle.message_link.specs.Links.Loss.{OnDemand}
+use Rattle.link_entries.specs.Entries.End.{Controller, Host}
+use Rattle.history.specs.Histories.{Cause, Outcome, Step, History, events_of, causes_of, all_events}
+use Rattle.history.specs.Histories.Cause.{Given, Taken, WasLost, Ticked, WasReset, Readied}
+use Rattle.history.specs.Histories.Outcome.{Refused, Caused}
+use Rattle.history.specs.Damage.{Verdict, verdict_on}
+use Rattle.history.specs.Damage.Verdict.{Same, LostFor, Undetected}
+use Rattle.history.specs.Steps.{end_of, bare_link, link_after_all, events_at}
 
--- ## The machine of an end, read off a history
+-- the link as an end sees it, its own side as the controller's
+abbrev pub seen_from : End → Link → Link
+seen_from e l = if e.at_host then exchanged l else l
 
--- an end's machine after an entry: `sent` gives it a message, `took` a frame; then it sends all that it may
-abbrev pub machine_after : End → EndState → Entry → EndState
-machine_after e s (Sent f n pid message) = if same_end f e then all_fetched (given s pid message) else s
-machine_after e s (Took f lpdu) = if same_end f e then all_fetched (taken_lpdu s lpdu) else s
-machine_after e s _ = s
+-- the machine of an end
+abbrev pub machine_of : Link → End → LinkEnd
+machine_of l e = (seen_from e l).controller.side
 
--- an end's machine after these entries
-abbrev pub machine_at : List Entry → End → EndState
-machine_at t e = fold (machine_after e) bare_end t
+-- the frames that are on their way to it
+abbrev pub frames_to : Link → End → List OnWire
+frames_to l e = (seen_from e l).to_controller
 
--- the number of the session that an end has; 0 stands where it has none
-abbrev pub number_at : List Entry → End → ℕ
-number_at t e = unwrap_or (session_of t e) 0
+-- ## Refusals
 
--- ## Events
+-- why an end of a bare link refuses, as it is noted; such an end is never inactive
+abbrev pub noted_as : EndRefused → NoCause
+noted_as NotUp = no.NotUp
+noted_as (TooLong len) = no.TooLong
+noted_as (Full need spare) = no.Full need spare
+noted_as Inactive = no.Inactive
+noted_as IsWaiting = no.Waiting
 
--- the most frames that a wire holds
-abbrev pub wire_limit : ℕ
-wire_limit = 64
-
--- the frames that are pushed out of a wire on which one frame too many stands: the oldest
-abbrev pub pushed_out : List (List ℕ) → List (List ℕ)
-pushed_out wire = if nat_lt wire_limit (length wire) then take 1 wire else []
-
--- the frames that stay on it
-abbrev pub kept_on : List (List ℕ) → List (List ℕ)
-kept_on wire = if nat_lt wire_limit (length wire) then drop 1 wire else wire
-
--- The entries of LPDUs that an end puts on the wire to the other end, one after another.
-abbrev pub puts : End → List (List ℕ) → List (List ℕ) → Event
-puts e wire [] = []
-puts e wire (lpdu ∷ lpdus) =
-    Emit e lpdu ∷ (map (λ lost. Lost (other_end e) lost Pushed_out) (pushed_out (wire ++ lpdu ∷ []))
-    ++ puts e (kept_on (wire ++ lpdu ∷ [])) lpdus)
-
--- the entries of the LPDUs that a machine sends
-abbrev pub emits : List Entry → End → EndState → Event
-emits t e s = puts e (wire_to t (other_end e)) (lpdus_of s)
-
--- `acked` is noted where the number of messages whose packets are all acknowledged has grown
-abbrev pub acked_note : List Entry → End → EndState → Event
-acked_note t e s =
-    let n : ℕ = number_at t e in
-    let before : ℕ = whole_among (sent_in t e n) (machine_at t e).session.acked in
-    let now : ℕ = whole_among (sent_in t e n) s.session.acked in
-    if nat_lt before now then Acked e n now ∷ [] else []
-
--- `got` is noted for each good message that is whole now and was not before
-abbrev pub got_notes : List Entry → End → EndState → Event
-got_notes t e s =
-    map (λ m. Got e (number_at t e) m.0 m.1) (drop (length (messages_got (machine_at t e))) (messages_got s))
-
--- an end is given a message to send
-abbrev pub sent_event : List Entry → End → ℕ → List ℕ → Event
-sent_event t e pid message =
-    Sent e (number_at t e) pid message ∷ emits t e (given (machine_at t e) pid message)
-
--- an end takes a frame
-abbrev pub took_event : List Entry → End → List ℕ → Event
-took_event t e lpdu =
-    let s : EndState = taken_lpdu (machine_at t e) lpdu in
-    Took e lpdu ∷ (acked_note t e s ++ (got_notes t e s ++ emits t e s))
-
--- an end takes these frames, one after another
-abbrev pub took_events : List Entry → End → List (List ℕ) → List Event
-took_events t e [] = []
-took_events t e (lpdu ∷ lpdus) = took_event t e lpdu ∷ took_events (t ++ took_event t e lpdu) e lpdus
-
--- ## Lines
-
--- The most bytes of a message that a link carries today, its header byte among them: the data of one packet.
-abbrev pub longest_message : ℕ
-longest_message = 28
-
--- of two tests the first that refuses
-abbrev pub or_else : Option NoCause → Option NoCause → Option NoCause
-or_else None b = b
-or_else (Some cause) b = Some cause
-
-abbrev pub refused_if : Bool → NoCause → Option NoCause
-refused_if true cause = Some cause
-refused_if false cause = None
-
--- an end that isn't up sends nothing
-abbrev pub not_up : Option ℕ → Option NoCause
-not_up None = Some NotUp
-not_up (Some n) = None
+-- where an end refuses, the line is refused for it
+abbrev pub as_noted : Option EndRefused → Option NoCause
+as_noted None = None
+as_noted (Some why) = Some (noted_as why)
 
 -- no frame stands on a wire
-abbrev pub is_empty : List (List ℕ) → Bool
-is_empty [] = true
-is_empty (lpdu ∷ lpdus) = false
+abbrev pub if_empty : List OnWire → Option NoCause
+if_empty [] = Some no.Empty
+if_empty (x ∷ xs) = None
 
--- the program plays the lines `send` and `deliver`
-abbrev pub is_played : Line → Bool
-is_played (Send e pid message) = true
-is_played (Deliver e count) = true
-is_played _ = false
+-- one of these places is past a frame of so many bits
+abbrev pub if_beyond : ℕ → List ℕ → Option NoCause
+if_beyond bits [] = None
+if_beyond bits (place ∷ places) = if nat_lt place bits then if_beyond bits places else Some (no.Beyond bits)
 
--- Why a line is refused: the first cause that applies. A line that isn't played stands in no history.
-abbrev pub refusal : List Entry → Line → Option NoCause
-refusal t (Send e pid message) =
-    or_else (not_up (session_of t e))
-    (or_else (refused_if (nat_lt longest_message (length message)) TooLong)
-    (refused_if (nat_lt (spare_in t e (number_at t e)) (blocks_of (length message)))
-    (Full (blocks_of (length message)) (spare_in t e (number_at t e)))))
-refusal t (Deliver e count) = refused_if (is_empty (wire_to t e)) Empty
-refusal t _ = None
+-- no frame stands on a wire, or one of these places is past the first
+abbrev pub if_out_of_reach : List OnWire → List ℕ → Option NoCause
+if_out_of_reach [] places = Some no.Empty
+if_out_of_reach (x ∷ xs) places = if_beyond (length (frame_of (lpdu_of x.frame))) places
 
--- the frames that a `deliver` line takes of those on the wire when it begins: the first ones, or all
-abbrev pub first_of : Option ℕ → List (List ℕ) → List (List ℕ)
-first_of None wire = wire
-first_of (Some n) wire = take n wire
+-- Why a line is refused on a link: the first cause that applies. The lines of a world with nodes aren't in a bare one.
+abbrev pub refusal : Link → Line → Option NoCause
+refusal l (line.Send e pid message) = as_noted (give_refusal (machine_of l e) (pid, message))
+refusal l (line.Deliver e count) = if_empty (frames_to l e)
+refusal l (line.Lose e) = if_empty (frames_to l e)
+refusal l (line.Damage e places) = if_out_of_reach (frames_to l e) places.items
+refusal l (line.Tick times) = None
+refusal l (line.Reset e window) = as_noted (reset_refusal (machine_of l e))
+refusal l (line.Busy e) = None
+refusal l (line.Ready e) = None
+refusal l (line.Boot node) = None
+refusal l (line.Cut node) = None
+refusal l (line.Activate host sync power) = None
+refusal l (line.Arm node nth fill) = None
+refusal l (line.Init e identity pipes) = None
+refusal l (line.Tables node) = None
 
--- The events of a line that isn't refused. One that isn't played stands in no history.
-abbrev pub caused_by : List Entry → Line → List Event
-caused_by t (Send e pid message) = sent_event t e pid message ∷ []
-caused_by t (Deliver e count) = took_events t e (first_of count (wire_to t e))
-caused_by t _ = []
+-- ## What a line causes
 
--- what becomes of a line
-abbrev pub outcome_of : List Entry → Line → Outcome
-outcome_of t line = decide (refusal t line) where
+-- how many frames a line takes of those that stand on a wire as it begins: so many, or all
+abbrev pub taken_of : Option ℕ → List OnWire → ℕ
+taken_of None wire = length wire
+taken_of (Some n) wire = min n (length wire)
+
+-- what is read of the first frame of a wire where it was damaged at these places
+abbrev pub first_verdict : List OnWire → List ℕ → Option Verdict
+first_verdict [] places = None
+first_verdict (x ∷ xs) places = Some (verdict_on (lpdu_of x.frame) places)
+
+-- a damaged frame is taken as it was, or lost
+abbrev pub damage_causes : End → Option Verdict → List Cause
+damage_causes e None = []
+damage_causes e (Some Same) = Taken e ∷ []
+damage_causes e (Some (LostFor why)) = WasLost e why ∷ []
+damage_causes e (Some (Undetected read)) = []
+
+-- the causes of a line that isn't refused, one after another
+abbrev pub causes_in : Link → Line → List Cause
+causes_in l (line.Send e pid message) = Given e (pid, message) ∷ []
+causes_in l (line.Deliver e count) = replicate (taken_of count (frames_to l e)) (Taken e)
+causes_in l (line.Lose e) = WasLost e OnDemand ∷ []
+causes_in l (line.Damage e places) = damage_causes e (first_verdict (frames_to l e) places.items)
+causes_in l (line.Tick times) = replicate (unwrap_or times 1) Ticked
+causes_in l (line.Reset e window) = WasReset e window ∷ []
+causes_in l (line.Busy e) = Readied e false ∷ []
+causes_in l (line.Ready e) = Readied e true ∷ []
+causes_in l (line.Boot node) = []
+causes_in l (line.Cut node) = []
+causes_in l (line.Activate host sync power) = []
+causes_in l (line.Arm node nth fill) = []
+causes_in l (line.Init e identity pipes) = []
+causes_in l (line.Tables node) = []
+
+-- what becomes of a line on the link with this host
+abbrev pub outcome_of : ℕ → Link → Line → Outcome
+outcome_of h l line = decide (refusal l line) where
   decide : Option NoCause → Outcome
   decide (Some cause) = Refused cause
-  decide None = Caused (caused_by t line)
+  decide None = Caused (events_at h l (causes_in l line))
+
+-- the frame that was read, where it is another one
+abbrev pub other_frame : Option Verdict → Option (List ℕ)
+other_frame None = None
+other_frame (Some Same) = None
+other_frame (Some (LostFor why)) = None
+other_frame (Some (Undetected read)) = Some read
+
+-- The frame that is read in place of the first one on its way to an end, where a line damages that one so that its CRC doesn't
+-- show it. Such a line has no outcome.
+abbrev pub misread : Link → Line → Option (List ℕ)
+misread l (line.Damage e places) = unless_refused (refusal l (line.Damage e places)) where
+  unless_refused : Option NoCause → Option (List ℕ)
+  unless_refused (Some cause) = None
+  unless_refused None = other_frame (first_verdict (frames_to l e) places.items)
+misread l _ = None
 
 -- ## Schedules
 
--- both ends of each link of a bare world start up in session 0
-abbrev pub opening_of : Header → Event
-opening_of header =
-    flat_map (λ host. Up (record { link = host; at_host = false }) 0 ∷ Up (record { link = host; at_host = true }) 0 ∷ []) header.hosts.items
+-- both ends of the link of a bare world start up in session 0
+abbrev pub opening_of : ℕ → List Entry
+opening_of h = Up (end_of h Controller) 0 ∷ Up (end_of h Host) 0 ∷ []
 
--- the steps are those of the lines, each over the entries before it
-abbrev pub StepsFollow : List Entry → List Line → List Step → Type 0
-StepsFollow t [] [] = Unit {0}
-StepsFollow t [] (step ∷ steps) = ⊥
-StepsFollow t (line ∷ lines) [] = ⊥
-StepsFollow t (line ∷ lines) (step ∷ steps) =
-    (step.line ≡ line) × (step.outcome ≡ outcome_of t line)
-    × StepsFollow (t ++ entries_of (events_of step.outcome)) lines steps
+-- the host of the link of a bare world
+abbrev pub host_of : Header → ℕ
+host_of header = slice_index header.hosts.items 0
 
--- A history follows a schedule: each line in order, refused exactly where `refusal` says so, and else followed by exactly
--- the events that it causes.
+-- the link after a line: the causes of its events, one after another
+abbrev pub link_after_line : Link → Outcome → Link
+link_after_line l outcome = link_after_all l (causes_of (events_of outcome))
+
+-- the link after these lines, one after another
+abbrev pub link_after_lines : ℕ → Link → List Line → Link
+link_after_lines h l [] = l
+link_after_lines h l (line ∷ lines) = link_after_lines h (link_after_line l (outcome_of h l line)) lines
+
+-- the steps are those of the lines, each on the link that those before it left
+abbrev pub StepsFollow : ℕ → Link → List Line → List Step → Type 0
+StepsFollow h l [] [] = Unit {0}
+StepsFollow h l [] (step ∷ steps) = ⊥
+StepsFollow h l (line ∷ lines) [] = ⊥
+StepsFollow h l (line ∷ lines) (step ∷ steps) =
+    (step.line ≡ line) × (step.outcome ≡ outcome_of h l line) × (misread l line ≡ None)
+    × StepsFollow h (link_after_line l step.outcome) lines steps
+
+-- A history of a bare world follows a schedule: each line in order, refused exactly where `refusal` says so, and else followed by
+-- exactly the events that it causes. No line damages a frame so that another one is read.
 pub record Follows (header : Header) (lines : List Line) (t : History) : Type 0 where
   pub header_is : t.header ≡ header
-  pub opening_is : t.opening ≡ opening_of header
-  pub steps_follow : StepsFollow t.opening lines t.steps
+  pub opening_is : t.opening ≡ opening_of (host_of header)
+  pub steps_follow : StepsFollow (host_of header) bare_link lines t.steps
+
+-- the link as a history leaves it: a fold over the causes of its events
+abbrev pub link_at : History → Link
+link_at t = link_after_all bare_link (causes_of (all_events t))
 
 -- the history of a header alone
 abbrev pub opened : Header → History
-opened header = record { header = header; opening = opening_of header; steps = [] }
+opened header = record { header = header; opening = opening_of (host_of header); steps = [] }
 
 -- a history with one line more
 abbrev pub with_step : History → Line → History
-with_step t line = record t { steps = t.steps ++ record { line = line; outcome = outcome_of (all_entries t) line } ∷ [] }
+with_step t line = record t { steps = t.steps ++ record { line = line; outcome = outcome_of (host_of t.header) (link_at t) line } ∷ [] }

@@ -1,5 +1,6 @@
 pub mod Histories
 pub mod Filters
-pub mod LinkMachine
+pub mod Damage
+pub mod Steps
 pub mod Follows
 pub mod Legal

@@ -1,157 +1,213 @@
--- What sending adds to a wire and to the entries.
-use Rattle.std.proofs.Common.{◌≡◌, ℕ, zero, suc, ◌<◌, Bool, true, false, cond, ltb, List, [], ◌∷◌, ◌++◌, length, take, drop, map, refl, sym, ap, ◌∙◌, append_assoc, arith, subst}
-use Rattle.std.specs.Prelude.{Option, Some, None, Ok, nat_lt, if◌then◌else◌}
-use Rattle.std.specs.List.{All, AllByRecursion}
-use Rattle.std.specs.Option.{option_to_list}
-use Rattle.swp_base.specs.DataUnits.{IsInfo}
-use Rattle.swp_base.specs.declared.control_frames.Control.TheVariants.{I, S, Rset, Ua, Act, Clt}
-use Rattle.swp_base.specs.declared.control_frames.Kind.TheVariants.{Rr, Rej, Rnr, Srej}
+-- An end sends its frames one by one.
+use Rattle.std.proofs.Common.{◌≡◌, ℕ, zero, suc, ◌≤◌, List, [], ◌∷◌, ◌++◌, length, refl, ap, sym, subst, ◌∙◌, append_assoc, arith}
 use Rattle.std.proofs.lemmas.List.{append-nil}
-use Rattle.std.proofs.lemmas.Grind.{common_steps}
+use Rattle.std.specs.Prelude.{Ok, Option, Some, None, IfSome, option_map}
 use Rattle.swp_base.specs.declared.control_frames.Control.{Control}
-use Rattle.swp_lpdu.specs.Controls.{control_of, HasNumbers, bytes_of as lpdu_of}
+use Rattle.swp_lpdu.specs.Controls.{bytes_of, control_of}
 use Rattle.trace_model.specs.declared.entry.Entry.{Entry}
-use Rattle.trace_model.specs.declared.entry.Entry.TheVariants.{Emit, Lost}
-use Rattle.trace_model.specs.declared.entry.LostCause.TheVariants.{Full as Pushed_out}
 use Rattle.trace_model.specs.declared.line.End.{End}
-use Rattle.trace_model.specs.Ends.{other_end}
-use Rattle.shdlc_core.specs.Machine.{EndState, Fragment, frame_due, fetched, frames_of, after_frames}
-use Rattle.shdlc_core.specs.Kept.{Kept}
-use Rattle.history.specs.Follows.{puts, pushed_out, kept_on, wire_limit}
-use Rattle.history_laws.specs.Calm.{IsCalmFrame, put_on}
-use Rattle.world.specs.Ends.{EndStandsFor, CanSend, IsLast, IsLastIn}
-use Rattle.world.specs.Wires.{IsFrame, Sends}
-use Rattle.world.proofs.Machines.{all_append, all_drop, fetched-none, fetched-keeps, frame-calm}
+use Rattle.shdlc_core.specs.declared.answers.Due.{Due}
+use Rattle.shdlc_core.specs.Machine.{EndState, Fragment, fetched, frame_due, fragment_due, frames_of, after_frames}
+use Rattle.link_machine.specs.Machine.{LinkEnd, among, next_frame, frames_out, sent_all, after_input}
+use Rattle.link_machine.specs.Machine.LinkInput.{Fetch}
+use Rattle.message_link.specs.Links.{Link, put, put_all, becomes, with_controller}
+use Rattle.link_entries.specs.Entries.{Entry as Noted, put_entries, puts_entries}
+use Rattle.history.specs.Steps.{entries_for}
+use Rattle.world.specs.declared.node.Node.{Node}
+use Rattle.world.specs.declared.side.Side.{Side}
+use Rattle.world.specs.Noting.{side_of}
+use Rattle.world.specs.Nodes.{StandsFor as NodeStandsFor}
+use Rattle.world.specs.Sides.{LinkStandsFor, IsMidway, AreNoted}
+use Rattle.world.proofs.Noting.{more_noted}
+use Rattle.world.proofs.Bare.{is_bare, plain_fetched}
 
--- the frame that is pushed out is the first one
-pub pushed_first : (wire rest : List (List ℕ)) (lost : List ℕ) → wire ≡ lost ∷ rest → 64 < length wire → pushed_out wire ≡ lost ∷ []
-pushed_first wire rest lost is more =
-    let full : ltb 64 (length wire) ≡ true = grind (arith, common_steps) in
-    ap (λ b. cond b (take 1 wire) []) full ∙ ap (take 1) is
+-- ## The frames of an end without ACT frames
 
--- frames stay frames
-frames_kept : (wire : List (List ℕ)) → AllByRecursion IsFrame wire → AllByRecursion IsFrame (kept_on wire)
-frames_kept wire h = go (nat_lt wire_limit (length wire))
+plain_frames : (e : LinkEnd) → e.acts ≡ [] → frames_out e ≡ frames_of 12 e.shdlc
+plain_frames e p = ap (λ acts. among 0 acts (frames_of 12 e.shdlc)) p
+
+plain_rest : (e : LinkEnd) → e.acts ≡ [] → record e { shdlc = after_frames 12 e.shdlc } ≡ sent_all e
+plain_rest e p = ap (λ acts. record e { shdlc = after_frames 12 e.shdlc; acts = acts }) p
+
+plain_next : (e : LinkEnd) → e.acts ≡ [] → next_frame e ≡ frame_due e.shdlc
+plain_next e p = rw p refl
+
+-- one is sent
+first_frame : (s : EndState) (c : Control) (n : ℕ) → frame_due s ≡ Some c → frames_of (suc n) s ≡ c ∷ frames_of n (fetched s)
+first_frame s c n q = rw q refl
+
+fewer_due : (s : EndState) (n : ℕ) → length s.due ≤ suc n → length (fetched s).due ≤ n
+fewer_due s n i = go s.due (fragment_due s.session) refl refl
   where
-    go : (b : Bool) → AllByRecursion IsFrame (if b then drop 1 wire else wire)
-    go true = all_drop IsFrame 1 wire h
-    go false = h
+    go : (ds : List Due) (o : Option Fragment) → s.due ≡ ds → fragment_due s.session ≡ o → length (fetched s).due ≤ n
+    go [] None p q = rw (p, q) (let l = ap (λ (xs : List Due). length xs) p in omega (arith, l))
+    go [] (Some info) p q = rw (p, q) (let l = ap (λ (xs : List Due). length xs) p in omega (arith, l))
+    go (d ∷ ds) o p q = rw p (let l = ap (λ (xs : List Due). length xs) p in omega (arith, l, i))
 
--- the first of the frames that are put on a wire
-puts_first : (e : End) (wire : List (List ℕ)) (lpdu : List ℕ) (lpdus : List (List ℕ)) → puts e wire (lpdu ∷ lpdus) ≡ puts e wire (lpdu ∷ []) ++ puts e (kept_on (wire ++ lpdu ∷ [])) lpdus
-puts_first e wire lpdu lpdus =
-    let now = wire ++ lpdu ∷ [] in
-    let lost = map (λ l. Lost (other_end e) l Pushed_out) (pushed_out now) in
-    ap (λ es. Emit e lpdu ∷ (es ++ puts e (kept_on now) lpdus)) (sym (append-nil lost))
+-- nothing is to be sent
+none_due : (s : EndState) → frame_due s ≡ None → s.due ≡ []
+none_due s q = go s.due refl
+  where
+    go : (ds : List Due) → s.due ≡ ds → s.due ≡ []
+    go [] p = p
+    go (d ∷ ds) p = absurd (let z = rw p at q in cc)
 
--- The state of an end that is about to send at most n frames more, so that it will have sent, from the start, all of them.
-pub record IsSending (n : ℕ) (m : EndState) (e : End) (k : Kept) (waiting : List Fragment) (wire wire_now : List (List ℕ)) (entries entries_now : List Entry) (left : ℕ) (now : EndState) : Type 0 where
-  pub stands : EndStandsFor k waiting now
-  pub can : CanSend now
-  pub frames : AllByRecursion IsFrame wire_now
-  pub after_is : after_frames left now ≡ after_frames n m
-  pub wire_is : put_on wire_now (map lpdu_of (frames_of left now)) ≡ put_on wire (map lpdu_of (frames_of n m))
-  pub entries_are : entries_now ++ puts e wire_now (map lpdu_of (frames_of left now)) ≡ entries ++ puts e wire (map lpdu_of (frames_of n m))
+none_fetched : (s : EndState) → frame_due s ≡ None → fetched s ≡ s
+none_fetched s q = go (fragment_due s.session) refl
+  where
+    empty : s.due ≡ []
+    empty = none_due s q
 
-pub sending_starts : (n : ℕ) (m : EndState) (e : End) (k : Kept) (waiting : List Fragment) (wire : List (List ℕ)) (entries : List Entry) → EndStandsFor k waiting m → CanSend m → AllByRecursion IsFrame wire
-    → IsSending n m e k waiting wire wire entries entries n m
-sending_starts n m e k waiting wire entries stands can frames =
-    record { stands = stands; can = can; frames = frames; after_is = refl; wire_is = refl; entries_are = refl }
+    go : (o : Option Fragment) → fragment_due s.session ≡ o → fetched s ≡ s
+    go None p = rw (empty, p) refl
+    go (Some info) p = absurd (let e = empty in let z = rw (e, p) at q in cc)
 
--- nothing is left
-pub sending_ends : (n : ℕ) (m : EndState) (e : End) (k : Kept) (waiting : List Fragment) (wire wire_now : List (List ℕ)) (entries entries_now : List Entry) (now : EndState)
-    → IsSending n m e k waiting wire wire_now entries entries_now 0 now → Sends n m e k waiting wire wire_now entries entries_now
-sending_ends n m e k waiting wire wire_now entries entries_now now h =
-    let P : EndState → Type 0 = λ x. EndStandsFor k waiting x in
+none_frames : (n : ℕ) (s : EndState) → frame_due s ≡ None → frames_of n s ≡ []
+none_frames zero s q = refl
+none_frames (suc n) s q = rw q refl
+
+none_after : (n : ℕ) (s : EndState) → frame_due s ≡ None → after_frames n s ≡ s
+none_after zero s q = refl
+none_after (suc n) s q = ap (after_frames n) (none_fetched s q) ∙ none_after n s q
+
+-- ## One by one
+
+-- The end has become m on the link l. Frames were sent since: now the link is so and the end e, these were noted, and at most so
+-- many are left.
+pub record Sending (at : End) (near far : Side) (resets : ℕ) (l : Link) (m : LinkEnd) (before now : List Entry) (left : ℕ) : Type 0 where
+  pub link : Link
+  pub e : LinkEnd
+  pub notes : List Noted
+  pub midway : IsMidway near far resets link e
+  pub no_acts : e.acts ≡ []
+  pub few : length e.shdlc.due ≤ left
+  pub link_is : put_all link (frames_of left e.shdlc) ≡ put_all l (frames_out m)
+  pub end_is : record e { shdlc = after_frames left e.shdlc } ≡ sent_all m
+  pub notes_are : puts_entries (side_of at) l (frames_out m) ≡ notes ++ puts_entries (side_of at) link (frames_of left e.shdlc)
+  pub noted : AreNoted at before now notes
+
+pub sending_starts : (at : End) (near far : Side) (resets : ℕ) (l : Link) (m : LinkEnd) (entries : List Entry) → IsMidway near far resets l m
+    → Sending at near far resets l m entries entries 12
+sending_starts at near far resets l m entries h =
+    let none : m.acts ≡ [] = (is_bare m h.here.node.has.reached).1 in
     record {
-      stands = subst P h.after_is h.stands;
-      wire_is = h.wire_is;
-      frames = h.frames;
-      entries_are = sym (append-nil entries_now) ∙ h.entries_are;
+      link = l;
+      e = m;
+      notes = [];
+      midway = h;
+      no_acts = none;
+      few = h.few;
+      link_is = ap (put_all l) (sym (plain_frames m none));
+      end_is = plain_rest m none;
+      notes_are = ap (puts_entries (side_of at) l) (plain_frames m none);
+      noted = sym (append-nil entries);
     }
 
--- no frame is due
-frames_none : (n : ℕ) (m : EndState) → frame_due m ≡ None → frames_of n m ≡ []
-frames_none zero m none = refl
-frames_none (suc n) m none = ap (λ o. first o (frames_of n (fetched m))) none
+-- what putting one frame does
+abbrev pub Puts : End → Side → Side → ℕ → Side → Side → ℕ → List ℕ → List Entry → List Entry → Type 0
+Puts at near far resets near2 far2 resets2 lpdu mid now =
+    (l : Link) (m : LinkEnd) (c : Control) → IsMidway near far resets l m → lpdu ≡ bytes_of c → control_of lpdu ≡ Ok c
+    → IsMidway near2 far2 resets2 (put l c) m × AreNoted at mid now (put_entries (side_of at) l c)
+
+abbrev or_these : List ℕ → Option (List ℕ) → List ℕ
+or_these a None = a
+or_these a (Some b) = b
+
+pub sending_goes_on : (at : End) (near far near2 far2 : Side) (new : Node) (resets resets2 : ℕ) (l : Link) (m : LinkEnd)
+    (before mid now : List Entry) (left : ℕ) (lpdu : List ℕ) (result : Option (List ℕ)) (s : Sending at near far resets l m before mid (suc left))
+    → NodeStandsFor new (after_input s.e Fetch) → result ≡ option_map bytes_of (next_frame s.e)
+    → IfSome (next_frame s.e) (λ c. control_of (bytes_of c) ≡ Ok c) → result ≡ Some lpdu
+    → Puts at (record near { node = new }) far resets near2 far2 resets2 lpdu mid now → Sending at near2 far2 resets2 l m before now left
+sending_goes_on at near far near2 far2 new resets resets2 l m before mid now left lpdu result s node answer read is puts = go (next_frame s.e) refl
   where
-    first : Option Control → List Control → List Control
-    first None later = []
-    first (Some c) later = c ∷ later
+    go : (o : Option Control) → next_frame s.e ≡ o → Sending at near2 far2 resets2 l m before now left
+    go None q = absurd (let z : None ≡ Some lpdu = sym (ap (option_map bytes_of) q) ∙ (sym answer ∙ is) in cc)
+    go (Some c) q =
+        let bytes : lpdu ≡ bytes_of c =
+        ap (or_these lpdu) (sym is ∙ (answer ∙ ap (option_map bytes_of) q)) in
+        let R : Option Control → Type 0 = λ o. IfSome o (λ c. control_of (bytes_of c) ≡ Ok c) in
+        let read_is : control_of (bytes_of c) ≡ Ok c = subst R q read in
+        let due : frame_due s.e.shdlc ≡ Some c = sym (plain_next s.e s.no_acts) ∙ q in
+        let frames : frames_of (suc left) s.e.shdlc ≡ c ∷ frames_of left (fetched s.e.shdlc) = first_frame s.e.shdlc c left due in
+        let f : LinkEnd = record s.e { shdlc = fetched s.e.shdlc } in
+        let N : LinkEnd → Type 0 = λ z. NodeStandsFor new z in
+        let few : length (fetched s.e.shdlc).due ≤ 12 = (let i = fewer_due s.e.shdlc 11 s.midway.few in omega (arith, i)) in
+        let halfway : IsMidway (record near { node = new }) far resets s.link f =
+        record {
+          here = record {
+            node = subst N (plain_fetched s.e s.no_acts) node;
+            put_is = s.midway.here.put_is;
+            took_is = s.midway.here.took_is;
+            wire_is = s.midway.here.wire_is;
+          };
+          few = few;
+          there = s.midway.there;
+          count = s.midway.count;
+        } in
+        let r = puts s.link f c halfway bytes (ap control_of bytes ∙ read_is) in
+        record {
+          link = put s.link c;
+          e = f;
+          notes = s.notes ++ put_entries (side_of at) s.link c;
+          midway = r.0;
+          no_acts = s.no_acts;
+          few = fewer_due s.e.shdlc left s.few;
+          link_is = sym (ap (put_all s.link) frames) ∙ s.link_is;
+          end_is = s.end_is;
+          notes_are = s.notes_are ∙ (ap (λ cs. s.notes ++ puts_entries (side_of at) s.link cs) frames
+              ∙ sym (append_assoc s.notes (put_entries (side_of at) s.link c) (puts_entries (side_of at) (put s.link c) (frames_of left (fetched s.e.shdlc)))));
+          noted = more_noted at before mid now s.notes (put_entries (side_of at) s.link c) s.noted r.1;
+        }
 
-after_none : (n : ℕ) (m : EndState) → frame_due m ≡ None → after_frames n m ≡ m
-after_none zero m none = refl
-after_none (suc n) m none = ap (after_frames n) (fetched-none m none) ∙ after_none n m none
-
-pub sending_stops : (n : ℕ) (m : EndState) (e : End) (k new : Kept) (waiting new_waiting : List Fragment) (wire wire_now : List (List ℕ)) (entries entries_now : List Entry) (left : ℕ) (now : EndState)
-    → IsSending n m e k waiting wire wire_now entries entries_now left now → frame_due now ≡ None → EndStandsFor new new_waiting (fetched now)
-    → Sends n m e new new_waiting wire wire_now entries entries_now
-sending_stops n m e k new waiting new_waiting wire wire_now entries entries_now left now h none stands =
-    let P : EndState → Type 0 = λ x. EndStandsFor new new_waiting x in
-    let is_all : fetched now ≡ after_frames n m = fetched-none now none ∙ (sym (after_none left now none) ∙ h.after_is) in
-    let no_more : map lpdu_of (frames_of left now) ≡ [] = ap (λ cs. map lpdu_of cs) (frames_none left now none) in
+-- all were sent
+sent : (at : End) (near far : Side) (new : Node) (resets : ℕ) (l : Link) (m : LinkEnd) (before now : List Entry) (left : ℕ)
+    (s : Sending at near far resets l m before now left) → NodeStandsFor new s.e → s.e.shdlc.due ≡ [] → frames_of left s.e.shdlc ≡ []
+    → after_frames left s.e.shdlc ≡ s.e.shdlc
+    → LinkStandsFor (record near { node = new }) far resets (becomes l m) × AreNoted at before now (puts_entries (side_of at) l (frames_out m))
+sent at near far new resets l m before now left s node idle none after =
+    let link : s.link ≡ put_all l (frames_out m) = sym (ap (put_all s.link) none) ∙ s.link_is in
+    let last : s.e ≡ sent_all m = sym (ap (λ x. record s.e { shdlc = x }) after) ∙ s.end_is in
+    let stands : LinkStandsFor (record near { node = new }) far resets (with_controller s.link s.e) =
     record {
-      stands = subst P is_all stands;
-      wire_is = sym (ap (put_on wire_now) no_more) ∙ h.wire_is;
-      frames = h.frames;
-      entries_are = sym (ap (λ ls. entries_now ++ puts e wire_now ls) no_more ∙ append-nil entries_now) ∙ h.entries_are;
-    }
+      here = record {
+        has = record { node = node; put_is = s.midway.here.put_is; took_is = s.midway.here.took_is; wire_is = s.midway.here.wire_is };
+        idle = idle;
+      };
+      there = s.midway.there;
+      count = s.midway.count;
+    } in
+    let P : Link → Type 0 = λ k. LinkStandsFor (record near { node = new }) far resets k in
+    let notes : puts_entries (side_of at) l (frames_out m) ≡ s.notes =
+    s.notes_are ∙ (ap (λ cs. s.notes ++ puts_entries (side_of at) s.link cs) none ∙ append-nil s.notes) in (
+      subst P (ap (λ k. with_controller k s.e) link ∙ ap (λ e. with_controller (put_all l (frames_out m)) e) last) stands,
+      s.noted ∙ ap (λ ns. before ++ entries_for at.link ns) (sym notes),
+    )
 
--- one frame more is sent
-frames_first : (n : ℕ) (m : EndState) (c : Control) → frame_due m ≡ Some c → frames_of (suc n) m ≡ c ∷ frames_of n (fetched m)
-frames_first n m c due = ap (λ o. first o (frames_of n (fetched m))) due
+-- nothing is to be sent any more
+pub sending_stops : (at : End) (near far : Side) (new : Node) (resets : ℕ) (l : Link) (m : LinkEnd) (before now : List Entry) (left : ℕ)
+    (result : Option (List ℕ)) (s : Sending at near far resets l m before now left) → NodeStandsFor new (after_input s.e Fetch)
+    → result ≡ option_map bytes_of (next_frame s.e) → result ≡ None
+    → LinkStandsFor (record near { node = new }) far resets (becomes l m) × AreNoted at before now (puts_entries (side_of at) l (frames_out m))
+sending_stops at near far new resets l m before now left result s node answer is = go (next_frame s.e) refl
   where
-    first : Option Control → List Control → List Control
-    first None later = []
-    first (Some d) later = d ∷ later
+    go : (o : Option Control) → next_frame s.e ≡ o
+        → LinkStandsFor (record near { node = new }) far resets (becomes l m) × AreNoted at before now (puts_entries (side_of at) l (frames_out m))
+    go (Some c) q = absurd (let z : Some (bytes_of c) ≡ None = sym (ap (option_map bytes_of) q) ∙ (sym answer ∙ is) in cc)
+    go None q =
+        let none : frame_due s.e.shdlc ≡ None = sym (plain_next s.e s.no_acts) ∙ q in
+        let N : LinkEnd → Type 0 = λ z. NodeStandsFor new z in
+        let same : after_input s.e Fetch ≡ s.e =
+        plain_fetched s.e s.no_acts ∙ ap (λ x. record s.e { shdlc = x }) (none_fetched s.e.shdlc none) in
+        sent at near far new resets l m before now left s (subst N same node) (none_due s.e.shdlc none) (none_frames left s.e.shdlc none)
+        (none_after left s.e.shdlc none)
 
-pub can_go_on : (m : EndState) → CanSend m → CanSend (fetched m)
-can_go_on m can =
-    let kept = fetched-keeps m in
-    let P : List Fragment → Type 0 = λ l. All IsInfo l in
-    let Q : List Fragment → Type 0 = λ l. AllByRecursion IsLast l in
-    record { due = kept.due_is can.due; fits = subst P (sym kept.out_is) can.fits; last = subst Q (sym kept.out_is) can.last }
-
-pub frame_is : (m : EndState) (c : Control) → CanSend m → frame_due m ≡ Some c → IsCalmFrame c × IsLastIn c
-frame_is m c can due =
-    let P : Option Control → Type 0 = λ o. AllByRecursion (λ d. IsCalmFrame d × IsLastIn d) (option_to_list o) in
-    (subst P due (frame-calm m m.due can.due can.fits can.last)).0
-
-pub has_numbers : (c : Control) → IsCalmFrame c → HasNumbers c
-has_numbers (I ns nr info) calm = (calm.0, calm.1)
-has_numbers (S Rr nr) calm = calm
-has_numbers (S Rej nr) calm = calm
-has_numbers (S Rnr nr) calm = absurd calm
-has_numbers (S Srej nr) calm = absurd calm
-has_numbers (Rset window caps) calm = absurd calm
-has_numbers Ua calm = absurd calm
-has_numbers (Act act again) calm = absurd calm
-has_numbers Clt calm = absurd calm
-
-pub sending_goes_on : (n : ℕ) (m : EndState) (e : End) (k new : Kept) (waiting new_waiting : List Fragment) (wire wire_now wire_next : List (List ℕ)) (entries entries_now entries_next : List Entry) (left : ℕ) (now : EndState) (c : Control) (lpdu : List ℕ)
-    → IsSending n m e k waiting wire wire_now entries entries_now (suc left) now → frame_due now ≡ Some c → lpdu ≡ lpdu_of c → control_of lpdu ≡ Ok c → EndStandsFor new new_waiting (fetched now)
-    → wire_next ≡ kept_on (wire_now ++ lpdu ∷ []) → entries_next ≡ entries_now ++ puts e wire_now (lpdu ∷ [])
-    → IsSending n m e new new_waiting wire wire_next entries entries_next left (fetched now)
-sending_goes_on n m e k new waiting new_waiting wire wire_now wire_next entries entries_now entries_next left now c lpdu h due is reads stands wire_is entries_are =
-    let frame = frame_is now c h.can due in
-    let rest = map lpdu_of (frames_of left (fetched now)) in
-    let first : map lpdu_of (frames_of (suc left) now) ≡ lpdu ∷ rest = ap (λ cs. map lpdu_of cs) (frames_first left now c due) ∙ ap (λ l. l ∷ rest) (sym is) in
-    let P : List (List ℕ) → Type 0 = λ l. AllByRecursion IsFrame l in
-    record {
-      stands = stands;
-      can = can_go_on now h.can;
-      frames = subst P (sym wire_is) (frames_kept (wire_now ++ lpdu ∷ []) (all_append IsFrame wire_now (lpdu ∷ []) h.frames ((c, reads, frame.0, frame.1), tt)));
-      after_is = h.after_is;
-      wire_is = ap (λ w. put_on w rest) wire_is ∙ (sym (ap (put_on wire_now) first) ∙ h.wire_is);
-      entries_are =
-          ap (λ es. es ++ puts e wire_next rest) entries_are
-          ∙ (ap (λ w. (entries_now ++ puts e wire_now (lpdu ∷ [])) ++ puts e w rest) wire_is
-          ∙ (append_assoc entries_now (puts e wire_now (lpdu ∷ [])) (puts e (kept_on (wire_now ++ lpdu ∷ [])) rest)
-          ∙ (ap (λ es. entries_now ++ es) (sym (puts_first e wire_now lpdu rest))
-          ∙ (sym (ap (λ ls. entries_now ++ puts e wire_now ls) first) ∙ h.entries_are))));
-    }
-
--- what is no frame is none
-pub no_frame : (o : Option Control) → ((c : Control) → o ≡ Some c → ⊥) → o ≡ None
-no_frame None h = refl
-no_frame (Some c) h = absurd (h c refl)
+-- the most frames were sent
+pub sending_ends : (at : End) (near far : Side) (resets : ℕ) (l : Link) (m : LinkEnd) (before now : List Entry)
+    → Sending at near far resets l m before now 0
+    → LinkStandsFor near far resets (becomes l m) × AreNoted at before now (puts_entries (side_of at) l (frames_out m))
+sending_ends at near far resets l m before now s =
+    sent at near far near.node resets l m before now 0 s s.midway.here.node (empty s.e.shdlc.due s.few) refl refl
+  where
+    empty : (ds : List Due) → length ds ≤ 0 → ds ≡ []
+    empty [] i = refl
+    empty (d ∷ ds) i = absurd (omega (arith, i))

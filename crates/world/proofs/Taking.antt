@@ -1,91 +1,205 @@
--- What is kept and noted after an end took a frame.
-use Rattle.std.proofs.Common.{◌≡◌, ℕ, ◌+◌, ◌<◌, ◌≤◌, ◌^◌, List, [], ◌++◌, length, drop, sym, ap, ◌∙◌, arith, subst, length-append}
-use Rattle.std.specs.Prelude.{Result, Ok, Err, Option, Some, None}
-use Rattle.std.specs.List.{AllByRecursion}
-use Rattle.std.specs.Option.{option_to_list}
-use Rattle.swp_base.specs.declared.control_frames.Control.{Control}
-use Rattle.swp_lpdu.specs.declared.LpduFault.{LpduFault}
-use Rattle.swp_lpdu.specs.Controls.{control_of}
-use Rattle.hcp_packet.specs.Packets.{good_messages_of}
-use Rattle.shdlc_core.specs.declared.answers.Taken.{Taken}
-use Rattle.shdlc_core.specs.Machine.{EndState, Fragment, taken, take_answer}
-use Rattle.shdlc_core.specs.Kept.{Kept}
+-- An end takes the first frame on the wire to it.
+use Rattle.std.proofs.Common.{◌≡◌, ℕ, ◌≤◌, Bool, true, false, List, [], ◌∷◌, ◌++◌, length, drop, max, refl, ap, sym, subst, ◌∙◌, arith}
+use Rattle.std.proofs.lemmas.List.{append-nil}
+use Rattle.std.specs.Prelude.{Ok, Option, Some, None, slice_get, is_some}
+use Rattle.circular_buffer.specs.Buffer.{Buffer, buffer}
+use Rattle.swp_lpdu.specs.Controls.{bytes_of, control_of}
 use Rattle.trace_model.specs.declared.entry.Entry.{Entry}
+use Rattle.trace_model.specs.declared.entry.Entry.TheVariants as entry
 use Rattle.trace_model.specs.declared.line.End.{End}
-use Rattle.history.specs.LinkMachine.{taken_lpdu, messages_got}
-use Rattle.history_laws.specs.Calm.{IsCalm, IsCalmFrame}
-use Rattle.history_laws.proofs.Calm.{TakesOn, taken_calm}
+use Rattle.session_laws.specs.Sessions.{OnWire, is_rset, took_with}
+use Rattle.link_machine.specs.Machine.{LinkEnd, Turn, report, whole_acked, after_input, ended_by, frames_out, turn}
+use Rattle.link_machine.specs.Machine.LinkInput.{Take}
+use Rattle.link_machine.specs.Machine.Turn.{FetchMessage}
+use Rattle.message_link.specs.Links.{Link, happens_here, becomes, with_ended}
+use Rattle.message_link.specs.Links.Ending.{GoesOut}
+use Rattle.message_link.specs.Links.Comes.{NextFrame}
+use Rattle.message_link.specs.Links.EndEvent.{Step}
+use Rattle.link_entries.specs.Entries.{Entry as Noted, told, told_of, puts_entries, left_after, taken_entries, here_entries}
+use Rattle.link_entries.specs.Entries.Entry.{Took}
+use Rattle.history.specs.Steps.{entries_for}
+use Rattle.world.specs.declared.wire.Flying.{Flying}
+use Rattle.world.specs.declared.node.Node.{Node}
+use Rattle.world.specs.declared.node.Place.{Place}
 use Rattle.world.specs.declared.side.Side.{Side}
-use Rattle.world.specs.Ends.{EndStandsFor, IsLast, IsLastIn}
-use Rattle.world.specs.Wires.{IsFrame}
-use Rattle.world.specs.Takes.{acked_entries, got_entries, CanTake, HasTaken}
-use Rattle.world.proofs.Machines.{taken-offered, accepted-last, all_append}
-use Rattle.world.proofs.Joined.{new-messages}
+use Rattle.world.specs.Noting.{side_of}
+use Rattle.world.specs.Nodes.{StandsFor as NodeStandsFor}
+use Rattle.world.specs.Wires.{WireStandsFor, IsMade, kept_of}
+use Rattle.world.specs.Sides.{LinkStandsFor, IsMidway, AreNoted, HasHappened}
+use Rattle.world.proofs.Noting.{end_is, more_noted}
+use Rattle.world.proofs.Wires.{first_is, taken_off}
 
--- a frame on a wire says what it is read as
-pub frame_says : (lpdu : List ℕ) (c : Control) → IsFrame lpdu → control_of lpdu ≡ Ok c → IsCalmFrame c × IsLastIn c
-frame_says lpdu c frame says =
-    let same : frame.0 ≡ c = cc (frame.1, says) in
-    let P : Control → Type 0 = λ d. IsCalmFrame d × IsLastIn d in
-    subst P same (frame.2, frame.3)
+-- ## The first frame
 
-pub taken_is : (m : EndState) (lpdu : List ℕ) (c : Control) → control_of lpdu ≡ Ok c → taken_lpdu m lpdu ≡ taken m c
-taken_is m lpdu c says = ap read says
+-- x is the first frame on the wire to the near end; without it the wire is so
+pub record TakesFirst (l : Link) (wire : Buffer Flying) (flying : Flying) : Type 0 where
+  pub x : OnWire
+  pub xs : List OnWire
+  pub wire_is : l.to_controller ≡ x ∷ xs
+  pub first : flying ≡ kept_of x
+  pub made : IsMade x
+  pub left : WireStandsFor wire xs
+
+pub takes_first : (near far : Side) (resets : ℕ) (l : Link) (wire : Buffer Flying) (flying : Flying) (result : Option Flying)
+    → LinkStandsFor near far resets l → result ≡ slice_get near.wire.items 0 → result ≡ Some flying
+    → wire ≡ buffer (drop 1 near.wire.items) near.wire.capacity → TakesFirst l wire flying
+takes_first near far resets l wire flying result h value is made = go l.to_controller refl
   where
-    read : Result Control LpduFault → EndState
-    read (Ok d) = taken m d
-    read (Err _) = m
+    P : List OnWire → Type 0
+    P w = WireStandsFor near.wire w
 
--- no more is acknowledged than was offered
-pub acked_within : (k : Kept) (waiting : List Fragment) (m : EndState) → EndStandsFor k waiting m → m.session.acked ≤ length m.session.out
-acked_within k waiting m h =
-    let total : length m.session.out ≡ length h.offered + length waiting = ap length h.offers.out ∙ length-append h.offered waiting in
-    omega (arith, total, h.offers.kept.sender.offered)
+    go : (w : List OnWire) → l.to_controller ≡ w → TakesFirst l wire flying
+    go [] q =
+        let kept = subst P q h.here.has.wire_is in
+        absurd (let z : None ≡ Some flying = sym (ap (λ fs. slice_get fs 0) kept.frames) ∙ (sym value ∙ is) in cc)
+    go (x ∷ xs) q =
+        let kept = subst P q h.here.has.wire_is in
+        record {
+          x = x;
+          xs = xs;
+          wire_is = q;
+          first = first_is near.wire flying x xs result kept value is;
+          made = kept.made.0;
+          left = taken_off near.wire wire x xs kept made;
+        }
 
-pub acked_fits : (old : Side) (m : EndState) (c : Control) (k : Kept) (waiting : List Fragment) (answer : Taken) → CanTake old m → IsCalmFrame c → EndStandsFor k waiting (taken m c) → answer ≡ take_answer m c → old.acked + answer.acked < 2 ^ 32
-acked_fits old m c k waiting answer can frame stands is =
-    let takes = taken-offered m [] c can.calm frame in
-    let on : TakesOn m (taken m c) = taken_calm m c can.calm frame in
-    let within = acked_within k waiting (taken m c) stands in
-    let same : length (taken m c).session.out ≡ length m.session.out = ap length on.out_is in
-    let count : answer.acked ≡ (take_answer m c).acked = ap (λ a. a.acked) is in
-    omega (arith, takes.acked, within, same, count, can.first, can.out)
+-- there is none
+pub takes_none : (near far : Side) (resets : ℕ) (l : Link) (turns : List Turn) (at : End) (wire : Buffer Flying) (result : Option Flying)
+    (entries : List Entry) → LinkStandsFor near far resets l → result ≡ slice_get near.wire.items 0 → result ≡ None
+    → wire ≡ buffer (drop 1 near.wire.items) near.wire.capacity
+    → HasHappened (record near { wire = wire }) far resets l (Step NextFrame turns GoesOut) at entries entries
+takes_none near far resets l turns at wire result entries h value is made = go l.to_controller refl
+  where
+    P : List OnWire → Type 0
+    P w = WireStandsFor near.wire w
 
-few_accepted : (o : Option Fragment) → length (option_to_list o) ≤ 1
-few_accepted None = omega arith
-few_accepted (Some x) = omega arith
+    Q : List OnWire → Type 0
+    Q w = WireStandsFor wire w
 
-pub has_taken : (old new : Side) (e : End) (m : EndState) (lpdu : List ℕ) (c : Control) (answer : Taken) (entries entries_now : List Entry)
-    → CanTake old m → IsFrame lpdu → control_of lpdu ≡ Ok c → answer ≡ take_answer m c
-    → EndStandsFor new.«end».shdlc new.«end».waiting.items (taken m c)
-    → new.wire ≡ old.wire → new.sent ≡ old.sent → new.acked ≡ old.acked + answer.acked
-    → entries_now ≡ entries ++ (acked_entries e old.acked (old.acked + answer.acked) ++ got_entries e (good_messages_of (option_to_list answer.accepted)))
-    → HasTaken old new e m lpdu entries entries_now
-has_taken old new e m lpdu c answer entries entries_now can is_frame says is stands wire sent acked entries_are =
-    let frame = frame_says lpdu c is_frame says in
-    let takes = taken-offered m [] c can.calm frame.0 in
-    let on : TakesOn m (taken m c) = taken_calm m c can.calm frame.0 in
-    let s = taken_is m lpdu c says in
-    let accepted = (take_answer m c).accepted in
-    let last = accepted-last m c can.calm frame.0 frame.1 in
-    let P : EndState → Type 0 = λ x. EndStandsFor new.«end».shdlc new.«end».waiting.items x in
-    let Q : EndState → Type 0 = λ x. IsCalm x 1 in
-    let R : List Fragment → Type 0 = λ l. AllByRecursion IsLast l in
-    let acc : (taken_lpdu m lpdu).session.acc ≡ m.session.acc ++ option_to_list accepted = ap (λ x. x.session.acc) s ∙ takes.accepted in
-    let same_accepted : answer.accepted ≡ accepted = ap (λ a. a.accepted) is in
-    let got : drop (length (messages_got m)) (messages_got (taken_lpdu m lpdu)) ≡ good_messages_of (option_to_list answer.accepted) =
-    ap (λ l. drop (length (messages_got m)) (good_messages_of l)) acc
-    ∙ (new-messages m.session.acc (option_to_list accepted) can.last_acc last (few_accepted accepted)
-    ∙ ap (λ o. good_messages_of (option_to_list o)) (sym same_accepted)) in
+    go : (w : List OnWire) → l.to_controller ≡ w → HasHappened (record near { wire = wire }) far resets l (Step NextFrame turns GoesOut) at entries entries
+    go (x ∷ xs) q =
+        let kept = subst P q h.here.has.wire_is in
+        absurd (let z : Some (kept_of x) ≡ None = sym (ap (λ fs. slice_get fs 0) kept.frames) ∙ (sym value ∙ is) in cc)
+    go [] q =
+        let kept = subst P q h.here.has.wire_is in
+        let empty : WireStandsFor wire [] =
+        record {
+          frames = ap (λ (b : Buffer Flying). b.items) made ∙ ap (drop 1) kept.frames;
+          capacity = ap (λ (b : Buffer Flying). b.capacity) made ∙ kept.capacity;
+          few = omega arith;
+          made = tt;
+        } in
+        let R : Link → Type 0 = λ k. LinkStandsFor (record near { wire = wire }) far resets k in
+        let same : happens_here l (Step NextFrame turns GoesOut) ≡ l = rw q refl in
+        let notes : here_entries (side_of at) l (Step NextFrame turns GoesOut) ≡ [] = rw q refl in
+        record {
+          stands = subst R (sym same)
+              (record {
+                here = record {
+                  has = record { node = h.here.has.node; put_is = h.here.has.put_is; took_is = h.here.has.took_is; wire_is = subst Q (sym q) empty };
+                  idle = h.here.idle;
+                };
+                there = h.there;
+                count = h.count;
+              });
+          noted = sym (ap (λ ns. entries ++ entries_for at.link ns) notes ∙ append-nil entries);
+        }
+
+-- ## It is taken
+
+-- the greatest number taken
+pub took_is : (near far : Side) (resets : ℕ) (l : Link) (flying : Flying) (x : OnWire) → LinkStandsFor near far resets l → flying ≡ kept_of x
+    → IsMade x → max near.took flying.number ≡ took_with l.controller.took x
+took_is near far resets l flying x h first made =
+    ap (λ n. max n flying.number) h.here.has.took_is ∙ ap (λ (f : Flying). max l.controller.took f.number) first ∙ by (is_rset x.frame) refl
+  where
+    by : (b : Bool) → is_rset x.frame ≡ b → max l.controller.took x.number ≡ took_with l.controller.took x
+    by true q = rw q refl
+    by false q = rw q (ap (λ n. max l.controller.took n) (made.1 q) ∙ least l.controller.took)
+      where
+        least : (n : ℕ) → max n 0 ≡ n
+        least n = omega arith
+
+-- the link as the frame was taken
+abbrev left_with : Link → OnWire → List OnWire → Bool → Link
+left_with l x xs b =
+    let m : Link = with_ended (record l { to_controller = xs }) b in
+    record m { controller = record m.controller { took = took_with l.controller.took x } }
+
+taken_with : (near far : Side) (resets : ℕ) (l : Link) (x : OnWire) (xs : List OnWire) (new : Node) (wire : Buffer Flying) (took : ℕ)
+    (e : LinkEnd) (b : Bool) → LinkStandsFor near far resets l → NodeStandsFor new e → length e.shdlc.due ≤ 1 → WireStandsFor wire xs
+    → took ≡ took_with l.controller.took x
+    → IsMidway (record near { node = new; wire = wire; took = took }) far resets (left_with l x xs b) e
+taken_with near far resets l x xs new wire took e false h node few left is =
     record {
-      stands = subst P (sym s) stands;
-      calm = subst Q (sym s) on.calm;
-      out = ap (λ x. x.session.out) s ∙ on.out_is;
-      last_acc = subst R (sym acc) (all_append IsLast m.session.acc (option_to_list accepted) can.last_acc last);
-      acked = ap (λ x. x.session.acked) s ∙ (takes.acked ∙ (ap (λ n. n + (take_answer m c).acked) can.first ∙ (ap (λ a. old.acked + a.acked) (sym is) ∙ sym acked)));
-      grows = omega (arith, acked);
-      wire = wire;
-      sent = sent;
-      entries_are = entries_are ∙ (ap (λ n. entries ++ (acked_entries e old.acked n ++ got_entries e (good_messages_of (option_to_list answer.accepted)))) (sym acked)
-          ∙ ap (λ ms. entries ++ (acked_entries e old.acked new.acked ++ got_entries e ms)) (sym got));
+      here = record { node = node; put_is = h.here.has.put_is; took_is = is; wire_is = left };
+      few = omega (arith, few);
+      there = h.there;
+      count = h.count;
+    }
+taken_with near far resets l x xs new wire took e true h node few left is =
+    record {
+      here = record { node = node; put_is = h.here.has.put_is; took_is = is; wire_is = left };
+      few = omega (arith, few);
+      there = h.there;
+      count = h.count;
+    }
+
+pub taken_midway : (near far : Side) (resets : ℕ) (l : Link) (new : Node) (wire : Buffer Flying) (flying : Flying) (took : ℕ) (e : LinkEnd)
+    (f : TakesFirst l wire flying) → LinkStandsFor near far resets l → NodeStandsFor new e → length e.shdlc.due ≤ 1
+    → took ≡ max near.took flying.number
+    → IsMidway (record near { node = new; wire = wire; took = took }) far resets (left_after l f.x f.xs) e
+taken_midway near far resets l new wire flying took e f h node few is =
+    taken_with near far resets l f.x f.xs new wire took e (is_some (ended_by l.controller.side (Take f.x.frame))) h node few f.left
+    (is ∙ took_is near far resets l flying f.x h f.first f.made)
+
+-- its LPDU is read as this frame
+pub reads_first : (l : Link) (wire : Buffer Flying) (flying : Flying) (f : TakesFirst l wire flying) → control_of flying.lpdu ≡ Ok f.x.frame
+reads_first l wire flying f = ap (λ (z : Flying). control_of z.lpdu) f.first ∙ f.made.0
+
+-- what is noted of it, in its place
+told_taken : (near far : Side) (resets : ℕ) (l : Link) (at : End) (place : Place) (x : OnWire) (took : ℕ) (before mid : List Entry)
+    → LinkStandsFor near far resets l → took ≡ took_with l.controller.took x → place ≡ record { at = at; session = max near.emitted took }
+    → AreNoted place.at before mid
+    (told (side_of place.at) place.session (report l.controller.side (Take x.frame)) (whole_acked (after_input l.controller.side (Take x.frame))))
+    → AreNoted at before mid (told_of (side_of at) (record l.controller { took = took_with l.controller.took x }) (Take x.frame))
+told_taken near far resets l at place x took before mid h is so noted =
+    let k : ℕ = whole_acked (after_input l.controller.side (Take x.frame)) in
+    let P : Place → Type 0 = λ p. AreNoted p.at before mid (told (side_of p.at) p.session (report l.controller.side (Take x.frame)) k) in
+    let Q : ℕ → Type 0 = λ n. AreNoted at before mid (told (side_of at) n (report l.controller.side (Take x.frame)) k) in
+    subst Q (ap (λ n. max n took) h.here.has.put_is ∙ ap (λ n. max l.controller.emitted n) is) (subst P so noted)
+
+took_noted : (at : End) (flying : Flying) (x : OnWire) (before mid : List Entry) → flying ≡ kept_of x
+    → mid ≡ before ++ entry.Took at flying.lpdu ∷ [] → AreNoted at before mid (Took (side_of at) x.frame ∷ [])
+took_noted at flying x before mid first is =
+    is ∙ ap (λ (f : Flying). before ++ entry.Took at f.lpdu ∷ []) first
+    ∙ ap (λ z. before ++ entry.Took z (bytes_of x.frame) ∷ []) (sym (end_is at))
+
+pub taken : (near far near2 far2 : Side) (resets resets2 : ℕ) (l : Link) (at : End) (place : Place) (wire : Buffer Flying) (flying : Flying)
+    (took : ℕ) (before mid then now : List Entry) (f : TakesFirst l wire flying) → LinkStandsFor near far resets l
+    → took ≡ max near.took flying.number → place ≡ record { at = at; session = max near.emitted took }
+    → mid ≡ before ++ entry.Took at flying.lpdu ∷ []
+    → AreNoted place.at mid then
+    (told (side_of place.at) place.session (report l.controller.side (Take f.x.frame)) (whole_acked (after_input l.controller.side (Take f.x.frame))))
+    → (let e : LinkEnd = turn (after_input l.controller.side (Take f.x.frame)) FetchMessage in
+    LinkStandsFor near2 far2 resets2 (becomes (left_after l f.x f.xs) e)
+    × AreNoted at then now (puts_entries (side_of at) (left_after l f.x f.xs) (frames_out e)))
+    → HasHappened near2 far2 resets2 l (Step NextFrame (FetchMessage ∷ []) GoesOut) at before now
+taken near far near2 far2 resets resets2 l at place wire flying took before mid then now f h is so push told sent =
+    let e : LinkEnd = turn (after_input l.controller.side (Take f.x.frame)) FetchMessage in
+    let number = is ∙ took_is near far resets l flying f.x h f.first f.made in
+    let a : List Noted = Took (side_of at) f.x.frame ∷ [] in
+    let b : List Noted = told_of (side_of at) (record l.controller { took = took_with l.controller.took f.x }) (Take f.x.frame) in
+    let d : List Noted = puts_entries (side_of at) (left_after l f.x f.xs) (frames_out e) in
+    let q = f.wire_is in
+    let link : happens_here l (Step NextFrame (FetchMessage ∷ []) GoesOut) ≡ becomes (left_after l f.x f.xs) e = rw q refl in
+    let notes : here_entries (side_of at) l (Step NextFrame (FetchMessage ∷ []) GoesOut) ≡ taken_entries (side_of at) l f.x f.xs (FetchMessage ∷ []) GoesOut =
+    rw q refl in
+    let R : Link → Type 0 = λ k. LinkStandsFor near2 far2 resets2 k in
+    let T : List Noted → Type 0 = λ ns. AreNoted at before now ns in
+    record {
+      stands = subst R (sym link) sent.0;
+      noted = subst T (sym notes)
+          (more_noted at before mid now a (b ++ d) (took_noted at flying f.x before mid f.first push)
+          (more_noted at mid then now b d (told_taken near far resets l at place f.x took mid then h number so told) sent.1));
     }

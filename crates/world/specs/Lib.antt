@@ -1,6 +1,7 @@
-pub mod Ends
+pub mod Noting
+pub mod Nodes
 pub mod Wires
 pub mod Sides
-pub mod Takes
-pub mod Steps
+pub mod Damages
+pub mod Lines
 pub mod Worlds

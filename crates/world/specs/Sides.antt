@@ -1,37 +1,48 @@
--- What is kept of one side of a link, and for which histories it stands.
-use Rattle.std.specs.Prelude.{◌≡◌, ◌<◌, ◌≤◌, List, length, Some}
-use Rattle.std.specs.List.{AllByRecursion}
+-- What is kept of the two sides of a link, and for which links it stands: seen from one side, whose end stands as the controller's.
+use Rattle.std.specs.Prelude.{◌≡◌, ℕ, ◌≤◌, List, [], ◌++◌, length}
 use Rattle.trace_model.specs.declared.entry.Entry.{Entry}
 use Rattle.trace_model.specs.declared.line.End.{End}
-use Rattle.trace_model.specs.Ends.{other_end}
-use Rattle.history.specs.Filters.{Message, sent_in, acked_in, wire_to, session_of}
-use Rattle.history.specs.Follows.{machine_at}
-use Rattle.history_laws.specs.Calm.{IsCalm}
+use Rattle.session_laws.specs.Sessions.{OnWire}
+use Rattle.link_machine.specs.Machine.{LinkEnd as Machine}
+use Rattle.message_link.specs.Links.{Half, Link, EndEvent, happens_here}
+use Rattle.link_entries.specs.Entries.{Entry as Noted, here_entries}
+use Rattle.history.specs.Steps.{entries_for}
 use Rattle.world.specs.declared.side.Side.{Side}
-use Rattle.world.specs.Ends.{EndStandsFor, IsLast}
-use Rattle.world.specs.Wires.{IsFrame}
+use Rattle.world.specs.Noting.{side_of}
+use Rattle.world.specs.Nodes.{StandsFor as NodeStandsFor}
+use Rattle.world.specs.Wires.{WireStandsFor}
 
--- a message has one packet
-abbrev pub IsShort : Message → Type 0
-IsShort m = (0 < length m.1) × (length m.1 ≤ 28)
+-- one side, whose end may have frames to send
+pub record SideHas (s : Side) (m : Machine) (emitted took : ℕ) (wire : List OnWire) : Type 0 where
+  pub node : NodeStandsFor s.node m
+  pub put_is : s.emitted ≡ emitted
+  pub took_is : s.took ≡ took
+  pub wire_is : WireStandsFor s.wire wire
 
--- What is kept stands for the end of a history with these entries: its machine, the frames on the way to it, and how many
--- messages it sent and has acknowledged.
-pub record SideStandsFor (s : Side) (e : End) (t : List Entry) : Type 0 where
-  pub session : session_of t e ≡ Some 0
-  pub stands : EndStandsFor s.«end».shdlc s.«end».waiting.items (machine_at t e)
-  pub calm : IsCalm (machine_at t e) 0
-  pub last_out : AllByRecursion IsLast (machine_at t e).session.out
-  pub last_acc : AllByRecursion IsLast (machine_at t e).session.acc
-  pub wire : wire_to t e ≡ s.wire.items
-  pub frames : AllByRecursion IsFrame s.wire.items
-  pub sent : length (sent_in t e 0) ≡ s.sent
-  pub short : AllByRecursion IsShort (sent_in t e 0)
-  pub out : length (machine_at t e).session.out ≡ s.sent
-  pub acked : acked_in t e 0 ≡ s.acked
-  pub first : (machine_at t e).session.acked ≡ s.acked
+-- one side, whose end has sent all its frames
+pub record SideStandsFor (s : Side) (h : Half) (wire : List OnWire) : Type 0 where
+  pub has : SideHas s h.side h.emitted h.took wire
+  pub idle : h.side.shdlc.due ≡ []
 
--- both ends of a link, seen from one of them
-pub record BothStandFor (near far : Side) (e : End) (t : List Entry) : Type 0 where
-  pub here : SideStandsFor near e t
-  pub there : SideStandsFor far (other_end e) t
+-- both sides
+pub record LinkStandsFor (near far : Side) (resets : ℕ) (l : Link) : Type 0 where
+  pub here : SideStandsFor near l.controller l.to_controller
+  pub there : SideStandsFor far l.host l.to_host
+  pub count : resets ≡ l.resets
+
+-- both sides, where the end of the near one has become m in a step, and its frames weren't sent yet; at most twelve of them are
+-- control frames
+pub record IsMidway (near far : Side) (resets : ℕ) (l : Link) (m : Machine) : Type 0 where
+  pub here : SideHas near m l.controller.emitted l.controller.took l.to_controller
+  pub few : length m.shdlc.due ≤ 12
+  pub there : SideStandsFor far l.host l.to_host
+  pub count : resets ≡ l.resets
+
+-- these are noted behind those before
+abbrev pub AreNoted : End → List Entry → List Entry → List Noted → Type 0
+AreNoted at before now notes = now ≡ before ++ entries_for at.link notes
+
+-- the two sides stand for the link after this happened at the end of the near one, and it is noted
+pub record HasHappened (near far : Side) (resets : ℕ) (l : Link) (event : EndEvent) (at : End) (before now : List Entry) : Type 0 where
+  pub stands : LinkStandsFor near far resets (happens_here l event)
+  pub noted : AreNoted at before now (here_entries (side_of at) l event)

@@ -1,24 +1,22 @@
--- The frames on a wire, and what sending leaves there.
-use Rattle.std.specs.Prelude.{◌≡◌, ℕ, List, ◌++◌, map, Ok}
+-- The frames on a wire as they are kept.
+use Rattle.std.specs.Prelude.{◌≡◌, ◌≤◌, false, List, length, map, Ok}
 use Rattle.std.specs.List.{AllByRecursion}
-use Rattle.swp_base.specs.declared.control_frames.Control.{Control}
-use Rattle.swp_lpdu.specs.Controls.{control_of, bytes_of as lpdu_of}
-use Rattle.shdlc_core.specs.Machine.{EndState, Fragment, frames_of, after_frames}
-use Rattle.shdlc_core.specs.Kept.{Kept}
-use Rattle.trace_model.specs.declared.entry.Entry.{Entry}
-use Rattle.trace_model.specs.declared.line.End.{End}
-use Rattle.history.specs.Follows.{puts}
-use Rattle.history_laws.specs.Calm.{IsCalmFrame, put_on}
-use Rattle.world.specs.Ends.{EndStandsFor, IsLastIn}
+use Rattle.circular_buffer.specs.Buffer.{Buffer}
+use Rattle.swp_lpdu.specs.Controls.{bytes_of, control_of}
+use Rattle.session_laws.specs.Sessions.{OnWire, is_rset}
+use Rattle.world.specs.declared.wire.Flying.{Flying}
 
--- a frame on a wire is an I frame with the last packet of a message, RR or REJ
-abbrev pub IsFrame : List ℕ → Type 0
-IsFrame lpdu = (c : Control) × (control_of lpdu ≡ Ok c) × IsCalmFrame c × IsLastIn c
+-- a frame on its way, as it is kept
+abbrev pub kept_of : OnWire → Flying
+kept_of x = record { lpdu = bytes_of x.frame; age = x.age; number = x.number }
 
--- An end that has this state sends at most n frames: this is what is kept of it then, and these frames and entries are
--- added.
-pub record Sends (n : ℕ) (m : EndState) (e : End) (k : Kept) (waiting : List Fragment) (wire wire_now : List (List ℕ)) (entries entries_now : List Entry) : Type 0 where
-  pub stands : EndStandsFor k waiting (after_frames n m)
-  pub wire_is : wire_now ≡ put_on wire (map lpdu_of (frames_of n m))
-  pub frames : AllByRecursion IsFrame wire_now
-  pub entries_are : entries_now ≡ entries ++ puts e wire (map lpdu_of (frames_of n m))
+-- it is as an end makes it: its LPDU is read as this frame, and it has a number only where it is an RSET
+abbrev pub IsMade : OnWire → Type 0
+IsMade x = (control_of (bytes_of x.frame) ≡ Ok x.frame) × (is_rset x.frame ≡ false → x.number ≡ 0)
+
+-- what is kept are the frames of a wire
+pub record WireStandsFor (kept : Buffer Flying) (wire : List OnWire) : Type 0 where
+  pub frames : kept.items ≡ map kept_of wire
+  pub capacity : kept.capacity ≡ 64
+  pub few : length wire ≤ 64
+  pub made : AllByRecursion IsMade wire

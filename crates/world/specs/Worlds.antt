@@ -1,31 +1,31 @@
 -- What is kept of the world, and for which histories it stands.
-use Rattle.std.specs.Prelude.{◌≡◌, ◌<◌, ◌≤◌, false, List, length, slice_index}
+use Rattle.std.specs.Prelude.{◌≡◌, ◌*◌, ◌<◌, ◌≤◌, List, length, Some, None}
 use Rattle.std.specs.List.{AllByRecursion}
-use Rattle.trace_model.specs.declared.line.End.{End}
 use Rattle.trace_model.specs.declared.line.Header.{Header}
 use Rattle.trace_model.specs.declared.line.Line.{Line}
 use Rattle.trace_model.specs.Lines.{IsHeader, IsLineOf}
-use Rattle.history.specs.Histories.{History, all_entries}
-use Rattle.history.specs.Follows.{Follows}
+use Rattle.message_link.specs.Links.{Link}
+use Rattle.history.specs.Histories.{History}
+use Rattle.history.specs.Follows.{Follows, link_at, misread}
 use Rattle.history.specs.Legal.{Legal}
 use Rattle.world.specs.declared.world_steps.World.{World}
-use Rattle.world.specs.Sides.{BothStandFor}
+use Rattle.world.specs.declared.world_steps.WorldFault.{WorldFault}
+use Rattle.world.specs.declared.world_steps.WorldFault.TheVariants.{Undetected, NoMemory}
+use Rattle.world.specs.Sides.{LinkStandsFor}
+use Rattle.world.specs.Lines.{HaveSent, damaged_by}
 
--- the controller's end of the link of a bare world
-abbrev pub controller_end : Header → End
-controller_end header = record { link = slice_index header.hosts.items 0; at_host = false }
-
--- The world stands for a history: it has this header, the history follows these lines and is legal, and each side of the
--- link is what the history's entries say.
+-- The world stands for a history: it has this header, the history follows these lines and is legal, and both sides are the
+-- link as the history leaves it. A line gives at most one message, and puts at most 2,400 RSETs on the link.
 pub record StandsFor (w : World) (header : Header) (lines : List Line) (t : History) : Type 0 where
   pub header_is : w.header ≡ header
   pub is_header : IsHeader header
   pub lines_are : AllByRecursion (IsLineOf header) lines
   pub follows : Follows header lines t
   pub legal : Legal t
-  pub both : BothStandFor w.controller w.host (controller_end header) (all_entries t)
-  pub controller_sent : w.controller.sent ≤ length lines
-  pub host_sent : w.host.sent ≤ length lines
+  pub link : LinkStandsFor w.controller w.host w.resets (link_at t)
+  pub sent : HaveSent (link_at t) (length lines)
+  pub resets : w.resets ≤ 2400 * length lines
+  pub stepped : w.stepped ≡ length lines
 
 -- the world stands for a history of fewer than 20,000 lines
 pub record HasRoom (w : World) : Type 0 where
@@ -33,3 +33,9 @@ pub record HasRoom (w : World) : Type 0 where
   pub history : History
   pub stands : StandsFor w w.header lines history
   pub few : length lines < 20000
+
+-- This is why a line stops the world: another frame is read in place of the damaged one, or there was no memory for a line
+-- that does no such thing.
+abbrev pub IsFaultOf : Link → Line → WorldFault → Type 0
+IsFaultOf l line (Undetected sent read) = (misread l line ≡ Some read) × (damaged_by l line ≡ Some sent)
+IsFaultOf l line NoMemory = misread l line ≡ None

@@ -1,11 +1,15 @@
-//! The world of a run: the two ends of a bare link and the frames between them. It takes the lines of a schedule one by one
-//! and says what each of them causes.
+//! The world of a run: a bare link with its two ends and the frames between them. It takes the lines of a schedule one by one,
+//! and says what each of them causes. All of it is this project's own.
 #![tactic(auto)]
 
-mod bare_end;
+mod damage;
+mod damage_line;
 mod line_steps;
-mod link;
+mod lines;
+mod node;
+mod repeats;
 mod side;
+mod steps;
 mod wire;
 mod world_steps;
 

@@ -1,126 +1,53 @@
-//! One side of a link: the end, the frames on the way to it, and what it sent.
-ghost use Rattle.std.specs.Prelude.{◌≡◌, ◌+◌, ◌<◌, ◌^◌, [], ◌++◌, OnOk};
-ghost use Rattle.std.specs.List.{AllByRecursion};
-ghost use Rattle.std.specs.Option.{option_to_list};
-ghost use Rattle.shdlc_core.specs.Machine.{EndState};
-ghost use Rattle.hcp_packet.specs.Packets.{good_messages_of};
-ghost use Rattle.history.specs.LinkMachine.{bare_end};
-ghost use Rattle.world.specs.Ends.{EndStandsFor, IsLast};
-ghost use Rattle.world.specs.Wires.{IsFrame};
-ghost use Rattle.world.specs.Takes.{acked_entries, got_entries, CanTake, HasTaken};
+//! One side of a link: the node of an end, the frames on the way to it, and the numbers of RSETs that it knows.
+ghost use Rattle.std.specs.Prelude.{◌≡◌, [], IfOk, max};
+ghost use Rattle.link_machine.specs.Machine.{Bare, new_link_end};
+ghost use Rattle.message_link.specs.Links.{new_half};
+ghost use Rattle.world.specs.Sides.{SideStandsFor};
 
-use crate::bare_end::BareEnd;
-use hcp_packet::{read_header, read_packet};
-use shdlc_core::Taken;
-use std::alloc::{AllocError, Global};
-use std::collections::VecDeque;
-use swp_base::{Info, Lpdu};
-use swp_lpdu::read_lpdu;
-use trace_model::{End, Entry, Octets};
+use crate::node::{Node, Place};
+use crate::wire::{Flying, empty_wire};
+use circular_buffer::HeapCircularBuffer;
+use std::alloc::Global;
+use swp_base::NoMemory;
+use trace_model::End;
 
-/// The session of both ends of a bare link, which they are in from the start on.
-pub(crate) const SESSION: u32 = 0;
-
-/// One side of a link.
+/// One side of a link. This project's own.
 #[derive(Drop)]
 pub(crate) struct Side {
-    /// The end itself.
-    pub(crate) end: BareEnd,
+    /// The end with its messages.
+    pub(crate) node: Node,
     /// The frames on the way to the end, the oldest first.
-    pub(crate) wire: VecDeque<Lpdu>,
-    /// How many messages the end sent.
-    pub(crate) sent: u32,
-    /// How many of them have been acknowledged.
-    pub(crate) acked: u32,
+    pub(crate) wire: HeapCircularBuffer<Flying>,
+    /// The greatest number of an RSET that the end put on the link; 0 where there is none.
+    pub(crate) emitted: u32,
+    /// The greatest number of an RSET that it took; 0 where there is none.
+    pub(crate) took: u32,
 }
 
 impl Side {
-    /// An end that is Up in its first session, with no frame on the way to it.
-    pub(crate) fn new(alloc: Global) -> Side
-        ensures stands { EndStandsFor result.end.shdlc result.end.waiting.items bare_end }
-        ensures wire { result.wire.items ≡ [] }
-        ensures sent { result.sent ≡ 0 }
-        ensures acked { result.acked ≡ 0 }
+    /// A new end, which is Up in session 0, with no frame on the way to it.
+    ///
+    /// # Errors
+    ///
+    /// No memory is left.
+    pub(crate) fn make(alloc: Global) -> Result<Side, NoMemory>
+        ensures { IfOk result (λ s. SideStandsFor s (new_half (new_link_end Bare)) []) }
     {
-        Side {
-            end: BareEnd::new(alloc),
-            wire: VecDeque::new(alloc),
-            sent: 0,
-            acked: 0,
-        }
+        Ok(Side {
+            node: Node::make(alloc)?,
+            wire: empty_wire(alloc)?,
+            emitted: 0,
+            took: 0,
+        })
     }
 
-    /// The end takes a frame. What it acknowledged and the message that it brought are noted.
-    pub(crate) fn take(
-        &mut self,
-        alloc: Global,
-        at: End,
-        lpdu: &Lpdu,
-        entries: &mut Vec<Entry>,
-    ) -> Result<(), AllocError>
-        requires state { (m : EndState) × CanTake self.old m }
-        requires frame { IsFrame lpdu.now }
-        ensures { (m : EndState) → CanTake self.old m
-            → OnOk result (HasTaken self.old self.new at m lpdu.now entries.old.items entries.new.items) }
+    /// Where something at the end is noted: the number of its session is the greatest that it put on the link or took.
+    pub(crate) fn place(&self, at: End) -> Place
+        ensures { result ≡ record { at = at; session = max self.now.emitted self.now.took } }
     {
-        let Ok(control) = read_lpdu(lpdu) else {
-            return Ok(());
-        };
-        let Taken {
-            acked,
-            accepted,
-            ..
-        } = self.end.take(&control);
-        self.note_acked(at, acked, entries)?;
-        note_got(alloc, at, accepted, entries)
-    }
-
-    // So many more messages are acknowledged: each has one packet.
-    fn note_acked(&mut self, at: End, count: u8, entries: &mut Vec<Entry>) -> Result<(), AllocError>
-        requires { self.old.acked + count < 2 ^ 32 }
-        ensures counted { OnOk result (self.new ≡ record self.old { acked = self.old.acked + count }) }
-        ensures entries { OnOk result (entries.new.items ≡ entries.old.items
-            ++ acked_entries at self.old.acked (self.old.acked + count)) }
-    {
-        if count == 0 {
-            return Ok(());
-        }
-        self.acked += u32::from(count);
-        entries.push(Entry::Acked {
+        Place {
             at,
-            session: SESSION,
-            count: self.acked,
-        })?;
-        Ok(())
+            session: self.emitted.max(self.took),
+        }
     }
-}
-
-// A fragment was accepted: the message that it ends is noted, where it is a good one.
-fn note_got(
-    alloc: Global,
-    at: End,
-    accepted: Option<Info>,
-    entries: &mut Vec<Entry>,
-) -> Result<(), AllocError>
-    requires { AllByRecursion IsLast (option_to_list accepted) }
-    ensures { OnOk result (entries.new.items ≡ entries.old.items
-        ++ got_entries at (good_messages_of (option_to_list accepted))) }
-{
-    let Some(info) = accepted else {
-        return Ok(());
-    };
-    let Ok(packet) = read_packet(info.bytes()) else {
-        return Ok(());
-    };
-    if read_header(packet.bytes.as_slice()).is_err() {
-        return Ok(());
-    }
-    let message = Octets::from_slice(alloc, packet.bytes.as_slice())?;
-    entries.push(Entry::Got {
-        at,
-        session: SESSION,
-        pid: packet.pipe,
-        message,
-    })?;
-    Ok(())
 }

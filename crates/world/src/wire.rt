@@ -1,69 +1,119 @@
-//! The frames that an end sends, on the wire to the other end.
-ghost use Rattle.std.specs.Prelude.{◌≡◌, [], ◌∷◌, ◌++◌, OnOk};
-ghost use Rattle.std.specs.List.{AllByRecursion};
-ghost use Rattle.shdlc_core.specs.Machine.{EndState, most_frames};
-ghost use Rattle.history.specs.Follows.{puts, kept_on};
-ghost use Rattle.world.specs.Ends.{EndStandsFor, CanSend};
-ghost use Rattle.world.specs.Wires.{IsFrame, Sends};
+//! The frames on the way to an end.
+ghost use Rattle.std.specs.Prelude.{◌≡◌, ℕ, ◌+◌, ◌<◌, ◌≤◌, ◌^◌, [], ◌∷◌, ◌++◌, List, OnOk, OnSome, IfOk, IfSome, IfNone, Ok, IsTrue, ◌↔◌};
+ghost use Rattle.swp_base.specs.declared.control_frames.Control.{Control as Frame};
+ghost use Rattle.swp_lpdu.specs.Controls.{bytes_of, control_of};
+ghost use Rattle.session_laws.specs.Sessions.{OnWire, is_rset, aged_wire, fits};
+ghost use Rattle.link_entries.specs.Entries.{aged_entries, pushed_out, far};
+ghost use Rattle.world.specs.Noting.{side_of};
+ghost use Rattle.world.specs.Wires.{WireStandsFor, IsMade, kept_of};
+ghost use Rattle.world.specs.Sides.{AreNoted};
 
-use crate::bare_end::BareEnd;
-use std::alloc::AllocError;
-use std::collections::VecDeque;
-use swp_base::Lpdu;
-use swp_lpdu::write_lpdu;
+use circular_buffer::HeapCircularBuffer;
+use std::alloc::{AllocError, Global};
+use swp_base::{Control, Lpdu, NoMemory};
+use swp_lpdu::read_lpdu;
 use trace_model::{End, Entry, LostCause};
 
-/// The most frames that a wire holds. This project's own.
-const WIRE_LIMIT: usize = 64;
+/// The most frames on one wire. This project's own.
+const MOST: usize = 64;
 
-/// The most frames that an end sends at one moment: 8 control frames and 4 fragments.
-const MOST_FRAMES: u8 = 12;
+/// The age in ticks at which a tick takes a frame away. This project's own.
+const LIFE: u8 = 4;
 
-/// An end puts a frame on the wire to the other end. Where the wire is full, the oldest frame on it is lost.
-pub(crate) fn put(
-    at: End,
-    lpdu: Lpdu,
-    wire: &mut VecDeque<Lpdu>,
+/// A frame on its way.
+#[derive(Debug, Drop)]
+pub(crate) struct Flying {
+    /// Its bytes.
+    pub(crate) lpdu: Lpdu,
+    /// The ticks since it was put on the wire.
+    pub(crate) age: u8,
+    /// The number of an RSET among those of its link; 0 for any other frame.
+    pub(crate) number: u32,
+}
+
+/// A wire without frames.
+pub(crate) fn empty_wire(alloc: Global) -> Result<HeapCircularBuffer<Flying>, AllocError>
+    ensures { IfOk result (λ wire. WireStandsFor wire []) }
+{
+    HeapCircularBuffer::with_capacity(alloc, MOST)
+}
+
+/// Whether a frame is an RSET.
+pub(crate) fn is_reset(lpdu: &Lpdu) -> bool
+    ensures { (c : Frame) → control_of lpdu.now ≡ Ok c → result ≡ is_rset c }
+{
+    match read_lpdu(lpdu) {
+        Ok(Control::Rset { .. }) => true,
+        Ok(Control::I { .. }) => false,
+        Ok(Control::S { .. }) => false,
+        Ok(Control::Ua) => false,
+        Ok(Control::Act { .. }) => false,
+        Ok(Control::Clt) => false,
+        Err(_fault) => false,
+    }
+}
+
+/// A frame stands last on a wire to an end. Where the wire is full, the oldest frame on it is lost.
+pub(crate) fn put_last(
+    to: End,
+    flying: Flying,
+    wire: &mut HeapCircularBuffer<Flying>,
     entries: &mut Vec<Entry>,
 ) -> Result<(), AllocError>
-    ensures wire { OnOk result (wire.new.items ≡ kept_on (wire.old.items ++ lpdu ∷ [])) }
-    ensures entries { OnOk result (entries.new.items ≡ entries.old.items ++ puts at wire.old.items (lpdu ∷ [])) }
+    ensures { (frames : List OnWire) (x : OnWire) → WireStandsFor wire.old frames → flying ≡ kept_of x → IsMade x
+        → OnOk result (WireStandsFor wire.new (fits (frames ++ x ∷ [])) × AreNoted to entries.old.items entries.new.items (pushed_out (side_of to) (frames ++ x ∷ []))) }
 {
-    entries.push(Entry::Emit {
-        at,
-        lpdu: lpdu.copied(),
-    })?;
-    wire.push_back(lpdu)?;
-    if wire.len() <= WIRE_LIMIT {
-        return Ok(());
+    if let Some(lost) = wire.push_back(flying) {
+        entries.push(Entry::Lost {
+            at: to,
+            lpdu: lost.lpdu,
+            cause: LostCause::Full,
+        })?;
     }
-    let Some(lost) = wire.pop_front() else {
-        return Ok(());
-    };
-    entries.push(Entry::Lost {
-        at: at.other(),
-        lpdu: lost,
-        cause: LostCause::Full,
-    })?;
     Ok(())
 }
 
-/// An end sends all that it may now.
-pub(crate) fn send_all(
-    at: End,
-    end: &mut BareEnd,
-    wire: &mut VecDeque<Lpdu>,
+// The first frame on a wire to an end grows older by one tick and stands behind all others, or is lost where it is too old.
+fn age_first(
+    to: End,
+    wire: &mut HeapCircularBuffer<Flying>,
     entries: &mut Vec<Entry>,
 ) -> Result<(), AllocError>
-    requires { (m : EndState) × EndStandsFor end.old.shdlc end.old.waiting.items m × CanSend m }
-    ensures { (m : EndState) → EndStandsFor end.old.shdlc end.old.waiting.items m → CanSend m → AllByRecursion IsFrame wire.old.items
-        → OnOk result (Sends most_frames m at end.new.shdlc end.new.waiting.items wire.old.items wire.new.items entries.old.items entries.new.items) }
+    ensures { (x : OnWire) (frames : List OnWire) → WireStandsFor wire.old (x ∷ frames)
+        → OnOk result (WireStandsFor wire.new (frames ++ aged_wire (x ∷ []))
+        × AreNoted to entries.old.items entries.new.items (aged_entries (side_of to) (x ∷ []))) }
 {
-    for _ in 0..MOST_FRAMES {
-        let Some(control) = end.next_out() else {
-            return Ok(());
-        };
-        put(at, write_lpdu(&control), wire, entries)?;
+    let Some(flying) = wire.pop_front() else {
+        return Ok(());
+    };
+    if flying.age >= LIFE {
+        entries.push(Entry::Lost {
+            at: to,
+            lpdu: flying.lpdu,
+            cause: LostCause::Age,
+        })?;
+        return Ok(());
+    }
+    let older = Flying {
+        lpdu: flying.lpdu,
+        age: flying.age + 1,
+        number: flying.number,
+    };
+    let _none = wire.push_back(older);
+    Ok(())
+}
+
+/// All frames on a wire to an end grow older by one tick, and those that are too old are lost.
+pub(crate) fn grow_older(
+    to: End,
+    wire: &mut HeapCircularBuffer<Flying>,
+    entries: &mut Vec<Entry>,
+) -> Result<(), AllocError>
+    ensures { (frames : List OnWire) → WireStandsFor wire.old frames
+        → OnOk result (WireStandsFor wire.new (aged_wire frames) × AreNoted to entries.old.items entries.new.items (aged_entries (side_of to) frames)) }
+{
+    for _ in 0..wire.len() {
+        age_first(to, wire, entries)?;
     }
     Ok(())
 }

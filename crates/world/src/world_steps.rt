@@ -1,26 +1,40 @@
 //! The world, line by line.
-ghost use Rattle.std.specs.Prelude.{◌≡◌, [], ◌∷◌, ◌++◌, List, OnOk, IfOk, IsTrue, false, true};
-ghost use Rattle.trace_model.specs.declared.Entry.{Entry};
-ghost use Rattle.trace_model.specs.declared.Line.{Line};
+ghost use Rattle.std.specs.Prelude.{◌≡◌, [], ◌∷◌, ◌++◌, List, IfOk, OnOk, IfErr, None};
+ghost use Rattle.trace_model.specs.declared.line.Line.{Line};
 ghost use Rattle.trace_model.specs.Lines.{IsHeader, IsLineOf};
-ghost use Rattle.history.specs.Histories.{History, all_entries, noted};
-ghost use Rattle.history.specs.Follows.{opening_of, outcome_of, opened, with_step, is_played};
+ghost use Rattle.link_entries.specs.Entries.End.{Controller};
+ghost use Rattle.history.specs.Histories.{History, noted};
+ghost use Rattle.history.specs.Follows.{opening_of, host_of, outcome_of, misread, link_at, opened, with_step};
+ghost use Rattle.history.specs.Steps.{end_of};
 
-use crate::line_steps::{end_of, line_step};
-use crate::side::{SESSION, Side};
+use crate::damage_line::Misread;
+use crate::line_steps::{end_of, play_line};
+use crate::side::Side;
 use history_laws::every_history_is_legal;
 use std::alloc::{AllocError, Global};
-use swp_base::NoMemory;
+use swp_base::{Lpdu, NoMemory};
 use trace_model::{End, Entry, Header, Line};
 
-/// Why the world can't go on.
-#[derive(Clone, Copy, Debug, PartialEq, Eq)]
+/// Why the world can't go on. It can only be dropped then.
+#[derive(Debug, Drop)]
 pub enum WorldFault {
-    /// There was no memory for what a line causes. What the world is then isn't said.
+    /// A line damages a frame so that another one is read in its place: the CRC doesn't show it.
+    Undetected {
+        /// The frame on the wire.
+        sent: Lpdu,
+        /// The one that is read.
+        read: Lpdu,
+    },
+    /// There was no memory for what a line causes.
     NoMemory,
 }
 
 impl From<AllocError> for WorldFault {
+    ghost use Rattle.std.specs.Prelude.{◌≡◌};
+    ghost use Rattle.world.specs.declared.world_steps.WorldFault.TheVariants as fault;
+
+    ghost from_gives = { λ _ f. f ≡ fault.NoMemory };
+
     fn from(_: AllocError) -> Self {
         WorldFault::NoMemory
     }
@@ -32,11 +46,15 @@ pub struct World {
     header: Header,
     controller: Side,
     host: Side,
+    // How many RSETs were put on the link.
+    resets: u32,
+    // How many lines were stepped.
+    stepped: u32,
     entries: Vec<Entry>,
 }
 
 impl World {
-    ghost use Rattle.world.specs.Worlds.{StandsFor, HasRoom};
+    ghost use Rattle.world.specs.Worlds.{StandsFor, HasRoom, IsFaultOf};
 
     /// The world that a header names: both ends of its link are Up in session 0, and no frame is on its way.
     ///
@@ -46,52 +64,66 @@ impl World {
     pub fn new(alloc: Global, header: &Header) -> Result<World, NoMemory>
         requires { IsHeader header.now }
         ensures stands { IfOk result (λ w. StandsFor w header.now [] (opened header.now)) }
-        ensures entries { IfOk result (λ w. w.entries.items ≡ opening_of header.now) }
+        ensures entries { IfOk result (λ w. w.entries.items ≡ opening_of (host_of header.now)) }
     {
         every_history_is_legal();
-        let link = header.hosts.as_slice()[0];
         Ok(World {
             header: header.clone()?,
-            controller: Side::new(alloc),
-            host: Side::new(alloc),
-            entries: opening(alloc, link)?,
+            controller: Side::make(alloc)?,
+            host: Side::make(alloc)?,
+            resets: 0,
+            stepped: 0,
+            entries: opening(alloc, controller_end(header).link)?,
         })
     }
 
-    /// Does what a line `send` or `deliver` asks for, or refuses it. Fewer than 20,000 lines were stepped before.
+    /// Does what a line asks for, or refuses it. Fewer than 20,000 lines were stepped before.
     ///
     /// # Errors
     ///
-    /// `NoMemory` where memory runs out. The world is of no use then.
+    /// `Undetected` exactly where the line damages a frame so that another one is read in its place; `NoMemory` where memory
+    /// runs out. The world is of no use then.
     pub fn step(&mut self, alloc: Global, line: &Line) -> Result<(), WorldFault>
         requires room { HasRoom self.old }
         requires line { IsLineOf self.old.header line.now }
-        requires played { IsTrue (is_played line.now) }
         ensures stands { (lines : List Line) (t : History) → StandsFor self.old self.old.header lines t
             → OnOk result (StandsFor self.new self.old.header (lines ++ line.now ∷ []) (with_step t line.now)) }
         ensures entries { (lines : List Line) (t : History) → StandsFor self.old self.old.header lines t
-            → OnOk result (self.new.entries.items ≡ noted (outcome_of (all_entries t) line.now)) }
+            → OnOk result (self.new.entries.items ≡ noted (outcome_of (host_of self.old.header) (link_at t) line.now)) }
+        ensures fault { (lines : List Line) (t : History) → StandsFor self.old self.old.header lines t
+            → IfErr result (IsFaultOf (link_at t) line.now) }
+        ensures told { (lines : List Line) (t : History) → StandsFor self.old self.old.header lines t
+            → OnOk result (misread (link_at t) line.now ≡ None) }
     {
         every_history_is_legal();
         self.entries.clear();
-        if end_of(line).at_host {
-            line_step(
+        self.stepped += 1;
+        let at = end_of(line, controller_end(&self.header));
+        let other = if at.at_host {
+            play_line(
                 alloc,
                 line,
+                at,
                 &mut self.host,
                 &mut self.controller,
+                &mut self.resets,
                 &mut self.entries,
-            )?;
+            )?
         } else {
-            line_step(
+            play_line(
                 alloc,
                 line,
+                at,
                 &mut self.controller,
                 &mut self.host,
+                &mut self.resets,
                 &mut self.entries,
-            )?;
+            )?
+        };
+        match other {
+            Some(Misread { sent, read }) => Err(WorldFault::Undetected { sent, read }),
+            None => Ok(()),
         }
-        Ok(())
     }
 
     /// The header that the world was made of.
@@ -109,10 +141,20 @@ impl World {
     }
 }
 
+// The controller's end of the link of a header.
+fn controller_end(header: &Header) -> End
+    requires { IsHeader header.now }
+    ensures { result ≡ end_of (host_of header.now) Controller }
+{
+    End {
+        link: header.hosts.as_slice()[0],
+        at_host: false,
+    }
+}
+
 // Both ends of a link are Up from the start on.
 fn opening(alloc: Global, link: u8) -> Result<Vec<Entry>, AllocError>
-    ensures { IfOk result (λ entries. entries.items ≡
-        Entry.Up (record { link = link; at_host = false }) 0 ∷ Entry.Up (record { link = link; at_host = true }) 0 ∷ []) }
+    ensures { IfOk result (λ entries. entries.items ≡ opening_of link) }
 {
     let mut entries = Vec::new(alloc);
     let controller = End {
@@ -121,11 +163,11 @@ fn opening(alloc: Global, link: u8) -> Result<Vec<Entry>, AllocError>
     };
     entries.push(Entry::Up {
         at: controller,
-        session: SESSION,
+        session: 0,
     })?;
     entries.push(Entry::Up {
         at: controller.other(),
-        session: SESSION,
+        session: 0,
     })?;
     Ok(entries)
 }

@@ -1,42 +1,130 @@
-use Rattle.std.proofs.Common.{◌≡◌, true, false, refl, ◌∙◌, sym, ap}
-use Rattle.history.specs.Histories.{all_entries}
+use Rattle.std.proofs.Common.{◌≡◌, ◌+◌, [], ◌∷◌, ◌++◌, true, false, refl, sym, ap, subst, ◌∙◌}
+use Rattle.std.specs.Prelude.{None}
+use Rattle.trace_model.specs.declared.line.End.{End}
+use Rattle.message_link.specs.Links.{Link}
+use Rattle.history.specs.Histories.{noted}
+use Rattle.history.specs.Follows.{host_of, link_at, outcome_of, with_step}
 use Rattle.world.specs.declared.world_steps.World.{World}
-use Rattle.world.specs.Steps.{end_of_line}
-use Rattle.world.proofs.Worlds.{seen_from_host, seen_from_controller, host_steps, controller_steps}
+use Rattle.world.specs.Lines.{end_for}
+use Rattle.world.specs.Worlds.{StandsFor}
+use Rattle.world.proofs.LineLemmas.{seen_at_host, seen_at_controller}
+use Rattle.world.proofs.Worlds.{Law, controller_of, host_grows, controller_grows, few_sent, none_misread, one_misread}
 use Rattle.world.proofs.world_steps.World.step.Goals as goal
+use Rattle.world.proofs.world_steps.World.step.Goals.{then-at+in_ok-other, else-at+in_ok-other-2}
 
-pub line_step-requires-clause-state : goal.line_step-requires-clause-state
-line_step-requires-clause-state c =
-    let at_host : (end_of_line c.args.line.now).at_host ≡ true = sym (ap (λ e. e.at_host) c.end_of.ensures) ∙ c.if-end_of.true in
-    (all_entries c.requires.room.history, seen_from_host c.args.self.now c.args.self.now.header c.requires.room.lines c.requires.room.history c.args.line.now c.requires.room.stands (c.requires.line, c.requires.played) at_host)
+pub returns-in-None-clause-stands : goal.returns-in-None-clause-stands
+returns-in-None-clause-stands c lines t h =
+    let e = c.every_history_is_legal.ensures in
+    let law : Law = record { in_order = e.in_order; joined = e.joined; complete = e.complete; settled = e.settled } in
+    let seen : c.end_of-at.result ≡ end_for (controller_of c.args.self.now.header) c.args.line.now =
+    c.end_of-at.ensures ∙ ap (λ x. end_for x c.args.line.now) c.controller_end.ensures in
+    elim c.if-at.branch [
+      | then-at+in_ok-other w ↦
+          (let l : Link = link_at t in
+          let old : World = c.args.self.now in
+          let at : End = c.end_of-at.result in
+          let now : World = record {
+            header = old.header;
+            controller = w.play_line.new.far;
+            host = w.play_line.new.near;
+            resets = w.play_line.new.resets;
+            stepped = old.stepped + 1;
+            entries = w.play_line.new.entries;
+          } in
+          let side : at.at_host ≡ true = w.if-at.true in
+          let stands = seen_at_host old.host old.controller old.resets at l side h.link in
+          let o = w.in_ok-other.other in
+          let none : o ≡ None = sym w.other-is ∙ c.in-None.is in
+          let P : World → Type 0 = λ x. StandsFor x old.header (lines ++ c.args.line.now ∷ []) (with_step t c.args.line.now) in
+          subst P (sym w.self-is)
+          (host_grows law old now old.header lines t c.args.line.now w.play_line.new.entries.items at h c.requires.line refl seen side
+          (none_misread l c.args.line.now o none (w.in_ok-other.ensures.misread l stands))
+          (w.in_ok-other.ensures.stands l stands (few_sent old lines t c.requires.room h) none) w.in_ok-other.ensures.grows refl).stands)
+      | else-at+in_ok-other-2 w ↦
+          (let l : Link = link_at t in
+          let old : World = c.args.self.now in
+          let at : End = c.end_of-at.result in
+          let now : World = record {
+            header = old.header;
+            controller = w.play_line-else-at.new.near;
+            host = w.play_line-else-at.new.far;
+            resets = w.play_line-else-at.new.resets;
+            stepped = old.stepped + 1;
+            entries = w.play_line-else-at.new.entries;
+          } in
+          let side : at.at_host ≡ false = w.if-at.false in
+          let stands = seen_at_controller old.controller old.host old.resets at l side h.link in
+          let o = w.in_ok-other-2.other in
+          let none : o ≡ None = sym w.other-is ∙ c.in-None.is in
+          let P : World → Type 0 = λ x. StandsFor x old.header (lines ++ c.args.line.now ∷ []) (with_step t c.args.line.now) in
+          subst P (sym w.self-is)
+          (controller_grows law old now old.header lines t c.args.line.now w.play_line-else-at.new.entries.items at h c.requires.line refl seen side
+          (none_misread l c.args.line.now o none (w.in_ok-other-2.ensures.misread l stands))
+          (w.in_ok-other-2.ensures.stands l stands (few_sent old lines t c.requires.room h) none) w.in_ok-other-2.ensures.grows refl).stands)
+    ]
 
-pub line_step-requires-else-end_of-clause-state : goal.line_step-requires-else-end_of-clause-state
-line_step-requires-else-end_of-clause-state c =
-    let at_host : (end_of_line c.args.line.now).at_host ≡ false = sym (ap (λ e. e.at_host) c.end_of.ensures) ∙ c.if-end_of.false in
-    (all_entries c.requires.room.history, seen_from_controller c.args.self.now c.args.self.now.header c.requires.room.lines c.requires.room.history c.args.line.now c.requires.room.stands (c.requires.line, c.requires.played) at_host)
+pub returns-in-None-clause-entries : goal.returns-in-None-clause-entries
+returns-in-None-clause-entries c lines t h =
+    let e = c.every_history_is_legal.ensures in
+    let law : Law = record { in_order = e.in_order; joined = e.joined; complete = e.complete; settled = e.settled } in
+    let seen : c.end_of-at.result ≡ end_for (controller_of c.args.self.now.header) c.args.line.now =
+    c.end_of-at.ensures ∙ ap (λ x. end_for x c.args.line.now) c.controller_end.ensures in
+    elim c.if-at.branch [
+      | then-at+in_ok-other w ↦
+          (let l : Link = link_at t in
+          let old : World = c.args.self.now in
+          let at : End = c.end_of-at.result in
+          let now : World = record {
+            header = old.header;
+            controller = w.play_line.new.far;
+            host = w.play_line.new.near;
+            resets = w.play_line.new.resets;
+            stepped = old.stepped + 1;
+            entries = w.play_line.new.entries;
+          } in
+          let side : at.at_host ≡ true = w.if-at.true in
+          let stands = seen_at_host old.host old.controller old.resets at l side h.link in
+          let o = w.in_ok-other.other in
+          let none : o ≡ None = sym w.other-is ∙ c.in-None.is in
+          let P : World → Type 0 = λ x. x.entries.items ≡ noted (outcome_of (host_of old.header) l c.args.line.now) in
+          subst P (sym w.self-is)
+          (host_grows law old now old.header lines t c.args.line.now w.play_line.new.entries.items at h c.requires.line refl seen side
+          (none_misread l c.args.line.now o none (w.in_ok-other.ensures.misread l stands))
+          (w.in_ok-other.ensures.stands l stands (few_sent old lines t c.requires.room h) none) w.in_ok-other.ensures.grows refl).entries_are)
+      | else-at+in_ok-other-2 w ↦
+          (let l : Link = link_at t in
+          let old : World = c.args.self.now in
+          let at : End = c.end_of-at.result in
+          let now : World = record {
+            header = old.header;
+            controller = w.play_line-else-at.new.near;
+            host = w.play_line-else-at.new.far;
+            resets = w.play_line-else-at.new.resets;
+            stepped = old.stepped + 1;
+            entries = w.play_line-else-at.new.entries;
+          } in
+          let side : at.at_host ≡ false = w.if-at.false in
+          let stands = seen_at_controller old.controller old.host old.resets at l side h.link in
+          let o = w.in_ok-other-2.other in
+          let none : o ≡ None = sym w.other-is ∙ c.in-None.is in
+          let P : World → Type 0 = λ x. x.entries.items ≡ noted (outcome_of (host_of old.header) l c.args.line.now) in
+          subst P (sym w.self-is)
+          (controller_grows law old now old.header lines t c.args.line.now w.play_line-else-at.new.entries.items at h c.requires.line refl seen side
+          (none_misread l c.args.line.now o none (w.in_ok-other-2.ensures.misread l stands))
+          (w.in_ok-other-2.ensures.stands l stands (few_sent old lines t c.requires.room h) none) w.in_ok-other-2.ensures.grows refl).entries_are)
+    ]
 
-pub returns-in_ok-line_step-clause-stands : goal.returns-in_ok-line_step-clause-stands
-returns-in_ok-line_step-clause-stands c lines t h =
-    let at_host : (end_of_line c.args.line.now).at_host ≡ true = sym (ap (λ e. e.at_host) c.end_of.ensures) ∙ c.if-end_of.true in
-    let now : World = record { header = c.args.self.now.header; controller = c.line_step.new.far; host = c.line_step.new.near; entries = c.line_step.new.entries } in
-    host_steps c.every_history_is_legal.ensures c.args.self.now now c.args.self.now.header lines t c.args.line.now c.line_step.new.entries.items h (c.requires.line, c.requires.played) refl at_host
-    (c.in_ok-line_step.ensures.stands (all_entries t) (seen_from_host c.args.self.now c.args.self.now.header lines t c.args.line.now h (c.requires.line, c.requires.played) at_host))
-    c.in_ok-line_step.ensures.sent.1 c.in_ok-line_step.ensures.sent.0
-
-pub returns-in_ok-line_step-clause-entries : goal.returns-in_ok-line_step-clause-entries
-returns-in_ok-line_step-clause-entries c lines t h =
-    let at_host : (end_of_line c.args.line.now).at_host ≡ true = sym (ap (λ e. e.at_host) c.end_of.ensures) ∙ c.if-end_of.true in
-    (c.in_ok-line_step.ensures.stands (all_entries t) (seen_from_host c.args.self.now c.args.self.now.header lines t c.args.line.now h (c.requires.line, c.requires.played) at_host)).entries_are
-
-pub returns-in_ok-line_step-2-clause-stands : goal.returns-in_ok-line_step-2-clause-stands
-returns-in_ok-line_step-2-clause-stands c lines t h =
-    let at_host : (end_of_line c.args.line.now).at_host ≡ false = sym (ap (λ e. e.at_host) c.end_of.ensures) ∙ c.if-end_of.false in
-    let now : World = record { header = c.args.self.now.header; controller = c.line_step-else-end_of.new.near; host = c.line_step-else-end_of.new.far; entries = c.line_step-else-end_of.new.entries } in
-    controller_steps c.every_history_is_legal.ensures c.args.self.now now c.args.self.now.header lines t c.args.line.now c.line_step-else-end_of.new.entries.items h (c.requires.line, c.requires.played) refl at_host
-    (c.in_ok-line_step-2.ensures.stands (all_entries t) (seen_from_controller c.args.self.now c.args.self.now.header lines t c.args.line.now h (c.requires.line, c.requires.played) at_host))
-    c.in_ok-line_step-2.ensures.sent.0 c.in_ok-line_step-2.ensures.sent.1
-
-pub returns-in_ok-line_step-2-clause-entries : goal.returns-in_ok-line_step-2-clause-entries
-returns-in_ok-line_step-2-clause-entries c lines t h =
-    let at_host : (end_of_line c.args.line.now).at_host ≡ false = sym (ap (λ e. e.at_host) c.end_of.ensures) ∙ c.if-end_of.false in
-    (c.in_ok-line_step-2.ensures.stands (all_entries t) (seen_from_controller c.args.self.now c.args.self.now.header lines t c.args.line.now h (c.requires.line, c.requires.played) at_host)).entries_are
+pub returns-in-Some-clause-fault : goal.returns-in-Some-clause-fault
+returns-in-Some-clause-fault c lines t h =
+    elim c.if-at.branch [
+      | then-at+in_ok-other w ↦
+          (let old : World = c.args.self.now in
+          let stands = seen_at_host old.host old.controller old.resets c.end_of-at.result (link_at t) w.if-at.true h.link in
+          one_misread (link_at t) c.args.line.now w.in_ok-other.other c.in-Some.field-0 (sym w.other-is ∙ c.in-Some.is)
+          (w.in_ok-other.ensures.misread (link_at t) stands))
+      | else-at+in_ok-other-2 w ↦
+          (let old : World = c.args.self.now in
+          let stands = seen_at_controller old.controller old.host old.resets c.end_of-at.result (link_at t) w.if-at.false h.link in
+          one_misread (link_at t) c.args.line.now w.in_ok-other-2.other c.in-Some.field-0 (sym w.other-is ∙ c.in-Some.is)
+          (w.in_ok-other-2.ensures.misread (link_at t) stands))
+    ]

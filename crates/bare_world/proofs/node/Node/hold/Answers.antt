@@ -1,6 +1,0 @@
-use Rattle.bare_world.proofs.Nodes.{holds}
-use Rattle.bare_world.proofs.node.Node.hold.Goals as goal
-
-pub returns : goal.returns
-returns c m h room =
-    holds c.args.self.now c.hold.new.self m c.args.held h (c.hold.ensures.stands c.args.self.now.pool m h.has.stands) c.hold.ensures.boxes.1

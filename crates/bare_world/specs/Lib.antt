@@ -1,6 +1,0 @@
-pub mod Noting
-pub mod Nodes
-pub mod Wires
-pub mod Sides
-pub mod Damages
-pub mod Lines

@@ -1,6 +1,0 @@
-pub mod Histories
-pub mod Filters
-pub mod Damage
-pub mod Steps
-pub mod Follows
-pub mod Legal

@@ -1,0 +1,263 @@
+-- How many messages the ends of a link were given in their sessions: no cause but a message given adds one.
+use Rattle.std.proofs.Common.{◌≡◌, ℕ, zero, suc, ◌+◌, ◌≤◌, Bool, true, false, cond, List, [], ◌∷◌, ◌++◌, length, replicate, refl, ap, sym, subst, ◌∙◌, length-append, arith}
+use Rattle.std.specs.Prelude.{Option, Some, None, is_some, not, unwrap_or}
+use Rattle.swp_base.specs.declared.control_frames.Control.{Control}
+use Rattle.swp_base.specs.declared.control_frames.Control.TheVariants.{I, S, Rset, Ua, Act, Clt}
+use Rattle.swp_base.specs.declared.control_frames.Act.{Act as ActCode}
+use Rattle.swp_base.specs.declared.link_terms.Cause.TheVariants.{Asked}
+use Rattle.swp_act.specs.declared.ActEvent.{ActEvent}
+use Rattle.swp_act.specs.declared.ActEvent.TheVariants.{Take as ActTake, Tick as ActTick}
+use Rattle.shdlc_core.specs.declared.answers.LinkState.{LinkState}
+use Rattle.shdlc_core.specs.declared.answers.LinkState.TheVariants.{Down, Waiting, Up}
+use Rattle.shdlc_core.specs.Machine.{EndState, taken, take_answer, ticked, tick_answer, reset_with}
+use Rattle.trace_model.specs.declared.line.End.{End}
+use Rattle.trace_model.specs.declared.line.Line.{Line}
+use Rattle.trace_model.specs.declared.line.Line.TheVariants as line
+use Rattle.trace_model.specs.declared.entry.NoCause.{NoCause}
+use Rattle.session_laws.specs.Sessions.{OnWire, is_rset, took_with}
+use Rattle.link_machine.specs.Machine.{LinkEnd, LinkInput, Refused, Message, after_input, turn, turned, moved, put_down, activated, with_act, act_answer, role_after, heard, took, is_open, is_faulty, news, if_up, reset_by, reset_refusal, ended_by, window_of, give_refusal, given, unless, frames_out}
+use Rattle.link_machine.specs.Machine.LinkInput.{Take, Tick, Reset}
+use Rattle.link_machine.specs.Machine.Turn.{Give, Hold, FetchMessage}
+use Rattle.message_link.specs.Links.{Link, EndEvent, put, put_all, becomes, with_ended, has_input, has_taken, happens_here, ticks_here, aged, exchanged, happens}
+use Rattle.message_link.specs.Links.Ending.{GoesOut}
+use Rattle.message_link.specs.Links.Comes.{NextFrame, AsksReset, NoInput}
+use Rattle.message_link.specs.Links.EndEvent.{Step, Lose}
+use Rattle.message_link.specs.Links.Loss.{OnDemand}
+use Rattle.history.specs.Histories.{Cause, Outcome, causes_of}
+use Rattle.history.specs.Histories.Cause.{Given, Taken, WasLost, Ticked, WasReset, Readied}
+use Rattle.history.specs.Histories.Outcome.{Refused as LineRefused, Caused}
+use Rattle.history.specs.Damage.{Verdict}
+use Rattle.history.specs.Damage.Verdict.{Same, LostFor, Undetected}
+use Rattle.history.specs.Steps.{at, events_at, link_after, link_after_all}
+use Rattle.history.specs.Follows.{refusal, causes_in, damage_causes, first_verdict, frames_to, taken_of, outcome_of, link_after_line}
+use Rattle.world.specs.Lines.{HaveSent}
+
+-- ## An end
+
+-- an end was given at most n messages in its session
+abbrev AtMost : ℕ → LinkEnd → Type 0
+AtMost n e = length e.sent ≤ n
+
+few_cond : (n : ℕ) (b : Bool) (e f : LinkEnd) → AtMost n e → AtMost n f → AtMost n (cond b e f)
+few_cond n true e f p q = p
+few_cond n false e f p q = q
+
+few_unless : (n : ℕ) (o : Option Refused) (e f : LinkEnd) → AtMost n e → AtMost n f → AtMost n (unless o e f)
+few_unless n None e f p q = q
+few_unless n (Some why) e f p q = p
+
+few_moved : (n : ℕ) (e : LinkEnd) (b : Bool) (s : EndState) → AtMost n e → AtMost n (moved e b s)
+few_moved n e false s h = h
+few_moved n e true s h = omega arith
+
+few_down : (n : ℕ) (b : Bool) (e : LinkEnd) → AtMost n e → AtMost n (put_down b e)
+few_down n false e h = h
+few_down n true e h = by e.shdlc.phase refl
+  where
+    by : (p : LinkState) → e.shdlc.phase ≡ p → AtMost n (put_down true e)
+    by Up p = rw p (omega arith)
+    by Waiting p = rw p (omega arith)
+    by Down p = rw p h
+
+few_act : (n : ℕ) (o : Option ActCode) (e : LinkEnd) → AtMost n e → AtMost n (with_act o e)
+few_act n None e h = h
+few_act n (Some act) e h = h
+
+few_activated : (n : ℕ) (e : LinkEnd) (event : ActEvent) → AtMost n e → AtMost n (activated e event)
+few_activated n e event h =
+    few_act n (act_answer e.role event).send (record (put_down (act_answer e.role event).ended_link e) { role = role_after e.role event })
+    (few_down n (act_answer e.role event).ended_link e h)
+
+few_heard : (n : ℕ) (e : LinkEnd) (c : Control) → AtMost n e → AtMost n (heard e c)
+few_heard n e c h =
+    let f : LinkEnd = moved e (is_some (take_answer e.shdlc c).ended) (taken e.shdlc c) in
+    few_cond n (is_faulty (taken e.shdlc c).session) (put_down true e) (record f { got = e.got ++ news e.shdlc.session (taken e.shdlc c) })
+    (few_down n true e h) (few_moved n e (is_some (take_answer e.shdlc c).ended) (taken e.shdlc c) h)
+
+few_took : (n : ℕ) (e : LinkEnd) (c : Control) → AtMost n e → AtMost n (took e c)
+few_took n e (I ns nr info) h = few_cond n (is_open e.role) (heard e (I ns nr info)) e (few_heard n e (I ns nr info) h) h
+few_took n e (S kind nr) h = few_cond n (is_open e.role) (heard e (S kind nr)) e (few_heard n e (S kind nr) h) h
+few_took n e (Rset window caps) h = few_cond n (is_open e.role) (heard e (Rset window caps)) e (few_heard n e (Rset window caps) h) h
+few_took n e Ua h = few_cond n (is_open e.role) (heard e Ua) e (few_heard n e Ua h) h
+few_took n e (Act act again) h = few_activated n e (ActTake act again) h
+few_took n e Clt h = h
+
+few_ticked : (n : ℕ) (e : LinkEnd) → AtMost n e → AtMost n (after_input e Tick)
+few_ticked n e h =
+    few_cond n (is_open e.role) (moved e (is_some (tick_answer e.shdlc).ended) (ticked e.shdlc)) (activated e ActTick)
+    (few_moved n e (is_some (tick_answer e.shdlc).ended) (ticked e.shdlc) h) (few_activated n e ActTick h)
+
+few_reset : (n : ℕ) (e : LinkEnd) (window : Option ℕ) → AtMost n e → AtMost n (after_input e (Reset window))
+few_reset n e window h =
+    few_unless n (reset_refusal e) e (reset_by e (window_of e window)) h
+    (few_moved n e (is_some (if_up e.shdlc Asked)) (reset_with e.shdlc (window_of e window)) h)
+
+few_given : (n : ℕ) (e : LinkEnd) (m : Message) → AtMost n e → AtMost (n + 1) (turn e (Give m))
+few_given n e m h =
+    few_unless (n + 1) (give_refusal e m) e (given e m) (omega (arith, h)) (let l = length-append e.sent (m ∷ []) in omega (arith, l, h))
+
+-- ## One side of a link
+
+-- both ends of a link, of which the host's stays as it is
+put_host : (l : Link) (c : Control) → (put l c).host ≡ l.host
+put_host l c = by (is_rset c) refl
+  where
+    by : (b : Bool) → is_rset c ≡ b → (put l c).host ≡ l.host
+    by true q = rw q refl
+    by false q = rw q refl
+
+all_host : (l : Link) (cs : List Control) → (put_all l cs).host ≡ l.host
+all_host l [] = refl
+all_host l (c ∷ cs) = all_host (put l c) cs ∙ put_host l c
+
+ended_host : (l : Link) (b : Bool) → (with_ended l b).host ≡ l.host
+ended_host l true = refl
+ended_host l false = refl
+
+-- the controller's end has become e, and all its frames went out
+few_becomes : (n k : ℕ) (l : Link) (e : LinkEnd) → AtMost n e → length l.host.side.sent ≤ k
+    → (length (becomes l e).controller.side.sent ≤ n) × (length (becomes l e).host.side.sent ≤ k)
+few_becomes n k l e h far =
+    let q = ap (λ x. length x.side.sent) (all_host l (frames_out e)) in (h, omega (arith, far, q))
+
+-- the controller's end has this input
+few_input : (n k : ℕ) (l : Link) (i : LinkInput) → AtMost n (after_input l.controller.side i) → length l.host.side.sent ≤ k
+    → (length (has_input l i [] GoesOut).controller.side.sent ≤ n) × (length (has_input l i [] GoesOut).host.side.sent ≤ k)
+few_input n k l i h far =
+    let b : Bool = is_some (ended_by l.controller.side i) in
+    let q = ap (λ x. length x.side.sent) (ended_host l b) in
+    few_becomes n k (with_ended l b) (after_input l.controller.side i) h (omega (arith, far, q))
+
+-- ## What happens at one end
+
+both : (n : ℕ) (l : Link) → (length l.controller.side.sent ≤ n) × (length l.host.side.sent ≤ n) → HaveSent l n
+both n l h = record { here = h.0; there = h.1 }
+
+pub swapped : (n : ℕ) (l : Link) → HaveSent l n → HaveSent (exchanged l) n
+swapped n l h = record { here = h.there; there = h.here }
+
+sent_taken : (n : ℕ) (l : Link) → HaveSent l n → HaveSent (happens_here l (Step NextFrame (FetchMessage ∷ []) GoesOut)) n
+sent_taken n l h = by l.to_controller refl
+  where
+    by : (w : List OnWire) → l.to_controller ≡ w → HaveSent (happens_here l (Step NextFrame (FetchMessage ∷ []) GoesOut)) n
+    by [] q = rw q (record { here = h.here; there = h.there })
+    by (x ∷ xs) q =
+        let b : Bool = is_some (ended_by l.controller.side (Take x.frame)) in
+        let m : Link = with_ended (record l { to_controller = xs }) b in
+        let far = ap (λ z. length z.side.sent) (ended_host (record l { to_controller = xs }) b) in
+        rw q
+        (both n (has_taken l x xs (FetchMessage ∷ []) GoesOut)
+        (few_becomes n n (record m { controller = record m.controller { took = took_with l.controller.took x } })
+        (turned (after_input l.controller.side (Take x.frame)) (FetchMessage ∷ []))
+        (few_took n l.controller.side x.frame h.here) (omega (arith, far, h.there))))
+
+pub sent_ticked : (n : ℕ) (l : Link) → HaveSent l n → HaveSent (ticks_here l [] GoesOut) n
+sent_ticked n l h = both n (ticks_here l [] GoesOut) (few_input n n l Tick (few_ticked n l.controller.side h.here) h.there)
+
+sent_reset : (n : ℕ) (window : Option ℕ) (l : Link) → HaveSent l n → HaveSent (happens_here l (Step (AsksReset window) [] GoesOut)) n
+sent_reset n window l h =
+    both n (happens_here l (Step (AsksReset window) [] GoesOut)) (few_input n n l (Reset window) (few_reset n l.controller.side window h.here) h.there)
+
+sent_held : (n : ℕ) (held : Bool) (l : Link) → HaveSent l n → HaveSent (happens_here l (Step NoInput (Hold held ∷ []) GoesOut)) n
+sent_held n held l h =
+    both n (happens_here l (Step NoInput (Hold held ∷ []) GoesOut)) (few_becomes n n l (turn l.controller.side (Hold held)) h.here h.there)
+
+sent_given : (n : ℕ) (x : Message) (l : Link) → HaveSent l n → HaveSent (happens_here l (Step NoInput (Give x ∷ []) GoesOut)) (n + 1)
+sent_given n x l h =
+    both (n + 1) (happens_here l (Step NoInput (Give x ∷ []) GoesOut))
+    (few_becomes (n + 1) (n + 1) l (turn l.controller.side (Give x)) (few_given n l.controller.side x h.here) (let f = h.there in omega (arith, f)))
+
+-- it happens at either end
+sent_at : (n k : ℕ) (l : Link) (e : End) (x : EndEvent) → ((m : Link) → HaveSent m n → HaveSent (happens_here m x) k) → HaveSent l n
+    → HaveSent (happens l (at e x)) k
+sent_at n k l e x here h = go e.at_host
+  where
+    go : (b : Bool) → HaveSent (happens l (at (record { link = e.link; at_host = b }) x)) k
+    go true = swapped k (happens_here (exchanged l) x) (here (exchanged l) (swapped n l h))
+    go false = here l h
+
+-- ## Causes
+
+-- no message is given
+abbrev pub GivesNone : Cause → Type 0
+GivesNone (Given e m) = ⊥
+GivesNone (Taken e) = Unit {0}
+GivesNone (WasLost e why) = Unit {0}
+GivesNone Ticked = Unit {0}
+GivesNone (WasReset e window) = Unit {0}
+GivesNone (Readied e ready) = Unit {0}
+
+pub sent_after : (n : ℕ) (l : Link) (c : Cause) → GivesNone c → HaveSent l n → HaveSent (link_after l c) n
+sent_after n l (Given e m) none h = absurd none
+sent_after n l (Taken e) none h = sent_at n n l e (Step NextFrame (FetchMessage ∷ []) GoesOut) (sent_taken n) h
+sent_after n l (WasLost e why) none h = sent_at n n l e (Lose why) (λ m g. record { here = g.here; there = g.there }) h
+sent_after n l Ticked none h =
+    let near : Link = ticks_here (aged l) [] GoesOut in
+    swapped n (ticks_here (exchanged near) [] GoesOut)
+    (sent_ticked n (exchanged near) (swapped n near (sent_ticked n (aged l) (record { here = h.here; there = h.there }))))
+sent_after n l (WasReset e window) none h = sent_at n n l e (Step (AsksReset window) [] GoesOut) (sent_reset n window) h
+sent_after n l (Readied e ready) none h = sent_at n n l e (Step NoInput (Hold (not ready) ∷ []) GoesOut) (sent_held n (not ready)) h
+
+abbrev AllGiveNone : List Cause → Type 0
+AllGiveNone [] = Unit {0}
+AllGiveNone (c ∷ cs) = GivesNone c × AllGiveNone cs
+
+none_repeated : (c : Cause) → GivesNone c → (n : ℕ) → AllGiveNone (replicate n c)
+none_repeated c none zero = tt
+none_repeated c none (suc n) = (none, none_repeated c none n)
+
+sent_all_causes : (n : ℕ) (l : Link) (cs : List Cause) → AllGiveNone cs → HaveSent l n → HaveSent (link_after_all l cs) n
+sent_all_causes n l [] none h = h
+sent_all_causes n l (c ∷ cs) none h = sent_all_causes n (link_after l c) cs none.1 (sent_after n l c none.0 h)
+
+-- the same cause again and again
+pub sent_repeated : (n k : ℕ) (l : Link) (c : Cause) → GivesNone c → HaveSent l n → HaveSent (link_after_all l (replicate k c)) n
+sent_repeated n k l c none h = sent_all_causes n l (replicate k c) (none_repeated c none k) h
+
+-- ## Lines
+
+weaker : (n : ℕ) (l : Link) → HaveSent l n → HaveSent l (n + 1)
+weaker n l h = let a = h.here in let b = h.there in record { here = omega (arith, a); there = omega (arith, b) }
+
+none_damaged : (e : End) (v : Option Verdict) → AllGiveNone (damage_causes e v)
+none_damaged e None = tt
+none_damaged e (Some Same) = (tt, tt)
+none_damaged e (Some (LostFor why)) = (tt, tt)
+none_damaged e (Some (Undetected read)) = tt
+
+-- a line gives at most one message
+sent_caused : (n : ℕ) (l : Link) (line : Line) → HaveSent l n → HaveSent (link_after_all l (causes_in l line)) (n + 1)
+sent_caused n l (line.Send e pid message) h = sent_at n (n + 1) l e (Step NoInput (Give (pid, message) ∷ []) GoesOut) (sent_given n (pid, message)) h
+sent_caused n l (line.Deliver e count) h =
+    weaker n _ (sent_repeated n (taken_of count (frames_to l e)) l (Taken e) tt h)
+sent_caused n l (line.Lose e) h = weaker n _ (sent_after n l (WasLost e OnDemand) tt h)
+sent_caused n l (line.Damage e places) h =
+    let cs : List Cause = damage_causes e (first_verdict (frames_to l e) places.items) in
+    weaker n (link_after_all l cs) (sent_all_causes n l cs (none_damaged e (first_verdict (frames_to l e) places.items)) h)
+sent_caused n l (line.Tick times) h = weaker n _ (sent_repeated n (unwrap_or times 1) l Ticked tt h)
+sent_caused n l (line.Reset e window) h = weaker n _ (sent_after n l (WasReset e window) tt h)
+sent_caused n l (line.Busy e) h = weaker n _ (sent_after n l (Readied e false) tt h)
+sent_caused n l (line.Ready e) h = weaker n _ (sent_after n l (Readied e true) tt h)
+sent_caused n l (line.Boot node) h = weaker n l h
+sent_caused n l (line.Cut node) h = weaker n l h
+sent_caused n l (line.Activate host sync power) h = weaker n l h
+sent_caused n l (line.Arm node nth fill) h = weaker n l h
+sent_caused n l (line.Init e identity pipes) h = weaker n l h
+sent_caused n l (line.Tables node) h = weaker n l h
+
+pub causes_of-events : (h : ℕ) (l : Link) (cs : List Cause) → causes_of (events_at h l cs) ≡ cs
+causes_of-events h l [] = refl
+causes_of-events h l (c ∷ cs) = ap (λ z. c ∷ z) (causes_of-events h (link_after l c) cs)
+
+pub sent_line : (n h : ℕ) (l : Link) (line : Line) → HaveSent l n → HaveSent (link_after_line l (outcome_of h l line)) (n + 1)
+sent_line n h l line sent = go (refusal l line)
+  where
+    decided : Option NoCause → Outcome
+    decided (Some cause) = LineRefused cause
+    decided None = Caused (events_at h l (causes_in l line))
+
+    go : (o : Option NoCause) → HaveSent (link_after_line l (decided o)) (n + 1)
+    go (Some cause) = weaker n l sent
+    go None =
+        let P : List Cause → Type 0 = λ cs. HaveSent (link_after_all l cs) (n + 1) in
+        subst P (sym (causes_of-events h l (causes_in l line))) (sent_caused n l line sent)

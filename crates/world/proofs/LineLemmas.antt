@@ -1,0 +1,128 @@
+-- What a line does on a link, seen from the end that it speaks of.
+use Rattle.std.proofs.Common.{◌≡◌, ℕ, zero, suc, ◌<◌, Bool, true, false, true≢false, eqb, List, [], ◌∷◌, ◌++◌, length, refl, sym, ap, subst, ◌∙◌, append-nil, arith}
+use lib.Dec.{T, eqb→eq}
+use Rattle.std.specs.Prelude.{Option, Some, None, IfSome}
+use Rattle.circular_buffer.specs.Buffer.{Buffer}
+use Rattle.trace_model.specs.declared.entry.Entry.{Entry}
+use Rattle.trace_model.specs.declared.entry.Entry.TheVariants.{No}
+use Rattle.trace_model.specs.declared.entry.NoCause.{NoCause}
+use Rattle.trace_model.specs.declared.entry.NoCause.TheVariants.{Empty}
+use Rattle.trace_model.specs.declared.line.End.{End}
+use Rattle.trace_model.specs.declared.line.Line.{Line}
+use Rattle.session_laws.specs.Sessions.{OnWire}
+use Rattle.message_link.specs.Links.{Link, EndEvent, happens, happens_here, exchanged}
+use Rattle.link_entries.specs.Entries.{event_entries, here_entries}
+use Rattle.history.specs.Histories.{Cause, Outcome, noted}
+use Rattle.history.specs.Histories.Outcome.{Refused, Caused}
+use Rattle.history.specs.Steps.{at as happens_at, event_of, event_at, events_at, entries_for}
+use Rattle.history.specs.Follows.{seen_from, refusal, causes_in, outcome_of, link_after_line, if_empty}
+use Rattle.world.specs.declared.wire.Flying.{Flying}
+use Rattle.world.specs.declared.side.Side.{Side}
+use Rattle.world.specs.Noting.{side_of}
+use Rattle.world.specs.Wires.{WireStandsFor}
+use Rattle.world.specs.Sides.{LinkStandsFor, HasHappened}
+use Rattle.world.specs.Lines.{SidesStandFor, Does}
+
+-- ## Seen from an end
+
+pub seen_happens : (at : End) (l : Link) (event : EndEvent)
+    → seen_from at (happens l (happens_at at event)) ≡ happens_here (seen_from at l) event
+seen_happens at l event = by at.at_host refl
+  where
+    by : (b : Bool) → at.at_host ≡ b → seen_from at (happens l (happens_at at event)) ≡ happens_here (seen_from at l) event
+    by true q = rw q refl
+    by false q = rw q refl
+
+pub seen_noted : (at : End) (l : Link) (event : EndEvent)
+    → event_entries l (happens_at at event) ≡ here_entries (side_of at) (seen_from at l) event
+seen_noted at l event = by at.at_host refl
+  where
+    by : (b : Bool) → at.at_host ≡ b → event_entries l (happens_at at event) ≡ here_entries (side_of at) (seen_from at l) event
+    by true q = rw q refl
+    by false q = rw q refl
+
+-- the sides of a link, seen from the host's end
+pub seen_at_host : (near far : Side) (resets : ℕ) (at : End) (l : Link) → at.at_host ≡ true → LinkStandsFor far near resets l
+    → SidesStandFor near far resets at l
+seen_at_host near far resets at l q h =
+    let P : Bool → Type 0 = λ b. SidesStandFor near far resets (record { link = at.link; at_host = b }) l in
+    subst P (sym q) (record { here = h.there; there = h.here; count = h.count })
+
+pub seen_back : (near far : Side) (resets : ℕ) (at : End) (l : Link) → at.at_host ≡ true → SidesStandFor near far resets at l
+    → LinkStandsFor far near resets l
+seen_back near far resets at l q h =
+    let P : Bool → Type 0 = λ b. SidesStandFor near far resets (record { link = at.link; at_host = b }) l in
+    let z : LinkStandsFor near far resets (exchanged l) = subst P q h in record { here = z.there; there = z.here; count = z.count }
+
+-- and from the controller's
+pub seen_at_controller : (near far : Side) (resets : ℕ) (at : End) (l : Link) → at.at_host ≡ false → LinkStandsFor near far resets l
+    → SidesStandFor near far resets at l
+seen_at_controller near far resets at l q h =
+    let P : Bool → Type 0 = λ b. SidesStandFor near far resets (record { link = at.link; at_host = b }) l in subst P (sym q) h
+
+pub seen_here : (near far : Side) (resets : ℕ) (at : End) (l : Link) → at.at_host ≡ false → SidesStandFor near far resets at l
+    → LinkStandsFor near far resets l
+seen_here near far resets at l q h =
+    let P : Bool → Type 0 = λ b. SidesStandFor near far resets (record { link = at.link; at_host = b }) l in subst P q h
+
+-- ## What becomes of a line
+
+pub caused : (h : ℕ) (l : Link) (line : Line) → refusal l line ≡ None → outcome_of h l line ≡ Caused (events_at h l (causes_in l line))
+caused h l line q = rw q refl
+
+refused : (h : ℕ) (l : Link) (line : Line) (why : NoCause) → refusal l line ≡ Some why → outcome_of h l line ≡ Refused why
+refused h l line why q = rw q refl
+
+-- both sides stand for the link after this outcome, and it is noted
+pub record Becomes (near far : Side) (resets : ℕ) (at : End) (l : Link) (outcome : Outcome) (now : List Entry) : Type 0 where
+  pub stands : SidesStandFor near far resets at (link_after_line l outcome)
+  pub noted_are : now ≡ noted outcome
+
+pub does : (near far : Side) (resets : ℕ) (at : End) (l : Link) (line : Line) (now : List Entry) (outcome : Outcome)
+    → outcome_of at.link l line ≡ outcome → Becomes near far resets at l outcome now → Does near far resets at l line now
+does near far resets at l line now outcome q b =
+    let P : Outcome → Type 0 = λ o. Becomes near far resets at l o now in
+    let z : Becomes near far resets at l (outcome_of at.link l line) now = subst P (sym q) b in
+    record { stands = z.stands; noted_are = z.noted_are }
+
+-- a line that is refused does nothing
+pub refused_does : (near far : Side) (resets : ℕ) (at : End) (l : Link) (line : Line) (now : List Entry) (why : NoCause)
+    → refusal l line ≡ Some why → SidesStandFor near far resets at l → now ≡ No why ∷ [] → Does near far resets at l line now
+refused_does near far resets at l line now why q stands is =
+    does near far resets at l line now (Refused why) (refused at.link l line why q) (record { stands = stands; noted_are = is })
+
+-- a line has this one cause at its end, and that has happened
+pub happened_does : (near far : Side) (resets : ℕ) (at : End) (l : Link) (line : Line) (before now : List Entry) (cause : Cause) (event : EndEvent)
+    → refusal l line ≡ None → causes_in l line ≡ cause ∷ [] → event_of cause ≡ happens_at at event → before ≡ []
+    → HasHappened near far resets (seen_from at l) event at before now → Does near far resets at l line now
+happened_does near far resets at l line before now cause event none causes is nothing has =
+    does near far resets at l line now (Caused (event_at at.link l cause ∷ []))
+    (caused at.link l line none ∙ ap (λ cs. Caused (events_at at.link l cs)) causes)
+    (record {
+      stands = (
+          let P : Link → Type 0 = λ m. LinkStandsFor near far resets m in
+          subst P (sym (ap (λ e. seen_from at (happens l e)) is ∙ seen_happens at l event)) has.stands);
+      noted_are =
+          has.noted ∙ ap (λ es. es ++ entries_for at.link (here_entries (side_of at) (seen_from at l) event)) nothing
+          ∙ ap (entries_for at.link) (sym (ap (event_entries l) is ∙ seen_noted at l event))
+          ∙ sym (append-nil (entries_for at.link (event_entries l (event_of cause))));
+    })
+
+-- ## Frames on a wire
+
+is_some : (n : ℕ) → false ≡ eqb n 0 → 0 < n
+is_some zero h = absurd (true≢false (sym h))
+is_some (suc n) h = omega arith
+
+-- what holds of the one thing that there is
+pub some_holds : {X P : Type 0} (o : Option X) (x : X) → o ≡ Some x → IfSome o (λ y. P) → P
+some_holds None x is p = cc
+some_holds (Some y) x is p = p
+
+pub none_there : (kept : Buffer Flying) (wire : List OnWire) → WireStandsFor kept wire → true ≡ eqb (length kept.items) 0 → if_empty wire ≡ Some Empty
+none_there kept [] w h = refl
+none_there kept (x ∷ xs) w h = absurd (omega (arith, eqb→eq (length kept.items) 0 (subst T h tt), ap length w.frames))
+
+pub some_there : (kept : Buffer Flying) (wire : List OnWire) → WireStandsFor kept wire → false ≡ eqb (length kept.items) 0 → if_empty wire ≡ None
+some_there kept [] w h = absurd (omega (arith, is_some (length kept.items) h, ap length w.frames))
+some_there kept (x ∷ xs) w h = refl

@@ -1,0 +1,402 @@
+-- The node of a bare end, from input to input.
+use Rattle.std.proofs.Common.{◌≡◌, ℕ, ◌-◌, ◌<◌, ◌^◌, List, [], ◌∷◌, ◌++◌, length, drop, map, refl, ap, sym, subst, ◌∙◌, cond, append_assoc, arith}
+use Rattle.std.proofs.lemmas.List.{append-nil}
+use Rattle.std.specs.Prelude.{Bool, true, false, is_some, ◌==◌, Option, Some, None, Result, Ok, Err}
+use Rattle.link_machine.specs.Machine.{LinkEnd, LinkInput, after_input, after_inputs, turn, whole_acked, new_link_end}
+use Rattle.link_machine.specs.Machine.Role.{Bare}
+use Rattle.link_machine.specs.Machine.LinkInput.{Take, TakeUnknown, TakeBroken, Tick, Reset, Start, Stop, FromNode, Fetch}
+use Rattle.link_machine.specs.Machine.Turn.{Give, Hold, FetchMessage, SetAside, Release}
+use Rattle.link_machine.specs.Laws.{AreSendableInputs}
+use Rattle.link_machine.proofs.Runs.{Sound, sound, parted}
+use Rattle.trace_model.specs.declared.entry.Entry.{Entry}
+use Rattle.trace_model.specs.declared.line.End.{End}
+use Rattle.trace_model.specs.declared.entry.Entry.TheVariants as entry
+use Rattle.block_pool.specs.declared.chain.Chain.{Chain}
+use Rattle.block_pool.specs.Pool.{PoolState, IsLive, chain_bytes, Gives, KeepsOthers}
+use Rattle.hcp_chain.specs.Holding.{messages_in as messages_of}
+use Rattle.link_messages.specs.Incoming.{got_chains}
+use Rattle.link_end.specs.declared.«end».End.{End as Kept}
+use Rattle.swp_base.specs.declared.control_frames.Control.{Control}
+use Rattle.swp_base.specs.declared.control_frames.Control.TheVariants.{I, S, Rset, Ua, Act as ActFrame, Clt}
+use Rattle.swp_lpdu.specs.Controls.{control_of}
+use Rattle.swp_base.specs.declared.control_frames.Act.{Act}
+use Rattle.swp_base.specs.declared.link_terms.Cause.TheVariants.{Asked}
+use Rattle.swp_act.specs.declared.ActEvent.{ActEvent}
+use Rattle.swp_act.specs.declared.ActEvent.TheVariants.{Tick as ActTick, Take as ActTake}
+use Rattle.shdlc_core.specs.declared.answers.LinkState.{LinkState}
+use Rattle.shdlc_core.specs.declared.answers.LinkState.TheVariants.{Down, Waiting, Up}
+use Rattle.shdlc_core.specs.declared.answers.Due.{Due}
+use Rattle.shdlc_core.specs.Machine.{EndState, Fragment, taken, fetched, fragment_due, ticked, tick_answer, reset_with}
+use Rattle.link_machine.specs.Machine.{Message, ActDue, Refused, oldest, took, brought, heard, is_faulty, news, lpdu_input, give_refusal, frame_fetched, whole_among, report, moved, put_down, with_act, activated, act_answer, role_after, is_open, reset_refusal, reset_by, if_up, window_of}
+use Rattle.hcp_packet.specs.Packets.{IsSendable, packet_count}
+use Rattle.link_machine.proofs.Sound.{whole_given}
+use Rattle.link_machine.proofs.Reports.{Reports}
+use Rattle.link_end.specs.declared.report.ResetRefused.{ResetRefused}
+use Rattle.link_end.specs.declared.link.LinkEnd.{LinkEnd as Link}
+use Rattle.link_end.specs.declared.report.LinkReport.{LinkReport}
+use Rattle.link_end.specs.Ends.{StandsFor as EndStandsFor, Accounts, LeavesOthers}
+use Rattle.link_end.specs.Reports.{told as told_of, nothing_told, reset_told, reset_refused}
+use Rattle.link_end.proofs.AccountLemmas.{account_kept, account_moved, given_own}
+use Rattle.link_entries.specs.Entries.{told}
+use Rattle.link_entries.specs.Entries.Entry.{Got}
+use Rattle.history.specs.Steps.{entries_for}
+use Rattle.world.specs.declared.node.Node.{Node}
+use Rattle.world.specs.Noting.{side_of, acked_on, reported}
+use Rattle.world.specs.Nodes.{Reached, CanFetch, HasInput, StandsFor}
+use Rattle.world.specs.Sides.{AreNoted}
+use Rattle.world.proofs.Noting.{end_is, told_at, acked_told}
+
+pub is_sound : (m : LinkEnd) → Reached m → Sound m
+is_sound m r = let P : LinkEnd → Type 0 = λ e. Sound e in subst P (sym r.is) (sound Bare r.inputs r.sendable)
+
+after-append : (e : LinkEnd) (is js : List LinkInput) → after_inputs e (is ++ js) ≡ after_inputs (after_inputs e is) js
+after-append e [] js = refl
+after-append e (i ∷ is) js = after-append (after_input e i) is js
+
+joined : (i : LinkInput) (is : List LinkInput) → AreSendableInputs (i ∷ []) → AreSendableInputs is → AreSendableInputs (i ∷ is)
+joined (FromNode (Give m)) is a b = (a.0, b)
+joined (FromNode (Hold h)) is a b = b
+joined (FromNode FetchMessage) is a b = b
+joined (FromNode SetAside) is a b = b
+joined (FromNode Release) is a b = b
+joined (Take c) is a b = b
+joined TakeUnknown is a b = b
+joined (TakeBroken fault) is a b = b
+joined Tick is a b = b
+joined (Reset window) is a b = b
+joined (Start v) is a b = b
+joined Stop is a b = b
+joined Fetch is a b = b
+
+sendable-append : (is js : List LinkInput) → AreSendableInputs is → AreSendableInputs js → AreSendableInputs (is ++ js)
+sendable-append [] js a b = b
+sendable-append (i ∷ is) js a b = let p = parted i is a in joined i (is ++ js) p.0 (sendable-append is js p.1 b)
+
+-- an end that was reached is reached after one input more
+pub reached_on : (m : LinkEnd) (i : LinkInput) → AreSendableInputs (i ∷ []) → Reached m → Reached (after_input m i)
+reached_on m i a r =
+    record {
+      inputs = r.inputs ++ i ∷ [];
+      sendable = sendable-append r.inputs (i ∷ []) r.sendable a;
+      is = ap (λ e. after_input e i) r.is ∙ sym (after-append (new_link_end Bare) r.inputs (i ∷ []));
+    }
+
+-- ## Messages that came are kept
+
+moved_got : (e : LinkEnd) (b : Bool) (s : EndState) → (moved e b s).got ≡ e.got
+moved_got e false s = refl
+moved_got e true s = refl
+
+down_got : (b : Bool) (e : LinkEnd) → (put_down b e).got ≡ e.got
+down_got false e = refl
+down_got true e = by e.shdlc.phase refl
+  where
+    by : (p : LinkState) → e.shdlc.phase ≡ p → (put_down true e).got ≡ e.got
+    by Up p = rw p refl
+    by Waiting p = rw p refl
+    by Down p = rw p refl
+
+act_got : (o : Option Act) (e : LinkEnd) → (with_act o e).got ≡ e.got
+act_got None e = refl
+act_got (Some act) e = refl
+
+activated_got : (e : LinkEnd) (event : ActEvent) → (activated e event).got ≡ e.got
+activated_got e event =
+    act_got (act_answer e.role event).send (record (put_down (act_answer e.role event).ended_link e) { role = role_after e.role event })
+    ∙ down_got (act_answer e.role event).ended_link e
+
+pub ticked_got : (m : LinkEnd) → (after_input m Tick).got ≡ m.got
+ticked_got m = by (is_open m.role) refl
+  where
+    by : (b : Bool) → is_open m.role ≡ b → (after_input m Tick).got ≡ m.got
+    by true q = rw q (moved_got m (is_some (tick_answer m.shdlc).ended) (ticked m.shdlc))
+    by false q = rw q (activated_got m ActTick)
+
+pub reset_got : (m : LinkEnd) (window : Option ℕ) → (after_input m (Reset window)).got ≡ m.got
+reset_got m window = by (reset_refusal m) refl
+  where
+    by : (o : Option Refused) → reset_refusal m ≡ o → (after_input m (Reset window)).got ≡ m.got
+    by None q = rw q (moved_got m (is_some (if_up m.shdlc Asked)) (reset_with m.shdlc (window_of m window)))
+    by (Some why) q = rw q refl
+
+-- ## An input with its report
+
+-- what is noted of an input, but for the messages that came, is what its report tells
+pub record IsReported (n : Node) (m : LinkEnd) (i : LinkInput) (at : End) (session : ℕ) (before now : List Entry) : Type 0 where
+  pub has : HasInput n (after_input m i)
+  pub noted : now ≡ before ++ reported at session (told_of (report m i)) (whole_acked (after_input m i))
+
+pub input_done : (n : Node) (k : Link) (pool : PoolState) (m : LinkEnd) (i : LinkInput) (r : LinkReport) (new : Node) (at : End) (session : ℕ)
+    (before now : List Entry) → HasInput n m → EndStandsFor k.link pool (after_input m i) → LeavesOthers n.pool pool n.«end».link k.link
+    → r ≡ told_of (report m i) → Reports m i → AreSendableInputs (i ∷ []) → length m.sent < 2 ^ 32
+    → new ≡ record { «end» = k; pool = pool; acked = acked_on n.acked r }
+    → now ≡ before ++ reported at session r new.acked
+    → IsReported new m i at session before now
+input_done n k pool m i r new at session before now h stands leaves told reports sendable few is noted =
+    let count : new.acked ≡ whole_acked (after_input m i) =
+    ap (λ (x : Node). x.acked) is ∙ (ap (acked_on n.acked) told ∙ acked_told m i n.acked h.acked few (is_sound m h.reached) reports) in
+    let P : Node → Type 0 = λ x. EndStandsFor x.«end».link x.pool (after_input m i) in
+    let Q : Node → Type 0 = λ x. Accounts x.«end».link x.pool None in
+    record {
+      has = record {
+        stands = subst P (sym is) stands;
+        accounts = subst Q (sym is) (account_kept n.pool pool n.«end».link k.link m None h.stands leaves h.accounts);
+        reached = reached_on m i sendable h.reached;
+        acked = count;
+      };
+      noted = noted ∙ ap (λ (x : LinkReport). before ++ reported at session x new.acked) told
+          ∙ ap (λ x. before ++ reported at session (told_of (report m i)) x) count;
+    }
+
+-- where no message came, that is all
+pub without_message : (n : Node) (m : LinkEnd) (i : LinkInput) (at : End) (session : ℕ) (before now : List Entry) → m.got ≡ []
+    → (after_input m i).got ≡ m.got → (report m i).got ≡ [] → IsReported n m i at session before now
+    → StandsFor n (after_input m i) × AreNoted at before now (told (side_of at) session (report m i) (whole_acked (after_input m i)))
+without_message n m i at session before now none kept silent d =
+    let k : ℕ = whole_acked (after_input m i) in
+    let all : entries_for at.link (told (side_of at) session (report m i) k) ≡ reported at session (told_of (report m i)) k =
+    told_at at session k (report m i)
+    ∙ (ap (λ ms. reported at session (told_of (report m i)) k ++ entries_for at.link (map (Got (side_of at) session) ms)) silent
+    ∙ append-nil (reported at session (told_of (report m i)) k)) in
+    (record { has = d.has; fetched = kept ∙ none }, d.noted ∙ ap (λ es. before ++ es) (sym all))
+
+-- ## What the node does to its end
+
+-- where the end, its pool and the number of acknowledged messages are such, the node stands for this state
+pub kept_as : (n : Node) (k : Link) (pool : PoolState) (m m2 : LinkEnd) → StandsFor n m → EndStandsFor k.link pool m2 → Accounts k.link pool None
+    → Reached m2 → m2.got ≡ m.got → whole_acked m2 ≡ whole_acked m → StandsFor (record { «end» = k; pool = pool; acked = n.acked }) m2
+kept_as n k pool m m2 h stands accounts reached got acked =
+    record {
+      has = record { stands = stands; accounts = accounts; reached = reached; acked = h.has.acked ∙ sym acked };
+      fetched = got ∙ h.fetched;
+    }
+
+-- a message that is given isn't acknowledged
+given_acked : (m : LinkEnd) (x : Message) → IsSendable x → Sound m → whole_acked (turn m (Give x)) ≡ whole_acked m
+given_acked m x s h = by (give_refusal m x) refl
+  where
+    count : 0 < packet_count (length x.1)
+    count = let l = s.1 in omega (arith, l)
+
+    whole : whole_among (m.sent ++ x ∷ []) m.shdlc.session.acked ≡ whole_acked m
+    whole =
+        let len = ap (λ (xs : List (List ℕ)). length xs) h.is.out in
+        let i = h.is.acked in let r = h.is.reached in
+        whole_given m.sent x m.shdlc.session.acked count (omega (arith, len, i, r))
+
+    by : (o : Option Refused) → give_refusal m x ≡ o → whole_acked (turn m (Give x)) ≡ whole_acked m
+    by None q = rw q whole
+    by (Some why) q = rw q refl
+
+given_got : (m : LinkEnd) (x : Message) → (turn m (Give x)).got ≡ m.got
+given_got m x = by (give_refusal m x) refl
+  where
+    by : (o : Option Refused) → give_refusal m x ≡ o → (turn m (Give x)).got ≡ m.got
+    by None q = rw q refl
+    by (Some why) q = rw q refl
+
+pub gives : (n : Node) (k : Link) (pool : PoolState) (m : LinkEnd) (x : Message) → StandsFor n m → EndStandsFor k.link pool (turn m (Give x))
+    → LeavesOthers n.pool pool n.«end».link k.link → IsSendable x → StandsFor (record { «end» = k; pool = pool; acked = n.acked }) (turn m (Give x))
+gives n k pool m x h stands leaves sendable =
+    kept_as n k pool m (turn m (Give x)) h stands (account_kept n.pool pool n.«end».link k.link m None h.has.stands leaves h.has.accounts)
+    (reached_on m (FromNode (Give x)) (sendable, tt) h.has.reached) (given_got m x) (given_acked m x sendable (is_sound m h.has.reached))
+
+held_acked : (m : LinkEnd) (held : Bool) → whole_acked (turn m (Hold held)) ≡ whole_acked m
+held_acked m held = go m.shdlc.ready held m.shdlc.session.answered_rnr refl refl refl
+  where
+    go : (was hold noted : Bool) → m.shdlc.ready ≡ was → held ≡ hold → m.shdlc.session.answered_rnr ≡ noted
+        → whole_acked (turn m (Hold held)) ≡ whole_acked m
+    go true true noted p q n = rw (p, q) refl
+    go true false noted p q n = rw (p, q) refl
+    go false true noted p q n = rw (p, q) refl
+    go false false true p q n = rw (p, q, n) refl
+    go false false false p q n = rw (p, q, n) refl
+
+pub holds : (n : Node) (k : Link) (m : LinkEnd) (held : Bool) → StandsFor n m → EndStandsFor k.link n.pool (turn m (Hold held))
+    → k.link.inbox ≡ n.«end».link.inbox → StandsFor (record { «end» = k; pool = n.pool; acked = n.acked }) (turn m (Hold held))
+holds n k m held h stands inbox =
+    kept_as n k n.pool m (turn m (Hold held)) h stands (account_moved n.pool n.«end».link k.link None inbox h.has.accounts)
+    (reached_on m (FromNode (Hold held)) tt h.has.reached) refl (held_acked m held)
+
+sent_acked : (s : EndState) → (fetched s).session.acked ≡ s.session.acked
+sent_acked s = go s.due (fragment_due s.session) refl refl
+  where
+    go : (ds : List Due) (o : Option Fragment) → s.due ≡ ds → fragment_due s.session ≡ o → (fetched s).session.acked ≡ s.session.acked
+    go [] None p q = rw (p, q) refl
+    go [] (Some info) p q = rw (p, q) refl
+    go (d ∷ ds) o p q = rw p refl
+
+fetched_same : (m : LinkEnd) → ((frame_fetched m).got ≡ m.got) × (whole_acked (frame_fetched m) ≡ whole_acked m)
+fetched_same m = go m.acts refl
+  where
+    at : whole_among m.sent (fetched m.shdlc).session.acked ≡ whole_acked m
+    at = ap (whole_among m.sent) (sent_acked m.shdlc)
+
+    go : (acts : List ActDue) → m.acts ≡ acts → ((frame_fetched m).got ≡ m.got) × (whole_acked (frame_fetched m) ≡ whole_acked m)
+    go [] p = rw p (refl, at)
+    go (a ∷ acts) p = by (a.behind == 0) refl
+      where
+        by : (b : Bool) → (a.behind == 0) ≡ b → ((frame_fetched m).got ≡ m.got) × (whole_acked (frame_fetched m) ≡ whole_acked m)
+        by true q = rw (p, q) (refl, refl)
+        by false q = rw (p, q) (refl, at)
+
+pub fetches_frame : (n : Node) (k : Link) (m : LinkEnd) → StandsFor n m → EndStandsFor k.link n.pool (frame_fetched m)
+    → k.link.inbox ≡ n.«end».link.inbox → StandsFor (record { «end» = k; pool = n.pool; acked = n.acked }) (frame_fetched m)
+fetches_frame n k m h stands inbox =
+    kept_as n k n.pool m (frame_fetched m) h stands (account_moved n.pool n.«end».link k.link None inbox h.has.accounts)
+    (reached_on m Fetch tt h.has.reached) (fetched_same m).0 (fetched_same m).1
+
+-- ## Refused resets
+
+pub refused_reset : (m : LinkEnd) (window : Option ℕ) (why : ResetRefused) → reset_told m window ≡ Err why → after_input m (Reset window) ≡ m
+refused_reset m window why told = by (reset_refusal m) refl
+  where
+    by : (o : Option Refused) → reset_refusal m ≡ o → after_input m (Reset window) ≡ m
+    by None q = absurd (let z : Ok (record nothing_told { ended = if_up m.shdlc Asked }) ≡ Err why = rw q at told in cc)
+    by (Some because) q = rw q refl
+
+-- an end that was reset has no messages
+reset_sent : (m : LinkEnd) (w : ℕ) → Sound m → (reset_by m w).sent ≡ []
+reset_sent m w h = by m.shdlc.phase refl
+  where
+    by : (p : LinkState) → m.shdlc.phase ≡ p → (reset_by m w).sent ≡ []
+    by Up p = rw p refl
+    by Waiting p = rw p (h.is.forgot (λ u. let z = sym p ∙ u in cc))
+    by Down p = rw p (h.is.forgot (λ u. let z = sym p ∙ u in cc))
+
+reset_report : (m : LinkEnd) (window : Option ℕ) → Sound m → reset_refusal m ≡ None
+    → record nothing_told { ended = if_up m.shdlc Asked } ≡ told_of (report m (Reset window))
+reset_report m window h q =
+    let w : ℕ = window_of m window in
+    let none : whole_acked (reset_by m w) - whole_acked m ≡ 0 = gone (whole_acked m) (reset_by m w) (reset_sent m w h) in
+    rw q (ap (λ x. record nothing_told { ended = if_up m.shdlc Asked; acked = x }) (sym none))
+  where
+    gone : (a : ℕ) (e : LinkEnd) → e.sent ≡ [] → whole_acked e - a ≡ 0
+    gone a e s = let z : whole_acked e ≡ 0 = rw s refl in omega (arith, z)
+
+pub answered_reset : (m : LinkEnd) (window : Option ℕ) (r : LinkReport) → Sound m → reset_told m window ≡ Ok r → r ≡ told_of (report m (Reset window))
+answered_reset m window r h told = by (reset_refusal m) refl
+  where
+    ok_or : LinkReport → Result LinkReport ResetRefused → LinkReport
+    ok_or x (Ok y) = y
+    ok_or x (Err e) = x
+
+    by : (o : Option Refused) → reset_refusal m ≡ o → r ≡ told_of (report m (Reset window))
+    by (Some because) q = absurd (let z : Err (reset_refused because) ≡ Ok r = rw q at told in cc)
+    by None q =
+        let z : Ok (record nothing_told { ended = if_up m.shdlc Asked }) ≡ Ok r = rw q at told in
+        sym (ap (ok_or r) z) ∙ reset_report m window h q
+
+pub reset_so_kept : (n : Node) (k : Link) (pool : PoolState) (m : LinkEnd) (window : Option ℕ) → StandsFor n m
+    → EndStandsFor k.link pool (after_input m (Reset window)) → LeavesOthers n.pool pool n.«end».link k.link → after_input m (Reset window) ≡ m
+    → StandsFor (record { «end» = k; pool = pool; acked = n.acked }) m
+reset_so_kept n k pool m window h stands leaves same =
+    let P : LinkEnd → Type 0 = λ e. EndStandsFor k.link pool e in
+    kept_as n k pool m m h (subst P same stands) (account_kept n.pool pool n.«end».link k.link m None h.has.stands leaves h.has.accounts)
+    h.has.reached refl refl
+
+-- ## Messages that come
+
+nothing_oldest : (ms : List Message) → oldest ms ≡ None → ms ≡ []
+nothing_oldest [] p = refl
+nothing_oldest (x ∷ ms) p = absurd (cc)
+
+only_oldest : (ms : List Message) (x : Message) → oldest ms ≡ Some x → drop 1 ms ≡ [] → ms ≡ x ∷ []
+only_oldest [] x p q = absurd (cc)
+only_oldest (y ∷ ms) x p q = (let z : y ≡ x = ap (or_else_this y) p in rw (z, q) refl)
+  where
+    or_else_this : Message → Option Message → Message
+    or_else_this a None = a
+    or_else_this a (Some b) = b
+
+-- an end whose messages were fetched has none
+fetched_none : (k : Kept) (pool : PoolState) (m : LinkEnd) → EndStandsFor k pool m → k.inbox.got ≡ None → m.got ≡ []
+fetched_none k pool m h none = sym h.half.got ∙ ap (λ g. messages_of pool (got_chains g)) none
+
+-- nothing came
+pub fetches_none : (n : Node) (k : Link) (m : LinkEnd) (at : End) (session : ℕ) (entries : List Entry) → HasInput n m
+    → EndStandsFor k.link n.pool (turn m FetchMessage) → Accounts k.link n.pool None → oldest m.got ≡ None
+    → StandsFor (record { «end» = k; pool = n.pool; acked = n.acked }) (turn m FetchMessage)
+    × AreNoted at entries entries (map (Got (side_of at) session) m.got)
+fetches_none n k m at session entries h stands accounts none =
+    let got = nothing_oldest m.got none in (
+      record {
+        has = record { stands = stands; accounts = accounts; reached = reached_on m (FromNode FetchMessage) tt h.reached; acked = h.acked };
+        fetched = ap (drop 1) got;
+      },
+      sym (ap (λ ms. entries ++ entries_for at.link (map (Got (side_of at) session) ms)) got ∙ append-nil entries),
+    )
+
+-- a message came, and its blocks were given back
+pub fetches_one : (n : Node) (k : Link) (pool : PoolState) (m : LinkEnd) (at : End) (session pid : ℕ) (chain : Chain) (message : List ℕ)
+    (before now : List Entry) → HasInput n m
+    → EndStandsFor k.link n.pool (turn m FetchMessage) → Accounts k.link n.pool (Some chain) → k.link.inbox.got ≡ None
+    → Some (pid, chain_bytes n.pool chain) ≡ oldest m.got → Gives n.pool pool chain → KeepsOthers n.pool pool chain chain
+    → message ≡ chain_bytes n.pool chain → now ≡ before ++ entry.Got at session pid message ∷ []
+    → StandsFor (record { «end» = k; pool = pool; acked = n.acked }) (turn m FetchMessage)
+    × AreNoted at before now (map (Got (side_of at) session) m.got)
+fetches_one n k pool m at session pid chain message before now h stands accounts none first gives keeps is noted =
+    let left = fetched_none k.link n.pool (turn m FetchMessage) stands none in
+    let x : Message = (pid, chain_bytes n.pool chain) in
+    let got = only_oldest m.got x (sym first) left in
+    let given = given_own n.pool pool k.link (turn m FetchMessage) chain stands accounts gives keeps in (
+      record {
+        has = record { stands = given.0; accounts = given.1; reached = reached_on m (FromNode FetchMessage) tt h.reached; acked = h.acked };
+        fetched = left;
+      },
+      noted ∙ ap (λ (bytes : List ℕ). before ++ entry.Got at session pid bytes ∷ []) is
+          ∙ ap (λ (z : End). before ++ entry.Got z session pid (chain_bytes n.pool chain) ∷ []) (sym (end_is at))
+          ∙ sym (ap (λ ms. before ++ entries_for at.link (map (Got (side_of at) session) ms)) got),
+    )
+
+-- a message that was fetched is live
+pub fetched_live : (k : Kept) (pool : PoolState) (chain : Chain) → Accounts k pool (Some chain) → IsLive pool chain
+fetched_live k pool chain a = a.fetched.live
+
+heard_got : (m : LinkEnd) (c : Control) → (took m c ≡ cond (is_open m.role) (heard m c) m)
+    → (brought m c ≡ cond (is_open m.role) (cond (is_faulty (taken m.shdlc c).session) [] (news m.shdlc.session (taken m.shdlc c))) [])
+    → (took m c).got ≡ m.got ++ brought m c
+heard_got m c t b = by (is_open m.role) (is_faulty (taken m.shdlc c).session) refl refl
+  where
+    by : (o f : Bool) → is_open m.role ≡ o → is_faulty (taken m.shdlc c).session ≡ f → (took m c).got ≡ m.got ++ brought m c
+    by false f p q = rw (t, b, p) (sym (append-nil m.got))
+    by true true p q = rw (t, b, p, q) (down_got true m ∙ sym (append-nil m.got))
+    by true false p q = rw (t, b, p, q) refl
+
+-- what a frame brings stands behind what came before
+took_got : (m : LinkEnd) (c : Control) → (took m c).got ≡ m.got ++ brought m c
+took_got m (ActFrame act again) = activated_got m (ActTake act again) ∙ sym (append-nil m.got)
+took_got m Clt = sym (append-nil m.got)
+took_got m (I ns nr info) = heard_got m (I ns nr info) refl refl
+took_got m (S kind nr) = heard_got m (S kind nr) refl refl
+took_got m (Rset window caps) = heard_got m (Rset window caps) refl refl
+took_got m Ua = heard_got m Ua refl refl
+
+-- a message came with a frame, or none did, and it was fetched
+pub with_message : (n fetched : Node) (m : LinkEnd) (c : Control) (at : End) (session : ℕ) (before mid now : List Entry) → m.got ≡ []
+    → IsReported n m (Take c) at session before mid
+    → StandsFor fetched (turn (after_input m (Take c)) FetchMessage)
+    × AreNoted at mid now (map (Got (side_of at) session) (after_input m (Take c)).got)
+    → StandsFor fetched (turn (after_input m (Take c)) FetchMessage)
+    × AreNoted at before now (told (side_of at) session (report m (Take c)) (whole_acked (after_input m (Take c))))
+with_message n fetched m c at session before mid now none d f =
+    let k : ℕ = whole_acked (after_input m (Take c)) in
+    let got : (after_input m (Take c)).got ≡ brought m c = took_got m c ∙ ap (λ ms. ms ++ brought m c) none in
+    let head : List Entry = reported at session (told_of (report m (Take c))) k in (
+      f.0,
+      f.1 ∙ ap (λ es. es ++ entries_for at.link (map (Got (side_of at) session) (after_input m (Take c)).got)) d.noted
+          ∙ append_assoc before head (entries_for at.link (map (Got (side_of at) session) (after_input m (Take c)).got))
+          ∙ ap (λ ms. before ++ (head ++ entries_for at.link (map (Got (side_of at) session) ms))) got
+          ∙ ap (λ es. before ++ es) (sym (told_at at session k (report m (Take c)))),
+    )
+
+pub taken_input : (bytes : List ℕ) (c : Control) → control_of bytes ≡ Ok c → lpdu_input bytes ≡ Take c
+taken_input bytes c q = rw q refl
+
+-- what a call leaves of what may be fetched
+pub can_fetch : (n : Node) (k : Link) (pool : PoolState) (m m2 : LinkEnd) (acked : ℕ) (new : Node) → StandsFor n m → EndStandsFor k.link pool m2
+    → LeavesOthers n.pool pool n.«end».link k.link → new ≡ record { «end» = k; pool = pool; acked = acked } → CanFetch new m2
+can_fetch n k pool m m2 acked new h stands leaves is =
+    let P : Node → Type 0 = λ x. CanFetch x m2 in
+    subst P (sym is)
+    (record { stands = stands; accounts = account_kept n.pool pool n.«end».link k.link m None h.has.stands leaves h.has.accounts })

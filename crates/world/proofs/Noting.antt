@@ -1,0 +1,149 @@
+-- What is noted of an input is what its report tells.
+use Rattle.std.proofs.Common.{◌≡◌, ℕ, ◌+◌, ◌-◌, ◌<◌, ◌≤◌, ◌^◌, Bool, true, false, cond, List, [], ◌∷◌, ◌++◌, length, map, refl, ap, sym, subst, ◌∙◌, arith, append_assoc}
+use Rattle.std.proofs.lemmas.Bool.{true≢false}
+use Rattle.std.proofs.lemmas.List.Concat.{flat_map-append}
+use Rattle.std.specs.Prelude.{Option, Some, None, is_some, min, nat_lt, option_to_list}
+use Rattle.swp_base.specs.declared.link_terms.Cause.{Cause}
+use Rattle.trace_model.specs.declared.entry.Entry.{Entry}
+use Rattle.trace_model.specs.declared.entry.Entry.TheVariants as entry
+use Rattle.trace_model.specs.declared.line.End.{End}
+use Rattle.link_machine.specs.Machine.{LinkEnd, LinkInput, Report, report, after_input, ended_by, began_by, whole_among, whole_acked}
+use Rattle.link_machine.proofs.Shifts.{Shift}
+use Rattle.link_machine.proofs.Shifts.Shift.{Stays, Ends, Renews, Begins, Rests}
+use Rattle.link_machine.proofs.Sound.{SentAfter, whole_more, whole_few}
+use Rattle.link_machine.proofs.Runs.{Sound}
+use Rattle.link_machine.proofs.Reports.{Reports}
+use Rattle.link_end.specs.Reports.{told as told_of}
+use Rattle.link_entries.specs.Entries.{End as Which, Entry as Noted, told, if_so as note_if}
+use Rattle.link_entries.specs.Entries.Entry.{Up, Down, Active, GaveUp, Acked, Got}
+use Rattle.history.specs.Steps.{end_of, entry_of, entries_for}
+use Rattle.world.specs.Noting.{side_of, if_so, acked_on, reported}
+use Rattle.world.specs.Sides.{AreNoted}
+
+-- an end is the one on its side of its link
+pub end_is : (at : End) → end_of at.link (side_of at) ≡ at
+end_is at = by at.at_host refl
+  where
+    by : (b : Bool) → at.at_host ≡ b → end_of at.link (side_of at) ≡ at
+    by true q = rw q refl
+    by false q = rw q refl
+
+pub entries-append : (h : ℕ) (a b : List Noted) → entries_for h (a ++ b) ≡ entries_for h a ++ entries_for h b
+entries-append h a b = flat_map-append (entry_of h) a b
+
+-- what is noted behind what was noted
+pub more_noted : (at : End) (before mid now : List Entry) (a b : List Noted) → AreNoted at before mid a → AreNoted at mid now b
+    → AreNoted at before now (a ++ b)
+more_noted at before mid now a b p q =
+    q ∙ (ap (λ es. es ++ entries_for at.link b) p ∙ (append_assoc before (entries_for at.link a) (entries_for at.link b)
+    ∙ ap (λ es. before ++ es) (sym (entries-append at.link a b))))
+
+down_entries : (h : ℕ) (who : Which) (o : Option Cause) → entries_for h (map (Down who) (option_to_list o)) ≡ map (entry.Down (end_of h who)) (option_to_list o)
+down_entries h who None = refl
+down_entries h who (Some cause) = refl
+
+gave_up_entries : (h : ℕ) (who : Which) (o : Option ℕ) → entries_for h (map (GaveUp who) (option_to_list o)) ≡ map (entry.GaveUp (end_of h who)) (option_to_list o)
+gave_up_entries h who None = refl
+gave_up_entries h who (Some tries) = refl
+
+if_entries : (h : ℕ) (b : Bool) (x : Noted) (e : Entry) → entry_of h x ≡ e ∷ [] → entries_for h (note_if b x) ≡ if_so b e
+if_entries h false x e q = refl
+if_entries h true x e q = ap (λ es. es ++ []) q
+
+-- what the report tells, but for the messages that came
+told_entries : (h : ℕ) (who : Which) (n k : ℕ) (r : Report) → entries_for h (told who n r k)
+    ≡ reported (end_of h who) n (told_of r) k ++ entries_for h (map (Got who n) r.got)
+told_entries h who n k r =
+    let a : List Noted = map (Down who) (option_to_list r.ended) in
+    let b : List Noted = note_if r.began (Up who n) in
+    let c : List Noted = note_if r.became_active (Active who) in
+    let d : List Noted = map (GaveUp who) (option_to_list r.gave_up) in
+    let e : List Noted = note_if (nat_lt 0 r.acked) (Acked who n k) in
+    let g : List Noted = map (Got who n) r.got in
+    let z : End = end_of h who in
+    entries-append h a (b ++ (c ++ (d ++ (e ++ g))))
+    ∙ (parts (down_entries h who r.ended)
+    (entries-append h b (c ++ (d ++ (e ++ g)))
+    ∙ parts (if_entries h r.began (Up who n) (entry.Up z n) refl)
+    (entries-append h c (d ++ (e ++ g))
+    ∙ parts (if_entries h r.became_active (Active who) (entry.Active z) refl)
+    (entries-append h d (e ++ g)
+    ∙ parts (gave_up_entries h who r.gave_up)
+    (entries-append h e g ∙ parts (if_entries h (nat_lt 0 r.acked) (Acked who n k) (entry.Acked z n k) refl) refl))))
+    ∙ joined (map (entry.Down z) (option_to_list r.ended)) (if_so r.began (entry.Up z n)) (if_so r.became_active (entry.Active z))
+    (map (entry.GaveUp z) (option_to_list r.gave_up)) (if_so (nat_lt 0 r.acked) (entry.Acked z n k)) (entries_for h g))
+  where
+    parts : {a b c d : List Entry} → a ≡ c → b ≡ d → a ++ b ≡ c ++ d
+    parts p q = rw (p, q) refl
+
+    joined : (a b c d e g : List Entry) → a ++ (b ++ (c ++ (d ++ (e ++ g)))) ≡ (a ++ (b ++ (c ++ (d ++ e)))) ++ g
+    joined a b c d e g =
+        sym (append_assoc a (b ++ (c ++ (d ++ e))) g
+        ∙ ap (λ l. a ++ l) (append_assoc b (c ++ (d ++ e)) g
+        ∙ ap (λ l. b ++ l) (append_assoc c (d ++ e) g ∙ ap (λ l. c ++ l) (append_assoc d e g))))
+
+pub told_at : (at : End) (n k : ℕ) (r : Report) → entries_for at.link (told (side_of at) n r k)
+    ≡ reported at n (told_of r) k ++ entries_for at.link (map (Got (side_of at) n) r.got)
+told_at at n k r =
+    told_entries at.link (side_of at) n k r
+    ∙ ap (λ z. reported z n (told_of r) k ++ entries_for at.link (map (Got (side_of at) n) r.got)) (end_is at)
+
+-- ## How many messages are acknowledged
+
+acked_by : (e f : LinkEnd) (before : ℕ) (ended began : Bool) → before ≡ whole_acked e → length e.sent < 2 ^ 32 → Sound e
+    → Shift e.shdlc f.shdlc ended began → SentAfter ended e f
+    → min (cond ended 0 before + (whole_acked f - whole_acked e)) 4294967295 ≡ whole_acked f
+acked_by e f before ended began is few h shift sent = go shift
+  where
+    Is : Bool → Type 0
+    Is x = min (cond x 0 before + (whole_acked f - whole_acked e)) 4294967295 ≡ whole_acked f
+
+    without : (x : LinkEnd) → x.sent ≡ [] → whole_acked x ≡ 0
+    without x q = rw q refl
+
+    low : whole_acked e ≤ length e.sent
+    low = whole_few e.sent e.shdlc.session.acked
+
+    sent_true : (x : Bool) → x ≡ true → SentAfter x e f → f.sent ≡ []
+    sent_true true z s = s
+    sent_true false z s = absurd (true≢false (sym z))
+
+    sent_false : (x : Bool) → x ≡ false → SentAfter x e f → f.sent ≡ e.sent
+    sent_false false z s = s
+    sent_false true z s = absurd (true≢false z)
+
+    over : ended ≡ true → Is ended
+    over p =
+        let none = without f (sent_true ended p sent) in
+        subst Is (sym p) (at (whole_acked e) (whole_acked f) none)
+      where
+        at : (a b : ℕ) → b ≡ 0 → min (0 + (b - a)) 4294967295 ≡ b
+        at a b q = omega (arith, q)
+
+    fresh : ended ≡ false → e.sent ≡ [] → Is ended
+    fresh p q =
+        let none = without f (sent_false ended p sent ∙ q) in
+        let old = without e q in
+        subst Is (sym p) (at before (whole_acked e) (whole_acked f) is old none)
+      where
+        at : (x a b : ℕ) → x ≡ a → a ≡ 0 → b ≡ 0 → min (x + (b - a)) 4294967295 ≡ b
+        at x a b p q r = omega (arith, p, q, r)
+
+    go : Shift e.shdlc f.shdlc ended began → Is ended
+    go (Stays p q g) =
+        let same = sent_false ended p sent in
+        let now : whole_acked f ≡ whole_among e.sent f.shdlc.session.acked = ap (λ ms. whole_among ms f.shdlc.session.acked) same in
+        subst Is (sym p) (at before (whole_acked e) (whole_acked f) is
+        (let z = whole_more e.sent e.shdlc.session.acked f.shdlc.session.acked g.low in omega (arith, z, now))
+        (let z = whole_few e.sent f.shdlc.session.acked in omega (arith, z, now, few)))
+      where
+        at : (x a b : ℕ) → x ≡ a → a ≤ b → b < 2 ^ 32 → min (x + (b - a)) 4294967295 ≡ b
+        at x a b p q r = omega (arith, p, q, r)
+    go (Ends p q up still s) = over p
+    go (Renews p q up new) = over p
+    go (Begins p q not new) = fresh p (h.is.forgot not)
+    go (Rests p q not still s) = fresh p (h.is.forgot not)
+
+pub acked_told : (e : LinkEnd) (i : LinkInput) (before : ℕ) → before ≡ whole_acked e → length e.sent < 2 ^ 32 → Sound e → Reports e i
+    → acked_on before (told_of (report e i)) ≡ whole_acked (after_input e i)
+acked_told e i before is few h b = acked_by e (after_input e i) before (is_some (ended_by e i)) (began_by e i) is few h b.shift b.sent

@@ -1,0 +1,53 @@
+use Rattle.std.proofs.Common.{◌≡◌, ℕ, suc, ◌+◌, ◌-◌, subst, arith}
+use Rattle.world.proofs.Sending.{Sending, sending_starts, sending_goes_on, sending_stops, sending_ends}
+use Rattle.world.proofs.steps.send_all.Goals as goal
+
+pub loop-init : goal.loop-init
+loop-init c =
+    (λ l m h. sending_starts c.args.at c.args.near.now c.args.far.now c.args.resets.now l m c.args.entries.now.items h, omega arith)
+
+pub next_out-requires : goal.next_out-requires
+next_out-requires c =
+    let state = c.requires.state in
+    let s = c.loop.invariant.0 state.0 state.1 state.2 in (s.e, s.midway.here.node)
+
+pub returns-in_default-clause-stands : goal.returns-in_default-clause-stands
+returns-in_default-clause-stands c l m h =
+    let n = c.next_out in
+    let s = c.loop.invariant.0 l m h in
+    sending_stops c.args.at c.loop.near c.loop.far n.new.self c.loop.resets l m c.args.entries.now.items c.loop.entries.items (12 - c.loop.counter)
+    n.result s (n.ensures.stands s.e s.midway.here.node) (n.ensures.answer s.e s.midway.here.node) c.in_default.is
+
+pub returns-in_default-clause-grows : goal.returns-in_default-clause-grows
+returns-in_default-clause-grows c = let i = c.loop.invariant.1 in omega (arith, i, c.loop-test.true)
+
+pub put-requires : goal.put-requires
+put-requires c = let i = c.loop.invariant.1 in let r = c.requires.room in omega (arith, i, r, c.loop-test.true)
+
+pub returns-in_err-put-clause-grows : goal.returns-in_err-put-clause-grows
+returns-in_err-put-clause-grows c =
+    let i = c.loop.invariant.1 in let g = c.put.ensures.grows in omega (arith, i, g, c.loop-test.true)
+
+pub loop-preserved : goal.loop-preserved
+loop-preserved c =
+    let n = c.next_out in (
+      λ l m h.
+          (let left : 12 - c.loop.counter ≡ suc (12 - (c.loop.counter + 1)) = omega (arith, c.loop-test.true) in
+          let P : ℕ → Type 0 = λ k. Sending c.args.at c.loop.near c.loop.far c.loop.resets l m c.args.entries.now.items c.loop.entries.items k in
+          let s = subst P left (c.loop.invariant.0 l m h) in
+          sending_goes_on c.args.at c.loop.near c.loop.far c.put.new.near c.put.new.far n.new.self c.loop.resets c.put.new.resets l m
+          c.args.entries.now.items c.loop.entries.items c.put.new.entries.items (12 - (c.loop.counter + 1)) c.in-Some.lpdu n.result s
+          (n.ensures.stands s.e s.midway.here.node) (n.ensures.answer s.e s.midway.here.node) (n.ensures.read s.e s.midway.here.node)
+          c.in-Some.is (λ k e f. c.in_ok-put.ensures.stands k e f)),
+      (let i = c.loop.invariant.1 in let g = c.put.ensures.grows in omega (arith, i, g)),
+    )
+
+pub returns-clause-stands : goal.returns-clause-stands
+returns-clause-stands c l m h =
+    let none : 12 - c.loop.counter ≡ 0 = omega (arith, c.loop-test.false) in
+    let P : ℕ → Type 0 = λ k. Sending c.args.at c.loop.near c.loop.far c.loop.resets l m c.args.entries.now.items c.loop.entries.items k in
+    sending_ends c.args.at c.loop.near c.loop.far c.loop.resets l m c.args.entries.now.items c.loop.entries.items
+    (subst P none (c.loop.invariant.0 l m h))
+
+pub returns-clause-grows : goal.returns-clause-grows
+returns-clause-grows c = let i = c.loop.invariant.1 in let e = c.loop.auto.counter-end in omega (arith, i, e)

@@ -1,0 +1,12 @@
+use Rattle.std.proofs.Common.{◌+◌, ◌-◌, ◌≤◌}
+use Rattle.link_machine.specs.Machine.{LinkEnd as Machine}
+use Rattle.message_link.specs.Links.{Link}
+use Rattle.world.specs.Sides.{IsMidway}
+use Rattle.world.proofs.Sending.{Sending}
+use Rattle.world.proofs.steps.send_all.Given as goal
+
+abbrev pub invariant-loop : goal.invariant-loop
+invariant-loop l =
+    ((k : Link) (m : Machine) → IsMidway l.initial.near l.initial.far l.initial.resets k m
+    → Sending l.at l.near l.far l.resets k m l.initial.entries.items l.entries.items (12 - l.counter))
+    × (l.resets ≤ l.initial.resets + l.counter)

@@ -1,0 +1,78 @@
+-- What a line does on a link, seen from the end that it speaks of.
+use Rattle.std.specs.Prelude.{◌≡◌, ℕ, ◌≤◌, List, [], ◌∷◌, ◌++◌, length, Option, Some, None}
+use Rattle.swp_lpdu.specs.Controls.{bytes_of as lpdu_of}
+use Rattle.session_laws.specs.Sessions.{OnWire}
+use Rattle.trace_model.specs.declared.entry.Entry.{Entry}
+use Rattle.trace_model.specs.declared.line.End.{End}
+use Rattle.trace_model.specs.declared.line.Line.{Line}
+use Rattle.trace_model.specs.declared.line.Line.TheVariants as line
+use Rattle.message_link.specs.Links.{Link, Loss}
+use Rattle.history.specs.Histories.{Cause, noted}
+use Rattle.history.specs.Damage.Verdict.{Same as ReadSame, LostFor, Undetected as ReadOther}
+use Rattle.history.specs.Steps.{lost_as, link_after, event_at}
+use Rattle.history.specs.Follows.{seen_from, frames_to, outcome_of, link_after_line, if_out_of_reach, first_verdict, misread}
+use Rattle.world.specs.declared.damage_line.Misread.{Misread}
+use Rattle.world.specs.declared.damage_line.Damaged.{Damaged}
+use Rattle.world.specs.declared.damage_line.Damaged.TheVariants.{Refused, Same, Lost, Undetected}
+use Rattle.world.specs.declared.side.Side.{Side}
+use Rattle.world.specs.Sides.{LinkStandsFor}
+
+-- both sides, the near one being that of this end, stand for a link
+abbrev pub SidesStandFor : Side → Side → ℕ → End → Link → Type 0
+SidesStandFor near far resets at l = LinkStandsFor near far resets (seen_from at l)
+
+-- both sides stand for the link after the line, and what became of it is noted
+pub record Does (near far : Side) (resets : ℕ) (at : End) (l : Link) (line : Line) (now : List Entry) : Type 0 where
+  pub stands : SidesStandFor near far resets at (link_after_line l (outcome_of at.link l line))
+  pub noted_are : now ≡ noted (outcome_of at.link l line)
+
+-- the bytes of the first frame on a wire
+abbrev pub first_lpdu : List OnWire → Option (List ℕ)
+first_lpdu [] = None
+first_lpdu (x ∷ xs) = Some (lpdu_of x.frame)
+
+-- what a line that damages the first frame of a wire at these places finds there
+abbrev pub Finds : List OnWire → List ℕ → Damaged → Type 0
+Finds wire places (Refused why) = if_out_of_reach wire places ≡ Some why
+Finds wire places Same = (if_out_of_reach wire places ≡ None) × (first_verdict wire places ≡ Some ReadSame)
+Finds wire places (Lost cause) =
+    (if_out_of_reach wire places ≡ None) × ((why : Loss) × (first_verdict wire places ≡ Some (LostFor why)) × (cause ≡ lost_as why))
+Finds wire places (Undetected other) =
+    (if_out_of_reach wire places ≡ None) × (first_verdict wire places ≡ Some (ReadOther other.read)) × (first_lpdu wire ≡ Some other.sent)
+
+-- the first frame on its way to the end that a line speaks of, where the line damages it
+abbrev pub damaged_by : Link → Line → Option (List ℕ)
+damaged_by l (line.Damage e places) = first_lpdu (frames_to l e)
+damaged_by l _ = None
+
+-- this is told of a line: which other frame is read in place of the first one on the wire, where one is
+abbrev pub IsMisread : Link → Line → Option Misread → Type 0
+IsMisread l line None = misread l line ≡ None
+IsMisread l line (Some other) = (misread l line ≡ Some other.read) × (damaged_by l line ≡ Some other.sent)
+
+-- both sides stand for the link after a cause, and its entries are noted behind those before
+pub record HasCaused (near far : Side) (resets : ℕ) (at : End) (l : Link) (cause : Cause) (before now : List Entry) : Type 0 where
+  pub stands : SidesStandFor near far resets at (link_after l cause)
+  pub noted_are : now ≡ before ++ (event_at at.link l cause).entries
+
+-- both ends were given at most so many messages in their sessions
+pub record HaveSent (l : Link) (most : ℕ) : Type 0 where
+  pub here : length l.controller.side.sent ≤ most
+  pub there : length l.host.side.sent ≤ most
+
+-- the end that a line speaks of; where it speaks of none, this one
+abbrev pub end_for : End → Line → End
+end_for e (line.Send at pid message) = at
+end_for e (line.Deliver at count) = at
+end_for e (line.Lose at) = at
+end_for e (line.Damage at places) = at
+end_for e (line.Reset at window) = at
+end_for e (line.Busy at) = at
+end_for e (line.Ready at) = at
+end_for e (line.Tick times) = e
+end_for e (line.Boot node) = e
+end_for e (line.Cut node) = e
+end_for e (line.Activate host sync power) = e
+end_for e (line.Arm node nth fill) = e
+end_for e (line.Init at identity pipes) = e
+end_for e (line.Tables node) = e

@@ -1,0 +1,255 @@
+//! The node of a bare end: the end, the blocks of memory of its messages, and what is noted of the end.
+ghost use Rattle.std.specs.Prelude.{◌≡◌, ◌++◌, OnOk, IfOk, map, option_to_list};
+ghost use Rattle.trace_model.specs.declared.entry.Entry.{Entry};
+ghost use Rattle.world.specs.Noting.{if_so};
+ghost use Rattle.block_pool.specs.Pool.{PoolState, IsLive, chain_bytes};
+
+use block_pool::{Chain, Pool};
+use link_end::{LinkEnd, LinkReport, ResetRefused, SendRefused};
+use std::alloc::{AllocError, Global};
+use swp_base::{Cause, Lpdu, NoMemory, Role};
+use trace_model::{End, Entry, NoCause, Octets};
+
+/// The owners of blocks in the pool of a bare end: one for what it sends, and one for what comes.
+const SENDER: u8 = 0;
+
+const RECEIVER: u8 = 1;
+
+/// The blocks of both owners. This project's own.
+const QUOTAS: [u16; 2] = [128, 512];
+
+/// Where something is noted: at which end, and in the session with which number.
+#[derive(Clone, Copy)]
+pub(crate) struct Place {
+    pub(crate) at: End,
+    pub(crate) session: u32,
+}
+
+/// The node of a bare end.
+#[derive(Drop)]
+pub(crate) struct Node {
+    end: LinkEnd,
+    pool: Pool,
+    // How many messages of the session are acknowledged; 4,294,967,295 stands for any greater number.
+    acked: u32,
+}
+
+impl Node {
+    ghost use Rattle.std.specs.Prelude.{◌≡◌, ℕ, ◌<◌, ◌≤◌, ◌^◌, [], ◌∷◌, ◌++◌, OnOk, OnErr, IfOk, IfErr, IfSome, IsOk, ◌↔◌, None, Some, Ok, length, map, option_map};
+    ghost use Rattle.swp_base.specs.declared.control_frames.Control.{Control};
+    ghost use Rattle.swp_lpdu.specs.Controls.{bytes_of, control_of};
+    ghost use Rattle.hcp_packet.specs.Packets.{IsSendable};
+    ghost use Rattle.link_machine.specs.Machine.{LinkEnd as Machine, Bare, Message, report, new_link_end, after_input, next_frame, turn, give_refusal, reset_refusal, whole_acked};
+    ghost use Rattle.link_machine.specs.Machine.LinkInput.{Take, Tick, Reset, Fetch};
+    ghost use Rattle.link_machine.specs.Machine.Turn.{Give, Hold, FetchMessage};
+    ghost use Rattle.link_entries.specs.Entries.{told};
+    ghost use Rattle.link_entries.specs.Entries.Entry.{Got};
+    ghost use Rattle.history.specs.Follows.{as_noted};
+    ghost use Rattle.world.specs.Noting.{acked_on, reported, side_of};
+    ghost use Rattle.world.specs.Nodes.{StandsFor, HasInput, CanFetch, HasFewDue};
+    ghost use Rattle.world.specs.Sides.{AreNoted};
+
+    /// A new end, which is Up.
+    pub(crate) fn make(alloc: Global) -> Result<Node, NoMemory>
+        ensures { IfOk result (λ n. StandsFor n (new_link_end Bare)) }
+    {
+        let pool = Pool::make(alloc, &QUOTAS)?;
+        let end = LinkEnd::make(alloc, Role::Bare, SENDER, RECEIVER)?;
+        Ok(Node {
+            end,
+            pool,
+            acked: 0,
+        })
+    }
+
+    // What an input did is noted, but for the message that came.
+    fn note(
+        &mut self,
+        place: Place,
+        report: &LinkReport,
+        entries: &mut Vec<Entry>,
+    ) -> Result<(), AllocError>
+        ensures counted { self.new ≡ record self.old { acked = acked_on self.old.acked report.now } }
+        ensures noted { OnOk result (entries.new.items ≡ entries.old.items ++ reported place.at place.session report.now self.new.acked) }
+    {
+        let Place { at, session } = place;
+        if report.ended.is_some() {
+            self.acked = 0;
+        }
+        self.acked = self.acked.saturating_add(u32::from(report.acked));
+        note_some(down_entry(at, report.ended), entries)?;
+        note_some(entry_if(report.began, Entry::Up { at, session }), entries)?;
+        note_some(
+            entry_if(report.became_active, Entry::Active { at }),
+            entries,
+        )?;
+        note_some(gave_up_entry(at, report.gave_up), entries)?;
+        let acked = Entry::Acked {
+            at,
+            session,
+            count: self.acked,
+        };
+        note_some(entry_if(report.acked > 0, acked), entries)
+    }
+
+    // The message that came, where one did, is noted, and its blocks are given back.
+    fn note_message(
+        &mut self,
+        alloc: Global,
+        place: Place,
+        entries: &mut Vec<Entry>,
+    ) -> Result<(), AllocError>
+        requires { (m : Machine) × CanFetch self.old m }
+        ensures { (m : Machine) → HasInput self.old m → OnOk result (StandsFor self.new (turn m FetchMessage)
+            × AreNoted place.at entries.old.items entries.new.items (map (Got (side_of place.at) place.session) m.got)) }
+    {
+        let Some((pid, chain)) = self.end.next_message() else {
+            return Ok(());
+        };
+        let message = copied(alloc, &self.pool, &chain)?;
+        let Place { at, session } = place;
+        entries.push(Entry::Got {
+            at,
+            session,
+            pid,
+            message,
+        })?;
+        self.pool.give(chain);
+        Ok(())
+    }
+
+    /// Takes a frame, and notes what it did and the message that it brought.
+    pub(crate) fn take(
+        &mut self,
+        alloc: Global,
+        place: Place,
+        lpdu: &Lpdu,
+        entries: &mut Vec<Entry>,
+    ) -> Result<(), AllocError>
+        requires { (m : Machine) × StandsFor self.old m × HasFewDue m }
+        ensures { (m : Machine) (c : Control) → StandsFor self.old m → HasFewDue m → control_of lpdu.now ≡ Ok c → length m.sent < 2 ^ 32
+            → OnOk result (StandsFor self.new (turn (after_input m (Take c)) FetchMessage)
+            × AreNoted place.at entries.old.items entries.new.items (told (side_of place.at) place.session (report m (Take c)) (whole_acked (after_input m (Take c))))) }
+    {
+        let report = self.end.take_lpdu(&mut self.pool, lpdu);
+        self.note(place, &report, entries)?;
+        self.note_message(alloc, place, entries)
+    }
+
+    /// One tick, and what it did is noted.
+    pub(crate) fn tick(&mut self, place: Place, entries: &mut Vec<Entry>) -> Result<(), AllocError>
+        requires { (m : Machine) × StandsFor self.old m × HasFewDue m }
+        ensures { (m : Machine) → StandsFor self.old m → HasFewDue m → length m.sent < 2 ^ 32
+            → OnOk result (StandsFor self.new (after_input m Tick)
+            × AreNoted place.at entries.old.items entries.new.items (told (side_of place.at) place.session (report m Tick) (whole_acked (after_input m Tick)))) }
+    {
+        let report = self.end.tick(&mut self.pool);
+        self.note(place, &report, entries)
+    }
+
+    /// A reset is asked for, and what it did is noted. Why it is refused, where it is; nothing changes then.
+    pub(crate) fn reset(
+        &mut self,
+        place: Place,
+        window: Option<u8>,
+        entries: &mut Vec<Entry>,
+    ) -> Result<Option<NoCause>, AllocError>
+        requires stands { (m : Machine) × StandsFor self.old m × HasFewDue m }
+        requires window { IfSome window (λ w. (1 ≤ w) × (w ≤ 4)) }
+        ensures refused { (m : Machine) → StandsFor self.old m → HasFewDue m → IfOk result (λ cause. cause ≡ as_noted (reset_refusal m)) }
+        ensures unchanged { (m : Machine) → StandsFor self.old m → HasFewDue m
+            → IfOk result (λ cause. IfSome cause (λ why. StandsFor self.new m × (entries.new.items ≡ entries.old.items))) }
+        ensures stands { (m : Machine) → StandsFor self.old m → HasFewDue m → length m.sent < 2 ^ 32
+            → IfOk result (λ cause. cause ≡ None → StandsFor self.new (after_input m (Reset window))
+            × AreNoted place.at entries.old.items entries.new.items (told (side_of place.at) place.session (report m (Reset window)) (whole_acked (after_input m (Reset window))))) }
+    {
+        match self.end.reset(&mut self.pool, window) {
+            Ok(report) => {
+                self.note(place, &report, entries)?;
+                Ok(None)
+            }
+            Err(ResetRefused::Inactive) => Ok(Some(NoCause::Inactive)),
+            Err(ResetRefused::Waiting) => Ok(Some(NoCause::Waiting)),
+        }
+    }
+
+    /// A message is given to send. Why it is refused, where it is; nothing changes then.
+    pub(crate) fn give(&mut self, pid: u8, message: &[u8]) -> Option<NoCause>
+        requires stands { (m : Machine) × StandsFor self.old m }
+        requires sendable { IsSendable (pid, message.now) }
+        ensures refused { (m : Machine) → StandsFor self.old m → result ≡ as_noted (give_refusal m (pid, message.now)) }
+        ensures stands { (m : Machine) → StandsFor self.old m → StandsFor self.new (turn m (Give (pid, message.now))) }
+    {
+        match self.end.send(&mut self.pool, pid, message) {
+            Ok(()) => None,
+            Err(SendRefused::NotUp) => Some(NoCause::NotUp),
+            Err(SendRefused::TooLong { .. }) => Some(NoCause::TooLong),
+            Err(SendRefused::Full { need, spare }) => Some(NoCause::Full { need, spare }),
+        }
+    }
+
+    /// The end is held, so that it takes no fragments, or let go.
+    pub(crate) fn hold(&mut self, held: bool)
+        requires { (m : Machine) × StandsFor self.old m × HasFewDue m }
+        ensures { (m : Machine) → StandsFor self.old m → HasFewDue m → StandsFor self.new (turn m (Hold held)) }
+    {
+        self.end.hold(held);
+    }
+
+    /// Fetches the frame that is to be sent now. None where nothing is to be sent.
+    pub(crate) fn next_out(&mut self) -> Option<Lpdu>
+        requires { (m : Machine) × StandsFor self.old m }
+        ensures stands { (m : Machine) → StandsFor self.old m → StandsFor self.new (after_input m Fetch) }
+        ensures answer { (m : Machine) → StandsFor self.old m → result ≡ option_map bytes_of (next_frame m) }
+        ensures read { (m : Machine) → StandsFor self.old m → IfSome (next_frame m) (λ c. control_of (bytes_of c) ≡ Ok c) }
+    {
+        self.end.next_out(&self.pool)
+    }
+}
+
+// The entry of a session that ended, where one did.
+fn down_entry(at: End, ended: Option<Cause>) -> Option<Entry>
+    ensures { option_to_list result ≡ map (Entry.Down at) (option_to_list ended) }
+{
+    match ended {
+        Some(cause) => Some(Entry::Down { at, cause }),
+        None => None,
+    }
+}
+
+// The entry of an end that gave up after so many tries, where it did.
+fn gave_up_entry(at: End, gave_up: Option<u8>) -> Option<Entry>
+    ensures { option_to_list result ≡ map (Entry.GaveUp at) (option_to_list gave_up) }
+{
+    match gave_up {
+        Some(tries) => Some(Entry::GaveUp { at, tries }),
+        None => None,
+    }
+}
+
+// This entry, if so.
+fn entry_if(so: bool, entry: Entry) -> Option<Entry>
+    ensures { option_to_list result ≡ if_so so entry }
+{
+    if so { Some(entry) } else { None }
+}
+
+// An entry, where there is one, is noted.
+fn note_some(entry: Option<Entry>, entries: &mut Vec<Entry>) -> Result<(), AllocError>
+    ensures { OnOk result (entries.new.items ≡ entries.old.items ++ option_to_list entry) }
+{
+    if let Some(entry) = entry {
+        entries.push(entry)?;
+    }
+    Ok(())
+}
+
+// The bytes of a chain.
+fn copied(alloc: Global, pool: &Pool, chain: &Chain) -> Result<Octets, AllocError>
+    requires { IsLive pool.now chain.now }
+    ensures { IfOk result (λ octets. octets ≡ chain_bytes pool.now chain.now) }
+{
+    let mut bytes = vec![in alloc; 0; pool.len(chain) as usize]?;
+    let _count = pool.copy_out(chain, 0, &mut bytes);
+    Ok(Octets { bytes })
+}
