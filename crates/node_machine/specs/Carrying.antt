@@ -17,7 +17,7 @@ use Rattle.link_machine.specs.Machine.{Turn, turn, need, spare}
 use Rattle.link_machine.specs.Machine.Turn.{Give, SetAside, Release}
 use Rattle.link_entries.specs.Entries.{End as Side, turn_entry}
 use Rattle.link_entries.specs.Entries.End.{Controller, Host}
-use Rattle.cause_history.specs.Steps.{end_of, entries_for}
+use Rattle.history.specs.Steps.{end_of, entries_for}
 use Rattle.node_machine.specs.Parts.{About, Desk, Core, Port, Work, Deed}
 use Rattle.node_machine.specs.Parts.About.{Waits, Removed}
 use Rattle.node_machine.specs.Parts.Deed.{Commits, Sends, SaysOk, Asks, Releases, Tells, IsAnswered, Drops, SetsErrors, Orders, Hears, GoesOn, Ends}

@@ -21,7 +21,7 @@ use Rattle.gate_link.specs.Link.{served as link_served}
 use Rattle.gate_identity.specs.Identity.{served as identity_served}
 use Rattle.gate_loopback.specs.Loopback.{posts_back}
 use Rattle.link_machine.specs.Machine.{Message}
-use Rattle.cause_history.specs.Damage.{same_bytes}
+use Rattle.history.specs.Damage.{same_bytes}
 use Rattle.node_machine.specs.Parts.{Init, Core, Port, Deed}
 use Rattle.node_machine.specs.Parts.Deed.{Commits, Sends, Drops, Orders, Hears, GoesOn, Ends}
 use Rattle.node_machine.specs.Carrying.{end_of_node, finds_room}

@@ -14,9 +14,9 @@ use Rattle.link_machine.specs.Machine.{Message, Refused, LinkEnd, give_refusal, 
 use Rattle.link_machine.specs.Machine.Refused.{NotUp}
 use Rattle.message_link.specs.Links.Loss.{OnDemand}
 use Rattle.hci_tables.specs.Tables.{HciTables}
-use Rattle.cause_history.specs.Damage.{Verdict}
-use Rattle.cause_history.specs.Damage.Verdict.{Same, LostFor, Undetected}
-use Rattle.cause_history.specs.Follows.{frames_to, machine_of, as_noted, if_empty, if_out_of_reach, taken_of, first_verdict, other_frame}
+use Rattle.history.specs.Damage.{Verdict}
+use Rattle.history.specs.Damage.Verdict.{Same, LostFor, Undetected}
+use Rattle.history.specs.Follows.{frames_to, machine_of, as_noted, if_empty, if_out_of_reach, taken_of, first_verdict, other_frame}
 use Rattle.node_machine.specs.Parts.{Running}
 use Rattle.node_machine.specs.Controller.{is_command_message}
 use Rattle.node_world.specs.World.{NodeWorld, Happening, node_at, node_of, link_to, world_step}

@@ -15,7 +15,7 @@ use Rattle.hci_tables.specs.Tables.{HciTables, no_tables, apply, after, close}
 use Rattle.gate_answers.specs.Answers.{instruction_in}
 use Rattle.gate_admin.specs.Decide.{is_opened}
 use Rattle.link_machine.specs.Machine.{Message, need_of_all}
-use Rattle.cause_history.specs.Filters.{same_end, sent_in, acked_in}
+use Rattle.history.specs.Filters.{same_end, sent_in, acked_in}
 use Rattle.node_machine.specs.Controller.{is_command_message}
 use Rattle.node_world.specs.World.{end_c, end_h}
 

@@ -11,7 +11,7 @@ use Rattle.hci_tables.specs.declared.command.Command.TheVariants.{Create}
 use Rattle.hci_tables.specs.Tables.{HciTables}
 use Rattle.gate_admin.specs.Decide.{allows}
 use Rattle.link_machine.specs.Machine.{Message}
-use Rattle.cause_history.specs.Filters.{same_end}
+use Rattle.history.specs.Filters.{same_end}
 use Rattle.node_world.specs.Lines.LineOutcome.{ToldTables}
 use Rattle.node_world.specs.NodeHistories.{LineStep, NodeHistory, entries_in, occurrences_of, node_entries}
 use Rattle.node_world.specs.NodeFilters.{commands_in, tables_in}

@@ -24,8 +24,8 @@ use Rattle.message_link.specs.Links.LinkEvent.{AtController, AtHost}
 use Rattle.link_entries.specs.Entries.{End as Side, Entry as Noted, ending_entries, aged_entries, first_lost}
 use Rattle.link_entries.specs.Entries.End.{Controller, Host}
 use Rattle.link_entries.specs.Entries.Entry.{Took}
-use Rattle.cause_history.specs.Steps.{at, entries_for}
-use Rattle.cause_history.specs.Follows.{seen_from}
+use Rattle.history.specs.Steps.{at, entries_for}
+use Rattle.history.specs.Follows.{seen_from}
 use Rattle.node_machine.specs.Parts.{Desk, Running, Port, Work, Deed}
 use Rattle.node_machine.specs.Parts.Deed.{Sends, Orders, GoesOn}
 use Rattle.node_machine.specs.Controller.{is_command_message}
