@@ -1,0 +1,5 @@
+pub mod Deeds
+pub mod Masks
+pub mod Whitelists
+pub mod Values
+pub mod LinkRuns

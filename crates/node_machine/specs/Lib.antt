@@ -1,0 +1,6 @@
+pub mod Parts
+pub mod Carrying
+pub mod Controller
+pub mod HostReplies
+pub mod Turns
+pub mod Node

@@ -1,0 +1,5 @@
+pub mod World
+pub mod Lines
+pub mod NodeHistories
+pub mod NodeFilters
+pub mod NodeLegal
