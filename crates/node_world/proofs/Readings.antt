@@ -72,11 +72,13 @@ all_read w t (line ∷ lines) =
     let now : List Entry = t ++ entries_in (occurrences_of o.1) in
     map (λ n. read o.0 now n (node_at o.0 n)) (nodes_in o.0) ∷ all_read o.0 now lines
 
-activation_and_first_pipe : all_kept (new_world (2 ∷ [])) activation_and_first_pipe_lines ≡ all_read (new_world (2 ∷ [])) [] activation_and_first_pipe_lines
+activation_and_first_pipe : all_kept (new_world (2 ∷ [])) activation_and_first_pipe_lines ≡ all_read (new_world (2 ∷
+    [])) [] activation_and_first_pipe_lines
 unfolding found_from hosts_where lowest_free
 activation_and_first_pipe = refl
 
-parameter_before_opening : all_kept (new_world (2 ∷ [])) parameter_before_opening_lines ≡ all_read (new_world (2 ∷ [])) [] parameter_before_opening_lines
+parameter_before_opening : all_kept (new_world (2 ∷ [])) parameter_before_opening_lines ≡ all_read (new_world (2 ∷
+    [])) [] parameter_before_opening_lines
 unfolding found_from hosts_where lowest_free
 parameter_before_opening = refl
 
@@ -100,18 +102,22 @@ pipes_closed_by_a_cut : all_kept (new_world (2 ∷ [])) pipes_closed_by_a_cut_li
 unfolding found_from hosts_where lowest_free
 pipes_closed_by_a_cut = refl
 
-creation_between_hosts : all_kept (new_world (1 ∷ 2 ∷ [])) creation_between_hosts_lines ≡ all_read (new_world (1 ∷ 2 ∷ [])) [] creation_between_hosts_lines
+creation_between_hosts : all_kept (new_world (1 ∷ 2 ∷ [])) creation_between_hosts_lines ≡ all_read (new_world (1 ∷ 2 ∷
+    [])) [] creation_between_hosts_lines
 unfolding found_from hosts_where lowest_free
 creation_between_hosts = refl
 
-notice_never_answered : all_kept (new_world (1 ∷ 2 ∷ [])) notice_never_answered_lines ≡ all_read (new_world (1 ∷ 2 ∷ [])) [] notice_never_answered_lines
+notice_never_answered : all_kept (new_world (1 ∷ 2 ∷ [])) notice_never_answered_lines ≡ all_read (new_world (1 ∷ 2 ∷
+    [])) [] notice_never_answered_lines
 unfolding found_from hosts_where lowest_free
 notice_never_answered = refl
 
-relay_and_strangers : all_kept (new_world (1 ∷ 2 ∷ 3 ∷ [])) relay_and_strangers_lines ≡ all_read (new_world (1 ∷ 2 ∷ 3 ∷ [])) [] relay_and_strangers_lines
+relay_and_strangers : all_kept (new_world (1 ∷ 2 ∷ 3 ∷ [])) relay_and_strangers_lines ≡ all_read (new_world (1 ∷ 2 ∷ 3 ∷
+    [])) [] relay_and_strangers_lines
 unfolding found_from hosts_where lowest_free
 relay_and_strangers = refl
 
-users_session_over_a_cut : all_kept (new_world (2 ∷ [])) users_session_over_a_cut_lines ≡ all_read (new_world (2 ∷ [])) [] users_session_over_a_cut_lines
+users_session_over_a_cut : all_kept (new_world (2 ∷ [])) users_session_over_a_cut_lines ≡ all_read (new_world (2 ∷
+    [])) [] users_session_over_a_cut_lines
 unfolding found_from hosts_where lowest_free
 users_session_over_a_cut = refl
