@@ -3,21 +3,27 @@
 ghost use Rattle.std.specs.Prelude.{◌≡◌, [], false};
 
 use std::io::{Read, Write};
-use swp_base::{Failed, Sink, Source};
+use swp_base::{EndOfInput, Failed, Sink, Source};
 
-/// A reader as a source. A read that fails is counted.
+/// A reader as a source. A read that fails is counted, and the end is noted.
 #[derive(Drop)]
 pub struct StdinSource<R> {
     reader: R,
     faults: u64,
+    end: EndOfInput,
 }
 
 impl<R: Read + Drop> StdinSource<R> {
-    /// No read has failed.
+    /// No read has failed, and none has said that the input ended.
     pub fn new(reader: R) -> Self
-        ensures { result.faults ≡ 0 }
+        ensures faults { result.faults ≡ 0 }
+        ensures end { result.end ≡ record { ended = false; late = 0 } }
     {
-        StdinSource { reader, faults: 0 }
+        StdinSource {
+            reader,
+            faults: 0,
+            end: EndOfInput::new(),
+        }
     }
 }
 
@@ -28,11 +34,17 @@ impl<R: Read + Drop> Source for StdinSource<R> {
 
     ghost left = { λ _. [] };
 
+    ghost end = { λ s. s.end };
+
     fn read(&mut self, buf: &mut [u8]) -> Result<usize, Failed> {
         match self.reader.read(buf) {
-            Ok(n) => Ok(n),
+            Ok(n) => {
+                self.end.note(Ok(n));
+                Ok(n)
+            }
             Err(_) => {
                 self.faults = self.faults.saturating_add(1);
+                self.end.note(Err(Failed));
                 Err(Failed)
             }
         }

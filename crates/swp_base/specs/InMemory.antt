@@ -3,15 +3,22 @@ use Rattle.std.specs.Prelude.{◌≡◌, ℕ, ◌-◌, ◌%◌, ◌==◌, Bool, 
 use Rattle.std.specs.List.{list_any, range_with_len}
 use Rattle.std.specs.declared.option.Option.{Option}
 use Rattle.swp_base.specs.Outside.{one_more, overwritten}
+use Rattle.swp_base.specs.declared.outside.EndOfInput.{EndOfInput}
 
 -- a source: the bytes that it has left, the numbers of the calls that fail, the most bytes of a call, how many calls
--- were made, and how many of them failed
+-- were made, how many of them failed, and what is known of its end
 pub record Reading : Type 0 where
   pub left : List ℕ
   pub fails : List ℕ
   pub piece : ℕ
   pub calls : ℕ
   pub faults : ℕ
+  pub end : EndOfInput
+
+-- a source that never fails: the bytes that it has left, and what is known of its end
+pub record SureReading : Type 0 where
+  pub left : List ℕ
+  pub end : EndOfInput
 
 -- a sink: the bytes that it took, and the rest as of a source
 pub record Writing : Type 0 where

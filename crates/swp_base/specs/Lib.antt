@@ -3,3 +3,4 @@ pub mod DataUnits
 pub mod Outside
 pub mod InMemory
 pub mod Told
+pub mod Endings

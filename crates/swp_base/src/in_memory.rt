@@ -1,9 +1,10 @@
 //! A source and a sink in memory, which fail at the calls that were planned, and move at most so many bytes a call.
-ghost use Rattle.std.specs.Prelude.{◌≡◌, ◌<◌, ◌≤◌, ◌↔◌, ◌++◌, min, length, take, drop, [], true, false, Ok, IsTrue, IsErr, IfOk, OnErr};
+ghost use Rattle.std.specs.Prelude.{◌≡◌, ◌<◌, ◌≤◌, ◌↔◌, ◌++◌, min, length, take, drop, [], true, false, Ok, Err, IsTrue, IsErr, IfOk, IfErr, OnErr};
 ghost use Rattle.swp_base.specs.Outside.{one_more};
 ghost use Rattle.swp_base.specs.InMemory.{is_planned};
+ghost use Rattle.swp_base.specs.Endings.{with_read};
 
-use crate::{Failed, Sink, Source};
+use crate::{EndOfInput, Failed, Sink, Source};
 use std::marker::Model;
 
 /// A source whose bytes are in memory. It tells what is left. The calls whose numbers, from 1, were planned to fail do
@@ -16,6 +17,7 @@ pub struct MemSource {
     piece: u32,
     calls: u64,
     faults: u64,
+    end: EndOfInput,
 }
 
 impl Model for MemSource {
@@ -30,6 +32,7 @@ impl Model for MemSource {
       piece = s.piece;
       calls = s.calls;
       faults = s.faults;
+      end = s.end;
     } };
 
     ghost invariant = { λ s. (s.at ≤ length s.bytes.items) × (0 < s.piece) };
@@ -46,6 +49,7 @@ impl MemSource {
           piece = piece;
           calls = 0;
           faults = 0;
+          end = record { ended = false; late = 0 };
         } }
     {
         Self {
@@ -55,6 +59,7 @@ impl MemSource {
             piece,
             calls: 0,
             faults: 0,
+            end: EndOfInput::new(),
         }
     }
 
@@ -73,6 +78,8 @@ impl Source for MemSource {
 
     ghost left = { λ s. s.left };
 
+    ghost end = { λ s. s.end };
+
     fn read(&mut self, buf: &mut [u8]) -> Result<usize, Failed>
         requires { 0 < length buf.old }
         ensures count { self.old.faults ≤ self.new.faults }
@@ -82,19 +89,21 @@ impl Source for MemSource {
             n ≡ min (min (length self.old.left) (length buf.old)) self.old.piece) }
         ensures read { IfOk result (λ n. take n buf.new ≡ take n self.old.left) }
         ensures rest { IfOk result (λ n. self.new
-            ≡ record self.old { left = drop n self.old.left; calls = one_more self.old.calls }) }
-        ensures failed { OnErr result (self.new
-            ≡ record self.old { calls = one_more self.old.calls; faults = one_more self.old.faults }) }
+            ≡ record self.old { left = drop n self.old.left; calls = one_more self.old.calls; end = with_read self.old.end (Ok n) }) }
+        ensures failed { IfErr result (λ why. self.new
+            ≡ record self.old { calls = one_more self.old.calls; faults = one_more self.old.faults; end = with_read self.old.end (Err why) }) }
     {
         self.calls = self.calls.saturating_add(1);
         if self.fails.contains(&self.calls) {
             self.faults = self.faults.saturating_add(1);
+            self.end.note(Err(Failed));
             return Err(Failed);
         }
         let left = &self.bytes[self.at..];
         let moved = left.len().min(buf.len()).min(self.piece as usize);
         buf[..moved].copy_from_slice(&left[..moved]);
         self.at += moved;
+        self.end.note(Ok(moved));
         Ok(moved)
     }
 }
@@ -192,14 +201,16 @@ impl Sink for MemSink {
 pub struct SureSource {
     bytes: Vec<u8>,
     at: usize,
+    end: EndOfInput,
 }
 
 impl Model for SureSource {
-    ghost use Rattle.std.specs.Prelude.{List, ℕ, ◌≤◌, length, drop};
+    ghost use Rattle.std.specs.Prelude.{◌≤◌, length, drop};
+    ghost use Rattle.swp_base.specs.InMemory.{SureReading};
 
-    ghost Value = { List ℕ };
+    ghost Value = { SureReading };
 
-    ghost view = { λ s. drop s.at s.bytes.items };
+    ghost view = { λ s. record { left = drop s.at s.bytes.items; end = s.end } };
 
     ghost invariant = { λ s. s.at ≤ length s.bytes.items };
 }
@@ -207,9 +218,13 @@ impl Model for SureSource {
 impl SureSource {
     /// A source that has these bytes left.
     pub fn new(bytes: Vec<u8>) -> Self
-        ensures { result ≡ bytes.items }
+        ensures { result ≡ record { left = bytes.items; end = record { ended = false; late = 0 } } }
     {
-        Self { bytes, at: 0 }
+        Self {
+            bytes,
+            at: 0,
+            end: EndOfInput::new(),
+        }
     }
 }
 
@@ -218,17 +233,20 @@ impl Source for SureSource {
 
     ghost tells = { true };
 
-    ghost left = { λ s. s };
+    ghost left = { λ s. s.left };
+
+    ghost end = { λ s. s.end };
 
     fn read(&mut self, buf: &mut [u8]) -> Result<usize, Failed>
-        ensures moved { result ≡ Ok (min (length self.old) (length buf.old)) }
-        ensures read { IfOk result (λ n. take n buf.new ≡ take n self.old) }
-        ensures rest { IfOk result (λ n. self.new ≡ drop n self.old) }
+        ensures moved { result ≡ Ok (min (length self.old.left) (length buf.old)) }
+        ensures read { IfOk result (λ n. take n buf.new ≡ take n self.old.left) }
+        ensures rest { IfOk result (λ n. self.new ≡ record { left = drop n self.old.left; end = with_read self.old.end (Ok n) }) }
     {
         let left = &self.bytes[self.at..];
         let moved = left.len().min(buf.len());
         buf[..moved].copy_from_slice(&left[..moved]);
         self.at += moved;
+        self.end.note(Ok(moved));
         Ok(moved)
     }
 }

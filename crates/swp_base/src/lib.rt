@@ -14,4 +14,4 @@ pub use data_units::{Info, Lpdu};
 pub use in_memory::{MemSink, MemSource, SureSink, SureSource};
 pub use link_terms::{Cause, FrameFault, Role};
 pub use nv_memory::{MemNv, SureNv};
-pub use outside::{Failed, NoMemory, Nv, Sink, Source};
+pub use outside::{EndOfInput, Failed, NoMemory, Nv, Sink, Source};

@@ -1,8 +1,9 @@
 //! The outside world as traits. Each object has a count of faults that never falls, and a call answers `Failed` only
 //! where the count rose in that call: it is then greater than before, or stands at the last value of a `u64`. An object
 //! may also tell what it holds; its calls then say what they do to that.
-ghost use Rattle.std.specs.Prelude.{◌≡◌, ℕ, ◌+◌, ◌^◌, ◌<◌, ◌≤◌, Bool, List, [], ◌++◌, length, take, IsTrue, is_ok, IfOk, OnOk, OnErr, slice_range};
+ghost use Rattle.std.specs.Prelude.{◌≡◌, ℕ, ◌+◌, ◌^◌, ◌<◌, ◌≤◌, Bool, false, List, [], ◌++◌, length, take, IsTrue, is_ok, IfOk, OnOk, OnErr, slice_range};
 ghost use Rattle.swp_base.specs.Outside.{Rose, IsWritten};
+ghost use Rattle.swp_base.specs.Endings.{with_read};
 
 use std::alloc::AllocError;
 
@@ -20,8 +21,43 @@ impl From<AllocError> for NoMemory {
     }
 }
 
+/// What is known of a source's end: whether a read has said that it ended or has failed, and how many reads were asked of it since
+/// then. The number stands still at the last value of a `u64`.
+#[derive(Clone, Copy, Debug, PartialEq, Eq)]
+pub struct EndOfInput {
+    /// A read gave no byte, or failed.
+    pub ended: bool,
+    /// How many reads came behind that one.
+    pub late: u64,
+}
+
+impl EndOfInput {
+    /// It has not ended.
+    pub fn new() -> Self
+        ensures { result ≡ record { ended = false; late = 0 } }
+    {
+        EndOfInput {
+            ended: false,
+            late: 0,
+        }
+    }
+
+    /// Notes a read and its answer.
+    pub fn note(&mut self, answer: Result<usize, Failed>)
+        ensures { self.new ≡ with_read self.old answer }
+    {
+        if self.ended {
+            self.late = self.late.saturating_add(1);
+        } else {
+            self.ended = matches!(answer, Ok(0) | Err(Failed));
+        }
+    }
+}
+
 /// Bytes that come from outside.
 pub trait Source {
+    ghost use Rattle.swp_base.specs.declared.outside.EndOfInput.{EndOfInput};
+
     // how many of its calls failed; it stands still at the last value of a `u64`
     ghost faults: { Self → ℕ };
 
@@ -31,8 +67,11 @@ pub trait Source {
     // the bytes still to come
     ghost left: { Self → List ℕ };
 
+    // whether it has said that it ended or has failed, and how many reads were asked of it since
+    ghost end: { Self → EndOfInput };
+
     /// Reads some of the bytes that are left into the front of the buffer, and gives their number. It is 0 only at the
-    /// end, where nothing is left. A call that fails reads nothing.
+    /// end, where nothing is left: so a source says that it ended. A call that fails reads nothing.
     fn read(&mut self, buf: &mut [u8]) -> Result<usize, Failed>
         requires { 0 < length buf.old }
         ensures count { faults self.old ≤ faults self.new }
@@ -41,7 +80,8 @@ pub trait Source {
         ensures read { IsTrue tells →
             IfOk result (λ n. left self.old ≡ take n buf.new ++ left self.new) }
         ensures end { IsTrue tells → IfOk result (λ n. n ≡ 0 → left self.old ≡ []) }
-        ensures kept { IsTrue tells → OnErr result (left self.new ≡ left self.old) };
+        ensures kept { IsTrue tells → OnErr result (left self.new ≡ left self.old) }
+        ensures noted { end self.new ≡ with_read (end self.old) result };
 }
 
 /// Bytes that go outside.
