@@ -10,6 +10,3 @@ mod view;
 
 pub use decision::{Decision, decide};
 pub use view::LinkView;
-
-#[cfg(test)]
-mod tests;

@@ -51,6 +51,3 @@ fn value_of(gates: &[u8], param: u8) -> &[u8]
         _ => gates,
     }
 }
-
-#[cfg(test)]
-mod tests;

@@ -50,6 +50,3 @@ fn count_in(body: &[u8]) -> u16
 {
     u16::from_be_bytes([body[1], body[2]])
 }
-
-#[cfg(test)]
-mod tests;

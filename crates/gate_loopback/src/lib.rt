@@ -18,6 +18,3 @@ pub fn posts_back(message: &[u8]) -> bool
         Ok((MessageKind::Event, EVT_POST_DATA))
     )
 }
-
-#[cfg(test)]
-mod tests;

@@ -11,6 +11,3 @@ mod tables;
 pub use body::{MAX_BODY, read_command, write_command};
 pub use command::{Command, is_allowed};
 pub use tables::Tables;
-
-#[cfg(test)]
-mod tests;

@@ -44,6 +44,3 @@ impl From<Failed> for JournalFault {
         JournalFault::NvFault
     }
 }
-
-#[cfg(test)]
-mod tests;

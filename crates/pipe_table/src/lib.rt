@@ -6,6 +6,3 @@ mod table;
 
 pub use row::{FIRST_DYNAMIC, FIRST_RESERVED, PipeRow};
 pub use table::{MOST_PIPES, PipeTable};
-
-#[cfg(test)]
-mod tests;

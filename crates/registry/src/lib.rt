@@ -9,6 +9,3 @@ mod value;
 pub use access::{Access, access_of};
 pub use registry::{MOST_VALUES, Registry};
 pub use value::{HOST_LIST, MAX_PIPE, RegValue, SESSION_IDENTITY, WHITELIST};
-
-#[cfg(test)]
-mod tests;

@@ -633,6 +633,3 @@ impl Shdlc {
         self.receiver.set_answered_rnr(false);
     }
 }
-
-#[cfg(test)]
-mod tests;

@@ -30,6 +30,3 @@ fn all_differ(value: &[u8]) -> bool
         [first, rest @ ..] => !holds(rest, *first) && all_differ(rest),
     }
 }
-
-#[cfg(test)]
-mod tests;

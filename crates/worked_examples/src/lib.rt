@@ -12,9 +12,15 @@ mod checksums;
 #[cfg(test)]
 mod cuts;
 #[cfg(test)]
+mod decisions;
+#[cfg(test)]
 mod decodings;
 #[cfg(test)]
 mod frames;
+#[cfg(test)]
+mod gates;
+#[cfg(test)]
+mod images;
 #[cfg(test)]
 mod journals;
 #[cfg(test)]
@@ -36,14 +42,24 @@ mod packets;
 #[cfg(test)]
 mod periods;
 #[cfg(test)]
+mod pipes;
+#[cfg(test)]
+mod registries;
+#[cfg(test)]
 mod relays;
 #[cfg(test)]
 mod rows;
 #[cfg(test)]
 mod runs;
 #[cfg(test)]
+mod shdlc_ends;
+#[cfg(test)]
+mod tables;
+#[cfg(test)]
 mod texts;
 #[cfg(test)]
 mod units;
+#[cfg(test)]
+mod whitelists;
 #[cfg(test)]
 mod worlds;

@@ -1,5 +1,5 @@
 use Rattle.std.proofs.Common.{◌≡◌, []}
-use Rattle.shdlc_core.proofs.shdlc.tests.ticks.Given as goal
+use Rattle.worked_examples.proofs.shdlc_ends.ticks.Given as goal
 
 abbrev pub invariant-loop : goal.invariant-loop
 invariant-loop g l = l.end.due ≡ []

@@ -1,7 +1,7 @@
 //! Memories with known images.
 
-use crate::{Journal, JournalFault, Snapshot};
 use arrayvec::ArrayVec;
+use nv_journal::{Journal, JournalFault, Snapshot};
 use std::process::Abort;
 use swp_base::{MemNv, Nv};
 

@@ -1,5 +1,5 @@
 use Rattle.shdlc_core.specs.Kept.{frames_left}
-use Rattle.shdlc_core.proofs.shdlc.tests.sent.Given as goal
+use Rattle.worked_examples.proofs.shdlc_ends.sent.Given as goal
 
 abbrev pub decreases-loop-control : goal.decreases-loop-control
 decreases-loop-control l = frames_left l.end

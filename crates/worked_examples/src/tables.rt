@@ -1,5 +1,5 @@
 //! Worked examples of records and tables.
-use crate::{Tables, read_command, write_command};
+use hci_tables::{Tables, read_command, write_command};
 use std::test::Fail;
 
 #[test]

@@ -1,5 +1,5 @@
 //! Worked examples of registries.
-use crate::{Access, Registry, SESSION_IDENTITY, WHITELIST, access_of};
+use registry::{Access, Registry, SESSION_IDENTITY, WHITELIST, access_of};
 
 #[test]
 fn gates_have_their_parameters(rt: HostRuntime) {

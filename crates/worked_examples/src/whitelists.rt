@@ -1,5 +1,5 @@
 //! Worked examples of whitelists.
-use crate::{holds, whitelist_ok};
+use whitelist::{holds, whitelist_ok};
 
 #[test]
 fn whitelists_are_told(rt: HostRuntime) {

@@ -1,8 +1,10 @@
+//! Worked examples of one SHDLC end.
 ghost use Rattle.std.specs.Prelude.{◌≡◌, ◌≤◌, [], length};
 
-use super::*;
 use arrayvec::ArrayVec;
+use shdlc_core::{Shdlc, Taken, Ticked};
 use std::process::Abort;
+use swp_base::{Cause, Control, Info, Kind};
 
 // What comes to an end. Each fragment is the message 03 on pipe 01, alone.
 #[derive(Clone, Copy)]

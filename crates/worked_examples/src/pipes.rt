@@ -1,5 +1,5 @@
 //! Worked examples of pipes.
-use crate::{PipeRow, PipeTable};
+use pipe_table::{PipeRow, PipeTable};
 
 fn pipe_of(pid: u8, creator: u8) -> PipeRow
     ensures { result.pid ≡ pid }

@@ -1,7 +1,7 @@
 //! Worked examples of decisions, for a command of host 02. The pipes 01 of the hosts 01 and 02 are opened, and 01 and 02 are
 //! configured.
-use crate::{Decision, LinkView, decide};
 use arrayvec::ArrayVec;
+use gate_admin::{Decision, LinkView, decide};
 use hci_tables::{Tables, read_command};
 
 /// A line has, in hexadecimal and split by bars: the body of a further command that made the tables; the masks of connected,

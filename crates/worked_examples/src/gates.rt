@@ -1,0 +1,75 @@
+//! Worked examples of the gates of a controller but the administration gate.
+use gate_identity::serve as serve_identity;
+use gate_link::serve as serve_link;
+use gate_loopback::posts_back;
+
+#[test]
+fn parameters_are_read_and_not_set(rt: HostRuntime) {
+    let rows: [(&[u8], &[u8]); 13] = [
+        (&[0x02, 0x01], &[0x80, 0x01, 0x00, 0x00]),
+        (&[0x02, 0x02], &[0x80, 0x02]),
+        (&[0x02, 0x03], &[0x80, 0x01, 0x00, 0x00]),
+        (
+            &[0x02, 0x04],
+            &[0x80, 0x53, 0x57, 0x50, 0x20, 0x48, 0x43, 0x49],
+        ),
+        (&[0x02, 0x05], &[0x80, 0x01]),
+        (&[0x02, 0x06], &[0x80, 0x04, 0x05]),
+        (&[0x02, 0x07], &[0x85]),
+        (&[0x02], &[0x82]),
+        (&[0x02, 0x01, 0x01], &[0x82]),
+        (&[0x01], &[0x82]),
+        (&[0x01, 0x07, 0x01], &[0x85]),
+        (&[0x01, 0x06, 0x01], &[0x8A]),
+        (&[0x14], &[0x87]),
+    ];
+    for (message, answer) in rows {
+        if message.is_empty() || message[0] >= 0x40 {
+            continue;
+        }
+        assert_eq!(rt;
+            serve_identity(&[0x04, 0x05], message).as_slice(),
+            answer,
+            "{message:?}"
+        );
+    }
+}
+
+#[test]
+fn rec_error_is_read_and_set(rt: HostRuntime) {
+    let rows: [(&[u8], &[u8], Option<u16>); 10] = [
+        (&[0x02, 0x01], &[0x80, 0x01, 0x02], None),
+        (&[0x02], &[0x82], None),
+        (&[0x02, 0x01, 0x00], &[0x82], None),
+        (&[0x02, 0x02], &[0x85], None),
+        (&[0x01, 0x01, 0xAB, 0xCD], &[0x80], Some(0xABCD)),
+        (&[0x01], &[0x82], None),
+        (&[0x01, 0x02, 0x00, 0x00], &[0x85], None),
+        (&[0x01, 0x01, 0xAB], &[0x82], None),
+        (&[0x01, 0x01, 0xAB, 0xCD, 0xEF], &[0x82], None),
+        (&[0x10, 0x01], &[0x87], None),
+    ];
+    for (message, answer, set) in rows {
+        if message.is_empty() || message[0] >= 0x40 {
+            continue;
+        }
+        let served = serve_link(0x0102, message);
+        assert_eq!(rt; served.0.as_slice(), answer, "{message:?}");
+        assert_eq!(rt; served.1, set, "{message:?}");
+    }
+}
+
+#[test]
+fn only_post_data_is_sent_back(rt: HostRuntime) {
+    let rows: [(&[u8], bool); 6] = [
+        (&[0x42, 0x01, 0x02], true),
+        (&[0x42], true),
+        (&[0x41, 0x01], false),
+        (&[0x02, 0x01], false),
+        (&[0x82], false),
+        (&[], false),
+    ];
+    for (message, sent) in rows {
+        assert_eq!(rt; posts_back(message), sent, "{message:?}");
+    }
+}
