@@ -7,7 +7,7 @@ use Rattle.history.specs.Histories.{History}
 use Rattle.world.specs.declared.world_steps.World.{World}
 use Rattle.world.specs.declared.world_steps.WorldFault.{WorldFault}
 use Rattle.world.specs.declared.world_steps.WorldFault.TheVariants as fault
-use Rattle.world.specs.Worlds.{StandsFor}
+use Rattle.world.specs.Worlds.{StandsFor, header_of}
 use Rattle.swp_tool.specs.declared.replay.Replay.{Replay}
 use Rattle.swp_tool.specs.declared.replay.Halt.{Halt}
 use Rattle.swp_tool.specs.declared.replay.Halt.TheVariants as halt
@@ -37,7 +37,7 @@ pub record HasPlayed (r : Replay) (s : Schedule) (written : List ℕ) : Type 0 w
 pub record WasStepped (w : World) (most : ℕ) : Type 0 where
   pub lines : List Line
   pub history : History
-  pub stands : StandsFor w w.header lines history
+  pub stands : StandsFor w (header_of w) lines history
   pub few : length lines ≤ most
 
 -- a replay has read at most 20,000 lines, and its world was stepped by no more than it has read

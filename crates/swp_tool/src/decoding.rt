@@ -2,7 +2,7 @@
 ghost use Rattle.std.specs.Prelude.{◌≡◌, ◌≢◌, ◌≤◌, ◌<◌, ◌+◌, ◌++◌, [], ◌∷◌, List, ℕ, length, take, IsTrue, OnOk, OnErr, IfOk, IfErr, Ok, Err, true, false};
 ghost use Rattle.swp_base.specs.Outside.{Rose};
 ghost use Rattle.swp_tool.specs.Runs.{IsOfDecode};
-ghost use Rattle.swp_tool.specs.Decodings.{most_bytes, piece_of, IsDecoding, HasDecoded, DecodedBy, IsFrontOfLines, IsFrontOfSome};
+ghost use Rattle.swp_tool.specs.Decodings.{most_bytes, piece_of, IsDecoding, HasDecoded, DecodedBy, IsFrontOfLines, IsFrontOfSome, EndedIn};
 
 use crate::driver::{Job, drive};
 use crate::output::write_all;
@@ -33,10 +33,10 @@ fn flush_lines<K: Sink>(sink: &mut K, decoding: &mut Decoding) -> Result<(), Fai
     ensures fault { OnErr result (Rose (K.faults sink.old) (K.faults sink.new)) }
     ensures read { decoding.new.decoder ≡ decoding.old.decoder }
     ensures room { OnOk result (decoding.new.text.items ≡ []) }
-    ensures goes { OnOk result ((bytes before : List ℕ) → IsDecoding K.tells decoding.old bytes before (K.written sink.old)
-        → IsDecoding K.tells decoding.new bytes before (K.written sink.new)) }
-    ensures ends { OnErr result ((bytes before : List ℕ) → IsDecoding K.tells decoding.old bytes before (K.written sink.old)
-        → IsFrontOfLines K.tells bytes before (K.written sink.new)) }
+    ensures goes { OnOk result ((earlier bytes before : List ℕ) → IsDecoding K.tells decoding.old earlier bytes before (K.written sink.old)
+        → IsDecoding K.tells decoding.new earlier bytes before (K.written sink.new)) }
+    ensures ends { OnErr result ((earlier bytes before : List ℕ) → IsDecoding K.tells decoding.old earlier bytes before (K.written sink.old)
+        → IsFrontOfLines K.tells earlier bytes before (K.written sink.new)) }
 {
     write_all(sink, decoding.text.as_slice())?;
     decoding.text.clear();
@@ -49,10 +49,10 @@ fn make_room<K: Sink>(sink: &mut K, decoding: &mut Decoding) -> Result<(), Faile
     ensures fault { OnErr result (Rose (K.faults sink.old) (K.faults sink.new)) }
     ensures read { decoding.new.decoder ≡ decoding.old.decoder }
     ensures room { OnOk result (length decoding.new.text.items + 2048 ≤ 8192) }
-    ensures goes { OnOk result ((bytes before : List ℕ) → IsDecoding K.tells decoding.old bytes before (K.written sink.old)
-        → IsDecoding K.tells decoding.new bytes before (K.written sink.new)) }
-    ensures ends { OnErr result ((bytes before : List ℕ) → IsDecoding K.tells decoding.old bytes before (K.written sink.old)
-        → IsFrontOfLines K.tells bytes before (K.written sink.new)) }
+    ensures goes { OnOk result ((earlier bytes before : List ℕ) → IsDecoding K.tells decoding.old earlier bytes before (K.written sink.old)
+        → IsDecoding K.tells decoding.new earlier bytes before (K.written sink.new)) }
+    ensures ends { OnErr result ((earlier bytes before : List ℕ) → IsDecoding K.tells decoding.old earlier bytes before (K.written sink.old)
+        → IsFrontOfLines K.tells earlier bytes before (K.written sink.new)) }
 {
     if decoding.text.len() > MOST_GATHERED {
         flush_lines(sink, decoding)?;
@@ -66,10 +66,10 @@ fn take_byte<K: Sink>(sink: &mut K, decoding: &mut Decoding, byte: u8) -> Result
     ensures count { K.faults sink.old ≤ K.faults sink.new }
     ensures fault { OnErr result (Rose (K.faults sink.old) (K.faults sink.new)) }
     ensures read { OnOk result (decoding.new.decoder.count ≡ decoding.old.decoder.count + 1) }
-    ensures goes { OnOk result ((bytes before : List ℕ) → IsDecoding K.tells decoding.old bytes before (K.written sink.old)
-        → IsDecoding K.tells decoding.new (bytes ++ byte ∷ []) before (K.written sink.new)) }
-    ensures ends { OnErr result ((bytes before : List ℕ) → IsDecoding K.tells decoding.old bytes before (K.written sink.old)
-        → IsFrontOfLines K.tells bytes before (K.written sink.new)) }
+    ensures goes { OnOk result ((earlier bytes before : List ℕ) → IsDecoding K.tells decoding.old earlier bytes before (K.written sink.old)
+        → IsDecoding K.tells decoding.new earlier (bytes ++ byte ∷ []) before (K.written sink.new)) }
+    ensures ends { OnErr result ((earlier bytes before : List ℕ) → IsDecoding K.tells decoding.old earlier bytes before (K.written sink.old)
+        → IsFrontOfLines K.tells earlier bytes before (K.written sink.new)) }
 {
     make_room(sink, decoding)?;
     decoding.decoder.step(byte, &mut decoding.text);
@@ -88,10 +88,10 @@ fn take_first<K: Sink>(
     ensures some { IfOk result (λ n. 0 < n) }
     ensures within { IfOk result (λ n. n ≤ 64) }
     ensures read { IfOk result (λ n. decoding.new.decoder.count ≡ decoding.old.decoder.count + n) }
-    ensures goes { IfOk result (λ n. (read before : List ℕ) → IsDecoding K.tells decoding.old read before (K.written sink.old)
-        → IsDecoding K.tells decoding.new (read ++ take n bytes.now) before (K.written sink.new)) }
-    ensures ends { OnErr result ((read before : List ℕ) → IsDecoding K.tells decoding.old read before (K.written sink.old)
-        → IsFrontOfLines K.tells read before (K.written sink.new)) }
+    ensures goes { IfOk result (λ n. (earlier read before : List ℕ) → IsDecoding K.tells decoding.old earlier read before (K.written sink.old)
+        → IsDecoding K.tells decoding.new earlier (read ++ take n bytes.now) before (K.written sink.new)) }
+    ensures ends { OnErr result ((earlier read before : List ℕ) → IsDecoding K.tells decoding.old earlier read before (K.written sink.old)
+        → IsFrontOfLines K.tells earlier read before (K.written sink.new)) }
 {
     make_room(sink, decoding)?;
     Ok(decoding.decoder.step_many(bytes, &mut decoding.text))
@@ -106,10 +106,10 @@ fn take_many<K: Sink>(sink: &mut K, decoding: &mut Decoding, piece: &[u8]) -> Re
     ensures within { IfOk result (λ n. n ≤ length piece.now) }
     ensures few { OnOk result (decoding.new.decoder.count ≤ 16777216) }
     ensures progress { IfOk result (λ n. decoding.new.decoder.count ≡ decoding.old.decoder.count + n) }
-    ensures goes { IfOk result (λ n. (bytes before : List ℕ) → IsDecoding K.tells decoding.old bytes before (K.written sink.old)
-        → IsDecoding K.tells decoding.new (bytes ++ take n piece.now) before (K.written sink.new)) }
-    ensures ends { OnErr result ((bytes rest before : List ℕ) → IsDecoding K.tells decoding.old bytes before (K.written sink.old)
-        → IsFrontOfSome K.tells (bytes ++ piece.now ++ rest) before (K.written sink.new)) }
+    ensures goes { IfOk result (λ n. (earlier bytes before : List ℕ) → IsDecoding K.tells decoding.old earlier bytes before (K.written sink.old)
+        → IsDecoding K.tells decoding.new earlier (bytes ++ take n piece.now) before (K.written sink.new)) }
+    ensures ends { OnErr result ((earlier bytes rest before : List ℕ) → IsDecoding K.tells decoding.old earlier bytes before (K.written sink.old)
+        → IsFrontOfSome K.tells earlier (bytes ++ piece.now ++ rest) before (K.written sink.new)) }
 {
     let mut read = 0;
     'piece: while let Some((first, _)) = piece[read..].split_first_chunk::<64>() {
@@ -132,10 +132,10 @@ fn take_next<K: Sink>(sink: &mut K, decoding: &mut Decoding, byte: u8) -> Result
     ensures kind { IfErr result IsOfDecode }
     ensures few { OnOk result (decoding.new.decoder.count ≤ 16777216) }
     ensures progress { OnOk result (decoding.new.decoder.count ≡ decoding.old.decoder.count + 1) }
-    ensures goes { OnOk result ((bytes before : List ℕ) → IsDecoding K.tells decoding.old bytes before (K.written sink.old)
-        → IsDecoding K.tells decoding.new (bytes ++ byte ∷ []) before (K.written sink.new)) }
-    ensures ends { IfErr result (λ status. (bytes left ahead before : List ℕ) → IsDecoding K.tells decoding.old bytes before (K.written sink.old)
-        → DecodedBy K.tells status (bytes ++ byte ∷ ahead) left before (K.written sink.new)) }
+    ensures goes { OnOk result ((earlier bytes before : List ℕ) → IsDecoding K.tells decoding.old earlier bytes before (K.written sink.old)
+        → IsDecoding K.tells decoding.new earlier (bytes ++ byte ∷ []) before (K.written sink.new)) }
+    ensures ends { IfErr result (λ status. (earlier bytes ahead before : List ℕ) → IsDecoding K.tells decoding.old earlier bytes before (K.written sink.old)
+        → EndedIn K.tells status earlier (bytes ++ byte ∷ ahead) before (K.written sink.new)) }
 {
     if decoding.decoder.count == Decoder::MAX_BYTES {
         if flush_lines(sink, decoding).is_err() {
@@ -159,10 +159,10 @@ fn take_each<K: Sink>(sink: &mut K, decoding: &mut Decoding, piece: &[u8]) -> Re
     ensures kind { IfErr result IsOfDecode }
     ensures few { OnOk result (decoding.new.decoder.count ≤ 16777216) }
     ensures progress { OnOk result (decoding.new.decoder.count ≡ decoding.old.decoder.count + length piece.now) }
-    ensures goes { OnOk result ((bytes before : List ℕ) → IsDecoding K.tells decoding.old bytes before (K.written sink.old)
-        → IsDecoding K.tells decoding.new (bytes ++ piece.now) before (K.written sink.new)) }
-    ensures ends { IfErr result (λ status. (bytes left rest before : List ℕ) → IsDecoding K.tells decoding.old bytes before (K.written sink.old)
-        → DecodedBy K.tells status (bytes ++ piece.now ++ rest) left before (K.written sink.new)) }
+    ensures goes { OnOk result ((earlier bytes before : List ℕ) → IsDecoding K.tells decoding.old earlier bytes before (K.written sink.old)
+        → IsDecoding K.tells decoding.new earlier (bytes ++ piece.now) before (K.written sink.new)) }
+    ensures ends { IfErr result (λ status. (earlier bytes rest before : List ℕ) → IsDecoding K.tells decoding.old earlier bytes before (K.written sink.old)
+        → EndedIn K.tells status earlier (bytes ++ piece.now ++ rest) before (K.written sink.new)) }
 {
     for byte in piece {
         if let Err(status) = take_next(sink, decoding, *byte) {
@@ -182,10 +182,10 @@ fn take_all<K: Sink>(sink: &mut K, decoding: &mut Decoding, piece: &[u8]) -> Res
     ensures kind { IfErr result IsOfDecode }
     ensures few { OnOk result (decoding.new.decoder.count ≤ 16777216) }
     ensures progress { OnOk result (decoding.new.decoder.count ≡ decoding.old.decoder.count + length piece.now) }
-    ensures goes { OnOk result ((bytes before : List ℕ) → IsDecoding K.tells decoding.old bytes before (K.written sink.old)
-        → IsDecoding K.tells decoding.new (bytes ++ piece.now) before (K.written sink.new)) }
-    ensures ends { IfErr result (λ status. (bytes left rest before : List ℕ) → IsDecoding K.tells decoding.old bytes before (K.written sink.old)
-        → DecodedBy K.tells status (bytes ++ piece.now ++ rest) left before (K.written sink.new)) }
+    ensures goes { OnOk result ((earlier bytes before : List ℕ) → IsDecoding K.tells decoding.old earlier bytes before (K.written sink.old)
+        → IsDecoding K.tells decoding.new earlier (bytes ++ piece.now) before (K.written sink.new)) }
+    ensures ends { IfErr result (λ status. (earlier bytes rest before : List ℕ) → IsDecoding K.tells decoding.old earlier bytes before (K.written sink.old)
+        → EndedIn K.tells status earlier (bytes ++ piece.now ++ rest) before (K.written sink.new)) }
 {
     match take_many(sink, decoding, piece) {
         Ok(read) => take_each(sink, decoding, &piece[read..]),
@@ -260,6 +260,7 @@ pub fn decode<S: Source, K: Sink>(alloc: Global, source: &mut S, sink: &mut K) -
     ensures decoded { IsTrue S.tells →
         DecodedBy K.tells result (S.left source.old) (S.left source.new) (K.written sink.old) (K.written sink.new) }
     ensures ahead { IsTrue S.tells → length (S.left source.old) ≤ most_bytes + 4096 + length (S.left source.new) }
+    ensures late { (S.end source.old).ended ≡ false → (S.end source.new).late ≡ (S.end source.old).late }
     ensures words { result ≢ Status.BadWords }
     ensures kind { IsOfDecode result }
 {

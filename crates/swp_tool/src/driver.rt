@@ -112,6 +112,8 @@ fn pump<S: Source, K: Sink, J: Job>(
     ensures ahead { IsTrue S.tells → OnErr result ((input before : List ℕ) →
         J.under_way K.tells job.old input (S.left source.old) before (K.written sink.old)
         → J.is_ahead input (S.left source.new)) }
+    ensures late { (S.end source.old).ended ≡ false → (S.end source.new).late ≡ (S.end source.old).late }
+    ensures more { (S.end source.old).ended ≡ false → result ≡ Ok true → (S.end source.new).ended ≡ false }
 {
     let piece = &mut buffer[..job.piece()];
     match source.read(piece) {
@@ -142,6 +144,7 @@ pub fn drive<S: Source, K: Sink, J: Job>(
     ensures ahead { IsTrue S.tells → (input before : List ℕ) →
         J.under_way K.tells job.old input (S.left source.old) before (K.written sink.old)
         → J.is_ahead input (S.left source.new) }
+    ensures late { (S.end source.old).ended ≡ false → (S.end source.new).late ≡ (S.end source.old).late }
 {
     let mut buffer = [0; MOST_PIECE];
     'input: loop {

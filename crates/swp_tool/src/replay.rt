@@ -128,7 +128,7 @@ impl Replay {
 
     /// Steps the world by the next line, which is one below the header.
     fn go_on(&mut self, alloc: Global, line: Line) -> Result<(), Halt>
-        requires world { IsSomeAnd self.old.world (λ w. IsLineOf w.header line) }
+        requires world { IsSomeAnd self.old.world (λ w. IsLineOf (header_of w) line) }
         requires few { HasFew self.old }
         requires next { self.old.count < 20000 }
         ensures played { OnOk result ((s : Schedule) (written : List ℕ) → HasPlayed self.old s written
@@ -205,7 +205,7 @@ fn echo_of(header: &Header) -> Result<Entry, NoMemory>
 
 /// Steps a world by a line, and gathers the text of the line and of what it caused.
 fn step(alloc: Global, world: &mut World, line: Line, text: &mut Vec<u8>) -> Result<(), Halt>
-    requires line { IsLineOf world.old.header line }
+    requires line { IsLineOf (header_of world.old) line }
     requires room { HasRoom world.old }
     ensures runs { OnOk result ((header : Header) (lines : List Line) (before : List ℕ) → Runs world.old header lines (before ++ text.old.items)
         → Runs world.new header (lines ++ line ∷ []) (before ++ text.new.items)) }

@@ -106,6 +106,7 @@ pub fn replay<S: Source, K: Sink>(alloc: Global, source: &mut S, sink: &mut K) -
     ensures replayed { IsTrue S.tells →
         Replayed K.tells result (S.left source.old) (S.left source.new) (K.written sink.old) (K.written sink.new) }
     ensures ahead { IsTrue S.tells → IsReadAhead 4096 (S.left source.old) (S.left source.new) }
+    ensures late { (S.end source.old).ended ≡ false → (S.end source.new).late ≡ (S.end source.old).late }
     ensures words { result ≢ Status.BadWords }
     ensures kind { IsOfReplay result }
 {

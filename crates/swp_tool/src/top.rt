@@ -95,6 +95,9 @@ pub fn run<S: Source, K: Sink, N: Nv + Drop>(
         ¬ Rose (S.faults source.old) (S.faults source.new) → ¬ Rose (K.faults sink.old) (K.faults sink.new) →
         result.status ≡ Status.TooMany 16777217 }
 
+    // Nothing is read once the source has said that it ended, or a read has failed.
+    ensures late { (S.end source.old).ended ≡ false → (S.end source.new).late ≡ (S.end source.old).late }
+
     // Of a schedule at most 4,096 bytes are read behind a front in which no line is at fault.
     ensures ahead { IsReplay (map string_bytes words.now) → IsTrue S.tells →
         IsReadAhead 4096 (S.left source.old) (S.left source.new) }

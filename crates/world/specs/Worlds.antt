@@ -1,6 +1,7 @@
 -- What is kept of the world, and for which histories it stands.
 use Rattle.std.specs.Prelude.{◌≡◌, ◌*◌, ◌<◌, ◌≤◌, List, length, Some, None}
 use Rattle.std.specs.List.{AllByRecursion}
+use Rattle.trace_model.specs.declared.entry.Entry.{Entry}
 use Rattle.trace_model.specs.declared.line.Header.{Header}
 use Rattle.trace_model.specs.declared.line.Line.{Line}
 use Rattle.trace_model.specs.Lines.{IsHeader, IsLineOf}
@@ -13,6 +14,14 @@ use Rattle.world.specs.declared.world_steps.WorldFault.{WorldFault}
 use Rattle.world.specs.declared.world_steps.WorldFault.TheVariants.{Undetected, NoMemory}
 use Rattle.world.specs.Sides.{LinkStandsFor}
 use Rattle.world.specs.Lines.{HaveSent, damaged_by}
+
+-- the header that the world was made of
+abbrev pub header_of : World → Header
+header_of w = w.header
+
+-- what the last line caused, or before the first line the header
+abbrev pub entries_of : World → List Entry
+entries_of w = w.entries.items
 
 -- The world stands for a history: it has this header, the history follows these lines and is legal, and both sides are the
 -- link as the history leaves it. A line gives at most one message, and puts at most 2,400 RSETs on the link.
@@ -31,7 +40,7 @@ pub record StandsFor (w : World) (header : Header) (lines : List Line) (t : Hist
 pub record HasRoom (w : World) : Type 0 where
   pub lines : List Line
   pub history : History
-  pub stands : StandsFor w w.header lines history
+  pub stands : StandsFor w (header_of w) lines history
   pub few : length lines < 20000
 
 -- This is why a line stops the world: another frame is read in place of the damaged one, or there was no memory for a line

@@ -54,7 +54,7 @@ pub struct World {
 }
 
 impl World {
-    ghost use Rattle.world.specs.Worlds.{StandsFor, HasRoom, IsFaultOf};
+    ghost use Rattle.world.specs.Worlds.{StandsFor, HasRoom, IsFaultOf, header_of, entries_of};
 
     /// The world that a header names: both ends of its link are Up in session 0, and no frame is on its way.
     ///
@@ -64,7 +64,7 @@ impl World {
     pub fn new(alloc: Global, header: &Header) -> Result<World, NoMemory>
         requires { IsHeader header.now }
         ensures stands { IfOk result (λ w. StandsFor w header.now [] (opened header.now)) }
-        ensures entries { IfOk result (λ w. w.entries.items ≡ opening_of (host_of header.now)) }
+        ensures entries { IfOk result (λ w. entries_of w ≡ opening_of (host_of header.now)) }
     {
         every_history_is_legal();
         Ok(World {
@@ -85,14 +85,14 @@ impl World {
     /// runs out. The world is of no use then.
     pub fn step(&mut self, alloc: Global, line: &Line) -> Result<(), WorldFault>
         requires room { HasRoom self.old }
-        requires line { IsLineOf self.old.header line.now }
-        ensures stands { (lines : List Line) (t : History) → StandsFor self.old self.old.header lines t
-            → OnOk result (StandsFor self.new self.old.header (lines ++ line.now ∷ []) (with_step t line.now)) }
-        ensures entries { (lines : List Line) (t : History) → StandsFor self.old self.old.header lines t
-            → OnOk result (self.new.entries.items ≡ noted (outcome_of (host_of self.old.header) (link_at t) line.now)) }
-        ensures fault { (lines : List Line) (t : History) → StandsFor self.old self.old.header lines t
+        requires line { IsLineOf (header_of self.old) line.now }
+        ensures stands { (lines : List Line) (t : History) → StandsFor self.old (header_of self.old) lines t
+            → OnOk result (StandsFor self.new (header_of self.old) (lines ++ line.now ∷ []) (with_step t line.now)) }
+        ensures entries { (lines : List Line) (t : History) → StandsFor self.old (header_of self.old) lines t
+            → OnOk result (entries_of self.new ≡ noted (outcome_of (host_of (header_of self.old)) (link_at t) line.now)) }
+        ensures fault { (lines : List Line) (t : History) → StandsFor self.old (header_of self.old) lines t
             → IfErr result (IsFaultOf (link_at t) line.now) }
-        ensures told { (lines : List Line) (t : History) → StandsFor self.old self.old.header lines t
+        ensures told { (lines : List Line) (t : History) → StandsFor self.old (header_of self.old) lines t
             → OnOk result (misread (link_at t) line.now ≡ None) }
     {
         every_history_is_legal();
@@ -128,14 +128,14 @@ impl World {
 
     /// The header that the world was made of.
     pub fn header(&self) -> &Header
-        ensures { result.now ≡ self.now.header }
+        ensures { result.now ≡ header_of self.now }
     {
         &self.header
     }
 
     /// What the last line caused, in order; before the first line, what the header did. The lines themselves aren't in it.
     pub fn entries(&self) -> &[Entry]
-        ensures { result.now ≡ self.now.entries.items }
+        ensures { result.now ≡ entries_of self.now }
     {
         self.entries.as_slice()
     }

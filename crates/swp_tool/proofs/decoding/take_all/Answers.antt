@@ -1,6 +1,6 @@
 use Rattle.std.proofs.Common.{◌++◌, take, drop, subst, sym, ap, ◌∙◌, append_assoc}
 use Rattle.std.specs.Prelude.{Result, Ok, Err, IfErr}
-use Rattle.swp_tool.specs.Decodings.{DecodedBy}
+use Rattle.swp_tool.specs.Decodings.{EndedIn}
 use Rattle.swp_tool.proofs.Cutting.{whole_after, left_of}
 use Rattle.swp_tool.proofs.decoding.take_all.Goals as goal
 
@@ -13,7 +13,7 @@ pub returns-in-Ok-clause-ends : goal.returns-in-Ok-clause-ends
 returns-in-Ok-clause-ends g c =
     let n = c.in-Ok.read in
     let piece = c.args.piece.now in
-    if_err _ _ c.take_each.result (λ status ends bytes left rest before h.
-    let said = ends (bytes ++ take n piece) left rest before (c.in-Ok.ensures.goes bytes before h) in
-    subst (λ l. DecodedBy g.K.Sink.tells status l left before (g.K.Sink.written c.take_each.new.sink))
+    if_err _ _ c.take_each.result (λ status ends earlier bytes rest before h.
+    let said = ends earlier (bytes ++ take n piece) rest before (c.in-Ok.ensures.goes earlier bytes before h) in
+    subst (λ l. EndedIn g.K.Sink.tells status earlier l before (g.K.Sink.written c.take_each.new.sink))
     (ap (λ l. ((bytes ++ take n piece) ++ l) ++ rest) (left_of piece n c.in-Ok.ensures.within) ∙ append_assoc (bytes ++ take n piece) (drop n piece) rest ∙ sym (whole_after bytes piece rest n)) said) c.take_each.ensures.ends

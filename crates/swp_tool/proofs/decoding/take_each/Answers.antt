@@ -1,11 +1,11 @@
 use Rattle.std.proofs.Common.{◌≡◌, ◌+◌, ◌∷◌, [], ◌++◌, take, drop, get_or, arith, subst, sym, ap, ◌∙◌, append_assoc}
 use Rattle.std.proofs.lemmas.List.{take_more}
-use Rattle.swp_tool.specs.Decodings.{IsDecoding, DecodedBy}
+use Rattle.swp_tool.specs.Decodings.{IsDecoding, EndedIn}
 use Rattle.swp_tool.proofs.Cutting.{whole_piece}
 use Rattle.swp_tool.proofs.decoding.take_each.Goals as goal
 
 pub returns-in-Err-clause-ends : goal.returns-in-Err-clause-ends
-returns-in-Err-clause-ends g c bytes left rest before h =
+returns-in-Err-clause-ends g c earlier bytes rest before h =
     let i = c.loop-byte.byte-index in
     let piece = c.args.piece.now in
     let byte = get_or piece i 0 in
@@ -14,18 +14,18 @@ returns-in-Err-clause-ends g c bytes left rest before h =
     let is : (front ++ byte ∷ (drop (i + 1) piece ++ rest)) ≡ (bytes ++ piece) ++ rest =
     sym (append_assoc front (byte ∷ []) (drop (i + 1) piece ++ rest)) ∙ (sym (append_assoc (front ++ byte ∷ []) (drop (i + 1) piece) rest)
     ∙ ap (λ l. l ++ rest) (whole_piece bytes piece i (omega (arith, c.loop-byte-test.true)))) in
-    subst (λ l. DecodedBy g.K.Sink.tells c.in-Err.status l left before after) is
-    (c.in-Err.ensures.ends front left (drop (i + 1) piece ++ rest) before (c.loop-byte.invariant.read bytes before h))
+    subst (λ l. EndedIn g.K.Sink.tells c.in-Err.status earlier l before after) is
+    (c.in-Err.ensures.ends earlier front (drop (i + 1) piece ++ rest) before (c.loop-byte.invariant.read earlier bytes before h))
 
 pub loop-byte-preserved : goal.loop-byte-preserved
 loop-byte-preserved g c = record {
   few = c.in_default.ensures.few;
   counted = omega (arith, c.in_default.ensures.progress, c.loop-byte.invariant.counted);
   writes = omega (arith, c.take_next.ensures.count, c.loop-byte.invariant.writes);
-  read = λ bytes before h.
+  read = λ earlier bytes before h.
       let i = c.loop-byte.byte-index in
       let piece = c.args.piece.now in
       let is = append_assoc bytes (take i piece) (get_or piece i 0 ∷ []) ∙ ap (λ l. bytes ++ l) (sym (take_more piece i 0 (omega (arith, c.loop-byte-test.true)))) in
-      subst (λ l. IsDecoding g.K.Sink.tells c.take_next.new.decoding l before (g.K.Sink.written c.take_next.new.sink)) is
-      (c.in_default.ensures.goes (bytes ++ take i piece) before (c.loop-byte.invariant.read bytes before h));
+      subst (λ l. IsDecoding g.K.Sink.tells c.take_next.new.decoding earlier l before (g.K.Sink.written c.take_next.new.sink)) is
+      (c.in_default.ensures.goes earlier (bytes ++ take i piece) before (c.loop-byte.invariant.read earlier bytes before h));
 }

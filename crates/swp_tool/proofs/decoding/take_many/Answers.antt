@@ -28,20 +28,20 @@ piece-preserved g c =
       few = omega (arith, c.in_ok-further.ensures.read, c.in_ok-further.ensures.within, c.if-decoding.false);
       counted = omega (arith, c.in_ok-further.ensures.read, old.counted);
       writes = omega (arith, c.take_first.ensures.count, old.writes);
-      so_far = λ bytes before h.
-          let next = c.in_ok-further.ensures.goes (bytes ++ take at piece) before (old.so_far bytes before h) in
+      so_far = λ earlier bytes before h.
+          let next = c.in_ok-further.ensures.goes earlier (bytes ++ take at piece) before (old.so_far earlier bytes before h) in
           let is = append_assoc bytes (take at piece) (take n c.in-Some.first.now) ∙ ap (λ l. bytes ++ l) (further piece c.in-Some.first.now at n first c.in_ok-further.ensures.within) in
-          subst (λ l. IsDecoding g.K.Sink.tells c.take_first.new.decoding l before (g.K.Sink.written c.take_first.new.sink)) is next;
+          subst (λ l. IsDecoding g.K.Sink.tells c.take_first.new.decoding earlier l before (g.K.Sink.written c.take_first.new.sink)) is next;
     }
 
 pub returns-in_err-further-clause-ends : goal.returns-in_err-further-clause-ends
 returns-in_err-further-clause-ends g c =
-    on_err _ c.from_residual.result (λ bytes rest before h.
+    on_err _ c.from_residual.result (λ earlier bytes rest before h.
     let at = c.piece.read in
     let piece = c.args.piece.now in
     record {
       bytes = bytes ++ take at piece;
       rest = drop at piece ++ rest;
       input_is = whole_after bytes piece rest at;
-      front = c.in_err-further.ensures.ends (bytes ++ take at piece) before (c.piece.invariant.so_far bytes before h);
+      front = c.in_err-further.ensures.ends earlier (bytes ++ take at piece) before (c.piece.invariant.so_far earlier bytes before h);
     })

@@ -9,8 +9,8 @@ invariant-piece g l = record {
   few : l.decoding.decoder.count ≤ 16777216;
   counted : l.decoding.decoder.count ≡ l.fn.decoding.decoder.count + l.read;
   writes : g.K.Sink.faults l.fn.sink ≤ g.K.Sink.faults l.sink;
-  so_far : (bytes before : List ℕ) → IsDecoding g.K.Sink.tells l.fn.decoding bytes before (g.K.Sink.written l.fn.sink)
-      → IsDecoding g.K.Sink.tells l.decoding (bytes ++ take l.read l.piece) before (g.K.Sink.written l.sink);
+  so_far : (earlier bytes before : List ℕ) → IsDecoding g.K.Sink.tells l.fn.decoding earlier bytes before (g.K.Sink.written l.fn.sink)
+      → IsDecoding g.K.Sink.tells l.decoding earlier (bytes ++ take l.read l.piece) before (g.K.Sink.written l.sink);
 }
 
 abbrev pub decreases-piece : goal.decreases-piece

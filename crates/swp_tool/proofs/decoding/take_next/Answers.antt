@@ -5,13 +5,13 @@ use Rattle.swp_tool.proofs.Recording.{none_gathered, count_read}
 use Rattle.swp_tool.proofs.decoding.take_next.Goals as goal
 
 pub returns-then-decoding-eq-MAX_BYTES-clause-ends : goal.returns-then-decoding-eq-MAX_BYTES-clause-ends
-returns-then-decoding-eq-MAX_BYTES-clause-ends g c bytes left ahead before h =
+returns-then-decoding-eq-MAX_BYTES-clause-ends g c earlier bytes ahead before h =
     let tells = g.K.Sink.tells in
     let d = c.flush_lines.new.decoding in
     let was = g.K.Sink.written c.args.sink.now in
     let after = g.K.Sink.written c.flush_lines.new.sink in
     let fine = c.is_err.ensures.value in
-    let goes = of_ok ((b f : List ℕ) → IsDecoding tells c.args.decoding.now b f was → IsDecoding tells d b f after) c.flush_lines.result c.is_err.result fine c.if-is_err.false c.flush_lines.ensures.goes in
+    let goes = of_ok ((e b f : List ℕ) → IsDecoding tells c.args.decoding.now e b f was → IsDecoding tells d e b f after) c.flush_lines.result c.is_err.result fine c.if-is_err.false c.flush_lines.ensures.goes in
     let none = of_ok (d.text.items ≡ []) c.flush_lines.result c.is_err.result fine c.if-is_err.false c.flush_lines.ensures.room in (
       refl,
       record {
@@ -19,7 +19,7 @@ returns-then-decoding-eq-MAX_BYTES-clause-ends g c bytes left ahead before h =
         byte = c.args.byte;
         rest = ahead;
         input_is = refl;
-        most = sym (count_read tells c.args.decoding.now bytes before was h) ∙ c.if-decoding-eq-MAX_BYTES.true;
-        after_is = none_gathered tells d bytes before after (goes bytes before h) none;
+        most = sym (count_read tells c.args.decoding.now earlier bytes before was h) ∙ c.if-decoding-eq-MAX_BYTES.true;
+        after_is = none_gathered tells d earlier bytes before after (goes earlier bytes before h) none;
       },
     )

@@ -1,4 +1,4 @@
-use Rattle.std.proofs.Common.{◌≤◌, IsTrue, List, ℕ}
+use Rattle.std.proofs.Common.{◌≡◌, ◌≤◌, IsTrue, false, List, ℕ}
 use Rattle.swp_tool.proofs.driver.drive.Given as goal
 
 -- a front of the input was read, and what it caused was written
@@ -10,6 +10,8 @@ invariant-input g l = record {
   under_way : IsTrue g.S.Source.tells → (input before : List ℕ)
       → g.J.Job.under_way g.K.Sink.tells l.fn.job input (g.S.Source.left l.fn.source) before (g.K.Sink.written l.fn.sink)
       → g.J.Job.under_way g.K.Sink.tells l.job input (g.S.Source.left l.source) before (g.K.Sink.written l.sink);
+  more : (g.S.Source.end l.fn.source).ended ≡ false → (g.S.Source.end l.source).ended ≡ false;
+  late : (g.S.Source.end l.fn.source).ended ≡ false → (g.S.Source.end l.source).late ≡ (g.S.Source.end l.fn.source).late;
 }
 
 abbrev pub decreases-input : goal.decreases-input
