@@ -3,8 +3,8 @@ use Rattle.std.proofs.Common.{◌≡◌, ℕ, ◌<◌, true, eqb, get_or, refl, 
 use Rattle.std.proofs.lemmas.Bool.{agree_below, agree_below_at}
 use Rattle.swp_base.specs.Bits.{bits_of_byte}
 use Rattle.swp_crc.specs.Division.{number_of}
-use Rattle.swp_crc.specs.Crc.{entry_of}
-use Rattle.swp_crc.specs.declared.table.TheConstants.{ENTRIES}
+use Rattle.swp_crc.specs.Crc.{entry_of, entry_before}
+use Rattle.swp_crc.specs.declared.table.TheConstants.{ENTRIES, ENTRIES_BEFORE_ONE, ENTRIES_BEFORE_TWO, ENTRIES_BEFORE_THREE}
 
 byte_checks : agree_below (λ b. eqb (number_of (bits_of_byte b)) b) (λ b. true) 256 ≡ true
 unfolding bits_of_byte
@@ -19,3 +19,24 @@ entry_checks = refl
 
 pub entries_are : (b : ℕ) → b < 256 → get_or ENTRIES b 0 ≡ entry_of b
 entries_are b h = eqb-true _ _ (agree_below_at (λ n. eqb (get_or ENTRIES n 0) (entry_of n)) (λ n. true) 256 b entry_checks h)
+
+checks_before_one : agree_below (λ b. eqb (get_or ENTRIES_BEFORE_ONE b 0) (entry_before 1 b)) (λ b. true) 256 ≡ true
+unfolding bits_of_byte
+checks_before_one = refl
+
+pub entries_before_one : (b : ℕ) → b < 256 → get_or ENTRIES_BEFORE_ONE b 0 ≡ entry_before 1 b
+entries_before_one b h = eqb-true _ _ (agree_below_at (λ n. eqb (get_or ENTRIES_BEFORE_ONE n 0) (entry_before 1 n)) (λ n. true) 256 b checks_before_one h)
+
+checks_before_two : agree_below (λ b. eqb (get_or ENTRIES_BEFORE_TWO b 0) (entry_before 2 b)) (λ b. true) 256 ≡ true
+unfolding bits_of_byte
+checks_before_two = refl
+
+pub entries_before_two : (b : ℕ) → b < 256 → get_or ENTRIES_BEFORE_TWO b 0 ≡ entry_before 2 b
+entries_before_two b h = eqb-true _ _ (agree_below_at (λ n. eqb (get_or ENTRIES_BEFORE_TWO n 0) (entry_before 2 n)) (λ n. true) 256 b checks_before_two h)
+
+checks_before_three : agree_below (λ b. eqb (get_or ENTRIES_BEFORE_THREE b 0) (entry_before 3 b)) (λ b. true) 256 ≡ true
+unfolding bits_of_byte
+checks_before_three = refl
+
+pub entries_before_three : (b : ℕ) → b < 256 → get_or ENTRIES_BEFORE_THREE b 0 ≡ entry_before 3 b
+entries_before_three b h = eqb-true _ _ (agree_below_at (λ n. eqb (get_or ENTRIES_BEFORE_THREE n 0) (entry_before 3 n)) (λ n. true) 256 b checks_before_three h)

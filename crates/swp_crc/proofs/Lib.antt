@@ -1,4 +1,5 @@
 pub mod DivisionLemmas
 pub mod Numbers
 pub mod Steps
+pub mod FourSteps
 pub mod Entries

@@ -24,7 +24,7 @@ complement-sum zero xs h = refl
 complement-sum (suc n) [] h = absurd (omega arith)
 complement-sum (suc n) (x ∷ xs) h = ap (λ ys. not x ∷ ys) (complement-sum n xs (omega arith))
 
-sum-append : (vs ws xs ys : List Bool) → length vs ≡ length xs → sum_from_front (vs ++ ws) (xs ++ ys) ≡ sum_from_front vs xs ++ sum_from_front ws ys
+pub sum-append : (vs ws xs ys : List Bool) → length vs ≡ length xs → sum_from_front (vs ++ ws) (xs ++ ys) ≡ sum_from_front vs xs ++ sum_from_front ws ys
 sum-append [] ws [] ys h = refl
 sum-append [] ws (x ∷ xs) ys h = absurd (omega arith)
 sum-append (v ∷ vs) ws [] ys h = absurd (omega arith)
@@ -42,7 +42,7 @@ length-complemented (suc n) [] = refl
 length-complemented (suc n) (x ∷ xs) = ap suc (length-complemented n xs)
 
 -- the remainder of a list of bits, sixteen zeros behind it
-abbrev left_of : List Bool → List Bool
+abbrev pub left_of : List Bool → List Bool
 left_of bits = divided (length bits) (complement_first 16 (bits ++ zeros))
 
 length-left : (bits : List Bool) → length (left_of bits) ≡ 16
@@ -53,36 +53,38 @@ length-left bits =
 pub length-remainder : (bytes : List ℕ) → length (remainder_of bytes) ≡ 16
 length-remainder bytes = length-left (bits_of bytes)
 
-left-append : (bits byte : List Bool) → length byte ≡ 8 → left_of (bits ++ byte) ≡ divided 8 (sum_from_front (left_of bits) (byte ++ zeros))
-left-append bits byte eight =
-    ap (λ n. divided n (complement_first 16 ((bits ++ byte) ++ zeros))) (length-append bits byte ∙ ap (λ n. length bits + n) eight)
-    ∙ divided-+ (length bits) 8 (complement_first 16 ((bits ++ byte) ++ zeros))
-    ∙ ap (divided 8)
+pub left-append : (bits more : List Bool) → left_of (bits ++ more) ≡ divided (length more) (sum_from_front (left_of bits) (more ++ zeros))
+left-append bits more =
+    ap (λ n. divided n (complement_first 16 ((bits ++ more) ++ zeros))) (length-append bits more)
+    ∙ divided-+ (length bits) (length more) (complement_first 16 ((bits ++ more) ++ zeros))
+    ∙ ap (divided (length more))
     (ap (divided (length bits)) whole
-    ∙ divided_sum (length bits) front (replicate (length bits) false ++ more) (omega (arith, length-complemented 16 (bits ++ zeros), length-append bits zeros))
-    (omega (arith, length-append (replicate (length bits) false) more, length-replicate (length bits) false, long))
-    ∙ ap (sum_from_front (divided (length bits) front)) (divided-zeros (length bits) more))
+    ∙ divided_sum (length bits) front (replicate (length bits) false ++ behind) (omega (arith, length-complemented 16 (bits ++ zeros), length-append bits zeros))
+    (omega (arith, length-append (replicate (length bits) false) behind, length-replicate (length bits) false, long))
+    ∙ ap (sum_from_front (divided (length bits) front)) (divided-zeros (length bits) behind))
   where
-    more : List Bool
-    more = byte ++ zeros
+    behind : List Bool
+    behind = more ++ zeros
 
     front : List Bool
     front = complement_first 16 (bits ++ zeros)
 
-    long : length more ≡ 24
-    long = length-append byte zeros ∙ ap (λ n. n + 16) eight
+    long : length behind ≡ length more + 16
+    long = length-append more zeros
 
-    whole : complement_first 16 ((bits ++ byte) ++ zeros) ≡ sum_from_front front (replicate (length bits) false ++ more)
+    whole : complement_first 16 ((bits ++ more) ++ zeros) ≡ sum_from_front front (replicate (length bits) false ++ behind)
     whole =
-        complement-sum 16 ((bits ++ byte) ++ zeros) (omega (arith, length-append (bits ++ byte) zeros))
-        ∙ ap (sum_from_front (replicate 16 true)) (append_assoc bits byte zeros ∙ split bits more (omega (arith, long)))
-        ∙ sym (sum_assoc (replicate 16 true) (bits ++ zeros) (replicate (length bits) false ++ more))
-        ∙ ap (λ xs. sum_from_front xs (replicate (length bits) false ++ more))
+        complement-sum 16 ((bits ++ more) ++ zeros) (omega (arith, length-append (bits ++ more) zeros))
+        ∙ ap (sum_from_front (replicate 16 true)) (append_assoc bits more zeros ∙ split bits behind (omega (arith, long)))
+        ∙ sym (sum_assoc (replicate 16 true) (bits ++ zeros) (replicate (length bits) false ++ behind))
+        ∙ ap (λ xs. sum_from_front xs (replicate (length bits) false ++ behind))
         (sym (complement-sum 16 (bits ++ zeros) (omega (arith, length-append bits zeros))))
 
 -- one more byte goes on from the remainder
 goes_on : (bytes : List ℕ) (b : ℕ) → remainder_of (bytes ++ b ∷ []) ≡ divided 8 (sum_from_front (remainder_of bytes) (bits_of_byte b ++ zeros))
-goes_on bytes b = ap left_of (bits_of-push bytes b) ∙ left-append (bits_of bytes) (bits_of_byte b) (length-byte b)
+goes_on bytes b =
+    ap left_of (bits_of-push bytes b) ∙ left-append (bits_of bytes) (bits_of_byte b)
+    ∙ ap (λ n. divided n (sum_from_front (left_of (bits_of bytes)) (bits_of_byte b ++ zeros))) (length-byte b)
 
 -- the low half moves up, and the entry of the high half with the byte is added
 by_halves : (high low byte : List Bool) → length high ≡ 8 → length low ≡ 8 → length byte ≡ 8

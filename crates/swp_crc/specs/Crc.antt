@@ -1,5 +1,5 @@
 -- The CRC of a frame, by division.
-use Rattle.std.specs.Prelude.{ℕ, suc, zero, Bool, false, not, List, [], ◌∷◌, ◌++◌, length, map, replicate}
+use Rattle.std.specs.Prelude.{ℕ, suc, zero, ◌+◌, ◌*◌, Bool, false, not, List, [], ◌∷◌, ◌++◌, length, map, replicate}
 use Rattle.swp_base.specs.Bits.{bits_of, bits_of_byte}
 use Rattle.swp_crc.specs.Division.{divided, number_of}
 
@@ -24,3 +24,7 @@ crc_of bytes = number_of (map not (remainder_of bytes))
 -- what division leaves of the bits of one byte before sixteen zeros, nothing complemented
 abbrev pub entry_of : ℕ → ℕ
 entry_of byte = number_of (divided 8 (bits_of_byte byte ++ zeros))
+
+-- the same with this many more bytes 0 behind the byte
+abbrev pub entry_before : ℕ → ℕ → ℕ
+entry_before more byte = number_of (divided (8 + 8 * more) (bits_of_byte byte ++ replicate (8 * more + 16) false))

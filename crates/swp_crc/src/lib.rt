@@ -17,7 +17,12 @@ pub fn crc(bytes: &[u8]) -> u16
     ensures { result ≡ crc_of bytes.now }
 {
     let mut register = Register::new();
-    for byte in bytes {
+    let mut read = 0;
+    'fours: while let Some((four, _)) = bytes[read..].split_first_chunk::<4>() {
+        register.push_four(four);
+        read += 4;
+    }
+    for byte in &bytes[read..] {
         register.push(*byte);
     }
     register.crc()

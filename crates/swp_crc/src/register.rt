@@ -3,7 +3,7 @@ ghost use Rattle.std.specs.Prelude.{◌≡◌, ◌+◌, ◌++◌, ◌∷◌, [],
 ghost use Rattle.swp_crc.specs.Crc.{crc_of};
 ghost use Rattle.swp_crc.specs.Running.{running_of};
 
-use crate::table::entry;
+use crate::table::{entry, entry_before_one, entry_before_three, entry_before_two};
 use std::marker::Model;
 
 /// The CRC of the bytes pushed so far.
@@ -38,6 +38,19 @@ impl Register {
     {
         let index = (self.remainder >> 8) as u8 ^ byte;
         self.remainder = (self.remainder << 8) ^ entry(index);
+    }
+
+    /// Goes on by four bytes at once.
+    #[inline(always)]
+    pub fn push_four(&mut self, four: &[u8; 4])
+        ensures { (bytes : List ℕ) → self.old ≡ running_of bytes → self.new ≡ running_of (bytes ++ four.now) }
+    {
+        let [first, second, third, fourth] = *four;
+        let high = (self.remainder >> 8) as u8;
+        let low = (self.remainder % 256) as u8;
+        let last_two = entry_before_one(third) ^ entry(fourth);
+        self.remainder = entry_before_three(high ^ first)
+            ^ (entry_before_two(low ^ second) ^ last_two);
     }
 
     /// The CRC of the bytes pushed.
