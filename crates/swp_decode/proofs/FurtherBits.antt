@@ -144,6 +144,28 @@ quiet_more word from last order within quiet none =
     ∙ mod-pow-add n (last - from) 1
     ∙ ap₂ (λ a b. a * 2 ^ 1 + b) (ap (λ m. m % 2 ^ (last - from)) half ∙ quiet) none
 
+-- nor does one where no mark ends up to a bit, nor from there on
+pub quiet_further : (word : Word) (from mid to : ℕ) → from ≤ mid → mid ≤ to → to ≤ 64 → IsQuiet word from mid → IsQuiet word mid to → IsQuiet word from to
+quiet_further word from mid to order further within quiet none =
+    let n : ℕ = word.marks / 2 ^ (64 - to) in
+    let upper : n / 2 ^ (to - mid) ≡ word.marks / 2 ^ (64 - mid) = shr-shr word.marks (64 - to) (to - mid) ∙ ap (λ k. word.marks / 2 ^ k) (omega (arith, further, within)) in
+    ap (λ j. n % 2 ^ j) (omega (arith, order, further))
+    ∙ mod-pow-add n (mid - from) (to - mid)
+    ∙ ap₂ (λ a b. a * 2 ^ (to - mid) + b) (ap (λ m. m % 2 ^ (mid - from)) upper ∙ quiet) none
+    ∙ nothing (2 ^ (to - mid))
+  where
+    nothing : (n : ℕ) → 0 * n + 0 ≡ 0
+    nothing n = omega arith
+
+-- no mark ends with none of its bits
+pub quiet_none : (word : Word) (at : ℕ) → IsQuiet word at at
+quiet_none word at =
+    let none : at - at ≡ 0 = omega arith in
+    ap (λ k. word.marks / 2 ^ (64 - at) % 2 ^ k) none ∙ whole (word.marks / 2 ^ (64 - at))
+  where
+    whole : (n : ℕ) → n % 2 ^ 0 ≡ 0
+    whole n = omega arith
+
 -- one bit more
 pub word_bits-more : (x last : ℕ) → last < 64 → take (last + 1) (low_bits 64 x) ≡ take last (low_bits 64 x) ++ bit x (63 - last) ∷ []
 word_bits-more x last h =

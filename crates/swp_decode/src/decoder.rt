@@ -94,7 +94,8 @@ impl Decoder {
         }
     }
 
-    /// Reads periods with bits. Each wire is read at once up to the next place at which a mark ends on one of them.
+    /// Reads periods with bits. Each wire is read at once up to the next place at which a mark ends on it; the marks of both are
+    /// taken in the order of their places.
     #[inline(never)]
     fn step_bits(&mut self, bits: ManyBits, bytes: &[u8; 64], text: &mut Text) -> usize
         requires s1 { AreBits Wire.S1 bytes.now (low_bits 64 bits.s1) }
@@ -112,21 +113,23 @@ impl Decoder {
         let s1 = self.s1.word(bits.s1);
         let s2 = self.s2.word(bits.s2);
         let mut marks = s1.marks | s2.marks;
-        let mut read = 0;
+        let mut read_s1 = 0;
+        let mut read_s2 = 0;
         let mut passed = 0;
         'marks: while marks != 0 && passed < Self::MOST_PLACES {
             let last = marks.leading_zeros();
-            self.s1
-                .decode_through(text, Wire::S1, &s1, read, last, place);
-            self.s2
-                .decode_through(text, Wire::S2, &s2, read, last, place);
-            read = last + 1;
+            read_s1 = self
+                .s1
+                .decode_mark_at(text, Wire::S1, &s1, read_s1, last, place);
+            read_s2 = self
+                .s2
+                .decode_mark_at(text, Wire::S2, &s2, read_s2, last, place);
             marks %= 1 << (63 - last);
             passed += 1;
         }
         let to = marks.leading_zeros();
-        self.s1.read_between(&s1, read, to, place);
-        self.s2.read_between(&s2, read, to, place);
+        self.s1.read_between(&s1, read_s1, to, place);
+        self.s2.read_between(&s2, read_s2, to, place);
         self.count = place + to;
         to as usize
     }

@@ -90,10 +90,10 @@ impl SignalReader {
         }
     }
 
-    /// Reads the bits of a word, whose oldest is at this place, from one through another, where a mark ends with none of them but
-    /// perhaps the last, and appends the line of what came with that.
+    /// Where a mark ends with a bit of a word, whose oldest is at this place: reads the bits through it from one on with which no
+    /// mark ends before, and appends the line of what came with it. It answers up to which bit the word is read then.
     #[inline(always)]
-    pub fn decode_through(
+    pub fn decode_mark_at(
         &mut self,
         text: &mut Text,
         wire: Wire,
@@ -101,26 +101,29 @@ impl SignalReader {
         from: u32,
         last: u32,
         place: u32,
-    )
+    ) -> u32
         requires order { from ≤ last }
         requires within { last < 64 }
         requires place { place + 64 < 2 ^ 32 }
         requires room { length text.old.items + 128 ≤ 8192 }
+        ensures order { from ≤ result }
+        ensures within { result ≤ last + 1 }
+        ensures quiet { IsQuiet word.now from last → IsQuiet word.now result (last + 1) }
         ensures reads { (older : List Reading) → IsWordBehind word.now (run_of (symbols older)) → IsQuiet word.now from last
             → ReadsSignal self.old (readings_on place (take from (word_bits word.now)) older)
-            → ReadsSignal self.new (readings_on place (take (last + 1) (word_bits word.now)) older) }
+            → ReadsSignal self.new (readings_on place (take result (word_bits word.now)) older) }
         ensures items { (older : List Reading) → IsWordBehind word.now (run_of (symbols older)) → IsQuiet word.now from last
             → ReadsSignal self.old (readings_on place (take from (word_bits word.now)) older)
             → text.new.items ≡ text.old.items ++ line_with wire (Some (symbol_of (bit word.now.bits (63 - last)))) (readings_on place (take last (word_bits word.now)) older) }
         ensures sized { length text.new.items ≤ length text.old.items + 128 }
     {
         if (word.marks >> (63 - last)) % 2 == 0 {
-            self.read_between(word, from, last + 1, place);
-        } else {
-            self.read_between(word, from, last, place);
-            let bit = (word.bits >> (63 - last)) % 2 == 1;
-            self.decode_mark(text, wire, bit, place + last);
+            return from;
         }
+        self.read_between(word, from, last, place);
+        let bit = (word.bits >> (63 - last)) % 2 == 1;
+        self.decode_mark(text, wire, bit, place + last);
+        last + 1
     }
 
     /// Reads a break.

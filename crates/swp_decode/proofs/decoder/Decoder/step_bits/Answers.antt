@@ -13,7 +13,7 @@ use Rattle.swp_decode.specs.declared.line.Wire.{Wire}
 use Rattle.swp_decode.specs.declared.line.Wire.TheVariants.{S1, S2}
 use Rattle.swp_decode.specs.Readings.{Reading, signal, symbols, readings_on, AreBits}
 use Rattle.swp_decode.specs.Decoded.{line_with, lines_behind}
-use Rattle.swp_decode.proofs.FurtherBits.{quiet_between}
+use Rattle.swp_decode.proofs.FurtherBits.{quiet_between, quiet_further, quiet_none}
 use Rattle.swp_decode.proofs.Gathering.{AreBits-take}
 use Rattle.swp_decode.proofs.FurtherLines.{lines_between, lines_through, stands_behind}
 use Rattle.swp_decode.proofs.Marks.{IsNext, next_place, none_before, marks_left}
@@ -25,32 +25,35 @@ next_of : (marks all read : ℕ) → read ≤ 64 → marks ≡ all % 2 ^ (64 - r
 next_of marks all read few is = next_place marks read (count_leading_zeros 64 marks) few (rw is (mod_below all (2 ^ (64 - read)) (pow_pos (64 - read)))) refl
 
 pub marks-init : goal.marks-init
-marks-init c = record {
-  within = omega arith;
-  few = omega arith;
-  progress = omega arith;
-  marks = sym (mod-eq_of_lt (or_lt 64 c.word-s1.result.marks c.word-s2.result.marks (search rules) (search rules)));
-  s1 = λ older reads. reads;
-  s2 = λ older reads. reads;
-  lines = λ older stands. sym (append-nil c.args.text.now.items);
-  sized = omega arith;
-}
+marks-init c = (
+  0,
+  record {
+    within = omega arith;
+    few = omega arith;
+    progress = omega arith;
+    marks = sym (mod-eq_of_lt (or_lt 64 c.word-s1.result.marks c.word-s2.result.marks (search rules) (search rules)));
+    before_s1 = omega arith;
+    before_s2 = omega arith;
+    quiet_s1 = quiet_none c.word-s1.result 0;
+    quiet_s2 = quiet_none c.word-s2.result 0;
+    s1 = λ older reads. reads;
+    s2 = λ older reads. reads;
+    lines = λ older stands. sym (append-nil c.args.text.now.items);
+    sized = omega arith;
+  },
+)
 
-pub decode_through-requires-clause-order : goal.decode_through-requires-clause-order
-decode_through-requires-clause-order c =
-    (next_of c.marks.marks (bit_or c.word-s1.result.marks c.word-s2.result.marks) c.marks.read c.marks.invariant.within c.marks.invariant.marks).behind
+pub decode_mark_at-read_s1-requires-clause-order : goal.decode_mark_at-read_s1-requires-clause-order
+decode_mark_at-read_s1-requires-clause-order c = omega (arith, (next_of c.marks.marks (bit_or c.word-s1.result.marks c.word-s2.result.marks) c.marks.invariant.0 c.marks.invariant.1.within c.marks.invariant.1.marks).behind, c.marks.invariant.1.before_s1)
 
-pub decode_through-requires-in-marks-clause-order : goal.decode_through-requires-in-marks-clause-order
-decode_through-requires-in-marks-clause-order c =
-    (next_of c.marks.marks (bit_or c.word-s1.result.marks c.word-s2.result.marks) c.marks.read c.marks.invariant.within c.marks.invariant.marks).behind
+pub decode_mark_at-read_s2-requires-clause-order : goal.decode_mark_at-read_s2-requires-clause-order
+decode_mark_at-read_s2-requires-clause-order c = omega (arith, (next_of c.marks.marks (bit_or c.word-s1.result.marks c.word-s2.result.marks) c.marks.invariant.0 c.marks.invariant.1.within c.marks.invariant.1.marks).behind, c.marks.invariant.1.before_s2)
 
 pub read_between-requires-clause-order : goal.read_between-requires-clause-order
-read_between-requires-clause-order c =
-    (next_of c.marks.marks (bit_or c.word-s1.result.marks c.word-s2.result.marks) c.marks.read c.marks.invariant.within c.marks.invariant.marks).behind
+read_between-requires-clause-order c = omega (arith, (next_of c.marks.marks (bit_or c.word-s1.result.marks c.word-s2.result.marks) c.marks.invariant.0 c.marks.invariant.1.within c.marks.invariant.1.marks).behind, c.marks.invariant.1.before_s1)
 
 pub read_between-requires-2-clause-order : goal.read_between-requires-2-clause-order
-read_between-requires-2-clause-order c =
-    (next_of c.marks.marks (bit_or c.word-s1.result.marks c.word-s2.result.marks) c.marks.read c.marks.invariant.within c.marks.invariant.marks).behind
+read_between-requires-2-clause-order c = omega (arith, (next_of c.marks.marks (bit_or c.word-s1.result.marks c.word-s2.result.marks) c.marks.invariant.0 c.marks.invariant.1.within c.marks.invariant.1.marks).behind, c.marks.invariant.1.before_s2)
 
 -- a wire whose bits were read up to a place, with the bits of its word
 bits_of_word : (wire : Wire) (bytes : List ℕ) (given : ℕ) (word : Word) → word.bits ≡ given → AreBits wire bytes (low_bits 64 given) → AreBits wire bytes (word_bits word)
@@ -83,41 +86,49 @@ marks-preserved c =
     let place : ℕ = c.args.self.now.count in
     let word1 = c.word-s1.result in
     let word2 = c.word-s2.result in
-    let kept = c.marks.invariant in
-    let read = c.marks.read in
+    let read : ℕ = c.marks.invariant.0 in
+    let kept = c.marks.invariant.1 in
     let last : ℕ = count_leading_zeros 64 c.marks.marks in
     let all : ℕ = bit_or word1.marks word2.marks in
     let next = next_of c.marks.marks all read kept.within kept.marks in
     let inside : last < 64 = next.there (omega (arith, c.marks-test.true)) in
     let quiet = none_before word1.marks word2.marks c.marks.marks read last next.behind next.within kept.marks next.below in
+    let quiet1 = quiet_further word1 c.marks.read_s1 read last kept.before_s1 next.behind next.within kept.quiet_s1 quiet.0 in
+    let quiet2 = quiet_further word2 c.marks.read_s2 read last kept.before_s2 next.behind next.within kept.quiet_s2 quiet.1 in
     let s1 = bits_of_word S1 bytes c.args.bits.s1 word1 c.word-s1.ensures.bits c.requires.s1 in
-    let s2 = bits_of_word S2 bytes c.args.bits.s2 word2 c.word-s2.ensures.bits c.requires.s2 in
-    record {
-      within = omega (arith, inside);
-      few = omega (arith, c.if-passed-lt-MOST_PLACES.true);
-      progress = omega (arith, kept.progress, next.behind);
-      marks = marks_left c.marks.marks all read last next.behind inside kept.marks;
-      s1 = λ older reads. c.decode_through.ensures.reads older (c.word-s1.ensures.behind older reads) quiet.0 (kept.s1 older reads);
-      s2 = λ older reads. c.decode_through-in-marks.ensures.reads older (c.word-s2.ensures.behind older reads) quiet.1 (kept.s2 older reads);
-      lines = λ older stands.
-          let behind1 = c.word-s1.ensures.behind (signal S1 older) stands.s1 in
-          let behind2 = c.word-s2.ensures.behind (signal S2 older) stands.s2 in
-          c.decode_through-in-marks.ensures.items (signal S2 older) behind2 quiet.1 (kept.s2 (signal S2 older) stands.s2)
-          ∙ ap (λ text. text ++ line_of_word S2 word2 place last (signal S2 older))
-          (c.decode_through.ensures.items (signal S1 older) behind1 quiet.0 (kept.s1 (signal S1 older) stands.s1)
-          ∙ ap (λ text. text ++ line_of_word S1 word1 place last (signal S1 older)) (kept.lines older stands))
-          ∙ through c.args.text.now.items bytes older word1 word2 place read last c.told-bytes s1 s2 next.behind inside stands.count
-          (quiet_between word1 (length older) read last (signal S1 older) next.behind next.within behind1 quiet.0)
-          (quiet_between word2 (length older) read last (signal S2 older) next.behind next.within behind2 quiet.1);
-      sized = omega (arith, kept.sized, c.decode_through.ensures.sized, c.decode_through-in-marks.ensures.sized);
-    }
+    let s2 = bits_of_word S2 bytes c.args.bits.s2 word2 c.word-s2.ensures.bits c.requires.s2 in (
+      last + 1,
+      record {
+        within = omega (arith, inside);
+        few = omega (arith, c.if-passed-lt-MOST_PLACES.true);
+        progress = omega (arith, kept.progress, next.behind);
+        marks = marks_left c.marks.marks all read last next.behind inside kept.marks;
+        before_s1 = c.decode_mark_at-read_s1.ensures.within;
+        before_s2 = c.decode_mark_at-read_s2.ensures.within;
+        quiet_s1 = c.decode_mark_at-read_s1.ensures.quiet quiet1;
+        quiet_s2 = c.decode_mark_at-read_s2.ensures.quiet quiet2;
+        s1 = λ older reads. c.decode_mark_at-read_s1.ensures.reads older (c.word-s1.ensures.behind older reads) quiet1 (kept.s1 older reads);
+        s2 = λ older reads. c.decode_mark_at-read_s2.ensures.reads older (c.word-s2.ensures.behind older reads) quiet2 (kept.s2 older reads);
+        lines = λ older stands.
+            let behind1 = c.word-s1.ensures.behind (signal S1 older) stands.s1 in
+            let behind2 = c.word-s2.ensures.behind (signal S2 older) stands.s2 in
+            c.decode_mark_at-read_s2.ensures.items (signal S2 older) behind2 quiet2 (kept.s2 (signal S2 older) stands.s2)
+            ∙ ap (λ text. text ++ line_of_word S2 word2 place last (signal S2 older))
+            (c.decode_mark_at-read_s1.ensures.items (signal S1 older) behind1 quiet1 (kept.s1 (signal S1 older) stands.s1)
+            ∙ ap (λ text. text ++ line_of_word S1 word1 place last (signal S1 older)) (kept.lines older stands))
+            ∙ through c.args.text.now.items bytes older word1 word2 place read last c.told-bytes s1 s2 next.behind inside stands.count
+            (quiet_between word1 (length older) read last (signal S1 older) next.behind next.within behind1 quiet.0)
+            (quiet_between word2 (length older) read last (signal S2 older) next.behind next.within behind2 quiet.1);
+        sized = omega (arith, kept.sized, c.decode_mark_at-read_s1.ensures.sized, c.decode_mark_at-read_s2.ensures.sized);
+      },
+    )
 
 pub returns-clause-some : goal.returns-clause-some
 unfolding count_leading_zeros
 returns-clause-some c =
-    let next = next_of c.marks.marks (bit_or c.word-s1.result.marks c.word-s2.result.marks) c.marks.read c.marks.invariant.within c.marks.invariant.marks in
+    let next = next_of c.marks.marks (bit_or c.word-s1.result.marks c.word-s2.result.marks) c.marks.invariant.0 c.marks.invariant.1.within c.marks.invariant.1.marks in
     elim c.marks-test.branch [
-      | then-marks-test+else-passed-lt-MOST_PLACES w ↦ omega (arith, w.if-passed-lt-MOST_PLACES.false, c.marks.invariant.progress, next.behind)
+      | then-marks-test+else-passed-lt-MOST_PLACES w ↦ omega (arith, w.if-passed-lt-MOST_PLACES.false, c.marks.invariant.1.progress, next.behind)
       | else-marks-test w ↦
           let none : c.marks.marks ≡ 0 = omega (arith, w.marks-test.false) in
           let all : count_leading_zeros 64 c.marks.marks ≡ 64 = ap (count_leading_zeros 64) none in
@@ -129,25 +140,28 @@ returns-clause-stands c = λ older stands.
     let bytes = c.args.bytes.now in
     let word1 = c.word-s1.result in
     let word2 = c.word-s2.result in
-    let kept = c.marks.invariant in
+    let read : ℕ = c.marks.invariant.0 in
+    let kept = c.marks.invariant.1 in
     let to : ℕ = count_leading_zeros 64 c.marks.marks in
-    let next = next_of c.marks.marks (bit_or word1.marks word2.marks) c.marks.read kept.within kept.marks in
-    let quiet = none_before word1.marks word2.marks c.marks.marks c.marks.read to next.behind next.within kept.marks next.below in
+    let next = next_of c.marks.marks (bit_or word1.marks word2.marks) read kept.within kept.marks in
+    let quiet = none_before word1.marks word2.marks c.marks.marks read to next.behind next.within kept.marks next.below in
+    let quiet1 = quiet_further word1 c.marks.read_s1 read to kept.before_s1 next.behind next.within kept.quiet_s1 quiet.0 in
+    let quiet2 = quiet_further word2 c.marks.read_s2 read to kept.before_s2 next.behind next.within kept.quiet_s2 quiet.1 in
     let s1 = bits_of_word S1 bytes c.args.bits.s1 word1 c.word-s1.ensures.bits c.requires.s1 in
     let s2 = bits_of_word S2 bytes c.args.bits.s2 word2 c.word-s2.ensures.bits c.requires.s2 in
     stands_behind c.args.self.now _ (take to bytes) older (take to (word_bits word1)) (take to (word_bits word2))
     (AreBits-take S1 to bytes (word_bits word1) s1) (AreBits-take S2 to bytes (word_bits word2) s2) stands
     (omega (arith, length-take-le to bytes (omega (arith, next.within, c.told-bytes))))
-    (c.read_between.ensures (signal S1 older) (c.word-s1.ensures.behind (signal S1 older) stands.s1) quiet.0 (kept.s1 (signal S1 older) stands.s1))
-    (c.read_between-2.ensures (signal S2 older) (c.word-s2.ensures.behind (signal S2 older) stands.s2) quiet.1 (kept.s2 (signal S2 older) stands.s2))
+    (c.read_between.ensures (signal S1 older) (c.word-s1.ensures.behind (signal S1 older) stands.s1) quiet1 (kept.s1 (signal S1 older) stands.s1))
+    (c.read_between-2.ensures (signal S2 older) (c.word-s2.ensures.behind (signal S2 older) stands.s2) quiet2 (kept.s2 (signal S2 older) stands.s2))
 
 pub returns-clause-lines : goal.returns-clause-lines
 returns-clause-lines c = λ older stands.
     let bytes = c.args.bytes.now in
     let word1 = c.word-s1.result in
     let word2 = c.word-s2.result in
-    let kept = c.marks.invariant in
-    let read = c.marks.read in
+    let read : ℕ = c.marks.invariant.0 in
+    let kept = c.marks.invariant.1 in
     let to : ℕ = count_leading_zeros 64 c.marks.marks in
     let next = next_of c.marks.marks (bit_or word1.marks word2.marks) read kept.within kept.marks in
     let quiet = none_before word1.marks word2.marks c.marks.marks read to next.behind next.within kept.marks next.below in
