@@ -1,4 +1,5 @@
 pub mod Hexadecimal
+pub mod Decimals
 pub mod FurtherBits
 pub mod Gathering
 pub mod FurtherLines

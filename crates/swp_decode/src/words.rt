@@ -1,10 +1,10 @@
 //! The words of a line.
 ghost use Rattle.std.specs.Prelude.{ℕ, List, [], ◌∷◌, ◌++◌, ◌≡◌, ◌+◌, ◌*◌, ◌/◌, ◌%◌, ◌<◌, ◌≤◌, length, decimal, codes, true};
-ghost use Rattle.std.specs.Fmt.{digit_glyph};
+ghost use Rattle.swp_lpdu.specs.Controls.{control_of};
 ghost use Rattle.swp_decode.specs.Texts.{hex_of, hex_word, words, kind_word, act_words, control_words, fault_words, verdict_words};
 
 use arrayvec::ArrayVec;
-use swp_base::{Act, Control, FrameFault, Kind};
+use swp_base::{Act, Control, FrameFault, Kind, Lpdu};
 use swp_frame::Fed;
 use swp_lpdu::{LpduFault, read_lpdu};
 
@@ -35,18 +35,60 @@ pub fn push_decimal(text: &mut Text, n: u32)
     push_digits(text, n);
 }
 
+/// The two decimal digits of each number below 100, the first the low byte.
+static DECIMAL_PAIRS: [u16; 100] = [
+    0x3030, 0x3130, 0x3230, 0x3330, 0x3430, 0x3530, 0x3630, 0x3730, 0x3830, 0x3930, 0x3031, 0x3131,
+    0x3231, 0x3331, 0x3431, 0x3531, 0x3631, 0x3731, 0x3831, 0x3931, 0x3032, 0x3132, 0x3232, 0x3332,
+    0x3432, 0x3532, 0x3632, 0x3732, 0x3832, 0x3932, 0x3033, 0x3133, 0x3233, 0x3333, 0x3433, 0x3533,
+    0x3633, 0x3733, 0x3833, 0x3933, 0x3034, 0x3134, 0x3234, 0x3334, 0x3434, 0x3534, 0x3634, 0x3734,
+    0x3834, 0x3934, 0x3035, 0x3135, 0x3235, 0x3335, 0x3435, 0x3535, 0x3635, 0x3735, 0x3835, 0x3935,
+    0x3036, 0x3136, 0x3236, 0x3336, 0x3436, 0x3536, 0x3636, 0x3736, 0x3836, 0x3936, 0x3037, 0x3137,
+    0x3237, 0x3337, 0x3437, 0x3537, 0x3637, 0x3737, 0x3837, 0x3937, 0x3038, 0x3138, 0x3238, 0x3338,
+    0x3438, 0x3538, 0x3638, 0x3738, 0x3838, 0x3938, 0x3039, 0x3139, 0x3239, 0x3339, 0x3439, 0x3539,
+    0x3639, 0x3739, 0x3839, 0x3939,
+];
+
+/// The two decimal digits of a number below 100.
+#[inline(always)]
+fn two_digits(n: u32) -> [u8; 2]
+    requires { n < 100 }
+    ensures { result ≡ (48 + n / 10) ∷ (48 + n % 10) ∷ [] }
+{
+    DECIMAL_PAIRS[n as usize].to_le_bytes()
+}
+
+/// Appends the four digits of a number below 10,000, its leading zeros too.
+#[inline(always)]
+fn push_four_digits(text: &mut Text, n: u32)
+    requires small { n < 10000 }
+    requires room { length text.old.items + 4 ≤ 8192 }
+    ensures { text.new.items ≡ text.old.items ++ (48 + n / 1000) ∷ (48 + n / 100 % 10) ∷ (48 + n / 10 % 10) ∷ (48 + n % 10) ∷ [] }
+{
+    let [first, second] = two_digits(n / 100);
+    let [third, fourth] = two_digits(n % 100);
+    push_text(text, &[first, second, third, fourth]);
+}
+
 /// Appends a number of two digits or more.
 fn push_digits(text: &mut Text, n: u32)
     requires some { 10 ≤ n }
     requires room { length text.old.items + length (decimal n) ≤ 8192 }
     ensures { text.new.items ≡ text.old.items ++ decimal n }
 {
-    if n >= 1000 {
-        push_digits(text, n / 100);
+    if n >= 100_000 {
+        push_digits(text, n / 10_000);
+        push_four_digits(text, n % 10_000);
+    } else if n >= 10_000 {
+        text.push(b'0' + (n / 10_000) as u8);
+        push_four_digits(text, n % 10_000);
+    } else if n >= 1000 {
+        push_four_digits(text, n);
     } else if n >= 100 {
-        text.push(b'0' + (n / 100) as u8);
+        let [second, third] = two_digits(n % 100);
+        push_text(text, &[b'0' + (n / 100) as u8, second, third]);
+    } else {
+        push_text(text, &two_digits(n));
     }
-    push_text(text, &[b'0' + (n / 10 % 10) as u8, b'0' + (n % 10) as u8]);
 }
 
 /// The two hexadecimal digits of each byte, the first the low byte.
@@ -75,12 +117,12 @@ static PAIRS: [u16; 256] = [
     0x4346, 0x4446, 0x4546, 0x4646,
 ];
 
-/// The two hexadecimal digits of a byte, the first the low byte.
+/// The two hexadecimal digits of a byte.
 #[inline(always)]
-fn digits_of(byte: u8) -> u16
-    ensures { result ≡ digit_glyph true (byte / 16) + 256 * digit_glyph true (byte % 16) }
+fn digits_of(byte: u8) -> [u8; 2]
+    ensures { result ≡ hex_of (byte ∷ []) }
 {
-    PAIRS[byte as usize]
+    PAIRS[byte as usize].to_le_bytes()
 }
 
 /// Appends bytes in hexadecimal, two digits each.
@@ -89,11 +131,30 @@ pub fn push_hex(text: &mut Text, bytes: &[u8])
     ensures items { text.new.items ≡ text.old.items ++ hex_of bytes.now }
     ensures sized { length text.new.items ≡ length text.old.items + 2 * length bytes.now }
 {
-    for byte in bytes {
-        let [first, second] = digits_of(*byte).to_le_bytes();
-        text.push(first);
-        text.push(second);
+    let mut read = 0;
+    'fours: while let Some((four, _)) = bytes[read..].split_first_chunk::<4>() {
+        push_hex_of_four(text, four);
+        read += 4;
     }
+    for byte in &bytes[read..] {
+        push_text(text, &digits_of(*byte));
+    }
+}
+
+/// Appends four bytes in hexadecimal.
+#[inline(always)]
+fn push_hex_of_four(text: &mut Text, four: &[u8; 4])
+    requires { length text.old.items + 8 ≤ 8192 }
+    ensures { text.new.items ≡ text.old.items ++ hex_of four.now }
+{
+    let [first, second] = digits_of(four[0]);
+    let [third, fourth] = digits_of(four[1]);
+    let [fifth, sixth] = digits_of(four[2]);
+    let [seventh, eighth] = digits_of(four[3]);
+    push_text(
+        text,
+        &[first, second, third, fourth, fifth, sixth, seventh, eighth],
+    );
 }
 
 /// Appends two bytes in hexadecimal.
@@ -205,13 +266,29 @@ pub fn push_verdict(text: &mut Text, fed: &Fed)
         Fed::Frame(lpdu) => {
             push_hex(text, lpdu.bytes());
             push_text(text, b" ");
-            match read_lpdu(lpdu) {
-                Ok(control) => push_control(text, &control),
-                Err(LpduFault::Unknown { .. }) => push_text(text, b"unknown"),
-                Err(LpduFault::Short { .. }) => push_text(text, b"short"),
-                Err(LpduFault::TooLong { .. }) => push_text(text, b"toolong"),
-            }
+            push_words(text, lpdu);
         }
         Fed::Refused(fault) => push_fault(text, fault),
+    }
+}
+
+/// Appends what an LPDU says. What an I frame carries isn't written, so it isn't read.
+fn push_words(text: &mut Text, lpdu: &Lpdu)
+    requires { length text.old.items + 30 ≤ 8192 }
+    ensures items { text.new.items ≡ text.old.items ++ words (control_of lpdu.now) }
+    ensures sized { length text.new.items ≤ length text.old.items + 30 }
+{
+    let bytes = lpdu.bytes();
+    let first = bytes[0];
+    if (0x80..=0xBF).contains(&first) && bytes.len() >= 2 {
+        push_text(text, b"i ");
+        push_two(text, (first - 0x80) / 8, first % 8);
+        return;
+    }
+    match read_lpdu(lpdu) {
+        Ok(control) => push_control(text, &control),
+        Err(LpduFault::Unknown { .. }) => push_text(text, b"unknown"),
+        Err(LpduFault::Short { .. }) => push_text(text, b"short"),
+        Err(LpduFault::TooLong { .. }) => push_text(text, b"toolong"),
     }
 }

@@ -1,30 +1,72 @@
-use Rattle.std.proofs.Common.{◌<◌, ◌++◌, ◌∷◌, [], ◌∙◌, ap, ap₂, take, get_or, length, arith, length-append, length-take}
+use Rattle.std.proofs.Common.{◌≡◌, ◌≤◌, ◌<◌, ◌+◌, ◌-◌, ◌*◌, ◌++◌, ◌∷◌, [], ◌∙◌, ℕ, List, sym, ap, ap₂, take, drop, get_or, length, arith, length-append, length-take, length-drop, take-add}
+use Rattle.std.proofs.lemmas.List.{take_rest, take_more, take_all, get_or-drop}
 use Rattle.swp_decode.specs.Texts.{hex_of}
-use Rattle.swp_decode.proofs.Hexadecimal.{hex_more, room_of, length-hex_of, first_digit, second_digit}
+use Rattle.swp_decode.proofs.Hexadecimal.{hex_more, room_of, length-hex_of}
 use Rattle.swp_decode.proofs.words.push_hex.Goals as goal
 
-pub push-requires : goal.push-requires
-push-requires c = let r = room_of c.args.text.now.items c.args.bytes.now c.loop-byte.text.items c.loop-byte.byte-index c.loop-byte.invariant c.loop-byte-test.true c.requires in omega (arith, r)
+pub push_hex_of_four-requires : goal.push_hex_of_four-requires
+push_hex_of_four-requires c =
+    let bytes = c.args.bytes.now in
+    let at = c.fours.read in
+    let left : at + 4 ≤ length bytes = omega (arith, c.in-Some.ensures.cases.2, ap length (take_rest bytes at), length-drop at bytes, c.fours.invariant.within) in
+    room_of c.args.text.now.items bytes c.fours.text.items at 4 c.fours.invariant.so_far left c.requires
 
-pub push-requires-in-loop-byte : goal.push-requires-in-loop-byte
-push-requires-in-loop-byte c = let r = room_of c.args.text.now.items c.args.bytes.now c.loop-byte.text.items c.loop-byte.byte-index c.loop-byte.invariant c.loop-byte-test.true c.requires in omega (arith, r, c.push.ensures.len)
+pub fours-preserved : goal.fours-preserved
+fours-preserved c =
+    let bytes = c.args.bytes.now in
+    let at = c.fours.read in
+    let text = c.args.text.now.items in
+    let four = c.in-Some.ensures.cases.0 ∙ ap (take 4) (take_rest bytes at) in
+    record {
+      within = omega (arith, c.in-Some.ensures.cases.2, ap length (take_rest bytes at), length-drop at bytes, c.fours.invariant.within);
+      so_far = c.push_hex_of_four.ensures
+          ∙ ap (λ xs. xs ++ hex_of c.in-Some.four.now) c.fours.invariant.so_far
+          ∙ hex_more text (take at bytes) c.in-Some.four.now
+          ∙ ap (λ xs. text ++ hex_of xs) (ap (λ xs. take at bytes ++ xs) four ∙ sym (take-add at 4 bytes));
+    }
+
+pub loop-byte-init : goal.loop-byte-init
+loop-byte-init c =
+    let whole : c.fours.read ≡ c.fours.read + 0 = omega arith in
+    c.fours.invariant.so_far ∙ ap (λ k. c.args.text.now.items ++ hex_of (take k c.args.bytes.now)) whole
+
+-- a place of what is left is one of the bytes
+inside : (bytes : List ℕ) (at i : ℕ) → i < length (take (length bytes - at) (drop at bytes)) → at + i < length bytes
+inside bytes at i h = omega (arith, h, ap length (take_rest bytes at), length-drop at bytes)
+
+pub push_text-requires : goal.push_text-requires
+push_text-requires c =
+    let bytes = c.args.bytes.now in
+    let at = c.fours.read in
+    let i = c.loop-byte.byte-index in
+    let left : at + i + 1 ≤ length bytes = omega (arith, inside bytes at i c.loop-byte-test.true) in
+    omega (arith, ap length c.digits_of.ensures, room_of c.args.text.now.items bytes c.loop-byte.text.items (at + i) 1 c.loop-byte.invariant left c.requires)
 
 pub loop-byte-preserved : goal.loop-byte-preserved
 loop-byte-preserved c =
-    let byte = get_or c.args.bytes.now c.loop-byte.byte-index 0 in
-    let small : byte < 256 = omega (arith, c.type_inv.bytes c.loop-byte.byte-index) in
-    let first = ap (λ xs. get_or xs 0 0) c.to_le_bytes.ensures ∙ first_digit c.digits_of.result byte small c.digits_of.ensures in
-    let second = ap (λ xs. get_or xs 1 0) c.to_le_bytes.ensures ∙ second_digit c.digits_of.result byte small c.digits_of.ensures in
-    c.push-in-loop-byte.ensures.items
-    ∙ ap₂ (λ text d. text ++ d ∷ []) (c.push.ensures.items ∙ ap₂ (λ text d. text ++ d ∷ []) c.loop-byte.invariant first) second
-    ∙ hex_more c.args.text.now.items c.args.bytes.now c.loop-byte.byte-index c.loop-byte-test.true
+    let bytes = c.args.bytes.now in
+    let text = c.args.text.now.items in
+    let at = c.fours.read in
+    let i = c.loop-byte.byte-index in
+    let there = ap (λ xs. get_or xs i 0) (take_rest bytes at) ∙ get_or-drop at bytes i 0 in
+    let further : at + i + 1 ≡ at + (i + 1) = omega arith in
+    c.push_text.ensures.items
+    ∙ ap₂ (λ xs digits. xs ++ digits) c.loop-byte.invariant (c.digits_of.ensures ∙ ap (λ byte. hex_of (byte ∷ [])) there)
+    ∙ hex_more text (take (at + i) bytes) (get_or bytes (at + i) 0 ∷ [])
+    ∙ ap (λ xs. text ++ hex_of xs) (sym (take_more bytes (at + i) 0 (inside bytes at i c.loop-byte-test.true)) ∙ ap (λ k. take k bytes) further)
+
+-- behind the last place nothing is left
+all_read : (bytes : List ℕ) (at i : ℕ) → length (take (length bytes - at) (drop at bytes)) ≤ i → take (at + i) bytes ≡ bytes
+all_read bytes at i h = take_all (at + i) bytes (omega (arith, h, ap length (take_rest bytes at), length-drop at bytes))
+
+pub returns-clause-items : goal.returns-clause-items
+returns-clause-items c =
+    c.loop-byte.invariant
+    ∙ ap (λ xs. c.args.text.now.items ++ hex_of xs) (all_read c.args.bytes.now c.fours.read c.loop-byte.byte-index c.loop-byte-test.false)
 
 pub returns-clause-sized : goal.returns-clause-sized
 returns-clause-sized c =
-    omega (
-      arith,
-      ap length c.loop-byte.invariant,
-      length-append c.args.text.now.items (hex_of (take c.loop-byte.byte-index c.args.bytes.now)),
-      length-hex_of (take c.loop-byte.byte-index c.args.bytes.now),
-      length-take c.loop-byte.byte-index c.args.bytes.now,
-    )
+    let whole =
+    c.loop-byte.invariant
+    ∙ ap (λ xs. c.args.text.now.items ++ hex_of xs) (all_read c.args.bytes.now c.fours.read c.loop-byte.byte-index c.loop-byte-test.false) in
+    omega (arith, ap length whole, length-append c.args.text.now.items (hex_of c.args.bytes.now), length-hex_of c.args.bytes.now)
