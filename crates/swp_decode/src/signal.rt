@@ -17,7 +17,7 @@ pub struct SignalReader {
 }
 
 impl SignalReader {
-    ghost use Rattle.swp_frame.specs.Signal.{break, symbol_of, run_of, HasNoMark};
+    ghost use Rattle.swp_frame.specs.Signal.{break, bit_0, bit_1, symbol_of, run_of, HasNoMark};
     ghost use Rattle.swp_frame.specs.Words.{word_bits, part_bits, IsWordBehind, IsPartBehind};
     ghost use Rattle.swp_frame.specs.Verdicts.{verdict};
     ghost use Rattle.swp_decode.specs.Readings.{Reading, symbols, with_reading, readings_on};
@@ -154,8 +154,7 @@ impl SignalReader {
     }
 
     /// Reads a bit with which a mark ends, and appends the line of what came with it.
-    #[cold]
-    #[inline(never)]
+    #[inline(always)]
     fn decode_mark(&mut self, text: &mut Text, wire: Wire, bit: bool, place: u32)
         requires { length text.old.items + 128 ≤ 8192 }
         ensures reads { (older : List Reading) → ReadsSignal self.old older → ReadsSignal self.new (with_reading (Some (symbol_of bit)) place older) }
@@ -163,8 +162,40 @@ impl SignalReader {
             → text.new.items ≡ text.old.items ++ line_with wire (Some (symbol_of bit)) older }
         ensures sized { length text.new.items ≤ length text.old.items + 128 }
     {
+        if bit {
+            self.decode_end(text, wire, place);
+        } else {
+            self.decode_start(text, wire, place);
+        }
+    }
+
+    /// Reads the last 1 of an end of frame, and appends the line of what came with it.
+    #[cold]
+    #[inline(never)]
+    fn decode_end(&mut self, text: &mut Text, wire: Wire, place: u32)
+        requires { length text.old.items + 128 ≤ 8192 }
+        ensures reads { (older : List Reading) → ReadsSignal self.old older → ReadsSignal self.new (with_reading (Some bit_1) place older) }
+        ensures items { (older : List Reading) → ReadsSignal self.old older
+            → text.new.items ≡ text.old.items ++ line_with wire (Some bit_1) older }
+        ensures sized { length text.new.items ≤ length text.old.items + 128 }
+    {
         let start = self.start;
-        let fed = self.read_bit(bit, place);
+        let fed = self.read_bit(true, place);
+        push_line(text, wire, start, &fed);
+    }
+
+    /// Reads the 0 with which a start of frame ends, and appends the line of what came with it.
+    #[cold]
+    #[inline(never)]
+    fn decode_start(&mut self, text: &mut Text, wire: Wire, place: u32)
+        requires { length text.old.items + 128 ≤ 8192 }
+        ensures reads { (older : List Reading) → ReadsSignal self.old older → ReadsSignal self.new (with_reading (Some bit_0) place older) }
+        ensures items { (older : List Reading) → ReadsSignal self.old older
+            → text.new.items ≡ text.old.items ++ line_with wire (Some bit_0) older }
+        ensures sized { length text.new.items ≤ length text.old.items + 128 }
+    {
+        let start = self.start;
+        let fed = self.read_bit(false, place);
         push_line(text, wire, start, &fed);
     }
 
