@@ -1,9 +1,11 @@
 -- Bytes that have bits are periods with bits.
-use Rattle.std.proofs.Common.{◌≡◌, ℕ, suc, zero, ◌<◌, Bool, true, false, List, [], ◌∷◌, ◌++◌, Option, Some, None, length, get_or, take, drop, refl, arith}
+use Rattle.std.proofs.Common.{◌≡◌, ℕ, suc, zero, ◌+◌, ◌*◌, ◌/◌, ◌%◌, ◌^◌, ◌<◌, ◌≤◌, Bool, true, false, List, [], ◌∷◌, ◌++◌, Option, Some, None, length, get_or, take, drop, refl, ap, ap₂, ◌∙◌, arith}
 use Rattle.swp_line.specs.declared.period.Period.{Period}
 use Rattle.swp_line.specs.declared.period.Period.TheVariants.{Bits, Suspended, ResumeAsked, Deactivated}
 use Rattle.swp_line.specs.Periods.{period_at}
 use Rattle.swp_frame.specs.Signal.{break, symbol_of}
+use Rattle.swp_frame.specs.Words.{low_bits}
+use Rattle.swp_frame.proofs.LowBits.{low_bits-add, low_bits-same, mod-cut}
 use Rattle.swp_decode.specs.declared.line.Wire.{Wire}
 use Rattle.swp_decode.specs.declared.line.Wire.TheVariants.{S1}
 use Rattle.swp_decode.specs.Readings.{symbol_on, AreBits}
@@ -61,3 +63,16 @@ AreBits-at wire i [] bits are h = absurd (omega arith)
 AreBits-at wire i (byte ∷ bytes) [] are h = absurd are
 AreBits-at wire zero (byte ∷ bytes) (bit ∷ bits) are h = are.0
 AreBits-at wire (suc i) (byte ∷ bytes) (bit ∷ bits) are h = AreBits-at wire i bytes bits are.1 (omega arith)
+
+-- sixteen more bits behind some
+pub low_bits-more : (n x b : ℕ) → n ≤ 48 → b < 2 ^ 16 → low_bits (n + 16) (x * 2 ^ 16 % 2 ^ 64 + b) ≡ low_bits n x ++ low_bits 16 b
+low_bits-more n x b few small =
+    let kept : ℕ = x % 2 ^ 48 in
+    let moved : x * 2 ^ 16 % 2 ^ 64 ≡ kept * 2 ^ 16 = omega arith in
+    let upper : (kept * 2 ^ 16 + b) / 2 ^ 16 ≡ kept = omega (arith, small) in
+    let lower : (kept * 2 ^ 16 + b) % 2 ^ 16 ≡ b % 2 ^ 16 = omega (arith, small) in
+    ap (λ m. low_bits (n + 16) (m + b)) moved
+    ∙ low_bits-add n 16 (n + 16) (kept * 2 ^ 16 + b) refl
+    ∙ ap₂ (λ xs ys. xs ++ ys)
+    (ap (low_bits n) upper ∙ low_bits-same n kept x (mod-cut n 48 x few))
+    (low_bits-same 16 (kept * 2 ^ 16 + b) b lower)

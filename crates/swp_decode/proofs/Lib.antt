@@ -3,6 +3,6 @@ pub mod Decimals
 pub mod FurtherBits
 pub mod Gathering
 pub mod FurtherLines
-pub mod Lanes
+pub mod Sixteen
 pub mod Marks
 pub mod StartPlaces

@@ -5,13 +5,13 @@ use Rattle.swp_decode.specs.Readings.{AreBits}
 use Rattle.swp_decode.proofs.many.many_bits.Given as goal
 
 -- the bits of the bytes so far
-abbrev pub invariant-eights : goal.invariant-eights
-invariant-eights l = record {
+abbrev pub invariant-sixteens : goal.invariant-sixteens
+invariant-sixteens l = record {
   within : l.read ≤ 64;
-  whole : 8 * (l.read / 8) ≡ l.read;
+  whole : 16 * (l.read / 16) ≡ l.read;
   s1 : AreBits S1 (take l.read l.bytes) (low_bits l.read l.s1);
   s2 : AreBits S2 (take l.read l.bytes) (low_bits l.read l.s2);
 }
 
-abbrev pub decreases-eights : goal.decreases-eights
-decreases-eights l = 64 - l.read
+abbrev pub decreases-sixteens : goal.decreases-sixteens
+decreases-sixteens l = 64 - l.read

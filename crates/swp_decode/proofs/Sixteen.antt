@@ -1,0 +1,227 @@
+-- Which of sixteen bytes are periods with bits, and what bits they are.
+use Rattle.std.proofs.Common.{◌≡◌, ℕ, suc, zero, ◌+◌, ◌-◌, ◌*◌, ◌%◌, ◌^◌, ◌<◌, ◌≤◌, Bool, true, false, ◌&&◌, ◌||◌, cond, eqb, eqb-true, List, [], ◌∷◌, ◌++◌, Option, Some, None, map, length, reverse, replicate, get_or, refl, sym, ap, ap₂, ◌∙◌, subst, arith, w8}
+use Rattle.std.proofs.Math.Nat.{pow-suc, mod-eq_of_lt}
+use Rattle.std.proofs.lemmas.List.{reverse-append, length-reverse, length-map, map-append}
+use Rattle.std.proofs.lemmas.Bool.{agree_below, agree_below_at}
+use Rattle.std.proofs.lemmas.Simd.{bitmask_splat}
+use Rattle.std.specs.Simd.Lanes.{mask_l, zip2, top}
+use Rattle.swp_line.specs.declared.period.Period.{Period}
+use Rattle.swp_line.specs.declared.period.Period.TheVariants.{Bits, Suspended, ResumeAsked, Deactivated}
+use Rattle.swp_line.specs.Periods.{period_at}
+use Rattle.swp_crc.specs.Division.{number_of}
+use Rattle.swp_crc.proofs.Numbers.{number_of-lt}
+use Rattle.swp_frame.specs.Signal.{symbol_of}
+use Rattle.swp_frame.specs.Words.{low_bits}
+use Rattle.swp_frame.proofs.LowBits.{low_bits-number_of}
+use Rattle.swp_decode.specs.declared.line.Wire.{Wire}
+use Rattle.swp_decode.specs.declared.line.Wire.TheVariants.{S1, S2}
+use Rattle.swp_decode.specs.Readings.{symbol_on, AreBits}
+use Rattle.swp_decode.proofs.Gathering.{bits_there}
+
+-- ---- the mask of the lanes in reverse is the number of the bits
+
+mask_more : (ms bits : List Bool) (m : Bool) → length ms ≡ length bits → mask_l ms ≡ number_of bits → mask_l (ms ++ m ∷ []) ≡ number_of (m ∷ bits)
+mask_more ms bits true long is = mask_with_one ms ∙ ap₂ (λ n k. 2 ^ n + k) long is
+  where
+    mask_with_one : (xs : List Bool) → mask_l (xs ++ true ∷ []) ≡ 2 ^ length xs + mask_l xs
+    mask_with_one [] = refl
+    mask_with_one (x ∷ xs) = omega (arith, mask_with_one xs, pow-suc 2 (length xs))
+mask_more ms bits false long is = mask_with_none ms ∙ is
+  where
+    mask_with_none : (xs : List Bool) → mask_l (xs ++ false ∷ []) ≡ mask_l xs
+    mask_with_none [] = refl
+    mask_with_none (x ∷ xs) = omega (arith, mask_with_none xs)
+
+mask_reversed : (p : ℕ → Bool) (xs : List ℕ) → mask_l (map p (reverse xs)) ≡ number_of (map p xs)
+mask_reversed p [] = refl
+mask_reversed p (x ∷ xs) =
+    ap (λ ys. mask_l (map p ys)) (reverse-append (x ∷ []) xs)
+    ∙ ap mask_l (map-append p (reverse xs) (x ∷ []))
+    ∙ mask_more (map p (reverse xs)) (map p xs) (p x) (length-map (reverse xs) p ∙ length-reverse xs ∙ sym (length-map xs p)) (mask_reversed p xs)
+
+-- what holds for each sixteen bytes holds for a list of sixteen
+for_sixteen : (P : List ℕ → Type 0) → ((a b c d e f g h i j k l m n o p : ℕ) → P (a ∷ b ∷ c ∷ d ∷ e ∷ f ∷ g ∷ h ∷ i ∷ j ∷ k ∷ l ∷ m ∷ n ∷ o ∷ p ∷ [])) → (xs : List ℕ) → length xs ≡ 16 → P xs
+for_sixteen P each [] sixteen = absurd (omega arith)
+for_sixteen P each (a ∷ []) sixteen = absurd (omega arith)
+for_sixteen P each (a ∷ b ∷ []) sixteen = absurd (omega arith)
+for_sixteen P each (a ∷ b ∷ c ∷ []) sixteen = absurd (omega arith)
+for_sixteen P each (a ∷ b ∷ c ∷ d ∷ []) sixteen = absurd (omega arith)
+for_sixteen P each (a ∷ b ∷ c ∷ d ∷ e ∷ []) sixteen = absurd (omega arith)
+for_sixteen P each (a ∷ b ∷ c ∷ d ∷ e ∷ f ∷ []) sixteen = absurd (omega arith)
+for_sixteen P each (a ∷ b ∷ c ∷ d ∷ e ∷ f ∷ g ∷ []) sixteen = absurd (omega arith)
+for_sixteen P each (a ∷ b ∷ c ∷ d ∷ e ∷ f ∷ g ∷ h ∷ []) sixteen = absurd (omega arith)
+for_sixteen P each (a ∷ b ∷ c ∷ d ∷ e ∷ f ∷ g ∷ h ∷ i ∷ []) sixteen = absurd (omega arith)
+for_sixteen P each (a ∷ b ∷ c ∷ d ∷ e ∷ f ∷ g ∷ h ∷ i ∷ j ∷ []) sixteen = absurd (omega arith)
+for_sixteen P each (a ∷ b ∷ c ∷ d ∷ e ∷ f ∷ g ∷ h ∷ i ∷ j ∷ k ∷ []) sixteen = absurd (omega arith)
+for_sixteen P each (a ∷ b ∷ c ∷ d ∷ e ∷ f ∷ g ∷ h ∷ i ∷ j ∷ k ∷ l ∷ []) sixteen = absurd (omega arith)
+for_sixteen P each (a ∷ b ∷ c ∷ d ∷ e ∷ f ∷ g ∷ h ∷ i ∷ j ∷ k ∷ l ∷ m ∷ []) sixteen = absurd (omega arith)
+for_sixteen P each (a ∷ b ∷ c ∷ d ∷ e ∷ f ∷ g ∷ h ∷ i ∷ j ∷ k ∷ l ∷ m ∷ n ∷ []) sixteen = absurd (omega arith)
+for_sixteen P each (a ∷ b ∷ c ∷ d ∷ e ∷ f ∷ g ∷ h ∷ i ∷ j ∷ k ∷ l ∷ m ∷ n ∷ o ∷ []) sixteen = absurd (omega arith)
+for_sixteen P each (a ∷ b ∷ c ∷ d ∷ e ∷ f ∷ g ∷ h ∷ i ∷ j ∷ k ∷ l ∷ m ∷ n ∷ o ∷ p ∷ []) sixteen = each a b c d e f g h i j k l m n o p
+for_sixteen P each (a ∷ b ∷ c ∷ d ∷ e ∷ f ∷ g ∷ h ∷ i ∷ j ∷ k ∷ l ∷ m ∷ n ∷ o ∷ p ∷ x ∷ xs) sixteen = absurd (omega arith)
+
+-- the lanes of a vector in reverse
+abbrev pub picked : List ℕ → List ℕ
+picked xs =
+    get_or (xs ++ xs) 15 0 ∷ get_or (xs ++ xs) 14 0 ∷ get_or (xs ++ xs) 13 0 ∷ get_or (xs ++ xs) 12 0 ∷ get_or (xs ++ xs) 11 0
+    ∷ get_or (xs ++ xs) 10 0 ∷ get_or (xs ++ xs) 9 0 ∷ get_or (xs ++ xs) 8 0 ∷ get_or (xs ++ xs) 7 0 ∷ get_or (xs ++ xs) 6 0
+    ∷ get_or (xs ++ xs) 5 0 ∷ get_or (xs ++ xs) 4 0 ∷ get_or (xs ++ xs) 3 0 ∷ get_or (xs ++ xs) 2 0 ∷ get_or (xs ++ xs) 1 0 ∷ get_or (xs ++ xs) 0 0 ∷ []
+
+picked_reversed : (xs : List ℕ) → length xs ≡ 16 → picked xs ≡ reverse xs
+picked_reversed = for_sixteen (λ xs. picked xs ≡ reverse xs) (λ a b c d e f g h i j k l m n o p. refl)
+
+pub places_number : (xs : List ℕ) (byte : ℕ) → length xs ≡ 16
+    → mask_l (map (top 7) (zip2 (λ a b. cond (eqb a b) 255 0) (picked xs) (replicate 16 byte))) % 2 ^ 64 ≡ number_of (map (λ x. eqb x byte) xs)
+places_number xs byte sixteen =
+    bitmask_splat w8 eqb (picked xs) 16 byte refl (omega arith)
+    ∙ ap (λ ys. mask_l (map (λ x. eqb x byte) ys)) (picked_reversed xs sixteen)
+    ∙ mask_reversed (λ x. eqb x byte) xs
+
+pub places_small : (xs : List ℕ) (p : ℕ → Bool) → length xs ≡ 16 → number_of (map p xs) < 2 ^ 16
+places_small xs p sixteen = subst (λ n. number_of (map p xs) < 2 ^ n) (length-map xs p ∙ sixteen) (number_of-lt (map p xs))
+
+-- ---- places of one kind or another
+
+either_more : (a b : Bool) (ps qs rs : List Bool) → (a && b) ≡ false → length ps ≡ length rs → length qs ≡ length rs
+    → number_of ps + number_of qs ≡ number_of rs → number_of (a ∷ ps) + number_of (b ∷ qs) ≡ number_of ((a || b) ∷ rs)
+either_more true true ps qs rs apart long1 long2 sum = absurd (cc)
+either_more true false ps qs rs apart long1 long2 sum = omega (arith, ap (λ n. 2 ^ n) long1, sum)
+either_more false true ps qs rs apart long1 long2 sum = omega (arith, ap (λ n. 2 ^ n) long2, sum)
+either_more false false ps qs rs apart long1 long2 sum = sum
+
+pub either_places : (p q : ℕ → Bool) → ((x : ℕ) → (p x && q x) ≡ false) → (xs : List ℕ)
+    → number_of (map p xs) + number_of (map q xs) ≡ number_of (map (λ x. p x || q x) xs)
+either_places p q apart [] = refl
+either_places p q apart (x ∷ xs) =
+    either_more (p x) (q x) (map p xs) (map q xs) (map (λ x. p x || q x) xs) (apart x)
+    (length-map xs p ∙ sym (length-map xs (λ x. p x || q x))) (length-map xs q ∙ sym (length-map xs (λ x. p x || q x)))
+    (either_places p q apart xs)
+
+-- where every bit is 1
+all_more : (b : Bool) (bs : List Bool) → number_of (b ∷ bs) + 1 ≡ 2 ^ length (b ∷ bs) → (b ≡ true) × (number_of bs + 1 ≡ 2 ^ length bs)
+all_more true bs all = (refl, omega (arith, all, pow-suc 2 (length bs)))
+all_more false bs all = absurd (omega (arith, all, number_of-lt bs, pow-suc 2 (length bs)))
+
+-- ---- the four periods with bits
+
+abbrev pub has_neither : ℕ → Bool
+has_neither x = eqb x 0x40
+
+abbrev pub has_first : ℕ → Bool
+has_first x = eqb x 0x54
+
+abbrev pub has_second : ℕ → Bool
+has_second x = eqb x 0xC0
+
+abbrev pub has_both : ℕ → Bool
+has_both x = eqb x 0xFC
+
+abbrev pub is_s1 : ℕ → Bool
+is_s1 x = has_first x || has_both x
+
+abbrev pub is_s2 : ℕ → Bool
+is_s2 x = has_second x || has_both x
+
+abbrev pub is_some : ℕ → Bool
+is_some x = ((has_neither x || has_first x) || has_second x) || has_both x
+
+-- a byte is at most one of two
+apart : (x a b : ℕ) (p : ℕ → Bool) → p b ≡ false → (p x && eqb x b) ≡ false
+apart x a b p not_b = go (eqb x b) refl
+  where
+    and_none : (c : Bool) → (c && false) ≡ false
+    and_none true = refl
+    and_none false = refl
+
+    go : (same : Bool) → eqb x b ≡ same → (p x && eqb x b) ≡ false
+    go true is = ap₂ (λ c d. c && d) (ap p (eqb-true x b is) ∙ not_b) is
+    go false is = ap (λ d. p x && d) is ∙ and_none (p x)
+
+pub number_s1 : (xs : List ℕ) → number_of (map has_first xs) + number_of (map has_both xs) ≡ number_of (map is_s1 xs)
+number_s1 xs = either_places has_first has_both (λ x. apart x 0 0xFC has_first refl) xs
+
+pub number_s2 : (xs : List ℕ) → number_of (map has_second xs) + number_of (map has_both xs) ≡ number_of (map is_s2 xs)
+number_s2 xs = either_places has_second has_both (λ x. apart x 0 0xFC has_second refl) xs
+
+pub number_some : (xs : List ℕ)
+    → number_of (map has_neither xs) + number_of (map has_first xs) + number_of (map has_second xs) + number_of (map has_both xs) ≡ number_of (map is_some xs)
+number_some xs =
+    ap (λ n. n + number_of (map has_second xs) + number_of (map has_both xs)) (either_places has_neither has_first (λ x. apart x 0 0x54 has_neither refl) xs)
+    ∙ ap (λ n. n + number_of (map has_both xs)) (either_places (λ x. has_neither x || has_first x) has_second (λ x. apart x 0 0xC0 (λ y. has_neither y || has_first y) refl) xs)
+    ∙ either_places (λ x. (has_neither x || has_first x) || has_second x) has_both (λ x. apart x 0 0xFC (λ y. (has_neither y || has_first y) || has_second y) refl) xs
+
+-- what holds of the four periods holds of a byte that is one of them
+for_some : (P : ℕ → Type 0) → P 0x40 → P 0x54 → P 0xC0 → P 0xFC → (x : ℕ) → is_some x ≡ true → P x
+for_some P neither first second both x some = go (has_neither x) refl (has_first x) refl (has_second x) refl (has_both x) refl
+  where
+    there : (a : ℕ) → P a → eqb x a ≡ true → P x
+    there a holds is = subst P (sym (eqb-true x a is)) holds
+
+    go : (a : Bool) → has_neither x ≡ a → (b : Bool) → has_first x ≡ b → (c : Bool) → has_second x ≡ c → (d : Bool) → has_both x ≡ d → P x
+    go true a b eb c ec d ed = there 0x40 neither a
+    go false a true eb c ec d ed = there 0x54 first eb
+    go false a false eb true ec d ed = there 0xC0 second ec
+    go false a false eb false ec true ed = there 0xFC both ed
+    go false a false eb false ec false ed = absurd (cc)
+
+symbol_s1 : (x : ℕ) → is_some x ≡ true → symbol_on S1 (period_at x) ≡ Some (symbol_of (is_s1 x))
+symbol_s1 = for_some (λ x. symbol_on S1 (period_at x) ≡ Some (symbol_of (is_s1 x))) refl refl refl refl
+
+symbol_s2 : (x : ℕ) → is_some x ≡ true → symbol_on S2 (period_at x) ≡ Some (symbol_of (is_s2 x))
+symbol_s2 = for_some (λ x. symbol_on S2 (period_at x) ≡ Some (symbol_of (is_s2 x))) refl refl refl refl
+
+pub are_s1 : (xs : List ℕ) → number_of (map is_some xs) + 1 ≡ 2 ^ length (map is_some xs) → AreBits S1 xs (map is_s1 xs)
+are_s1 [] all = tt
+are_s1 (x ∷ xs) all = let more = all_more (is_some x) (map is_some xs) all in (symbol_s1 x more.0, are_s1 xs more.1)
+
+pub are_s2 : (xs : List ℕ) → number_of (map is_some xs) + 1 ≡ 2 ^ length (map is_some xs) → AreBits S2 xs (map is_s2 xs)
+are_s2 [] all = tt
+are_s2 (x ∷ xs) all = let more = all_more (is_some x) (map is_some xs) all in (symbol_s2 x more.0, are_s2 xs more.1)
+
+-- ---- no other byte has bits
+
+-- whether this is a period with bits
+abbrev has_bits : Option Period → Bool
+has_bits (Some (Bits s1 s2)) = true
+has_bits (Some Suspended) = false
+has_bits (Some ResumeAsked) = false
+has_bits (Some Deactivated) = false
+has_bits None = false
+
+some_checks : agree_below is_some (λ x. has_bits (period_at x)) 256 ≡ true
+some_checks = refl
+
+pub all_some : (xs : List ℕ) (bits : List Bool) → ((i : ℕ) → get_or xs i 0 < 256) → AreBits S1 xs bits → number_of (map is_some xs) + 1 ≡ 2 ^ length (map is_some xs)
+all_some [] bits small are = refl
+all_some (x ∷ xs) [] small are = absurd are
+all_some (x ∷ xs) (bit ∷ bits) small are =
+    let there = bits_there (x ∷ xs) (bit ∷ bits) 0 are (omega arith) in
+    let some : is_some x ≡ true = agree_below_at is_some (λ n. has_bits (period_at n)) 256 x some_checks (small 0) ∙ ap has_bits there.1.1 in
+    ap (λ b. number_of (b ∷ map is_some xs) + 1) some
+    ∙ omega (arith, all_some xs bits (λ i. small (suc i)) are.1, pow-suc 2 (length (map is_some xs)))
+
+-- ---- what is computed of sixteen bytes
+
+power_of_sixteen : (xs : List ℕ) (p : ℕ → Bool) → length xs ≡ 16 → 2 ^ length (map p xs) ≡ 65536
+power_of_sixteen xs p sixteen = ap (λ n. 2 ^ n) (length-map xs p ∙ sixteen)
+
+pub all_where : (xs : List ℕ) (a b c d : ℕ) → length xs ≡ 16 → a ≡ number_of (map has_neither xs) → b ≡ number_of (map has_first xs) → c ≡ number_of (map has_second xs)
+    → d ≡ number_of (map has_both xs) → a + b + c + d ≡ 65535 → number_of (map is_some xs) + 1 ≡ 2 ^ length (map is_some xs)
+all_where xs a b c d sixteen is_a is_b is_c is_d sum = omega (arith, number_some xs, power_of_sixteen xs is_some sixteen, is_a, is_b, is_c, is_d, sum)
+
+pub sum_where : (xs : List ℕ) (a b c d : ℕ) → length xs ≡ 16 → a ≡ number_of (map has_neither xs) → b ≡ number_of (map has_first xs) → c ≡ number_of (map has_second xs)
+    → d ≡ number_of (map has_both xs) → number_of (map is_some xs) + 1 ≡ 2 ^ length (map is_some xs) → a + b + c + d ≡ 65535
+sum_where xs a b c d sixteen is_a is_b is_c is_d all = omega (arith, number_some xs, power_of_sixteen xs is_some sixteen, is_a, is_b, is_c, is_d, all)
+
+spelled : (xs : List ℕ) (p : ℕ → Bool) (n : ℕ) → length xs ≡ 16 → n ≡ number_of (map p xs) → low_bits 16 n ≡ map p xs
+spelled xs p n sixteen is = ap (low_bits 16) is ∙ low_bits-number_of (map p xs) 16 (length-map xs p ∙ sixteen)
+
+pub bits_s1 : (xs : List ℕ) (b d : ℕ) → length xs ≡ 16 → b ≡ number_of (map has_first xs) → d ≡ number_of (map has_both xs)
+    → number_of (map is_some xs) + 1 ≡ 2 ^ length (map is_some xs) → AreBits S1 xs (low_bits 16 (b + d))
+bits_s1 xs b d sixteen is_b is_d all =
+    subst (AreBits S1 xs) (sym (spelled xs is_s1 (b + d) sixteen (ap₂ (λ m n. m + n) is_b is_d ∙ number_s1 xs))) (are_s1 xs all)
+
+pub bits_s2 : (xs : List ℕ) (c d : ℕ) → length xs ≡ 16 → c ≡ number_of (map has_second xs) → d ≡ number_of (map has_both xs)
+    → number_of (map is_some xs) + 1 ≡ 2 ^ length (map is_some xs) → AreBits S2 xs (low_bits 16 (c + d))
+bits_s2 xs c d sixteen is_c is_d all =
+    subst (AreBits S2 xs) (sym (spelled xs is_s2 (c + d) sixteen (ap₂ (λ m n. m + n) is_c is_d ∙ number_s2 xs))) (are_s2 xs all)
