@@ -1,6 +1,6 @@
 -- Which of sixteen bytes are periods with bits, and what bits they are.
-use Rattle.std.proofs.Common.{◌≡◌, ℕ, suc, zero, ◌+◌, ◌-◌, ◌*◌, ◌%◌, ◌^◌, ◌<◌, ◌≤◌, Bool, true, false, ◌&&◌, ◌||◌, cond, eqb, eqb-true, List, [], ◌∷◌, ◌++◌, Option, Some, None, map, length, reverse, replicate, get_or, refl, sym, ap, ap₂, ◌∙◌, subst, arith, w8}
-use Rattle.std.proofs.Math.Nat.{pow-suc, mod-eq_of_lt}
+use Rattle.std.proofs.Common.{◌≡◌, ℕ, suc, ◌+◌, ◌%◌, ◌^◌, ◌<◌, Bool, true, false, ◌&&◌, ◌||◌, cond, eqb, eqb-true, List, [], ◌∷◌, ◌++◌, Option, Some, None, map, length, reverse, replicate, get_or, refl, sym, ap, ap₂, ◌∙◌, subst, arith, w8}
+use Rattle.std.proofs.Math.Nat.{pow-suc}
 use Rattle.std.proofs.lemmas.List.{reverse-append, length-reverse, length-map, map-append}
 use Rattle.std.proofs.lemmas.Bool.{agree_below, agree_below_at}
 use Rattle.std.proofs.lemmas.Simd.{bitmask_splat}
@@ -13,7 +13,6 @@ use Rattle.swp_crc.proofs.Numbers.{number_of-lt}
 use Rattle.swp_frame.specs.Signal.{symbol_of}
 use Rattle.swp_frame.specs.Words.{low_bits}
 use Rattle.swp_frame.proofs.LowBits.{low_bits-number_of}
-use Rattle.swp_decode.specs.declared.line.Wire.{Wire}
 use Rattle.swp_decode.specs.declared.line.Wire.TheVariants.{S1, S2}
 use Rattle.swp_decode.specs.Readings.{symbol_on, AreBits}
 use Rattle.swp_decode.proofs.Gathering.{bits_there}

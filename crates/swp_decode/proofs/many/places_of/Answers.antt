@@ -1,4 +1,4 @@
-use Rattle.std.proofs.Common.{eqb, subst, ◌<◌, ◌^◌, sym, ◌∙◌}
+use Rattle.std.proofs.Common.{eqb, subst, ◌<◌, ◌^◌, sym}
 use Rattle.swp_decode.proofs.Sixteen.{places_number, places_small}
 use Rattle.swp_decode.proofs.many.places_of.Goals as goal
 
