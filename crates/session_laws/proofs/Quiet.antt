@@ -9,24 +9,24 @@ use Rattle.shdlc_core.specs.declared.answers.LinkState.{LinkState}
 use Rattle.shdlc_core.specs.declared.answers.LinkState.TheVariants.{Down, Waiting, Up}
 use Rattle.shdlc_core.specs.declared.answers.Due.{Due}
 use Rattle.shdlc_core.specs.declared.answers.Due.TheVariants.{Rr as Rr_due, Rej as Rej_due, Rnr as Rnr_due, Rset as Rset_due, Ua as Ua_due}
-use Rattle.shdlc_core.specs.Machine.{EndState, Session, begun, new_end, new_session, no_session, frame_due, taken, take_answer, ticked, tick_answer, waiting_from, up_with, given_up, asked_again, reset_with, stopped, runs_timer}
+use Rattle.shdlc_core.specs.Machine.{EndState, Session, begun, new_end, new_session, no_session, frame_due, taken, take_answer, ticked, tick_answer, is_waiting, waiting_from, up_with, given_up, asked_again, reset_with, stopped, runs_timer}
 use Rattle.link_laws.specs.Link.{Carried}
 use Rattle.link_laws.specs.Order.{AllDelivered}
 use Rattle.link_laws.proofs.Delivered.{delivered}
 use Rattle.link_laws.proofs.Whole.{AnswersOnly}
 use Rattle.link_laws.proofs.Joined.{Joined, joined_ticked, joined_taken, tick_cases}
-use Rattle.session_laws.specs.Sessions.{OnWire, Half, Link, fits, start_down, IsStart, exchanged, number_of, session_of, put, put_all, becomes, with_controller, with_ended, silent, took_with, is_up, act_frame, happens_here, ticks_here, aged, EndEvent, IsTurn, AreTurns, all_here, ticks_or_cut, LinkEvent, AllAllowed, happens, after, Turn, turn, turned}
+use Rattle.session_laws.specs.Sessions.{OnWire, Half, Link, fits, start_down, IsStart, exchanged, number_of, session_of, put, put_all, becomes, with_controller, with_ended, silent, took_with, is_up, act_frame, happens_here, ticks_here, aged, EndEvent, IsTurn, AreTurns, all_here, ticks_or_cut, ticks_if_waiting, LinkEvent, AllAllowed, happens, after, Turn, turn, turned}
 use Rattle.session_laws.specs.Sessions.Turn.{Offer, SetReady}
 use Rattle.session_laws.specs.Sessions.EndEvent.{Turns, Deliver, Ignore, Acts, Lose, Reset, Cut, Stop}
-use Rattle.session_laws.specs.Sessions.LinkEvent.{AtController, AtHost, Tick}
+use Rattle.session_laws.specs.Sessions.LinkEvent.{AtController, AtHost, Tick, TickWithout}
 use Rattle.session_laws.specs.Sessions.IsStart.{BothUp, BothDown}
-use Rattle.session_laws.specs.Losses.{is_act, sans, Losses, no_losses, counts_first, overflows, noted, noted_all, noted_out, is_up_with, came_up, noted_here, noted_turns, noted_tick, loses_aged, noted_aged, noted_event, losses_after, IsQuiet}
+use Rattle.session_laws.specs.Losses.{is_act, sans, Losses, no_losses, counts_first, overflows, noted, noted_all, noted_out, is_up_with, came_up, noted_here, noted_turns, noted_tick, noted_if_waiting, loses_aged, noted_aged, noted_event, losses_after, IsQuiet}
 use Rattle.session_laws.proofs.Wire.{IsData, rsets, uas, behind_ua, live, behind_none, data_behind, AfterRset, after_rset_empty}
 use Rattle.session_laws.proofs.Hand.{peer_of, none_out, one_ua, rset_tells, nothing_out}
 use Rattle.session_laws.proofs.Data.{IsAnswer, taken_up}
 use Rattle.session_laws.proofs.Safe.{Safe, agreed, pair_from, frame_cases, up_end, safe_swap, safe_lose}
 use Rattle.session_laws.proofs.Sending.{SafeLink, sans-push_act, fits_keeps, no_rset_out, room, ready_by, at_most_one}
-use Rattle.session_laws.proofs.Steps.{passes, passes_act, took, took_other, not_rset, fresh, aged-fresh, sans-aged, safe_fresh, safe_aged, safe_turn, safe_turns, safe_exchanged, tick_or_cut, safe_event, safe_start}
+use Rattle.session_laws.proofs.Steps.{passes, passes_act, took, took_other, not_rset, fresh, aged-fresh, sans-aged, safe_fresh, safe_aged, safe_turn, safe_turns, safe_exchanged, tick_or_cut, tick_if_waiting, safe_event, safe_start}
 use Rattle.session_laws.proofs.Ties.{carried, as_up, to_up, Meets, Tied, IsWhole, TiedLink, tied_swap, meets_like, none_due, IsNew, waiting_new, tied_new, new_meets, behind_fits, Rests, drains, sends_nothing, sends_ua, tied_none, tied_older, turned-phase}
 
 -- one answer at most
@@ -677,20 +677,34 @@ tied_tick : (kf : ℕ) (n : Losses) (b : Option (List Turn)) (l : Link) → Safe
 tied_tick kf n (Some ts) l h t = ticks kf n ts l h t
 tied_tick kf n None l h t = silences n l (new_end 4) refl
 
+tied_if_waiting : (kf : ℕ) (n : Losses) (l : Link) → SafeLink 1 kf l → TiedLink n l → TiedLink (noted_if_waiting n l) (ticks_if_waiting l)
+tied_if_waiting kf n l h t = go (is_waiting l.controller.side) refl
+  where
+    go : (b : Bool) → is_waiting l.controller.side ≡ b → TiedLink (noted_if_waiting n l) (ticks_if_waiting l)
+    go true q = rw q (ticks kf n [] l h t)
+    go false q = rw q t
+
+-- a tick of the host's end, where these things have happened at the controller's
+tied_there : (turns : List EndEvent) (d : Option (List Turn)) (i : Losses) (near : Link) → AreTurns turns → SafeLink 0 1 near → TiedLink i near
+    → TiedLink (noted_tick (noted_turns i near turns) d (exchanged (all_here near turns))) (exchanged (ticks_or_cut d (exchanged (all_here near turns))))
+tied_there turns d i near a one t =
+    let m : Link = all_here near turns in
+    let j : Losses = noted_turns i near turns in
+    let two : SafeLink 1 0 (exchanged m) = safe_exchanged 0 1 m (safe_turns 1 turns near a one) in
+    swaps (noted_tick j d (exchanged m)) (ticks_or_cut d (exchanged m))
+    (tied_tick 0 j d (exchanged m) two (swaps j m (tied_turns 1 turns i near a one t)))
+
 tied_event : (n : Losses) (l : Link) (e : LinkEvent) (es : List LinkEvent) → AllAllowed (e ∷ es) → SafeLink 0 0 l → TiedLink n l
     → TiedLink (noted_event n l e) (happens l e)
 tied_event n l (AtController e) es a h t = tied_at n l e h t
 tied_event n l (AtHost e) es a h t =
     swaps (noted_here n (exchanged l) e) (happens_here (exchanged l) e) (tied_at n (exchanged l) e (safe_exchanged 0 0 l h) (swaps n l t))
 tied_event n l (Tick c turns d) es a h t =
-    let near : Link = ticks_or_cut c (aged l) in
-    let i : Losses = noted_tick (noted_aged n l) c (aged l) in
-    let one : SafeLink 0 1 near = tick_or_cut 1 c (aged l) (safe_aged l h) in
-    let m : Link = all_here near turns in
-    let j : Losses = noted_turns i near turns in
-    let two : SafeLink 1 0 (exchanged m) = safe_exchanged 0 1 m (safe_turns 1 turns near a.0 one) in
-    let q : TiedLink j m = tied_turns 1 turns i near a.0 one (tied_tick 1 (noted_aged n l) c (aged l) (safe_aged l h) (ages n l h t)) in
-    swaps (noted_tick j d (exchanged m)) (ticks_or_cut d (exchanged m)) (tied_tick 0 j d (exchanged m) two (swaps j m q))
+    tied_there turns d (noted_tick (noted_aged n l) c (aged l)) (ticks_or_cut c (aged l)) a.0 (tick_or_cut 1 c (aged l) (safe_aged l h))
+    (tied_tick 1 (noted_aged n l) c (aged l) (safe_aged l h) (ages n l h t))
+tied_event n l (TickWithout turns d) es a h t =
+    tied_there turns d (noted_if_waiting (noted_aged n l) (aged l)) (ticks_if_waiting (aged l)) a.0 (tick_if_waiting 1 (aged l) (safe_aged l h))
+    (tied_if_waiting 1 (noted_aged n l) (aged l) (safe_aged l h) (ages n l h t))
 
 tied_from : (events : List LinkEvent) (n : Losses) (l : Link) → AllAllowed events → SafeLink 0 0 l → TiedLink n l
     → TiedLink (losses_after n l events) (after l events)

@@ -14,17 +14,17 @@ use Rattle.shdlc_core.specs.Machine.{EndState, no_session, fetched, frame_due, f
 use Rattle.link_laws.proofs.Whole.{AnswersOnly}
 use Rattle.link_laws.proofs.Joined.{tick_cases, ready_cases}
 use Rattle.link_laws.proofs.InOrder.{fetched_idle, after_frames_idle}
-use Rattle.session_laws.specs.Sessions.{OnWire, Half, Link, IsStart, exchanged, number_of, fits, put, put_all, becomes, with_controller, with_ended, took_with, is_up, act_frame, happens_here, ticks_here, older, aged_wire, aged, EndEvent, IsTurn, AreTurns, all_here, ticks_or_cut, LinkEvent, AllAllowed, happens, after, Turn, turn, turned}
+use Rattle.session_laws.specs.Sessions.{OnWire, Half, Link, IsStart, exchanged, number_of, fits, put, put_all, becomes, with_controller, with_ended, took_with, is_up, act_frame, happens_here, ticks_here, older, aged_wire, aged, EndEvent, IsTurn, AreTurns, all_here, ticks_or_cut, ticks_if_waiting, LinkEvent, AllAllowed, happens, after, Turn, turn, turned}
 use Rattle.session_laws.specs.Sessions.Turn.{Offer, SetReady}
 use Rattle.session_laws.specs.Sessions.EndEvent.{Turns, Deliver, Ignore, Acts, Lose, Reset, Cut, Stop}
-use Rattle.session_laws.specs.Sessions.LinkEvent.{AtController, AtHost, Tick}
+use Rattle.session_laws.specs.Sessions.LinkEvent.{AtController, AtHost, Tick, TickWithout}
 use Rattle.session_laws.specs.Losses.{is_act, sans, counts_first, overflows, loses_aged}
-use Rattle.session_laws.specs.Settled.{sure_put, sure_all, sure_out, sure_here, sure_turns, sure_tick, sure_aged, sure_event, sure_after, IsSettled, AreUpTogether}
+use Rattle.session_laws.specs.Settled.{sure_put, sure_all, sure_out, sure_here, sure_turns, sure_tick, sure_if_waiting, sure_aged, sure_event, sure_after, IsSettled, AreUpTogether}
 use Rattle.session_laws.proofs.Wire.{IsData, data_not_rset, data_not_ua, not_rset_adds, not_ua_adds, rsets, uas, rsets-append, uas-append, plus_one, rsets-older, uas-older}
 use Rattle.session_laws.proofs.Hand.{peer_of, nothing_out}
 use Rattle.session_laws.proofs.Safe.{Safe, up_end}
 use Rattle.session_laws.proofs.Sending.{SafeLink, sans-push, sans-push_act}
-use Rattle.session_laws.proofs.Steps.{passes_act, took, not_rset, sans-aged, agree, safe_aged, safe_turn, safe_turns, safe_exchanged, tick_or_cut, safe_event, safe_start}
+use Rattle.session_laws.proofs.Steps.{passes_act, took, not_rset, sans-aged, agree, safe_aged, safe_turn, safe_turns, safe_exchanged, tick_or_cut, tick_if_waiting, safe_event, safe_start}
 use Rattle.session_laws.proofs.Ties.{data_due, fits_sans, fetched-phase, fetched_answers, answers_more, after_frames-phase, turned-phase}
 use Rattle.session_laws.proofs.Quiet.{Tells, takes_by, turned_idle, idle_end}
 
@@ -509,20 +509,34 @@ tick_sure : (kf : ℕ) (s : Bool) (b : Option (List Turn)) (l : Link) → SafeLi
 tick_sure kf s (Some ts) l h t = ticks kf s ts l h t
 tick_sure kf s None l h t = λ n. absurd (true≢false (sym n))
 
+sure_waiting : (kf : ℕ) (s : Bool) (l : Link) → SafeLink 1 kf l → SureLink s l → SureLink (sure_if_waiting s l) (ticks_if_waiting l)
+sure_waiting kf s l h t = go (is_waiting l.controller.side) refl
+  where
+    go : (b : Bool) → is_waiting l.controller.side ≡ b → SureLink (sure_if_waiting s l) (ticks_if_waiting l)
+    go true q = rw q (ticks kf s [] l h t)
+    go false q = rw q t
+
+-- a tick of the host's end, where these things have happened at the controller's
+sure_there : (turns : List EndEvent) (d : Option (List Turn)) (i : Bool) (near : Link) → AreTurns turns → SafeLink 0 1 near → SureLink i near
+    → SureLink (sure_tick (sure_turns i near turns) d (exchanged (all_here near turns))) (exchanged (ticks_or_cut d (exchanged (all_here near turns))))
+sure_there turns d i near a one t =
+    let m : Link = all_here near turns in
+    let j : Bool = sure_turns i near turns in
+    let two : SafeLink 1 0 (exchanged m) = safe_exchanged 0 1 m (safe_turns 1 turns near a one) in
+    swaps (sure_tick j d (exchanged m)) (ticks_or_cut d (exchanged m))
+    (tick_sure 0 j d (exchanged m) two (swaps j m (turns_sure 1 turns i near a one t)))
+
 event_sure : (s : Bool) (l : Link) (e : LinkEvent) (es : List LinkEvent) → AllAllowed (e ∷ es) → SafeLink 0 0 l → SureLink s l
     → SureLink (sure_event s l e) (happens l e)
 event_sure s l (AtController e) es a h t = sure_at s l e h t
 event_sure s l (AtHost e) es a h t =
     swaps (sure_here s (exchanged l) e) (happens_here (exchanged l) e) (sure_at s (exchanged l) e (safe_exchanged 0 0 l h) (swaps s l t))
 event_sure s l (Tick c turns d) es a h t =
-    let near : Link = ticks_or_cut c (aged l) in
-    let i : Bool = sure_tick (sure_aged s l) c (aged l) in
-    let one : SafeLink 0 1 near = tick_or_cut 1 c (aged l) (safe_aged l h) in
-    let m : Link = all_here near turns in
-    let j : Bool = sure_turns i near turns in
-    let two : SafeLink 1 0 (exchanged m) = safe_exchanged 0 1 m (safe_turns 1 turns near a.0 one) in
-    let q : SureLink j m = turns_sure 1 turns i near a.0 one (tick_sure 1 (sure_aged s l) c (aged l) (safe_aged l h) (ages s l t)) in
-    swaps (sure_tick j d (exchanged m)) (ticks_or_cut d (exchanged m)) (tick_sure 0 j d (exchanged m) two (swaps j m q))
+    sure_there turns d (sure_tick (sure_aged s l) c (aged l)) (ticks_or_cut c (aged l)) a.0 (tick_or_cut 1 c (aged l) (safe_aged l h))
+    (tick_sure 1 (sure_aged s l) c (aged l) (safe_aged l h) (ages s l t))
+event_sure s l (TickWithout turns d) es a h t =
+    sure_there turns d (sure_if_waiting (sure_aged s l) (aged l)) (ticks_if_waiting (aged l)) a.0 (tick_if_waiting 1 (aged l) (safe_aged l h))
+    (sure_waiting 1 (sure_aged s l) (aged l) (safe_aged l h) (ages s l t))
 
 sure_from : (events : List LinkEvent) (s : Bool) (l : Link) → AllAllowed events → SafeLink 0 0 l → SureLink s l
     → SureLink (sure_after s l events) (after l events)

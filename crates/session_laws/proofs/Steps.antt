@@ -8,14 +8,14 @@ use Rattle.shdlc_core.specs.declared.answers.LinkState.{LinkState}
 use Rattle.shdlc_core.specs.declared.answers.LinkState.TheVariants.{Down, Waiting, Up}
 use Rattle.shdlc_core.specs.declared.answers.Due.{Due}
 use Rattle.shdlc_core.specs.declared.answers.Due.TheVariants.{Rset as Rset_due, Ua as Ua_due}
-use Rattle.shdlc_core.specs.Machine.{EndState, Session, begun, new_session, no_session, taken, take_answer, ticked, tick_answer, reset_with, stopped, new_end, waiting_from, runs_timer, sent_again, asked_again, given_up, up_with}
+use Rattle.shdlc_core.specs.Machine.{EndState, Session, begun, new_session, no_session, taken, take_answer, ticked, tick_answer, reset_with, stopped, new_end, waiting_from, runs_timer, sent_again, asked_again, given_up, up_with, is_waiting}
 use Rattle.link_laws.specs.Order.{InOrder}
-use Rattle.session_laws.specs.Sessions.{OnWire, Half, new_half, Link, bare, IsStart, exchanged, number_of, session_of, ended_session, is_rset, put, put_all, becomes, with_ended, Turn, turned, is_up, EndEvent, IsAllowed, silent, took_with, act_frame, happens_here, ticks_here, older, aged_wire, aged, LinkEvent, IsTurn, AreTurns, all_here, ticks_or_cut, AllAllowed, happens, after}
+use Rattle.session_laws.specs.Sessions.{OnWire, Half, new_half, Link, bare, IsStart, exchanged, number_of, session_of, ended_session, is_rset, put, put_all, becomes, with_ended, Turn, turned, is_up, EndEvent, IsAllowed, silent, took_with, act_frame, happens_here, ticks_here, older, aged_wire, aged, LinkEvent, IsTurn, AreTurns, all_here, ticks_or_cut, ticks_if_waiting, AllAllowed, happens, after}
 use Rattle.session_laws.specs.Losses.{is_act, sans}
 use Rattle.session_laws.specs.Sessions.IsStart.{BothUp, BothDown}
 use Rattle.swp_base.specs.declared.control_frames.Act.{Act as Activation}
 use Rattle.session_laws.specs.Sessions.EndEvent.{Turns, Deliver, Ignore, Acts, Lose, Reset, Cut, Stop}
-use Rattle.session_laws.specs.Sessions.LinkEvent.{AtController, AtHost, Tick}
+use Rattle.session_laws.specs.Sessions.LinkEvent.{AtController, AtHost, Tick, TickWithout}
 use Rattle.session_laws.proofs.Wire.{IsData, rsets, uas, behind_ua, live, Young, data_behind, young_later, young_older}
 use Rattle.session_laws.proofs.Hand.{peer_of, hand_empty, agrees_from, none_out, rset_tells, ahead_not_waiting, hand_past, hand_timer, nothing_out}
 use Rattle.session_laws.proofs.Data.{Base, Below, below_more, none_ended, bound, OnLive, Pair, pair_again, IsAnswer, taken_up}
@@ -575,15 +575,50 @@ pub tick_or_cut : (kf : ℕ) (b : Option (List Turn)) (l : Link) → SafeLink 1 
 tick_or_cut kf (Some ts) l h = ticks kf ts l h
 tick_or_cut kf None l h = cuts 1 kf l h
 
+-- an end that doesn't wait may do without its tick
+not_ticked : (kf : ℕ) (l : Link) → is_waiting l.controller.side ≡ false → SafeLink 1 kf l → SafeLink 0 kf l
+not_ticked kf l q h =
+    record {
+      hand = hand_timer 1 0 kf (peer_of l.controller) (peer_of l.controller) (peer_of l.host) (sans l.to_controller) (sans l.to_host) l.resets refl refl
+          refl (λ w. absurd (waits w)) h.hand;
+      n_base = h.n_base;
+      f_base = h.f_base;
+      n_live = h.n_live;
+      f_live = h.f_live;
+      n_past = h.n_past;
+      f_past = h.f_past;
+      n_none = h.n_none;
+      f_none = h.f_none;
+      n_due = h.n_due;
+      f_due = h.f_due;
+      n_windows = h.n_windows;
+      f_windows = h.f_windows;
+    }
+  where
+    waits : l.controller.side.phase ≡ Waiting → ⊥
+    waits w = let z : true ≡ false = rw w at q in cc
+
+pub tick_if_waiting : (kf : ℕ) (l : Link) → SafeLink 1 kf l → SafeLink 0 kf (ticks_if_waiting l)
+tick_if_waiting kf l h = go (is_waiting l.controller.side) refl
+  where
+    go : (b : Bool) → is_waiting l.controller.side ≡ b → SafeLink 0 kf (ticks_if_waiting l)
+    go true q = rw q (ticks kf [] l h)
+    go false q = rw q (not_ticked kf l q h)
+
+-- a tick of the host's end, where these things have happened at the controller's
+ticked_there : (turns : List EndEvent) (d : Option (List Turn)) (near : Link) → AreTurns turns → SafeLink 0 1 near
+    → SafeLink 0 0 (exchanged (ticks_or_cut d (exchanged (all_here near turns))))
+ticked_there turns d near a one =
+    let m : Link = exchanged (all_here near turns) in
+    safe_exchanged 0 0 (ticks_or_cut d m) (tick_or_cut 0 d m (safe_exchanged 0 1 (all_here near turns) (safe_turns 1 turns near a one)))
+
 pub safe_event : (l : Link) (e : LinkEvent) (es : List LinkEvent) → AllAllowed (e ∷ es) → SafeLink 0 0 l → SafeLink 0 0 (happens l e) × AllAllowed es
 safe_event l (AtController e) es a h = (safe_here l e a.0 h, a.1)
 safe_event l (AtHost e) es a h = (safe_exchanged 0 0 (happens_here (exchanged l) e) (safe_here (exchanged l) e a.0 (safe_exchanged 0 0 l h)), a.1)
 safe_event l (Tick c turns d) es a h =
-    let near : Link = ticks_or_cut c (aged l) in
-    let one : SafeLink 0 1 near = tick_or_cut 1 c (aged l) (safe_aged l h) in
-    let two : SafeLink 0 1 (all_here near turns) = safe_turns 1 turns near a.0 one in
-    let m : Link = exchanged (all_here near turns) in
-    (safe_exchanged 0 0 (ticks_or_cut d m) (tick_or_cut 0 d m (safe_exchanged 0 1 (all_here near turns) two)), a.1)
+    (ticked_there turns d (ticks_or_cut c (aged l)) a.0 (tick_or_cut 1 c (aged l) (safe_aged l h)), a.1)
+safe_event l (TickWithout turns d) es a h =
+    (ticked_there turns d (ticks_if_waiting (aged l)) a.0 (tick_if_waiting 1 (aged l) (safe_aged l h)), a.1)
 
 safe_after : (events : List LinkEvent) (l : Link) → AllAllowed events → SafeLink 0 0 l → SafeLink 0 0 (after l events)
 safe_after [] l a h = h

@@ -6,10 +6,10 @@ use Rattle.swp_base.specs.declared.control_frames.Control.TheVariants.{Act as Ac
 use Rattle.link_laws.specs.Link.{is_rnr}
 use Rattle.shdlc_core.specs.declared.answers.LinkState.{LinkState}
 use Rattle.shdlc_core.specs.declared.answers.LinkState.TheVariants.{Down, Up}
-use Rattle.shdlc_core.specs.Machine.{EndState, taken, take_answer, ticked, tick_answer, reset_with, frames_of, most_frames}
-use Rattle.session_laws.specs.Sessions.{OnWire, Half, Link, exchanged, number_of, is_up, put, put_all, with_ended, Turn, turned, act_frame, EndEvent, took_with, happens_here, aged, LinkEvent, all_here, ticks_or_cut, happens}
+use Rattle.shdlc_core.specs.Machine.{EndState, taken, take_answer, ticked, tick_answer, is_waiting, reset_with, frames_of, most_frames}
+use Rattle.session_laws.specs.Sessions.{OnWire, Half, Link, exchanged, number_of, is_up, put, put_all, with_ended, Turn, turned, act_frame, EndEvent, took_with, happens_here, aged, LinkEvent, all_here, ticks_or_cut, ticks_if_waiting, happens}
 use Rattle.session_laws.specs.Sessions.EndEvent.{Turns, Deliver, Ignore, Acts, Lose, Reset, Cut, Stop}
-use Rattle.session_laws.specs.Sessions.LinkEvent.{AtController, AtHost, Tick}
+use Rattle.session_laws.specs.Sessions.LinkEvent.{AtController, AtHost, Tick, TickWithout}
 
 -- a wire without its frames of activation
 abbrev pub is_act : Control → Bool
@@ -90,6 +90,9 @@ abbrev pub noted_tick : Losses → Option (List Turn) → Link → Losses
 noted_tick n (Some ts) l = noted_out n (with_ended l (is_some (tick_answer l.controller.side).ended)) (turned (ticked l.controller.side) ts)
 noted_tick n None l = n
 
+abbrev pub noted_if_waiting : Losses → Link → Losses
+noted_if_waiting n l = if is_waiting l.controller.side then noted_tick n (Some []) l else n
+
 -- a frame grows too old
 abbrev pub loses_aged : List OnWire → Bool
 loses_aged [] = false
@@ -104,6 +107,9 @@ noted_event n l (AtHost e) = noted_here n (exchanged l) e
 noted_event n l (Tick c turns h) =
     let near : Link = ticks_or_cut c (aged l) in
     noted_tick (noted_turns (noted_tick (noted_aged n l) c (aged l)) near turns) h (exchanged (all_here near turns))
+noted_event n l (TickWithout turns h) =
+    let near : Link = ticks_if_waiting (aged l) in
+    noted_tick (noted_turns (noted_if_waiting (noted_aged n l) (aged l)) near turns) h (exchanged (all_here near turns))
 
 -- what was lost since the first end came up in its session, after these events
 abbrev pub losses_after : Losses → Link → List LinkEvent → Losses

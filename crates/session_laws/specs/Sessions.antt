@@ -6,7 +6,7 @@ use Rattle.swp_base.specs.declared.control_frames.Control.TheVariants.{Rset, Act
 use Rattle.swp_base.specs.declared.control_frames.Act.{Act}
 use Rattle.shdlc_core.specs.declared.answers.LinkState.{LinkState}
 use Rattle.shdlc_core.specs.declared.answers.LinkState.TheVariants.{Down, Waiting, Up}
-use Rattle.shdlc_core.specs.Machine.{EndState, Session, Fragment, new_end, no_session, begun, put_out, taken, take_answer, ticked, tick_answer, with_ready, reset_with, stopped, frames_of, after_frames, most_frames}
+use Rattle.shdlc_core.specs.Machine.{EndState, Session, Fragment, new_end, no_session, begun, put_out, taken, take_answer, ticked, tick_answer, is_waiting, with_ready, reset_with, stopped, frames_of, after_frames, most_frames}
 
 -- a frame on a wire, the ticks since it was put there, and its number where it is an RSET
 pub record OnWire : Type 0 where
@@ -219,11 +219,17 @@ pub data LinkEvent : Type 0 where
   -- First all frames grow older, then the controller's end has its tick with these turns; then these things happen there, and
   -- then the host's end has its tick. A node that loses power before the frames of its tick go out has none.
   Tick : Option (List Turn) → List EndEvent → Option (List Turn) → LinkEvent
+  -- The same where these things happen at the controller's end in place of its tick. One that waits has its tick all the same.
+  TickWithout : List EndEvent → Option (List Turn) → LinkEvent
 
 -- the controller's end has its tick, or loses power in it
 abbrev pub ticks_or_cut : Option (List Turn) → Link → Link
 ticks_or_cut (Some ts) l = ticks_here l ts
 ticks_or_cut None l = silent l (new_end 4)
+
+-- the controller's end has its tick where it waits
+abbrev pub ticks_if_waiting : Link → Link
+ticks_if_waiting l = if is_waiting l.controller.side then ticks_here l [] else l
 
 -- what a node's turns may do to an end: no frame is taken or lost
 abbrev pub IsTurn : EndEvent → Type 0
@@ -245,11 +251,13 @@ AllAllowed [] = Unit {0}
 AllAllowed (AtController e ∷ es) = IsAllowed e × AllAllowed es
 AllAllowed (AtHost e ∷ es) = IsAllowed e × AllAllowed es
 AllAllowed (Tick c turns h ∷ es) = AreTurns turns × AllAllowed es
+AllAllowed (TickWithout turns h ∷ es) = AreTurns turns × AllAllowed es
 
 abbrev pub happens : Link → LinkEvent → Link
 happens l (AtController e) = happens_here l e
 happens l (AtHost e) = exchanged (happens_here (exchanged l) e)
 happens l (Tick c turns h) = exchanged (ticks_or_cut h (exchanged (all_here (ticks_or_cut c (aged l)) turns)))
+happens l (TickWithout turns h) = exchanged (ticks_or_cut h (exchanged (all_here (ticks_if_waiting (aged l)) turns)))
 
 -- the link after these events, one after another
 abbrev pub after : Link → List LinkEvent → Link

@@ -5,9 +5,9 @@ use Rattle.swp_base.specs.declared.control_frames.Control.{Control}
 use Rattle.shdlc_core.specs.declared.answers.LinkState.{LinkState}
 use Rattle.shdlc_core.specs.declared.answers.LinkState.TheVariants.{Down, Up}
 use Rattle.shdlc_core.specs.Machine.{EndState, taken, take_answer, ticked, tick_answer, is_waiting, frames_of, most_frames}
-use Rattle.session_laws.specs.Sessions.{OnWire, Link, exchanged, number_of, is_rset, put, put_all, with_ended, Turn, turned, act_frame, EndEvent, took_with, happens_here, aged, LinkEvent, all_here, ticks_or_cut, happens}
+use Rattle.session_laws.specs.Sessions.{OnWire, Link, exchanged, number_of, is_rset, put, put_all, with_ended, Turn, turned, act_frame, EndEvent, took_with, happens_here, aged, LinkEvent, all_here, ticks_or_cut, ticks_if_waiting, happens}
 use Rattle.session_laws.specs.Sessions.EndEvent.{Turns, Deliver, Ignore, Acts, Lose, Reset, Cut, Stop}
-use Rattle.session_laws.specs.Sessions.LinkEvent.{AtController, AtHost, Tick}
+use Rattle.session_laws.specs.Sessions.LinkEvent.{AtController, AtHost, Tick, TickWithout}
 use Rattle.session_laws.specs.Losses.{sans, counts_first, overflows, loses_aged}
 
 -- a frame is put on the wire to the host
@@ -54,6 +54,9 @@ abbrev pub sure_tick : Bool → Option (List Turn) → Link → Bool
 sure_tick s (Some ts) l = sure_out s (with_ended l (is_some (tick_answer l.controller.side).ended)) (turned (ticked l.controller.side) ts)
 sure_tick s None l = false
 
+abbrev pub sure_if_waiting : Bool → Link → Bool
+sure_if_waiting s l = if is_waiting l.controller.side then sure_tick s (Some []) l else s
+
 abbrev pub sure_aged : Bool → Link → Bool
 sure_aged s l = s && not (loses_aged (sans l.to_controller) || loses_aged (sans l.to_host))
 
@@ -63,6 +66,9 @@ sure_event s l (AtHost e) = sure_here s (exchanged l) e
 sure_event s l (Tick c turns h) =
     let near : Link = ticks_or_cut c (aged l) in
     sure_tick (sure_turns (sure_tick (sure_aged s l) c (aged l)) near turns) h (exchanged (all_here near turns))
+sure_event s l (TickWithout turns h) =
+    let near : Link = ticks_if_waiting (aged l) in
+    sure_tick (sure_turns (sure_if_waiting (sure_aged s l) (aged l)) near turns) h (exchanged (all_here near turns))
 
 abbrev pub sure_after : Bool → Link → List LinkEvent → Bool
 sure_after s l [] = s
