@@ -6,19 +6,19 @@ use Rattle.swp_base.specs.declared.control_frames.Control.TheVariants.{I, S, Rse
 use Rattle.swp_act.specs.Activation.{is_active}
 use Rattle.swp_act.specs.declared.clf.ClfAct.{ClfAct}
 use Rattle.swp_act.specs.declared.ActEvent.TheVariants.{Start as ActStart, Stop as ActStop}
-use Rattle.shdlc_core.specs.Machine.{EndState, stopped}
-use Rattle.session_laws.specs.Sessions.{OnWire, Link as CoreLink, Turn as CoreTurn, EndEvent as CoreEndEvent, LinkEvent as CoreLinkEvent, IsStart as CoreIsStart, exchanged as core_exchanged, happens as core_happens, happens_here as core_happens_here, all_here as core_all_here, after as core_after, aged as core_aged, ticks_or_cut as core_ticks_or_cut, AllAllowed as CoreAllAllowed, AreTurns as CoreAreTurns, IsAllowed as CoreIsAllowed}
+use Rattle.shdlc_core.specs.Machine.{EndState, stopped, is_waiting}
+use Rattle.session_laws.specs.Sessions.{OnWire, Link as CoreLink, Turn as CoreTurn, EndEvent as CoreEndEvent, LinkEvent as CoreLinkEvent, IsStart as CoreIsStart, exchanged as core_exchanged, happens as core_happens, happens_here as core_happens_here, all_here as core_all_here, after as core_after, aged as core_aged, ticks_or_cut as core_ticks_or_cut, ticks_if_waiting as core_ticks_if_waiting, AllAllowed as CoreAllAllowed, AreTurns as CoreAreTurns, IsAllowed as CoreIsAllowed}
 use Rattle.session_laws.specs.Sessions.EndEvent.{Deliver as CoreDeliver, Acts as CoreActs, Stop as CoreStop}
-use Rattle.session_laws.specs.Sessions.LinkEvent.{AtController as CoreAtController, AtHost as CoreAtHost, Tick as CoreTick}
+use Rattle.session_laws.specs.Sessions.LinkEvent.{AtController as CoreAtController, AtHost as CoreAtHost, Tick as CoreTick, TickWithout as CoreTickWithout}
 use Rattle.session_laws.proofs.Sending.{SafeLink}
-use Rattle.session_laws.proofs.Steps.{safe, in_order_here, in_order_there, safe_aged, safe_turns, safe_exchanged, tick_or_cut}
+use Rattle.session_laws.proofs.Steps.{safe, in_order_here, in_order_there, safe_aged, safe_turns, safe_exchanged, tick_or_cut, tick_if_waiting}
 use Rattle.link_machine.specs.Machine.{LinkEnd, Role, Turn, Refused, reset_refusal, window_of, is_open, act_answer, activated, moved, role_after, started, renewed, turned}
 use Rattle.link_machine.specs.Machine.Role.{Bare, Clf, Uicc}
-use Rattle.message_link.specs.Links.{Link, Half, Ending, Comes, Loss, EndEvent, LinkEvent, exchanged, steps_here, happens_here, all_here, happens, after, aged, ticks_here, silent, IsClf, IsUicc, IsWindow, CanStart, CanCome, IsNode, IsAllowed, IsOwn, AreOwn, IsEvent, AllAllowed}
+use Rattle.message_link.specs.Links.{Link, Half, Ending, Comes, Loss, EndEvent, Node, LinkEvent, exchanged, steps_here, happens_here, all_here, happens, after, aged, ticks_here, silent, IsClf, IsUicc, IsWindow, CanStart, CanCome, IsNode, IsAllowed, IsOwn, AreOwn, IsEvent, AllAllowed}
 use Rattle.message_link.specs.Links.Ending.{GoesOut, CutOff}
 use Rattle.message_link.specs.Links.Comes.{NextFrame, AsksReset, Starts, Stops, NoInput}
 use Rattle.message_link.specs.Links.EndEvent.{Step as EndStep, Lose}
-use Rattle.message_link.specs.Links.LinkEvent.{AtController, AtHost, Ticks, Activate}
+use Rattle.message_link.specs.Links.LinkEvent.{AtController, AtHost, Ticks, TicksWithout, Activate}
 use Rattle.message_link.specs.Projection.{core_of, core_take, core_ending, core_reset, core_step, core_here, core_all, core_tick, core_tick_rest, is_lost_tick, core_event, core_events}
 use Rattle.message_link.proofs.Project.{Tells, Step, turned_role}
 use Rattle.message_link.proofs.Steps.{Rests, FromHost, activated_role}
@@ -36,6 +36,7 @@ allowed-append [] fs a b = b
 allowed-append (CoreAtController e ∷ es) fs a b = (a.0, allowed-append es fs a.1 b)
 allowed-append (CoreAtHost e ∷ es) fs a b = (a.0, allowed-append es fs a.1 b)
 allowed-append (CoreTick c turns h ∷ es) fs a b = (a.0, allowed-append es fs a.1 b)
+allowed-append (CoreTickWithout turns h ∷ es) fs a b = (a.0, allowed-append es fs a.1 b)
 
 after_here : (c : CoreLink) (es : List CoreEndEvent) → core_after c (map CoreAtController es) ≡ core_all_here c es
 after_here c [] = refl
@@ -329,6 +330,32 @@ can_start Bare f u k = absurd u
 can_start (Clf s) f u k = absurd u
 can_start (Uicc s) f u k = let P : Role → Type 0 = λ z. CanStart (Uicc s) z in subst P (sym k.is) k.idle
 
+-- what is known once the host's end has had its tick
+record Ticked (n : Link) (c : CoreLink) : Type 0 where
+  pub core : core_of n ≡ c
+  pub good : Good n
+
+-- the host's end has its tick on m, whose core has become x
+ticked_there : (l m : Link) (h : Node) (x : CoreLink) → m.host ≡ l.host → core_of m ≡ x → IsNode (exchanged m) h.turns h.ending
+    → SafeLink 0 1 (core_of m) → Tells m.controller → Tells l.host → CalmLink m
+    → Ticked (exchanged (ticks_here (exchanged m) h.turns h.ending))
+    (core_after (core_exchanged (core_ticks_or_cut (core_tick l.host.side h.turns h.ending) (core_exchanged x)))
+    (map CoreAtHost (core_tick_rest l.host.side h.turns h.ending)))
+ticked_there l m h x host_is m_is a safe near far calm =
+    let n : Link = ticks_here (exchanged m) h.turns h.ending in
+    let three = step_tick (exchanged m) h.turns h.ending a.0 a.1 (tells_same m.host l.host host_is far)
+    (rests_of 1 0 (core_of (exchanged m)) (safe_exchanged 0 1 (core_of m) safe)) in
+    let there : List CoreEndEvent = core_tick_rest l.host.side h.turns h.ending in
+    let u : Option (List CoreTurn) = core_tick l.host.side h.turns h.ending in
+    record {
+      core = ap core_exchanged
+          (three.core ∙ (ap (λ z. core_all_here (core_ticks_or_cut (core_tick z.side h.turns h.ending) (core_exchanged (core_of m)))
+          (core_tick_rest z.side h.turns h.ending)) host_is
+          ∙ ap (λ d. core_all_here (core_ticks_or_cut u (core_exchanged d)) there) m_is))
+          ∙ sym (after_there (core_exchanged (core_ticks_or_cut u (core_exchanged x))) there);
+      good = record { controller = tells_same n.host m.controller three.host near; host = three.tells; calm = seen n (three.calm (seen m calm)) };
+    }
+
 pub event_step : (l : Link) (e : LinkEvent) → IsEvent l e → Good l → Reached (core_of l)
     → Event l (happens l e) (core_after (core_of l) (core_event l e)) (core_event l e)
 event_step l (AtController e) a g r = step_event l e a g r
@@ -349,26 +376,34 @@ event_step l (Ticks c es h) a g r =
     let m : Link = all_here near es in
     let m_safe : SafeLink 0 1 (core_of m) = subst P (sym two.core) (safe_turns 1 (core_all near es) (core_of near) all.turns near_safe) in
     let host_is : m.host ≡ l.host = two.host ∙ one.host in
-    let n : Link = ticks_here (exchanged m) h.turns h.ending in
-    let three = step_tick (exchanged m) h.turns h.ending a.2.0 a.2.1 (tells_same m.host l.host host_is g.host)
-    (rests_of 1 0 (core_of (exchanged m)) (safe_exchanged 0 1 (core_of m) m_safe)) in
     let x : CoreLink = core_all_here start (rest ++ core_all near es) in
     let m_is : core_of m ≡ x = two.core ∙ (ap (λ d. core_all_here d (core_all near es)) one.core ∙ sym (all_here-append start rest (core_all near es))) in
+    let three = ticked_there l m h x host_is m_is a.2 m_safe two.tells g.host
+    (two.calm (one.calm (calm_aged l.controller.side.role l.host.side.role l.to_controller l.to_host g.calm))) in
     let there : List CoreEndEvent = core_tick_rest l.host.side h.turns h.ending in
-    let u : Option (List CoreTurn) = core_tick l.host.side h.turns h.ending in
-    let last : CoreLink = core_happens (core_of l) (CoreTick t (rest ++ core_all near es) u) in
     record {
-      core = ap core_exchanged
-          (three.core ∙ (ap (λ z. core_all_here (core_ticks_or_cut (core_tick z.side h.turns h.ending) (core_exchanged (core_of m)))
-          (core_tick_rest z.side h.turns h.ending)) host_is
-          ∙ ap (λ d. core_all_here (core_ticks_or_cut u (core_exchanged d)) there) m_is))
-          ∙ sym (after_there last there);
-      good = record {
-        controller = tells_same n.host m.controller three.host two.tells;
-        host = three.tells;
-        calm = seen n (three.calm (seen m (two.calm (one.calm (calm_aged l.controller.side.role l.host.side.role l.to_controller l.to_host g.calm)))));
-      };
+      core = three.core;
+      good = three.good;
       allowed = (turns-append rest (core_all near es) rest_turns.turns all.turns, allowed_there there (rest_both l.host.side h.turns h.ending).allowed);
+    }
+event_step l (TicksWithout es h) a g r =
+    let s0 = safe_aged (core_of l) (safe_reached (core_of l) r) in
+    let near : Link = aged l in
+    let kept : core_ticks_if_waiting (core_aged (core_of l)) ≡ core_of near = rw a.0 refl in
+    let P : CoreLink → Type 0 = λ d. SafeLink 0 1 d in
+    let near_safe : SafeLink 0 1 (core_of near) = subst P kept (tick_if_waiting 1 (core_aged (core_of l)) s0) in
+    let all = all_step 1 near es a.1 g.controller near_safe in
+    let m : Link = all_here near es in
+    let m_safe : SafeLink 0 1 (core_of m) = subst P (sym all.step.core) (safe_turns 1 (core_all near es) (core_of near) all.turns near_safe) in
+    let x : CoreLink = core_all_here (core_ticks_if_waiting (core_aged (core_of l))) (core_all near es) in
+    let m_is : core_of m ≡ x = all.step.core ∙ ap (λ d. core_all_here d (core_all near es)) (sym kept) in
+    let three = ticked_there l m h x all.step.host m_is a.2 m_safe all.step.tells g.host
+    (all.step.calm (calm_aged l.controller.side.role l.host.side.role l.to_controller l.to_host g.calm)) in
+    let there : List CoreEndEvent = core_tick_rest l.host.side h.turns h.ending in
+    record {
+      core = three.core;
+      good = three.good;
+      allowed = (all.turns, allowed_there there (rest_both l.host.side h.turns h.ending).allowed);
     }
 event_step l (Activate power c id h) a g r =
     let x : EndEvent = EndStep (Starts power) c.turns c.ending in

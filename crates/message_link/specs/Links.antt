@@ -6,7 +6,7 @@ use Rattle.swp_base.specs.declared.link_terms.FrameFault.{FrameFault}
 use Rattle.swp_act.specs.Activation.{is_active, new_clf, new_uicc}
 use Rattle.shdlc_core.specs.declared.answers.LinkState.{LinkState}
 use Rattle.shdlc_core.specs.declared.answers.LinkState.TheVariants.{Down, Waiting, Up}
-use Rattle.shdlc_core.specs.Machine.{Session, no_session}
+use Rattle.shdlc_core.specs.Machine.{Session, no_session, is_waiting}
 use Rattle.hcp_packet.specs.Packets.{IsSendable}
 use Rattle.session_laws.specs.Sessions.{OnWire, is_rset, is_up, fits, aged_wire, took_with}
 use Rattle.link_machine.specs.Machine.{Message, LinkEnd, Role, new_link_end, renewed, started, deactivated, LinkInput, Turn, turned, after_input, frames_out, sent_all, ended_by}
@@ -229,6 +229,8 @@ pub data LinkEvent : Type 0 where
   -- First all frames grow older, then the controller's end has its tick, then these things happen there, and then the host's
   -- end has its tick. A tick means nothing to an end that is new, as it is while its node is off.
   Ticks : Node → List EndEvent → Node → LinkEvent
+  -- The same where these things happen at the controller's end in place of its tick.
+  TicksWithout : List EndEvent → Node → LinkEvent
   -- activation begins anew, with the power code of the CLF and the identifier of the UICC: first at the controller's end
   Activate : ℕ → Node → ℕ → Node → LinkEvent
 
@@ -238,6 +240,7 @@ happens l (AtController e) = happens_here l e
 happens l (AtHost e) = exchanged (happens_here (exchanged l) e)
 happens l (Ticks c events h) =
     exchanged (ticks_here (exchanged (all_here (ticks_here (aged l) c.turns c.ending) events)) h.turns h.ending)
+happens l (TicksWithout events h) = exchanged (ticks_here (exchanged (all_here (aged l) events)) h.turns h.ending)
 happens l (Activate power c id h) =
     exchanged (steps_here (exchanged (steps_here l (Starts power) c.turns c.ending)) (Starts id) h.turns h.ending)
 
@@ -316,13 +319,15 @@ abbrev pub AreOwn : Link → List EndEvent → Type 0
 AreOwn l [] = Unit {0}
 AreOwn l (e ∷ es) = IsOwn e × IsAllowed l e × AreOwn (happens_here l e) es
 
--- this may happen on the link
+-- this may happen on the link; an end that waits has its tick in each tick
 abbrev pub IsEvent : Link → LinkEvent → Type 0
 IsEvent l (AtController e) = IsAllowed l e
 IsEvent l (AtHost e) = IsAllowed (exchanged l) e
 IsEvent l (Ticks c events h) =
     let near : Link = ticks_here (aged l) c.turns c.ending in
     IsNode l c.turns c.ending × AreOwn near events × IsNode (exchanged (all_here near events)) h.turns h.ending
+IsEvent l (TicksWithout events h) =
+    (is_waiting l.controller.side.shdlc ≡ false) × AreOwn (aged l) events × IsNode (exchanged (all_here (aged l) events)) h.turns h.ending
 IsEvent l (Activate power c id h) =
     IsClf l.controller.side.role × IsUicc l.host.side.role × IsNode l c.turns c.ending × IsNode (exchanged l) h.turns h.ending
 

@@ -9,7 +9,7 @@ use Rattle.hcp_packet.specs.Packets.{packets_of, bytes_of}
 use Rattle.session_laws.specs.Sessions.{OnWire, Half as CoreHalf, Link as CoreLink, Turn as CoreTurn, EndEvent as CoreEndEvent, LinkEvent as CoreLinkEvent}
 use Rattle.session_laws.specs.Sessions.Turn.{Offer, SetReady as CoreSetReady}
 use Rattle.session_laws.specs.Sessions.EndEvent.{Turns as CoreTurns, Deliver as CoreDeliver, Ignore as CoreIgnore, Acts as CoreActs, Lose as CoreLose, Reset as CoreReset, Cut as CoreCut, Stop as CoreStop}
-use Rattle.session_laws.specs.Sessions.LinkEvent.{AtController as CoreAtController, AtHost as CoreAtHost, Tick as CoreTick}
+use Rattle.session_laws.specs.Sessions.LinkEvent.{AtController as CoreAtController, AtHost as CoreAtHost, Tick as CoreTick, TickWithout as CoreTickWithout}
 use Rattle.link_machine.specs.Machine.{Message, LinkEnd, Turn, Refused, turn, give_refusal, reset_refusal, act_answer, after_input, reset_by, window_of, started, deactivated, is_open}
 use Rattle.link_machine.specs.Machine.LinkInput.{Take, Tick}
 use Rattle.link_machine.specs.Machine.Turn.{Give, Hold}
@@ -17,7 +17,7 @@ use Rattle.message_link.specs.Links.{Talk, Half, Link, Ending, Comes, EndEvent, 
 use Rattle.message_link.specs.Links.Ending.{GoesOut, CutOff}
 use Rattle.message_link.specs.Links.Comes.{NextFrame, AsksReset, Starts, Stops, NoInput}
 use Rattle.message_link.specs.Links.EndEvent.{Step, Lose}
-use Rattle.message_link.specs.Links.LinkEvent.{AtController, AtHost, Ticks, Activate}
+use Rattle.message_link.specs.Links.LinkEvent.{AtController, AtHost, Ticks, TicksWithout, Activate}
 
 -- the ended sessions of an end
 abbrev pub core_past : List (ℕ × Talk) → List (ℕ × Session)
@@ -137,6 +137,9 @@ core_event l (Ticks c events h) =
     CoreTick (core_tick l.controller.side c.turns c.ending)
     (core_tick_rest l.controller.side c.turns c.ending ++ core_all (ticks_here (aged l) c.turns c.ending) events)
     (core_tick l.host.side h.turns h.ending)
+    ∷ map CoreAtHost (core_tick_rest l.host.side h.turns h.ending)
+core_event l (TicksWithout events h) =
+    CoreTickWithout (core_all (aged l) events) (core_tick l.host.side h.turns h.ending)
     ∷ map CoreAtHost (core_tick_rest l.host.side h.turns h.ending)
 core_event l (Activate power c id h) =
     let near : Link = exchanged (steps_here l (Starts power) c.turns c.ending) in
