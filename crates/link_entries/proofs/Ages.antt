@@ -15,7 +15,7 @@ use Rattle.message_link.specs.Links.Ending.{GoesOut, CutOff}
 use Rattle.message_link.specs.Links.Loss.{TooOld}
 use Rattle.message_link.specs.Links.Comes.{NextFrame, AsksReset, Starts, Stops, NoInput}
 use Rattle.message_link.specs.Links.EndEvent.{Step, Lose}
-use Rattle.message_link.specs.Links.LinkEvent.{AtController, AtHost, Ticks, Activate}
+use Rattle.message_link.specs.Links.LinkEvent.{AtController, AtHost, Ticks, TicksWithout, Activate}
 use Rattle.link_entries.specs.Entries.{End, Entry, here_entries, all_entries, step_entries, aged_entries, tick_entries, input_entries, event_entries, entries, trace}
 use Rattle.link_entries.specs.Entries.End.{Controller, Host}
 use Rattle.link_entries.specs.Entries.Entry.{Lost, Tick}
@@ -124,6 +124,10 @@ ages_event l (Ticks c es h) a =
     let m : Link = exchanged (all_here near es) in
     ages_other (ticks_here m h.turns h.ending)
     (ages_tick m h.turns h.ending (ages_other (all_here near es) (ages_all es near (ages_tick (aged l) c.turns c.ending (ages_aged l a)))))
+ages_event l (TicksWithout es h) a =
+    let m : Link = exchanged (all_here (aged l) es) in
+    ages_other (ticks_here m h.turns h.ending)
+    (ages_tick m h.turns h.ending (ages_other (all_here (aged l) es) (ages_all es (aged l) (ages_aged l a))))
 ages_event l (Activate power c id h) a =
     let near : Link = steps_here l (Starts power) c.turns c.ending in
     ages_other (steps_here (exchanged near) (Starts id) h.turns h.ending)
@@ -180,6 +184,15 @@ both_aged l a =
 then : (s t u : Seen) (xs ys : List Entry) → see_all s xs ≡ t → see_all t ys ≡ u → see_all s (xs ++ ys) ≡ u
 then s t u xs ys p q = see_all-append s xs ys ∙ (ap (λ z. see_all z ys) p ∙ q)
 
+-- behind those of the frames that are too old, which come first in a tick
+behind_aged : (l : Link) (rest : List Entry) (u : Seen) → Ages l → see_all (kept (aged l)) rest ≡ u
+    → see_all (see (kept l) Tick) (aged_entries Controller l.to_controller ++ (aged_entries Host l.to_host ++ rest)) ≡ u
+behind_aged l rest u a q =
+    let s : Seen = see (kept l) Tick in
+    see_all-append s (aged_entries Controller l.to_controller) (aged_entries Host l.to_host ++ rest)
+    ∙ (see_all-append (see_all s (aged_entries Controller l.to_controller)) (aged_entries Host l.to_host) rest
+    ∙ (ap (λ z. see_all z rest) (sym (see_all-append s (aged_entries Controller l.to_controller) (aged_entries Host l.to_host)) ∙ both_aged l a) ∙ q))
+
 event_seen : (l : Link) (e : LinkEvent) → Ages l → see_all (kept l) (event_entries l e) ≡ kept (happens l e)
 event_seen l (AtController e) a = here_seen Controller l e
 event_seen l (AtHost e) a = here_seen Host (exchanged l) e
@@ -192,10 +205,13 @@ event_seen l (Ticks c es h) a =
     let three = then (kept (aged l)) (kept near) (kept (happens l (Ticks c es h))) (tick_entries Controller (aged l) c)
     (all_entries Controller near es ++ last) (tick_seen Controller (aged l) c) four in
     let rest : List Entry = tick_entries Controller (aged l) c ++ (all_entries Controller near es ++ last) in
-    let s : Seen = see (kept l) Tick in
-    see_all-append s (aged_entries Controller l.to_controller) (aged_entries Host l.to_host ++ rest)
-    ∙ (see_all-append (see_all s (aged_entries Controller l.to_controller)) (aged_entries Host l.to_host) rest
-    ∙ (ap (λ z. see_all z rest) (sym (see_all-append s (aged_entries Controller l.to_controller) (aged_entries Host l.to_host)) ∙ both_aged l a) ∙ three))
+    behind_aged l rest (kept (happens l (Ticks c es h))) a three
+event_seen l (TicksWithout es h) a =
+    let m : Link = all_here (aged l) es in
+    let last : List Entry = tick_entries Host (exchanged m) h in
+    let two = then (kept (aged l)) (kept m) (kept (happens l (TicksWithout es h))) (all_entries Controller (aged l) es) last
+    (all_seen Controller es (aged l)) (tick_seen Host (exchanged m) h) in
+    behind_aged l (all_entries Controller (aged l) es ++ last) (kept (happens l (TicksWithout es h))) a two
 event_seen l (Activate power c id h) a =
     let near : Link = steps_here l (Starts power) c.turns c.ending in
     then (kept l) (kept near) (kept (happens l (Activate power c id h))) (step_entries Controller l (Starts power) c.turns c.ending)

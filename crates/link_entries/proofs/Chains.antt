@@ -20,7 +20,7 @@ use Rattle.message_link.specs.Links.Ending.{GoesOut, CutOff}
 use Rattle.message_link.specs.Links.Loss.{TooMany}
 use Rattle.message_link.specs.Links.Comes.{NextFrame, AsksReset, Starts, Stops, NoInput}
 use Rattle.message_link.specs.Links.EndEvent.{Step, Lose}
-use Rattle.message_link.specs.Links.LinkEvent.{AtController, AtHost, Ticks, Activate}
+use Rattle.message_link.specs.Links.LinkEvent.{AtController, AtHost, Ticks, TicksWithout, Activate}
 use Rattle.message_link.specs.Projection.{core_of, core_event}
 use Rattle.message_link.proofs.Steps.{FromHost, core_first, no_fault_first}
 use Rattle.message_link.proofs.Runs.{Good, Reached, event_step, reached_more, from_host, from_controller}
@@ -259,6 +259,14 @@ chain_event l (Ticks c es h) a g r =
           (more (aged_entries Host l.to_host) (cs ++ (ds ++ fs)) (chain_aged Host l.to_host)
           (more cs (ds ++ fs) (chain_tick Controller (aged l) c)
           (more ds fs (chain_all Controller es near a.1) (chain_tick Host (exchanged (all_here near es)) h)))),
+    )
+chain_event l (TicksWithout es h) a g r =
+    let ds : List Entry = all_entries Controller (aged l) es in
+    let fs : List Entry = tick_entries Host (exchanged (all_here (aged l) es)) h in (
+      refl,
+      more (aged_entries Controller l.to_controller) (aged_entries Host l.to_host ++ (ds ++ fs)) (chain_aged Controller l.to_controller)
+          (more (aged_entries Host l.to_host) (ds ++ fs) (chain_aged Host l.to_host)
+          (more ds fs (chain_all Controller es (aged l) a.1) (chain_tick Host (exchanged (all_here (aged l) es)) h))),
     )
 chain_event l (Activate power c id h) a g r =
     more (step_entries Controller l (Starts power) c.turns c.ending)

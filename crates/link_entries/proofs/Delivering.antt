@@ -4,11 +4,11 @@ use Rattle.std.specs.Prelude.{◌+◌}
 use Rattle.std.proofs.lemmas.Bool.{true≢false}
 use Rattle.shdlc_core.specs.declared.answers.LinkState.TheVariants.{Up as IsUpNow}
 use Rattle.hcp_packet.specs.Packets.{good_of}
-use Rattle.session_laws.specs.Sessions.{Link as CoreLink, Turn as CoreTurn, EndEvent as CoreEndEvent, LinkEvent as CoreLinkEvent, exchanged as core_exchanged, happens as core_happens, all_here as core_all_here, happens_here as core_happens_here, ticks_or_cut as core_ticks_or_cut, aged as core_aged, after as core_after}
-use Rattle.session_laws.specs.Sessions.LinkEvent.{AtController as CoreAtController, AtHost as CoreAtHost, Tick as CoreTick}
-use Rattle.session_laws.specs.Losses.{Losses, no_losses, sans, noted_here, noted_turns, noted_tick, noted_aged, noted_event, losses_after}
+use Rattle.session_laws.specs.Sessions.{Link as CoreLink, Turn as CoreTurn, EndEvent as CoreEndEvent, LinkEvent as CoreLinkEvent, exchanged as core_exchanged, happens as core_happens, all_here as core_all_here, happens_here as core_happens_here, ticks_or_cut as core_ticks_or_cut, ticks_if_waiting as core_ticks_if_waiting, aged as core_aged, after as core_after}
+use Rattle.session_laws.specs.Sessions.LinkEvent.{AtController as CoreAtController, AtHost as CoreAtHost, Tick as CoreTick, TickWithout as CoreTickWithout}
+use Rattle.session_laws.specs.Losses.{Losses, no_losses, sans, noted_here, noted_turns, noted_tick, noted_if_waiting, noted_aged, noted_event, losses_after}
 use Rattle.session_laws.proofs.Sending.{SafeLink}
-use Rattle.session_laws.proofs.Steps.{safe_aged, safe_turns, safe_exchanged, tick_or_cut}
+use Rattle.session_laws.proofs.Steps.{safe_aged, safe_turns, safe_exchanged, tick_or_cut, tick_if_waiting}
 use Rattle.link_machine.specs.Machine.{Role}
 use Rattle.link_machine.specs.Machine.Role.{Bare, Clf, Uicc}
 use Rattle.link_machine.proofs.Runs.{Sound}
@@ -16,7 +16,7 @@ use Rattle.message_link.specs.Links.{Talk, Half, Link, IsStart, EndEvent, LinkEv
 use Rattle.message_link.specs.Links.IsStart.{IsBare, IsLine}
 use Rattle.message_link.specs.Links.Comes.{Starts}
 use Rattle.message_link.specs.Links.EndEvent.{Step}
-use Rattle.message_link.specs.Links.LinkEvent.{AtController, AtHost, Ticks, Activate}
+use Rattle.message_link.specs.Links.LinkEvent.{AtController, AtHost, Ticks, TicksWithout, Activate}
 use Rattle.message_link.specs.Projection.{core_of, core_here, core_all, core_tick, core_tick_rest, core_event, core_events}
 use Rattle.message_link.specs.Quiet.{losses_of, IsQuiet, AllDelivered}
 use Rattle.message_link.proofs.Project.{Tells}
@@ -151,6 +151,52 @@ event_knows t n l (Ticks c es h) a g r s b =
     five : (t : List Entry) (e : Entry) (ps bs cs ds fs : List Entry)
         → (((t ++ (e ∷ (ps ++ bs))) ++ cs) ++ ds) ++ fs ≡ t ++ (e ∷ (ps ++ (bs ++ (cs ++ (ds ++ fs)))))
     five t e ps bs cs ds fs = simp append_assoc
+
+    flags : Losses → CoreLink → Half → Losses
+    flags n d z =
+        let t : Option (List CoreTurn) = core_tick z.side h.turns h.ending in
+        noted_turns (noted_tick n t (core_exchanged d)) (core_ticks_or_cut t (core_exchanged d)) (core_tick_rest z.side h.turns h.ending)
+event_knows t n l (TicksWithout es h) a g r s b =
+    let s0 = safe_aged (core_of l) (safe_reached (core_of l) r) in
+    let ps : List Entry = aged_entries Controller l.to_controller in
+    let bs : List Entry = aged_entries Host l.to_host in
+    let start : List Entry = Tick ∷ (ps ++ bs) in
+    let n1 : Losses = noted_aged n (core_of l) in
+    let b1 : Both (t ++ start) n1 (aged l) = aged_knows t n l b in
+    let near : Link = aged l in
+    let first : CoreLink = core_ticks_if_waiting (core_aged (core_of l)) in
+    let kept : first ≡ core_of near = rw a.0 refl in
+    let P : CoreLink → Type 0 = λ d. SafeLink 0 1 d in
+    let near_safe : SafeLink 0 1 (core_of near) = subst P kept (tick_if_waiting 1 (core_aged (core_of l)) s0) in
+    let all = all_step 1 near es a.1 g.controller near_safe in
+    let turns : List CoreEndEvent = core_all near es in
+    let ds : List Entry = all_entries Controller near es in
+    let n3 : Losses = noted_turns n1 (core_of near) turns in
+    let u : List Entry = (t ++ start) ++ ds in
+    let m : Link = all_here near es in
+    let b3 : Both u n3 m = all_knows 1 es (t ++ start) n1 near a.1 g.controller g.host near_safe s.controller b1 in
+    let m_safe : SafeLink 0 1 (core_of m) = subst P (sym all.step.core) (safe_turns 1 turns (core_of near) all.turns near_safe) in
+    let host_is : m.host ≡ l.host = all.step.host in
+    let H : Half → Type 0 = λ z. Sound z.side in
+    let m_rests = rests_of 1 0 (core_of (exchanged m)) (safe_exchanged 0 1 (core_of m) m_safe) in
+    let fs : List Entry = tick_entries Host (exchanged m) h in
+    let n4 : Losses = tick_flags n3 (exchanged m) h in
+    let k : Link = ticks_here (exchanged m) h.turns h.ending in
+    let b4 : Both (u ++ fs) n4 k =
+    tick_knows u n3 Host (exchanged m) h a.2 (record { tells = tells_same m.host l.host host_is g.host; rests = m_rests; sound = subst H (sym host_is) s.host })
+    (swap u n3 m b3) in
+    let x : Losses = noted_turns (noted_if_waiting n1 (core_aged (core_of l))) first turns in
+    let x_is : x ≡ n3 = rw a.0 refl in
+    let d_is : core_all_here first turns ≡ core_of m = ap (λ z. core_all_here z turns) kept ∙ sym all.step.core in
+    let core : CoreLinkEvent = CoreTickWithout turns (core_tick l.host.side h.turns h.ending) in
+    let flag : losses_after n (core_of l) (core_event l (TicksWithout es h)) ≡ n4 =
+    there_losses (noted_event n (core_of l) core) (core_happens (core_of l) core) (core_tick_rest l.host.side h.turns h.ending)
+    ∙ (ap (λ z. flags z (core_all_here first turns) l.host) x_is ∙ (ap (λ z. flags n3 z l.host) d_is ∙ ap (flags n3 (core_of m)) (sym host_is))) in
+    as_is (t ++ event_entries l (TicksWithout es h)) (u ++ fs) (losses_after n (core_of l) (core_event l (TicksWithout es h))) n4 (exchanged k)
+    (sym (four t Tick ps bs ds fs)) flag (swap (u ++ fs) n4 k b4)
+  where
+    four : (t : List Entry) (e : Entry) (ps bs ds fs : List Entry) → ((t ++ (e ∷ (ps ++ bs))) ++ ds) ++ fs ≡ t ++ (e ∷ (ps ++ (bs ++ (ds ++ fs))))
+    four t e ps bs ds fs = simp append_assoc
 
     flags : Losses → CoreLink → Half → Losses
     flags n d z =

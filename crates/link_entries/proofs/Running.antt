@@ -7,13 +7,13 @@ use Rattle.swp_base.specs.declared.control_frames.Control.TheVariants.{I, S, Rse
 use Rattle.shdlc_core.specs.declared.answers.LinkState.{LinkState}
 use Rattle.shdlc_core.specs.declared.answers.LinkState.TheVariants.{Down as IsDown, Waiting as IsWaitingNow, Up as IsUpNow}
 use Rattle.shdlc_core.specs.Machine.{EndState, most_frames, taken, take_answer}
-use Rattle.session_laws.specs.Sessions.{OnWire, Link as CoreLink, Turn as CoreTurn, LinkEvent as CoreLinkEvent, is_rset, took_with, aged as core_aged, happens_here as core_happens_here, all_here as core_all_here, ticks_or_cut as core_ticks_or_cut, after as core_after}
+use Rattle.session_laws.specs.Sessions.{OnWire, Link as CoreLink, Turn as CoreTurn, LinkEvent as CoreLinkEvent, is_rset, took_with, aged as core_aged, happens_here as core_happens_here, all_here as core_all_here, ticks_or_cut as core_ticks_or_cut, ticks_if_waiting as core_ticks_if_waiting, after as core_after}
 use Rattle.session_laws.specs.Sessions.EndEvent.{Deliver as CoreDeliver}
 use Rattle.session_laws.specs.Losses.{is_act, sans}
 use Rattle.session_laws.proofs.Hand.{peer_of, rset_tells}
 use Rattle.session_laws.proofs.Safe.{Safe}
 use Rattle.session_laws.proofs.Sending.{SafeLink}
-use Rattle.session_laws.proofs.Steps.{took_other, safe_aged, safe_turns, safe_exchanged, tick_or_cut}
+use Rattle.session_laws.proofs.Steps.{took_other, safe_aged, safe_turns, safe_exchanged, tick_or_cut, tick_if_waiting}
 use Rattle.swp_act.specs.Activation.{new_clf, new_uicc}
 use Rattle.link_machine.specs.Machine.{LinkEnd, Role, LinkInput, Turn, turned, is_open, is_faulty, took, after_input, ended_by, began_by, frames_out, sent_all, new_link_end}
 use Rattle.link_machine.specs.Machine.Role.{Bare, Clf, Uicc}
@@ -27,7 +27,7 @@ use Rattle.message_link.specs.Links.IsStart.{IsBare, IsLine}
 use Rattle.message_link.specs.Links.Ending.{GoesOut, CutOff}
 use Rattle.message_link.specs.Links.Comes.{NextFrame, AsksReset, Starts, Stops, NoInput}
 use Rattle.message_link.specs.Links.EndEvent.{Step as EndStep, Lose}
-use Rattle.message_link.specs.Links.LinkEvent.{AtController, AtHost, Ticks, Activate}
+use Rattle.message_link.specs.Links.LinkEvent.{AtController, AtHost, Ticks, TicksWithout, Activate}
 use Rattle.message_link.specs.Projection.{core_of, core_half, core_past, core_here, core_all, core_tick, core_tick_rest, core_event}
 use Rattle.message_link.proofs.Asks.{NoRset}
 use Rattle.message_link.proofs.Calm.{CalmLink, IsPolite, polite_of}
@@ -473,6 +473,60 @@ note_event t l (Ticks c es h) a g r n =
     five : (t : List Entry) (e : Entry) (ps bs cs ds fs : List Entry)
         → (((t ++ (e ∷ (ps ++ bs))) ++ cs) ++ ds) ++ fs ≡ t ++ (e ∷ (ps ++ (bs ++ (cs ++ (ds ++ fs)))))
     five t e ps bs cs ds fs = simp append_assoc
+note_event t l (TicksWithout es h) a g r n =
+    let s0 = safe_aged (core_of l) (safe_reached (core_of l) r) in
+    let near : Link = aged l in
+    let ps : List Entry = aged_entries Controller l.to_controller in
+    let bs : List Entry = aged_entries Host l.to_host in
+    let start : List Entry = Tick ∷ (ps ++ bs) in
+    let quiet : Quiet start = ((λ x m. refl), quiet-append ps bs (quiet_aged Controller l.to_controller) (quiet_aged Host l.to_host)) in
+    let silent : Silent start =
+    let P : List Entry → Type 0 = λ z. Quiet z in quiet_front start [] (subst P (sym (append-nil start)) quiet) in
+    let one_told : Tolds (t ++ start) Controller near =
+    record {
+      here = told_silent t start Controller l.controller silent n.tolds.here;
+      there = told_silent t start Host l.host silent n.tolds.there;
+    } in
+    let one_ok : Ok (t ++ start) = ok_silent t start n.ok silent in
+    let one_all : AllOk t start = quiet_all t start n.ok quiet in
+    let P : CoreLink → Type 0 = λ d. SafeLink 0 1 d in
+    let kept : core_ticks_if_waiting (core_aged (core_of l)) ≡ core_of near = rw a.0 refl in
+    let safe_near : SafeLink 0 1 (core_of near) = subst P kept (tick_if_waiting 1 (core_aged (core_of l)) s0) in
+    let two = all_told 1 es (t ++ start) near a.1 g.controller g.host safe_near n.sounds.controller one_told one_ok in
+    let ds : List Entry = all_entries Controller near es in
+    let m : Link = all_here near es in
+    let H : Half → Type 0 = λ z. Sound z.side in
+    let m_sound : Sound m.host.side = subst H (sym two.host) n.sounds.host in
+    let m_tells : Tells m.host = tells_same m.host l.host two.host g.host in
+    let m_rests = rests_of 1 0 (core_of (exchanged m)) (safe_exchanged 0 1 (core_of m) two.safe) in
+    let u : List Entry = (t ++ start) ++ ds in
+    let three = tick_told u Host (exchanged m) h a.2 (record { tells = m_tells; rests = m_rests; sound = m_sound }) (swap_tolds u m two.tolds) in
+    let last = step_tick (exchanged m) h.turns h.ending a.2.0 a.2.1 m_tells m_rests in
+    let fs : List Entry = tick_entries Host (exchanged m) h in
+    let k : Link = ticks_here (exchanged m) h.turns h.ending in
+    let e : LinkEvent = TicksWithout es h in
+    let all : u ++ fs ≡ t ++ event_entries l e = four t Tick ps bs ds fs in
+    let Q : List Entry → Type 0 = λ z. Tolds z Controller (exchanged k) in
+    let tolds : Tolds (t ++ event_entries l e) Controller (exchanged k) = subst Q all (swap_back (u ++ fs) k three.tolds) in
+    let st = event_step l e a g r in
+    let next : Reached (core_of (happens l e)) = subst Reached (sym st.core) (reached_more (core_of l) (core_event l e) st.allowed r) in
+    let ok : Ok (t ++ event_entries l e) = reached_ok (t ++ event_entries l e) (happens l e) st.good next tolds in
+    let R : List Entry → Type 0 = λ z. Ok z in
+    let last_all : AllOk u fs = between u fs Host two.ok (subst R (sym all) ok) (one_tick Host (exchanged m) h) three.few in
+    let rest_all : AllOk (t ++ start) (ds ++ fs) = all_then (t ++ start) ds fs two.all last_all in
+    let whole : start ++ (ds ++ fs) ≡ event_entries l e = ap (λ z. Tick ∷ z) (append_assoc ps bs (ds ++ fs)) in
+    let S : List Entry → Type 0 = λ z. AllOk t z in
+    record {
+      noted = record {
+        tolds = tolds;
+        sounds = record { controller = subst H (sym last.host) two.sound; host = sound_tick (exchanged m) h a.2 m_sound };
+        ok = ok;
+      };
+      all = subst S whole (all_then t start (ds ++ fs) one_all rest_all);
+    }
+  where
+    four : (t : List Entry) (e : Entry) (ps bs ds fs : List Entry) → ((t ++ (e ∷ (ps ++ bs))) ++ ds) ++ fs ≡ t ++ (e ∷ (ps ++ (bs ++ (ds ++ fs))))
+    four t e ps bs ds fs = simp append_assoc
 note_event t l (Activate power c id h) a g r n =
     let x : EndEvent = EndStep (Starts power) c.turns c.ending in
     let y : EndEvent = EndStep (Starts id) h.turns h.ending in

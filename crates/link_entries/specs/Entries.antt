@@ -12,7 +12,7 @@ use Rattle.message_link.specs.Links.Ending.{GoesOut, CutOff}
 use Rattle.message_link.specs.Links.Loss.{TooOld, TooMany}
 use Rattle.message_link.specs.Links.Comes.{NextFrame, AsksReset, Starts, Stops, NoInput}
 use Rattle.message_link.specs.Links.EndEvent.{Step, Lose}
-use Rattle.message_link.specs.Links.LinkEvent.{AtController, AtHost, Ticks, Activate}
+use Rattle.message_link.specs.Links.LinkEvent.{AtController, AtHost, Ticks, TicksWithout, Activate}
 
 -- one of the two ends of a link
 pub data End : Type 0 where
@@ -179,6 +179,10 @@ event_entries l (Ticks c events h) =
     Tick
     ∷ (aged_entries Controller l.to_controller ++ (aged_entries Host l.to_host
     ++ (tick_entries Controller (aged l) c ++ (all_entries Controller near events ++ tick_entries Host (exchanged (all_here near events)) h))))
+event_entries l (TicksWithout events h) =
+    Tick
+    ∷ (aged_entries Controller l.to_controller ++ (aged_entries Host l.to_host
+    ++ (all_entries Controller (aged l) events ++ tick_entries Host (exchanged (all_here (aged l) events)) h)))
 event_entries l (Activate power c id h) =
     step_entries Controller l (Starts power) c.turns c.ending
     ++ step_entries Host (exchanged (steps_here l (Starts power) c.turns c.ending)) (Starts id) h.turns h.ending
