@@ -1,6 +1,6 @@
 -- The world of a controller and its hosts: nodes that run or don't, their memories, and a link to each host; and what one cause does
 -- to it, with the entries that are noted of it. The links change by the events of the law of one link.
-use Rattle.std.specs.Prelude.{ℕ, ◌==◌, ◌&&◌, Bool, true, false, if◌then◌else◌, List, [], ◌∷◌, ◌++◌, map, length, replicate, Option, Some, None}
+use Rattle.std.specs.Prelude.{ℕ, ◌==◌, ◌&&◌, Bool, true, false, not, if◌then◌else◌, List, [], ◌∷◌, ◌++◌, map, length, replicate, Option, Some, None}
 use Rattle.std.specs.List.{find, flat_map}
 use Rattle.std.specs.Option.{option_map_or, option_map}
 use Rattle.swp_base.specs.InMemory.{Memory, Plan}
@@ -8,6 +8,7 @@ use Rattle.swp_act.specs.Activation.{new_clf, new_uicc}
 use Rattle.trace_model.specs.declared.entry.Entry.{Entry}
 use Rattle.trace_model.specs.declared.entry.Entry.TheVariants as entry
 use Rattle.trace_model.specs.declared.line.End.{End}
+use Rattle.shdlc_core.specs.Machine.{is_waiting}
 use Rattle.session_laws.specs.Sessions.{OnWire, took_with}
 use Rattle.journal_laws.specs.Writes.{Write}
 use Rattle.journal_laws.specs.Journal.{count_of}
@@ -348,10 +349,11 @@ all_aged w = (
 abbrev pub is_late_at : Work → ℕ → Bool
 is_late_at k h = option_map_or (λ (p : Port). p.late) (port_at k.ports h) false
 
--- A link after a tick of the controller: an end whose notice is late is reset in place of having its tick.
+-- A link after a tick of the controller: an end whose notice is late is reset in place of having its tick, unless it waits
+-- already; while a notice isn't answered its end is up.
 abbrev pub ticked_so : Link → Bool → List Turn → Ending → Link
-ticked_so l true turns ending = has_input l (Reset None) turns ending
-ticked_so l false turns ending = ticks_here l turns ending
+ticked_so l late turns ending =
+    if late && not (is_waiting l.controller.side.shdlc) then has_input l (Reset None) turns ending else ticks_here l turns ending
 
 -- the tick of the controller; where it doesn't run its ends are new
 abbrev pub controller_ticks : NodeWorld → NodeWorld × List Entry
