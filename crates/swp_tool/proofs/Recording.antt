@@ -18,7 +18,7 @@ pub nothing_decoded : (tells : Bool) (d : Decoding) (input before : List ℕ) �
 nothing_decoded tells d input before stands none = record {
   bytes = [];
   input_is = refl;
-  decoding = record { stands = stands; written = []; after_is = λ told. sym (append-nil before); lines = none; least = arith };
+  decoding = record { stands = stands; written = []; after_is = λ told. sym (append-nil before); lines = none; least = omega arith };
   gathered = none;
 }
 
@@ -155,4 +155,4 @@ ended_in tells (status.BadImage why) earlier input piece left before after is fe
 pub broken_off_at_end : (tells : Bool) (input before after : List ℕ)
     → IsFrontOfSome tells input input before after ⊎ IsFrontOfWhole tells input input before after → IsBrokenOff tells input [] before after
 broken_off_at_end tells input before after front =
-    record { earlier = input; piece = []; input_is = sym (append-nil input); few = arith; front = front }
+    record { earlier = input; piece = []; input_is = sym (append-nil input); few = omega arith; front = front }

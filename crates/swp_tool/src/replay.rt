@@ -8,7 +8,7 @@ ghost use Rattle.swp_tool.specs.Replays.{Runs, WasStepped, HasPlayed, HasFew, Ha
 ghost use Rattle.swp_tool.specs.Transcripts.{text_of, done_line};
 ghost use Rattle.history.specs.Histories.{History};
 ghost use Rattle.history.specs.Follows.{link_at, misread, opened};
-ghost use Rattle.world.specs.Worlds.{StandsFor, HasRoom};
+ghost use Rattle.world.specs.Worlds.{StandsFor, HasRoom, header_of};
 
 use crate::transcript::note;
 use schedule_text::{LineFault, Read, read_line};
