@@ -1,5 +1,5 @@
 -- Linked blocks: what writes to links, bytes and heads leave of the chains.
-use Rattle.std.proofs.Common.{◌≡◌, ◌≢◌, ℕ, zero, suc, ◌+◌, ◌-◌, ◌*◌, ◌/◌, ◌%◌, ◌^◌, ◌<◌, ◌≤◌, true, false, cond, eqb, ◌⊎◌, inl, inr, List, [], ◌∷◌, ◌++◌, length, get_or, set, take, drop, replicate, map, refl, sym, ap, ◌∙◌, subst, arith, rules, Fits, w16, w32, length-set, get_or-set_same, get_or-set_other, length-drop, get_or-drop, add-one}
+use Rattle.std.proofs.Common.{◌≡◌, ◌≢◌, ℕ, zero, suc, ◌+◌, ◌-◌, ◌*◌, ◌/◌, ◌%◌, ◌^◌, ◌<◌, ◌≤◌, true, false, cond, eqb, ◌⊎◌, inl, inr, List, [], ◌∷◌, ◌++◌, length, get_or, set, take, drop, replicate, map, refl, sym, ap, ◌∙◌, subst, arith, rules, Fits, w16, w32, length-set, get_or-set_same, get_or-set_other, length-drop, length-take, get_or-drop, min, add-one}
 use Rattle.std.specs.Prelude.{Option, Some, None, IsSome}
 use Rattle.std.specs.List.{range_with_len}
 use Rattle.std.specs.Int.{div_ceil}
@@ -22,7 +22,7 @@ unchanged next at link first (suc k) apart =
     ∙ get_or-set_other next at (block_at next first k) link 0 (apart k (omega arith))
 
 -- blocks behind a block of a list of blocks
-behind : (next : List ℕ) (first i j : ℕ) → block_at next (block_at next first i) j ≡ block_at next first (i + j)
+pub behind : (next : List ℕ) (first i j : ℕ) → block_at next (block_at next first i) j ≡ block_at next first (i + j)
 behind next first i zero = let e : i ≡ i + 0 = omega arith in ap (block_at next first) e
 behind next first i (suc j) =
     let e : suc (i + j) ≡ i + suc j = omega arith in
@@ -72,6 +72,14 @@ slot_is region next heads b = by_place (cases_lt b (length heads))
     by_place (inr high) =
         get_or_past (map (λ b. held_by region next b (get_or heads b None)) (range_with_len 0 (length heads))) b None (omega (arith, length-map-range_with_len (λ b. held_by region next b (get_or heads b None)) 0 (length heads)))
         ∙ sym (ap (held_by region next b) (get_or_past heads b None high))
+
+-- two lists made by place are the same where each element is
+same_slots : (f g : ℕ → Option Held) (n : ℕ) → ((c : ℕ) → f c ≡ g c) → map f (range_with_len 0 n) ≡ map g (range_with_len 0 n)
+same_slots f g n same =
+    same_lists _ _ (length-map-range_with_len f 0 n ∙ sym (length-map-range_with_len g 0 n))
+    (λ k d h. let low : k < n = omega (arith, length-map-range_with_len f 0 n) in
+    get_or-map-range_with_len f 0 n k k d low (omega arith)
+    ∙ (same k ∙ sym (get_or-map-range_with_len g 0 n k k d low (omega arith))))
 
 -- one chain was written, and each other one stayed
 slots_set : (region next region' next' : List ℕ) (heads heads' : List (Option Head)) (b : ℕ) (v : Option Held) → length heads' ≡ length heads → b < length heads → held_by region' next' b (get_or heads' b None) ≡ v → ((c : ℕ) → c ≢ b → held_by region' next' c (get_or heads' c None) ≡ held_by region next c (get_or heads c None)) → slots_of region' next' heads' ≡ set (slots_of region next heads) b v
@@ -201,16 +209,18 @@ module _ (region next : List ℕ) (heads : List (Option Head)) (free free_len : 
       let s : Some h ≡ Some v = sym e ∙ get_or-set_same heads b (Some v) None low in cc
 
   -- a byte more in the last block of a chain
-  pub push_in_block_sound : (b : ℕ) (head : Head) (place byte : ℕ) → get_or heads b None ≡ Some head → 0 < head.len % 32 → IsSound (set region place byte) next (set heads b (Some (record { owner = head.owner; last = head.last; len = head.len + 1 }))) free free_len
+  pub push_in_block_sound : (b : ℕ) (head : Head) (place byte : ℕ) → get_or heads b None ≡ Some head → 0 < head.len % 32 → IsSound (set region place byte) next (set heads b (Some (record { owner = head.owner; last = head.last; len = head.len + 1; read_on = head.read_on; passed = head.passed }))) free free_len
   push_in_block_sound b head place byte at room =
       let chain = sound.chains b head at in
       let low : b < length heads = omega (arith, in_pool next sound.mark sound.count b head chain, sound.counted) in
-      let longer : Head = record { owner = head.owner; last = head.last; len = head.len + 1 } in
+      let longer : Head = record { owner = head.owner; last = head.last; len = head.len + 1; read_on = head.read_on; passed = head.passed } in
       let same_blocks : blocks_for (head.len + 1) ≡ blocks_for head.len = omega arith in
       let grown : IsChain next sound.mark sound.count b longer = record {
         some = omega arith;
         marked = λ k h. chain.marked k (omega arith);
         last = ap (λ n. block_at next b (n - 1)) same_blocks ∙ chain.last;
+        within = omega (arith, chain.within, same_blocks);
+        reading = chain.reading;
       } in
       record {
         count = sound.count;
@@ -263,11 +273,11 @@ module _ (region next : List ℕ) (heads : List (Option Head)) (free free_len : 
       absurd (omega arith))) in
       one_more_byte (set region place byte) next b head.len ∙ (ap (λ bs. bs ++ byte_at (set region place byte) next b head.len ∷ []) before ∙ ap (λ x. chain_bytes region next b head.len ++ x ∷ []) new_byte)
 
-  pub push_in_block_slots : (b : ℕ) (head : Head) (byte : ℕ) → get_or heads b None ≡ Some head → 0 < head.len % 32 → slots_of (set region (32 * head.last + head.len % 32) byte) next (set heads b (Some (record { owner = head.owner; last = head.last; len = head.len + 1 }))) ≡ put (slots_of region next heads) b head.owner (chain_bytes region next b head.len ++ byte ∷ [])
+  pub push_in_block_slots : (b : ℕ) (head : Head) (byte : ℕ) → get_or heads b None ≡ Some head → 0 < head.len % 32 → slots_of (set region (32 * head.last + head.len % 32) byte) next (set heads b (Some (record { owner = head.owner; last = head.last; len = head.len + 1; read_on = head.read_on; passed = head.passed }))) ≡ put (slots_of region next heads) b head.owner (chain_bytes region next b head.len ++ byte ∷ [])
   push_in_block_slots b head byte at room =
       let chain = sound.chains b head at in
       let low : b < length heads = omega (arith, in_pool next sound.mark sound.count b head chain, sound.counted) in
-      let longer : Head = record { owner = head.owner; last = head.last; len = head.len + 1 } in
+      let longer : Head = record { owner = head.owner; last = head.last; len = head.len + 1; read_on = head.read_on; passed = head.passed } in
       let place = 32 * head.last + head.len % 32 in
       let l = last_marked next sound.mark sound.count b head chain in
       slots_set region next (set region place byte) next heads (set heads b (Some longer)) b (Some (record { owner = head.owner; bytes = chain_bytes region next b head.len ++ byte ∷ [] }))
@@ -304,13 +314,15 @@ module _ (region next : List ℕ) (heads : List (Option Head)) (free free_len : 
             subst (λ x. IsMarked (λ y. popped sound.count c k (sound.mark y)) sound.count x d i) (sym (same i h))
             (m.0, ap (popped sound.count c k) m.1 ∙ popped_other sound.count c k d i (λ e. absurd (omega arith)));
         last = same (blocks_for head.len - 1) (omega arith) ∙ chain.last;
+        within = chain.within;
+        reading = same head.passed chain.within ∙ chain.reading;
       }
 
-  pub begin_sound : (owner byte place after : ℕ) → 0 < free_len → after ≡ get_or next free 0 → IsSound (set region place byte) next (set heads free (Some (record { owner = owner; last = free; len = 1 }))) after (free_len - 1)
+  pub begin_sound : (owner byte place after : ℕ) → 0 < free_len → after ≡ get_or next free 0 → IsSound (set region place byte) next (set heads free (Some (record { owner = owner; last = free; len = 1; read_on = free; passed = 0 }))) after (free_len - 1)
   begin_sound owner byte place after some is_next =
       let first = first_free some in
       let low : free < length heads = omega (arith, first.0, sound.counted) in
-      let new : Head = record { owner = owner; last = free; len = 1 } in
+      let new : Head = record { owner = owner; last = free; len = 1; read_on = free; passed = 0 } in
       let mark = λ (x : ℕ). popped sound.count free 0 (sound.mark x) in
       let begun : IsChain next mark sound.count free new = record {
         some = omega arith;
@@ -319,6 +331,8 @@ module _ (region next : List ℕ) (heads : List (Option Head)) (free free_len : 
             subst (λ i. IsMarked mark sound.count (block_at next free i) free i) zero_place
             (first.0, ap (popped sound.count free 0) first.1 ∙ popped_first sound.count free 0);
         last = refl;
+        within = omega arith;
+        reading = refl;
       } in
       record {
         count = sound.count;
@@ -335,11 +349,11 @@ module _ (region next : List ℕ) (heads : List (Option Head)) (free free_len : 
         spare = popped_spare free 0 next after is_next (λ i low. refl);
       }
 
-  pub begin_slots : (owner byte : ℕ) → 0 < free_len → slots_of (set region (32 * free) byte) next (set heads free (Some (record { owner = owner; last = free; len = 1 }))) ≡ put (slots_of region next heads) free owner (byte ∷ [])
+  pub begin_slots : (owner byte : ℕ) → 0 < free_len → slots_of (set region (32 * free) byte) next (set heads free (Some (record { owner = owner; last = free; len = 1; read_on = free; passed = 0 }))) ≡ put (slots_of region next heads) free owner (byte ∷ [])
   begin_slots owner byte some =
       let first = first_free some in
       let low : free < length heads = omega (arith, first.0, sound.counted) in
-      let new : Head = record { owner = owner; last = free; len = 1 } in
+      let new : Head = record { owner = owner; last = free; len = 1; read_on = free; passed = 0 } in
       let in_region : 32 * free < length region = omega (arith, first.0, sound.bytes) in
       let plain : 32 * free + 0 ≡ 32 * free = omega arith in
       let one : chain_bytes (set region (32 * free) byte) next free 1 ≡ byte ∷ [] =
@@ -359,13 +373,13 @@ module _ (region next : List ℕ) (heads : List (Option Head)) (free free_len : 
 
   -- ---- a byte more in a new last block
 
-  pub push_in_new_block_sound : (b : ℕ) (head : Head) (place byte after : ℕ) → get_or heads b None ≡ Some head → head.len % 32 ≡ 0 → 0 < free_len → after ≡ get_or next free 0 → IsSound (set region place byte) (set next head.last free) (set heads b (Some (record { owner = head.owner; last = free; len = head.len + 1 }))) after (free_len - 1)
+  pub push_in_new_block_sound : (b : ℕ) (head : Head) (place byte after : ℕ) → get_or heads b None ≡ Some head → head.len % 32 ≡ 0 → 0 < free_len → after ≡ get_or next free 0 → IsSound (set region place byte) (set next head.last free) (set heads b (Some (record { owner = head.owner; last = free; len = head.len + 1; read_on = head.read_on; passed = head.passed }))) after (free_len - 1)
   push_in_new_block_sound b head place byte after at full some is_next =
       let chain = sound.chains b head at in
       let b_low = in_pool next sound.mark sound.count b head chain in
       let low : b < length heads = omega (arith, b_low, sound.counted) in
       let head_some : 0 < head.len = chain.some in
-      let longer : Head = record { owner = head.owner; last = free; len = head.len + 1 } in
+      let longer : Head = record { owner = head.owner; last = free; len = head.len + 1; read_on = head.read_on; passed = head.passed } in
       let first = first_free some in
       let l = last_marked next sound.mark sound.count b head chain in
       let n = blocks_for head.len in
@@ -393,6 +407,8 @@ module _ (region next : List ℕ) (heads : List (Option Head)) (free free_len : 
               (first.0, ap (popped sound.count b n) first.1 ∙ popped_first sound.count b n))
         ];
         last = (let e : blocks_for (head.len + 1) - 1 ≡ n = omega (arith, one_more) in ap (block_at next' b) e) ∙ new_last;
+        within = omega (arith, chain.within, one_more);
+        reading = kept head.passed chain.within ∙ chain.reading;
       } in
       record {
         count = sound.count;
@@ -415,13 +431,13 @@ module _ (region next : List ℕ) (heads : List (Option Head)) (free free_len : 
             absurd (let e : sound.count ≡ b = parts.0 in omega arith)));
       }
 
-  pub push_in_new_block_slots : (b : ℕ) (head : Head) (byte : ℕ) → get_or heads b None ≡ Some head → head.len % 32 ≡ 0 → 0 < free_len → slots_of (set region (32 * free) byte) (set next head.last free) (set heads b (Some (record { owner = head.owner; last = free; len = head.len + 1 }))) ≡ put (slots_of region next heads) b head.owner (chain_bytes region next b head.len ++ byte ∷ [])
+  pub push_in_new_block_slots : (b : ℕ) (head : Head) (byte : ℕ) → get_or heads b None ≡ Some head → head.len % 32 ≡ 0 → 0 < free_len → slots_of (set region (32 * free) byte) (set next head.last free) (set heads b (Some (record { owner = head.owner; last = free; len = head.len + 1; read_on = head.read_on; passed = head.passed }))) ≡ put (slots_of region next heads) b head.owner (chain_bytes region next b head.len ++ byte ∷ [])
   push_in_new_block_slots b head byte at full some =
       let chain = sound.chains b head at in
       let b_low = in_pool next sound.mark sound.count b head chain in
       let low : b < length heads = omega (arith, b_low, sound.counted) in
       let head_some : 0 < head.len = chain.some in
-      let longer : Head = record { owner = head.owner; last = free; len = head.len + 1 } in
+      let longer : Head = record { owner = head.owner; last = free; len = head.len + 1; read_on = head.read_on; passed = head.passed } in
       let first = first_free some in
       let l = last_marked next sound.mark sound.count b head chain in
       let n = blocks_for head.len in
@@ -512,6 +528,8 @@ module _ (region next : List ℕ) (heads : List (Option Head)) (free free_len : 
                     subst (λ x. IsMarked mark sound.count x c i) (sym (same i i_low))
                     (m.0, ap (freed sound.count b n) m.1 ∙ freed_other sound.count b n c i apart (λ s. absurd (omega arith)));
                 last = same (blocks_for h.len - 1) (omega arith) ∙ c_chain.last;
+                within = c_chain.within;
+                reading = same h.passed c_chain.within ∙ c_chain.reading;
               }
         ];
         spare = λ k k_low. elim (cases_lt k n) [
@@ -600,12 +618,12 @@ module _ (region next : List ℕ) (heads : List (Option Head)) (slots : List (Op
 -- ---- another owner
 
 module _ (region next : List ℕ) (heads : List (Option Head)) (free free_len : ℕ) (sound : IsSound region next heads free free_len) where
-  pub set_owner_sound : (b owner : ℕ) (head : Head) → get_or heads b None ≡ Some head → IsSound region next (set heads b (Some (record { owner = owner; last = head.last; len = head.len }))) free free_len
+  pub set_owner_sound : (b owner : ℕ) (head : Head) → get_or heads b None ≡ Some head → IsSound region next (set heads b (Some (record { owner = owner; last = head.last; len = head.len; read_on = head.read_on; passed = head.passed }))) free free_len
   set_owner_sound b owner head at =
       let chain = sound.chains b head at in
       let low : b < length heads = omega (arith, in_pool next sound.mark sound.count b head chain, sound.counted) in
-      let new : Head = record { owner = owner; last = head.last; len = head.len } in
-      let kept : IsChain next sound.mark sound.count b new = record { some = chain.some; marked = chain.marked; last = chain.last } in
+      let new : Head = record { owner = owner; last = head.last; len = head.len; read_on = head.read_on; passed = head.passed } in
+      let kept : IsChain next sound.mark sound.count b new = record { some = chain.some; marked = chain.marked; last = chain.last; within = chain.within; reading = chain.reading } in
       record {
         count = sound.count;
         counted = length-set heads b (Some new) ∙ sound.counted;
@@ -621,14 +639,51 @@ module _ (region next : List ℕ) (heads : List (Option Head)) (free free_len : 
         spare = sound.spare;
       }
 
-  pub set_owner_slots : (b owner : ℕ) (head : Head) → get_or heads b None ≡ Some head → slots_of region next (set heads b (Some (record { owner = owner; last = head.last; len = head.len }))) ≡ put (slots_of region next heads) b owner (chain_bytes region next b head.len)
+  pub set_owner_slots : (b owner : ℕ) (head : Head) → get_or heads b None ≡ Some head → slots_of region next (set heads b (Some (record { owner = owner; last = head.last; len = head.len; read_on = head.read_on; passed = head.passed }))) ≡ put (slots_of region next heads) b owner (chain_bytes region next b head.len)
   set_owner_slots b owner head at =
       let low : b < length heads = omega (arith, in_pool next sound.mark sound.count b head (sound.chains b head at), sound.counted) in
-      let new : Head = record { owner = owner; last = head.last; len = head.len } in
+      let new : Head = record { owner = owner; last = head.last; len = head.len; read_on = head.read_on; passed = head.passed } in
       slots_set region next region next heads (set heads b (Some new)) b (Some (record { owner = owner; bytes = chain_bytes region next b head.len }))
       (length-set heads b (Some new)) low
       (ap (held_by region next b) (get_or-set_same heads b (Some new) None low))
       (λ c apart. ap (held_by region next c) (get_or-set_other heads b c (Some new) None apart))
+
+  -- ---- reading goes on at another block
+
+  pub read_on_sound : (b block passed : ℕ) (head : Head) → get_or heads b None ≡ Some head → passed < blocks_for head.len → block ≡ block_at next b passed → IsSound region next (set heads b (Some (record { owner = head.owner; last = head.last; len = head.len; read_on = block; passed = passed }))) free free_len
+  read_on_sound b block passed head at low block_is =
+      let chain = sound.chains b head at in
+      let b_low : b < length heads = omega (arith, in_pool next sound.mark sound.count b head chain, sound.counted) in
+      let new : Head = record { owner = head.owner; last = head.last; len = head.len; read_on = block; passed = passed } in
+      let kept : IsChain next sound.mark sound.count b new = record { some = chain.some; marked = chain.marked; last = chain.last; within = low; reading = sym block_is } in
+      record {
+        count = sound.count;
+        counted = length-set heads b (Some new) ∙ sound.counted;
+        links = sound.links;
+        bytes = sound.bytes;
+        few = sound.few;
+        mark = sound.mark;
+        chains = λ c h e. elim (cases_eq c b) [
+          | inl same ↦ subst (λ x. IsChain next sound.mark sound.count x h) (sym same)
+              (subst (λ g. IsChain next sound.mark sound.count b g) (sym (this_head region next heads free free_len sound b new h b_low (subst (λ x. get_or (set heads b (Some new)) x None ≡ Some h) same e))) kept)
+          | inr apart ↦ sound.chains c h (other_head region next heads free free_len sound b (Some new) c (Some h) apart e)
+        ];
+        spare = sound.spare;
+      }
+
+  pub read_on_slots : (b block passed : ℕ) (head : Head) → get_or heads b None ≡ Some head → slots_of region next (set heads b (Some (record { owner = head.owner; last = head.last; len = head.len; read_on = block; passed = passed }))) ≡ slots_of region next heads
+  unfolding slots_of
+  read_on_slots b block passed head at =
+      let low : b < length heads = omega (arith, in_pool next sound.mark sound.count b head (sound.chains b head at), sound.counted) in
+      let new : Head = record { owner = head.owner; last = head.last; len = head.len; read_on = block; passed = passed } in
+      let len = length-set heads b (Some new) in
+      ap (λ n. map (λ c. held_by region next c (get_or (set heads b (Some new)) c None)) (range_with_len 0 n)) len
+      ∙ same_slots (λ c. held_by region next c (get_or (set heads b (Some new)) c None)) (λ c. held_by region next c (get_or heads c None)) (length heads)
+      (λ c. elim (cases_eq c b) [
+        | inl same ↦ subst (λ x. held_by region next x (get_or (set heads b (Some new)) x None) ≡ held_by region next x (get_or heads x None)) (sym same)
+            (ap (held_by region next b) (get_or-set_same heads b (Some new) None low) ∙ sym (ap (held_by region next b) at))
+        | inr apart ↦ ap (held_by region next c) (get_or-set_other heads b c (Some new) None apart)
+      ])
 
   -- ---- bytes copied out
 
@@ -672,7 +727,25 @@ module _ (region next : List ℕ) (heads : List (Option Head)) (free free_len : 
           let len = len_says region next heads slots view b head e in
           copied_bytes region next b head.len from count (omega (arith, len)) (omega (arith, len)) ∙ ap (λ bs. take count (drop from bs)) (sym (bytes_say region next heads slots view b head e))
 
+  pub copied_out : (from count : ℕ) (out new : List ℕ) → from ≤ length (bytes_of slots b) → count ≡ min (length (bytes_of slots b) - from) (length out) → new ≡ map (byte_at region next b) (range_with_len from (length (take count out)))
+      → new ++ drop count out ≡ take count (drop from (bytes_of slots b)) ++ drop count out
+  copied_out from count out new low count_is new_is =
+      let len : length (take count out) ≡ count = omega (arith, length-take count out, count_is) in
+      ap (λ bs. bs ++ drop count out) (new_is ∙ (ap (λ n. map (byte_at region next b) (range_with_len from n)) len ∙ bytes_copied from count low (omega (arith, count_is))))
+
 -- ---- walking
+
+-- a block reached from one on the way to it
+pub block_on : (next : List ℕ) (first passed steps block : ℕ) → block_at next first passed ≡ block → passed ≤ steps → block_at next block (steps - passed) ≡ block_at next first steps
+block_on next first passed steps block at low =
+    let e : passed + (steps - passed) ≡ steps = omega arith in
+    ap (λ b. block_at next b (steps - passed)) (sym at) ∙ (behind next first passed (steps - passed) ∙ ap (block_at next first) e)
+
+-- the blocks on that way lie in the pool
+pub blocks_on : (next : List ℕ) (first passed steps block : ℕ) → block_at next first passed ≡ block → ((k : ℕ) → k < steps → block_at next first k < length next) → (k : ℕ) → k < steps - passed → block_at next block k < length next
+blocks_on next first passed steps block at reached k low =
+    let there : block_at next block k ≡ block_at next first (passed + k) = ap (λ b. block_at next b k) (sym at) ∙ behind next first passed k in
+    subst (λ b. b < length next) (sym there) (reached (passed + k) (omega arith))
 
 pub block_at-more : (next : List ℕ) (first k : ℕ) → get_or next (block_at next first k) 0 ≡ block_at next first (k + 1)
 block_at-more next first k = rw add-one refl

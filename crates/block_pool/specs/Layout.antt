@@ -25,11 +25,13 @@ slots_of region next heads =
 abbrev pub IsMarked : (ℕ → ℕ × ℕ) → ℕ → ℕ → ℕ → ℕ → Type 0
 IsMarked mark count block chain place = (block < count) × (mark block ≡ (chain, place))
 
--- a chain lies in blocks that have its marks
+-- A chain lies in blocks that have its marks, and reading goes on at one of them.
 pub record IsChain (next : List ℕ) (mark : ℕ → ℕ × ℕ) (count block : ℕ) (head : Head) : Type 0 where
   pub some : 0 < head.len
   pub marked : (k : ℕ) → k < blocks_for head.len → IsMarked mark count (block_at next block k) block k
   pub last : block_at next block (blocks_for head.len - 1) ≡ head.last
+  pub within : head.passed < blocks_for head.len
+  pub reading : block_at next block head.passed ≡ head.read_on
 
 -- no block lies in two chains, nor in a chain and the free list, nor twice in one
 pub record IsSound (region next : List ℕ) (heads : List (Option Head)) (free free_len : ℕ) : Type 0 where

@@ -1,5 +1,5 @@
 //! Blocks of memory in one region, linked into chains and a list of free blocks.
-ghost use Rattle.std.specs.Prelude.{◌≡◌, ℕ, ◌+◌, ◌*◌, ◌^◌, ◌<◌, ◌≤◌, length, map, replicate, None, Some, IsSome, IfOk, slice_index_or};
+ghost use Rattle.std.specs.Prelude.{◌≡◌, ℕ, ◌+◌, ◌*◌, ◌/◌, ◌^◌, ◌<◌, ◌≤◌, length, map, replicate, None, Some, IsSome, IfOk, slice_index_or};
 ghost use Rattle.std.specs.List.{range_with_len};
 ghost use Rattle.block_pool.specs.Links.{block_at, byte_at};
 
@@ -17,6 +17,10 @@ struct Head {
     last: u16,
     /// Its length in bytes, at least 1.
     len: u32,
+    /// The block at which reading goes on.
+    read_on: u16,
+    /// How many of its blocks lie before that one.
+    passed: u32,
 }
 
 /// The chain that begins at a block where one does.
@@ -43,14 +47,38 @@ fn walk(next: &[u16], first: u16, steps: usize) -> u16
     block
 }
 
-/// Fills `out` with bytes of the chain that begins at `first`, from place `from` on.
-fn copy_from(region: &[u8], next: &[u16], first: u16, from: usize, out: &mut [u8])
+/// The block `steps` links behind the first one of a chain: on from the block at which reading goes on, where that doesn't lie
+/// behind it.
+fn seek(next: &[u16], first: u16, head: &Head, steps: usize) -> u16
+    requires reached { (k : ℕ) → k < steps → block_at next.now first k < length next.now }
+    requires marked { block_at next.now first head.now.passed ≡ head.now.read_on }
+    ensures { result ≡ block_at next.now first steps }
+{
+    let passed = head.passed as usize;
+    if passed <= steps {
+        walk(next, head.read_on, steps - passed)
+    } else {
+        walk(next, first, steps)
+    }
+}
+
+/// Fills `out` with bytes of the chain that begins at `first`, from place `from` on. The block of the place behind them.
+fn copy_from(
+    region: &[u8],
+    next: &[u16],
+    first: u16,
+    head: &Head,
+    from: usize,
+    out: &mut [u8],
+) -> u16
     requires whole { length region.now ≡ 32 * length next.now }
     requires reached { (k : ℕ) → k * 32 < from + length out.old → block_at next.now first k < length next.now }
+    requires marked { block_at next.now first head.now.passed ≡ head.now.read_on }
     requires short { from + length out.old < 2 ^ 32 }
-    ensures { out.new ≡ map (byte_at region.now next.now first) (range_with_len from (length out.old)) }
+    ensures copied { out.new ≡ map (byte_at region.now next.now first) (range_with_len from (length out.old)) }
+    ensures behind { result ≡ block_at next.now first ((from + length out.old) / 32) }
 {
-    let mut block = walk(next, first, from / BLOCK_BYTES);
+    let mut block = seek(next, first, head, from / BLOCK_BYTES);
     let mut place = from;
     for byte in out.iter_mut() {
         *byte = region[BLOCK_BYTES * block as usize + place % BLOCK_BYTES];
@@ -59,6 +87,7 @@ fn copy_from(region: &[u8], next: &[u16], first: u16, from: usize, out: &mut [u8
             block = next[block as usize];
         }
     }
+    block
 }
 
 /// Links from each of so many blocks to the one behind it.
@@ -156,6 +185,8 @@ impl Blocks {
             owner,
             last: block,
             len: 1,
+            read_on: block,
+            passed: 0,
         });
         block
     }
@@ -175,6 +206,8 @@ impl Blocks {
             owner: head.owner,
             last: head.last,
             len: head.len + 1,
+            read_on: head.read_on,
+            passed: head.passed,
         });
     }
 
@@ -198,6 +231,8 @@ impl Blocks {
             owner: head.owner,
             last: block,
             len: head.len + 1,
+            read_on: head.read_on,
+            passed: head.passed,
         });
     }
 
@@ -260,6 +295,8 @@ impl Blocks {
             owner,
             last: head.last,
             len: head.len,
+            read_on: head.read_on,
+            passed: head.passed,
         });
     }
 
@@ -273,13 +310,47 @@ impl Blocks {
     {
         let left = (self.len(first) - from) as usize;
         let count = left.min(out.len());
-        copy_from(
+        let head = head_at(&self.heads, first);
+        let _block = copy_from(
             &self.region,
             &self.next,
             first,
+            &head,
             from as usize,
             &mut out[..count],
         );
+        count
+    }
+
+    /// Copies as `copy_out` does, and keeps the block behind what it copied, so that the next call goes on there without walking
+    /// along the chain.
+    pub fn copy_on(&mut self, first: u16, from: u32, out: &mut [u8]) -> usize
+        requires some { 0 < length (bytes_of self.old.slots first) }
+        requires in_chain { from ≤ length (bytes_of self.old.slots first) }
+        ensures count { result ≡ min (length (bytes_of self.old.slots first) - from) (length out.old) }
+        ensures copied { out.new ≡ take result (drop from (bytes_of self.old.slots first)) ++ drop result out.old }
+        ensures unchanged { self.new ≡ self.old }
+    {
+        let head = head_at(&self.heads, first);
+        let left = (head.len - from) as usize;
+        let count = out.len().min(left);
+        let read_on = copy_from(
+            &self.region,
+            &self.next,
+            first,
+            &head,
+            from as usize,
+            &mut out[..count],
+        );
+        if count < left {
+            self.heads[first as usize] = Some(Head {
+                owner: head.owner,
+                last: head.last,
+                len: head.len,
+                read_on,
+                passed: (from + count as u32) / BLOCK_BYTES as u32,
+            });
+        }
         count
     }
 }

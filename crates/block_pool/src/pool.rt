@@ -105,6 +105,21 @@ impl Pool {
         }
     }
 
+    /// Copies as `copy_out` does, and keeps the place behind what it copied: a call that goes on there costs the same wherever that
+    /// lies in the chain. One for an earlier place walks along the chain from its first block.
+    pub fn copy_on(&mut self, chain: &Chain, from: u32, out: &mut [u8]) -> usize
+        requires live { IsLive self.old chain.now }
+        requires in_chain { from ≤ length (chain_bytes self.old chain.now) }
+        ensures count { result ≡ min (length (chain_bytes self.old chain.now) - from) (length out.old) }
+        ensures copied { out.new ≡ take result (drop from (chain_bytes self.old chain.now)) ++ drop result out.old }
+        ensures unchanged { self.new ≡ self.old }
+    {
+        match chain.first {
+            Some(first) => self.blocks.copy_on(first, from, out),
+            None => 0,
+        }
+    }
+
     /// Sets one block aside for an owner: it counts as used.
     pub fn set_aside(&mut self, owner: u8) -> Result<(), NoRoom>
         requires { HasQuota self.old owner }

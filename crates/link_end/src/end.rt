@@ -82,12 +82,13 @@ impl End {
     }
 
     // Offers the fragments that wait, while there is room for them.
-    fn refill(&mut self, pool: &Pool)
-        requires { OutboxLiesIn pool.now self.old.outbox }
-        ensures stands { (m : Machine) → Halfway self.old pool.now m → StandsFor self.new pool.now m }
+    fn refill(&mut self, pool: &mut Pool)
+        requires { OutboxLiesIn pool.old self.old.outbox }
+        ensures stands { (m : Machine) → Halfway self.old pool.old m → StandsFor self.new pool.new m }
         ensures boxes { (self.new.outbox.queue ≡ self.old.outbox.queue) × (self.new.outbox.owner ≡ self.old.outbox.owner)
             × (self.new.inbox ≡ self.old.inbox) }
         ensures acts { self.new.acts ≡ self.old.acts }
+        ensures pool { pool.new ≡ pool.old }
     {
         while self.shdlc.takes_fragment() {
             let Some(info) = self.outbox.next_fragment(pool) else {

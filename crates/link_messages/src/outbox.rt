@@ -112,13 +112,14 @@ impl Outbox {
     }
 
     /// The first fragment that wasn't cut yet, which is cut now. None where all were.
-    pub fn next_fragment(&mut self, pool: &Pool) -> Option<Info>
-        requires { LiesIn pool.now self.old }
-        ensures fragment { waiting_in pool.now self.old ≡ option_to_list result ++ waiting_in pool.now self.new }
-        ensures none { IsNone result ↔ (waiting_in pool.now self.old ≡ []) }
+    pub fn next_fragment(&mut self, pool: &mut Pool) -> Option<Info>
+        requires { LiesIn pool.old self.old }
+        ensures fragment { waiting_in pool.old self.old ≡ option_to_list result ++ waiting_in pool.old self.new }
+        ensures none { IsNone result ↔ (waiting_in pool.old self.old ≡ []) }
         ensures kept { OnSome result (self.new ≡ record self.old { cut = self.old.cut + 1 }) }
         ensures same { IfNone result (self.new ≡ self.old) }
-        ensures lies { LiesIn pool.now self.new }
+        ensures lies { LiesIn pool.old self.new }
+        ensures unchanged { pool.new ≡ pool.old }
     {
         match self.fragment_at(pool) {
             Some(info) => {
@@ -130,9 +131,10 @@ impl Outbox {
     }
 
     // The first fragment that wasn't cut yet, where there is one.
-    fn fragment_at(&self, pool: &Pool) -> Option<Info>
-        requires { LiesIn pool.now self.now }
-        ensures { result ≡ slice_get (fragments_of (messages_in pool.now self.now)) self.now.cut }
+    fn fragment_at(&self, pool: &mut Pool) -> Option<Info>
+        requires { LiesIn pool.old self.now }
+        ensures fragment { result ≡ slice_get (fragments_of (messages_in pool.old self.now)) self.now.cut }
+        ensures unchanged { pool.new ≡ pool.old }
     {
         let mut place = self.cut;
         let mut at = 0;
@@ -238,12 +240,13 @@ fn fragment_count(pool: &Pool, chain: &Chain) -> u32
 }
 
 /// A fragment of a message, by its place.
-fn fragment_of(pool: &Pool, queued: &Queued, place: u32) -> Info
-    requires live { IsLive pool.now queued.now.chain }
+fn fragment_of(pool: &mut Pool, queued: &Queued, place: u32) -> Info
+    requires live { IsLive pool.old queued.now.chain }
     requires pipe { queued.now.pipe < 112 }
-    requires within { place < packet_count (length (chain_bytes pool.now queued.now.chain)) }
-    requires short { length (chain_bytes pool.now queued.now.chain) < 2 ^ 32 }
-    ensures { slice_get (map bytes_of (packets_of queued.now.pipe (chain_bytes pool.now queued.now.chain))) place ≡ Some result }
+    requires within { place < packet_count (length (chain_bytes pool.old queued.now.chain)) }
+    requires short { length (chain_bytes pool.old queued.now.chain) < 2 ^ 32 }
+    ensures fragment { slice_get (map bytes_of (packets_of queued.now.pipe (chain_bytes pool.old queued.now.chain))) place ≡ Some result }
+    ensures unchanged { pool.new ≡ pool.old }
 {
     let packet = cut(
         pool,

@@ -86,7 +86,7 @@ fn a_long_message_is_cut(rt: HostRuntime) -> Result<(), Fail> {
     let mut chain = pool.chain(0);
     assert_eq!(rt; pool.take(&mut chain, &[7; 4096]), Ok(()));
     for at in 0..147u32 {
-        let packet = cut(&pool, &chain, 2, 28 * at);
+        let packet = cut(&mut pool, &chain, 2, 28 * at);
         assert_eq!(rt; packet.last, at == 146);
         assert_eq!(rt; packet.bytes.len(), if at == 146 { 8 } else { 28 });
     }

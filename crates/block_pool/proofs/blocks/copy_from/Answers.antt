@@ -24,7 +24,7 @@ loop-byte-preserved c =
           (get_or-set_same c.loop-byte.out i byte 0 low ∙ here),
     )
 
-pub returns : goal.returns
-returns c =
+pub returns-clause-copied : goal.returns-clause-copied
+returns-clause-copied c =
     made_from (byte_at c.args.region.now c.args.next.now c.args.first) c.args.from (length c.args.out.now) c.loop-byte.out c.loop-byte.auto.out
     (λ k low. c.loop-byte.invariant.2 k (omega arith))

@@ -8,8 +8,8 @@ use Rattle.link_messages.proofs.outbox.fragment_of.Goals as goal
 pub overflow_mul-place : goal.overflow_mul-place
 overflow_mul-place c = omega (arith, c.requires.within, c.requires.short)
 
-pub returns : goal.returns
-returns c =
+pub returns-clause-fragment : goal.returns-clause-fragment
+returns-clause-fragment c =
     let packets = packets_of c.args.queued.now.pipe (chain_bytes c.args.pool.now c.args.queued.now.chain) in
     let place : c.args.place ≡ c.args.place * 28 / 28 = omega arith in
     slice_get-map bytes_of packets c.args.place

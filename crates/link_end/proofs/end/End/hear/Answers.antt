@@ -1,8 +1,10 @@
 use Rattle.std.proofs.Common.{◌≡◌, Bool, sym, ap, ◌∙◌, subst, refl}
 use Rattle.std.specs.Prelude.{Option, IfSome, is_some}
+use Rattle.block_pool.specs.Pool.{PoolState}
 use Rattle.shdlc_core.specs.Machine.{Fragment}
 use Rattle.link_messages.specs.declared.inbox.Inbox.{Inbox}
 use Rattle.link_messages.specs.Incoming.{IsReady, under_way}
+use Rattle.link_end.specs.Ends.{LeavesBoxes}
 use Rattle.link_end.proofs.HearLemmas.{over_stands, over_told, may_receive, cut_enough, goes_on, breaks_off, fault_lies, broken_elsewhere, received_lies, some_brought}
 use Rattle.link_end.proofs.BoxLemmas.{leaves_more, leaves_same}
 use Rattle.link_end.proofs.«end».End.hear.Goals as goal
@@ -51,8 +53,10 @@ returns-in-Ok-clause-elsewhere c =
     let on = goes_on c.args.pool.now c.receive.new.pool c.acknowledge-acked.new.pool c.args.self.now c.requires.stands.0 c.args.control.now c.take-taken.new.self c.take-taken.result c.receive.new.inbox c.acknowledge-acked.new.self
     c.acknowledge-acked.result c.requires.stands.1 c.take-taken.ensures.stands c.take-taken.ensures.answer (sym c.is_some.ensures ∙ c.if-is_some.false) (c.in-Ok.ensures.taken.0 refl) c.in-Ok.ensures.ok g.gives g.all g.rest in
     let boxes = c.refill.ensures.boxes in
-    leaves_same c.args.pool.now c.acknowledge-acked.new.pool c.args.self.now.outbox c.acknowledge-acked.new.self c.refill.new.self.outbox c.args.self.now.inbox c.receive.new.inbox c.refill.new.self.inbox
-    on.elsewhere boxes.1 boxes.0 boxes.2
+    let P : PoolState → Type 0 = λ p. LeavesBoxes c.args.pool.now p c.args.self.now.outbox c.args.self.now.inbox c.refill.new.self.outbox c.refill.new.self.inbox in
+    subst P (sym c.refill.ensures.pool)
+    (leaves_same c.args.pool.now c.acknowledge-acked.new.pool c.args.self.now.outbox c.acknowledge-acked.new.self c.refill.new.self.outbox c.args.self.now.inbox c.receive.new.inbox c.refill.new.self.inbox
+    on.elsewhere boxes.1 boxes.0 boxes.2)
 
 pub forget-requires-in-Err-clause-outbox : goal.forget-requires-in-Err-clause-outbox
 forget-requires-in-Err-clause-outbox c =

@@ -25,7 +25,7 @@ returns-in-Ok-clause-stands c m h =
     let x : Message = (c.args.pipe, chain_bytes c.args.pool.now c.args.chain) in
     let up : m.shdlc.phase ≡ Up = sym h.half.link.kept.phase ∙ c.requires.up in
     let fits : blocks_for (length x.1) ≤ spare m = subst (λ n. blocks_for (length x.1) ≤ n) (sym (spare_is c.args.pool.now c.args.self.now m h)) (c.in-Ok.ensures.room.0 refl) in
-    let P : LinkEnd → Type 0 = λ y. StandsFor c.refill.new.self c.accept_chain.new.pool y in
+    let P : LinkEnd → Type 0 = λ y. StandsFor c.refill.new.self c.refill.new.pool y in
     subst P (sym (gives m x (refused_none m x up (let l = c.len-len.ensures in omega (arith, l, c.if-len-gt-MAX_MESSAGE.false)) fits)))
     (c.refill.ensures.stands _ (message_passed c.args.pool.now c.accept_chain.new.pool c.args.self.now c.accept_chain.new.self c.args.chain m x h c.requires.up c.requires.sendable c.requires.chain c.in-Ok.ensures.ok c.in-Ok.ensures.elsewhere))
 

@@ -23,6 +23,6 @@ pub returns-in-Down-clause-stands : goal.returns-in-Down-clause-stands
 returns-in-Down-clause-stands c m h =
     let o : is_open m.role ≡ true = sym (ap is_open h.half.role) ∙ (sym c.is_open.ensures ∙ c.if-not-is_open.false) in
     let down : m.shdlc.phase ≡ Down = sym h.half.link.kept.phase ∙ sym c.in-Down.ensures.value in
-    let P : LinkEnd → Type 0 = λ x. StandsFor c.refill.new.self c.args.pool.now x in
+    let P : LinkEnd → Type 0 = λ x. StandsFor c.refill.new.self c.refill.new.pool x in
     subst P (sym (reset_down m c.args.window o down))
     (c.refill.ensures.stands _ (reset_begins c.args.pool.now c.args.self.now m c.ask-in-Down.new.shdlc c.args.window h c.requires.window c.ask-in-Down.ensures down))

@@ -6,7 +6,7 @@ use Rattle.shdlc_core.specs.declared.answers.LinkState.TheVariants.{Up}
 use Rattle.link_machine.specs.Machine.{LinkEnd, Message, spare}
 use Rattle.link_machine.specs.Machine.Refused.{TooLong, Full}
 use Rattle.link_messages.specs.declared.outbox.Outbox.{Outbox}
-use Rattle.link_end.specs.Ends.{StandsFor}
+use Rattle.link_end.specs.Ends.{StandsFor, LeavesBoxes}
 use Rattle.link_end.specs.Reports.{by_refusal_told}
 use Rattle.link_end.specs.declared.report.SendRefused.TheVariants.{Full as SendFull}
 use Rattle.link_end.proofs.NodeLemmas.{spare_is, refused_long, refused_full, refused_none, refusal_stays, gives, message_given}
@@ -25,7 +25,7 @@ returns-in-Ok-clause-stands c m h =
     let x : Message = (c.args.pipe, c.args.message.now) in
     let up : m.shdlc.phase ≡ Up = sym h.half.link.kept.phase ∙ c.requires.up in
     let fits : blocks_for (length x.1) ≤ spare m = subst (λ n. blocks_for (length x.1) ≤ n) (sym (spare_is c.args.pool.now c.args.self.now m h)) (c.in-Ok.ensures.room.0 refl) in
-    let P : LinkEnd → Type 0 = λ y. StandsFor c.refill.new.self c.accept.new.pool y in
+    let P : LinkEnd → Type 0 = λ y. StandsFor c.refill.new.self c.refill.new.pool y in
     subst P (sym (gives m x (refused_none m x up c.if-message.false fits)))
     (c.refill.ensures.stands _ (message_given c.args.pool.now c.accept.new.pool c.args.self.now c.accept.new.self m x h c.requires.up c.requires.sendable c.in-Ok.ensures.ok c.in-Ok.ensures.elsewhere).0)
 
@@ -40,9 +40,11 @@ pub returns-in-Ok-clause-elsewhere : goal.returns-in-Ok-clause-elsewhere
 returns-in-Ok-clause-elsewhere c =
     let x : Message = (c.args.pipe, c.args.message.now) in
     let boxes = c.refill.ensures.boxes in
-    leaves_same c.args.pool.now c.accept.new.pool c.args.self.now.outbox c.accept.new.self c.refill.new.self.outbox c.args.self.now.inbox c.args.self.now.inbox c.refill.new.self.inbox
+    let P : PoolState → Type 0 = λ p. LeavesBoxes c.args.pool.now p c.args.self.now.outbox c.args.self.now.inbox c.refill.new.self.outbox c.refill.new.self.inbox in
+    subst P (sym c.refill.ensures.pool)
+    (leaves_same c.args.pool.now c.accept.new.pool c.args.self.now.outbox c.accept.new.self c.refill.new.self.outbox c.args.self.now.inbox c.args.self.now.inbox c.refill.new.self.inbox
     (message_given c.args.pool.now c.accept.new.pool c.args.self.now c.accept.new.self c.requires.stands.0 x c.requires.stands.1 c.requires.up c.requires.sendable c.in-Ok.ensures.ok c.in-Ok.ensures.elsewhere).1
-    boxes.1 boxes.0 boxes.2
+    boxes.1 boxes.0 boxes.2)
 
 pub returns-in-Err-clause-stands : goal.returns-in-Err-clause-stands
 returns-in-Err-clause-stands c m h =

@@ -1,23 +1,32 @@
 use Rattle.std.proofs.Common.{◌≡◌, ℕ, [], sym, ap, ◌∙◌, arith, map, refl}
 use Rattle.std.specs.Prelude.{None, slice_get}
 use Rattle.std.proofs.lemmas.Option.{slice_get_within}
-use Rattle.block_pool.specs.Pool.{chain_bytes}
+use Rattle.block_pool.specs.Pool.{PoolState, chain_bytes}
 use Rattle.hcp_packet.specs.Packets.{packets_of, bytes_of, fragments_of}
-use Rattle.link_messages.specs.Outgoing.{message_in, messages_of_all}
+use Rattle.link_messages.specs.Outgoing.{message_in, messages_in, messages_of_all}
 use Rattle.link_messages.proofs.Among.{length-fragments}
 use Rattle.link_messages.proofs.OutgoingLemmas.{looks_at, looks_on, slice_get_inside, drop_none, few_queued}
 use Rattle.link_messages.proofs.outbox.Outbox.fragment_at.Goals as goal
 
-pub fragment_of-requires-clause-pipe : goal.fragment_of-requires-clause-pipe
-fragment_of-requires-clause-pipe c = (looks_at c.args.pool.now c.args.self.now c.loop-queued.at c.loop-queued.place c.in-Some.queued.now c.loop-queued.invariant c.in-Some.ensures).1
+pub fragment_count-count-requires : goal.fragment_count-count-requires
+fragment_count-count-requires c = (looks_at c.loop-queued.pool c.args.self.now c.loop-queued.at c.loop-queued.place c.in-Some.queued.now c.loop-queued.invariant.0 c.in-Some.ensures).0
 
-pub returns-then-place-count : goal.returns-then-place-count
-returns-then-place-count c =
+pub fragment_of-requires-clause-live : goal.fragment_of-requires-clause-live
+fragment_of-requires-clause-live c = (looks_at c.loop-queued.pool c.args.self.now c.loop-queued.at c.loop-queued.place c.in-Some.queued.now c.loop-queued.invariant.0 c.in-Some.ensures).0
+
+pub fragment_of-requires-clause-pipe : goal.fragment_of-requires-clause-pipe
+fragment_of-requires-clause-pipe c = (looks_at c.loop-queued.pool c.args.self.now c.loop-queued.at c.loop-queued.place c.in-Some.queued.now c.loop-queued.invariant.0 c.in-Some.ensures).1
+
+pub returns-then-place-count-clause-fragment : goal.returns-then-place-count-clause-fragment
+returns-then-place-count-clause-fragment c =
     let q = c.in-Some.queued.now in
-    let here = looks_at c.args.pool.now c.args.self.now c.loop-queued.at c.loop-queued.place q c.loop-queued.invariant c.in-Some.ensures in
-    let fragments = map bytes_of (packets_of q.pipe (chain_bytes c.args.pool.now q.chain)) in
-    sym c.fragment_of.ensures
-    ∙ (sym (slice_get_inside fragments _ c.loop-queued.place (omega (arith, length-fragments (message_in c.args.pool.now q), c.fragment_count-count.ensures.count, c.if-place-count.true))) ∙ here.2)
+    let here = looks_at c.loop-queued.pool c.args.self.now c.loop-queued.at c.loop-queued.place q c.loop-queued.invariant.0 c.in-Some.ensures in
+    let fragments = map bytes_of (packets_of q.pipe (chain_bytes c.loop-queued.pool q.chain)) in
+    sym c.fragment_of.ensures.fragment
+    ∙ (sym (slice_get_inside fragments _ c.loop-queued.place (omega (arith, length-fragments (message_in c.loop-queued.pool q), c.fragment_count-count.ensures.count, c.if-place-count.true))) ∙ (here.2 ∙ ap (λ (p : PoolState). slice_get (fragments_of (messages_in p c.args.self.now)) c.args.self.now.cut) c.loop-queued.invariant.1))
+
+pub returns-then-place-count-clause-unchanged : goal.returns-then-place-count-clause-unchanged
+returns-then-place-count-clause-unchanged c = c.fragment_of.ensures.unchanged ∙ c.loop-queued.invariant.1
 
 pub overflow_add-at : goal.overflow_add-at
 overflow_add-at c =
@@ -30,14 +39,20 @@ loop-queued-smaller c =
     omega arith
 
 pub loop-queued-preserved : goal.loop-queued-preserved
-loop-queued-preserved c =
-    looks_on c.args.pool.now c.args.self.now c.loop-queued.at c.loop-queued.place c.fragment_count-count.result c.in-Some.queued.now c.loop-queued.invariant c.in-Some.ensures
-    c.fragment_count-count.ensures.count c.if-place-count.false
+loop-queued-preserved c = (
+  looks_on c.loop-queued.pool c.args.self.now c.loop-queued.at c.loop-queued.place c.fragment_count-count.result c.in-Some.queued.now c.loop-queued.invariant.0 c.in-Some.ensures
+      c.fragment_count-count.ensures.count c.if-place-count.false,
+  c.loop-queued.invariant.1,
+)
 
-pub returns : goal.returns
-returns c =
+pub returns-clause-fragment : goal.returns-clause-fragment
+returns-clause-fragment c =
     let none = drop_none c.args.self.now.queue.items c.loop-queued.at c.in_default.ensures in
-    sym (ap (λ l. slice_get (fragments_of (messages_of_all c.args.pool.now l)) c.loop-queued.place) none ∙ nothing c.loop-queued.place) ∙ (let f = c.loop-queued.invariant.fragment in f)
+    sym (ap (λ l. slice_get (fragments_of (messages_of_all c.loop-queued.pool l)) c.loop-queued.place) none ∙ nothing c.loop-queued.place) ∙ ((let f = c.loop-queued.invariant.0.fragment in f)
+    ∙ ap (λ (p : PoolState). slice_get (fragments_of (messages_in p c.args.self.now)) c.args.self.now.cut) c.loop-queued.invariant.1)
   where
     nothing : (n : ℕ) → slice_get (fragments_of []) n ≡ None
     nothing n = refl
+
+pub returns-clause-unchanged : goal.returns-clause-unchanged
+returns-clause-unchanged c = c.loop-queued.invariant.1

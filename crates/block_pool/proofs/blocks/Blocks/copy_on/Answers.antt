@@ -1,0 +1,80 @@
+use Rattle.std.proofs.Common.{◌≡◌, ℕ, ◌+◌, ◌-◌, ◌*◌, ◌/◌, ◌<◌, min, sym, ap, ◌∙◌, subst, arith, length, take, drop, map, get_or, List, length-take}
+use Rattle.std.specs.Prelude.{◌++◌, Option, None, Some, IsSome}
+use Rattle.std.specs.List.{range_with_len}
+use Rattle.block_pool.specs.Slots.{BlocksState, Held, bytes_of, blocks_for}
+use Rattle.block_pool.specs.Links.{block_at, byte_at}
+use Rattle.block_pool.specs.Layout.{slots_of}
+use Rattle.block_pool.proofs.LayoutLemmas.{blocks_reached, copied_out, has_head, len_says, read_on_sound, read_on_slots}
+use Rattle.block_pool.proofs.blocks.Blocks.copy_on.Goals as goal
+
+pub head_at-head-requires : goal.head_at-head-requires
+head_at-head-requires c =
+    let s = c.self.inside in
+    subst (λ hs. IsSome (get_or hs c.args.first None)) (sym c.deref.ensures.value)
+    (has_head s.region.items s.next.items s.heads.items c.args.self.now.slots (ap (λ (v : BlocksState). v.slots) c.self.view_is) c.args.first c.requires.some)
+
+pub overflow_sub-left : goal.overflow_sub-left
+overflow_sub-left c =
+    let s = c.self.inside in
+    let at : get_or s.heads.items c.args.first None ≡ Some c.head_at-head.result = rw c.deref.ensures.value at c.head_at-head.ensures.head in
+    let len_is = len_says s.region.items s.next.items s.heads.items c.args.self.now.slots (ap (λ (v : BlocksState). v.slots) c.self.view_is) c.args.first c.head_at-head.result at in
+    omega (arith, len_is, c.requires.in_chain)
+
+pub copy_from-read_on-requires-clause-reached : goal.copy_from-read_on-requires-clause-reached
+copy_from-read_on-requires-clause-reached c =
+    let s = c.self.inside in
+    let at : get_or s.heads.items c.args.first None ≡ Some c.head_at-head.result = rw c.deref.ensures.value at c.head_at-head.ensures.head in
+    let len_is = len_says s.region.items s.next.items s.heads.items c.args.self.now.slots (ap (λ (v : BlocksState). v.slots) c.self.view_is) c.args.first c.head_at-head.result at in
+    subst (λ (ns : List ℕ). (k : ℕ) → k * 32 < c.args.from + length (take c.min-count.result c.args.out.now) → block_at ns c.args.first k < length ns) (sym c.deref-3.ensures.value)
+    (λ k low. blocks_reached s.region.items s.next.items s.heads.items s.free s.free_len c.self.invariant c.args.self.now.slots (ap (λ (v : BlocksState). v.slots) c.self.view_is) c.args.first c.requires.some k
+    (omega (arith, length-take c.min-count.result c.args.out.now, c.min-count.ensures, len_is, c.requires.in_chain)))
+
+pub invariant_of-self : goal.invariant_of-self
+invariant_of-self c =
+    let s = c.self.inside in
+    let head = c.head_at-head.result in
+    let at : get_or s.heads.items c.args.first None ≡ Some head = rw c.deref.ensures.value at c.head_at-head.ensures.head in
+    let copied : length (take c.min-count.result c.args.out.now) ≡ c.min-count.result = omega (arith, length-take c.min-count.result c.args.out.now, c.min-count.ensures) in
+    let behind : c.copy_from-read_on.result ≡ block_at s.next.items c.args.first ((c.args.from + c.min-count.result) / 32) =
+    rw (c.deref-3.ensures.value, copied) at c.copy_from-read_on.ensures.behind in
+    let low : (c.args.from + c.min-count.result) / 32 < blocks_for head.len = omega (arith, c.if-count-left.true) in
+    read_on_sound s.region.items s.next.items s.heads.items s.free s.free_len c.self.invariant c.args.first c.copy_from-read_on.result ((c.args.from + c.min-count.result) / 32) head at low behind
+
+pub returns-then-count-left-clause-count : goal.returns-then-count-left-clause-count
+returns-then-count-left-clause-count c =
+    let s = c.self.inside in
+    let at : get_or s.heads.items c.args.first None ≡ Some c.head_at-head.result = rw c.deref.ensures.value at c.head_at-head.ensures.head in
+    let len_is = len_says s.region.items s.next.items s.heads.items c.args.self.now.slots (ap (λ (v : BlocksState). v.slots) c.self.view_is) c.args.first c.head_at-head.result at in
+    omega (arith, c.min-count.ensures, len_is)
+
+pub returns-then-count-left-clause-copied : goal.returns-then-count-left-clause-copied
+returns-then-count-left-clause-copied c =
+    let s = c.self.inside in
+    let at : get_or s.heads.items c.args.first None ≡ Some c.head_at-head.result = rw c.deref.ensures.value at c.head_at-head.ensures.head in
+    let len_is = len_says s.region.items s.next.items s.heads.items c.args.self.now.slots (ap (λ (v : BlocksState). v.slots) c.self.view_is) c.args.first c.head_at-head.result at in
+    copied_out s.region.items s.next.items s.heads.items s.free s.free_len c.self.invariant c.args.self.now.slots (ap (λ (v : BlocksState). v.slots) c.self.view_is) c.args.first c.requires.some
+    c.args.from c.min-count.result c.args.out.now c.copy_from-read_on.new.out c.requires.in_chain (omega (arith, c.min-count.ensures, len_is)) (rw (c.deref-2.ensures.value, c.deref-3.ensures.value) at c.copy_from-read_on.ensures.copied)
+
+pub returns-then-count-left-clause-unchanged : goal.returns-then-count-left-clause-unchanged
+returns-then-count-left-clause-unchanged c =
+    let s = c.self.inside in
+    let head = c.head_at-head.result in
+    let at : get_or s.heads.items c.args.first None ≡ Some head = rw c.deref.ensures.value at c.head_at-head.ensures.head in
+    ap (λ (ss : List (Option Held)). let v : BlocksState = record { slots = ss; free = s.free_len } in v)
+    (read_on_slots s.region.items s.next.items s.heads.items s.free s.free_len c.self.invariant c.args.first c.copy_from-read_on.result ((c.args.from + c.min-count.result) / 32) head at)
+    ∙ c.self.view_is
+
+pub returns-else-count-left-clause-count : goal.returns-else-count-left-clause-count
+returns-else-count-left-clause-count c =
+    let s = c.self.inside in
+    let at : get_or s.heads.items c.args.first None ≡ Some c.head_at-head.result = rw c.deref.ensures.value at c.head_at-head.ensures.head in
+    let len_is = len_says s.region.items s.next.items s.heads.items c.args.self.now.slots (ap (λ (v : BlocksState). v.slots) c.self.view_is) c.args.first c.head_at-head.result at in
+    omega (arith, c.min-count.ensures, len_is)
+
+pub returns-else-count-left-clause-copied : goal.returns-else-count-left-clause-copied
+returns-else-count-left-clause-copied c =
+    let s = c.self.inside in
+    let at : get_or s.heads.items c.args.first None ≡ Some c.head_at-head.result = rw c.deref.ensures.value at c.head_at-head.ensures.head in
+    let len_is = len_says s.region.items s.next.items s.heads.items c.args.self.now.slots (ap (λ (v : BlocksState). v.slots) c.self.view_is) c.args.first c.head_at-head.result at in
+    copied_out s.region.items s.next.items s.heads.items s.free s.free_len c.self.invariant c.args.self.now.slots (ap (λ (v : BlocksState). v.slots) c.self.view_is) c.args.first c.requires.some
+    c.args.from c.min-count.result c.args.out.now c.copy_from-read_on.new.out c.requires.in_chain (omega (arith, c.min-count.ensures, len_is)) (rw (c.deref-2.ensures.value, c.deref-3.ensures.value) at c.copy_from-read_on.ensures.copied)
