@@ -11,7 +11,7 @@ use Rattle.block_pool.specs.Slots.{Held, blocks_for, slot, put, bytes_in, bytes_
 use Rattle.block_pool.specs.Names.{bytes_at, IsLiveAt, put_at, removed_at, IsNamedAfter}
 use Rattle.block_pool.specs.Owners.{owner_at, with_aside, new_owners}
 use Rattle.block_pool.specs.Pool.{PoolState, quota_of, used_of, aside_of, spare_of}
-use Rattle.block_pool.specs.Counts.{blocks_in, blocks_held, IsCounted, IsFreeCount}
+use Rattle.block_pool.specs.Counts.{blocks_in, blocks_held, AreCounted, AreFree, IsCounted}
 use Rattle.block_pool.proofs.SlotLemmas.{slot_low}
 
 -- ---- sums
@@ -139,7 +139,7 @@ again_others slots o q (Some b) p live apart =
 no_owner : Owner
 no_owner = record { quota = 0; used = 0; aside = 0 }
 
-module _ (pool : PoolState) (counted : IsCounted pool) (free : ℕ) (rest : IsFreeCount pool free) where
+module _ (pool : PoolState) (counted : IsCounted pool) (free : ℕ) (rest : AreFree pool.owners free) where
   -- what is set aside is used
   aside_low : (i : ℕ) → i < length pool.owners → (owner_at pool.owners i).aside ≤ (owner_at pool.owners i).used
   aside_low i low = omega (arith, counted.used i low)
@@ -163,7 +163,7 @@ module _ (pool : PoolState) (counted : IsCounted pool) (o : ℕ) (has : o < leng
   chain_low name live = omega (arith, remove_held pool.slots o name live, counted.used o has)
 
   -- the owners' counts after one of them changed
-  pub counted_after : (slots : List (Option Held)) (used aside : ℕ) → used ≡ aside + blocks_held slots o → used ≤ quota_of pool o → ((p : ℕ) → p ≢ o → blocks_held slots p ≡ blocks_held pool.slots p) → IsCounted (record { slots = slots; owners = with_aside pool.owners o used aside })
+  pub counted_after : (slots : List (Option Held)) (used aside : ℕ) → used ≡ aside + blocks_held slots o → used ≤ quota_of pool o → ((p : ℕ) → p ≢ o → blocks_held slots p ≡ blocks_held pool.slots p) → AreCounted slots (with_aside pool.owners o used aside)
   counted_after slots used aside is_used within others =
       let new : Owner = record { quota = quota_of pool o; used = used; aside = aside } in
       let owners = with_aside pool.owners o used aside in
@@ -187,14 +187,14 @@ module _ (pool : PoolState) (counted : IsCounted pool) (o : ℕ) (has : o < leng
         few_owners = omega (arith, len, counted.few_owners);
       }
 
-  pub free_after : (slots : List (Option Held)) (free used aside left : ℕ) → IsFreeCount pool free → left + used + aside_of pool o ≡ free + used_of pool o + aside → IsFreeCount (record { slots = slots; owners = with_aside pool.owners o used aside }) left
+  pub free_after : (slots : List (Option Held)) (free used aside left : ℕ) → AreFree pool.owners free → left + used + aside_of pool o ≡ free + used_of pool o + aside → AreFree (with_aside pool.owners o used aside) left
   free_after slots free used aside left rest change =
       let new : Owner = record { quota = quota_of pool o; used = used; aside = aside } in
       let nobody : Owner = record { quota = 0; used = 0; aside = 0 } in
       omega (arith, rest, change, sum_by-set (λ x. x.quota) pool.owners o new nobody has, sum_by-set (λ x. x.used) pool.owners o new nobody has, sum_by-set (λ x. x.aside) pool.owners o new nobody has)
 
   -- what an owner may still use is free
-  pub enough_free : (free : ℕ) → IsFreeCount pool free → spare_of pool o ≤ free
+  pub enough_free : (free : ℕ) → AreFree pool.owners free → spare_of pool o ≤ free
   enough_free free rest =
       let full : Owner = record { quota = quota_of pool o; used = quota_of pool o; aside = aside_of pool o } in
       let nobody : Owner = record { quota = 0; used = 0; aside = 0 } in
@@ -208,16 +208,16 @@ module _ (pool : PoolState) (counted : IsCounted pool) (o : ℕ) (has : o < leng
 
 -- ---- whole calls
 
-module _ (pool : PoolState) (counted : IsCounted pool) (free : ℕ) (rest : IsFreeCount pool free) (o : ℕ) (has : o < length pool.owners) where
+module _ (pool : PoolState) (counted : IsCounted pool) (free : ℕ) (rest : AreFree pool.owners free) (o : ℕ) (has : o < length pool.owners) where
   -- bytes were appended to a chain of an owner
   pub taken_counted : (before : Option ℕ) (bytes : List ℕ) (after : Option ℕ) (slots : List (Option Held)) (left more : ℕ) (old : Owner) → IsLiveAt pool.slots o before → IsNamedAfter pool.slots before bytes after → slots ≡ put_at pool.slots after o (bytes_at pool.slots before ++ bytes) → left + blocks_for (length (bytes_at pool.slots before) + length bytes) ≡ free + blocks_for (length (bytes_at pool.slots before)) → more ≡ blocks_for (length (bytes_at pool.slots before) + length bytes) - blocks_for (length (bytes_at pool.slots before)) → more ≤ spare_of pool o → old ≡ owner_at pool.owners o
-      → IsCounted (record { slots = slots; owners = set pool.owners o (record { quota = old.quota; used = old.used + more; aside = old.aside }) }) × IsFreeCount (record { slots = slots; owners = set pool.owners o (record { quota = old.quota; used = old.used + more; aside = old.aside }) }) left
+      → AreCounted slots (set pool.owners o (record { quota = old.quota; used = old.used + more; aside = old.aside })) × AreFree (set pool.owners o (record { quota = old.quota; used = old.used + more; aside = old.aside })) left
   taken_counted before bytes after slots left more old live name slots_are left_is more_is room old_is =
       let n = length (bytes_at pool.slots before) in
       let grows : blocks_for n ≤ blocks_for (n + length bytes) = omega arith in
       let held = append_held pool.slots o before bytes after live name in
       let held_is : blocks_held slots o ≡ blocks_held pool.slots o + more = ap (λ ss. blocks_held ss o) slots_are ∙ omega (arith, held, more_is, grows) in
-      subst (λ (x : Owner). IsCounted (record { slots = slots; owners = set pool.owners o (record { quota = x.quota; used = x.used + more; aside = x.aside }) }) × IsFreeCount (record { slots = slots; owners = set pool.owners o (record { quota = x.quota; used = x.used + more; aside = x.aside }) }) left) (sym old_is) (
+      subst (λ (x : Owner). AreCounted slots (set pool.owners o (record { quota = x.quota; used = x.used + more; aside = x.aside })) × AreFree (set pool.owners o (record { quota = x.quota; used = x.used + more; aside = x.aside })) left) (sym old_is) (
         counted_after pool counted o has slots (used_of pool o + more) (aside_of pool o) (omega (arith, held_is, counted.used o has)) (omega (arith, counted.within o, room))
             (λ p apart. ap (λ ss. blocks_held ss p) slots_are ∙ append_others pool.slots o before bytes after p live name apart),
         free_after pool counted o has slots free (used_of pool o + more) (aside_of pool o) left rest (omega (arith, left_is, more_is, grows)),
@@ -225,25 +225,25 @@ module _ (pool : PoolState) (counted : IsCounted pool) (free : ℕ) (rest : IsFr
 
   -- a chain's blocks were given back
   pub given_counted : (name : Option ℕ) (slots : List (Option Held)) (left n : ℕ) (old : Owner) → IsLiveAt pool.slots o name → slots ≡ removed_at pool.slots name → left ≡ free + blocks_for (length (bytes_at pool.slots name)) → n ≡ blocks_for (length (bytes_at pool.slots name)) → old ≡ owner_at pool.owners o
-      → IsCounted (record { slots = slots; owners = set pool.owners o (record { quota = old.quota; used = old.used - n; aside = old.aside }) }) × IsFreeCount (record { slots = slots; owners = set pool.owners o (record { quota = old.quota; used = old.used - n; aside = old.aside }) }) left
+      → AreCounted slots (set pool.owners o (record { quota = old.quota; used = old.used - n; aside = old.aside })) × AreFree (set pool.owners o (record { quota = old.quota; used = old.used - n; aside = old.aside })) left
   given_counted name slots left n old live slots_are left_is n_is old_is =
       let low = chain_low pool counted o has name live in
       let held = remove_held pool.slots o name live in
       let held_is : blocks_held slots o + n ≡ blocks_held pool.slots o = ap (λ ss. blocks_held ss o + n) slots_are ∙ omega (arith, held, n_is) in
-      subst (λ (x : Owner). IsCounted (record { slots = slots; owners = set pool.owners o (record { quota = x.quota; used = x.used - n; aside = x.aside }) }) × IsFreeCount (record { slots = slots; owners = set pool.owners o (record { quota = x.quota; used = x.used - n; aside = x.aside }) }) left) (sym old_is) (
+      subst (λ (x : Owner). AreCounted slots (set pool.owners o (record { quota = x.quota; used = x.used - n; aside = x.aside })) × AreFree (set pool.owners o (record { quota = x.quota; used = x.used - n; aside = x.aside })) left) (sym old_is) (
         counted_after pool counted o has slots (used_of pool o - n) (aside_of pool o) (omega (arith, held_is, counted.used o has, low, n_is)) (omega (arith, counted.within o))
             (λ p apart. ap (λ ss. blocks_held ss p) slots_are ∙ remove_others pool.slots o name p live apart),
         free_after pool counted o has slots free (used_of pool o - n) (aside_of pool o) left rest (omega (arith, left_is, n_is, low)),
       )
 
 -- a chain went to another owner: as if it was given back and taken again
-pub passed_counted : (pool : PoolState) (counted : IsCounted pool) (free : ℕ) (rest : IsFreeCount pool free) (o q : ℕ) (has : o < length pool.owners) (other : q < length pool.owners) (name : Option ℕ) (slots : List (Option Held)) (n : ℕ) (old new : Owner) → IsLiveAt pool.slots o name → slots ≡ put_at pool.slots name q (bytes_at pool.slots name) → n ≡ blocks_for (length (bytes_at pool.slots name)) → n ≤ spare_of pool q → old ≡ owner_at pool.owners o
+pub passed_counted : (pool : PoolState) (counted : IsCounted pool) (free : ℕ) (rest : AreFree pool.owners free) (o q : ℕ) (has : o < length pool.owners) (other : q < length pool.owners) (name : Option ℕ) (slots : List (Option Held)) (n : ℕ) (old new : Owner) → IsLiveAt pool.slots o name → slots ≡ put_at pool.slots name q (bytes_at pool.slots name) → n ≡ blocks_for (length (bytes_at pool.slots name)) → n ≤ spare_of pool q → old ≡ owner_at pool.owners o
     → new ≡ owner_at (set pool.owners o (record { quota = old.quota; used = old.used - n; aside = old.aside })) q
-    → IsCounted (record { slots = slots; owners = set (set pool.owners o (record { quota = old.quota; used = old.used - n; aside = old.aside })) q (record { quota = new.quota; used = new.used + n; aside = new.aside }) })
-    × IsFreeCount (record { slots = slots; owners = set (set pool.owners o (record { quota = old.quota; used = old.used - n; aside = old.aside })) q (record { quota = new.quota; used = new.used + n; aside = new.aside }) }) free
+    → AreCounted slots (set (set pool.owners o (record { quota = old.quota; used = old.used - n; aside = old.aside })) q (record { quota = new.quota; used = new.used + n; aside = new.aside }))
+    × AreFree (set (set pool.owners o (record { quota = old.quota; used = old.used - n; aside = old.aside })) q (record { quota = new.quota; used = new.used + n; aside = new.aside })) free
 passed_counted pool counted free rest o q has other name slots n old new live slots_are n_is room old_is new_is =
     let lowered : Owner = record { quota = old.quota; used = old.used - n; aside = old.aside } in
-    let between : PoolState = record { slots = removed_at pool.slots name; owners = set pool.owners o lowered } in
+    let between : PoolState = record { slots = removed_at pool.slots name; owners = set pool.owners o lowered; places = pool.places } in
     let nobody : Owner = record { quota = 0; used = 0; aside = 0 } in
     let one = given_counted pool counted free rest o has name (removed_at pool.slots name) (free + blocks_for (length (bytes_at pool.slots name))) n old live refl refl n_is old_is in
     let low = chain_low pool counted o has name live in
@@ -260,7 +260,7 @@ passed_counted pool counted free rest o q has other name slots n old new live sl
     let aside = (get_or between.owners q nobody).aside in
     let held = again_held pool.slots o q name live in
     let held_is : blocks_held slots q ≡ blocks_held between.slots q + n = ap (λ ss. blocks_held ss q) slots_are ∙ omega (arith, held, n_is) in
-    subst (λ (x : Owner). IsCounted (record { slots = slots; owners = set between.owners q (record { quota = x.quota; used = x.used + n; aside = x.aside }) }) × IsFreeCount (record { slots = slots; owners = set between.owners q (record { quota = x.quota; used = x.used + n; aside = x.aside }) }) free) (sym new_is) (
+    subst (λ (x : Owner). AreCounted slots (set between.owners q (record { quota = x.quota; used = x.used + n; aside = x.aside })) × AreFree (set between.owners q (record { quota = x.quota; used = x.used + n; aside = x.aside })) free) (sym new_is) (
       counted_after between one.0 q still slots (used + n) aside (omega (arith, held_is, one.0.used q still)) fits
           (λ p apart. ap (λ ss. blocks_held ss p) slots_are ∙ again_others pool.slots o q name p live apart),
       free_after between one.0 q still slots (free + blocks_for (length (bytes_at pool.slots name))) (used + n) aside free one.1 (omega (arith, n_is)),
@@ -287,10 +287,10 @@ new_sums (quota ∷ quotas) =
       omega (arith, sum_by-cons (λ (o : Owner). o.aside) new (new_owners quotas), rest.2),
     )
 
-pub new_counted : (quotas : List ℕ) (total : ℕ) (slots : List (Option Held)) (owners : List Owner) → length quotas ≤ 256 → sum_by (λ quota. quota) quotas ≤ 16384 → total ≡ sum_by (λ quota. quota) quotas → slots ≡ replicate total None → owners ≡ new_owners quotas → IsCounted (record { slots = slots; owners = owners }) × IsFreeCount (record { slots = slots; owners = owners }) total
+pub new_counted : (quotas : List ℕ) (total : ℕ) (slots : List (Option Held)) (owners : List Owner) → length quotas ≤ 256 → sum_by (λ quota. quota) quotas ≤ 16384 → total ≡ sum_by (λ quota. quota) quotas → slots ≡ replicate total None → owners ≡ new_owners quotas → AreCounted slots owners × AreFree owners total
 new_counted quotas total slots owners few_owners few_blocks total_is slots_are owners_are =
     let sums = new_sums quotas in
-    subst (λ os. IsCounted (record { slots = slots; owners = os }) × IsFreeCount (record { slots = slots; owners = os }) total) (sym owners_are) (
+    subst (λ os. AreCounted slots os × AreFree os total) (sym owners_are) (
       record {
         used = λ p low. (new_owner quotas p).0 ∙ (sym (omega (arith, (new_owner quotas p).1, ap (λ ss. blocks_held ss p) slots_are, nothing_held total p)));
         within = λ p. omega (arith, (new_owner quotas p).0);

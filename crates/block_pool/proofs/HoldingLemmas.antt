@@ -7,7 +7,7 @@ use Rattle.std.proofs.lemmas.List.Sums.{sum_by-cons}
 use Rattle.block_pool.specs.declared.chain.Chain.{Chain}
 use Rattle.block_pool.specs.declared.owners.Owner.{Owner}
 use Rattle.block_pool.specs.Slots.{blocks_for}
-use Rattle.block_pool.specs.Names.{IsLiveAt}
+use Rattle.block_pool.specs.Names.{bytes_at, IsLiveAt}
 use Rattle.block_pool.specs.Owners.{owner_at, with_used, with_aside}
 use Rattle.block_pool.specs.Pool.{PoolState, IsLive, IsApart, chain_bytes, KeepsOthers}
 use Rattle.block_pool.specs.Holdings.{IsOwn, OwnsAll, LiesApart, LieApart, all_bytes, all_blocks, KeepsAllOthers, KeptAll}
@@ -133,7 +133,7 @@ pub counted_keeps : (old new : PoolState) (o used aside : ℕ) (chain : Chain) �
 counted_keeps old new o used aside chain slots owners live =
     let len : length new.owners ≡ length old.owners = ap length owners ∙ length-set old.owners o (record { quota = (owner_at old.owners o).quota; used = used; aside = aside }) in (
       (omega (arith, len, live.0), subst (λ s. IsLiveAt s chain.owner chain.first) (sym slots) live.1),
-      ap (λ s. chain_bytes (record { slots = s; owners = [] }) chain) slots,
+      ap (λ s. bytes_at s chain.first) slots,
     )
 
 -- a use that is counted anew

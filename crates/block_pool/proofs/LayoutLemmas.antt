@@ -1,16 +1,17 @@
 -- Linked blocks: what writes to links, bytes and heads leave of the chains.
-use Rattle.std.proofs.Common.{◌≡◌, ◌≢◌, ℕ, zero, suc, ◌+◌, ◌-◌, ◌*◌, ◌/◌, ◌%◌, ◌^◌, ◌<◌, ◌≤◌, true, false, cond, eqb, ◌⊎◌, inl, inr, List, [], ◌∷◌, ◌++◌, length, get_or, set, take, drop, replicate, map, refl, sym, ap, ◌∙◌, subst, arith, rules, Fits, w16, w32, length-set, get_or-set_same, get_or-set_other, length-drop, length-take, get_or-drop, min, add-one}
+use Rattle.std.proofs.Common.{◌≡◌, ◌≢◌, ℕ, zero, suc, ◌+◌, ◌-◌, ◌*◌, ◌/◌, ◌%◌, ◌^◌, ◌<◌, ◌≤◌, true, false, cond, eqb, ◌⊎◌, inl, inr, List, [], ◌∷◌, ◌++◌, length, get_or, set, take, drop, replicate, map, refl, sym, ap, ◌∙◌, subst, arith, rules, Fits, w16, w32, length-set, get_or-set_same, get_or-set_other, length-drop, length-take, get_or-drop, min}
 use Rattle.std.specs.Prelude.{Option, Some, None, IsSome}
-use Rattle.std.specs.List.{range_with_len}
+use Rattle.std.specs.List.{range_with_len, sum_by}
 use Rattle.std.specs.Int.{div_ceil}
-use Rattle.std.proofs.lemmas.List.{same_lists, get_or_past, get_or_default, map-id, length-replicate, get_or-replicate}
+use Rattle.std.proofs.lemmas.List.{same_lists, get_or_past, get_or_default, length-replicate, get_or-replicate}
+use Rattle.std.proofs.lemmas.List.Sums.{sum_by-cons, sum_by-set}
 use Rattle.std.proofs.lemmas.Bool.{cases_lt, cases_eq}
 use Rattle.std.proofs.lemmas.List.FromFn.{length-map-range_with_len, get_or-map-range_with_len, map-range_with_len_more, take-map-range_with_len, length-range_with_len, get_or-range_with_len}
 use Rattle.std.proofs.lemmas.Grind.{common_steps}
 use Rattle.block_pool.specs.declared.blocks.Head.{Head}
 use Rattle.block_pool.specs.Slots.{Held, blocks_for, slot, put, bytes_in, bytes_of, owner_in, owner_of}
 use Rattle.block_pool.specs.Links.{block_at, byte_at}
-use Rattle.block_pool.specs.Layout.{chain_bytes, held_by, slots_of, IsMarked, IsChain, IsSound}
+use Rattle.block_pool.specs.Layout.{chain_bytes, held_by, slots_of, head_blocks, IsMarked, IsChain, IsSound}
 
 -- ---- links
 
@@ -103,7 +104,7 @@ none_is_some : (h : Head) → None ≡ Some h → ⊥
 none_is_some h e = cc
 
 -- equal blocks have one mark
-same_mark : (mark : ℕ → ℕ × ℕ) (x y c k d j : ℕ) → mark x ≡ (c, k) → mark y ≡ (d, j) → x ≡ y → (c ≡ d) × (k ≡ j)
+pub same_mark : (mark : ℕ → ℕ × ℕ) (x y c k d j : ℕ) → mark x ≡ (c, k) → mark y ≡ (d, j) → x ≡ y → (c ≡ d) × (k ≡ j)
 same_mark mark x y c k d j mx my same =
     let e : ◌≡◌ {A = ℕ × ℕ} (c, k) (d, j) = sym mx ∙ (ap mark same ∙ my) in
     (ap (λ m. m.0) e, ap (λ m. m.1) e)
@@ -153,7 +154,7 @@ freed_other count b n d k apart below = rw (test_false d b apart, test_false d c
 -- ---- chains
 
 -- a chain begins at a block
-in_pool : (next : List ℕ) (mark : ℕ → ℕ × ℕ) (count b : ℕ) (head : Head) → IsChain next mark count b head → b < count
+pub in_pool : (next : List ℕ) (mark : ℕ → ℕ × ℕ) (count b : ℕ) (head : Head) → IsChain next mark count b head → b < count
 in_pool next mark count b head chain = let some : 0 < head.len = chain.some in (chain.marked 0 (omega arith)).0
 
 -- the block of byte i of a chain
@@ -235,6 +236,7 @@ module _ (region next : List ℕ) (heads : List (Option Head)) (free free_len : 
           | inr apart ↦ sound.chains c h (other_head b (Some longer) c (Some h) apart e)
         ];
         spare = sound.spare;
+        all = omega (arith, sum_by-set head_blocks heads b (Some longer) None low, ap head_blocks at, same_blocks, sound.all);
       }
 
   -- the bytes of a chain, where another chain's block was written
@@ -347,6 +349,7 @@ module _ (region next : List ℕ) (heads : List (Option Head)) (free free_len : 
           | inr apart ↦ popped_chain free 0 next c h (other_head free (Some new) c (Some h) apart e) (λ i low. refl)
         ];
         spare = popped_spare free 0 next after is_next (λ i low. refl);
+        all = omega (arith, sum_by-set head_blocks heads free (Some new) None low, ap head_blocks (no_head some), sound.all);
       }
 
   pub begin_slots : (owner byte : ℕ) → 0 < free_len → slots_of (set region (32 * free) byte) next (set heads free (Some (record { owner = owner; last = free; len = 1; read_on = free; passed = 0 }))) ≡ put (slots_of region next heads) free owner (byte ∷ [])
@@ -429,6 +432,7 @@ module _ (region next : List ℕ) (heads : List (Option Head)) (free free_len : 
             let place_is : block_at next free (1 + j) ≡ head.last = sym (ap (λ x. block_at next x j) is_next ∙ behind next free 1 j) ∙ same in
             let parts = same_mark sound.mark (block_at next free (1 + j)) head.last sound.count (1 + j) b (n - 1) m.1 l.1 place_is in
             absurd (let e : sound.count ≡ b = parts.0 in omega arith)));
+        all = omega (arith, sum_by-set head_blocks heads b (Some longer) None low, ap head_blocks at, one_more, sound.all);
       }
 
   pub push_in_new_block_slots : (b : ℕ) (head : Head) (byte : ℕ) → get_or heads b None ≡ Some head → head.len % 32 ≡ 0 → 0 < free_len → slots_of (set region (32 * free) byte) (set next head.last free) (set heads b (Some (record { owner = head.owner; last = free; len = head.len + 1; read_on = head.read_on; passed = head.passed }))) ≡ put (slots_of region next heads) b head.owner (chain_bytes region next b head.len ++ byte ∷ [])
@@ -548,6 +552,7 @@ module _ (region next : List ℕ) (heads : List (Option Head)) (free free_len : 
               subst (λ x. IsMarked mark sound.count x sound.count k) (sym place)
               (m.0, ap (freed sound.count b n) m.1 ∙ (freed_free sound.count b n j count_apart ∙ ap (λ i. (sound.count, i)) turned))
         ];
+        all = omega (arith, sum_by-set head_blocks heads b None None low, ap head_blocks at, sound.all);
       }
 
   pub free_chain_slots : (b : ℕ) (head : Head) → get_or heads b None ≡ Some head → slots_of region (set next head.last free) (set heads b None) ≡ set (slots_of region next heads) b None
@@ -637,6 +642,7 @@ module _ (region next : List ℕ) (heads : List (Option Head)) (free free_len : 
           | inr apart ↦ sound.chains c h (other_head region next heads free free_len sound b (Some new) c (Some h) apart e)
         ];
         spare = sound.spare;
+        all = omega (arith, sum_by-set head_blocks heads b (Some new) None low, ap head_blocks at, sound.all);
       }
 
   pub set_owner_slots : (b owner : ℕ) (head : Head) → get_or heads b None ≡ Some head → slots_of region next (set heads b (Some (record { owner = owner; last = head.last; len = head.len; read_on = head.read_on; passed = head.passed }))) ≡ put (slots_of region next heads) b owner (chain_bytes region next b head.len)
@@ -669,6 +675,7 @@ module _ (region next : List ℕ) (heads : List (Option Head)) (free free_len : 
           | inr apart ↦ sound.chains c h (other_head region next heads free free_len sound b (Some new) c (Some h) apart e)
         ];
         spare = sound.spare;
+        all = omega (arith, sum_by-set head_blocks heads b (Some new) None b_low, ap head_blocks at, sound.all);
       }
 
   pub read_on_slots : (b block passed : ℕ) (head : Head) → get_or heads b None ≡ Some head → slots_of region next (set heads b (Some (record { owner = head.owner; last = head.last; len = head.len; read_on = block; passed = passed }))) ≡ slots_of region next heads
@@ -733,45 +740,6 @@ module _ (region next : List ℕ) (heads : List (Option Head)) (free free_len : 
       let len : length (take count out) ≡ count = omega (arith, length-take count out, count_is) in
       ap (λ bs. bs ++ drop count out) (new_is ∙ (ap (λ n. map (byte_at region next b) (range_with_len from n)) len ∙ bytes_copied from count low (omega (arith, count_is))))
 
--- ---- walking
-
--- a block reached from one on the way to it
-pub block_on : (next : List ℕ) (first passed steps block : ℕ) → block_at next first passed ≡ block → passed ≤ steps → block_at next block (steps - passed) ≡ block_at next first steps
-block_on next first passed steps block at low =
-    let e : passed + (steps - passed) ≡ steps = omega arith in
-    ap (λ b. block_at next b (steps - passed)) (sym at) ∙ (behind next first passed (steps - passed) ∙ ap (block_at next first) e)
-
--- the blocks on that way lie in the pool
-pub blocks_on : (next : List ℕ) (first passed steps block : ℕ) → block_at next first passed ≡ block → ((k : ℕ) → k < steps → block_at next first k < length next) → (k : ℕ) → k < steps - passed → block_at next block k < length next
-blocks_on next first passed steps block at reached k low =
-    let there : block_at next block k ≡ block_at next first (passed + k) = ap (λ b. block_at next b k) (sym at) ∙ behind next first passed k in
-    subst (λ b. b < length next) (sym there) (reached (passed + k) (omega arith))
-
-pub block_at-more : (next : List ℕ) (first k : ℕ) → get_or next (block_at next first k) 0 ≡ block_at next first (k + 1)
-block_at-more next first k = rw add-one refl
-
--- the block of the next byte
-pub next_block : (next : List ℕ) (first place block : ℕ) → block ≡ block_at next first (place / 32) → (place + 1) % 32 ≡ 0 → get_or next block 0 ≡ block_at next first ((place + 1) / 32)
-next_block next first place block here full =
-    let e : place / 32 + 1 ≡ (place + 1) / 32 = omega arith in
-    ap (λ b. get_or next b 0) here ∙ (block_at-more next first (place / 32) ∙ ap (block_at next first) e)
-
-pub same_block : (next : List ℕ) (first place block : ℕ) → block ≡ block_at next first (place / 32) → (place + 1) % 32 ≢ 0 → block ≡ block_at next first ((place + 1) / 32)
-same_block next first place block here room =
-    let e : place / 32 ≡ (place + 1) / 32 = omega arith in
-    here ∙ ap (block_at next first) e
-
--- a list whose elements are known by place
-pub made_from : (f : ℕ → ℕ) (from n : ℕ) (xs : List ℕ) → length xs ≡ n → ((k : ℕ) → k < n → get_or xs k 0 ≡ f (from + k)) → xs ≡ map f (range_with_len from n)
-made_from f from n xs len same =
-    same_lists _ _ (len ∙ sym (length-map-range_with_len f from n))
-    (λ k d h. let low : k < n = omega (arith, len) in
-    get_or_default xs k d 0 h ∙ (same k low ∙ sym (get_or-map-range_with_len f from n k (from + k) d low refl)))
-
-pub range_more : (a n : ℕ) → range_with_len a (n + 1) ≡ range_with_len a n ++ (a + n) ∷ []
-range_more a n =
-    sym (map-id (range_with_len a (n + 1))) ∙ (map-range_with_len_more (λ x. x) a n (a + n) refl ∙ ap (λ xs. xs ++ (a + n) ∷ []) (map-id (range_with_len a n)))
-
 -- ---- a new pool
 
 -- in a new pool each block leads to the one behind it
@@ -779,6 +747,10 @@ in_order : (count k : ℕ) → k < count → block_at (range_with_len 1 count) 0
 in_order count zero low = refl
 in_order count (suc k) low =
     ap (λ b. get_or (range_with_len 1 count) b 0) (in_order count k (omega arith)) ∙ (get_or-range_with_len 1 count k 0 (omega arith) ∙ omega arith)
+
+no_head_blocks : (n : ℕ) → sum_by head_blocks (replicate n None) ≡ 0
+no_head_blocks zero = refl
+no_head_blocks (suc n) = omega (arith, sum_by-cons head_blocks None (replicate n None), no_head_blocks n)
 
 pub make_sound : (region next : List ℕ) (heads : List (Option Head)) (count : ℕ) → count ≤ 16384 → length region ≡ 32 * count → next ≡ range_with_len 1 count → heads ≡ replicate count None → IsSound region next heads 0 count
 make_sound region next heads count few bytes links none = record {
@@ -790,6 +762,7 @@ make_sound region next heads count few bytes links none = record {
   mark = λ x. (count, x);
   chains = λ b head e. absurd (none_is_some head (sym (no_heads b) ∙ e));
   spare = λ k low. let place : block_at next 0 k ≡ k = ap (λ xs. block_at xs 0 k) links ∙ in_order count k low in (omega (arith, place), ap (λ x. (count, x)) place);
+  all = omega (arith, ap (sum_by head_blocks) none, no_head_blocks count);
 }
   where
     no_heads : (b : ℕ) → get_or heads b None ≡ None

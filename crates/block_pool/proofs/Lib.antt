@@ -1,4 +1,6 @@
 pub mod LayoutLemmas
+pub mod WalkLemmas
+pub mod PlaceLemmas
 pub mod SlotLemmas
 pub mod CountLemmas
 pub mod HoldingLemmas

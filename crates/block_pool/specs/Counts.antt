@@ -1,8 +1,10 @@
 -- How the blocks of chains are counted for their owners.
-use Rattle.std.specs.Prelude.{◌≡◌, ℕ, ◌+◌, ◌≤◌, if◌then◌else◌, ◌==◌, List, length, Option, None, Some}
+use Rattle.std.specs.Prelude.{◌≡◌, ℕ, ◌+◌, ◌<◌, ◌≤◌, if◌then◌else◌, ◌==◌, List, length, Option, None, Some}
 use Rattle.std.specs.List.{sum_by}
 use Rattle.block_pool.specs.Slots.{Held, blocks_for}
-use Rattle.block_pool.specs.Pool.{PoolState, used_of, aside_of, quota_of, HasQuota}
+use Rattle.block_pool.specs.Owners.{owner_at}
+use Rattle.block_pool.specs.Pool.{PoolState}
+use Rattle.block_pool.specs.declared.owners.Owner.{Owner}
 
 -- how many blocks of an owner the chain at a block has
 abbrev pub blocks_in : ℕ → Option Held → ℕ
@@ -15,13 +17,15 @@ blocks_held slots owner = sum_by (blocks_in owner) slots
 
 -- An owner uses the blocks of its chains and those set aside, and no more than its quota. The quotas together are at most
 -- 16,384 blocks, and there are at most 256 of them.
-pub record IsCounted (pool : PoolState) : Type 0 where
-  pub used : (owner : ℕ) → HasQuota pool owner → used_of pool owner ≡ aside_of pool owner + blocks_held pool.slots owner
-  pub within : (owner : ℕ) → used_of pool owner ≤ quota_of pool owner
-  pub few_blocks : sum_by (λ o. o.quota) pool.owners ≤ 16384
-  pub few_owners : length pool.owners ≤ 256
+pub record AreCounted (slots : List (Option Held)) (owners : List Owner) : Type 0 where
+  pub used : (owner : ℕ) → owner < length owners → (owner_at owners owner).used ≡ (owner_at owners owner).aside + blocks_held slots owner
+  pub within : (owner : ℕ) → (owner_at owners owner).used ≤ (owner_at owners owner).quota
+  pub few_blocks : sum_by (λ o. o.quota) owners ≤ 16384
+  pub few_owners : length owners ≤ 256
+
+abbrev pub IsCounted : PoolState → Type 0
+IsCounted pool = AreCounted pool.slots pool.owners
 
 -- the free blocks are those that no owner uses for a chain
-abbrev pub IsFreeCount : PoolState → ℕ → Type 0
-IsFreeCount pool free =
-    free + sum_by (λ o. o.used) pool.owners ≡ sum_by (λ o. o.quota) pool.owners + sum_by (λ o. o.aside) pool.owners
+abbrev pub AreFree : List Owner → ℕ → Type 0
+AreFree owners free = free + sum_by (λ o. o.used) owners ≡ sum_by (λ o. o.quota) owners + sum_by (λ o. o.aside) owners

@@ -1,7 +1,7 @@
 -- How blocks lie in a region and are linked. No public clause cites this module.
-use Rattle.std.specs.Prelude.{◌≡◌, ℕ, ◌-◌, ◌*◌, ◌<◌, ◌≤◌, List, map, length, Option, None, Some, slice_index_or}
-use Rattle.std.specs.List.{range_with_len}
-use Rattle.block_pool.specs.Slots.{Held, blocks_for}
+use Rattle.std.specs.Prelude.{◌≡◌, ℕ, ◌+◌, ◌-◌, ◌*◌, ◌<◌, ◌≤◌, List, [], map, length, Option, None, Some, slice_index_or}
+use Rattle.std.specs.List.{range_with_len, sum_by}
+use Rattle.block_pool.specs.Slots.{Held, Places, blocks_for}
 use Rattle.block_pool.specs.Links.{block_at, byte_at}
 use Rattle.block_pool.specs.declared.blocks.Head.{Head}
 
@@ -20,6 +20,26 @@ unfoldable pub slots_of : List ℕ → List ℕ → List (Option Head) → List 
 slots_of region next heads =
     map (λ block. held_by region next block (slice_index_or heads block None)) (range_with_len 0 (length heads))
 
+-- the blocks of the chain that a head says
+abbrev pub blocks_by : List ℕ → ℕ → Option Head → List ℕ
+blocks_by next block None = []
+blocks_by next block (Some head) = map (block_at next block) (range_with_len 0 (blocks_for head.len))
+
+-- for each block the blocks of the chain that begins there
+unfoldable pub chains_of : List ℕ → List (Option Head) → List (List ℕ)
+chains_of next heads =
+    map (λ block. blocks_by next block (slice_index_or heads block None)) (range_with_len 0 (length heads))
+
+-- where the chains lie
+abbrev pub places_of : List ℕ → List ℕ → List (Option Head) → ℕ → ℕ → Places
+places_of region next heads free free_len =
+    record { memory = region; chains = chains_of next heads; free = map (block_at next free) (range_with_len 0 free_len) }
+
+-- how many blocks the chain that a head says has
+abbrev pub head_blocks : Option Head → ℕ
+head_blocks None = 0
+head_blocks (Some head) = blocks_for head.len
+
 -- Each block has one mark: a chain, named by its first block, and a place in it. The free list counts as a chain whose
 -- name is no block.
 abbrev pub IsMarked : (ℕ → ℕ × ℕ) → ℕ → ℕ → ℕ → ℕ → Type 0
@@ -33,7 +53,7 @@ pub record IsChain (next : List ℕ) (mark : ℕ → ℕ × ℕ) (count block : 
   pub within : head.passed < blocks_for head.len
   pub reading : block_at next block head.passed ≡ head.read_on
 
--- no block lies in two chains, nor in a chain and the free list, nor twice in one
+-- Each block lies in a chain or in the free list. None lies in two of them, nor twice in one.
 pub record IsSound (region next : List ℕ) (heads : List (Option Head)) (free free_len : ℕ) : Type 0 where
   pub count : ℕ
   pub counted : length heads ≡ count
@@ -43,3 +63,4 @@ pub record IsSound (region next : List ℕ) (heads : List (Option Head)) (free f
   pub mark : ℕ → ℕ × ℕ
   pub chains : (block : ℕ) (head : Head) → slice_index_or heads block None ≡ Some head → IsChain next mark count block head
   pub spare : (k : ℕ) → k < free_len → IsMarked mark count (block_at next free k) count k
+  pub all : free_len + sum_by head_blocks heads ≡ count

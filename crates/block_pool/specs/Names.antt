@@ -1,11 +1,16 @@
 -- Chains by their names: a chain with bytes is named by its first block, and an empty one has no name.
 use Rattle.std.specs.Prelude.{◌≡◌, ℕ, ◌<◌, List, [], ◌∷◌, length, Option, None, Some, slice_set}
-use Rattle.block_pool.specs.Slots.{Held, slot, put, bytes_of, owner_of}
+use Rattle.block_pool.specs.Slots.{Held, Places, blocks_at, slot, put, bytes_of, owner_of}
 
 -- the bytes of a chain by its name: a chain without a name is empty
 abbrev pub bytes_at : List (Option Held) → Option ℕ → List ℕ
 bytes_at slots None = []
 bytes_at slots (Some first) = bytes_of slots first
+
+-- the blocks of a chain by its name: an empty one has none
+abbrev pub blocks_named : Places → Option ℕ → List ℕ
+blocks_named places None = []
+blocks_named places (Some first) = blocks_at places first
 
 -- a chain with a name has bytes there, and they are its owner's
 abbrev pub IsLiveAt : List (Option Held) → ℕ → Option ℕ → Type 0

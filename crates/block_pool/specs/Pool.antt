@@ -1,8 +1,8 @@
--- What a pool holds: for each block the chain that begins there, and for each owner its quota, its use, and what is set
--- aside.
+-- What a pool holds: for each block the chain that begins there, for each owner its quota, its use, and what is set aside, and
+-- where the chains lie.
 use Rattle.std.specs.Prelude.{◌≡◌, ℕ, ◌+◌, ◌-◌, ◌<◌, List, ◌++◌, length, sum, replicate, Option, None}
-use Rattle.block_pool.specs.Slots.{Held, blocks_for}
-use Rattle.block_pool.specs.Names.{bytes_at, IsLiveAt, put_at, removed_at, IsNamedAfter, IsApartAt}
+use Rattle.block_pool.specs.Slots.{Held, Places, blocks_for}
+use Rattle.block_pool.specs.Names.{bytes_at, blocks_named, IsLiveAt, put_at, removed_at, IsNamedAfter, IsApartAt}
 use Rattle.block_pool.specs.Owners.{owner_at, with_used, new_owners}
 use Rattle.block_pool.specs.declared.owners.Owner.{Owner}
 use Rattle.block_pool.specs.declared.chain.Chain.{Chain}
@@ -10,6 +10,7 @@ use Rattle.block_pool.specs.declared.chain.Chain.{Chain}
 pub record PoolState : Type 0 where
   pub slots : List (Option Held)
   pub owners : List Owner
+  pub places : Places
 
 -- ---- owners
 
@@ -40,6 +41,10 @@ chain_bytes pool chain = bytes_at pool.slots chain.first
 
 abbrev pub IsLive : PoolState → Chain → Type 0
 IsLive pool chain = HasQuota pool chain.owner × IsLiveAt pool.slots chain.owner chain.first
+
+-- the blocks in which a chain lies, in order
+abbrev pub chain_blocks : PoolState → Chain → List ℕ
+chain_blocks pool chain = blocks_named pool.places chain.first
 
 -- how many more blocks the owner of a chain may use
 abbrev pub chain_spare : PoolState → Chain → ℕ

@@ -133,16 +133,20 @@ impl Model for Blocks {
 
     ghost Value = { BlocksState };
 
-    ghost use Rattle.block_pool.specs.Layout.{slots_of, IsSound};
+    ghost use Rattle.block_pool.specs.Layout.{slots_of, places_of, IsSound};
 
-    ghost view = { λ b. record { slots = slots_of b.region.items b.next.items b.heads.items; free = b.free_len } };
+    ghost view = { λ b. record {
+      slots = slots_of b.region.items b.next.items b.heads.items;
+      places = places_of b.region.items b.next.items b.heads.items b.free b.free_len;
+      free = b.free_len;
+    } };
 
     ghost invariant = { λ b. IsSound b.region.items b.next.items b.heads.items b.free b.free_len };
 }
 
 impl Blocks {
     ghost use Rattle.std.specs.Prelude.{◌≡◌, ◌+◌, ◌-◌, ◌%◌, ◌^◌, ◌<◌, ◌≤◌, [], ◌∷◌, ◌++◌, length, replicate, take, drop, min, None, IfOk, slice_set};
-    ghost use Rattle.block_pool.specs.Slots.{slot, put, bytes_of, owner_of, blocks_for};
+    ghost use Rattle.block_pool.specs.Slots.{ShareNoBlock, slot, put, bytes_of, owner_of, blocks_for};
 
     /// So many free blocks, at most 16,384.
     pub fn make(alloc: Global, count: u16) -> Result<Blocks, AllocError>
@@ -159,6 +163,13 @@ impl Blocks {
             free: 0,
             free_len: count,
         })
+    }
+
+    /// Each block lies in one chain, once, or is free. Nothing here runs.
+    pub fn chains_share_no_block(&self)
+        ensures { ShareNoBlock self.now.slots self.now.places }
+    {
+        let _free = self.free_len;
     }
 
     /// The length of a chain in bytes.

@@ -32,17 +32,16 @@ impl Model for Pool {
 
     ghost Value = { PoolState };
 
-    ghost use Rattle.block_pool.specs.Counts.{IsCounted, IsFreeCount};
+    ghost use Rattle.block_pool.specs.Counts.{AreCounted, AreFree};
 
-    ghost view = { λ p. record { slots = p.blocks.slots; owners = p.owners.items } };
+    ghost view = { λ p. record { slots = p.blocks.slots; owners = p.owners.items; places = p.blocks.places } };
 
-    ghost invariant = { λ p. IsCounted (record { slots = p.blocks.slots; owners = p.owners.items })
-        × IsFreeCount (record { slots = p.blocks.slots; owners = p.owners.items }) p.blocks.free };
+    ghost invariant = { λ p. AreCounted p.blocks.slots p.owners.items × AreFree p.owners.items p.blocks.free };
 }
 
 impl Pool {
     ghost use Rattle.std.specs.Prelude.{◌≡◌, ◌+◌, ◌-◌, ◌≤◌, ◌<◌, ◌↔◌, ◌++◌, length, sum, take, drop, min, IfOk, IfErr, IsOk, OnOk, OnErr};
-    ghost use Rattle.block_pool.specs.Slots.{blocks_for};
+    ghost use Rattle.block_pool.specs.Slots.{ShareNoBlock, blocks_for};
     ghost use Rattle.block_pool.specs.Pool.{HasQuota, IsLive, IsEmptyChain, IsNew, Appends, Passes, Gives, KeepsOthers, chain_bytes, chain_spare, spare_of, quota_of, used_of, aside_of, more_blocks};
     ghost use Rattle.block_pool.specs.declared.chain.Chain.{Chain};
     ghost use Rattle.block_pool.specs.Owners.{with_aside};
@@ -89,6 +88,13 @@ impl Pool {
             Some(first) => self.blocks.len(first),
             None => 0,
         }
+    }
+
+    /// Each block of a pool lies in one chain, once, or is free. Nothing here runs.
+    pub fn chains_share_no_block(&self)
+        ensures { ShareNoBlock self.now.slots self.now.places }
+    {
+        self.blocks.chains_share_no_block();
     }
 
     /// Copies the bytes of a chain from a place on into the front of `out`, as many as are there and fit, and says how

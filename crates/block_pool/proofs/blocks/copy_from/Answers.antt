@@ -1,6 +1,6 @@
 use Rattle.std.proofs.Common.{◌≡◌, ◌≢◌, ◌+◌, ◌*◌, ◌%◌, ◌<◌, ap, ◌∙◌, arith, length, get_or, get_or-set_other, get_or-set_same, below_more}
 use Rattle.block_pool.specs.Links.{byte_at}
-use Rattle.block_pool.proofs.LayoutLemmas.{next_block, same_block, made_from}
+use Rattle.block_pool.proofs.WalkLemmas.{next_block, same_block, made_from}
 use Rattle.block_pool.proofs.blocks.copy_from.Goals.{then-place-eq0, else-place-eq0}
 use Rattle.block_pool.proofs.blocks.copy_from.Goals as goal
 

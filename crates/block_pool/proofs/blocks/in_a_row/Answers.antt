@@ -1,6 +1,6 @@
 use Rattle.std.proofs.Common.{arith}
 use Rattle.std.proofs.lemmas.Grind.{common_steps}
-use Rattle.block_pool.proofs.LayoutLemmas.{range_more}
+use Rattle.block_pool.proofs.WalkLemmas.{range_more}
 use Rattle.block_pool.proofs.blocks.in_a_row.Goals as goal
 
 pub loop-block-preserved : goal.loop-block-preserved

@@ -1,5 +1,5 @@
 use Rattle.std.proofs.Common.{◌∙◌}
-use Rattle.block_pool.proofs.LayoutLemmas.{block_on, blocks_on}
+use Rattle.block_pool.proofs.WalkLemmas.{block_on, blocks_on}
 use Rattle.block_pool.proofs.blocks.seek.Goals as goal
 
 pub walk-requires : goal.walk-requires

@@ -1,5 +1,5 @@
 use Rattle.std.proofs.Common.{sym, ap, ◌∙◌, subst, get_or, ◌<◌, length, ℕ}
-use Rattle.block_pool.proofs.LayoutLemmas.{block_at-more}
+use Rattle.block_pool.proofs.WalkLemmas.{block_at-more}
 use Rattle.block_pool.proofs.blocks.walk.Goals as goal
 
 pub bounds-next-block : goal.bounds-next-block

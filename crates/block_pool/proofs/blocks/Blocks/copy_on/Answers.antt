@@ -1,10 +1,9 @@
-use Rattle.std.proofs.Common.{◌≡◌, ℕ, ◌+◌, ◌-◌, ◌*◌, ◌/◌, ◌<◌, min, sym, ap, ◌∙◌, subst, arith, length, take, drop, map, get_or, List, length-take}
-use Rattle.std.specs.Prelude.{◌++◌, Option, None, Some, IsSome}
-use Rattle.std.specs.List.{range_with_len}
-use Rattle.block_pool.specs.Slots.{BlocksState, Held, bytes_of, blocks_for}
-use Rattle.block_pool.specs.Links.{block_at, byte_at}
-use Rattle.block_pool.specs.Layout.{slots_of}
+use Rattle.std.proofs.Common.{◌≡◌, ℕ, ◌+◌, ◌*◌, ◌/◌, ◌<◌, sym, ap, ◌∙◌, subst, arith, length, take, get_or, List, length-take}
+use Rattle.std.specs.Prelude.{None, Some, IsSome}
+use Rattle.block_pool.specs.Slots.{BlocksState, blocks_for}
+use Rattle.block_pool.specs.Links.{block_at}
 use Rattle.block_pool.proofs.LayoutLemmas.{blocks_reached, copied_out, has_head, len_says, read_on_sound, read_on_slots}
+use Rattle.block_pool.proofs.PlaceLemmas.{read_on_chains, same_state}
 use Rattle.block_pool.proofs.blocks.Blocks.copy_on.Goals as goal
 
 pub head_at-head-requires : goal.head_at-head-requires
@@ -60,9 +59,11 @@ returns-then-count-left-clause-unchanged c =
     let s = c.self.inside in
     let head = c.head_at-head.result in
     let at : get_or s.heads.items c.args.first None ≡ Some head = rw c.deref.ensures.value at c.head_at-head.ensures.head in
-    ap (λ (ss : List (Option Held)). let v : BlocksState = record { slots = ss; free = s.free_len } in v)
-    (read_on_slots s.region.items s.next.items s.heads.items s.free s.free_len c.self.invariant c.args.first c.copy_from-read_on.result ((c.args.from + c.min-count.result) / 32) head at)
-    ∙ c.self.view_is
+    let passed = (c.args.from + c.min-count.result) / 32 in
+    let low : c.args.first < length s.heads.items = rw c.deref.ensures.value at c.head_at-head.ensures.low in
+    let slots = read_on_slots s.region.items s.next.items s.heads.items s.free s.free_len c.self.invariant c.args.first c.copy_from-read_on.result passed head at in
+    let chains = read_on_chains s.next.items s.heads.items c.args.first c.copy_from-read_on.result passed head low at in
+    same_state _ _ _ _ _ _ s.free_len slots chains ∙ c.self.view_is
 
 pub returns-else-count-left-clause-count : goal.returns-else-count-left-clause-count
 returns-else-count-left-clause-count c =

@@ -11,7 +11,7 @@ use Rattle.block_pool.proofs.pool.Pool.give.Goals as goal
 pub overflow_cast-need : goal.overflow_cast-need
 overflow_cast-need c =
     let s = c.self.inside in
-    let pool : PoolState = record { slots = s.blocks.slots; owners = s.owners.items } in
+    let pool : PoolState = record { slots = s.blocks.slots; owners = s.owners.items; places = s.blocks.places } in
     let live = subst (λ (v : PoolState). IsLive v c.args.chain) (sym c.self.view_is) c.requires in
     let len : c.len.result ≡ length (bytes_at pool.slots c.args.chain.first) = c.len.ensures ∙ ap (λ (v : PoolState). length (bytes_at v.slots c.args.chain.first)) (sym c.self.view_is) in
     let low = chain_low pool c.self.invariant.0 c.args.chain.owner live.0 c.args.chain.first live.1 in
@@ -21,7 +21,7 @@ overflow_cast-need c =
 pub overflow_sub-old : goal.overflow_sub-old
 overflow_sub-old c =
     let s = c.self.inside in
-    let pool : PoolState = record { slots = s.blocks.slots; owners = s.owners.items } in
+    let pool : PoolState = record { slots = s.blocks.slots; owners = s.owners.items; places = s.blocks.places } in
     let live = subst (λ (v : PoolState). IsLive v c.args.chain) (sym c.self.view_is) c.requires in
     let len : c.len.result ≡ length (bytes_at pool.slots c.args.chain.first) = c.len.ensures ∙ ap (λ (v : PoolState). length (bytes_at v.slots c.args.chain.first)) (sym c.self.view_is) in
     let low = chain_low pool c.self.invariant.0 c.args.chain.owner live.0 c.args.chain.first live.1 in
@@ -31,7 +31,7 @@ overflow_sub-old c =
 pub free_all-requires-clause-fits : goal.free_all-requires-clause-fits
 free_all-requires-clause-fits c =
     let s = c.self.inside in
-    let pool : PoolState = record { slots = s.blocks.slots; owners = s.owners.items } in
+    let pool : PoolState = record { slots = s.blocks.slots; owners = s.owners.items; places = s.blocks.places } in
     let live = subst (λ (v : PoolState). IsLive v c.args.chain) (sym c.self.view_is) c.requires in
     omega (
       arith,
@@ -43,7 +43,7 @@ free_all-requires-clause-fits c =
 pub invariant_of-self : goal.invariant_of-self
 invariant_of-self c =
     let s = c.self.inside in
-    let pool : PoolState = record { slots = s.blocks.slots; owners = s.owners.items } in
+    let pool : PoolState = record { slots = s.blocks.slots; owners = s.owners.items; places = s.blocks.places } in
     let live = subst (λ (v : PoolState). IsLive v c.args.chain) (sym c.self.view_is) c.requires in
     let len : c.len.result ≡ length (bytes_at pool.slots c.args.chain.first) = c.len.ensures ∙ ap (λ (v : PoolState). length (bytes_at v.slots c.args.chain.first)) (sym c.self.view_is) in
     given_counted pool c.self.invariant.0 s.blocks.free c.self.invariant.1 c.args.chain.owner live.0 c.args.chain.first c.free_all.new.blocks.slots c.free_all.new.blocks.free c.div_ceil-need.result c.index-old.result.now

@@ -1,5 +1,5 @@
 use Rattle.std.proofs.Common.{ℕ, sym, subst}
-use Rattle.block_pool.specs.Counts.{IsCounted, IsFreeCount}
+use Rattle.block_pool.specs.Counts.{AreCounted, AreFree}
 use Rattle.block_pool.proofs.CountLemmas.{new_counted}
 use Rattle.block_pool.proofs.pool.Pool.make.Goals as goal
 
@@ -7,5 +7,5 @@ pub invariant_of-result : goal.invariant_of-result
 invariant_of-result c =
     let blocks = c.in_ok-blocks.blocks in
     let owners = c.in_ok-owners.owners in
-    subst (λ (n : ℕ). IsCounted (record { slots = blocks.slots; owners = owners.items }) × IsFreeCount (record { slots = blocks.slots; owners = owners.items }) n) (sym c.in_ok-blocks.ensures.1)
+    subst (λ (n : ℕ). AreCounted blocks.slots owners.items × AreFree owners.items n) (sym c.in_ok-blocks.ensures.1)
     (new_counted c.args.quotas.now c.total_of.result blocks.slots owners.items c.requires.few_owners c.requires.few_blocks c.total_of.ensures c.in_ok-blocks.ensures.0 c.in_ok-owners.ensures)

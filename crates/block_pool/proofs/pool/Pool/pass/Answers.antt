@@ -4,7 +4,7 @@ use Rattle.block_pool.specs.declared.owners.Owner.{Owner}
 use Rattle.block_pool.specs.Slots.{blocks_for}
 use Rattle.block_pool.specs.Names.{bytes_at}
 use Rattle.block_pool.specs.Pool.{PoolState, IsLive, spare_of}
-use Rattle.block_pool.specs.Counts.{IsCounted, IsFreeCount}
+use Rattle.block_pool.specs.Counts.{AreCounted, AreFree}
 use Rattle.block_pool.proofs.LayoutLemmas.{blocks_is, blocks_fit}
 use Rattle.block_pool.proofs.CountLemmas.{chain_low, used_low, passed_counted}
 use Rattle.block_pool.proofs.pool.Pool.pass.Goals as goal
@@ -12,7 +12,7 @@ use Rattle.block_pool.proofs.pool.Pool.pass.Goals as goal
 pub overflow_cast-need : goal.overflow_cast-need
 overflow_cast-need c =
     let s = c.self.inside in
-    let pool : PoolState = record { slots = s.blocks.slots; owners = s.owners.items } in
+    let pool : PoolState = record { slots = s.blocks.slots; owners = s.owners.items; places = s.blocks.places } in
     let live = subst (λ (v : PoolState). IsLive v c.args.chain.now) (sym c.self.view_is) c.requires.live in
     let len : c.len.result ≡ length (bytes_at pool.slots c.args.chain.now.first) = c.len.ensures ∙ ap (λ (v : PoolState). length (bytes_at v.slots c.args.chain.now.first)) (sym c.self.view_is) in
     let low = chain_low pool c.self.invariant.0 c.args.chain.now.owner live.0 c.args.chain.now.first live.1 in
@@ -22,7 +22,7 @@ overflow_cast-need c =
 pub overflow_sub-before : goal.overflow_sub-before
 overflow_sub-before c =
     let s = c.self.inside in
-    let pool : PoolState = record { slots = s.blocks.slots; owners = s.owners.items } in
+    let pool : PoolState = record { slots = s.blocks.slots; owners = s.owners.items; places = s.blocks.places } in
     let live = subst (λ (v : PoolState). IsLive v c.args.chain.now) (sym c.self.view_is) c.requires.live in
     let len : c.len.result ≡ length (bytes_at pool.slots c.args.chain.now.first) = c.len.ensures ∙ ap (λ (v : PoolState). length (bytes_at v.slots c.args.chain.now.first)) (sym c.self.view_is) in
     let low = chain_low pool c.self.invariant.0 c.args.chain.now.owner live.0 c.args.chain.now.first live.1 in
@@ -32,7 +32,7 @@ overflow_sub-before c =
 pub invariant_of-self : goal.invariant_of-self
 invariant_of-self c =
     let s = c.self.inside in
-    let pool : PoolState = record { slots = s.blocks.slots; owners = s.owners.items } in
+    let pool : PoolState = record { slots = s.blocks.slots; owners = s.owners.items; places = s.blocks.places } in
     let chain = c.args.chain.now in
     let q = c.args.owner in
     let live = subst (λ (v : PoolState). IsLive v chain) (sym c.self.view_is) c.requires.live in
@@ -41,8 +41,8 @@ invariant_of-self c =
     let spare : c.spare-spare.result ≡ spare_of pool q = c.spare-spare.ensures.spare ∙ ap (λ (v : PoolState). spare_of v q) (sym c.self.view_is) in
     let old = c.index-before.result.now in
     let lowered : Owner = record { quota = old.quota; used = old.used - c.div_ceil-need.result; aside = old.aside } in
-    subst (λ (n : ℕ). IsCounted (record { slots = c.hand_over.new.blocks.slots; owners = set (set s.owners.items chain.owner lowered) q (record { quota = c.index-after.result.now.quota; used = c.index-after.result.now.used + c.div_ceil-need.result; aside = c.index-after.result.now.aside }) })
-    × IsFreeCount (record { slots = c.hand_over.new.blocks.slots; owners = set (set s.owners.items chain.owner lowered) q (record { quota = c.index-after.result.now.quota; used = c.index-after.result.now.used + c.div_ceil-need.result; aside = c.index-after.result.now.aside }) }) n)
+    subst (λ (n : ℕ). AreCounted c.hand_over.new.blocks.slots (set (set s.owners.items chain.owner lowered) q (record { quota = c.index-after.result.now.quota; used = c.index-after.result.now.used + c.div_ceil-need.result; aside = c.index-after.result.now.aside }))
+    × AreFree (set (set s.owners.items chain.owner lowered) q (record { quota = c.index-after.result.now.quota; used = c.index-after.result.now.used + c.div_ceil-need.result; aside = c.index-after.result.now.aside })) n)
     (sym c.hand_over.ensures.free)
     (passed_counted pool c.self.invariant.0 s.blocks.free c.self.invariant.1 chain.owner q live.0 other chain.first c.hand_over.new.blocks.slots c.div_ceil-need.result old c.index-after.result.now
     live.1 c.hand_over.ensures.slots (blocks_is c.div_ceil-need.result c.len.result c.div_ceil-need.ensures ∙ ap blocks_for len) (omega (arith, spare, c.if-need-spare.false))

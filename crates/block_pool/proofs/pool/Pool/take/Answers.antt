@@ -10,7 +10,7 @@ use Rattle.block_pool.proofs.pool.Pool.take.Goals as goal
 pub append-requires-clause-room : goal.append-requires-clause-room
 append-requires-clause-room c =
     let s = c.self.inside in
-    let pool : PoolState = record { slots = s.blocks.slots; owners = s.owners.items } in
+    let pool : PoolState = record { slots = s.blocks.slots; owners = s.owners.items; places = s.blocks.places } in
     let chain = c.args.chain.now in
     let live = subst (λ (v : PoolState). IsLive v chain) (sym c.self.view_is) c.requires in
     let len : c.len-len.result ≡ length (bytes_at pool.slots chain.first) = c.len-len.ensures ∙ ap (λ (v : PoolState). length (bytes_at v.slots chain.first)) (sym c.self.view_is) in
@@ -24,7 +24,7 @@ append-requires-clause-room c =
 pub invariant_of-self : goal.invariant_of-self
 invariant_of-self c =
     let s = c.self.inside in
-    let pool : PoolState = record { slots = s.blocks.slots; owners = s.owners.items } in
+    let pool : PoolState = record { slots = s.blocks.slots; owners = s.owners.items; places = s.blocks.places } in
     let chain = c.args.chain.now in
     let live = subst (λ (v : PoolState). IsLive v chain) (sym c.self.view_is) c.requires in
     let len : c.len-len.result ≡ length (bytes_at pool.slots chain.first) = c.len-len.ensures ∙ ap (λ (v : PoolState). length (bytes_at v.slots chain.first)) (sym c.self.view_is) in

@@ -1,0 +1,50 @@
+-- Walking along linked blocks, and lists made by place.
+use Rattle.std.proofs.Common.{◌≡◌, ◌≢◌, ℕ, ◌+◌, ◌-◌, ◌/◌, ◌%◌, ◌<◌, ◌≤◌, List, [], ◌∷◌, ◌++◌, length, get_or, map, refl, sym, ap, ◌∙◌, subst, arith, add-one}
+use Rattle.std.specs.List.{range_with_len}
+use Rattle.std.proofs.lemmas.List.{same_lists, get_or_default, map-id}
+use Rattle.std.proofs.lemmas.List.FromFn.{length-map-range_with_len, get_or-map-range_with_len, map-range_with_len_more}
+use Rattle.block_pool.specs.Links.{block_at}
+use Rattle.block_pool.proofs.LayoutLemmas.{behind}
+
+-- a block reached from one on the way to it
+pub block_on : (next : List ℕ) (first passed steps block : ℕ) → block_at next first passed ≡ block → passed ≤ steps
+    → block_at next block (steps - passed) ≡ block_at next first steps
+block_on next first passed steps block at low =
+    let e : passed + (steps - passed) ≡ steps = omega arith in
+    ap (λ b. block_at next b (steps - passed)) (sym at) ∙ (behind next first passed (steps - passed) ∙ ap (block_at next first) e)
+
+-- the blocks on that way lie in the pool
+pub blocks_on : (next : List ℕ) (first passed steps block : ℕ) → block_at next first passed ≡ block
+    → ((k : ℕ) → k < steps → block_at next first k < length next) → (k : ℕ) → k < steps - passed → block_at next block k < length next
+blocks_on next first passed steps block at reached k low =
+    let there : block_at next block k ≡ block_at next first (passed + k) = ap (λ b. block_at next b k) (sym at) ∙ behind next first passed k in
+    subst (λ b. b < length next) (sym there) (reached (passed + k) (omega arith))
+
+pub block_at-more : (next : List ℕ) (first k : ℕ) → get_or next (block_at next first k) 0 ≡ block_at next first (k + 1)
+block_at-more next first k = rw add-one refl
+
+-- the block of the next byte
+pub next_block : (next : List ℕ) (first place block : ℕ) → block ≡ block_at next first (place / 32) → (place + 1) % 32 ≡ 0
+    → get_or next block 0 ≡ block_at next first ((place + 1) / 32)
+next_block next first place block here full =
+    let e : place / 32 + 1 ≡ (place + 1) / 32 = omega arith in
+    ap (λ b. get_or next b 0) here ∙ (block_at-more next first (place / 32) ∙ ap (block_at next first) e)
+
+pub same_block : (next : List ℕ) (first place block : ℕ) → block ≡ block_at next first (place / 32) → (place + 1) % 32 ≢ 0
+    → block ≡ block_at next first ((place + 1) / 32)
+same_block next first place block here room =
+    let e : place / 32 ≡ (place + 1) / 32 = omega arith in
+    here ∙ ap (block_at next first) e
+
+-- a list whose elements are known by place
+pub made_from : (f : ℕ → ℕ) (from n : ℕ) (xs : List ℕ) → length xs ≡ n → ((k : ℕ) → k < n → get_or xs k 0 ≡ f (from + k))
+    → xs ≡ map f (range_with_len from n)
+made_from f from n xs len same =
+    same_lists _ _ (len ∙ sym (length-map-range_with_len f from n))
+    (λ k d h. let low : k < n = omega (arith, len) in
+    get_or_default xs k d 0 h ∙ (same k low ∙ sym (get_or-map-range_with_len f from n k (from + k) d low refl)))
+
+pub range_more : (a n : ℕ) → range_with_len a (n + 1) ≡ range_with_len a n ++ (a + n) ∷ []
+range_more a n =
+    sym (map-id (range_with_len a (n + 1))) ∙ (map-range_with_len_more (λ x. x) a n (a + n) refl ∙ ap (λ xs. xs ++ (a + n) ∷ []) (map-id
+    (range_with_len a n)))
