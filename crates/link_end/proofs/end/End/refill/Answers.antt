@@ -1,6 +1,6 @@
 use Rattle.std.proofs.Common.{sym, ◌∙◌, subst, refl}
 use Rattle.block_pool.specs.Pool.{PoolState}
-use Rattle.link_end.specs.Ends.{Halfway, StandsFor}
+use Rattle.link_end.specs.Ends.{Halfway}
 use Rattle.link_end.proofs.EndLemmas.{Refills, refills_more, refilled}
 use Rattle.link_end.proofs.«end».End.refill.Goals as goal
 

@@ -1,5 +1,5 @@
 use Rattle.std.proofs.Common.{◌≡◌, ℕ, List, sym, ap, ◌∙◌, subst}
-use Rattle.std.specs.Prelude.{Option, Some, None, Ok, IfSome, option_map}
+use Rattle.std.specs.Prelude.{Option, Some, Ok, IfSome, option_map}
 use Rattle.swp_base.specs.declared.control_frames.Control.{Control}
 use Rattle.swp_lpdu.specs.Controls.{bytes_of, control_of}
 use Rattle.link_end.proofs.FormLemmas.{next_numbers}
