@@ -38,6 +38,22 @@ fn bytes_come_back(rt: HostRuntime) -> Result<(), Fail> {
 }
 
 #[test]
+fn a_copy_goes_on_and_back(rt: HostRuntime) -> Result<(), Fail> {
+    let mut pool = Pool::make(rt.alloc(), &[4])?;
+    let mut chain = pool.chain(0);
+    assert_eq!(rt; pool.take(&mut chain, &[1; 40]), Ok(()));
+    assert_eq!(rt; pool.take(&mut chain, &[2; 60]), Ok(()));
+    let mut out = [0; 28];
+    assert_eq!(rt; pool.copy_on(&chain, 28, &mut out), 28);
+    assert_eq!(rt; &out[11..13], [1, 2].as_slice());
+    assert_eq!(rt; pool.copy_on(&chain, 84, &mut out), 16);
+    assert_eq!(rt; &out[15..17], [2, 2].as_slice());
+    assert_eq!(rt; pool.copy_on(&chain, 0, &mut out), 28);
+    assert_eq!(rt; out, [1; 28]);
+    Ok(())
+}
+
+#[test]
 fn a_block_is_set_aside(rt: HostRuntime) -> Result<(), Fail> {
     let mut pool = Pool::make(rt.alloc(), &[1])?;
     assert_eq!(rt; pool.set_aside(0), Ok(()));
