@@ -1,5 +1,5 @@
 -- How growing text goes on.
-use Rattle.std.proofs.Common.{◌≡◌, ℕ, ◌+◌, ◌≤◌, ◌/◌, ◌%◌, ◌<◌, Bool, true, false, List, [], ◌∷◌, ◌++◌, length, take, refl, sym, ◌∙◌, ap, subst, arith, slice_index, append_assoc, length-append, get_or, ◌^◌, append-nil, map}
+use Rattle.std.proofs.Common.{◌≡◌, ℕ, ◌+◌, ◌≤◌, ◌/◌, ◌%◌, ◌<◌, Bool, true, false, List, [], ◌∷◌, ◌++◌, length, take, refl, sym, ◌∙◌, ap, ap₂, subst, arith, slice_index, append_assoc, length-append, get_or, ◌^◌, append-nil, map}
 use Rattle.std.proofs.lemmas.List.{take-append-le, take_all, take_more, map-append}
 use Rattle.std.specs.Fmt.{decimal}
 use Rattle.std.proofs.lemmas.Fmt.{decimal_step}
@@ -41,11 +41,29 @@ pub holds_word : (start first word items : List ℕ) (more : List (List ℕ)) (s
 holds_word start first word items more short h =
     subst (λ t. Holds start t items short) (append_assoc (spaced (first ∷ more)) (32 ∷ []) word ∙ sym (spaced-push first word more)) h
 
+-- a space and a word at once
+pub holds_spaced : (start first word items : List ℕ) (more : List (List ℕ)) (short : Bool) → Holds start (spaced (first ∷ more) ++ (32 ∷ word)) items short
+    → HoldsWords start (first ∷ (more ++ word ∷ [])) items short
+holds_spaced start first word items more short h = subst (λ t. Holds start t items short) (sym (spaced-push first word more)) h
+
+-- behind a word more letters of it
+pub holds_longer : (start first word letters items : List ℕ) (more : List (List ℕ)) (short : Bool)
+    → Holds start (spaced (first ∷ (more ++ word ∷ [])) ++ letters) items short → HoldsWords start (first ∷ (more ++ (word ++ letters) ∷ [])) items short
+holds_longer start first word letters items more short h =
+    subst (λ t. Holds start t items short)
+    (ap (λ t. t ++ letters) (spaced-push first word more) ∙ append_assoc (spaced (first ∷ more)) (32 ∷ word) letters ∙ sym (spaced-push first (word ++ letters) more)) h
+
 -- the digits of one more byte
 encode-push : (bytes : List ℕ) (b : ℕ) → encode_upper (bytes ++ b ∷ []) ≡ encode_upper bytes ++ encode_upper (b ∷ [])
 unfolding encode_with
 encode-push [] b = refl
 encode-push (x ∷ xs) b = ap (λ t. slice_index upper_digits (x / 16) ∷ slice_index upper_digits (x % 16) ∷ t) (encode-push xs b)
+
+-- the digits of bytes and of more bytes
+pub encode-append : (bytes more : List ℕ) → encode_upper (bytes ++ more) ≡ encode_upper bytes ++ encode_upper more
+unfolding encode_with
+encode-append [] more = refl
+encode-append (x ∷ xs) more = ap (λ t. slice_index upper_digits (x / 16) ∷ slice_index upper_digits (x % 16) ∷ t) (encode-append xs more)
 
 pub encode-nil : encode_upper [] ≡ []
 unfolding encode_with
@@ -62,6 +80,20 @@ holds_byte start text bytes digits items i short within e h =
     subst (λ t. Holds start t items short)
     (ap (λ d. (text ++ encode_upper (take i bytes)) ++ d) e ∙ append_assoc text (encode_upper (take i bytes)) (encode_upper (get_or bytes i 0 ∷ []))
     ∙ ap (λ t. text ++ t) (sym (encode-more bytes i within))) h
+
+-- the digits of two more bytes behind those of a front
+pub holds_two : (start text front two upper lower items : List ℕ) (short : Bool) → length two ≡ 2 → upper ≡ encode_upper (get_or two 0 0 ∷ []) → lower ≡ encode_upper (get_or two 1 0 ∷ [])
+    → Holds start ((text ++ encode_upper front) ++ (get_or upper 0 0 ∷ get_or upper 1 0 ∷ get_or lower 0 0 ∷ get_or lower 1 0 ∷ [])) items short
+    → Holds start (text ++ encode_upper (front ++ two)) items short
+unfolding encode_with
+holds_two start text front [] upper lower items short e u l h = absurd (omega arith)
+holds_two start text front (a ∷ []) upper lower items short e u l h = absurd (omega arith)
+holds_two start text front (a ∷ b ∷ []) upper lower items short e u l h =
+    subst (λ t. Holds start t items short)
+    (ap₂ (λ x y. (text ++ encode_upper front) ++ (get_or x 0 0 ∷ get_or x 1 0 ∷ get_or y 0 0 ∷ get_or y 1 0 ∷ [])) u l
+    ∙ append_assoc text (encode_upper front) (encode_upper (a ∷ b ∷ []))
+    ∙ ap (λ t. text ++ t) (sym (encode-append front (a ∷ b ∷ [])))) h
+holds_two start text front (a ∷ b ∷ c ∷ two) upper lower items short e u l h = absurd (omega arith)
 
 -- the last digit of a number
 pub holds_digit : (start text items : List ℕ) (n : ℕ) (short : Bool) → 10 ≤ n → n < 2 ^ 64

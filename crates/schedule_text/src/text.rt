@@ -156,7 +156,8 @@ impl Text {
         ensures { (start first : List ℕ) (more : List (List ℕ)) → HoldsWords start (first ∷ more) self.old.bytes.items self.old.short
             → HoldsWords start (first ∷ (more ++ end_text at ∷ [])) self.new.bytes.items self.new.short }
     {
-        self.word(&end_letters(at));
+        let [high, low, letter] = end_letters(at);
+        self.push(&[b' ', high, low, letter]);
     }
 
     /// Appends a space and a byte as two hexadecimal digits.
@@ -164,7 +165,8 @@ impl Text {
         ensures { (start first : List ℕ) (more : List (List ℕ)) → HoldsWords start (first ∷ more) self.old.bytes.items self.old.short
             → HoldsWords start (first ∷ (more ++ byte_text byte ∷ [])) self.new.bytes.items self.new.short }
     {
-        self.word(&hex_digits(byte));
+        let [high, low] = hex_digits(byte);
+        self.push(&[b' ', high, low]);
     }
 
     /// Appends a space and bytes as pairs of hexadecimal digits.
@@ -172,16 +174,29 @@ impl Text {
         ensures { (start first : List ℕ) (more : List (List ℕ)) → HoldsWords start (first ∷ more) self.old.bytes.items self.old.short
             → HoldsWords start (first ∷ (more ++ encode_upper bytes.now ∷ [])) self.new.bytes.items self.new.short }
     {
-        self.push(b" ");
-        self.pairs(bytes);
+        match bytes.split_first() {
+            Some((first, rest)) => {
+                self.byte(*first);
+                self.pairs(rest);
+            }
+            None => self.push(b" "),
+        }
     }
 
+    /// Appends bytes as pairs of hexadecimal digits, two bytes at once.
     fn pairs(&mut self, bytes: &[u8])
         ensures { (start text : List ℕ) → Holds start text self.old.bytes.items self.old.short
             → Holds start (text ++ encode_upper bytes.now) self.new.bytes.items self.new.short }
     {
-        for byte in bytes {
-            self.push(&hex_digits(*byte));
+        let mut left = bytes;
+        'twos: while let Some(([first, second], more)) = left.split_first_chunk::<2>() {
+            let [a, b] = hex_digits(*first);
+            let [c, d] = hex_digits(*second);
+            self.push(&[a, b, c, d]);
+            left = more;
+        }
+        if let Some(last) = left.first() {
+            self.push(&hex_digits(*last));
         }
     }
 
@@ -190,6 +205,10 @@ impl Text {
         ensures { (start first : List ℕ) (more : List (List ℕ)) → HoldsWords start (first ∷ more) self.old.bytes.items self.old.short
             → HoldsWords start (first ∷ (more ++ decimal number ∷ [])) self.new.bytes.items self.new.short }
     {
+        if number < 10 {
+            self.push(&[b' ', b'0' + number as u8]);
+            return;
+        }
         self.push(b" ");
         self.digits(number);
     }

@@ -1,8 +1,10 @@
 //! An entry of a transcript is written.
 ghost use Rattle.std.specs.Prelude.{◌≡◌, List, ℕ, [], ◌∷◌, ◌++◌, OnOk, OnErr, IfOk, codes, if◌then◌else◌};
+ghost use Rattle.std.specs.Fmt.{decimal};
+ghost use Rattle.hex.specs.Hex.{encode_upper};
 ghost use Rattle.tables_text.specs.Tables.{hex_or_dash};
 ghost use Rattle.schedule_text.specs.Parts.{part_words};
-ghost use Rattle.schedule_text.specs.Entries.{header_words, line_words, down_word, lost_word, cause_words, command_words, count_words, entry_words, lines_behind, entry_line};
+ghost use Rattle.schedule_text.specs.Entries.{end_text, byte_text, header_words, line_words, down_word, lost_word, cause_words, command_words, count_words, entry_words, lines_behind, entry_line};
 ghost use Rattle.schedule_text.specs.Growth.{Holds, HoldsWords, IsFront};
 
 use crate::text::Part::{
@@ -13,7 +15,7 @@ use hci_tables::{Command, Tables};
 use std::alloc::{AllocError, Global};
 use std::mem;
 use swp_base::{Cause, NoMemory};
-use trace_model::{Entry, Header, Line, LostCause, NoCause};
+use trace_model::{End as At, Entry, Header, Line, LostCause, NoCause};
 
 /// Appends an entry as a line of the transcript, LF included, and tables as several lines (this project's own text). Where
 /// there is no memory for all of it, `out` has its old bytes and then a shorter front of it, which may be empty.
@@ -57,84 +59,48 @@ fn write_words(text: &mut Text, entry: &Entry)
             text.entry(b">", &[]);
             write_line(text, line);
         }
-        Entry::Up { at, session } => text.entry(b"up", &[End(*at), Number(*session)]),
-        Entry::Down { at, cause } => text.entry(b"down", &[End(*at), Word(cause_of_end(*cause))]),
-        Entry::Active { at } => text.entry(b"active", &[End(*at)]),
-        Entry::GaveUp { at, tries } => text.entry(
-            b"gaveup",
-            &[End(*at), Number(u32::from(*tries))],
-        ),
+        Entry::Up { at, session } => write_at_number(text, b"up", *at, *session),
+        Entry::Down { at, cause } => write_at_word(text, b"down", *at, cause_of_end(*cause)),
+        Entry::Active { at } => write_at(text, b"active", *at),
+        Entry::GaveUp { at, tries } => write_at_number(text, b"gaveup", *at, u32::from(*tries)),
         Entry::Sent {
             at,
             session,
             pid,
             message,
-        } => text.entry(
-            b"sent",
-            &[
-                End(*at),
-                Number(*session),
-                Byte(*pid),
-                Bytes(message.as_slice()),
-            ],
-        ),
+        } => write_message(text, b"sent", *at, *session, *pid, message.as_slice()),
         Entry::Got {
             at,
             session,
             pid,
             message,
-        } => text.entry(
-            b"got",
-            &[
-                End(*at),
-                Number(*session),
-                Byte(*pid),
-                Bytes(message.as_slice()),
-            ],
+        } => write_message(text, b"got", *at, *session, *pid, message.as_slice()),
+        Entry::Acked { at, session, count } => write_at_numbers(
+            text, b"acked", *at, *session, *count,
         ),
-        Entry::Acked { at, session, count } => text.entry(
-            b"acked",
-            &[End(*at), Number(*session), Number(*count)],
-        ),
-        Entry::Emit { at, lpdu } => text.entry(b"emit", &[End(*at), Bytes(lpdu.bytes())]),
-        Entry::Took { at, lpdu } => text.entry(b"took", &[End(*at), Bytes(lpdu.bytes())]),
-        Entry::Lost { at, lpdu, cause } => text.entry(
-            b"lost",
-            &[End(*at), Bytes(lpdu.bytes()), Word(cause_of_loss(*cause))],
-        ),
-        Entry::Turn { at, pid, message } => text.entry(
-            b"turn",
-            &[End(*at), Byte(*pid), Bytes(message.as_slice())],
-        ),
-        Entry::Held { at, need, spare } => text.entry(
+        Entry::Emit { at, lpdu } => write_frame(text, b"emit", *at, lpdu.bytes()),
+        Entry::Took { at, lpdu } => write_frame(text, b"took", *at, lpdu.bytes()),
+        Entry::Lost { at, lpdu, cause } => write_loss(text, *at, lpdu.bytes(), *cause),
+        Entry::Turn { at, pid, message } => write_turn(text, *at, *pid, message.as_slice()),
+        Entry::Held { at, need, spare } => write_at_numbers(
+            text,
             b"held",
-            &[
-                End(*at),
-                Number(u32::from(*need)),
-                Number(u32::from(*spare)),
-            ],
+            *at,
+            u32::from(*need),
+            u32::from(*spare),
         ),
-        Entry::Ask { host, message } => text.entry(
-            b"ask",
-            &[Byte(*host), Bytes(message.as_slice())],
-        ),
-        Entry::Dropped { at, pid } => text.entry(b"drop", &[End(*at), Byte(*pid)]),
+        Entry::Ask { host, message } => write_ask(text, *host, message.as_slice()),
+        Entry::Dropped { at, pid } => write_at_byte(text, b"drop", *at, *pid),
         Entry::Command { node, command } => {
-            text.entry(b"command", &[Byte(*node)]);
+            write_node(text, b"command", *node);
             write_command(text, command);
         }
-        Entry::AnyOk { node, count } => text.entry(b"ok", &[Byte(*node), Number(*count)]),
-        Entry::InitSame { at } => text.entry(b"init", &[End(*at), Word(b"same")]),
-        Entry::InitMade { at, count } => text.entry(
-            b"init",
-            &[End(*at), Word(b"made"), Number(u32::from(*count))],
-        ),
-        Entry::InitFailed { at, code } => text.entry(
-            b"init",
-            &[End(*at), Word(b"failed"), Byte(*code)],
-        ),
-        Entry::Cut { node } => text.entry(b"cut", &[Byte(*node)]),
-        Entry::Booted { node, count } => text.entry(b"booted", &[Byte(*node), Number(*count)]),
+        Entry::AnyOk { node, count } => write_node_number(text, b"ok", *node, *count),
+        Entry::InitSame { at } => write_at_word(text, b"init", *at, b"same"),
+        Entry::InitMade { at, count } => write_init_made(text, *at, u32::from(*count)),
+        Entry::InitFailed { at, code } => write_init_failed(text, *at, *code),
+        Entry::Cut { node } => write_node(text, b"cut", *node),
+        Entry::Booted { node, count } => write_node_number(text, b"booted", *node, *count),
         Entry::Tables { node, tables } => write_counts(text, *node, tables),
         Entry::No { cause } => {
             text.entry(b"no", &[]);
@@ -143,6 +109,122 @@ fn write_words(text: &mut Text, entry: &Entry)
     }
 }
 
+#[inline(never)]
+fn write_at(text: &mut Text, word: &[u8], at: At)
+    ensures { (start : List ℕ) → Holds start [] text.old.bytes.items text.old.short
+        → HoldsWords start (word.now ∷ end_text at ∷ []) text.new.bytes.items text.new.short }
+{
+    text.entry(word, &[End(at)]);
+}
+
+#[inline(never)]
+fn write_at_word(text: &mut Text, word: &[u8], at: At, other: &[u8])
+    ensures { (start : List ℕ) → Holds start [] text.old.bytes.items text.old.short
+        → HoldsWords start (word.now ∷ end_text at ∷ other.now ∷ []) text.new.bytes.items text.new.short }
+{
+    text.entry(word, &[End(at), Word(other)]);
+}
+
+#[inline(never)]
+fn write_at_byte(text: &mut Text, word: &[u8], at: At, byte: u8)
+    ensures { (start : List ℕ) → Holds start [] text.old.bytes.items text.old.short
+        → HoldsWords start (word.now ∷ end_text at ∷ byte_text byte ∷ []) text.new.bytes.items text.new.short }
+{
+    text.entry(word, &[End(at), Byte(byte)]);
+}
+
+#[inline(never)]
+fn write_at_number(text: &mut Text, word: &[u8], at: At, number: u32)
+    ensures { (start : List ℕ) → Holds start [] text.old.bytes.items text.old.short
+        → HoldsWords start (word.now ∷ end_text at ∷ decimal number ∷ []) text.new.bytes.items text.new.short }
+{
+    text.entry(word, &[End(at), Number(number)]);
+}
+
+#[inline(never)]
+fn write_at_numbers(text: &mut Text, word: &[u8], at: At, first: u32, second: u32)
+    ensures { (start : List ℕ) → Holds start [] text.old.bytes.items text.old.short
+        → HoldsWords start (word.now ∷ end_text at ∷ decimal first ∷ decimal second ∷ []) text.new.bytes.items text.new.short }
+{
+    text.entry(word, &[End(at), Number(first), Number(second)]);
+}
+
+#[inline(never)]
+fn write_frame(text: &mut Text, word: &[u8], at: At, bytes: &[u8])
+    ensures { (start : List ℕ) → Holds start [] text.old.bytes.items text.old.short
+        → HoldsWords start (word.now ∷ end_text at ∷ encode_upper bytes.now ∷ []) text.new.bytes.items text.new.short }
+{
+    text.entry(word, &[End(at), Bytes(bytes)]);
+}
+
+#[inline(never)]
+fn write_message(text: &mut Text, word: &[u8], at: At, session: u32, pid: u8, message: &[u8])
+    ensures { (start : List ℕ) → Holds start [] text.old.bytes.items text.old.short
+        → HoldsWords start (word.now ∷ end_text at ∷ decimal session ∷ byte_text pid ∷ encode_upper message.now ∷ []) text.new.bytes.items text.new.short }
+{
+    text.entry(word, &[End(at), Number(session), Byte(pid), Bytes(message)]);
+}
+
+#[inline(never)]
+fn write_node(text: &mut Text, word: &[u8], node: u8)
+    ensures { (start : List ℕ) → Holds start [] text.old.bytes.items text.old.short
+        → HoldsWords start (word.now ∷ byte_text node ∷ []) text.new.bytes.items text.new.short }
+{
+    text.entry(word, &[Byte(node)]);
+}
+
+#[inline(never)]
+fn write_node_number(text: &mut Text, word: &[u8], node: u8, number: u32)
+    ensures { (start : List ℕ) → Holds start [] text.old.bytes.items text.old.short
+        → HoldsWords start (word.now ∷ byte_text node ∷ decimal number ∷ []) text.new.bytes.items text.new.short }
+{
+    text.entry(word, &[Byte(node), Number(number)]);
+}
+
+#[inline(never)]
+fn write_loss(text: &mut Text, at: At, bytes: &[u8], cause: LostCause)
+    ensures { (start : List ℕ) → Holds start [] text.old.bytes.items text.old.short
+        → HoldsWords start (codes "lost" ∷ end_text at ∷ encode_upper bytes.now ∷ lost_word cause ∷ []) text.new.bytes.items text.new.short }
+{
+    text.entry(
+        b"lost",
+        &[End(at), Bytes(bytes), Word(cause_of_loss(cause))],
+    );
+}
+
+#[inline(never)]
+fn write_turn(text: &mut Text, at: At, pid: u8, message: &[u8])
+    ensures { (start : List ℕ) → Holds start [] text.old.bytes.items text.old.short
+        → HoldsWords start (codes "turn" ∷ end_text at ∷ byte_text pid ∷ encode_upper message.now ∷ []) text.new.bytes.items text.new.short }
+{
+    text.entry(b"turn", &[End(at), Byte(pid), Bytes(message)]);
+}
+
+#[inline(never)]
+fn write_ask(text: &mut Text, host: u8, message: &[u8])
+    ensures { (start : List ℕ) → Holds start [] text.old.bytes.items text.old.short
+        → HoldsWords start (codes "ask" ∷ byte_text host ∷ encode_upper message.now ∷ []) text.new.bytes.items text.new.short }
+{
+    text.entry(b"ask", &[Byte(host), Bytes(message)]);
+}
+
+#[inline(never)]
+fn write_init_made(text: &mut Text, at: At, count: u32)
+    ensures { (start : List ℕ) → Holds start [] text.old.bytes.items text.old.short
+        → HoldsWords start (codes "init" ∷ end_text at ∷ codes "made" ∷ decimal count ∷ []) text.new.bytes.items text.new.short }
+{
+    text.entry(b"init", &[End(at), Word(b"made"), Number(count)]);
+}
+
+#[inline(never)]
+fn write_init_failed(text: &mut Text, at: At, code: u8)
+    ensures { (start : List ℕ) → Holds start [] text.old.bytes.items text.old.short
+        → HoldsWords start (codes "init" ∷ end_text at ∷ codes "failed" ∷ byte_text code ∷ []) text.new.bytes.items text.new.short }
+{
+    text.entry(b"init", &[End(at), Word(b"failed"), Byte(code)]);
+}
+
+#[inline(never)]
 fn write_counts(text: &mut Text, node: u8, tables: &Tables)
     ensures { (start : List ℕ) → Holds start [] text.old.bytes.items text.old.short
         → HoldsWords start (count_words node tables.now) text.new.bytes.items text.new.short }
@@ -186,6 +268,7 @@ fn cause_of_loss(cause: LostCause) -> &'static [u8]
     }
 }
 
+#[inline(never)]
 fn write_header(text: &mut Text, header: &Header)
     ensures { (start first : List ℕ) (more : List (List ℕ)) → HoldsWords start (first ∷ more) text.old.bytes.items text.old.short
         → HoldsWords start (first ∷ (more ++ header_words header.now)) text.new.bytes.items text.new.short }
@@ -204,6 +287,7 @@ fn world_of(hci: bool) -> &'static [u8]
     if hci { b"hci" } else { b"bare" }
 }
 
+#[inline(never)]
 fn write_line(text: &mut Text, line: &Line)
     ensures { (start first : List ℕ) (more : List (List ℕ)) → HoldsWords start (first ∷ more) text.old.bytes.items text.old.short
         → HoldsWords start (first ∷ (more ++ line_words line.now)) text.new.bytes.items text.new.short }
@@ -254,6 +338,7 @@ fn write_line(text: &mut Text, line: &Line)
     }
 }
 
+#[inline(never)]
 fn write_cause(text: &mut Text, cause: NoCause)
     ensures { (start first : List ℕ) (more : List (List ℕ)) → HoldsWords start (first ∷ more) text.old.bytes.items text.old.short
         → HoldsWords start (first ∷ (more ++ cause_words cause)) text.new.bytes.items text.new.short }
@@ -275,6 +360,7 @@ fn write_cause(text: &mut Text, cause: NoCause)
     }
 }
 
+#[inline(never)]
 fn write_command(text: &mut Text, command: &Command)
     ensures { (start first : List ℕ) (more : List (List ℕ)) → HoldsWords start (first ∷ more) text.old.bytes.items text.old.short
         → HoldsWords start (first ∷ (more ++ command_words command.now)) text.new.bytes.items text.new.short }

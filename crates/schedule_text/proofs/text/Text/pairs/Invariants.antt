@@ -1,9 +1,13 @@
-use Rattle.std.proofs.Common.{List, ℕ, ◌++◌, take}
+use Rattle.std.proofs.Common.{◌≡◌, List, ℕ, ◌++◌, length}
 use Rattle.hex.specs.Hex.{encode_upper}
 use Rattle.schedule_text.specs.Growth.{Holds}
 use Rattle.schedule_text.proofs.text.Text.pairs.Given as goal
 
-abbrev pub invariant-loop-byte : goal.invariant-loop-byte
-invariant-loop-byte l =
-    (start text : List ℕ) → Holds start text l.fn.self.bytes.items l.fn.self.short
-    → Holds start (text ++ encode_upper (take l.byte-index l.bytes)) l.self.bytes.items l.self.short
+-- the digits of a front of the bytes were appended
+abbrev pub invariant-twos : goal.invariant-twos
+invariant-twos l =
+    (front : List ℕ) × ((front ++ l.left ≡ l.bytes)
+    × ((start text : List ℕ) → Holds start text l.fn.self.bytes.items l.fn.self.short → Holds start (text ++ encode_upper front) l.self.bytes.items l.self.short))
+
+abbrev pub decreases-twos : goal.decreases-twos
+decreases-twos l = length l.left
