@@ -51,6 +51,9 @@ impl Text {
         ensures { (start text : List ℕ) → Holds start text self.old.bytes.items self.old.short
             → Holds start (text ++ bytes.now) self.new.bytes.items self.new.short }
     {
+        if bytes.is_empty() {
+            return;
+        }
         if self.short {
             return;
         }

@@ -1,4 +1,4 @@
-use Rattle.std.proofs.Common.{◌≡◌, ◌<◌, ◌++◌, [], ◌∷◌, Some, slice_get, List, ℕ, length, take, arith, refl, sym, ◌∙◌, ap, ap₂, subst, append-nil, append_assoc, length-take, take-append-drop}
+use Rattle.std.proofs.Common.{◌≡◌, ◌<◌, ◌++◌, [], ◌∷◌, Some, slice_get, List, ℕ, length, arith, refl, sym, ◌∙◌, ap, ap₂, subst, append-nil, append_assoc, length-take, take-append-drop}
 use Rattle.hex.specs.Hex.{encode_upper}
 use Rattle.schedule_text.specs.Growth.{Holds}
 use Rattle.schedule_text.proofs.GrowthLemmas.{encode-nil, encode-append, holds_two}

@@ -43,17 +43,29 @@ marks-init c = (
   },
 )
 
+-- what was read of a wire ends before the next of the marks
+not_past : (marks all read from : ℕ) → read ≤ 64 → marks ≡ all % 2 ^ (64 - read) → from ≤ read → from ≤ count_leading_zeros 64 marks
+not_past marks all read from few is before = omega (arith, (next_of marks all read few is).behind, before)
+
 pub decode_mark_at-read_s1-requires-clause-order : goal.decode_mark_at-read_s1-requires-clause-order
-decode_mark_at-read_s1-requires-clause-order c = omega (arith, (next_of c.marks.marks (bit_or c.word-s1.result.marks c.word-s2.result.marks) c.marks.invariant.0 c.marks.invariant.1.within c.marks.invariant.1.marks).behind, c.marks.invariant.1.before_s1)
+decode_mark_at-read_s1-requires-clause-order c =
+    let kept = c.marks.invariant.1 in
+    not_past c.marks.marks (bit_or c.word-s1.result.marks c.word-s2.result.marks) c.marks.invariant.0 c.marks.read_s1 kept.within kept.marks kept.before_s1
 
 pub decode_mark_at-read_s2-requires-clause-order : goal.decode_mark_at-read_s2-requires-clause-order
-decode_mark_at-read_s2-requires-clause-order c = omega (arith, (next_of c.marks.marks (bit_or c.word-s1.result.marks c.word-s2.result.marks) c.marks.invariant.0 c.marks.invariant.1.within c.marks.invariant.1.marks).behind, c.marks.invariant.1.before_s2)
+decode_mark_at-read_s2-requires-clause-order c =
+    let kept = c.marks.invariant.1 in
+    not_past c.marks.marks (bit_or c.word-s1.result.marks c.word-s2.result.marks) c.marks.invariant.0 c.marks.read_s2 kept.within kept.marks kept.before_s2
 
 pub read_between-requires-clause-order : goal.read_between-requires-clause-order
-read_between-requires-clause-order c = omega (arith, (next_of c.marks.marks (bit_or c.word-s1.result.marks c.word-s2.result.marks) c.marks.invariant.0 c.marks.invariant.1.within c.marks.invariant.1.marks).behind, c.marks.invariant.1.before_s1)
+read_between-requires-clause-order c =
+    let kept = c.marks.invariant.1 in
+    not_past c.marks.marks (bit_or c.word-s1.result.marks c.word-s2.result.marks) c.marks.invariant.0 c.marks.read_s1 kept.within kept.marks kept.before_s1
 
 pub read_between-requires-2-clause-order : goal.read_between-requires-2-clause-order
-read_between-requires-2-clause-order c = omega (arith, (next_of c.marks.marks (bit_or c.word-s1.result.marks c.word-s2.result.marks) c.marks.invariant.0 c.marks.invariant.1.within c.marks.invariant.1.marks).behind, c.marks.invariant.1.before_s2)
+read_between-requires-2-clause-order c =
+    let kept = c.marks.invariant.1 in
+    not_past c.marks.marks (bit_or c.word-s1.result.marks c.word-s2.result.marks) c.marks.invariant.0 c.marks.read_s2 kept.within kept.marks kept.before_s2
 
 -- a wire whose bits were read up to a place, with the bits of its word
 bits_of_word : (wire : Wire) (bytes : List ℕ) (given : ℕ) (word : Word) → word.bits ≡ given → AreBits wire bytes (low_bits 64 given) → AreBits wire bytes (word_bits word)
