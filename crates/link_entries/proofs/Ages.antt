@@ -1,26 +1,26 @@
 -- Along each wire the ages of frames don't rise, and what is seen of a link is what it keeps.
-use Rattle.std.proofs.Common.{◌≡◌, ℕ, ◌≤◌, ◌<◌, Bool, true, false, cond, List, [], ◌∷◌, ◌++◌, length, drop, refl, ap, sym, subst, ◌∙◌, arith}
+use Rattle.std.proofs.Common.{◌≡◌, ℕ, ◌<◌, Bool, true, false, cond, List, [], ◌∷◌, ◌++◌, length, drop, refl, ap, sym, subst, ◌∙◌, arith}
 use Rattle.std.specs.Prelude.{◌+◌, nat_lt, is_some}
-use Rattle.std.proofs.lemmas.Bool.{true≢false, ltb-true, ltb-false}
+use Rattle.std.proofs.lemmas.Bool.{ltb-true, ltb-false}
 use Rattle.swp_base.specs.declared.control_frames.Control.{Control}
 use Rattle.swp_base.specs.declared.control_frames.Control.TheVariants.{I, S, Rset, Ua, Act, Clt}
-use Rattle.session_laws.specs.Sessions.{OnWire, is_up, fits, older, aged_wire, took_with}
+use Rattle.session_laws.specs.Sessions.{OnWire, fits, older, aged_wire, took_with}
 use Rattle.session_laws.proofs.Wire.{Young, young_push, young_later}
 use Rattle.session_laws.proofs.Steps.{aged-fresh}
-use Rattle.link_machine.specs.Machine.{LinkEnd, LinkInput, Turn, turned, after_input, ended_by, frames_out, sent_all}
+use Rattle.link_machine.specs.Machine.{LinkEnd, Turn, turned, after_input, ended_by, frames_out}
 use Rattle.link_machine.specs.Machine.LinkInput.{Take, Reset, Start, Stop, Tick as HasTick}
-use Rattle.message_link.specs.Links.{Link, IsStart, Ending, Comes, Loss, EndEvent, Node, LinkEvent, exchanged, put, put_all, with_controller, with_ended, silent, finished, steps_here, happens_here, happens, ticks_here, aged, all_here, after}
+use Rattle.message_link.specs.Links.{Link, IsStart, Ending, Comes, EndEvent, LinkEvent, exchanged, put, put_all, with_ended, silent, finished, steps_here, happens_here, happens, ticks_here, aged, all_here, after}
 use Rattle.message_link.specs.Links.IsStart.{IsBare, IsLine}
 use Rattle.message_link.specs.Links.Ending.{GoesOut, CutOff}
 use Rattle.message_link.specs.Links.Loss.{TooOld}
 use Rattle.message_link.specs.Links.Comes.{NextFrame, AsksReset, Starts, Stops, NoInput}
 use Rattle.message_link.specs.Links.EndEvent.{Step, Lose}
 use Rattle.message_link.specs.Links.LinkEvent.{AtController, AtHost, Ticks, TicksWithout, Activate}
-use Rattle.link_entries.specs.Entries.{End, Entry, here_entries, all_entries, step_entries, aged_entries, tick_entries, input_entries, event_entries, entries, trace}
+use Rattle.link_entries.specs.Entries.{End, Entry, all_entries, step_entries, aged_entries, tick_entries, event_entries, entries, trace}
 use Rattle.link_entries.specs.Entries.End.{Controller, Host}
 use Rattle.link_entries.specs.Entries.Entry.{Lost, Tick}
 use Rattle.link_entries.specs.Reading.{Seen, see, see_all, kept, nothing_seen}
-use Rattle.link_entries.proofs.Seeing.{seen_as, see_all-append, step_seen, here_seen, all_seen, tick_seen}
+use Rattle.link_entries.proofs.Seeing.{see_all-append, step_seen, here_seen, all_seen, tick_seen}
 
 -- along a wire ages don't rise, and none is above four
 pub record Ages (l : Link) : Type 0 where

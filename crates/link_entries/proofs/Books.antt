@@ -1,25 +1,24 @@
 -- What the entries of an end say of its sessions, and what each part of a step adds.
-use Rattle.std.proofs.Common.{◌≡◌, ℕ, suc, ◌≤◌, ◌<◌, ◌-◌, Bool, true, false, cond, List, [], ◌∷◌, ◌++◌, length, map, drop, Option, Some, None, refl, ap, sym, subst, ◌∙◌, arith, append-nil, append_assoc}
-use Rattle.std.specs.Prelude.{◌+◌, ◌==◌, ◌&&◌, nat_lt, is_some, option_to_list, max, not}
-use Rattle.std.proofs.lemmas.Bool.{true≢false, ltb-true, ltb-false, eqb-true, ne_eqb}
+use Rattle.std.proofs.Common.{◌≡◌, ℕ, ◌≤◌, ◌<◌, ◌-◌, Bool, true, false, cond, List, [], ◌∷◌, ◌++◌, length, map, drop, Option, Some, None, refl, ap, sym, ◌∙◌, arith, append-nil, append_assoc}
+use Rattle.std.specs.Prelude.{◌+◌, ◌==◌, ◌&&◌, nat_lt, option_to_list, max, not}
+use Rattle.std.proofs.lemmas.Bool.{true≢false, ltb-true, ltb-false, eqb-true}
 use Rattle.std.proofs.lemmas.Grind.{common_steps}
 use Rattle.std.proofs.lemmas.List.Elements.{filter_map-append, filter-append}
-use Rattle.swp_base.specs.declared.control_frames.Control.{Control}
 use Rattle.shdlc_core.specs.declared.answers.LinkState.{LinkState}
 use Rattle.shdlc_core.specs.declared.answers.LinkState.TheVariants.{Down as IsDown, Waiting as IsWaitingNow, Up as IsUpNow}
-use Rattle.shdlc_core.specs.Machine.{EndState, Session, no_session, with_ready}
-use Rattle.hcp_packet.specs.Packets.{packets_in, packet_of, good_of, is_good, IsSendable, packet_count, fragments_of}
+use Rattle.shdlc_core.specs.Machine.{EndState, Session, with_ready}
+use Rattle.hcp_packet.specs.Packets.{packets_in, packet_of, good_of, is_good, IsSendable, packet_count}
 use Rattle.hcp_packet.specs.declared.Packet.{Packet}
 use Rattle.hcp_chain.specs.Joining.{given_by, join_step, message_in}
 use Rattle.link_laws.proofs.Joined.{ready_cases}
-use Rattle.link_machine.specs.Machine.{Message, LinkEnd, Refused, LinkInput, Turn, Report, turn, turned, given, give_refusal, aside_refusal, messages_got, whole_among, whole_acked, news}
+use Rattle.link_machine.specs.Machine.{Message, LinkEnd, Refused, Turn, Report, turn, given, give_refusal, aside_refusal, messages_got, whole_among, whole_acked, news}
 use Rattle.link_machine.specs.Machine.Turn.{Give, Hold, FetchMessage, SetAside, Release}
-use Rattle.link_machine.proofs.Shifts.{Shift, GoesOn, IsNotUp, IsNew}
+use Rattle.link_machine.proofs.Shifts.{Shift, IsNotUp}
 use Rattle.link_machine.proofs.Shifts.Shift.{Stays, Ends, Renews, Begins, Rests}
 use Rattle.link_machine.proofs.Sound.{Data, SentAfter, whole_more, whole_given}
 use Rattle.link_machine.proofs.Reports.{Becomes}
 use Rattle.message_link.specs.Links.{Talk, Half, number_of, no_talk, ended_talk, talk_now, talk_of}
-use Rattle.link_entries.specs.Entries.{End, Entry, far, if_so, told, turn_entry, turn_entries, sent_unless}
+use Rattle.link_entries.specs.Entries.{End, Entry, far, if_so, told, turn_entry, sent_unless}
 use Rattle.link_entries.specs.Entries.End.{Controller, Host}
 use Rattle.link_entries.specs.Entries.Entry.{Up, Down, Active, GaveUp, Acked, Got, Sent, Emit, Took, Lost, Tick, Restarted, Cut}
 use Rattle.link_entries.specs.Filters.{same_end, sent_in, got_in, acked_in}

@@ -1,6 +1,6 @@
 -- No session ends by a packet that can't be joined.
-use Rattle.std.proofs.Common.{◌≡◌, ℕ, ◌≤◌, Bool, true, false, List, [], ◌∷◌, ◌++◌, length, map, Option, Some, None, refl, ap, sym, subst, ◌∙◌}
-use Rattle.std.specs.Prelude.{◌+◌, is_some, nat_lt, option_to_list, ◌||◌}
+use Rattle.std.proofs.Common.{◌≡◌, ℕ, Bool, true, false, List, [], ◌∷◌, ◌++◌, length, map, Option, Some, None, refl, sym, subst}
+use Rattle.std.specs.Prelude.{◌+◌, is_some, nat_lt, option_to_list}
 use Rattle.std.specs.List.{list_any}
 use Rattle.swp_base.specs.declared.control_frames.Control.{Control}
 use Rattle.swp_base.specs.declared.link_terms.Cause.{Cause}
@@ -10,12 +10,11 @@ use Rattle.shdlc_core.specs.declared.answers.LinkState.{LinkState}
 use Rattle.shdlc_core.specs.declared.answers.LinkState.TheVariants.{Down as IsDown, Waiting as IsWaitingNow, Up as IsUpNow}
 use Rattle.shdlc_core.specs.Machine.{EndState, tick_answer, runs_timer}
 use Rattle.session_laws.specs.Sessions.{OnWire, took_with}
-use Rattle.session_laws.specs.Sessions.EndEvent.{Deliver as CoreDeliver}
-use Rattle.link_machine.specs.Machine.{Message, LinkEnd, Role, Refused, LinkInput, Turn, Report, report, turn, turned, give_refusal, is_open, reset_refusal, if_up, after_input, ended_by, ended_by_act, whole_acked, frames_out}
+use Rattle.link_machine.specs.Machine.{Message, LinkEnd, Role, Refused, LinkInput, Turn, Report, report, turn, turned, give_refusal, is_open, reset_refusal, if_up, after_input, ended_by, whole_acked, frames_out}
 use Rattle.link_machine.specs.Machine.LinkInput.{Take, Tick as HasTick, Reset, Start, Stop}
 use Rattle.link_machine.specs.Machine.Role.{Bare, Clf, Uicc}
 use Rattle.link_machine.specs.Machine.Turn.{Give, Hold, FetchMessage, SetAside, Release}
-use Rattle.message_link.specs.Links.{Half, Link, IsStart, Ending, Comes, Loss, EndEvent, Node, LinkEvent, exchanged, number_of, put, with_ended, silent, steps_here, happens_here, happens, all_here, ticks_here, aged, after, AreOwn, IsOwn, IsEvent, AllAllowed}
+use Rattle.message_link.specs.Links.{Half, Link, IsStart, Ending, Comes, Loss, EndEvent, Node, LinkEvent, exchanged, number_of, put, with_ended, silent, steps_here, happens_here, happens, all_here, ticks_here, aged, AreOwn, IsOwn, IsEvent, AllAllowed}
 use Rattle.message_link.specs.Links.Ending.{GoesOut, CutOff}
 use Rattle.message_link.specs.Links.Loss.{TooMany}
 use Rattle.message_link.specs.Links.Comes.{NextFrame, AsksReset, Starts, Stops, NoInput}
@@ -25,9 +24,9 @@ use Rattle.message_link.specs.Projection.{core_of, core_event}
 use Rattle.message_link.proofs.Steps.{FromHost, core_first, no_fault_first}
 use Rattle.message_link.proofs.Runs.{Good, Reached, event_step, reached_more, from_host, from_controller}
 use Rattle.message_link.proofs.Whole.{not_chain, act_not_chain, start_good, start_reached}
-use Rattle.link_entries.specs.Entries.{End, Entry, far, if_so, told, told_of, turn_entry, turn_entries, sent_unless, first_lost, wire_with, pushed_out, put_entries, puts_entries, ending_entries, rest_entries, input_entries, left_after, taken_entries, restart_entries, step_entries, here_entries, all_entries, aged_entries, tick_entries, event_entries, entries, first_entries, trace}
+use Rattle.link_entries.specs.Entries.{End, Entry, far, if_so, told, told_of, turn_entry, turn_entries, sent_unless, first_lost, wire_with, pushed_out, put_entries, puts_entries, ending_entries, rest_entries, left_after, taken_entries, step_entries, here_entries, all_entries, aged_entries, tick_entries, event_entries, entries, first_entries, trace}
 use Rattle.link_entries.specs.Entries.End.{Controller, Host}
-use Rattle.link_entries.specs.Entries.Entry.{Up, Down, Active, GaveUp, Acked, Got, Sent, Emit, Took, Lost, Tick, Restarted, Cut}
+use Rattle.link_entries.specs.Entries.Entry.{Up, Down, Active, GaveUp, Acked, Got}
 use Rattle.link_entries.specs.Order.{is_chain_fault}
 
 -- none of these tells of a chain fault

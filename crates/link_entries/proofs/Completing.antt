@@ -1,6 +1,6 @@
 -- Each step keeps what is known of the sessions of both ends.
 use Rattle.std.proofs.Common.{◌≡◌, ℕ, Bool, true, false, cond, List, [], ◌∷◌, ◌++◌, map, Option, Some, None, ◌⊎◌, inl, inr, refl, ap, sym, subst, ◌∙◌, append_assoc, append-nil}
-use Rattle.std.specs.Prelude.{◌+◌, nat_lt, is_some, max, option_to_list}
+use Rattle.std.specs.Prelude.{nat_lt, is_some, max, option_to_list}
 use Rattle.std.proofs.lemmas.Bool.{true≢false}
 use Rattle.swp_base.specs.declared.link_terms.Cause.TheVariants.{Asked}
 use Rattle.swp_act.specs.declared.ActEvent.TheVariants.{Start as ActStart, Stop as ActStop}
@@ -21,7 +21,7 @@ use Rattle.message_link.specs.Links.EndEvent.{Step}
 use Rattle.message_link.specs.Projection.{core_of, core_half, core_take, core_ending, core_reset, core_step}
 use Rattle.message_link.proofs.Ends.{frames_alike}
 use Rattle.message_link.proofs.Project.{Tells}
-use Rattle.message_link.proofs.Finishing.{rests, can_end, took_can}
+use Rattle.message_link.proofs.Finishing.{can_end, took_can}
 use Rattle.link_entries.specs.Entries.{End, Entry, if_so, told_of, left_after, rest_entries, taken_entries, step_entries}
 use Rattle.link_entries.specs.Entries.Entry.{Up, Down, Active, GaveUp, Acked, Got, Took}
 use Rattle.link_entries.proofs.Stepping.{puts_number, host_finished}

@@ -1,6 +1,5 @@
 -- Where nothing was noted since a session began that disturbs it, all of it was delivered.
 use Rattle.std.proofs.Common.{◌≡◌, ℕ, Bool, true, false, List, [], ◌∷◌, ◌++◌, length, map, Option, refl, ap, sym, subst, ◌∙◌, append_assoc, append-nil}
-use Rattle.std.specs.Prelude.{◌+◌}
 use Rattle.std.proofs.lemmas.Bool.{true≢false}
 use Rattle.shdlc_core.specs.declared.answers.LinkState.TheVariants.{Up as IsUpNow}
 use Rattle.hcp_packet.specs.Packets.{good_of}
@@ -27,7 +26,7 @@ use Rattle.message_link.proofs.Whole.{start_good, start_reached, one_number}
 use Rattle.link_entries.specs.Entries.{End, Entry, far, here_entries, all_entries, aged_entries, tick_entries, event_entries, entries, first_entries, trace}
 use Rattle.link_entries.specs.Entries.End.{Controller, Host}
 use Rattle.link_entries.specs.Entries.Entry.{Tick}
-use Rattle.link_entries.specs.Quiet.{disturbs, since, IsQuietSince, IsDelivered}
+use Rattle.link_entries.specs.Quiet.{IsQuietSince, IsDelivered}
 use Rattle.link_entries.specs.Sessions.{IsRead}
 use Rattle.link_entries.proofs.Books.{up_talk}
 use Rattle.link_entries.proofs.Noting.{sound_tick}

@@ -1,13 +1,13 @@
 -- The definitions compute the worked examples, entry by entry.
 use Rattle.std.specs.List.{list_any}
-use Rattle.std.proofs.Common.{◌≡◌, ℕ, zero, suc, true, false, refl, List, [], ◌∷◌, ◌++◌, drop, Some, None}
+use Rattle.std.proofs.Common.{◌≡◌, ℕ, zero, suc, true, false, refl, List, [], ◌∷◌, ◌++◌, drop, None}
 use Rattle.swp_base.specs.declared.control_frames.Control.{Control}
 use Rattle.swp_base.specs.declared.control_frames.Control.TheVariants.{I, S, Rset, Ua, Act}
 use Rattle.swp_base.specs.declared.control_frames.Act.TheVariants.{Ready, SyncId, PowerMode}
 use Rattle.swp_base.specs.declared.control_frames.Kind.TheVariants.{Rr}
 use Rattle.swp_base.specs.declared.link_terms.Cause.TheVariants.{Asked, Peer, Act as ByAct}
 use Rattle.swp_act.specs.Activation.{new_clf, new_uicc}
-use Rattle.link_machine.specs.Machine.{Message, Turn}
+use Rattle.link_machine.specs.Machine.{Message}
 use Rattle.link_machine.specs.Machine.Role.{Bare, Clf, Uicc}
 use Rattle.link_machine.specs.Machine.Turn.{Give}
 use Rattle.message_link.specs.Links.{Link, EndEvent, Node, LinkEvent, after, new_link}

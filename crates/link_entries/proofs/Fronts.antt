@@ -1,15 +1,14 @@
 -- Fronts of what is noted of a step: of one end alone, and never more acknowledged than sent.
-use Rattle.std.proofs.Common.{◌≡◌, ℕ, zero, suc, ◌≤◌, ◌<◌, Bool, true, false, cond, List, [], ◌∷◌, ◌++◌, length, map, take, Option, Some, None, ◌⊎◌, inl, inr, refl, ap, sym, subst, ◌∙◌, arith, append_assoc, append-nil, length-append}
-use Rattle.std.specs.Prelude.{◌+◌, ◌==◌, ◌&&◌, max, nat_lt, option_to_list}
+use Rattle.std.proofs.Common.{◌≡◌, ℕ, ◌≤◌, Bool, true, false, List, [], ◌∷◌, ◌++◌, length, map, Option, Some, None, ◌⊎◌, inl, inr, refl, ap, sym, subst, ◌∙◌, arith, append_assoc, length-append}
+use Rattle.std.specs.Prelude.{max, nat_lt, option_to_list}
 use Rattle.hcp_packet.specs.Packets.{IsFrontOf}
-use Rattle.link_machine.specs.Machine.{Message, LinkEnd, Refused, Turn, Report, turn, give_refusal, whole_among}
+use Rattle.link_machine.specs.Machine.{Message, LinkEnd, Refused, Turn, Report, turn, give_refusal}
 use Rattle.link_machine.specs.Machine.Turn.{Give, Hold, FetchMessage, SetAside, Release}
 use Rattle.link_machine.proofs.Sound.{whole_few}
-use Rattle.message_link.specs.Links.{Half, Loss, talk_of}
+use Rattle.message_link.specs.Links.{Half, talk_of}
 use Rattle.link_entries.specs.Entries.{End, Entry, far, if_so, told, turn_entry, turn_entries, sent_unless}
-use Rattle.link_entries.specs.Entries.End.{Controller, Host}
-use Rattle.link_entries.specs.Entries.Entry.{Up, Down, Active, GaveUp, Acked, Got, Sent, Emit, Took, Lost, Tick, Restarted, Cut}
-use Rattle.link_entries.specs.Filters.{same_end, sent_in, got_in, acked_in}
+use Rattle.link_entries.specs.Entries.Entry.{Up, Down, Active, GaveUp, Acked, Got}
+use Rattle.link_entries.specs.Filters.{sent_in, acked_in}
 use Rattle.link_entries.proofs.Books.{Book, blank, plus, read, read-append, blank-plus, Told, same_far}
 
 -- ## Fronts

@@ -1,5 +1,5 @@
 -- At each moment of a step messages are in order, where they are before and behind it.
-use Rattle.std.proofs.Common.{◌≡◌, ℕ, zero, suc, ◌≤◌, ◌<◌, Bool, true, false, List, [], ◌∷◌, ◌++◌, length, take, ◌⊎◌, inl, inr, refl, ap, sym, subst, ◌∙◌, arith, append_assoc, append-nil, length-append}
+use Rattle.std.proofs.Common.{◌≡◌, ℕ, zero, suc, ◌≤◌, List, [], ◌∷◌, ◌++◌, length, take, ◌⊎◌, inl, inr, refl, ap, sym, subst, ◌∙◌, arith, append_assoc, append-nil}
 use Rattle.std.specs.Prelude.{max}
 use Rattle.std.proofs.lemmas.List.{take-append-le}
 use Rattle.std.proofs.lemmas.List.Elements.{filter-append}
@@ -10,7 +10,7 @@ use Rattle.session_laws.proofs.Data.{Base}
 use Rattle.session_laws.proofs.Sending.{SafeLink}
 use Rattle.link_laws.specs.Order.{InOrder as CoreInOrder}
 use Rattle.shdlc_core.specs.Machine.{Session}
-use Rattle.message_link.specs.Links.{Talk, Half, Link, talk_of}
+use Rattle.message_link.specs.Links.{Talk, Link, talk_of}
 use Rattle.message_link.specs.Order.{InOrder}
 use Rattle.message_link.specs.Projection.{core_of, core_half}
 use Rattle.message_link.proofs.Project.{Tells}
@@ -20,7 +20,7 @@ use Rattle.link_entries.specs.Entries.{End, Entry, far}
 use Rattle.link_entries.specs.Entries.End.{Controller, Host}
 use Rattle.link_entries.specs.Filters.{sent_in, got_in, acked_in}
 use Rattle.link_entries.specs.Order.{InOrderIn}
-use Rattle.link_entries.proofs.Books.{Book, blank, plus, plus-blank, read, read-append, Silent, Told, book_of}
+use Rattle.link_entries.proofs.Books.{Book, plus, plus-blank, read, read-append, Silent, book_of}
 use Rattle.link_entries.proofs.Fronts.{front_parts, OfOne, front_read, Few, AllFew, few_told}
 use Rattle.link_entries.proofs.Stepping.{Tolds}
 

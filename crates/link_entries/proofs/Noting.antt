@@ -1,52 +1,34 @@
 -- What is noted of a run says what is kept of the sessions of both ends.
-use Rattle.std.proofs.Common.{◌≡◌, ℕ, zero, suc, ◌≤◌, ◌<◌, Bool, true, false, cond, List, [], ◌∷◌, ◌++◌, map, Option, Some, None, ◌⊎◌, inl, inr, refl, ap, sym, subst, ◌∙◌, arith, append_assoc}
-use Rattle.std.specs.Prelude.{is_some, ◌==◌, ◌&&◌, max, not}
-use Rattle.std.proofs.lemmas.Bool.{true≢false, ne_eqb}
-use Rattle.swp_base.specs.declared.control_frames.Control.{Control}
-use Rattle.swp_base.specs.declared.control_frames.Control.TheVariants.{I, S, Rset, Ua, Act, Clt}
+use Rattle.std.proofs.Common.{◌≡◌, ℕ, Bool, true, false, List, [], ◌∷◌, ◌++◌, Option, Some, None, refl, ap, sym, subst, ◌∙◌, arith, append_assoc}
+use Rattle.std.specs.Prelude.{is_some, max, not}
+use Rattle.std.proofs.lemmas.Bool.{true≢false}
 use Rattle.swp_base.specs.declared.link_terms.Cause.TheVariants.{Asked, Act as ByAct}
 use Rattle.swp_act.specs.declared.ActEvent.{ActEvent}
 use Rattle.swp_act.specs.declared.ActEvent.TheVariants.{Start as ActStart, Stop as ActStop, Tick as ActTick}
 use Rattle.shdlc_core.specs.declared.answers.LinkState.{LinkState}
 use Rattle.shdlc_core.specs.declared.answers.LinkState.TheVariants.{Down as IsDown, Waiting as IsWaitingNow, Up as IsUpNow}
-use Rattle.shdlc_core.specs.Machine.{EndState, Session, most_frames, taken, take_answer, ticked, tick_answer, is_waiting, reset_with, stopped}
-use Rattle.session_laws.specs.Sessions.{OnWire, Link as CoreLink, Turn as CoreTurn, LinkEvent as CoreLinkEvent, is_rset, is_up, took_with, exchanged as core_exchanged, aged as core_aged, happens_here as core_happens_here, all_here as core_all_here, ticks_or_cut as core_ticks_or_cut, after as core_after}
-use Rattle.session_laws.specs.Sessions.EndEvent.{Deliver as CoreDeliver}
-use Rattle.session_laws.specs.Sessions.LinkEvent.{AtController as CoreAtController}
-use Rattle.session_laws.specs.Losses.{is_act, sans}
-use Rattle.session_laws.proofs.Hand.{peer_of, rset_tells}
-use Rattle.session_laws.proofs.Sending.{SafeLink}
-use Rattle.session_laws.proofs.Data.{Below, bound}
-use Rattle.session_laws.proofs.Steps.{took_other, safe_aged, safe_turns, safe_exchanged, tick_or_cut, took as core_took}
-use Rattle.link_machine.specs.Machine.{LinkEnd, Role, Refused, LinkInput, Turn, Report, report, turn, turned, is_open, is_faulty, role_after, act_answer, moved, put_down, activated, started, deactivated, new_link_end, renewed, if_up, reset_refusal, give_refusal, aside_refusal, reset_by, window_of, took, after_input, ended_by, began_by, frames_out, sent_all}
+use Rattle.shdlc_core.specs.Machine.{EndState, ticked, tick_answer, is_waiting, reset_with, stopped}
+use Rattle.session_laws.specs.Sessions.{OnWire, is_up, took_with}
+use Rattle.link_machine.specs.Machine.{LinkEnd, Role, Refused, LinkInput, Turn, report, turn, turned, is_open, role_after, act_answer, moved, activated, new_link_end, renewed, if_up, reset_refusal, give_refusal, aside_refusal, reset_by, window_of, took, after_input, ended_by, began_by, frames_out, sent_all}
 use Rattle.link_machine.specs.Machine.Role.{Bare, Clf, Uicc}
 use Rattle.link_machine.specs.Machine.LinkInput.{Take, Tick as HasTick, Reset, Start, Stop}
 use Rattle.link_machine.specs.Machine.Turn.{Give, Hold, FetchMessage, SetAside, Release}
-use Rattle.link_machine.proofs.Shifts.{Shift, IsNotUp, IsNew}
-use Rattle.link_machine.proofs.Shifts.Shift.{Stays, Ends, Renews, Begins, Rests as ShiftRests}
+use Rattle.link_machine.proofs.Shifts.{IsNotUp}
 use Rattle.link_machine.proofs.Runs.{Sound, sound_input}
-use Rattle.link_machine.proofs.Reports.{Becomes, Reports, take_so, tick_so, reset_so, start_so, stop_so}
-use Rattle.message_link.specs.Links.{Talk, Half, Link, IsStart, Ending, Comes, Loss, EndEvent, Node, LinkEvent, exchanged, number_of, no_talk, ended_talk, talk_now, talk_of, becomes, put_all, with_controller, with_ended, silent, cut, finished, has_taken, steps_here, happens_here, happens, all_here, ticks_here, aged, after, AreSendableTurns, CanEnd, CanCome, IsNode, IsAllowed, IsOwn, AreOwn, IsEvent, AllAllowed}
-use Rattle.message_link.specs.Links.IsStart.{IsBare, IsLine}
+use Rattle.link_machine.proofs.Reports.{Reports, take_so, tick_so, reset_so, start_so, stop_so}
+use Rattle.message_link.specs.Links.{Half, Link, Ending, Comes, Node, number_of, no_talk, talk_of, with_ended, silent, finished, has_taken, steps_here, ticks_here, AreSendableTurns, CanEnd, IsNode}
 use Rattle.message_link.specs.Links.Ending.{GoesOut, CutOff}
 use Rattle.message_link.specs.Links.Comes.{NextFrame, AsksReset, Starts, Stops, NoInput}
-use Rattle.message_link.specs.Links.EndEvent.{Step as EndStep, Lose}
-use Rattle.message_link.specs.Links.LinkEvent.{AtController, AtHost, Ticks, Activate}
-use Rattle.message_link.specs.Projection.{core_of, core_past, core_half, core_here, core_all, core_tick, core_tick_rest, core_event, core_events}
-use Rattle.message_link.proofs.Asks.{NoAsk, NoRset, none_due, puts_none, ticked_asks}
-use Rattle.message_link.proofs.Calm.{CalmLink, polite_of}
-use Rattle.message_link.proofs.Ends.{frames_alike, ready_phase, ticked_keeps}
-use Rattle.message_link.proofs.Project.{Tells, Step, Now, mid_moved, opened, shdlc_moved, moved_role, beside-put_all}
-use Rattle.message_link.proofs.Steps.{Rests, FromHost, activated_role, act_mid, tick_closes, core_first}
-use Rattle.message_link.proofs.Finishing.{can_end, can_after, took_can, none_out, first_none, turns_phase, reset_tells, reset_waits, tick_open, tick_closed, tick_role, waiting_phase, restart_mid, step_tick}
-use Rattle.message_link.proofs.Runs.{Good, Event, Reached, Run, run, safe_reached, rests_of, reached_more, from_host, from_controller, own_here, own_turns, step_here, event_step, rest_both, tells_same, seen}
-use Rattle.message_link.proofs.Whole.{from_start, new_number}
-use Rattle.link_entries.specs.Entries.{End, Entry, far, told, told_of, turn_entries, first_lost, rest_entries, input_entries, left_after, taken_entries, restart_entries, step_entries, here_entries, all_entries, aged_entries, tick_entries, event_entries, entries, first_entries, trace}
-use Rattle.link_entries.specs.Entries.End.{Controller, Host}
-use Rattle.link_entries.specs.Entries.Entry.{Took, Lost, Restarted, Tick}
-use Rattle.link_entries.proofs.Books.{Book, book_of, Silent, silent-append, silent_cons, Told, up_talk, down_talk, told_silent, Input, past_after, with_side}
+use Rattle.message_link.proofs.Asks.{NoAsk, NoRset, none_due, ticked_asks}
+use Rattle.message_link.proofs.Ends.{ready_phase, ticked_keeps}
+use Rattle.message_link.proofs.Project.{Tells, Now, mid_moved, opened, shdlc_moved, moved_role}
+use Rattle.message_link.proofs.Steps.{Rests, activated_role, act_mid, tick_closes}
+use Rattle.message_link.proofs.Finishing.{can_end, can_after, took_can, none_out, reset_tells, reset_waits, tick_open, tick_closed, tick_role, waiting_phase, restart_mid}
+use Rattle.link_entries.specs.Entries.{End, Entry, far, told_of, rest_entries, left_after, taken_entries, restart_entries, step_entries, tick_entries}
+use Rattle.link_entries.specs.Entries.Entry.{Took, Restarted}
+use Rattle.link_entries.proofs.Books.{told_silent, Input, past_after, with_side}
 use Rattle.link_entries.proofs.Fronts.{few_told, few_more, few_then}
-use Rattle.link_entries.proofs.Stepping.{Tolds, Out, input_told, rest_told, host_finished, silent_first, sound_turns, sound_sent}
+use Rattle.link_entries.proofs.Stepping.{Tolds, Out, input_told, rest_told, sound_turns, sound_sent}
 
 -- ## Where an end is Up before its frames go out, no RSET is due
 

@@ -1,6 +1,6 @@
 -- A quiet session has delivered all, as it is noted.
 use Rattle.std.proofs.Common.{◌≡◌, Bool, true, false, cond, List, [], ◌∷◌, ◌++◌, Option, Some, None, ◌⊎◌, inl, inr, refl, ap, sym, subst, ◌∙◌}
-use Rattle.std.specs.Prelude.{◌+◌, ◌||◌, nat_lt, is_some, option_to_list}
+use Rattle.std.specs.Prelude.{◌||◌, nat_lt, is_some, option_to_list}
 use Rattle.std.proofs.lemmas.Bool.{true≢false}
 use Rattle.swp_base.specs.declared.control_frames.Act.{Act as Activation}
 use Rattle.swp_base.specs.declared.link_terms.Cause.TheVariants.{Act as ByAct}
@@ -13,11 +13,10 @@ use Rattle.session_laws.specs.Losses.{Losses, is_act, sans, counts_first, loses_
 use Rattle.link_machine.specs.Machine.{LinkEnd, Turn, turned, is_open, act_answer, moved, activated, if_up, after_input, ended_by, frames_out}
 use Rattle.link_machine.specs.Machine.LinkInput.{Tick as HasTick}
 use Rattle.link_machine.proofs.Reports.{tick_so}
-use Rattle.message_link.specs.Links.{Link, Ending, Loss, EndEvent, Node, with_ended, happens_here, ticks_here, aged, after, AreSendableTurns, IsNode, IsAllowed, IsOwn}
+use Rattle.message_link.specs.Links.{Link, Ending, Loss, EndEvent, Node, with_ended, happens_here, ticks_here, aged, AreSendableTurns, IsNode, IsAllowed, IsOwn}
 use Rattle.message_link.specs.Links.Ending.{GoesOut, CutOff}
 use Rattle.message_link.specs.Links.Comes.{NextFrame, AsksReset, Starts, Stops, NoInput}
 use Rattle.message_link.specs.Links.EndEvent.{Step, Lose}
-use Rattle.message_link.specs.Links.LinkEvent.{Ticks}
 use Rattle.message_link.specs.Projection.{core_of, core_turns, core_here, core_tick, core_tick_rest}
 use Rattle.message_link.proofs.Project.{Now, Tells, turns_mid, with_ended-core, mid_moved, shdlc_moved, opened}
 use Rattle.message_link.proofs.Ends.{ticked_keeps}

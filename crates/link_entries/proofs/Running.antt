@@ -1,13 +1,12 @@
 -- Every event is noted so that the entries say what is kept of the sessions of both ends.
-use Rattle.std.proofs.Common.{◌≡◌, ℕ, zero, suc, ◌≤◌, ◌<◌, Bool, true, false, cond, List, [], ◌∷◌, ◌++◌, map, Option, Some, None, ◌⊎◌, inl, inr, refl, ap, sym, subst, ◌∙◌, arith, append_assoc, append-nil}
-use Rattle.std.specs.Prelude.{is_some, ◌==◌, ◌&&◌, max, nat_lt}
+use Rattle.std.proofs.Common.{◌≡◌, ℕ, ◌<◌, Bool, true, false, cond, List, [], ◌∷◌, ◌++◌, refl, ap, sym, subst, ◌∙◌, arith, append_assoc, append-nil}
+use Rattle.std.specs.Prelude.{is_some, ◌==◌, max, nat_lt}
 use Rattle.std.proofs.lemmas.Bool.{true≢false, ne_eqb}
 use Rattle.swp_base.specs.declared.control_frames.Control.{Control}
 use Rattle.swp_base.specs.declared.control_frames.Control.TheVariants.{I, S, Rset, Ua, Act, Clt}
-use Rattle.shdlc_core.specs.declared.answers.LinkState.{LinkState}
-use Rattle.shdlc_core.specs.declared.answers.LinkState.TheVariants.{Down as IsDown, Waiting as IsWaitingNow, Up as IsUpNow}
-use Rattle.shdlc_core.specs.Machine.{EndState, most_frames, taken, take_answer}
-use Rattle.session_laws.specs.Sessions.{OnWire, Link as CoreLink, Turn as CoreTurn, LinkEvent as CoreLinkEvent, is_rset, took_with, aged as core_aged, happens_here as core_happens_here, all_here as core_all_here, ticks_or_cut as core_ticks_or_cut, ticks_if_waiting as core_ticks_if_waiting, after as core_after}
+use Rattle.shdlc_core.specs.declared.answers.LinkState.TheVariants.{Up as IsUpNow}
+use Rattle.shdlc_core.specs.Machine.{most_frames, taken}
+use Rattle.session_laws.specs.Sessions.{OnWire, Link as CoreLink, is_rset, took_with, aged as core_aged, happens_here as core_happens_here, ticks_or_cut as core_ticks_or_cut, ticks_if_waiting as core_ticks_if_waiting}
 use Rattle.session_laws.specs.Sessions.EndEvent.{Deliver as CoreDeliver}
 use Rattle.session_laws.specs.Losses.{is_act, sans}
 use Rattle.session_laws.proofs.Hand.{peer_of, rset_tells}
@@ -15,39 +14,39 @@ use Rattle.session_laws.proofs.Safe.{Safe}
 use Rattle.session_laws.proofs.Sending.{SafeLink}
 use Rattle.session_laws.proofs.Steps.{took_other, safe_aged, safe_turns, safe_exchanged, tick_or_cut, tick_if_waiting}
 use Rattle.swp_act.specs.Activation.{new_clf, new_uicc}
-use Rattle.link_machine.specs.Machine.{LinkEnd, Role, LinkInput, Turn, turned, is_open, is_faulty, took, after_input, ended_by, began_by, frames_out, sent_all, new_link_end}
+use Rattle.link_machine.specs.Machine.{LinkEnd, Role, Turn, turned, is_open, is_faulty, took, after_input, ended_by, began_by, frames_out, new_link_end}
 use Rattle.link_machine.specs.Machine.Role.{Bare, Clf, Uicc}
 use Rattle.link_machine.specs.Machine.LinkInput.{Take, Tick as HasTick}
-use Rattle.link_machine.proofs.Shifts.{Shift, IsNotUp, IsNew}
+use Rattle.link_machine.proofs.Shifts.{Shift}
 use Rattle.link_machine.proofs.Shifts.Shift.{Stays, Ends, Renews, Begins, Rests as ShiftRests}
 use Rattle.link_machine.proofs.Runs.{Sound, new_sound}
 use Rattle.link_machine.proofs.Reports.{take_so}
-use Rattle.message_link.specs.Links.{Talk, Half, Link, IsStart, Ending, Comes, Loss, EndEvent, Node, LinkEvent, exchanged, number_of, no_talk, ended_talk, talk_now, talk_of, becomes, put_all, with_ended, has_taken, steps_here, happens_here, happens, all_here, ticks_here, aged, after, new_half, AreSendableTurns, CanEnd, CanCome, CanStart, IsClf, IsUicc, IsNode, IsAllowed, IsOwn, AreOwn, IsEvent, AllAllowed}
+use Rattle.message_link.specs.Links.{Half, Link, IsStart, Comes, EndEvent, Node, LinkEvent, exchanged, number_of, no_talk, ended_talk, talk_of, becomes, with_ended, steps_here, happens_here, happens, all_here, ticks_here, aged, after, new_half, AreSendableTurns, CanStart, IsClf, IsUicc, IsNode, IsAllowed, IsOwn, AreOwn, IsEvent, AllAllowed}
 use Rattle.message_link.specs.Links.IsStart.{IsBare, IsLine}
-use Rattle.message_link.specs.Links.Ending.{GoesOut, CutOff}
+use Rattle.message_link.specs.Links.Ending.{GoesOut}
 use Rattle.message_link.specs.Links.Comes.{NextFrame, AsksReset, Starts, Stops, NoInput}
 use Rattle.message_link.specs.Links.EndEvent.{Step as EndStep, Lose}
 use Rattle.message_link.specs.Links.LinkEvent.{AtController, AtHost, Ticks, TicksWithout, Activate}
-use Rattle.message_link.specs.Projection.{core_of, core_half, core_past, core_here, core_all, core_tick, core_tick_rest, core_event}
+use Rattle.message_link.specs.Projection.{core_of, core_half, core_here, core_tick, core_tick_rest, core_event}
 use Rattle.message_link.proofs.Asks.{NoRset}
 use Rattle.message_link.proofs.Calm.{CalmLink, IsPolite, polite_of}
 use Rattle.message_link.proofs.Ends.{frames_alike}
-use Rattle.message_link.proofs.Project.{Tells, Step, beside-put_all}
+use Rattle.message_link.proofs.Project.{Tells, beside-put_all}
 use Rattle.message_link.proofs.Steps.{Rests, FromHost, core_first}
 use Rattle.message_link.proofs.Finishing.{first_none, step_tick}
-use Rattle.message_link.proofs.Runs.{Good, Event, Reached, safe_reached, rests_of, reached_more, from_host, from_controller, own_here, own_turns, step_here, event_step, rest_both, tells_same, seen, step_own, started_clf, can_start}
+use Rattle.message_link.proofs.Runs.{Good, Reached, safe_reached, rests_of, reached_more, from_host, from_controller, own_here, own_turns, step_here, event_step, rest_both, tells_same, seen, started_clf, can_start}
 use Rattle.message_link.proofs.Whole.{new_number, start_good, start_reached}
-use Rattle.link_entries.specs.Entries.{End, Entry, far, first_lost, left_after, here_entries, all_entries, step_entries, aged_entries, tick_entries, event_entries, entries, first_entries, trace}
+use Rattle.link_entries.specs.Entries.{End, Entry, far, first_lost, left_after, here_entries, all_entries, aged_entries, tick_entries, event_entries, entries, first_entries, trace}
 use Rattle.link_entries.specs.Entries.End.{Controller, Host}
-use Rattle.link_entries.specs.Entries.Entry.{Lost, Tick}
+use Rattle.link_entries.specs.Entries.Entry.{Tick}
 use Rattle.link_entries.specs.Sessions.{IsRead}
-use Rattle.link_entries.proofs.Books.{Book, blank, book_of, Silent, silent-append, silent_cons, Told, up_talk, down_talk, told_silent, past_after}
+use Rattle.link_entries.proofs.Books.{Book, blank, book_of, Silent, silent_cons, Told, up_talk, down_talk, told_silent, past_after}
 use Rattle.link_entries.proofs.Stepping.{Tolds, Out, one_step, one_input, silent_first, puts_number}
 use Rattle.link_entries.proofs.Fronts.{OfOne, NoAcked, few_told, few_more}
 use Rattle.link_entries.proofs.Moments.{Ok, AllOk, all_then, between, ok_silent, ok_link}
 use Rattle.link_entries.specs.Order.{InOrderIn}
 use Rattle.hcp_packet.specs.Packets.{IsFrontOf}
-use Rattle.link_entries.proofs.Noting.{Near, Frame, Frames, FramesFor, step_told, tick_told, sound_tick, sound_step}
+use Rattle.link_entries.proofs.Noting.{Near, Frames, FramesFor, step_told, tick_told, sound_tick, sound_step}
 
 -- ## The first frame on a wire
 

@@ -1,27 +1,21 @@
 -- What is seen in the entries of a step is what the link keeps.
-use Rattle.std.proofs.Common.{◌≡◌, ℕ, ◌≤◌, ◌<◌, Bool, true, false, cond, List, [], ◌∷◌, ◌++◌, length, map, drop, Option, Some, None, refl, ap, sym, subst, ◌∙◌, arith}
+use Rattle.std.proofs.Common.{◌≡◌, ℕ, Bool, true, false, cond, List, [], ◌∷◌, ◌++◌, length, map, drop, Option, Some, None, refl, ap, sym, ◌∙◌}
 use Rattle.std.specs.Prelude.{◌+◌, nat_lt, is_some, option_to_list}
-use Rattle.std.proofs.lemmas.Bool.{true≢false, ltb-true, ltb-false}
 use Rattle.swp_base.specs.declared.control_frames.Control.{Control}
 use Rattle.swp_base.specs.declared.control_frames.Control.TheVariants.{I, S, Rset, Ua, Act, Clt}
-use Rattle.swp_base.specs.declared.link_terms.Cause.{Cause}
-use Rattle.shdlc_core.specs.declared.answers.LinkState.{LinkState}
-use Rattle.session_laws.specs.Sessions.{OnWire, is_rset, is_up, fits, older, aged_wire, took_with}
-use Rattle.session_laws.proofs.Wire.{Young, young_push, young_later, young_older}
-use Rattle.session_laws.proofs.Steps.{fresh, aged-fresh}
-use Rattle.link_machine.specs.Machine.{Message, LinkEnd, Refused, LinkInput, Turn, Report, turn, turned, give_refusal, aside_refusal, after_input, ended_by, frames_out, sent_all, report, whole_acked}
+use Rattle.session_laws.specs.Sessions.{OnWire, is_rset, is_up, fits, took_with}
+use Rattle.link_machine.specs.Machine.{LinkEnd, Refused, LinkInput, Turn, Report, turn, turned, give_refusal, after_input, ended_by, frames_out, sent_all, report, whole_acked}
 use Rattle.link_machine.specs.Machine.LinkInput.{Take, Tick as HasTick, Reset, Start, Stop}
 use Rattle.link_machine.specs.Machine.Turn.{Give, Hold, FetchMessage, SetAside, Release}
-use Rattle.message_link.specs.Links.{Half, Link, Ending, Comes, Loss, EndEvent, Node, LinkEvent, exchanged, number_of, put, put_all, with_controller, with_ended, silent, cut, finished, steps_here, happens_here, happens, ticks_here, aged, all_here, has_taken}
+use Rattle.message_link.specs.Links.{Half, Link, Ending, Comes, EndEvent, Node, exchanged, number_of, put, put_all, with_controller, with_ended, silent, finished, steps_here, happens_here, ticks_here, all_here, has_taken}
 use Rattle.message_link.specs.Links.Ending.{GoesOut, CutOff}
-use Rattle.message_link.specs.Links.Loss.{TooOld, TooMany}
+use Rattle.message_link.specs.Links.Loss.{TooMany}
 use Rattle.message_link.specs.Links.Comes.{NextFrame, AsksReset, Starts, Stops, NoInput}
 use Rattle.message_link.specs.Links.EndEvent.{Step, Lose}
-use Rattle.message_link.specs.Links.LinkEvent.{AtController, AtHost, Ticks, Activate}
-use Rattle.link_entries.specs.Entries.{End, Entry, far, if_so, told, told_of, turn_entry, turn_entries, sent_unless, first_lost, pushed_out, wire_with, put_entries, puts_entries, ending_entries, rest_entries, input_entries, left_after, taken_entries, restart_entries, step_entries, here_entries, all_entries, aged_entries, tick_entries, event_entries, entries}
+use Rattle.link_entries.specs.Entries.{End, Entry, far, if_so, told, told_of, turn_entry, turn_entries, sent_unless, first_lost, pushed_out, wire_with, put_entries, puts_entries, ending_entries, rest_entries, left_after, taken_entries, step_entries, here_entries, all_entries, tick_entries}
 use Rattle.link_entries.specs.Entries.End.{Controller, Host}
-use Rattle.link_entries.specs.Entries.Entry.{Up, Down, Active, GaveUp, Acked, Got, Sent, Emit, Took, Lost, Tick, Restarted, Cut}
-use Rattle.link_entries.specs.Reading.{Seen, see, see_all, kept, numbered}
+use Rattle.link_entries.specs.Entries.Entry.{Up, Down, Active, GaveUp, Acked, Got, Took, Cut}
+use Rattle.link_entries.specs.Reading.{Seen, see, see_all, kept}
 
 -- what a link keeps, seen from the end with this name, which is its controller's
 abbrev pub seen_as : End → Link → Seen

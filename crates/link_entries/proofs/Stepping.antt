@@ -1,36 +1,29 @@
 -- What is noted of a step of an end says what is kept of its sessions.
-use Rattle.std.proofs.Common.{◌≡◌, ℕ, zero, suc, ◌≤◌, ◌<◌, ◌-◌, Bool, true, false, cond, List, [], ◌∷◌, ◌++◌, length, map, drop, Option, Some, None, refl, ap, sym, subst, ◌∙◌, arith, append-nil, append_assoc}
-use Rattle.std.specs.Prelude.{◌+◌, ◌==◌, ◌&&◌, nat_lt, is_some, option_to_list, max}
-use Rattle.std.proofs.lemmas.Bool.{true≢false}
+use Rattle.std.proofs.Common.{◌≡◌, ℕ, zero, suc, Bool, true, false, cond, List, [], ◌∷◌, ◌++◌, length, refl, ap, sym, subst, ◌∙◌, append_assoc}
+use Rattle.std.specs.Prelude.{◌==◌, nat_lt, is_some}
 use Rattle.swp_base.specs.declared.control_frames.Control.{Control}
-use Rattle.swp_base.specs.declared.link_terms.Cause.TheVariants.{Asked, Act as ByAct}
-use Rattle.swp_act.specs.declared.ActEvent.{ActEvent}
-use Rattle.swp_act.specs.declared.ActEvent.TheVariants.{Start as ActStart, Stop as ActStop, Tick as ActTick}
 use Rattle.shdlc_core.specs.declared.answers.LinkState.{LinkState}
 use Rattle.shdlc_core.specs.declared.answers.LinkState.TheVariants.{Down as IsDown, Waiting as IsWaitingNow, Up as IsUpNow}
-use Rattle.shdlc_core.specs.Machine.{EndState, Session, fetched, after_frames, most_frames, ticked, tick_answer, is_waiting, reset_with, stopped}
+use Rattle.shdlc_core.specs.Machine.{EndState, fetched, after_frames, most_frames}
 use Rattle.link_laws.proofs.Joined.{fetch_cases}
 use Rattle.session_laws.specs.Sessions.{OnWire, is_up, took_with}
-use Rattle.link_machine.specs.Machine.{Message, LinkEnd, Role, ActDue, Refused, LinkInput, Turn, Report, report, turn, turned, whole_among, is_open, role_after, moved, activated, started, deactivated, new_link_end, renewed, if_up, reset_refusal, reset_by, window_of, took, after_input, ended_by, began_by, got_by, whole_acked, frames_out, sent_all, had_tick}
+use Rattle.link_machine.specs.Machine.{LinkEnd, Role, LinkInput, Turn, Report, report, turn, turned, new_link_end, renewed, after_input, ended_by, began_by, whole_acked, frames_out, sent_all}
 use Rattle.link_machine.specs.Machine.Role.{Bare, Clf, Uicc}
-use Rattle.link_machine.specs.Machine.LinkInput.{Take, Tick as HasTick, Reset, Start, Stop, FromNode}
+use Rattle.link_machine.specs.Machine.LinkInput.{Take, Reset, Start, Stop, FromNode}
 use Rattle.link_machine.specs.Machine.Turn.{Give, Hold, FetchMessage, SetAside, Release}
 use Rattle.link_machine.specs.Laws.{AreSendableInputs}
-use Rattle.link_machine.proofs.Sound.{Data}
-use Rattle.link_machine.proofs.Runs.{Sound, sound_turn, sound_input, fetched_data}
-use Rattle.link_machine.proofs.Reports.{Becomes, Reports, take_so, tick_so, reset_so, start_so, stop_so}
-use Rattle.message_link.specs.Links.{Talk, Half, Link, Ending, Comes, Loss, exchanged, number_of, no_talk, ended_talk, talk_now, talk_of, becomes, put, put_all, with_controller, with_ended, silent, cut, finished, has_taken, steps_here, AreSendableTurns, CanEnd}
+use Rattle.link_machine.proofs.Runs.{Sound, sound_turn, fetched_data}
+use Rattle.message_link.specs.Links.{Half, Link, Ending, Comes, Loss, number_of, ended_talk, talk_now, talk_of, becomes, put, put_all, with_controller, with_ended, silent, cut, finished, AreSendableTurns, CanEnd}
 use Rattle.message_link.specs.Links.Ending.{GoesOut, CutOff}
 use Rattle.message_link.specs.Links.Loss.{TooMany}
 use Rattle.message_link.specs.Links.Comes.{NextFrame, AsksReset, Starts, Stops, NoInput}
 use Rattle.message_link.proofs.Asks.{NoRset, puts_none}
-use Rattle.message_link.proofs.Ends.{Alike, frames_alike}
+use Rattle.message_link.proofs.Ends.{frames_alike}
 use Rattle.message_link.proofs.Project.{beside-put_all}
-use Rattle.link_entries.specs.Entries.{End, Entry, far, told, told_of, turn_entry, turn_entries, first_lost, pushed_out, wire_with, put_entries, puts_entries, ending_entries, rest_entries, input_entries, left_after, taken_entries, restart_entries, step_entries}
-use Rattle.link_entries.specs.Entries.End.{Controller, Host}
-use Rattle.link_entries.specs.Entries.Entry.{Took, Emit, Lost, Restarted, Cut}
-use Rattle.link_entries.proofs.Fronts.{OfOne, one-append, one_told, one_turns, Few, AllFew, few_told, few_more, few_grown, few_then, no_sent_told, NoAcked, no_acked-append, no_acked_turns}
-use Rattle.link_entries.proofs.Books.{Book, book_of, read, Silent, silent-append, silent_cons, Told, up_talk, down_talk, told_far, told_silent, told_same, told_input, Input, past_after, with_side, told_turn, IsSendableTurn, blank, plus, plus-blank, read-append, same_far, turn_far}
+use Rattle.link_entries.specs.Entries.{End, Entry, far, told, told_of, turn_entry, turn_entries, first_lost, pushed_out, wire_with, put_entries, puts_entries, ending_entries, rest_entries, left_after, taken_entries, step_entries}
+use Rattle.link_entries.specs.Entries.Entry.{Emit}
+use Rattle.link_entries.proofs.Fronts.{OfOne, one-append, one_told, one_turns, AllFew, few_told, few_more, few_grown, few_then, no_sent_told, NoAcked, no_acked-append, no_acked_turns}
+use Rattle.link_entries.proofs.Books.{book_of, Silent, silent-append, silent_cons, Told, up_talk, down_talk, told_far, told_silent, told_same, told_input, Input, with_side, told_turn, IsSendableTurn, turn_far}
 
 -- ## Turns
 

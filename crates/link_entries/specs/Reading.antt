@@ -1,9 +1,9 @@
 -- The wires of a link and the numbers of its RSETs, read off the entries.
-use Rattle.std.specs.Prelude.{ℕ, ◌+◌, Bool, true, false, if◌then◌else◌, List, [], ◌∷◌, ◌++◌, drop, max}
+use Rattle.std.specs.Prelude.{ℕ, ◌+◌, if◌then◌else◌, List, [], ◌∷◌, ◌++◌, drop}
 use Rattle.swp_base.specs.declared.control_frames.Control.{Control}
 use Rattle.session_laws.specs.Sessions.{OnWire, is_rset, older, took_with}
 use Rattle.message_link.specs.Links.{Link}
-use Rattle.link_entries.specs.Entries.{End, Entry}
+use Rattle.link_entries.specs.Entries.{Entry}
 use Rattle.link_entries.specs.Entries.End.{Controller, Host}
 use Rattle.link_entries.specs.Entries.Entry.{Emit, Took, Lost, Tick, Restarted, Cut}
 

@@ -14,7 +14,7 @@ use Rattle.link_machine.specs.Machine.Turn.{Give, Hold}
 use Rattle.message_link.specs.Quiet.{losses_of, IsQuiet}
 use Rattle.message_link.specs.Links.{Link, EndEvent, Node, LinkEvent, new_link, after, number_of, talk_of}
 use Rattle.message_link.specs.Links.Ending.{GoesOut, CutOff}
-use Rattle.message_link.specs.Links.Comes.{NextFrame, AsksReset, Starts, Stops, NoInput}
+use Rattle.message_link.specs.Links.Comes.{NextFrame, AsksReset, NoInput}
 use Rattle.message_link.specs.Links.Loss.{OnDemand}
 use Rattle.message_link.specs.Links.EndEvent.{Step, Lose}
 use Rattle.message_link.specs.Links.LinkEvent.{AtController, AtHost, Ticks, Activate}

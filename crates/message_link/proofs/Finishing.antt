@@ -1,6 +1,6 @@
 -- Each step of an end is projected, whether its frames go out or its node loses power before that.
-use Rattle.std.proofs.Common.{◌≡◌, ℕ, ◌<◌, ◌≤◌, Bool, true, false, List, [], ◌∷◌, ◌++◌, map, Option, Some, None, ◌⊎◌, inl, inr, refl, ap, sym, subst, ◌∙◌}
-use Rattle.std.specs.Prelude.{◌+◌, ◌&&◌, nat_lt, is_some, option_to_list, not}
+use Rattle.std.proofs.Common.{◌≡◌, ℕ, Bool, true, false, List, [], ◌∷◌, ◌++◌, Option, Some, None, ◌⊎◌, inl, inr, refl, ap, sym, subst, ◌∙◌}
+use Rattle.std.specs.Prelude.{◌+◌, ◌&&◌, nat_lt, is_some, option_to_list}
 use Rattle.std.proofs.lemmas.Bool.{true≢false}
 use Rattle.swp_base.specs.declared.control_frames.Control.{Control}
 use Rattle.swp_base.specs.declared.control_frames.Control.TheVariants.{I, S, Rset, Ua, Act, Clt}
@@ -15,19 +15,19 @@ use Rattle.shdlc_core.specs.declared.answers.LinkState.TheVariants.{Down, Waitin
 use Rattle.shdlc_core.specs.Machine.{EndState, frame_due, frames_of, after_frames, most_frames, taken, take_answer, ticked, tick_answer, reset_with, is_waiting, runs_timer, stopped, new_end, no_session}
 use Rattle.hcp_packet.specs.Packets.{fragments_of}
 use Rattle.link_laws.proofs.InOrder.{after_frames_idle}
-use Rattle.session_laws.specs.Sessions.{OnWire, Half as CoreHalf, Link as CoreLink, Turn as CoreTurn, EndEvent as CoreEndEvent, turned as core_turned, is_up, put_all as core_put_all, becomes as core_becomes, with_ended as core_with_ended, with_controller as core_with_controller, silent as core_silent, happens_here as core_happens_here, all_here as core_all_here, ticks_here as core_ticks_here, ticks_or_cut as core_ticks_or_cut, took_with}
-use Rattle.session_laws.specs.Sessions.EndEvent.{Turns as CoreTurns, Deliver as CoreDeliver, Acts as CoreActs, Reset as CoreReset, Cut as CoreCut, Stop as CoreStop}
+use Rattle.session_laws.specs.Sessions.{OnWire, Link as CoreLink, Turn as CoreTurn, EndEvent as CoreEndEvent, turned as core_turned, is_up, put_all as core_put_all, becomes as core_becomes, with_ended as core_with_ended, with_controller as core_with_controller, silent as core_silent, happens_here as core_happens_here, all_here as core_all_here, ticks_here as core_ticks_here, ticks_or_cut as core_ticks_or_cut, took_with}
+use Rattle.session_laws.specs.Sessions.EndEvent.{Turns as CoreTurns, Deliver as CoreDeliver, Acts as CoreActs, Stop as CoreStop}
 use Rattle.link_machine.specs.Machine.{LinkEnd, Role, Turn, Refused, is_faulty, is_open, role_after, act_answer, moved, put_down, activated, heard, took, renewed, new_link_end, reset_refusal, if_up, reset_by, window_of, turned, after_input, among, frames_out, sent_all, ended_by, ended_by_act, ended_by_frame}
 use Rattle.link_machine.specs.Machine.LinkInput.{Tick}
 use Rattle.link_machine.specs.Machine.Role.{Bare, Clf, Uicc}
-use Rattle.message_link.specs.Links.{Half, Link, Ending, Comes, becomes, put_all, with_controller, with_ended, silent, cut, finished, has_input, has_taken, has_restarted, steps_here, ticks_here, AreSendableTurns, IfLine, CanEnd, CanStart, IsWindow}
+use Rattle.message_link.specs.Links.{Half, Link, Ending, becomes, put_all, with_controller, with_ended, silent, cut, finished, has_taken, has_restarted, steps_here, ticks_here, AreSendableTurns, IfLine, CanEnd}
 use Rattle.message_link.specs.Links.Ending.{GoesOut, CutOff}
-use Rattle.message_link.specs.Links.Comes.{NextFrame, AsksReset, Starts, Stops, NoInput}
+use Rattle.message_link.specs.Links.Comes.{NextFrame, AsksReset}
 use Rattle.message_link.specs.Projection.{core_of, core_turns, core_take, core_ending, core_reset, core_restart, core_step, is_lost_tick, core_tick, core_tick_rest}
 use Rattle.message_link.proofs.Asks.{NoAsk, NoRset, none_due, no_rset, turned_asks, taken_asks, ticked_asks, turned_phase, puts_none}
 use Rattle.message_link.proofs.Calm.{Calm, CalmLink, IsPolite, with_sent, calm_cut, calm_tick}
 use Rattle.message_link.proofs.Ends.{Idle, Keeps, ticked_keeps, frames_alike}
-use Rattle.message_link.proofs.Project.{Says, Mid, Now, mid_moved, moved_role, shdlc_moved, frames_now, among_now, due_now, Tells, Step, step_same, step_turned, step_moved, turns_mid, turned_role, past_ended, host_ended, opened}
+use Rattle.message_link.proofs.Project.{Mid, Now, mid_moved, moved_role, shdlc_moved, frames_now, among_now, Tells, Step, step_same, step_turned, step_moved, turns_mid, turned_role, past_ended, host_ended, opened}
 use Rattle.session_laws.proofs.Steps.{took as core_took}
 use Rattle.message_link.proofs.Steps.{FromHost, Rests, is_shdlc, heard_end, heard_is, mid_counted, took_open, took_closed, no_fault_first, polite, role_closes, step_first, stays_down, activated_role, act_mid, Acted, tick_closes, core_first}
 

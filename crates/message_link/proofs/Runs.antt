@@ -1,20 +1,19 @@
 -- Every run of a link over messages is projected, and no chain fault comes in it.
 use Rattle.std.proofs.Common.{◌≡◌, ℕ, ◌≤◌, ◌<◌, Bool, true, false, List, [], ◌∷◌, ◌++◌, map, drop, Option, Some, None, refl, ap, sym, subst, ◌∙◌}
-use Rattle.std.specs.Prelude.{option_to_list}
 use Rattle.swp_base.specs.declared.control_frames.Control.{Control}
 use Rattle.swp_base.specs.declared.control_frames.Control.TheVariants.{I, S, Rset, Ua, Act, Clt}
 use Rattle.swp_act.specs.Activation.{is_active}
 use Rattle.swp_act.specs.declared.clf.ClfAct.{ClfAct}
 use Rattle.swp_act.specs.declared.ActEvent.TheVariants.{Start as ActStart, Stop as ActStop}
-use Rattle.shdlc_core.specs.Machine.{EndState, stopped, is_waiting}
+use Rattle.shdlc_core.specs.Machine.{stopped}
 use Rattle.session_laws.specs.Sessions.{OnWire, Link as CoreLink, Turn as CoreTurn, EndEvent as CoreEndEvent, LinkEvent as CoreLinkEvent, IsStart as CoreIsStart, exchanged as core_exchanged, happens as core_happens, happens_here as core_happens_here, all_here as core_all_here, after as core_after, aged as core_aged, ticks_or_cut as core_ticks_or_cut, ticks_if_waiting as core_ticks_if_waiting, AllAllowed as CoreAllAllowed, AreTurns as CoreAreTurns, IsAllowed as CoreIsAllowed}
-use Rattle.session_laws.specs.Sessions.EndEvent.{Deliver as CoreDeliver, Acts as CoreActs, Stop as CoreStop}
+use Rattle.session_laws.specs.Sessions.EndEvent.{Deliver as CoreDeliver}
 use Rattle.session_laws.specs.Sessions.LinkEvent.{AtController as CoreAtController, AtHost as CoreAtHost, Tick as CoreTick, TickWithout as CoreTickWithout}
 use Rattle.session_laws.proofs.Sending.{SafeLink}
 use Rattle.session_laws.proofs.Steps.{safe, in_order_here, in_order_there, safe_aged, safe_turns, safe_exchanged, tick_or_cut, tick_if_waiting}
-use Rattle.link_machine.specs.Machine.{LinkEnd, Role, Turn, Refused, reset_refusal, window_of, is_open, act_answer, activated, moved, role_after, started, renewed, turned}
+use Rattle.link_machine.specs.Machine.{LinkEnd, Role, Turn, Refused, reset_refusal, window_of, is_open, moved, role_after, started, renewed, turned}
 use Rattle.link_machine.specs.Machine.Role.{Bare, Clf, Uicc}
-use Rattle.message_link.specs.Links.{Link, Half, Ending, Comes, Loss, EndEvent, Node, LinkEvent, exchanged, steps_here, happens_here, all_here, happens, after, aged, ticks_here, silent, IsClf, IsUicc, IsWindow, CanStart, CanCome, IsNode, IsAllowed, IsOwn, AreOwn, IsEvent, AllAllowed}
+use Rattle.message_link.specs.Links.{Link, Half, Ending, Comes, Loss, EndEvent, Node, LinkEvent, exchanged, steps_here, happens_here, all_here, happens, after, aged, ticks_here, IsClf, IsUicc, IsWindow, CanStart, CanCome, IsNode, IsAllowed, IsOwn, AreOwn, IsEvent, AllAllowed}
 use Rattle.message_link.specs.Links.Ending.{GoesOut, CutOff}
 use Rattle.message_link.specs.Links.Comes.{NextFrame, AsksReset, Starts, Stops, NoInput}
 use Rattle.message_link.specs.Links.EndEvent.{Step as EndStep, Lose}

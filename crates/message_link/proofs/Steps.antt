@@ -7,31 +7,30 @@ use Rattle.swp_base.specs.declared.control_frames.Control.{Control}
 use Rattle.swp_base.specs.declared.control_frames.Control.TheVariants.{I, S, Rset, Ua, Act, Clt}
 use Rattle.swp_base.specs.declared.control_frames.Act.{Act as Activation}
 use Rattle.swp_base.specs.declared.control_frames.Act.TheVariants.{Ready as ActReady, SyncId, PowerMode}
-use Rattle.swp_base.specs.declared.link_terms.Cause.TheVariants.{Asked, Act as ByAct}
+use Rattle.swp_base.specs.declared.link_terms.Cause.TheVariants.{Act as ByAct}
 use Rattle.swp_act.specs.declared.ActEvent.{ActEvent}
-use Rattle.swp_act.specs.declared.ActEvent.TheVariants.{Start as ActStart, Take as ActTake, Tick as ActTick}
+use Rattle.swp_act.specs.declared.ActEvent.TheVariants.{Take as ActTake, Tick as ActTick}
 use Rattle.swp_act.specs.declared.Phase.{Phase}
 use Rattle.swp_act.specs.declared.Phase.TheVariants.{Inactive, Awaiting, Active}
 use Rattle.shdlc_core.specs.declared.answers.LinkState.{LinkState}
 use Rattle.shdlc_core.specs.declared.answers.LinkState.TheVariants.{Down, Waiting, Up}
 use Rattle.shdlc_core.specs.declared.answers.Due.{Due}
-use Rattle.shdlc_core.specs.Machine.{EndState, Session, frame_due, frames_of, after_frames, most_frames, taken, take_answer, ticked, tick_answer, reset_with, is_waiting, stopped, new_end, no_session}
+use Rattle.shdlc_core.specs.Machine.{EndState, Session, after_frames, most_frames, taken, take_answer, no_session}
 use Rattle.hcp_packet.specs.Packets.{fragments_of, packets_in, IsFrontOf}
 use Rattle.hcp_chain.specs.Joining.{are_taken}
 use Rattle.message_laws.proofs.TakenLemmas.{no_fault}
 use Rattle.link_laws.specs.Order.{InOrder as CoreInOrder}
-use Rattle.link_laws.proofs.InOrder.{after_frames_idle}
-use Rattle.session_laws.specs.Sessions.{OnWire, Half as CoreHalf, Link as CoreLink, Turn as CoreTurn, EndEvent as CoreEndEvent, turned as core_turned, is_up, is_rset, took_with, put_all as core_put_all, becomes as core_becomes, with_ended as core_with_ended, with_controller as core_with_controller, silent as core_silent, happens_here as core_happens_here, all_here as core_all_here, ticks_here as core_ticks_here, ticks_or_cut as core_ticks_or_cut, ended_session, session_of, number_of as core_number_of}
-use Rattle.session_laws.specs.Sessions.EndEvent.{Turns as CoreTurns, Deliver as CoreDeliver, Ignore as CoreIgnore, Acts as CoreActs, Lose as CoreLose, Reset as CoreReset, Stop as CoreStop}
+use Rattle.session_laws.specs.Sessions.{OnWire, Half as CoreHalf, Link as CoreLink, Turn as CoreTurn, turned as core_turned, is_rset, took_with, put_all as core_put_all, becomes as core_becomes, with_ended as core_with_ended, happens_here as core_happens_here, all_here as core_all_here, ended_session, session_of, number_of as core_number_of}
+use Rattle.session_laws.specs.Sessions.EndEvent.{Deliver as CoreDeliver, Ignore as CoreIgnore, Acts as CoreActs, Lose as CoreLose}
 use Rattle.session_laws.specs.Losses.{is_act}
 use Rattle.session_laws.proofs.Steps.{took as core_took}
-use Rattle.link_machine.specs.Machine.{Message, LinkEnd, Role, ActDue, Turn, is_faulty, is_open, role_after, act_answer, with_act, in_front, moved, put_down, activated, news, took, if_up, turned, after_input, ended_by, ended_by_frame}
+use Rattle.link_machine.specs.Machine.{Message, LinkEnd, Role, ActDue, Turn, is_faulty, is_open, role_after, act_answer, with_act, in_front, moved, put_down, activated, news, took, if_up, turned, ended_by_frame}
 use Rattle.link_machine.specs.Machine.Role.{Bare, Clf, Uicc}
 use Rattle.message_link.specs.Links.{Talk, Half, Link, talk_now, ended_talk, talk_of, number_of, becomes, with_ended, AreSendableTurns}
 use Rattle.message_link.specs.Projection.{core_past, core_half, core_of, core_turns, core_take}
-use Rattle.message_link.proofs.Calm.{Calm, CalmLink, IsPolite, with_sent, calm_drop, calm_take, calm_tick, calm_cut}
-use Rattle.message_link.proofs.Ends.{Idle, Keeps, taken_keeps, ticked_keeps, Alike, frames_alike}
-use Rattle.message_link.proofs.Project.{Says, Mid, Now, mid_moved, moved_role, shdlc_moved, frames_now, AllSay, Tells, Step, step_same, becomes_calm, step_becomes, step_turned, past_ended, host_ended, step_moved, opened}
+use Rattle.message_link.proofs.Calm.{Calm, CalmLink, IsPolite, with_sent, calm_drop, calm_take}
+use Rattle.message_link.proofs.Ends.{Idle, taken_keeps, Alike, frames_alike}
+use Rattle.message_link.proofs.Project.{Says, Mid, Now, mid_moved, moved_role, shdlc_moved, frames_now, AllSay, Tells, Step, step_same, step_turned, opened}
 
 -- ## A frame is taken
 

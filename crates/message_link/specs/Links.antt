@@ -11,7 +11,7 @@ use Rattle.hcp_packet.specs.Packets.{IsSendable}
 use Rattle.session_laws.specs.Sessions.{OnWire, is_rset, is_up, fits, aged_wire, took_with}
 use Rattle.link_machine.specs.Machine.{Message, LinkEnd, Role, new_link_end, renewed, started, deactivated, LinkInput, Turn, turned, after_input, frames_out, sent_all, ended_by}
 use Rattle.link_machine.specs.Machine.Role.{Bare, Clf, Uicc}
-use Rattle.link_machine.specs.Machine.LinkInput.{Take, Tick, Reset, Start, Stop}
+use Rattle.link_machine.specs.Machine.LinkInput.{Take, Tick, Reset}
 use Rattle.link_machine.specs.Machine.Turn.{Give}
 
 -- what is known of a session at one end

@@ -1,5 +1,5 @@
 -- A link over messages seen as a link over fragments.
-use Rattle.std.specs.Prelude.{ℕ, Bool, true, false, not, ◌&&◌, List, [], ◌∷◌, ◌++◌, map, option_to_list, Option, Some, None, if◌then◌else◌}
+use Rattle.std.specs.Prelude.{ℕ, Bool, false, not, ◌&&◌, List, [], ◌∷◌, ◌++◌, map, option_to_list, Option, Some, None, if◌then◌else◌}
 use Rattle.swp_base.specs.declared.control_frames.Control.{Control}
 use Rattle.swp_base.specs.declared.control_frames.Control.TheVariants.{Act as ActFrame}
 use Rattle.swp_act.specs.declared.ActEvent.{ActEvent}
@@ -13,7 +13,7 @@ use Rattle.session_laws.specs.Sessions.LinkEvent.{AtController as CoreAtControll
 use Rattle.link_machine.specs.Machine.{Message, LinkEnd, Turn, Refused, turn, give_refusal, reset_refusal, act_answer, after_input, reset_by, window_of, started, deactivated, is_open}
 use Rattle.link_machine.specs.Machine.LinkInput.{Take, Tick}
 use Rattle.link_machine.specs.Machine.Turn.{Give, Hold}
-use Rattle.message_link.specs.Links.{Talk, Half, Link, Ending, Comes, EndEvent, Node, LinkEvent, exchanged, steps_here, happens_here, happens, ticks_here, aged, all_here}
+use Rattle.message_link.specs.Links.{Talk, Half, Link, Ending, Comes, EndEvent, LinkEvent, exchanged, steps_here, happens_here, happens, ticks_here, aged}
 use Rattle.message_link.specs.Links.Ending.{GoesOut, CutOff}
 use Rattle.message_link.specs.Links.Comes.{NextFrame, AsksReset, Starts, Stops, NoInput}
 use Rattle.message_link.specs.Links.EndEvent.{Step, Lose}

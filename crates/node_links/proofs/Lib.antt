@@ -1,0 +1,10 @@
+pub mod Got
+pub mod Decisions
+pub mod Deeds
+pub mod HostDeeds
+pub mod Works
+pub mod Ends
+pub mod Sites
+pub mod Worlds
+pub mod Playing
+pub mod Obeying

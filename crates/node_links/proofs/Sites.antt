@@ -1,0 +1,215 @@
+-- The link of each host is a run of the law of one link, over all that happens to it.
+use Rattle.std.proofs.Common.{◌≡◌, Bool, true, false, cond, List, [], ◌∷◌, ◌++◌, refl, ap, sym, subst, ◌∙◌}
+use Rattle.std.specs.Prelude.{None, not, ◌&&◌}
+use Rattle.shdlc_core.specs.Machine.{is_waiting}
+use Rattle.link_machine.specs.Machine.{Role, Turn}
+use Rattle.link_machine.specs.Machine.LinkInput.{Reset}
+use Rattle.link_machine.specs.Machine.Role.{Bare, Clf, Uicc}
+use Rattle.message_link.specs.Links.{Link, Half, Ending, Comes, Loss, EndEvent, Node, LinkEvent, exchanged, aged, has_input, ticks_here, happens_here, happens, after, AreSendableTurns, IsClf, IsUicc, IfLine, IsWindow, CanEnd, CanStart, CanCome, IsEvent, AllAllowed}
+use Rattle.message_link.specs.Links.Ending.{GoesOut, CutOff}
+use Rattle.message_link.specs.Links.Comes.{NextFrame, AsksReset, Starts, Stops, NoInput}
+use Rattle.message_link.specs.Links.EndEvent.{Step, Lose}
+use Rattle.message_link.specs.Links.LinkEvent.{AtController, AtHost, Ticks, TicksWithout}
+use Rattle.node_world.specs.World.{ticked_so}
+use Rattle.node_links.specs.Runs.{new_line, IsRun}
+use Rattle.node_links.proofs.Got.{Clean}
+use Rattle.node_links.proofs.Ends.{here_host, tick_host, here_clf, here_uicc, here_clean, tick_clf, tick_uicc, tick_clean}
+
+-- ## Runs
+
+after_push : (es : List LinkEvent) (l : Link) (e : LinkEvent) → after l (es ++ e ∷ []) ≡ happens (after l es) e
+after_push [] l e = refl
+after_push (x ∷ es) l e = after_push es (happens l x) e
+
+allowed_push : (es : List LinkEvent) (l : Link) (e : LinkEvent) → AllAllowed l es → IsEvent (after l es) e → AllAllowed l (es ++ e ∷ [])
+allowed_push [] l e a b = (b, tt)
+allowed_push (x ∷ es) l e a b = (a.0, allowed_push es (happens l x) e a.1 b)
+
+run_more : (l : Link) (e : LinkEvent) → IsEvent l e → IsRun l → IsRun (happens l e)
+run_more l e can r =
+    let P : Link → Type 0 = λ k. IsEvent k e in
+    record {
+      events = r.events ++ e ∷ [];
+      run = record {
+        allowed = allowed_push r.events new_line e r.run.allowed (subst P (sym r.run.is) can);
+        is = after_push r.events new_line e ∙ ap (λ k. happens k e) r.run.is;
+      };
+    }
+
+-- ## A link of a world
+
+-- the link of a CLF and a UICC, and what came at its ends may be sent on
+pub record IsLine (l : Link) : Type 0 where
+  pub clf : IsClf l.controller.side.role
+  pub uicc : IsUicc l.host.side.role
+  pub near : Clean l.controller.side
+  pub far : Clean l.host.side
+
+pub record IsFineLink (l : Link) : Type 0 where
+  pub run : IsRun l
+  pub line : IsLine l
+
+pub new_fine : IsFineLink new_line
+new_fine = record {
+  run = record { events = []; run = record { allowed = tt; is = refl } };
+  line = record { clf = tt; uicc = tt; near = tt; far = tt };
+}
+
+clf_line : (r : Role) → IsClf r → IfLine r
+clf_line (Clf s) a = tt
+clf_line (Uicc s) a = absurd a
+clf_line Bare a = absurd a
+
+uicc_line : (r : Role) → IsUicc r → IfLine r
+uicc_line (Uicc s) a = tt
+uicc_line (Clf s) a = absurd a
+uicc_line Bare a = absurd a
+
+pub can_end : (r : Role) (ending : Ending) → IfLine r → CanEnd r ending
+can_end r GoesOut a = tt
+can_end r CutOff a = a
+
+line_here : (l : Link) (x : EndEvent) → IsLine l → IsLine (happens_here l x)
+line_here l x a =
+    let R : Half → Type 0 = λ h. IsUicc h.side.role in
+    let C : Half → Type 0 = λ h. Clean h.side in
+    record {
+      clf = here_clf l x a.clf;
+      uicc = subst R (sym (here_host l x)) a.uicc;
+      near = here_clean l x a.near;
+      far = subst C (sym (here_host l x)) a.far;
+    }
+
+line_there : (l : Link) (x : EndEvent) → IsLine l → IsLine (exchanged (happens_here (exchanged l) x))
+line_there l x a =
+    let k : Link = exchanged l in
+    let R : Half → Type 0 = λ h. IsClf h.side.role in
+    let C : Half → Type 0 = λ h. Clean h.side in
+    record {
+      clf = subst R (sym (here_host k x)) a.clf;
+      uicc = here_uicc k x a.uicc;
+      near = subst C (sym (here_host k x)) a.near;
+      far = here_clean k x a.far;
+    }
+
+-- ## Steps of one end
+
+-- what may come to a controller
+abbrev pub MayCome : Comes → Type 0
+MayCome NextFrame = Unit {0}
+MayCome (AsksReset window) = IsWindow window
+MayCome (Starts value) = Unit {0}
+MayCome Stops = Unit {0}
+MayCome NoInput = Unit {0}
+
+may_start : (r f : Role) → IsClf r → CanStart r f
+may_start (Clf s) f a = tt
+may_start (Uicc s) f a = absurd a
+may_start Bare f a = absurd a
+
+can_come : (l : Link) (comes : Comes) → MayCome comes → IsClf l.controller.side.role → CanCome l comes
+can_come l NextFrame m a = tt
+can_come l (AsksReset window) m a = m
+can_come l (Starts value) m a = may_start l.controller.side.role l.host.side.role a
+can_come l Stops m a = clf_line l.controller.side.role a
+can_come l NoInput m a = tt
+
+pub controller_steps : (l : Link) (comes : Comes) (ts : List Turn) (ending : Ending) → MayCome comes → AreSendableTurns ts → IsFineLink l
+    → IsFineLink (happens l (AtController (Step comes ts ending)))
+controller_steps l comes ts ending may send a =
+    record {
+      run = run_more l (AtController (Step comes ts ending))
+          (can_come l comes may a.line.clf, (send, can_end l.controller.side.role ending (clf_line l.controller.side.role a.line.clf))) a.run;
+      line = line_here l (Step comes ts ending) a.line;
+    }
+
+pub host_steps : (l : Link) (comes : Comes) (ts : List Turn) (ending : Ending) → CanCome (exchanged l) comes → AreSendableTurns ts → IsFineLink l
+    → IsFineLink (happens l (AtHost (Step comes ts ending)))
+host_steps l comes ts ending can send a =
+    record {
+      run = run_more l (AtHost (Step comes ts ending)) (can, (send, can_end l.host.side.role ending (uicc_line l.host.side.role a.line.uicc))) a.run;
+      line = line_there l (Step comes ts ending) a.line;
+    }
+
+pub controller_loses : (l : Link) (why : Loss) → IsFineLink l → IsFineLink (happens l (AtController (Lose why)))
+controller_loses l why a = record { run = run_more l (AtController (Lose why)) tt a.run; line = line_here l (Lose why) a.line }
+
+pub host_loses : (l : Link) (why : Loss) → IsFineLink l → IsFineLink (happens l (AtHost (Lose why)))
+host_loses l why a = record { run = run_more l (AtHost (Lose why)) tt a.run; line = line_there l (Lose why) a.line }
+
+-- ## Ticks
+
+-- what comes of a link whose controller's end has had its tick, or was reset in place of it, and then the host's
+abbrev pub ticked : Link → Bool → Node → Node → Link
+ticked l late c h = exchanged (ticks_here (exchanged (ticked_so (aged l) late c.turns c.ending)) h.turns h.ending)
+
+line_ticked : (m : Link) (h : Node) → IsLine m → IsLine (exchanged (ticks_here (exchanged m) h.turns h.ending))
+line_ticked m h a =
+    let k : Link = exchanged m in
+    let R : Half → Type 0 = λ z. IsClf z.side.role in
+    let C : Half → Type 0 = λ z. Clean z.side in
+    record {
+      clf = subst R (sym (tick_host k h.turns h.ending)) a.clf;
+      uicc = tick_uicc k h.turns h.ending a.uicc;
+      near = subst C (sym (tick_host k h.turns h.ending)) a.near;
+      far = tick_clean k h.turns h.ending a.far;
+    }
+
+line_tick : (l : Link) (ts : List Turn) (ending : Ending) → IsLine l → IsLine (ticks_here l ts ending)
+line_tick l ts ending a =
+    let R : Half → Type 0 = λ h. IsUicc h.side.role in
+    let C : Half → Type 0 = λ h. Clean h.side in
+    record {
+      clf = tick_clf l ts ending a.clf;
+      uicc = subst R (sym (tick_host l ts ending)) a.uicc;
+      near = tick_clean l ts ending a.near;
+      far = subst C (sym (tick_host l ts ending)) a.far;
+    }
+
+pub record AreNodes (c h : Node) : Type 0 where
+  pub controller : AreSendableTurns c.turns
+  pub host : AreSendableTurns h.turns
+
+pub ticks_fine : (l : Link) (late : Bool) (c h : Node) → AreNodes c h → IsFineLink l → IsFineLink (ticked l late c h)
+ticks_fine l late c h send a = go late (is_waiting l.controller.side.shdlc) refl
+  where
+    old : IsLine (aged l)
+    old = record { clf = a.line.clf; uicc = a.line.uicc; near = a.line.near; far = a.line.far }
+
+    here : CanEnd l.controller.side.role c.ending
+    here = can_end l.controller.side.role c.ending (clf_line l.controller.side.role a.line.clf)
+
+    there : (m : Link) → IsLine m → CanEnd m.host.side.role h.ending
+    there m b = can_end m.host.side.role h.ending (uicc_line m.host.side.role b.uicc)
+
+    reset : EndEvent
+    reset = Step (AsksReset None) c.turns c.ending
+
+    then_host : Link → Link
+    then_host k = exchanged (ticks_here (exchanged k) h.turns h.ending)
+
+    plain : IsFineLink (then_host (ticks_here (aged l) c.turns c.ending))
+    plain =
+        let m : Link = ticks_here (aged l) c.turns c.ending in
+        let b : IsLine m = line_tick (aged l) c.turns c.ending old in
+        record {
+          run = run_more l (Ticks c [] h) ((send.controller, here), tt, (send.host, there m b)) a.run;
+          line = line_ticked m h b;
+        }
+
+    by_reset : is_waiting l.controller.side.shdlc ≡ false → IsFineLink (then_host (has_input (aged l) (Reset None) c.turns c.ending))
+    by_reset q =
+        let m : Link = happens_here (aged l) reset in
+        let b : IsLine m = line_here (aged l) reset old in
+        record {
+          run = run_more l (TicksWithout (reset ∷ []) h) (q, (tt, (tt, (send.controller, here)), tt), (send.host, there m b)) a.run;
+          line = line_ticked m h b;
+        }
+
+    choice : Bool → Bool → Link
+    choice b w = cond (b && not w) (has_input (aged l) (Reset None) c.turns c.ending) (ticks_here (aged l) c.turns c.ending)
+
+    go : (b w : Bool) → is_waiting l.controller.side.shdlc ≡ w → IsFineLink (then_host (choice b (is_waiting l.controller.side.shdlc)))
+    go false w q = plain
+    go true true q = let P : Bool → Type 0 = λ z. IsFineLink (then_host (choice true z)) in subst P (sym q) plain
+    go true false q = let P : Bool → Type 0 = λ z. IsFineLink (then_host (choice true z)) in subst P (sym q) (by_reset q)

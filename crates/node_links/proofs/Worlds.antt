@@ -1,0 +1,523 @@
+-- Each link of a world of nodes is a run of the law of one link.
+use Rattle.std.proofs.Common.{◌≡◌, ℕ, ◌==◌, Bool, true, false, cond, List, [], ◌∷◌, ◌++◌, refl, ap, sym, subst, length}
+use Rattle.std.specs.Prelude.{Option, Some, None, map, not, ◌&&◌, min, ◌+◌}
+use Rattle.std.specs.List.{AllByRecursion, flat_map}
+use Rattle.std.specs.Option.{option_map_or}
+use Rattle.swp_base.specs.InMemory.{Memory}
+use Rattle.trace_model.specs.declared.entry.Entry.{Entry}
+use Rattle.trace_model.specs.declared.entry.Entry.TheVariants as entry
+use Rattle.trace_model.specs.declared.line.End.{End}
+use Rattle.shdlc_core.specs.Machine.{is_waiting}
+use Rattle.session_laws.specs.Sessions.{OnWire}
+use Rattle.journal_laws.specs.Journal.{count_of}
+use Rattle.journal_laws.specs.Planned.{fails_within, after_planned}
+use Rattle.link_machine.specs.Machine.{Turn}
+use Rattle.link_machine.specs.Machine.LinkInput.{Reset}
+use Rattle.link_machine.specs.Machine.Role.{Bare}
+use Rattle.message_link.specs.Links.{Link, Half, Ending, Comes, Loss, Node, new_link, exchanged, aged, has_input, ticks_here, happens, AreSendableTurns, CanCome}
+use Rattle.message_link.specs.Links.Ending.{GoesOut, CutOff}
+use Rattle.message_link.specs.Links.Comes.{NextFrame, AsksReset, Starts, Stops, NoInput}
+use Rattle.message_link.specs.Links.Loss.{OnDemand, Broken, Unread, TooOld, TooMany}
+use Rattle.message_link.specs.Links.EndEvent.{Step, Lose}
+use Rattle.message_link.specs.Links.LinkEvent.{AtController, AtHost}
+use Rattle.link_entries.specs.Entries.End.{Controller, Host}
+use Rattle.link_entries.specs.Entries.{first_lost}
+use Rattle.history.specs.Steps.{at, entries_for}
+use Rattle.node_machine.specs.Parts.{Desk, Running, Port, Work}
+use Rattle.node_machine.specs.Carrying.{changed_if, port_at}
+use Rattle.node_machine.specs.Node.{steps, found, boot_writes, with_error, new_desk}
+use Rattle.node_machine.specs.Node.NodeInput.{TimePasses}
+use Rattle.node_world.specs.World.{Site, NodeWorld, wires_for, frames_noted, site_at, with_site, link_to, ending_of, runs_on, turns_at, half_in, port_for, work_of, comes_to, controller_work, link_after_controller, after_controller, controller_does, host_work, after_host, host_does, controller_cut, host_cut, loses_power_at, memory_at, with_memory, with_node, links_of, boots, counts, frame_lost, all_aged, is_late_at, ticked_so, controller_ticks, host_ticks, hosts_tick, world_ticks}
+use Rattle.node_links.proofs.Got.{Clean}
+use Rattle.node_links.proofs.Deeds.{IsTrueDesk}
+use Rattle.node_links.proofs.Works.{AreFinePorts, IsFineWork, fine_at, steps_fine}
+use Rattle.node_links.proofs.Ends.{here_host, tick_host}
+use Rattle.node_links.proofs.Sites.{IsFineLink, MayCome, controller_steps, host_steps, controller_loses, host_loses, ticks_fine}
+
+-- ## What is kept
+
+abbrev pub AreTrueDesks : List Desk → Type 0
+AreTrueDesks desks = AllByRecursion IsTrueDesk desks
+
+abbrev pub IsFineNode : Option Running → Type 0
+IsFineNode None = Unit {0}
+IsFineNode (Some r) = AreTrueDesks r.desks
+
+pub record IsFineSite (s : Site) : Type 0 where
+  pub link : IsFineLink s.link
+  pub node : IsFineNode s.node
+
+abbrev pub AreFineSites : List Site → Type 0
+AreFineSites sites = AllByRecursion IsFineSite sites
+
+pub record IsFineWorld (w : NodeWorld) : Type 0 where
+  pub sites : AreFineSites w.sites
+  pub controller : IsFineNode w.controller
+
+-- ## Lists
+
+pub sites_map : (f : Site → Site) → ((s : Site) → IsFineSite s → IsFineSite (f s)) → (sites : List Site) → AreFineSites sites → AreFineSites (map f sites)
+sites_map f one [] a = tt
+sites_map f one (s ∷ sites) a = (one s a.0, sites_map f one sites a.1)
+
+-- what is known of the sites with this number besides
+abbrev pub AtHostOnly : (Site → Type 0) → ℕ → Site → Type 0
+AtHostOnly P h s = (s.host == h) ≡ true → P s
+
+changed : (P : Site → Type 0) (h : ℕ) (f : Site → Site) → ((s : Site) → P s → IsFineSite s → IsFineSite (f s)) → (s : Site) → AtHostOnly P h s
+    → IsFineSite s → IsFineSite (changed_if (s.host == h) f s)
+changed P h f one s known a = go (s.host == h) known
+  where
+    go : (b : Bool) → (b ≡ true → P s) → IsFineSite (changed_if b f s)
+    go true k = one s (k refl) a
+    go false k = a
+
+site_changed : (P : Site → Type 0) (h : ℕ) (f : Site → Site) → ((s : Site) → P s → IsFineSite s → IsFineSite (f s)) → (sites : List Site)
+    → AllByRecursion (AtHostOnly P h) sites → AreFineSites sites → AreFineSites (with_site h f sites)
+site_changed P h f one [] known a = tt
+site_changed P h f one (s ∷ sites) known a = (changed P h f one s known.0 a.0, site_changed P h f one sites known.1 a.1)
+
+nothing_known : (h : ℕ) (sites : List Site) → AllByRecursion (AtHostOnly (λ s. Unit {0}) h) sites
+nothing_known h [] = tt
+nothing_known h (s ∷ sites) = ((λ q. tt), nothing_known h sites)
+
+pub site_fine : (h : ℕ) (f : Site → Site) → ((s : Site) → IsFineSite s → IsFineSite (f s)) → (sites : List Site) → AreFineSites sites
+    → AreFineSites (with_site h f sites)
+site_fine h f one sites a = site_changed (λ s. Unit {0}) h f (λ s k fine. one s fine) sites (nothing_known h sites) a
+
+-- the site with a number is one of them
+fine_site : (sites : List Site) (h : ℕ) (s : Site) → AreFineSites sites → site_at sites h ≡ Some s → IsFineSite s
+fine_site [] h s a q = cc
+fine_site (x ∷ sites) h s a q = go (x.host == h) refl (fine_site sites h s a.1)
+  where
+    go : (b : Bool) → (x.host == h) ≡ b → (site_at sites h ≡ Some s → IsFineSite s) → IsFineSite s
+    go true e later =
+        let same : Some x ≡ Some s = rw e at q in
+        let is : x ≡ s = cc in
+        let P : Site → Type 0 = λ z. IsFineSite z in subst P is a.0
+    go false e later = later (rw e at q)
+
+-- what came at the controller's ends may be sent on
+abbrev AreClean : List Site → Type 0
+AreClean sites = AllByRecursion (λ (s : Site). Clean s.link.controller.side) sites
+
+fine_clean : (sites : List Site) → AreFineSites sites → AreClean sites
+fine_clean [] a = tt
+fine_clean (s ∷ sites) a = (a.0.link.line.near, fine_clean sites a.1)
+
+clean_site : (sites : List Site) (h : ℕ) (s : Site) → AreClean sites → site_at sites h ≡ Some s → Clean s.link.controller.side
+clean_site [] h s a q = cc
+clean_site (x ∷ sites) h s a q = go (x.host == h) refl (clean_site sites h s a.1)
+  where
+    go : (b : Bool) → (x.host == h) ≡ b → (site_at sites h ≡ Some s → Clean s.link.controller.side) → Clean s.link.controller.side
+    go true e later =
+        let same : Some x ≡ Some s = rw e at q in
+        let is : x ≡ s = cc in
+        let P : Site → Type 0 = λ z. Clean z.link.controller.side in subst P is a.0
+    go false e later = later (rw e at q)
+
+near_clean : (sites : List Site) (h : ℕ) → AreClean sites → Clean (link_to sites h).controller.side
+near_clean sites h a = go (site_at sites h) refl
+  where
+    by : Option Site → Link
+    by o = option_map_or (λ (s : Site). s.link) o (new_link Bare Bare)
+
+    go : (o : Option Site) → site_at sites h ≡ o → Clean (by (site_at sites h)).controller.side
+    go None q = let P : Option Site → Type 0 = λ z. Clean (by z).controller.side in subst P (sym q) tt
+    go (Some s) q = let P : Option Site → Type 0 = λ z. Clean (by z).controller.side in subst P (sym q) (clean_site sites h s a q)
+
+-- ## A step of a node
+
+half_clean : (l : Link) (comes : Comes) → Clean l.controller.side → Clean (half_in l comes).side
+half_clean l NextFrame a = go l.to_controller
+  where
+    by : List OnWire → Half
+    by [] = l.controller
+    by (x ∷ xs) = (half_in (record l { to_controller = x ∷ xs }) NextFrame)
+
+    go : (w : List OnWire) → Clean (by w).side
+    go [] = a
+    go (x ∷ xs) = a
+half_clean l (AsksReset window) a = a
+half_clean l (Starts value) a = a
+half_clean l Stops a = a
+half_clean l NoInput a = a
+
+ports_fine : (halves : ℕ → Half) → ((h : ℕ) → Clean (halves h).side) → (desks : List Desk) → AreTrueDesks desks
+    → AreFinePorts (map (λ (d : Desk). port_for (halves d.host) d) desks)
+ports_fine halves clean [] a = tt
+ports_fine halves clean (d ∷ desks) a =
+    (record { turns = tt; clean = clean d.host; desk = a.0 }, ports_fine halves clean desks a.1)
+
+desks_of : (ports : List Port) → AreFinePorts ports → AreTrueDesks (map (λ (p : Port). p.desk) ports)
+desks_of [] a = tt
+desks_of (p ∷ ports) a = (a.0.desk, desks_of ports a.1)
+
+runs_fine : (k : Work) → IsFineWork k → IsFineNode (runs_on k)
+runs_fine k a = go k.cut
+  where
+    by : Bool → Option Running
+    by b = cond b None (Some (record { core = k.core; desks = map (λ (p : Port). p.desk) k.ports }))
+
+    go : (b : Bool) → IsFineNode (by b)
+    go true = tt
+    go false = desks_of k.ports a
+
+turns_fine : (k : Work) (h : ℕ) → IsFineWork k → AreSendableTurns (turns_at k h)
+turns_fine k h a = go (port_at k.ports h) refl
+  where
+    by : Option Port → List Turn
+    by o = option_map_or (λ (p : Port). p.turns) o []
+
+    go : (o : Option Port) → port_at k.ports h ≡ o → AreSendableTurns (by (port_at k.ports h))
+    go None q = let P : Option Port → Type 0 = λ z. AreSendableTurns (by z) in subst P (sym q) tt
+    go (Some p) q = let P : Option Port → Type 0 = λ z. AreSendableTurns (by z) in subst P (sym q) (fine_at k.ports h p a q).turns
+
+-- what a node does in a step may be done
+abbrev pub KeepsFine : (Work → Work) → Type 0
+KeepsFine f = (v : Work) → IsFineWork v → IsFineWork (f v)
+
+-- ## Steps of the controller
+
+may_here : (h : ℕ) (comes : Comes) (k : ℕ) → MayCome comes → MayCome (comes_to h comes k)
+may_here h comes k m = go (k == h)
+  where
+    go : (b : Bool) → MayCome (cond b comes NoInput)
+    go true = m
+    go false = tt
+
+here_fine : (h : ℕ) (comes : Comes) (k : Work) → MayCome comes → IsFineWork k → (s : Site) → IsFineSite s → IsFineSite (link_after_controller h comes k s)
+here_fine h comes k m a s fine =
+    record {
+      link = controller_steps s.link (comes_to h comes s.host) (turns_at k s.host) (ending_of k) (may_here h comes s.host m) (turns_fine k s.host a) fine.link;
+      node = fine.node;
+    }
+
+after_controller_fine : (w : NodeWorld) (h : ℕ) (comes : Comes) (k : Work) → MayCome comes → IsFineWork k → IsFineWorld w
+    → IsFineWorld (after_controller w h comes k).0
+after_controller_fine w h comes k m a fine =
+    record { sites = sites_map (link_after_controller h comes k) (here_fine h comes k m a) w.sites fine.sites; controller = runs_fine k a }
+
+pub controller_fine : (w : NodeWorld) (h : ℕ) (comes : Comes) (f : Work → Work) → MayCome comes → KeepsFine f → IsFineWorld w
+    → IsFineWorld (controller_does w h comes f).0
+controller_fine w h comes f m keeps fine = go w.controller fine.controller
+  where
+    by : Option Running → NodeWorld × List Entry
+    by None = (w, [])
+    by (Some r) = after_controller w h comes (controller_work w r h comes f)
+
+    clean : (k : ℕ) → Clean (half_in (link_to w.sites k) (comes_to h comes k)).side
+    clean k = half_clean (link_to w.sites k) (comes_to h comes k) (near_clean w.sites k (fine_clean w.sites fine.sites))
+
+    go : (o : Option Running) → IsFineNode o → IsFineWorld (by o).0
+    go None a = fine
+    go (Some r) a =
+        after_controller_fine w h comes (controller_work w r h comes f) m
+        (keeps (work_of r w.memory.plan (λ k. half_in (link_to w.sites k) (comes_to h comes k)) _)
+        (ports_fine (λ k. half_in (link_to w.sites k) (comes_to h comes k)) clean r.desks a)) fine
+
+-- ## Steps of a host
+
+-- something may come to the end of a host
+abbrev pub CanReach : Comes → Site → Type 0
+CanReach comes s = CanCome (exchanged s.link) comes
+
+there_fine : (comes : Comes) (k : Work) → IsFineWork k → (s : Site) → CanReach comes s → IsFineSite s → IsFineSite (after_host comes k s)
+there_fine comes k a s can fine =
+    record { link = host_steps s.link comes (turns_at k s.host) (ending_of k) can (turns_fine k s.host a) fine.link; node = runs_fine k a }
+
+pub host_fine : (w : NodeWorld) (h : ℕ) (comes : Comes) (f : Work → Work) → AllByRecursion (AtHostOnly (CanReach comes) h) w.sites → KeepsFine f
+    → IsFineWorld w → IsFineWorld (host_does w h comes f).0
+host_fine w h comes f can keeps fine = go (site_at w.sites h) refl
+  where
+    by_node : Site → Option Running → NodeWorld × List Entry
+    by_node s None = (w, [])
+    by_node s (Some r) = (
+      record w { sites = with_site h (after_host comes (host_work s r comes f)) w.sites },
+      (host_work s r comes f).entries ++ frames_noted Host h (wires_for (exchanged s.link) comes) (host_work s r comes f),
+    )
+
+    by : Option Site → NodeWorld × List Entry
+    by None = (w, [])
+    by (Some s) = by_node s s.node
+
+    one : (s : Site) → IsFineSite s → (o : Option Running) → IsFineNode o → IsFineWorld (by_node s o).0
+    one s here None a = fine
+    one s here (Some r) a =
+        let k : Work = host_work s r comes f in
+        let done : IsFineWork k =
+        keeps (work_of r s.memory.plan (λ k. half_in (exchanged s.link) comes) _)
+        (ports_fine (λ k. half_in (exchanged s.link) comes) (λ k. half_clean (exchanged s.link) comes here.link.line.far) r.desks a) in
+        record {
+          sites = site_changed (CanReach comes) h (after_host comes k) (there_fine comes k done) w.sites can fine.sites;
+          controller = fine.controller;
+        }
+
+    go : (o : Option Site) → site_at w.sites h ≡ o → IsFineWorld (by o).0
+    go None q = fine
+    go (Some s) q = let here : IsFineSite s = fine_site w.sites h s fine.sites q in one s here s.node here.node
+
+-- ## Power
+
+controller_cut_fine : (w : NodeWorld) → IsFineWorld w → IsFineWorld (controller_cut w)
+controller_cut_fine w fine =
+    record {
+      sites = sites_map (λ (s : Site). record s { link = happens s.link (AtController (Step NoInput [] CutOff)) })
+          (λ s a. record { link = controller_steps s.link NoInput [] CutOff tt tt a.link; node = a.node }) w.sites fine.sites;
+      controller = tt;
+    }
+
+host_cut_fine : (s : Site) → IsFineSite s → IsFineSite (host_cut s)
+host_cut_fine s a = record { link = host_steps s.link NoInput [] CutOff tt tt a.link; node = tt }
+
+pub power_fine : (n : ℕ) (w : NodeWorld) → IsFineWorld w → IsFineWorld (loses_power_at n w)
+power_fine n w fine = go (n == 0)
+  where
+    by : Bool → NodeWorld
+    by true = controller_cut w
+    by false = record w { sites = with_site n host_cut w.sites }
+
+    go : (b : Bool) → IsFineWorld (by b)
+    go true = controller_cut_fine w fine
+    go false = record { sites = site_fine n host_cut host_cut_fine w.sites fine.sites; controller = fine.controller }
+
+pub memory_fine : (n : ℕ) (m : Memory) (w : NodeWorld) → IsFineWorld w → IsFineWorld (with_memory n m w)
+memory_fine n m w fine = go (n == 0)
+  where
+    by : Bool → NodeWorld
+    by true = record w { memory = m }
+    by false = record w { sites = with_site n (λ s. record s { memory = m }) w.sites }
+
+    go : (b : Bool) → IsFineWorld (by b)
+    go true = record { sites = fine.sites; controller = fine.controller }
+    go false = record {
+      sites = site_fine n (λ s. record s { memory = m }) (λ s a. record { link = a.link; node = a.node }) w.sites fine.sites;
+      controller = fine.controller;
+    }
+
+node_fine : (n : ℕ) (r : Running) (w : NodeWorld) → AreTrueDesks r.desks → IsFineWorld w → IsFineWorld (with_node n r w)
+node_fine n r w a fine = go (n == 0)
+  where
+    by : Bool → NodeWorld
+    by true = record w { controller = Some r }
+    by false = record w { sites = with_site n (λ s. record s { node = Some r }) w.sites }
+
+    go : (b : Bool) → IsFineWorld (by b)
+    go true = record { sites = fine.sites; controller = a }
+    go false = record {
+      sites = site_fine n (λ s. record s { node = Some r }) (λ s b. record { link = b.link; node = a }) w.sites fine.sites;
+      controller = fine.controller;
+    }
+
+new_desks : (hosts : List ℕ) → AreTrueDesks (map new_desk hosts)
+new_desks [] = tt
+new_desks (h ∷ hosts) = (tt, new_desks hosts)
+
+pub boots_fine : (w : NodeWorld) (n : ℕ) → IsFineWorld w → IsFineWorld (boots w n).0
+boots_fine w n fine = go (fails_within (length (boot_writes (memory_at w n).content)) (memory_at w n).plan)
+  where
+    written : NodeWorld
+    written = with_memory n (after_planned (boot_writes (memory_at w n).content) (memory_at w n)) w
+
+    kept : IsFineWorld written
+    kept = memory_fine n (after_planned (boot_writes (memory_at w n).content) (memory_at w n)) w fine
+
+    r : Running
+    r = found n (links_of w n) (memory_at w n).content
+
+    by : Bool → NodeWorld × List Entry
+    by true = (loses_power_at n written, entry.Cut n ∷ [])
+    by false = (with_node n r written, entry.Booted n (count_of r.core.journal) ∷ [])
+
+    go : (b : Bool) → IsFineWorld (by b).0
+    go true = power_fine n written kept
+    go false = node_fine n r written (new_desks (links_of w n)) kept
+
+-- ## Losses
+
+errors_fine : (h : ℕ) (desks : List Desk) → AreTrueDesks desks → AreTrueDesks (with_error h desks)
+errors_fine h [] a = tt
+errors_fine h (d ∷ desks) a = (go (d.host == h), errors_fine h desks a.1)
+  where
+    more : Desk → Desk
+    more x = record x { errors = min 65535 (x.errors + 1) }
+
+    go : (b : Bool) → IsTrueDesk (changed_if b more d)
+    go true = a.0
+    go false = a.0
+
+counts_fine : (why : Loss) (h : ℕ) (o : Option Running) → IsFineNode o → IsFineNode (counts why h o)
+counts_fine (Broken fault) h None a = tt
+counts_fine (Broken fault) h (Some r) a = errors_fine h r.desks a
+counts_fine OnDemand h o a = a
+counts_fine Unread h o a = a
+counts_fine TooOld h o a = a
+counts_fine TooMany h o a = a
+
+pub lost_fine : (w : NodeWorld) (e : End) (why : Loss) → IsFineWorld w → IsFineWorld (frame_lost w e why).0
+lost_fine w e why fine = go e.at_host
+  where
+    lost : Site → Site
+    lost s = record s { link = happens s.link (at e (Lose why)) }
+
+    loses : (s : Site) → IsFineSite s → IsFineLink (happens s.link (at e (Lose why)))
+    loses s a = by e.at_host
+      where
+        by : (b : Bool) → IsFineLink (happens s.link (cond b (AtHost (Lose why)) (AtController (Lose why))))
+        by true = host_loses s.link why a.link
+        by false = controller_loses s.link why a.link
+
+    by : Bool → NodeWorld × List Entry
+    by false = (
+      record w { controller = counts why e.link w.controller; sites = with_site e.link lost w.sites },
+      entries_for e.link (first_lost Controller why (link_to w.sites e.link).to_controller),
+    )
+    by true = (
+      record w { sites = with_site e.link (λ s. record (lost s) { node = counts why e.link s.node }) w.sites },
+      entries_for e.link (first_lost Host why (link_to w.sites e.link).to_host),
+    )
+
+    go : (b : Bool) → IsFineWorld (by b).0
+    go false = record {
+      sites = site_fine e.link lost (λ s a. record { link = loses s a; node = a.node }) w.sites fine.sites;
+      controller = counts_fine why e.link w.controller fine.controller;
+    }
+    go true = record {
+      sites = site_fine e.link (λ s. record (lost s) { node = counts why e.link s.node })
+          (λ s a. record { link = loses s a; node = counts_fine why e.link s.node a.node }) w.sites fine.sites;
+      controller = fine.controller;
+    }
+
+-- ## Time
+
+-- a host whose frames have grown older
+record IsOld (s : Site) : Type 0 where
+  base : Link
+  fine : IsFineLink base
+  is : s.link ≡ aged base
+  node : IsFineNode s.node
+
+-- and whose link the controller's tick has reached
+record IsNear (s : Site) : Type 0 where
+  base : Link
+  fine : IsFineLink base
+  late : Bool
+  had : Node
+  sends : AreSendableTurns had.turns
+  is : s.link ≡ ticked_so (aged base) late had.turns had.ending
+  node : IsFineNode s.node
+
+all_old : (sites : List Site) → AreFineSites sites → AllByRecursion IsOld (map (λ (s : Site). record s { link = aged s.link }) sites)
+all_old [] a = tt
+all_old (s ∷ sites) a = (record { base = s.link; fine = a.0.link; is = refl; node = a.0.node }, all_old sites a.1)
+
+old_clean : (sites : List Site) → AllByRecursion IsOld sites → AreClean sites
+old_clean [] a = tt
+old_clean (s ∷ sites) a =
+    let P : Link → Type 0 = λ l. Clean l.controller.side in
+    (subst P (sym a.0.is) a.0.fine.line.near, old_clean sites a.1)
+
+-- the sites after a tick of the controller, in which its ends had these turns
+near_sites : (late : ℕ → Bool) (had : ℕ → Node) → ((h : ℕ) → AreSendableTurns (had h).turns) → (sites : List Site) → AllByRecursion IsOld sites
+    → AllByRecursion IsNear (map (λ (s : Site). record s { link = ticked_so s.link (late s.host) (had s.host).turns (had s.host).ending }) sites)
+near_sites late had sends [] a = tt
+near_sites late had sends (s ∷ sites) a = (
+  record {
+    base = a.0.base;
+    fine = a.0.fine;
+    late = late s.host;
+    had = had s.host;
+    sends = sends s.host;
+    is = ap (λ l. ticked_so l (late s.host) (had s.host).turns (had s.host).ending) a.0.is;
+    node = a.0.node;
+  },
+  near_sites late had sends sites a.1,
+)
+
+record IsNearWorld (w : NodeWorld) : Type 0 where
+  sites : AllByRecursion IsNear w.sites
+  controller : IsFineNode w.controller
+
+controller_ticks_fine : (w : NodeWorld) → AllByRecursion IsOld w.sites → IsFineNode w.controller → IsNearWorld (controller_ticks w).0
+controller_ticks_fine w old runs = go w.controller runs
+  where
+    after_work : Work → NodeWorld × List Entry
+    after_work k = (
+      record {
+        memory = after_planned k.writes w.memory;
+        controller = runs_on k;
+        sites = map (λ (s : Site). record s { link = ticked_so s.link (is_late_at k s.host) (turns_at k s.host) (ending_of k) }) w.sites;
+      },
+      k.entries ++ flat_map (λ (s : Site). frames_noted Controller s.host s.link k) w.sites,
+    )
+
+    halves : ℕ → Half
+    halves h = (link_to w.sites h).controller
+
+    by : Option Running → NodeWorld × List Entry
+    by None = (record w { sites = map (λ (s : Site). record s { link = ticks_here s.link [] GoesOut }) w.sites }, [])
+    by (Some r) = after_work (steps TimePasses (work_of r w.memory.plan halves []))
+
+    go : (o : Option Running) → IsFineNode o → IsNearWorld (by o).0
+    go None a = record { sites = near_sites (λ h. false) (λ h. record { turns = []; ending = GoesOut }) (λ h. tt) w.sites old; controller = runs }
+    go (Some r) a =
+        let k : Work = steps TimePasses (work_of r w.memory.plan halves []) in
+        let done : IsFineWork k =
+        steps_fine TimePasses (work_of r w.memory.plan halves [])
+        (ports_fine halves (λ h. near_clean w.sites h (old_clean w.sites old)) r.desks a) in
+        record {
+          sites = near_sites (λ h. is_late_at k h) (λ h. record { turns = turns_at k h; ending = ending_of k }) (λ h. turns_fine k h done) w.sites old;
+          controller = runs_fine k done;
+        }
+
+so_host : (l : Link) (late : Bool) (ts : List Turn) (ending : Ending) → (ticked_so l late ts ending).host ≡ l.host
+so_host l late ts ending = go (late && not (is_waiting l.controller.side.shdlc))
+  where
+    go : (b : Bool) → (cond b (has_input l (Reset None) ts ending) (ticks_here l ts ending)).host ≡ l.host
+    go true = here_host l (Step (AsksReset None) ts ending)
+    go false = tick_host l ts ending
+
+host_ticks_fine : (s : Site) → IsNear s → IsFineSite (host_ticks s).0
+host_ticks_fine s a = go s.node a.node
+  where
+    after_work : Work → Site × List Entry
+    after_work k = (
+      record s {
+        link = exchanged (ticks_here (exchanged s.link) (turns_at k s.host) (ending_of k));
+        memory = after_planned k.writes s.memory;
+        node = runs_on k;
+      },
+      k.entries ++ frames_noted Host s.host (exchanged s.link) k,
+    )
+
+    by : Option Running → Site × List Entry
+    by None = (record s { link = exchanged (ticks_here (exchanged s.link) [] GoesOut) }, [])
+    by (Some r) = after_work (steps TimePasses (work_of r s.memory.plan (λ h. s.link.host) []))
+
+    far : Clean s.link.host.side
+    far =
+        let P : Link → Type 0 = λ l. Clean l.host.side in
+        let Q : Half → Type 0 = λ h. Clean h.side in
+        subst P (sym a.is) (subst Q (sym (so_host (aged a.base) a.late a.had.turns a.had.ending)) a.fine.line.far)
+
+    link : (h : Node) → AreSendableTurns h.turns → IsFineLink (exchanged (ticks_here (exchanged s.link) h.turns h.ending))
+    link h sends =
+        let P : Link → Type 0 = λ l. IsFineLink (exchanged (ticks_here (exchanged l) h.turns h.ending)) in
+        subst P (sym a.is) (ticks_fine a.base a.late a.had h (record { controller = a.sends; host = sends }) a.fine)
+
+    go : (o : Option Running) → IsFineNode o → IsFineSite (by o).0
+    go None n = record { link = link (record { turns = []; ending = GoesOut }) tt; node = a.node }
+    go (Some r) n =
+        let k : Work = steps TimePasses (work_of r s.memory.plan (λ h. s.link.host) []) in
+        let done : IsFineWork k =
+        steps_fine TimePasses (work_of r s.memory.plan (λ h. s.link.host) []) (ports_fine (λ h. s.link.host) (λ h. far) r.desks n) in
+        record { link = link (record { turns = turns_at k s.host; ending = ending_of k }) (turns_fine k s.host done); node = runs_fine k done }
+
+hosts_tick_fine : (sites : List Site) → AllByRecursion IsNear sites → AreFineSites (hosts_tick sites).0
+hosts_tick_fine [] a = tt
+hosts_tick_fine (s ∷ sites) a = (host_ticks_fine s a.0, hosts_tick_fine sites a.1)
+
+pub ticks_fine_all : (w : NodeWorld) → IsFineWorld w → IsFineWorld (world_ticks w).0
+ticks_fine_all w fine =
+    let near = controller_ticks_fine (all_aged w).0 (all_old w.sites fine.sites) fine.controller in
+    record { sites = hosts_tick_fine (controller_ticks (all_aged w).0).0.sites near.sites; controller = near.controller }
