@@ -127,7 +127,8 @@ gate_fine : (gate errors h pipe instruction : ℕ) (body : List ℕ) → OnPipe 
 gate_fine gate errors h pipe instruction body p =
     cond_both (eqb gate 6) (link_deeds h pipe (link_served errors instruction body)) _ AreFine
     (λ _. link_fine h pipe (link_served errors instruction body) p (link_spoken errors instruction body))
-    (λ _. cond_both (eqb gate 5) (answers_on h pipe (identity_served gates instruction body)) (answers_on h pipe (answer_of response.CommandNotSupported [])) AreFine
+    (λ _. cond_both (eqb gate 5) (answers_on h pipe (identity_served gates instruction body))
+    (answers_on h pipe (answer_of response.CommandNotSupported [])) AreFine
     (λ _. answers_fine h pipe (identity_served gates instruction body) p (identity_spoken gates instruction body))
     (λ _. answers_fine h pipe (answer_of response.CommandNotSupported []) p (omega arith)))
 

@@ -46,17 +46,22 @@ created_fine core body = go (pipe_named_in body) refl
   where
     go : (o : Option PipeRow) → pipe_named_in body ≡ o → AreFine (pipe_created core body)
     go None q = rw q (replies_fine core response.NotOk)
-    go (Some row) q = rw q (either (is_welcome core.node row) (accepts core (Create row)) (replies core response.NotOk) (accepts_fine core (Create row)) (replies_fine core response.NotOk))
+    go (Some row) q =
+        rw q (either (is_welcome core.node row) (accepts core (Create row)) (replies core response.NotOk) (accepts_fine core (Create row))
+        (replies_fine core response.NotOk))
 
 deleted_fine : (core : Core) (body : List ℕ) → AreFine (pipe_deleted core body)
 deleted_fine core [] = replies_fine core response.CommandParameterUnknown
 deleted_fine core (pid ∷ []) =
-    either (is_some (pipe_at core.tables.rows pid)) (accepts core (Delete pid)) (replies core response.Ok) (accepts_fine core (Delete pid)) (replies_fine core response.Ok)
+    either (is_some (pipe_at core.tables.rows pid)) (accepts core (Delete pid)) (replies core response.Ok) (accepts_fine core (Delete pid))
+    (replies_fine core response.Ok)
 deleted_fine core (pid ∷ x ∷ more) = replies_fine core response.CommandParameterUnknown
 
 cleared_fine : (core : Core) (body : List ℕ) → AreFine (pipes_cleared core body)
 cleared_fine core [] = replies_fine core response.CommandParameterUnknown
-cleared_fine core (x ∷ []) = either (is_host x) (accepts core (Clear x)) (replies core response.CommandParameterUnknown) (accepts_fine core (Clear x)) (replies_fine core response.CommandParameterUnknown)
+cleared_fine core (x ∷ []) =
+    either (is_host x) (accepts core (Clear x)) (replies core response.CommandParameterUnknown) (accepts_fine core (Clear x))
+    (replies_fine core response.CommandParameterUnknown)
 cleared_fine core (x ∷ y ∷ more) = replies_fine core response.CommandParameterUnknown
 
 notified_fine : (core : Core) (instruction : ℕ) (body : List ℕ) → AreFine (notified_deeds core instruction body)
@@ -83,10 +88,11 @@ pipes_spoken [] = tt
 pipes_spoken (pipe ∷ pipes) = (omega arith, pipes_spoken pipes)
 
 orders_spoken : (i : Init) → AreSpoken (orders_of i)
-orders_spoken i = (
-  omega arith,
-  (omega arith, (omega arith, (omega arith, spoken-append (map (λ pipe. 16 ∷ pipe) i.pipes) ((1 ∷ 1 ∷ i.identity) ∷ []) (pipes_spoken i.pipes) (omega arith, tt)))),
-)
+orders_spoken i =
+    let pipes : List (List ℕ) = map (λ pipe. 16 ∷ pipe) i.pipes in
+    let behind : AreSpoken (pipes ++ (1 ∷ 1 ∷ i.identity) ∷ []) =
+    spoken-append pipes ((1 ∷ 1 ∷ i.identity) ∷ []) (pipes_spoken i.pipes) (omega arith, tt) in
+    (omega arith, (omega arith, (omega arith, (omega arith, behind))))
 
 spoken_at : (xs : List (List ℕ)) (n : ℕ) (x : List ℕ) → AreSpoken xs → slice_get xs n ≡ Some x → IsSpoken x
 spoken_at [] zero x a q = cc

@@ -8,3 +8,8 @@ pub mod Sites
 pub mod Worlds
 pub mod Playing
 pub mod Obeying
+pub mod Masking
+pub mod Connected
+pub mod Reaching
+pub mod Staying
+pub mod Noticing

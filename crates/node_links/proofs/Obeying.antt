@@ -37,7 +37,8 @@ ToHost l = (n : ℕ) → InOrder (talk_of l.controller n) (talk_of l.host n)
 abbrev ToController : Link → Type 0
 ToController l = (n : ℕ) → InOrder (talk_of l.host n) (talk_of l.controller n)
 
-pub to_host : (hosts : List ℕ) (lines : List Line) → ArePlayable lines → AllByRecursion (λ (s : Site). ToHost s.link) (world_after (new_world hosts) lines).sites
+pub to_host : (hosts : List ℕ) (lines : List Line) → ArePlayable lines
+    → AllByRecursion (λ (s : Site). ToHost s.link) (world_after (new_world hosts) lines).sites
 to_host = obey ToHost (λ l r. subst ToHost r.run.is (λ n. in_order_here new_line IsLine r.events r.run.allowed n))
 
 pub to_controller : (hosts : List ℕ) (lines : List Line) → ArePlayable lines

@@ -1,20 +1,25 @@
 //! The law of one link carried to the links of a world of nodes: whatever lines are played, each link is a run of the law of one
-//! link, and what holds of such runs holds of it. Nothing here runs.
+//! link, and what holds of such runs holds of it. And notices go over links that are up. Nothing here runs.
 #![tactic(auto)]
 
-ghost use Rattle.std.specs.Prelude.{◌≡◌, ◌∷◌, ℕ, List, Some};
+ghost use Rattle.std.specs.Prelude.{◌≡◌, ◌∷◌, ℕ, false, is_some, List, Some};
 ghost use Rattle.std.specs.List.{AllByRecursion};
 ghost use Rattle.swp_base.specs.declared.link_terms.Cause.TheVariants.{Chain};
 ghost use Rattle.shdlc_core.specs.declared.answers.LinkState.TheVariants.{Up};
 ghost use Rattle.trace_model.specs.declared.line.Line.{Line};
 ghost use Rattle.session_laws.specs.Sessions.{OnWire};
-ghost use Rattle.link_machine.specs.Machine.{ended_by};
+ghost use Rattle.link_machine.specs.Machine.{LinkEnd, LinkInput, Message, after_input, ended_by};
 ghost use Rattle.link_machine.specs.Machine.LinkInput.{Take};
 ghost use Rattle.message_link.specs.Links.{LinkEvent, number_of, talk_now, talk_of};
 ghost use Rattle.message_link.specs.Order.{InOrder};
 ghost use Rattle.message_link.specs.Quiet.{AllDelivered, IsQuiet, losses_of};
 ghost use Rattle.message_link.specs.Settled.{AreUpTogether, IsSettled, sure_of};
+ghost use Rattle.node_machine.specs.Parts.{Core, Port, Work};
+ghost use Rattle.node_machine.specs.Carrying.{port_at};
+ghost use Rattle.node_machine.specs.Controller.{controller_deeds};
+ghost use Rattle.node_machine.specs.Node.{NodeInput, steps};
 ghost use Rattle.node_world.specs.World.{Site, new_world};
+ghost use Rattle.node_links.specs.Notices.{AllReach, IsBegun, IsComing, IsNoticedUp, IsOutside, OnFirst};
 ghost use Rattle.node_links.specs.Runs.{ArePlayable, IsRun, IsRunOf, new_line, world_after};
 
 /// Whatever lines are played in a world of nodes, the link of each host is what some events of the law of one link make of a new
@@ -71,4 +76,19 @@ pub fn resets_bring_both_ends_up()
     ensures { (hosts : List ℕ) (lines : List Line) → ArePlayable lines →
         AllByRecursion (λ (s : Site). (events : List LinkEvent) → IsRunOf events s.link → IsSettled s.link (sure_of new_line events) →
         AreUpTogether s.link) (world_after (new_world hosts) lines).sites }
+{}
+
+/// Whatever message of a host a controller handles, it asks and tells by a notice only hosts whose links are up; and an end that
+/// is up stays so over whatever comes to it that doesn't end its session.
+pub fn notices_go_over_links_that_are_up()
+    ensures sent { (core : Core) (ports : List Port) (h : ℕ) (m : Message) → AllReach ports (controller_deeds core ports h m) }
+    ensures kept { (e : LinkEnd) (i : LinkInput) → IsComing i → e.shdlc.phase ≡ Up → is_some (ended_by e i) ≡ false →
+        (after_input e i).shdlc.phase ≡ Up }
+{}
+
+/// In each step of a controller, where each end had a notice that isn't answered only while it was up, so it is after the step:
+/// with the session of an end its notice is dropped, and at the hundredth tick its link is reset and the notice dropped too.
+pub fn unanswered_notices_stand_at_ends_that_are_up()
+    ensures { (input : NodeInput) (w : Work) → IsOutside input → w.core.node ≡ 0 → ((x : ℕ) → OnFirst IsBegun (port_at w.ports x)) →
+        (x : ℕ) → OnFirst IsNoticedUp (port_at (steps input w).ports x) }
 {}
