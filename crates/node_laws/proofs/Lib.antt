@@ -2,4 +2,4 @@ pub mod Deeds
 pub mod Masks
 pub mod Whitelists
 pub mod Values
-pub mod LinkRuns
+pub mod Waits

@@ -1,2 +1,2 @@
 pub mod Creations
-pub mod Links
+pub mod Waiting

@@ -1,19 +1,16 @@
-//! Laws of the machine of a node and of the world of nodes. Nothing here runs.
+//! Laws of what a controller does with a message of a host. Nothing here runs.
 #![tactic(auto)]
 
-ghost use Rattle.std.specs.Prelude.{◌≡◌, ℕ, ◌≤◌, false, List, [], ◌∷◌};
+ghost use Rattle.std.specs.Prelude.{◌≡◌, ℕ, ◌≤◌, List};
 ghost use Rattle.std.specs.List.{AllByRecursion};
 ghost use Rattle.link_machine.specs.Machine.{Message};
-ghost use Rattle.message_link.specs.Links.{Link, Comes, Node, aged, exchanged, ticks_here, after};
-ghost use Rattle.message_link.specs.Links.LinkEvent.{Ticks};
-ghost use Rattle.node_machine.specs.Parts.{Core, Port, Work};
+ghost use Rattle.node_machine.specs.Parts.{Core, Port};
 ghost use Rattle.node_machine.specs.Controller.{controller_deeds};
 ghost use Rattle.registry.specs.Values.{value_at};
 ghost use Rattle.hci_tables.specs.declared.command.Command.{Command};
 ghost use Rattle.hci_tables.specs.Commands.{IsCommand};
 ghost use Rattle.hci_tables.specs.Tables.{HciTables, AreTables, apply};
-ghost use Rattle.node_world.specs.World.{NodeWorld, Site, after_controller, after_host, controller_cut, host_cut, ticked_so};
-ghost use Rattle.node_laws.specs.Links.{HasRun, HaveRun};
+ghost use Rattle.node_laws.specs.Waiting.{MayWait, IsAllowedStill};
 ghost use Rattle.node_laws.specs.Creations.{AreAllowedDeeds, DeedLeavesWhitelist, LeavesWhitelist, IsBeingAsked, WaitsForPipes};
 
 /// Whatever message of a host a controller handles: a pipe that it makes at once ends at the controller itself, any other pipe
@@ -33,13 +30,10 @@ pub fn whitelists_stay_while_hosts_are_asked()
         AllByRecursion (DeedLeavesWhitelist x) (controller_deeds core ports h m) }
 {}
 
-/// In each step of the controller and of a host, where the power of either is cut, and in a tick in which no notice is late, each
-/// link becomes what an event of the law of one link makes of it.
-pub fn links_change_by_events_of_one_link()
-    ensures controller { (w : NodeWorld) (h : ℕ) (comes : Comes) (k : Work) → HaveRun w.sites (after_controller w h comes k).0.sites }
-    ensures host { (s : Site) (comes : Comes) (k : Work) → HasRun s (after_host comes k s) }
-    ensures controller_cut { (w : NodeWorld) → HaveRun w.sites (controller_cut w).sites }
-    ensures host_cut { (s : Site) → HasRun s (host_cut s) }
-    ensures tick { (l : Link) (c h : Node) → after l (Ticks c [] h ∷ [])
-        ≡ exchanged (ticks_here (exchanged (ticked_so (aged l) false c.turns c.ending)) h.turns h.ending) }
+/// While each creation that waits is of a pipe to the host that is asked, whose whitelist holds the creator, whatever message of a host
+/// a controller handles: each pipe between two hosts that it makes is allowed by the tables just before; behind a commit the creations
+/// that wait are allowed still; and so is a creation for which it asks a host.
+pub fn waiting_creations_stay_allowed()
+    ensures { (core : Core) (ports : List Port) (h : ℕ) (m : Message) → AreTables core.tables → MayWait core.tables ports →
+        AllByRecursion (IsAllowedStill core.tables ports) (controller_deeds core ports h m) }
 {}

@@ -16,7 +16,8 @@ use Rattle.message_link.specs.Settled.{AreUpTogether, IsSettled, sure_of}
 use Rattle.message_link.proofs.Whole.{in_order_here, in_order_there, no_chain_here, no_chain_there, one_number}
 use Rattle.message_link.proofs.Quiet.{all_here, all_there, up_together}
 use Rattle.node_world.specs.World.{Site, new_world}
-use Rattle.node_links.specs.Runs.{new_line, IsRunOf, IsRun, ArePlayable, world_after}
+use Rattle.node_links.specs.Runs.{new_line, IsRunOf, IsRun, ArePlayable}
+use Rattle.node_world.specs.NodeHistories.{world_after}
 use Rattle.node_links.proofs.Playing.{links_run}
 
 -- what holds of each run holds of each link

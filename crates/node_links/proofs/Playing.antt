@@ -30,7 +30,8 @@ use Rattle.node_world.specs.World.{Site, NodeWorld, Happening, new_site, new_wor
 use Rattle.node_world.specs.World.Happening.{Boots, IsCut, Gives, Inits, Takes, Loses, Ticks, Resets, Activates, Arms}
 use Rattle.node_world.specs.Lines.{first_cause, if_off, refusal_in, happens_by, frames_at, Occurrence, can_happen, all_happen, LineOutcome, goes_on, line_step}
 use Rattle.node_world.specs.Lines.LineOutcome.{WasRefused}
-use Rattle.node_links.specs.Runs.{IsRun, world_after, IsPlayable, ArePlayable}
+use Rattle.node_links.specs.Runs.{IsRun, IsPlayable, ArePlayable}
+use Rattle.node_world.specs.NodeHistories.{world_after}
 use Rattle.node_links.proofs.Deeds.{AreFine}
 use Rattle.node_links.proofs.Works.{all_done_fine, steps_fine}
 use Rattle.node_links.proofs.Sites.{MayCome, new_fine}

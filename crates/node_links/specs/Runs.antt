@@ -1,5 +1,5 @@
 -- The links of a world of nodes as runs of the law of one link.
-use Rattle.std.specs.Prelude.{◌≡◌, List, [], ◌∷◌}
+use Rattle.std.specs.Prelude.{◌≡◌, List}
 use Rattle.std.specs.List.{AllByRecursion}
 use Rattle.swp_act.specs.Activation.{new_clf, new_uicc}
 use Rattle.trace_model.specs.declared.line.Line.{Line}
@@ -7,8 +7,6 @@ use Rattle.trace_model.specs.declared.line.Line.TheVariants as line
 use Rattle.hcp_packet.specs.Packets.{IsSendable}
 use Rattle.link_machine.specs.Machine.Role.{Clf, Uicc}
 use Rattle.message_link.specs.Links.{Link, LinkEvent, new_link, after, AllAllowed, IsWindow}
-use Rattle.node_world.specs.World.{NodeWorld}
-use Rattle.node_world.specs.Lines.{line_step}
 
 -- a link with activation on which nothing has happened yet
 abbrev pub new_line : Link
@@ -23,11 +21,6 @@ pub record IsRunOf (events : List LinkEvent) (l : Link) : Type 0 where
 pub record IsRun (l : Link) : Type 0 where
   pub events : List LinkEvent
   pub run : IsRunOf events l
-
--- the world after these lines, one after another
-abbrev pub world_after : NodeWorld → List Line → NodeWorld
-world_after w [] = w
-world_after w (line ∷ lines) = world_after (line_step w line).0 lines
 
 -- A message that a line sends isn't empty, and its pipe isn't reserved; a reset names a window from 1 to 4, or none.
 abbrev pub IsPlayable : Line → Type 0

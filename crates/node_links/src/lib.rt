@@ -20,7 +20,8 @@ ghost use Rattle.node_machine.specs.Controller.{controller_deeds};
 ghost use Rattle.node_machine.specs.Node.{NodeInput, steps};
 ghost use Rattle.node_world.specs.World.{Site, new_world};
 ghost use Rattle.node_links.specs.Notices.{AllReach, IsBegun, IsComing, IsNoticedUp, IsOutside, OnFirst};
-ghost use Rattle.node_links.specs.Runs.{ArePlayable, IsRun, IsRunOf, new_line, world_after};
+ghost use Rattle.node_links.specs.Runs.{ArePlayable, IsRun, IsRunOf, new_line};
+ghost use Rattle.node_world.specs.NodeHistories.{world_after};
 
 /// Whatever lines are played in a world of nodes, the link of each host is what some events of the law of one link make of a new
 /// link with activation, and each of them may happen: what nodes send may be sent, a UICC begins activation only while its CLF isn't

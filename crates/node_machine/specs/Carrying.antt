@@ -6,6 +6,7 @@ use Rattle.swp_base.specs.InMemory.{Plan, plan_after}
 use Rattle.trace_model.specs.declared.entry.Entry.{Entry}
 use Rattle.trace_model.specs.declared.entry.Entry.TheVariants as entry
 use Rattle.trace_model.specs.declared.line.End.{End}
+use Rattle.journal_laws.specs.declared.state.State.{State}
 use Rattle.journal_laws.specs.Writes.{Write}
 use Rattle.journal_laws.specs.Journal.{count_of}
 use Rattle.journal_laws.specs.Planned.{fails_within}
@@ -80,9 +81,13 @@ notified h about message w =
 
 -- ## Commits
 
--- a command finds room: its record fits, or one more generation of the journal is there for a snapshot
+-- a journal has room for a command: its record fits, or one more generation is there for a snapshot
+abbrev pub has_room_for : State → Command → Bool
+has_room_for s c = if fits s (body_of c) then true else nat_lt s.generation 4294967295
+
+-- a command finds room in the journal of its node
 abbrev pub finds_room : Core → Command → Bool
-finds_room core c = if fits core.journal (body_of c) then true else nat_lt core.journal.generation 4294967295
+finds_room core c = has_room_for core.journal c
 
 -- the plan behind so many writes that went through
 abbrev pub plan_behind : List Write → Option Plan → Option Plan

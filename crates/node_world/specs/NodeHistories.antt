@@ -24,6 +24,11 @@ steps_from w [] = []
 steps_from w (line ∷ lines) =
     let o : NodeWorld × LineOutcome = line_step w line in record { line = line; outcome = o.1 } ∷ steps_from o.0 lines
 
+-- the world behind these lines, one after another
+abbrev pub world_after : NodeWorld → List Line → NodeWorld
+world_after w [] = w
+world_after w (line ∷ lines) = world_after (line_step w line).0 lines
+
 -- no line damages a frame so that another one is read
 abbrev pub NoneIsMisread : NodeWorld → List Line → Type 0
 NoneIsMisread w [] = Unit {0}

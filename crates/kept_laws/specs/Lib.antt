@@ -1,0 +1,5 @@
+pub mod Finds
+pub mod Books
+pub mod Deeds
+pub mod Hosts
+pub mod Worlds
