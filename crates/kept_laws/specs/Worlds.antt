@@ -62,4 +62,3 @@ abbrev pub MayHappen : NodeWorld → Happening → Type 0
 MayHappen w (IsCut n) = (r : Running) × (node_at w n ≡ Some r)
 MayHappen w (Gives e m) = (r : Running) → node_at w e.link ≡ Some r → (m.0 == 1 && is_command_message m.1) ≡ true → r.core.command ≡ None
 MayHappen w _ = Unit {0}
-

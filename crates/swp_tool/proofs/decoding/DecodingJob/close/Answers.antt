@@ -30,7 +30,7 @@ returns-then-is_err-clause-ends g c input before h =
     let after = g.K.Sink.written c.make_room.new.sink in
     let input_is : h.bytes ≡ input = sym (h.input_is ∙ append-nil h.bytes) in
     let ends = of_err ((e b f : List ℕ) → IsDecoding tells c.args.self.now e b f was → IsFrontOfLines tells e b f after)
-        c.make_room.result c.is_err.result c.is_err.ensures.value c.if-is_err.true c.make_room.ensures.ends in
+    c.make_room.result c.is_err.result c.is_err.ensures.value c.if-is_err.true c.make_room.ensures.ends in
     subst (λ l. DecodedBy tells status.WriteFault l [] before after) input_is
     (broken_off_at_end tells h.bytes before after
     (inl (record { bytes = h.bytes; rest = []; input_is = sym (append-nil h.bytes); front = ends h.bytes h.bytes before h.decoding })))
