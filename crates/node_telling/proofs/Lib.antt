@@ -1,0 +1,14 @@
+pub mod Mute
+pub mod Walks
+pub mod Accounts
+pub mod Away
+pub mod Parts
+pub mod Steps
+pub mod Ticks
+pub mod Keeping
+pub mod Nodes
+pub mod Worlds
+pub mod Events
+pub mod WorldTicks
+pub mod Orderly
+pub mod Histories
