@@ -1,0 +1,12 @@
+pub mod Silent
+pub mod Doing
+pub mod Replying
+pub mod Turning
+pub mod Stepping
+pub mod Sites
+pub mod Hushed
+pub mod Elsewhere
+pub mod Worlds
+pub mod Events
+pub mod Powers
+pub mod Losses

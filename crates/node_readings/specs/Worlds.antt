@@ -1,0 +1,51 @@
+-- What the hosts of a world keep of their unanswered commands at a moment between events, by what was noted so far.
+use Rattle.std.specs.Prelude.{◌≡◌, ℕ, true, List, [], ◌∷◌, ◌++◌, map, is_some, Option, Some, None}
+use Rattle.trace_model.specs.declared.entry.Entry.{Entry}
+use Rattle.shdlc_core.specs.declared.answers.LinkState.TheVariants.{Up}
+use Rattle.message_link.specs.Links.{Link, Comes, exchanged}
+use Rattle.link_entries.specs.Entries.End.{Host}
+use Rattle.node_machine.specs.Parts.{Init, Desk, Running, Work}
+use Rattle.std.specs.List.{AllByRecursion}
+use Rattle.node_world.specs.World.{NodeWorld, Site, wires_for, frames_noted, host_work, after_host}
+use Rattle.node_world.specs.NodeFilters.{order_in}
+use Rattle.node_readings.specs.Orders.{order_of, AreInitsShort}
+
+-- the host h runs so over its link: its one end has no notice of a controller, and is up while a command isn't answered
+pub record HostRuns (h : ℕ) (link : Link) (r : Running) : Type 0 where
+  pub number : r.core.node ≡ h
+  pub desk : Desk
+  pub desks_are : r.desks ≡ desk ∷ []
+  pub host : desk.host ≡ h
+  pub no_notice : desk.notice ≡ None
+  pub short : AreInitsShort r.core.init
+  pub up : is_some r.core.command ≡ true → link.host.side.shdlc.phase ≡ Up
+
+-- where it runs
+abbrev pub IfHostRuns : ℕ → Link → Option Running → Type 0
+IfHostRuns h link None = Unit {0}
+IfHostRuns h link (Some r) = HostRuns h link r
+
+-- The unanswered command of a host is what is read: none while it doesn't run.
+pub record SiteReads (t : List Entry) (s : Site) : Type 0 where
+  pub order : order_in t s.host ≡ order_of s.node
+  pub runs : IfHostRuns s.host s.link s.node
+
+-- a host that runs so does this in a step, in which something comes to its end, and what is noted of it
+abbrev pub host_does_so : Site → Running → Comes → (Work → Work) → Site × List Entry
+host_does_so s r comes f =
+    let k : Work = host_work s r comes f in (after_host comes k s, k.entries ++ frames_noted Host s.host (wires_for (exchanged s.link) comes) k)
+
+-- an init as it begins
+abbrev pub init_of : List ℕ → List (List ℕ) → Init
+init_of identity pipes = record { identity = identity; pipes = pipes; answered = 0 }
+
+-- the controller's number is 00
+abbrev pub IfZero : Option Running → Type 0
+IfZero None = Unit {0}
+IfZero (Some r) = r.core.node ≡ 0
+
+-- so it is with all hosts of a world
+pub record AllRead (hosts : List ℕ) (t : List Entry) (w : NodeWorld) : Type 0 where
+  pub controller : IfZero w.controller
+  pub hosts_are : map (λ (s : Site). s.host) w.sites ≡ hosts
+  pub sites : AllByRecursion (SiteReads t) w.sites

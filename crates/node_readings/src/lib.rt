@@ -1,0 +1,94 @@
+//! What a world of nodes keeps is what is read off its entries, beyond tables and counts: the unanswered command of a host, over
+//! each of its own events and over the steps of other nodes. Nothing here runs.
+#![tactic(auto)]
+
+ghost use Rattle.std.specs.Prelude.{◌≡◌, ◌∷◌, ◌++◌, ℕ, false, List, [], Option, None, Some};
+ghost use Rattle.std.specs.List.{AllByRecursion};
+ghost use Rattle.swp_base.specs.InMemory.{Memory, Plan};
+ghost use Rattle.trace_model.specs.Lines.{IsHost};
+ghost use Rattle.trace_model.specs.declared.entry.Entry.{Entry};
+ghost use Rattle.trace_model.specs.declared.entry.Entry.TheVariants.{Booted, Cut};
+ghost use Rattle.link_machine.specs.Machine.{LinkInput, Message, give_refusal};
+ghost use Rattle.message_link.specs.Links.{Comes, Loss, exchanged};
+ghost use Rattle.node_links.specs.Notices.{IsOutside};
+ghost use Rattle.node_machine.specs.Parts.{Running, Port, Work, Deed};
+ghost use Rattle.node_machine.specs.Node.{NodeInput, steps, begins_with, found};
+ghost use Rattle.node_machine.specs.Node.NodeInput.{AtEnd};
+ghost use Rattle.message_link.specs.Links.Comes.{NoInput};
+ghost use Rattle.node_world.specs.World.{Site, beginning, host_cut, host_ticks, input_of, sending};
+ghost use Rattle.node_readings.specs.Orders.{AreInitsShort, Fits, IsAnother, IsFresh, IsSilent, KeepsOrder, MayDo};
+ghost use Rattle.trace_model.specs.declared.line.End.{End};
+ghost use Rattle.kept_laws.specs.Hosts.{AreHosts};
+ghost use Rattle.node_world.specs.World.{NodeWorld, link_to, new_world, node_at, world_step};
+ghost use Rattle.node_world.specs.World.Happening.{Activates, Arms, Gives, Inits, IsCut, Loses, Resets, Takes, Ticks};
+ghost use Rattle.node_readings.specs.Worlds.{AllRead, SiteReads, host_does_so, init_of};
+
+/// In each step of a host its unanswered command stays the one that is read off the entries: none where its power was cut in the
+/// step. So it is also where a host begins by deeds of its own that give a command only where its end takes it.
+pub fn the_unanswered_command_is_read()
+    ensures step { (h : ℕ) (before : List Entry) (input : NodeInput) (w : Work) → IsHost h → IsOutside input → KeepsOrder h before w →
+        w.cut ≡ false → AllByRecursion IsFresh w.ports → KeepsOrder h before (steps input w) }
+    ensures begins { (h : ℕ) (before : List Entry) (deeds : List Deed) (w : Work) → IsHost h → KeepsOrder h before w → w.cut ≡ false →
+        MayDo h (Fits w.ports) deeds → KeepsOrder h before (begins_with h deeds w) }
+{}
+
+/// A host of a world keeps the unanswered command that is read of it, and none while it doesn't run, over each of its own events:
+/// something comes to its end, it sends a message that its end takes, it begins an init whose first command its end takes and none
+/// of whose commands is too long, it has a tick, its power is cut, or it boots while it doesn't run. And it keeps it while others act,
+/// where what is noted then tells nothing of it, and its end and its node stay.
+pub fn a_host_keeps_the_command_that_is_read()
+    ensures comes { (t : List Entry) (s : Site) (r : Running) (comes : Comes) (i : LinkInput) → IsHost s.host → SiteReads t s →
+        s.node ≡ Some r → input_of (exchanged s.link) comes ≡ Some i →
+        SiteReads (t ++ (host_does_so s r comes (steps (AtEnd s.host i))).1) (host_does_so s r comes (steps (AtEnd s.host i))).0 }
+    ensures sends { (t : List Entry) (s : Site) (r : Running) (m : Message) → IsHost s.host → SiteReads t s → s.node ≡ Some r →
+        give_refusal s.link.host.side m ≡ None →
+        SiteReads (t ++ (host_does_so s r NoInput (begins_with s.host (sending s.host m))).1)
+        (host_does_so s r NoInput (begins_with s.host (sending s.host m))).0 }
+    ensures begins { (t : List Entry) (s : Site) (r : Running) (identity : List ℕ) (pipes : List (List ℕ)) → IsHost s.host →
+        SiteReads t s → s.node ≡ Some r → give_refusal s.link.host.side (1, 3 ∷ []) ≡ None → AreInitsShort (Some (init_of identity pipes)) →
+        SiteReads (t ++ (host_does_so s r NoInput (begins_with s.host (beginning identity pipes))).1)
+        (host_does_so s r NoInput (begins_with s.host (beginning identity pipes))).0 }
+    ensures ticks { (t : List Entry) (s : Site) → IsHost s.host → SiteReads t s → SiteReads (t ++ (host_ticks s).1) (host_ticks s).0 }
+    ensures cut { (t : List Entry) (s : Site) → SiteReads (t ++ Cut s.host ∷ []) (host_cut s) }
+    ensures boots { (t : List Entry) (s : Site) (m : Memory) (content : List ℕ) (n : ℕ) → SiteReads t s → s.node ≡ None →
+        SiteReads (t ++ Booted s.host n ∷ []) (record s { memory = m; node = Some (found s.host (s.host ∷ []) content) }) }
+    ensures others { (t : List Entry) (es : List Entry) (s : Site) (v : Site) → AllByRecursion (IsSilent s.host) es → v.host ≡ s.host →
+        v.node ≡ s.node → v.link.host.side ≡ s.link.host.side → SiteReads t s → SiteReads (t ++ es) v }
+{}
+
+/// Whatever step another node has, the controller or another host, nothing that is noted in it tells of the unanswered command of
+/// this host.
+pub fn steps_of_others_tell_nothing_of_it()
+    ensures { (h : ℕ) (input : NodeInput) (w : Work) → IsAnother h w → AllByRecursion (IsSilent h) w.entries →
+        AllByRecursion (IsSilent h) (steps input w).entries }
+{}
+
+/// In a world that begins nothing is read of any host, and each keeps it so. Whatever end takes or loses a frame or is reset,
+/// whatever link is activated, whatever message a host sends that its end takes, whatever init it begins whose first command its end
+/// takes and none of whose commands is too long, whichever node that runs loses its power, whatever write is to fail, and over each
+/// tick, the unanswered command of each host is the one that is read off the entries, and none while it doesn't run. It asks for
+/// hosts from 01 to 07 that are all different.
+pub fn all_hosts_keep_the_commands_that_are_read()
+    ensures begin { (hosts : List ℕ) → AllRead hosts [] (new_world hosts) }
+    ensures takes { (hosts : List ℕ) (t : List Entry) (w : NodeWorld) (e : End) → AreHosts hosts → AllRead hosts t w →
+        AllRead hosts (t ++ (world_step w (Takes e)).1) (world_step w (Takes e)).0 }
+    ensures resets { (hosts : List ℕ) (t : List Entry) (w : NodeWorld) (e : End) (window : Option ℕ) → AreHosts hosts → AllRead hosts t w →
+        AllRead hosts (t ++ (world_step w (Resets e window)).1) (world_step w (Resets e window)).0 }
+    ensures activates { (hosts : List ℕ) (t : List Entry) (w : NodeWorld) (h : ℕ) (sync : ℕ) (power : ℕ) → AreHosts hosts →
+        AllRead hosts t w → AllRead hosts (t ++ (world_step w (Activates h sync power)).1) (world_step w (Activates h sync power)).0 }
+    ensures gives { (hosts : List ℕ) (t : List Entry) (w : NodeWorld) (e : End) (m : Message) → AreHosts hosts → AllRead hosts t w →
+        give_refusal (link_to w.sites e.link).host.side m ≡ None →
+        AllRead hosts (t ++ (world_step w (Gives e m)).1) (world_step w (Gives e m)).0 }
+    ensures inits { (hosts : List ℕ) (t : List Entry) (w : NodeWorld) (e : End) (identity : List ℕ) (pipes : List (List ℕ)) →
+        AreHosts hosts → AllRead hosts t w → give_refusal (link_to w.sites e.link).host.side (1, 3 ∷ []) ≡ None →
+        AreInitsShort (Some (init_of identity pipes)) →
+        AllRead hosts (t ++ (world_step w (Inits e identity pipes)).1) (world_step w (Inits e identity pipes)).0 }
+    ensures ticks { (hosts : List ℕ) (t : List Entry) (w : NodeWorld) → AreHosts hosts → AllRead hosts t w →
+        AllRead hosts (t ++ (world_step w Ticks).1) (world_step w Ticks).0 }
+    ensures cut { (hosts : List ℕ) (t : List Entry) (w : NodeWorld) (n : ℕ) (r : Running) → AreHosts hosts → AllRead hosts t w →
+        node_at w n ≡ Some r → AllRead hosts (t ++ (world_step w (IsCut n)).1) (world_step w (IsCut n)).0 }
+    ensures arms { (hosts : List ℕ) (t : List Entry) (w : NodeWorld) (n : ℕ) (plan : Plan) → AreHosts hosts → AllRead hosts t w →
+        AllRead hosts (t ++ (world_step w (Arms n plan)).1) (world_step w (Arms n plan)).0 }
+    ensures loses { (hosts : List ℕ) (t : List Entry) (w : NodeWorld) (e : End) (why : Loss) → AllRead hosts t w →
+        AllRead hosts (t ++ (world_step w (Loses e why)).1) (world_step w (Loses e why)).0 }
+{}
