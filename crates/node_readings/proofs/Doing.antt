@@ -1,9 +1,8 @@
 -- A host does the deeds of a message: its unanswered command stays the one that is read.
-use Rattle.std.proofs.Common.{◌≡◌, ◌⊎◌, inl, inr, ℕ, ◌==◌, ◌&&◌, Bool, true, false, cond, eqb, eqb-true, List, [], ◌∷◌, ◌++◌, length, map, sym, refl, ap, ◌∙◌, subst, append_assoc, append-nil}
-use Rattle.std.specs.Prelude.{Option, Some, None, is_some}
-use Rattle.std.specs.List.{AllByRecursion}
+use Rattle.std.proofs.Common.{◌≡◌, ◌⊎◌, inl, inr, ℕ, ◌&&◌, Bool, true, false, eqb, List, [], ◌∷◌, ◌++◌, length, sym, refl, ap, ◌∙◌, subst, append_assoc}
+use Rattle.std.specs.Prelude.{Option, Some, None}
 use Rattle.std.specs.Option.{option_map_or}
-use Rattle.std.proofs.lemmas.Bool.{cases_Bool, eq-eqb, true≢false, cond-true, cond-false}
+use Rattle.std.proofs.lemmas.Bool.{cases_Bool, eq-eqb, cond-true}
 use Rattle.trace_model.specs.Lines.{IsHost}
 use Rattle.trace_model.specs.declared.entry.Entry.{Entry}
 use Rattle.trace_model.specs.declared.entry.Entry.TheVariants as entry
@@ -14,20 +13,20 @@ use Rattle.hci_tables.specs.Bodies.{body_of}
 use Rattle.hci_store.specs.Committing.{commit_writes}
 use Rattle.shdlc_core.specs.declared.answers.LinkState.{LinkState}
 use Rattle.shdlc_core.specs.declared.answers.LinkState.TheVariants.{Up, Waiting, Down}
-use Rattle.link_machine.specs.Machine.{Message, Refused, Turn, turn, give_refusal}
+use Rattle.link_machine.specs.Machine.{Message, Turn, give_refusal}
 use Rattle.link_machine.specs.Machine.Refused.{NotUp}
-use Rattle.link_machine.specs.Machine.Turn.{Give, Hold, FetchMessage, SetAside, Release}
-use Rattle.link_entries.specs.Entries.{sent_unless, turn_entry}
+use Rattle.link_machine.specs.Machine.Turn.{Give, Release}
+use Rattle.link_entries.specs.Entries.{sent_unless}
 use Rattle.link_entries.specs.Entries.End.{Host}
 use Rattle.history.specs.Steps.{entries_for}
-use Rattle.node_machine.specs.Parts.{Init, Desk, Core, Port, Work, Deed}
+use Rattle.node_machine.specs.Parts.{Desk, Core, Port, Work, Deed}
 use Rattle.node_machine.specs.Parts.Deed.{Commits, Sends, SaysOk, Asks, Releases, Tells, IsAnswered, Drops, SetsErrors, Orders, Hears, GoesOn, Ends}
 use Rattle.node_machine.specs.Controller.{is_command_message}
 use Rattle.node_machine.specs.Carrying.{own_side, noting, unless_cut, port_at, changed_if, with_port, with_desk, after_turn, noted_of, turn_at, commit, done, all_done}
 use Rattle.node_world.specs.NodeFilters.{order_in}
 use Rattle.node_links.proofs.Noticing.{turn-phase}
 use Rattle.node_readings.specs.Orders.{AreInitsShort, IsItsEnd, KeepsOrder, Fits, MayDo}
-use Rattle.node_readings.proofs.Silent.{reads, order_more, reads_append, host_side, sent_reads, order_reads}
+use Rattle.node_readings.proofs.Silent.{reads, order_more, host_side, sent_reads, order_reads}
 
 module _ (h : ℕ) (host : IsHost h) (before : List Entry) (now : LinkState) where
   -- the host runs, its end is in this phase, and what is read is its unanswered command

@@ -1,14 +1,14 @@
 -- What is read of all hosts of a world as one of them acts, and over a tick.
-use Rattle.std.proofs.Common.{◌≡◌, ◌⊎◌, inl, inr, ℕ, ◌&&◌, Bool, true, false, not, cond, eqb, List, [], ◌∷◌, ◌++◌, map, length, sym, refl, ap, ap₂, ◌∙◌, subst, arith, append-nil, append_assoc}
-use Rattle.std.specs.Prelude.{Option, Some, None, is_some, nat_lt, replicate}
+use Rattle.std.proofs.Common.{◌≡◌, ℕ, ◌&&◌, Bool, false, not, eqb, List, [], ◌∷◌, ◌++◌, map, sym, refl, ap, ap₂, ◌∙◌, subst, arith, append-nil, append_assoc}
+use Rattle.std.specs.Prelude.{Option, Some, None, nat_lt, replicate}
 use Rattle.std.specs.List.{AllByRecursion, flat_map}
-use Rattle.std.proofs.lemmas.Bool.{cond_both, cases_Bool, eq-eqb, eqb-true, eqb-false, ne_eqb, true≢false, cond-true, cond-false}
+use Rattle.std.proofs.lemmas.Bool.{cond_both, eqb-false, ne_eqb}
 use Rattle.journal_laws.specs.Planned.{after_planned}
 use Rattle.trace_model.specs.Lines.{IsHost}
 use Rattle.trace_model.specs.declared.entry.Entry.{Entry}
 use Rattle.session_laws.specs.Sessions.{OnWire}
 use Rattle.shdlc_core.specs.Machine.{is_waiting}
-use Rattle.link_machine.specs.Machine.{Message, LinkEnd, Turn, give_refusal}
+use Rattle.link_machine.specs.Machine.{Message, Turn, give_refusal}
 use Rattle.message_link.specs.Links.{Link, Half, Ending, exchanged, aged, ticks_here, has_input}
 use Rattle.message_link.specs.Links.Ending.{GoesOut}
 use Rattle.message_link.specs.Links.Comes.{NoInput, AsksReset}
@@ -17,7 +17,7 @@ use Rattle.link_machine.specs.Machine.LinkInput.{Reset}
 use Rattle.link_entries.specs.Entries.{End as Side, aged_entries}
 use Rattle.link_entries.specs.Entries.End.{Controller, Host}
 use Rattle.history.specs.Steps.{entries_for}
-use Rattle.node_machine.specs.Parts.{Desk, Running, Port, Work, Deed}
+use Rattle.node_machine.specs.Parts.{Running, Work, Deed}
 use Rattle.node_machine.specs.Controller.{is_command_message}
 use Rattle.node_machine.specs.Parts.Deed.{Sends, Orders}
 use Rattle.node_machine.specs.Node.{steps, begins_with}
@@ -27,7 +27,7 @@ use Rattle.node_links.proofs.Ends.{here_host, tick_host}
 use Rattle.kept_laws.specs.Hosts.{AreDifferent, AreHosts}
 use Rattle.kept_laws.proofs.Sites.{site_found, hosts_same, hosts_with}
 use Rattle.node_readings.specs.Orders.{AreInitsShort, MayDo}
-use Rattle.node_readings.specs.Worlds.{HostRuns, IfHostRuns, SiteReads, IfZero, AllRead, init_of}
+use Rattle.node_readings.specs.Worlds.{IfHostRuns, SiteReads, IfZero, AllRead, init_of}
 use Rattle.node_readings.proofs.Silent.{IsQuiet, quiet-append}
 use Rattle.node_readings.proofs.Sites.{acts_reads, sending_may, beginning_may, ticks_read, others_read}
 use Rattle.node_readings.proofs.Hushed.{AreHushed}

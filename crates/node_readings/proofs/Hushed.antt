@@ -1,12 +1,11 @@
 -- What other nodes do tells nothing of the unanswered command of a host.
-use Rattle.std.proofs.Common.{◌≡◌, ◌⊎◌, inl, inr, ℕ, Bool, true, false, cond, eqb, ◌&&◌, List, [], ◌∷◌, ◌++◌, length, map, sym, refl, ap, ◌∙◌, subst, append-nil}
-use Rattle.std.specs.Prelude.{Option, Some, None, Result, Ok, Err, is_some, option_to_list, slice_get, nat_lt, ◌+◌}
-use Rattle.std.specs.List.{AllByRecursion, flat_map}
+use Rattle.std.proofs.Common.{◌≡◌, ℕ, Bool, true, false, cond, eqb, ◌&&◌, List, [], ◌∷◌, ◌++◌, length, map, refl, subst, append-nil}
+use Rattle.std.specs.Prelude.{Option, Some, None, Result, Ok, Err, slice_get, ◌+◌}
+use Rattle.std.specs.List.{AllByRecursion}
 use Rattle.std.specs.Option.{option_map_or}
-use Rattle.std.proofs.lemmas.Bool.{cond_both, cases_Bool}
+use Rattle.std.proofs.lemmas.Bool.{cond_both}
 use Rattle.session_laws.specs.Sessions.{is_up}
-use Rattle.trace_model.specs.declared.entry.Entry.{Entry}
-use Rattle.trace_model.specs.declared.entry.Entry.TheVariants.{InitSame, InitMade, InitFailed}
+use Rattle.trace_model.specs.declared.entry.Entry.TheVariants.{InitMade, InitFailed}
 use Rattle.hcp_packet.specs.declared.MessageKind.{MessageKind}
 use Rattle.hcp_packet.specs.declared.MessageKind.TheVariants.{Command as IsCommand, Event as IsEvent, Response as IsResponse}
 use Rattle.hcp_packet.specs.declared.MessageFault.{MessageFault}
@@ -23,16 +22,15 @@ use Rattle.gate_admin.specs.View.{has, hosts_where}
 use Rattle.gate_admin.specs.Decide.{decided}
 use Rattle.gate_link.specs.Link.{served as link_served}
 use Rattle.gate_identity.specs.Identity.{served as identity_served}
-use Rattle.gate_loopback.specs.Loopback.{posts_back}
 use Rattle.link_machine.specs.Machine.{Message}
 use Rattle.node_machine.specs.Parts.{Creation, Notice, Init, Core, Port, Deed}
 use Rattle.node_machine.specs.Parts.Deed.{Commits, Sends, SaysOk, Asks, Releases, Tells, IsAnswered, Drops, SetsErrors, Orders, Hears, GoesOn, Ends}
 use Rattle.node_machine.specs.Carrying.{port_at, finds_room, end_of_node}
 use Rattle.node_machine.specs.Controller.{has_link, creation_in, asks_for, view_for, answers_on, commit_deeds, decision_deeds, link_deeds, gates, gate_deeds, own_gate, goes_through, served_at, agreed, creation_deeds, notice_deeds, response_at, is_command_message, relayed_to, unrelayed, event_deeds, unless_asking, if_notice, kind_deeds, own_deeds, relay_deeds, deeds_by_relay, controller_deeds}
-use Rattle.node_machine.specs.HostReplies.{orders_of, is_same, learns, init_agreed, init_deeds, learned, response_deeds, is_gate, gate_of_pipe, ordered_deeds, host_deeds}
+use Rattle.node_machine.specs.HostReplies.{orders_of, is_same, learns, init_agreed, init_deeds, learned, response_deeds, host_deeds}
 use Rattle.node_machine.specs.Turns.{deeds_of}
 use Rattle.node_readings.specs.Orders.{IsSilent, MayDo}
-use Rattle.node_readings.proofs.Replying.{ordered_may, posted_may, learned_if}
+use Rattle.node_readings.proofs.Replying.{ordered_may, learned_if}
 
 -- what a deed ends in tells nothing of it
 abbrev pub IsHushed : ℕ → Deed → Type 0

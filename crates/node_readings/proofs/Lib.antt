@@ -10,3 +10,4 @@ pub mod Worlds
 pub mod Events
 pub mod Powers
 pub mod Losses
+pub mod Lines

@@ -1,12 +1,10 @@
 -- What is read of all hosts as a frame is lost on its way.
-use Rattle.std.proofs.Common.{◌≡◌, ◌+◌, ℕ, Bool, true, false, cond, eqb, List, [], ◌∷◌, ◌++◌, map, sym, refl, ap, ◌∙◌, subst}
+use Rattle.std.proofs.Common.{◌≡◌, ◌+◌, ℕ, Bool, true, false, eqb, List, [], ◌∷◌, ◌++◌, map, sym, refl, ap, ◌∙◌, subst}
 use Rattle.std.specs.Prelude.{Option, Some, None}
 use Rattle.std.specs.List.{AllByRecursion}
-use Rattle.std.proofs.lemmas.Bool.{cases_Bool}
-use Rattle.trace_model.specs.Lines.{IsHost}
 use Rattle.trace_model.specs.declared.entry.Entry.{Entry}
 use Rattle.trace_model.specs.declared.line.End.{End}
-use Rattle.message_link.specs.Links.{Link, Half, Loss, happens, exchanged}
+use Rattle.message_link.specs.Links.{Link, Loss, happens}
 use Rattle.message_link.specs.Links.Loss.{OnDemand, Broken, Unread, TooOld, TooMany}
 use Rattle.message_link.specs.Links.EndEvent.{Lose}
 use Rattle.message_link.specs.Links.LinkEvent.{AtController, AtHost}
@@ -16,13 +14,11 @@ use Rattle.history.specs.Steps.{entries_for}
 use Rattle.node_machine.specs.Parts.{Desk, Running}
 use Rattle.node_machine.specs.Carrying.{changed_if}
 use Rattle.node_world.specs.World.{NodeWorld, Site, with_site, link_to, counts, frame_lost}
-use Rattle.kept_laws.specs.Hosts.{AreHosts}
 use Rattle.kept_laws.proofs.Sites.{hosts_with}
-use Rattle.node_readings.specs.Worlds.{HostRuns, IfHostRuns, SiteReads, IfZero, AllRead}
+use Rattle.node_readings.specs.Worlds.{IfHostRuns, SiteReads, IfZero, AllRead}
 use Rattle.node_readings.specs.Orders.{order_of}
 use Rattle.node_readings.proofs.Sites.{lost_quiet, others_read}
 use Rattle.node_readings.proofs.Elsewhere.{AreSilent, quiet_silent}
-use Rattle.node_readings.proofs.Worlds.{hosts_in}
 
 zero_counts : (why : Loss) (h : ℕ) (o : Option Running) → IfZero o → IfZero (counts why h o)
 zero_counts (Broken fault) h None z = tt

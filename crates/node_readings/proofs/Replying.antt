@@ -1,14 +1,10 @@
 -- What a host does with a message that answers none of its commands may be done, and so may what follows the answer to one.
-use Rattle.std.proofs.Common.{◌≡◌, ℕ, ◌≤◌, ◌==◌, ◌&&◌, Bool, true, false, cond, eqb, List, [], ◌∷◌, ◌++◌, length, map, sym, refl, ap, ◌∙◌, subst}
-use Rattle.std.specs.Prelude.{Option, Some, None, Result, Ok, Err, is_some, slice_get, ◌+◌, zero, suc}
+use Rattle.std.proofs.Common.{◌≡◌, ℕ, ◌≤◌, ◌&&◌, Bool, true, false, cond, eqb, List, [], ◌∷◌, ◌++◌, length, map, refl, ap, subst}
+use Rattle.std.specs.Prelude.{Option, Some, None, is_some, slice_get, ◌+◌, zero, suc}
 use Rattle.std.specs.List.{AllByRecursion}
-use Rattle.hcp_packet.specs.declared.MessageKind.{MessageKind}
-use Rattle.hcp_packet.specs.declared.MessageKind.TheVariants.{Command as IsCommand, Event as IsEvent, Response as IsResponse}
-use Rattle.hcp_packet.specs.declared.MessageFault.{MessageFault}
-use Rattle.hcp_packet.specs.MessageHeader.{header_of}
 use Rattle.pipe_table.specs.declared.row.PipeRow.{PipeRow}
 use Rattle.pipe_table.specs.PipeRows.{pipe_at}
-use Rattle.trace_model.specs.declared.entry.Entry.TheVariants.{InitSame, InitMade, InitFailed}
+use Rattle.trace_model.specs.declared.entry.Entry.TheVariants.{InitMade, InitFailed}
 use Rattle.hci_tables.specs.declared.command.Command.{Command}
 use Rattle.hci_tables.specs.declared.command.Command.TheVariants.{Create, Delete, Clear, Set}
 use Rattle.hci_tables.specs.Commands.{is_command, is_host}
@@ -17,10 +13,9 @@ use Rattle.gate_answers.specs.declared.response.Response.TheVariants as response
 use Rattle.gate_answers.specs.Answers.{answer_of, instruction_in, body_in}
 use Rattle.gate_link.specs.Link.{served as link_served}
 use Rattle.gate_identity.specs.Identity.{served as identity_served}
-use Rattle.gate_loopback.specs.Loopback.{posts_back}
 use Rattle.link_machine.specs.Machine.{Message}
-use Rattle.node_machine.specs.Parts.{Init, Core, Port, Deed}
-use Rattle.node_machine.specs.Parts.Deed.{Commits, Sends, SaysOk, Hears, Ends, SetsErrors}
+use Rattle.node_machine.specs.Parts.{Init, Core, Deed}
+use Rattle.node_machine.specs.Parts.Deed.{Commits, Sends, Ends}
 use Rattle.node_machine.specs.Carrying.{end_of_node, finds_room}
 use Rattle.node_machine.specs.Controller.{answers_on, commit_deeds, link_deeds, gates, is_command_message}
 use Rattle.node_machine.specs.HostReplies.{replies, accepts, is_welcome, pipe_named_in, pipe_created, pipe_deleted, pipes_cleared, notified_deeds, orders_of, is_same, learns, init_agreed, init_deeds, deleted_by, created_by, learned, is_gate, gate_of_pipe, ordered_deeds}

@@ -1,25 +1,24 @@
 -- What tells nothing of the unanswered command of a host.
-use Rattle.std.proofs.Common.{◌≡◌, ℕ, ◌==◌, ◌&&◌, Bool, true, false, cond, eqb, List, [], ◌∷◌, ◌++◌, map, sym, refl, ap, ◌∙◌, arith}
+use Rattle.std.proofs.Common.{◌≡◌, ℕ, ◌&&◌, Bool, true, false, cond, eqb, List, [], ◌∷◌, ◌++◌, map, refl, ap, ◌∙◌, arith}
 use Rattle.std.specs.Prelude.{Option, Some, None, is_some, option_to_list}
 use Rattle.std.specs.List.{AllByRecursion, fold}
-use Rattle.std.proofs.lemmas.Bool.{eq-eqb, cases_Bool, ne_eqb}
+use Rattle.std.proofs.lemmas.Bool.{eq-eqb, ne_eqb}
 use Rattle.std.proofs.lemmas.List.Sums.{fold-append}
 use Rattle.trace_model.specs.Lines.{IsHost}
 use Rattle.trace_model.specs.declared.entry.Entry.{Entry}
 use Rattle.swp_base.specs.declared.link_terms.Cause.{Cause}
-use Rattle.link_machine.specs.Machine.{Message, LinkEnd, LinkInput, Refused, Report, give_refusal, ended_by, report, whole_acked, after_input}
-use Rattle.link_entries.specs.Entries.{End as Side, Entry as Noted, if_so, told, sent_unless}
-use Rattle.link_entries.specs.Entries.End.{Controller, Host}
+use Rattle.link_machine.specs.Machine.{Message, LinkInput, Refused, Report, ended_by, report, whole_acked, after_input}
+use Rattle.link_entries.specs.Entries.{End as Side, Entry as Noted, if_so, sent_unless}
+use Rattle.link_entries.specs.Entries.End.{Host}
 use Rattle.link_entries.specs.Entries.Entry.{Up, Down, Active, GaveUp, Acked, Got, Sent, Emit, Took, Lost, Tick, Restarted, Cut}
 use Rattle.history.specs.Filters.{same_end}
-use Rattle.history.specs.Steps.{entry_of, entries_for, end_of}
+use Rattle.history.specs.Steps.{entries_for, end_of}
 use Rattle.node_machine.specs.Parts.{Core, Port}
 use Rattle.node_machine.specs.Carrying.{own_side}
-use Rattle.node_machine.specs.Node.{told_at, has_come}
+use Rattle.node_machine.specs.Node.{told_at}
 use Rattle.node_machine.specs.Controller.{is_command_message}
 use Rattle.node_world.specs.World.{end_h}
 use Rattle.node_world.specs.NodeFilters.{awaited_after, order_in}
-use Rattle.node_readings.specs.Orders.{IsSilent}
 
 -- what is read after these entries, where this was read before
 abbrev pub reads : ℕ → List Entry → Option (List ℕ) → Option (List ℕ)

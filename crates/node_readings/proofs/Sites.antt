@@ -1,9 +1,9 @@
 -- A host with its link over what happens to it: its unanswered command stays the one that is read.
-use Rattle.std.proofs.Common.{◌≡◌, ◌⊎◌, inl, inr, ℕ, ◌&&◌, Bool, true, false, cond, eqb, List, [], ◌∷◌, ◌++◌, map, length, sym, refl, ap, ◌∙◌, subst, append-nil, append_assoc}
+use Rattle.std.proofs.Common.{◌≡◌, inl, inr, ℕ, ◌&&◌, Bool, true, false, cond, eqb, List, [], ◌∷◌, ◌++◌, map, length, sym, refl, ap, ◌∙◌, subst, append-nil, append_assoc}
 use Rattle.std.specs.Prelude.{Option, Some, None, is_some, nat_lt}
 use Rattle.std.specs.List.{AllByRecursion}
 use Rattle.std.specs.Option.{option_map_or}
-use Rattle.std.proofs.lemmas.Bool.{cases_Bool, eq-eqb, eqb-true, true≢false, cond-true}
+use Rattle.std.proofs.lemmas.Bool.{eq-eqb, eqb-true, true≢false, cond-true}
 use Rattle.trace_model.specs.Lines.{IsHost}
 use Rattle.trace_model.specs.declared.entry.Entry.{Entry}
 use Rattle.swp_base.specs.declared.control_frames.Control.{Control}
@@ -11,15 +11,12 @@ use Rattle.session_laws.specs.Sessions.{OnWire}
 use Rattle.shdlc_core.specs.Machine.{most_frames}
 use Rattle.session_laws.proofs.Ties.{after_frames-phase}
 use Rattle.shdlc_core.specs.declared.answers.LinkState.{LinkState}
-use Rattle.shdlc_core.specs.declared.answers.LinkState.TheVariants.{Up}
 use Rattle.link_machine.specs.Machine.{Message, give_refusal, LinkEnd, LinkInput, Turn, turn, turned, after_input, frames_out, sent_all, ended_by}
 use Rattle.link_machine.specs.Machine.LinkInput.{Take, Tick, Reset, Start, Stop}
-use Rattle.message_link.specs.Links.{Link, Half, Ending, Comes, Loss, exchanged, put, put_all, with_ended, finished, has_input, ticks_here, steps_here, happens}
+use Rattle.message_link.specs.Links.{Link, Half, Ending, Comes, Loss, exchanged, put, with_ended, finished, ticks_here, steps_here}
 use Rattle.message_link.specs.Links.Ending.{GoesOut, CutOff}
 use Rattle.message_link.specs.Links.Comes.{NextFrame, AsksReset, Starts, Stops, NoInput}
 use Rattle.message_link.specs.Links.Loss.{TooMany}
-use Rattle.message_link.specs.Links.EndEvent.{Step}
-use Rattle.message_link.specs.Links.LinkEvent.{AtHost}
 use Rattle.link_entries.specs.Entries.{End as Side, Entry as Noted, first_lost, pushed_out, wire_with, put_entries, puts_entries, ending_entries, far}
 use Rattle.link_entries.specs.Entries.End.{Controller, Host}
 use Rattle.history.specs.Steps.{entries_for}
@@ -30,16 +27,16 @@ use Rattle.node_machine.specs.Parts.{Desk, Running, Port, Work, Deed}
 use Rattle.node_machine.specs.Parts.Deed.{Sends, Orders}
 use Rattle.node_machine.specs.Controller.{is_command_message}
 use Rattle.node_machine.specs.Carrying.{port_at}
-use Rattle.node_machine.specs.Node.{NodeInput, input_at, has_come, steps, begins_with, found, new_desk}
+use Rattle.node_machine.specs.Node.{input_at, has_come, steps, begins_with, found, new_desk}
 use Rattle.node_machine.specs.Node.NodeInput.{AtEnd, TimePasses}
 use Rattle.node_world.specs.World.{Site, ending_of, runs_on, sending, beginning, host_cut, turns_at, input_of, half_in, arrival, wires_for, port_for, work_of, frames_noted, host_work, after_host, host_ticks}
 use Rattle.node_world.specs.NodeFilters.{order_in}
 use Rattle.node_links.specs.Notices.{IsComing}
 use Rattle.node_links.proofs.Noticing.{turn-phase}
-use Rattle.node_readings.specs.Orders.{order_of, AreInitsShort, IsItsEnd, IsSilent, Fits, MayDo}
+use Rattle.node_readings.specs.Orders.{order_of, AreInitsShort, IsSilent, Fits, MayDo}
 use Rattle.node_readings.specs.Worlds.{HostRuns, IfHostRuns, SiteReads}
 use Rattle.node_readings.proofs.Silent.{IsQuiet, reads, order_more, quiet_reads, quiet-append}
-use Rattle.node_readings.proofs.Doing.{Runs, Stands, IsOff, all_stand}
+use Rattle.node_readings.proofs.Doing.{Runs, Stands, all_stand}
 use Rattle.node_readings.proofs.Stepping.{steps_stand}
 
 -- ## Frames

@@ -1,26 +1,24 @@
 -- A step of a host: its unanswered command stays the one that is read.
-use Rattle.std.proofs.Common.{◌≡◌, ◌⊎◌, inl, inr, ℕ, ◌||◌, Bool, true, false, not, cond, eqb, List, [], ◌∷◌, ◌++◌, map, sym, refl, ap, ◌∙◌, subst, append-nil}
-use Rattle.std.specs.Prelude.{Option, Some, None, is_some, ◌&&◌}
-use Rattle.std.specs.List.{AllByRecursion, flat_map, list_any}
+use Rattle.std.proofs.Common.{◌≡◌, ◌⊎◌, inl, inr, ℕ, ◌||◌, Bool, true, false, cond, eqb, List, [], ◌∷◌, ◌++◌, map, sym, refl, ap, ◌∙◌, subst, append-nil}
+use Rattle.std.specs.Prelude.{Option, Some, None, is_some}
+use Rattle.std.specs.List.{AllByRecursion, flat_map}
 use Rattle.std.proofs.lemmas.Bool.{cases_Bool, true≢false}
 use Rattle.trace_model.specs.Lines.{IsHost}
 use Rattle.trace_model.specs.declared.entry.Entry.{Entry}
 use Rattle.hci_tables.specs.declared.command.Command.TheVariants.{Sync}
-use Rattle.hci_tables.specs.Tables.{is_kept_sync}
 use Rattle.shdlc_core.specs.declared.answers.LinkState.{LinkState}
 use Rattle.shdlc_core.specs.declared.answers.LinkState.TheVariants.{Up}
-use Rattle.link_machine.specs.Machine.{LinkInput, ended_by, report}
+use Rattle.link_machine.specs.Machine.{LinkInput, report}
 use Rattle.link_machine.specs.Machine.LinkInput.{Tick}
 use Rattle.node_machine.specs.Parts.{Core, Port, Work, Deed}
 use Rattle.node_machine.specs.Parts.Deed.{Commits}
-use Rattle.node_machine.specs.Carrying.{own_side, noting, unless_cut, finds_room, all_done}
+use Rattle.node_machine.specs.Carrying.{noting, unless_cut, all_done}
 use Rattle.node_machine.specs.Turns.{passes}
 use Rattle.node_machine.specs.Node.{NodeInput, input_at, has_come, told_at, all_come, with_older, reset_late, told_late, times_out, forgotten, forgets, all_owed, without_notice, after_sessions, synced, answers_and_passes, steps, begins_with}
 use Rattle.node_machine.specs.Node.NodeInput.{AtEnd, TimePasses}
-use Rattle.node_world.specs.NodeFilters.{order_in}
 use Rattle.node_links.specs.Notices.{IsComing, IsOutside}
 use Rattle.node_links.proofs.Staying.{stays_up}
-use Rattle.node_readings.specs.Orders.{AreInitsShort, IsItsEnd, KeepsOrder, IsFresh, Fits, MayDo}
+use Rattle.node_readings.specs.Orders.{IsItsEnd, KeepsOrder, IsFresh, Fits, MayDo}
 use Rattle.node_readings.proofs.Silent.{reads, host_side, told_reads}
 use Rattle.node_readings.proofs.Doing.{Runs, Stands, stands_keep, keeps_stand, then, read_more, all_stand}
 use Rattle.node_readings.proofs.Turning.{passes_stand}

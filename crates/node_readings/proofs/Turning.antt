@@ -1,9 +1,8 @@
 -- A host has its turns: its unanswered command stays the one that is read.
-use Rattle.std.proofs.Common.{◌≡◌, ◌⊎◌, inl, inr, ℕ, ◌≤◌, ◌<◌, ◌==◌, ◌&&◌, Bool, true, false, not, cond, eqb, List, [], ◌∷◌, ◌++◌, length, map, sym, refl, ap, ◌∙◌, subst, arith}
+use Rattle.std.proofs.Common.{◌≡◌, inl, ℕ, ◌≤◌, ◌&&◌, Bool, true, false, cond, eqb, List, [], ◌∷◌, ◌++◌, length, map, sym, refl, ap, ◌∙◌, subst, arith}
 use Rattle.std.specs.Prelude.{Option, Some, None, Result, Ok, Err, is_some, nat_lt}
-use Rattle.std.specs.List.{AllByRecursion}
 use Rattle.std.specs.Option.{option_map_or}
-use Rattle.std.proofs.lemmas.Bool.{cases_Bool, eq-eqb, true≢false, cond-true, cond-false, le-ltb, ne_eqb}
+use Rattle.std.proofs.lemmas.Bool.{eq-eqb, true≢false, cond-true, le-ltb, ne_eqb}
 use Rattle.trace_model.specs.Lines.{IsHost}
 use Rattle.trace_model.specs.declared.entry.Entry.{Entry}
 use Rattle.trace_model.specs.declared.entry.Entry.TheVariants as entry
@@ -15,19 +14,17 @@ use Rattle.session_laws.specs.Sessions.{is_up}
 use Rattle.shdlc_core.specs.declared.answers.LinkState.{LinkState}
 use Rattle.shdlc_core.specs.declared.answers.LinkState.TheVariants.{Up, Waiting, Down}
 use Rattle.gate_answers.specs.Answers.{body_in}
-use Rattle.link_machine.specs.Machine.{Message, LinkEnd, Refused, Turn, turn, give_refusal, spare, need, is_held}
+use Rattle.link_machine.specs.Machine.{Message, LinkEnd, give_refusal, spare, need, is_held}
 use Rattle.link_machine.specs.Machine.Turn.{Hold, FetchMessage}
 use Rattle.gate_loopback.specs.Loopback.{posts_back}
-use Rattle.node_machine.specs.Parts.{Init, Desk, Core, Port, Work, Deed}
+use Rattle.node_machine.specs.Parts.{Port, Work, Deed}
 use Rattle.node_machine.specs.Parts.Deed.{Commits, Sends, SaysOk, Asks, Releases, Tells, IsAnswered, Drops, SetsErrors, Orders, Hears, GoesOn, Ends}
 use Rattle.node_machine.specs.Controller.{is_command_message}
 use Rattle.node_machine.specs.Carrying.{noting, unless_cut, port_at, changed_if, with_port, with_desk, after_turn, turn_at, end_of_node, done, all_done, needs, lack}
 use Rattle.node_machine.specs.HostReplies.{learned, init_deeds, response_deeds, ordered_deeds, is_gate, gate_of_pipe, host_deeds}
 use Rattle.node_machine.specs.Turns.{deeds_of, handles, holds_back, lets_go, have_turns, goes_through_ends, passes}
-use Rattle.history.specs.Filters.{same_end}
-use Rattle.node_world.specs.World.{end_h}
-use Rattle.node_world.specs.NodeFilters.{is_response, order_in}
-use Rattle.node_readings.specs.Orders.{AreInitsShort, IsItsEnd, Fits, MayDo}
+use Rattle.node_world.specs.NodeFilters.{is_response}
+use Rattle.node_readings.specs.Orders.{Fits, MayDo}
 use Rattle.node_readings.proofs.Silent.{reads, host_side, same_own}
 use Rattle.node_readings.proofs.Doing.{Runs, Stands, IsOff, then, noting_runs, desk_runs, turn_runs, all_stand}
 use Rattle.node_readings.proofs.Replying.{ordered_may, posted_may, learned_if, init_may}

@@ -1,38 +1,31 @@
 -- What is read of all hosts of a world over an event.
-use Rattle.std.proofs.Common.{◌≡◌, ◌⊎◌, inl, inr, ℕ, ◌&&◌, Bool, true, false, cond, eqb, List, [], ◌∷◌, ◌++◌, map, length, sym, refl, ap, ap₂, ◌∙◌, subst, arith, append-nil, append_assoc}
-use Rattle.std.specs.Prelude.{Option, Some, None, is_some}
+use Rattle.std.proofs.Common.{◌≡◌, ◌⊎◌, inl, inr, ℕ, ◌&&◌, Bool, true, false, cond, eqb, List, [], ◌∷◌, ◌++◌, map, sym, refl, ap, ◌∙◌, subst, arith, append-nil, append_assoc}
+use Rattle.std.specs.Prelude.{Option, Some, None}
 use Rattle.std.specs.List.{AllByRecursion, flat_map}
 use Rattle.std.specs.Option.{option_map_or}
-use Rattle.std.proofs.lemmas.Bool.{cond_both, cases_Bool, eq-eqb, eqb-true, eqb-false, ne_eqb, true≢false, cond-true, cond-false}
-use Rattle.swp_base.specs.InMemory.{Memory, Plan}
+use Rattle.std.proofs.lemmas.Bool.{cases_Bool, eqb-true, eqb-false, ne_eqb, cond-true, cond-false}
+use Rattle.swp_base.specs.InMemory.{Plan}
 use Rattle.trace_model.specs.Lines.{IsHost}
 use Rattle.trace_model.specs.declared.entry.Entry.{Entry}
-use Rattle.trace_model.specs.declared.entry.Entry.TheVariants as entry
 use Rattle.trace_model.specs.declared.line.End.{End}
-use Rattle.link_machine.specs.Machine.{Message, LinkInput, give_refusal}
-use Rattle.message_link.specs.Links.{Link, Half, Ending, Comes, exchanged, aged, ticks_here, happens, has_input}
-use Rattle.message_link.specs.Links.Ending.{GoesOut, CutOff}
+use Rattle.link_machine.specs.Machine.{LinkInput}
+use Rattle.message_link.specs.Links.{Link, Half, Comes, exchanged}
 use Rattle.message_link.specs.Links.Comes.{NextFrame, AsksReset, Starts, Stops, NoInput}
 use Rattle.message_link.specs.Links.EndEvent.{Step}
-use Rattle.message_link.specs.Links.LinkEvent.{AtController}
 use Rattle.link_entries.specs.Entries.{End as Side}
 use Rattle.link_entries.specs.Entries.End.{Controller, Host}
-use Rattle.history.specs.Filters.{same_end}
-use Rattle.history.specs.Steps.{entries_for, end_of}
+use Rattle.history.specs.Steps.{entries_for}
 use Rattle.history.specs.Follows.{seen_from}
-use Rattle.node_machine.specs.Parts.{Desk, Running, Port, Work, Deed}
-use Rattle.node_machine.specs.Carrying.{changed_if, own_side, port_at}
-use Rattle.node_machine.specs.Node.{NodeInput, steps, begins_with}
-use Rattle.node_machine.specs.Node.NodeInput.{AtEnd, TimePasses}
+use Rattle.node_machine.specs.Parts.{Desk, Running, Port, Work}
+use Rattle.node_machine.specs.Carrying.{changed_if, port_at}
+use Rattle.node_machine.specs.Node.{steps}
+use Rattle.node_machine.specs.Node.NodeInput.{AtEnd}
 use Rattle.node_world.specs.World.{NodeWorld, Site, site_at, with_site, link_to, ending_of, runs_on, turns_at, input_of, half_in, arrival, wires_for, port_for, work_of, frames_noted, comes_to, controller_work, link_after_controller, controller_does, host_work, after_host, host_does, comes_at, activates, sending, beginning, end_c, end_h}
-use Rattle.node_world.specs.NodeFilters.{order_in}
-use Rattle.node_links.proofs.Ends.{here_host, tick_host}
+use Rattle.node_links.proofs.Ends.{here_host}
 use Rattle.kept_laws.specs.Hosts.{AreDifferent, AreHosts}
 use Rattle.kept_laws.proofs.Sites.{site_found, hosts_same, hosts_with}
-use Rattle.node_readings.specs.Orders.{order_of, AreInitsShort, IsSilent}
 use Rattle.node_readings.specs.Worlds.{HostRuns, IfHostRuns, SiteReads, IfZero, AllRead}
-use Rattle.node_readings.proofs.Silent.{IsQuiet}
-use Rattle.node_readings.proofs.Sites.{ending_quiet, comes_reads, acts_reads, sending_may, beginning_may, others_read}
+use Rattle.node_readings.proofs.Sites.{ending_quiet, comes_reads, others_read}
 use Rattle.node_readings.proofs.Elsewhere.{AreSilent, silent-append, silent_flat, quiet_silent, Away, IsAway, steps_away}
 
 -- the hosts
@@ -98,7 +91,7 @@ module _ (t es : List Entry) (h : ℕ) (f : Site → Site) (silent : (k : ℕ) �
   stays : (s : Site) → eqb s.host h ≡ false → SiteReads t s → SiteReads (t ++ es) s
   stays s off k = others_read t es s s (silent s.host (ne_eqb h s.host (λ e. eqb-false s.host h off (sym e)))) refl refl refl k
 
-  others_stay : (sites : List Site) → AllByRecursion (λ k. eqb k h ≡ false) (hosts_in sites) → AllByRecursion (SiteReads t) sites
+  pub others_stay : (sites : List Site) → AllByRecursion (λ k. eqb k h ≡ false) (hosts_in sites) → AllByRecursion (SiteReads t) sites
       → AllByRecursion (SiteReads (t ++ es)) (with_site h f sites)
   others_stay [] hosts all = tt
   others_stay (s ∷ sites) hosts all =

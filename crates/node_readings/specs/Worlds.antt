@@ -1,12 +1,16 @@
 -- What the hosts of a world keep of their unanswered commands at a moment between events, by what was noted so far.
-use Rattle.std.specs.Prelude.{◌≡◌, ℕ, true, List, [], ◌∷◌, ◌++◌, map, is_some, Option, Some, None}
+use Rattle.std.specs.Prelude.{◌≡◌, ℕ, true, List, [], ◌∷◌, ◌++◌, map, is_some, Option, Some, None, IsTrue}
 use Rattle.trace_model.specs.declared.entry.Entry.{Entry}
 use Rattle.shdlc_core.specs.declared.answers.LinkState.TheVariants.{Up}
 use Rattle.message_link.specs.Links.{Link, Comes, exchanged}
 use Rattle.link_entries.specs.Entries.End.{Host}
 use Rattle.node_machine.specs.Parts.{Init, Desk, Running, Work}
 use Rattle.std.specs.List.{AllByRecursion}
-use Rattle.node_world.specs.World.{NodeWorld, Site, wires_for, frames_noted, host_work, after_host}
+use Rattle.link_machine.specs.Machine.{give_refusal}
+use Rattle.node_world.specs.World.{NodeWorld, Site, Happening, node_at, link_to, wires_for, frames_noted, host_work, after_host}
+use Rattle.node_world.specs.World.Happening.{Boots, Gives, Inits}
+use Rattle.trace_model.specs.declared.line.Line.{Line}
+use Rattle.trace_model.specs.declared.line.Line.TheVariants.{Init as BeginsInit}
 use Rattle.node_world.specs.NodeFilters.{order_in}
 use Rattle.node_readings.specs.Orders.{order_of, AreInitsShort}
 
@@ -49,3 +53,16 @@ pub record AllRead (hosts : List ℕ) (t : List Entry) (w : NodeWorld) : Type 0 
   pub controller : IfZero w.controller
   pub hosts_are : map (λ (s : Site). s.host) w.sites ≡ hosts
   pub sites : AllByRecursion (SiteReads t) w.sites
+
+-- A node that boots doesn't run; the end of a host takes the message that it sends, and the first command of an init, none of whose
+-- commands is too long.
+abbrev pub MayBeRead : NodeWorld → Happening → Type 0
+MayBeRead w (Boots n) = node_at w n ≡ None
+MayBeRead w (Gives e m) = give_refusal (link_to w.sites e.link).host.side m ≡ None
+MayBeRead w (Inits e identity pipes) = (give_refusal (link_to w.sites e.link).host.side (1, 3 ∷ []) ≡ None) × AreInitsShort (Some (init_of identity pipes))
+MayBeRead w _ = Unit {0}
+
+-- a line that begins an init does so at a host's end, and none of its commands is too long
+abbrev pub IsInitOfHost : Line → Type 0
+IsInitOfHost (BeginsInit e identity pipes) = IsTrue e.at_host × AreInitsShort (Some (init_of identity pipes.items))
+IsInitOfHost _ = Unit {0}

@@ -4,12 +4,12 @@
 
 ghost use Rattle.std.specs.Prelude.{◌≡◌, ◌∷◌, ◌++◌, ℕ, false, List, [], Option, None, Some};
 ghost use Rattle.std.specs.List.{AllByRecursion};
-ghost use Rattle.swp_base.specs.InMemory.{Memory, Plan};
+ghost use Rattle.swp_base.specs.InMemory.{Memory};
 ghost use Rattle.trace_model.specs.Lines.{IsHost};
 ghost use Rattle.trace_model.specs.declared.entry.Entry.{Entry};
 ghost use Rattle.trace_model.specs.declared.entry.Entry.TheVariants.{Booted, Cut};
 ghost use Rattle.link_machine.specs.Machine.{LinkInput, Message, give_refusal};
-ghost use Rattle.message_link.specs.Links.{Comes, Loss, exchanged};
+ghost use Rattle.message_link.specs.Links.{Comes, exchanged};
 ghost use Rattle.node_links.specs.Notices.{IsOutside};
 ghost use Rattle.node_machine.specs.Parts.{Running, Port, Work, Deed};
 ghost use Rattle.node_machine.specs.Node.{NodeInput, steps, begins_with, found};
@@ -17,11 +17,12 @@ ghost use Rattle.node_machine.specs.Node.NodeInput.{AtEnd};
 ghost use Rattle.message_link.specs.Links.Comes.{NoInput};
 ghost use Rattle.node_world.specs.World.{Site, beginning, host_cut, host_ticks, input_of, sending};
 ghost use Rattle.node_readings.specs.Orders.{AreInitsShort, Fits, IsAnother, IsFresh, IsSilent, KeepsOrder, MayDo};
-ghost use Rattle.trace_model.specs.declared.line.End.{End};
-ghost use Rattle.kept_laws.specs.Hosts.{AreHosts};
-ghost use Rattle.node_world.specs.World.{NodeWorld, link_to, new_world, node_at, world_step};
-ghost use Rattle.node_world.specs.World.Happening.{Activates, Arms, Gives, Inits, IsCut, Loses, Resets, Takes, Ticks};
-ghost use Rattle.node_readings.specs.Worlds.{AllRead, SiteReads, host_does_so, init_of};
+ghost use Rattle.trace_model.specs.declared.line.Header.{Header};
+ghost use Rattle.trace_model.specs.declared.line.Line.{Line};
+ghost use Rattle.kept_laws.specs.Hosts.{AreHosts, IsSentByHost};
+ghost use Rattle.node_world.specs.NodeHistories.{NodeHistory, FollowsNodes, node_entries, world_after};
+ghost use Rattle.node_world.specs.World.{NodeWorld, Happening, new_world, world_step};
+ghost use Rattle.node_readings.specs.Worlds.{AllRead, IsInitOfHost, MayBeRead, SiteReads, host_does_so, init_of};
 
 /// In each step of a host its unanswered command stays the one that is read off the entries: none where its power was cut in the
 /// step. So it is also where a host begins by deeds of its own that give a command only where its end takes it.
@@ -63,32 +64,21 @@ pub fn steps_of_others_tell_nothing_of_it()
         AllByRecursion (IsSilent h) (steps input w).entries }
 {}
 
-/// In a world that begins nothing is read of any host, and each keeps it so. Whatever end takes or loses a frame or is reset,
-/// whatever link is activated, whatever message a host sends that its end takes, whatever init it begins whose first command its end
-/// takes and none of whose commands is too long, whichever node that runs loses its power, whatever write is to fail, and over each
-/// tick, the unanswered command of each host is the one that is read off the entries, and none while it doesn't run. It asks for
-/// hosts from 01 to 07 that are all different.
+/// In a world that begins nothing is read of any host, and each keeps it so. Whatever happens then, the unanswered command of each
+/// host is the one that is read off the entries, and none while it doesn't run: so it is at each moment between events. It asks for
+/// hosts from 01 to 07 that are all different; a node that boots doesn't run, and the end of a host takes what the host sends, and
+/// the first command of an init, none of whose commands is longer than 4,096 bytes.
 pub fn all_hosts_keep_the_commands_that_are_read()
     ensures begin { (hosts : List ℕ) → AllRead hosts [] (new_world hosts) }
-    ensures takes { (hosts : List ℕ) (t : List Entry) (w : NodeWorld) (e : End) → AreHosts hosts → AllRead hosts t w →
-        AllRead hosts (t ++ (world_step w (Takes e)).1) (world_step w (Takes e)).0 }
-    ensures resets { (hosts : List ℕ) (t : List Entry) (w : NodeWorld) (e : End) (window : Option ℕ) → AreHosts hosts → AllRead hosts t w →
-        AllRead hosts (t ++ (world_step w (Resets e window)).1) (world_step w (Resets e window)).0 }
-    ensures activates { (hosts : List ℕ) (t : List Entry) (w : NodeWorld) (h : ℕ) (sync : ℕ) (power : ℕ) → AreHosts hosts →
-        AllRead hosts t w → AllRead hosts (t ++ (world_step w (Activates h sync power)).1) (world_step w (Activates h sync power)).0 }
-    ensures gives { (hosts : List ℕ) (t : List Entry) (w : NodeWorld) (e : End) (m : Message) → AreHosts hosts → AllRead hosts t w →
-        give_refusal (link_to w.sites e.link).host.side m ≡ None →
-        AllRead hosts (t ++ (world_step w (Gives e m)).1) (world_step w (Gives e m)).0 }
-    ensures inits { (hosts : List ℕ) (t : List Entry) (w : NodeWorld) (e : End) (identity : List ℕ) (pipes : List (List ℕ)) →
-        AreHosts hosts → AllRead hosts t w → give_refusal (link_to w.sites e.link).host.side (1, 3 ∷ []) ≡ None →
-        AreInitsShort (Some (init_of identity pipes)) →
-        AllRead hosts (t ++ (world_step w (Inits e identity pipes)).1) (world_step w (Inits e identity pipes)).0 }
-    ensures ticks { (hosts : List ℕ) (t : List Entry) (w : NodeWorld) → AreHosts hosts → AllRead hosts t w →
-        AllRead hosts (t ++ (world_step w Ticks).1) (world_step w Ticks).0 }
-    ensures cut { (hosts : List ℕ) (t : List Entry) (w : NodeWorld) (n : ℕ) (r : Running) → AreHosts hosts → AllRead hosts t w →
-        node_at w n ≡ Some r → AllRead hosts (t ++ (world_step w (IsCut n)).1) (world_step w (IsCut n)).0 }
-    ensures arms { (hosts : List ℕ) (t : List Entry) (w : NodeWorld) (n : ℕ) (plan : Plan) → AreHosts hosts → AllRead hosts t w →
-        AllRead hosts (t ++ (world_step w (Arms n plan)).1) (world_step w (Arms n plan)).0 }
-    ensures loses { (hosts : List ℕ) (t : List Entry) (w : NodeWorld) (e : End) (why : Loss) → AllRead hosts t w →
-        AllRead hosts (t ++ (world_step w (Loses e why)).1) (world_step w (Loses e why)).0 }
+    ensures event { (hosts : List ℕ) (t : List Entry) (w : NodeWorld) (c : Happening) → AreHosts hosts → AllRead hosts t w → MayBeRead w c →
+        AllRead hosts (t ++ (world_step w c).1) (world_step w c).0 }
+{}
+
+/// Behind any lines of a schedule the unanswered command of each host that runs is the one that is read off the entries, and none is
+/// read of a host that doesn't run. It asks for hosts from 01 to 07 that are all different, for messages that hosts send, and for
+/// inits of hosts, none of whose commands is longer than 4,096 bytes.
+pub fn unanswered_commands_are_read_off_histories()
+    ensures { (header : Header) (lines : List Line) (t : NodeHistory) → FollowsNodes header lines t → AreHosts header.hosts.items →
+        AllByRecursion IsSentByHost lines → AllByRecursion IsInitOfHost lines →
+        AllRead header.hosts.items (node_entries t) (world_after (new_world header.hosts.items) lines) }
 {}
