@@ -11,3 +11,5 @@ pub mod Events
 pub mod Powers
 pub mod Losses
 pub mod Lines
+pub mod Noticed
+pub mod NoticedWorlds

@@ -87,7 +87,7 @@ turned_phase e [] = refl
 turned_phase e (t ∷ ts) = turned_phase (turn e t) ts ∙ turn-phase e t
 
 -- and frames that go out leave it
-sent_phase : (e : LinkEnd) (ts : List Turn) → (sent_all (turned e ts)).shdlc.phase ≡ e.shdlc.phase
+pub sent_phase : (e : LinkEnd) (ts : List Turn) → (sent_all (turned e ts)).shdlc.phase ≡ e.shdlc.phase
 sent_phase e ts = after_frames-phase most_frames (turned e ts).shdlc ∙ turned_phase e ts
 
 finished_phase : (l : Link) (e : LinkEnd) (ts : List Turn) → (finished l (turned e ts) GoesOut).controller.side.shdlc.phase ≡ e.shdlc.phase
@@ -116,7 +116,7 @@ stepped_phase l Stops ts i e =
 stepped_phase l NoInput ts i e = let z : None ≡ Some i = e in absurd (cc z)
 
 -- what comes so comes from outside
-comes_outside : (l : Link) (comes : Comes) (i : LinkInput) → input_of l comes ≡ Some i → IsComing i
+pub comes_outside : (l : Link) (comes : Comes) (i : LinkInput) → input_of l comes ≡ Some i → IsComing i
 comes_outside l NextFrame i e = go l.to_controller refl where
   go : (xs : List OnWire) → l.to_controller ≡ xs → IsComing i
   go [] q = let z : None ≡ Some i = rw q at e in absurd (cc z)
@@ -127,7 +127,7 @@ comes_outside l Stops i e = let is : Stop ≡ i = cc in subst IsComing is tt
 comes_outside l NoInput i e = let z : None ≡ Some i = e in absurd (cc z)
 
 -- hearing of the number of an RSET leaves the machine of an end
-half_side : (l : Link) (comes : Comes) → (half_in l comes).side ≡ l.controller.side
+pub half_side : (l : Link) (comes : Comes) → (half_in l comes).side ≡ l.controller.side
 half_side l NextFrame = go l.to_controller where
   first : List OnWire → Half
   first [] = l.controller

@@ -1,5 +1,5 @@
-//! What a world of nodes keeps is what is read off its entries, beyond tables and counts: the unanswered command of a host, over
-//! each of its own events and over the steps of other nodes. Nothing here runs.
+//! What a world of nodes keeps is what is read off its entries, beyond tables and counts: the unanswered command of a host. And a
+//! controller has notices that aren't answered only at ends that are up. Nothing here runs.
 #![tactic(auto)]
 
 ghost use Rattle.std.specs.Prelude.{◌≡◌, ◌∷◌, ◌++◌, ℕ, false, List, [], Option, None, Some};
@@ -22,6 +22,8 @@ ghost use Rattle.trace_model.specs.declared.line.Line.{Line};
 ghost use Rattle.kept_laws.specs.Hosts.{AreHosts, IsSentByHost};
 ghost use Rattle.node_world.specs.NodeHistories.{NodeHistory, FollowsNodes, node_entries, world_after};
 ghost use Rattle.node_world.specs.World.{NodeWorld, Happening, new_world, world_step};
+ghost use Rattle.node_readings.specs.Noticed.{NoticesAreUp};
+ghost use Rattle.node_telling.specs.Telling.{IsOrderly};
 ghost use Rattle.node_readings.specs.Worlds.{AllRead, IsInitOfHost, MayBeRead, SiteReads, host_does_so, init_of};
 
 /// In each step of a host its unanswered command stays the one that is read off the entries: none where its power was cut in the
@@ -81,4 +83,12 @@ pub fn unanswered_commands_are_read_off_histories()
     ensures { (header : Header) (lines : List Line) (t : NodeHistory) → FollowsNodes header lines t → AreHosts header.hosts.items →
         AllByRecursion IsSentByHost lines → AllByRecursion IsInitOfHost lines →
         AllRead header.hosts.items (node_entries t) (world_after (new_world header.hosts.items) lines) }
+{}
+
+/// A controller has a notice that isn't answered only at an end that is up: over whatever happens in an orderly world, also over the
+/// tick in which the notice is late and its link is reset, and so behind any lines. It asks for hosts from 01 to 07 that are all
+/// different.
+pub fn unanswered_notices_stand_at_links_that_are_up()
+    ensures event { (w : NodeWorld) (c : Happening) → IsOrderly w → NoticesAreUp w → NoticesAreUp (world_step w c).0 }
+    ensures histories { (hosts : List ℕ) (lines : List Line) → AreHosts hosts → NoticesAreUp (world_after (new_world hosts) lines) }
 {}

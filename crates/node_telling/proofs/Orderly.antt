@@ -112,7 +112,7 @@ ticks_orderly w a =
 
 -- ## Events and lines
 
-step_orderly : (w : NodeWorld) (c : Happening) → IsOrderly w → IsOrderly (world_step w c).0
+pub step_orderly : (w : NodeWorld) (c : Happening) → IsOrderly w → IsOrderly (world_step w c).0
 step_orderly w Ticks a = ticks_orderly w a
 step_orderly w (Boots n) a = (untimed_goes w (Boots n) tt a).orderly
 step_orderly w (IsCut n) a = (untimed_goes w (IsCut n) tt a).orderly
