@@ -8,12 +8,12 @@ use Rattle.swp_base.specs.declared.control_frames.Control.TheVariants.{I, S, Rse
 use Rattle.shdlc_core.specs.declared.answers.Due.{Due}
 use Rattle.shdlc_core.specs.declared.answers.Due.TheVariants.{Rr as Rr_due, Rej as Rej_due, Rnr as Rnr_due, Rset as Rset_due, Ua as Ua_due}
 use Rattle.shdlc_core.specs.Machine.{Fragment}
-use Rattle.link_laws.specs.Link.{Carried, older, with_frame}
+use Rattle.link_laws.specs.Wire.{OnWire, older, with_frame}
 use Rattle.link_laws.proofs.Marks.{Shows, last_count}
 use Rattle.link_laws.proofs.Whole.{AnswersOnly}
 
 -- no frame on the wire is more than b ticks old, and none is older than those in front of it
-abbrev pub Young : ℕ → List Carried → Type 0
+abbrev pub Young : ℕ → List OnWire → Type 0
 Young b [] = Unit {0}
 Young b (x ∷ xs) = (x.age ≤ b) × Young x.age xs
 
@@ -26,14 +26,14 @@ Answers a (S Rnr n) = Unit {0}
 Answers a _ = ⊥
 
 -- the fragment at the place a is on its way, at least as long as t ticks
-abbrev pub SentBy : ℕ → ℕ → List Carried → List Control → Type 0
+abbrev pub SentBy : ℕ → ℕ → List OnWire → List Control → Type 0
 SentBy a t [] ms = ⊥
 SentBy a t (x ∷ xs) [] = ⊥
 SentBy a t (x ∷ xs) (I p n info ∷ ms) = ((p ≡ a) × (t ≤ x.age)) ⊎ SentBy a t xs ms
 SentBy a t (x ∷ xs) (_ ∷ ms) = SentBy a t xs ms
 
 -- its answer is on its way, at least as long as t ticks but four
-abbrev pub AnswerBy : ℕ → ℕ → List Carried → List Control → Type 0
+abbrev pub AnswerBy : ℕ → ℕ → List OnWire → List Control → Type 0
 AnswerBy a t [] ms = ⊥
 AnswerBy a t (x ∷ xs) [] = ⊥
 AnswerBy a t (x ∷ xs) (m ∷ ms) = (Answers a m × (t ≤ x.age + 4)) ⊎ AnswerBy a t xs ms
@@ -74,67 +74,67 @@ course_of r (_ ∷ ms) = course_of r ms
 
 -- ## Wires that grow
 
-pub sent_push : (a t : ℕ) (wire : List Carried) (ms : List Control) (c m : Control) → SentBy a t wire ms → SentBy a t (with_frame wire c) (ms ++ m ∷ [])
+pub sent_push : (a t : ℕ) (wire : List OnWire) (ms : List Control) (c m : Control) → SentBy a t wire ms → SentBy a t (with_frame wire c) (ms ++ m ∷ [])
 sent_push a t [] ms c m h = absurd h
 sent_push a t (x ∷ xs) [] c m h = absurd h
 sent_push a t (x ∷ xs) (I p n info ∷ ms) c m (inl h) = inl h
 sent_push a t (x ∷ xs) (I p n info ∷ ms) c m (inr h) = inr (sent_push a t xs ms c m h)
 sent_push a t (x ∷ xs) (_ ∷ ms) c m h = sent_push a t xs ms c m h
 
-pub sent_new : (a t n : ℕ) (info : Fragment) (wire : List Carried) (ms : List Control) (c : Control) → t ≡ 0 → Shows wire ms → SentBy a t (with_frame wire c) (ms ++ I a n info ∷ [])
+pub sent_new : (a t n : ℕ) (info : Fragment) (wire : List OnWire) (ms : List Control) (c : Control) → t ≡ 0 → Shows wire ms → SentBy a t (with_frame wire c) (ms ++ I a n info ∷ [])
 sent_new a t n info [] [] c e h = inl (refl, omega arith)
 sent_new a t n info [] (_ ∷ ms) c e h = absurd h
 sent_new a t n info (x ∷ xs) [] c e h = absurd h
 sent_new a t n info (x ∷ xs) (I p _ _ ∷ ms) c e h = inr (sent_new a t n info xs ms c e h.1)
 sent_new a t n info (x ∷ xs) (_ ∷ ms) c e h = sent_new a t n info xs ms c e h.1
 
-pub answer_push : (a t : ℕ) (wire : List Carried) (ms : List Control) (c m : Control) → AnswerBy a t wire ms → AnswerBy a t (with_frame wire c) (ms ++ m ∷ [])
+pub answer_push : (a t : ℕ) (wire : List OnWire) (ms : List Control) (c m : Control) → AnswerBy a t wire ms → AnswerBy a t (with_frame wire c) (ms ++ m ∷ [])
 answer_push a t [] ms c m h = absurd h
 answer_push a t (x ∷ xs) [] c m h = absurd h
 answer_push a t (x ∷ xs) (k ∷ ms) c m (inl h) = inl h
 answer_push a t (x ∷ xs) (k ∷ ms) c m (inr h) = inr (answer_push a t xs ms c m h)
 
-pub answer_new : (a t : ℕ) (wire : List Carried) (ms : List Control) (c m : Control) → Answers a m → t ≤ 4 → Shows wire ms → AnswerBy a t (with_frame wire c) (ms ++ m ∷ [])
+pub answer_new : (a t : ℕ) (wire : List OnWire) (ms : List Control) (c m : Control) → Answers a m → t ≤ 4 → Shows wire ms → AnswerBy a t (with_frame wire c) (ms ++ m ∷ [])
 answer_new a t [] [] c m e i h = inl (e, omega arith)
 answer_new a t [] (_ ∷ ms) c m e i h = absurd h
 answer_new a t (x ∷ xs) [] c m e i h = absurd h
 answer_new a t (x ∷ xs) (k ∷ ms) c m e i h = inr (answer_new a t xs ms c m e i h.1)
 
-pub young_push : (b : ℕ) (wire : List Carried) (c : Control) → Young b wire → Young b (with_frame wire c)
+pub young_push : (b : ℕ) (wire : List OnWire) (c : Control) → Young b wire → Young b (with_frame wire c)
 young_push b [] c h = (omega arith, tt)
 young_push b (x ∷ xs) c h = (h.0, young_push x.age xs c h.1)
 
-pub young_later : (b c : ℕ) (wire : List Carried) → b ≤ c → Young b wire → Young c wire
+pub young_later : (b c : ℕ) (wire : List OnWire) → b ≤ c → Young b wire → Young c wire
 young_later b c [] i h = tt
 young_later b c (x ∷ xs) i h = (omega (arith, h.0), h.1)
 
-pub young_older : (b : ℕ) (wire : List Carried) → Young b wire → Young (b + 1) (older wire)
+pub young_older : (b : ℕ) (wire : List OnWire) → Young b wire → Young (b + 1) (older wire)
 young_older b [] h = tt
 young_older b (x ∷ xs) h = (omega (arith, h.0), young_older x.age xs h.1)
 
 -- ## Wires that grow older
 
-pub sent_older : (a t : ℕ) (wire : List Carried) (ms : List Control) → SentBy a t wire ms → SentBy a (t + 1) (older wire) ms
+pub sent_older : (a t : ℕ) (wire : List OnWire) (ms : List Control) → SentBy a t wire ms → SentBy a (t + 1) (older wire) ms
 sent_older a t [] ms h = absurd h
 sent_older a t (x ∷ xs) [] h = absurd h
 sent_older a t (x ∷ xs) (I p n info ∷ ms) (inl h) = inl (h.0, omega (arith, h.1))
 sent_older a t (x ∷ xs) (I p n info ∷ ms) (inr h) = inr (sent_older a t xs ms h)
 sent_older a t (x ∷ xs) (_ ∷ ms) h = sent_older a t xs ms h
 
-pub answer_older : (a t : ℕ) (wire : List Carried) (ms : List Control) → AnswerBy a t wire ms → AnswerBy a (t + 1) (older wire) ms
+pub answer_older : (a t : ℕ) (wire : List OnWire) (ms : List Control) → AnswerBy a t wire ms → AnswerBy a (t + 1) (older wire) ms
 answer_older a t [] ms h = absurd h
 answer_older a t (x ∷ xs) [] h = absurd h
 answer_older a t (x ∷ xs) (k ∷ ms) (inl h) = inl (h.0, omega (arith, h.1))
 answer_older a t (x ∷ xs) (k ∷ ms) (inr h) = inr (answer_older a t xs ms h)
 
-pub sent_in_time : (a t b : ℕ) (wire : List Carried) (ms : List Control) → Young b wire → SentBy a t wire ms → t ≤ b
+pub sent_in_time : (a t b : ℕ) (wire : List OnWire) (ms : List Control) → Young b wire → SentBy a t wire ms → t ≤ b
 sent_in_time a t b [] ms y h = absurd h
 sent_in_time a t b (x ∷ xs) [] y h = absurd h
 sent_in_time a t b (x ∷ xs) (I p n info ∷ ms) y (inl h) = omega (arith, h.1, y.0)
 sent_in_time a t b (x ∷ xs) (I p n info ∷ ms) y (inr h) = sent_in_time a t b xs ms (young_later x.age b xs y.0 y.1) h
 sent_in_time a t b (x ∷ xs) (_ ∷ ms) y h = sent_in_time a t b xs ms (young_later x.age b xs y.0 y.1) h
 
-pub answer_in_time : (a t b : ℕ) (wire : List Carried) (ms : List Control) → Young b wire → AnswerBy a t wire ms → t ≤ b + 4
+pub answer_in_time : (a t b : ℕ) (wire : List OnWire) (ms : List Control) → Young b wire → AnswerBy a t wire ms → t ≤ b + 4
 answer_in_time a t b [] ms y h = absurd h
 answer_in_time a t b (x ∷ xs) [] y h = absurd h
 answer_in_time a t b (x ∷ xs) (k ∷ ms) y (inl h) = omega (arith, h.1, y.0)
@@ -259,7 +259,7 @@ course_push_S r s n k (I p _ _ ∷ ms) h = course_push_S (cond (p == r) (r + 1) 
 course_push_S r s n k (_ ∷ ms) h = course_push_S r s n k ms h
 
 -- what will be accepted stands on the wire
-pub course_shows : (r : ℕ) (wire : List Carried) (ms : List Control) → Shows wire ms → r < course_of r ms → SentBy r 0 wire ms
+pub course_shows : (r : ℕ) (wire : List OnWire) (ms : List Control) → Shows wire ms → r < course_of r ms → SentBy r 0 wire ms
 course_shows r [] [] e h = absurd (omega arith)
 course_shows r [] (_ ∷ ms) e h = absurd e
 course_shows r (x ∷ xs) [] e h = absurd e
@@ -274,13 +274,13 @@ course_shows r (x ∷ xs) (Ua ∷ ms) e h = course_shows r xs ms e.1 h
 course_shows r (x ∷ xs) (Act _ _ ∷ ms) e h = course_shows r xs ms e.1 h
 course_shows r (x ∷ xs) (Clt ∷ ms) e h = course_shows r xs ms e.1 h
 
-answers_later : (a b r : ℕ) (x : Carried) (m : Control) (xs : List Carried) (ms : List Control)
+answers_later : (a b r : ℕ) (x : OnWire) (m : Control) (xs : List OnWire) (ms : List Control)
     → (b ≡ r) ⊎ AnswerBy a 0 xs ms → (b ≡ r) ⊎ AnswerBy a 0 (x ∷ xs) (m ∷ ms)
 answers_later a b r x m xs ms (inl q) = inl q
 answers_later a b r x m xs ms (inr q) = inr (inr q)
 
 -- the last number on its way acknowledges all places below it
-pub last_answers : (a b r : ℕ) (wire : List Carried) (ms : List Control) → Shows wire ms → NoSrej ms → a < r → last_count b ms ≡ r → (b ≡ r) ⊎ AnswerBy a 0 wire ms
+pub last_answers : (a b r : ℕ) (wire : List OnWire) (ms : List Control) → Shows wire ms → NoSrej ms → a < r → last_count b ms ≡ r → (b ≡ r) ⊎ AnswerBy a 0 wire ms
 last_answers a b r [] [] e s i h = inl h
 last_answers a b r [] (_ ∷ ms) e s i h = absurd e
 last_answers a b r (x ∷ xs) [] e s i h = absurd e
@@ -303,7 +303,7 @@ last_answers a b r (x ∷ xs) (Act c d ∷ ms) e s i h = answers_later a b r x (
 last_answers a b r (x ∷ xs) (Clt ∷ ms) e s i h = answers_later a b r x Clt xs ms (last_answers a b r xs ms e.1 s i h)
 
 -- REJ or RNR answers each place
-pub rewind_answers : (a : ℕ) (wire : List Carried) (ms : List Control) → Shows wire ms → RewindBy ms → AnswerBy a 0 wire ms
+pub rewind_answers : (a : ℕ) (wire : List OnWire) (ms : List Control) → Shows wire ms → RewindBy ms → AnswerBy a 0 wire ms
 rewind_answers a [] [] e h = absurd h
 rewind_answers a [] (_ ∷ ms) e h = absurd e
 rewind_answers a (x ∷ xs) [] e h = absurd e

@@ -12,7 +12,7 @@ use Rattle.shdlc_core.specs.declared.answers.LinkState.TheVariants.{Up}
 use Rattle.shdlc_core.specs.declared.answers.Due.{Due}
 use Rattle.shdlc_core.specs.declared.answers.Due.TheVariants.{Rr as Rr_due, Rej as Rej_due, Rnr as Rnr_due, Rset as Rset_due, Ua as Ua_due}
 use Rattle.shdlc_core.specs.Machine.{EndState, Session, Fragment, place_of, acknowledged, ahead, accepted, repeated, discarded, taken, take_answer, ticked, tick_answer, sent_again, with_ready, put_out, fetched, frame_due, fragment_due, expected, control_due, sent_next, ready_again, rejected, made_busy, runs_timer}
-use Rattle.link_laws.specs.Link.{Carried, older, with_frame}
+use Rattle.link_laws.specs.Wire.{OnWire, older, with_frame}
 use Rattle.link_laws.proofs.Numbers.{place_found, ahead_same, ahead_other, ahead_repeat}
 use Rattle.link_laws.proofs.Marks.{Shows, counts_le, shows_push, shows_older}
 use Rattle.link_laws.proofs.Flows.{Flows, flows_put, flows_send, flows_send_S, flows_answer, flows_move, flows_number, flows_acked, flows_accept, flows_past}
@@ -22,7 +22,7 @@ use Rattle.lifetime_laws.proofs.Evidence.{Young, Answers, DueBy, RewindDue, Rewi
 use Rattle.lifetime_laws.proofs.Timely.{Timely, Evidence, timely_acked, timely_rewound, timely_received, timely_answer, timely_answer_I, timely_send, timely_send_S, timely_older, in_time, timely_counted, timely_still, timely_probe}
 
 -- kn and kf ticks have passed that the near and the far end have still to count
-pub record Lasts (kn kf : ℕ) (near far : EndState) (to_near to_far : List Carried) : Type 0 where
+pub record Lasts (kn kf : ℕ) (near far : EndState) (to_near to_far : List OnWire) : Type 0 where
   pub near_up : near.phase ≡ Up
   pub far_up : far.phase ≡ Up
   pub near_due : AnswersOnly near.due
@@ -39,7 +39,7 @@ pub record Lasts (kn kf : ℕ) (near far : EndState) (to_near to_far : List Carr
   pub far_timely : Timely kf far.session far.timer far.tries near.session.acc near.due to_near near_marks to_far far_marks
 
 -- the two ends are alike
-pub lasts_exchanged : (kn kf : ℕ) (near far : EndState) (to_near to_far : List Carried) → Lasts kn kf near far to_near to_far → Lasts kf kn far near to_far to_near
+pub lasts_exchanged : (kn kf : ℕ) (near far : EndState) (to_near to_far : List OnWire) → Lasts kn kf near far to_near to_far → Lasts kf kn far near to_far to_near
 lasts_exchanged kn kf near far to_near to_far h =
     record {
       near_up = h.far_up;
@@ -59,7 +59,7 @@ lasts_exchanged kn kf near far to_near to_far h =
     }
 
 -- more is offered
-pub lasts_put : (kn kf : ℕ) (near far : EndState) (to_near to_far : List Carried) (more : List Fragment)
+pub lasts_put : (kn kf : ℕ) (near far : EndState) (to_near to_far : List OnWire) (more : List Fragment)
     → Lasts kn kf near far to_near to_far → Lasts kn kf (put_out near more) far to_near to_far
 lasts_put kn kf near far to_near to_far more h =
     let s = near.session in
@@ -94,7 +94,7 @@ lasts_put kn kf near far to_near to_far more h =
 -- ## The end becomes ready or not ready
 
 receives_as : (k : ℕ) (s : Session) (timer tries : ℕ) (acc : List Fragment) (due due' : List Due)
-    (there : List Carried) (tm : List Control) (back : List Carried) (bm : List Control)
+    (there : List OnWire) (tm : List Control) (back : List OnWire) (bm : List Control)
     → (due' ≡ [] → due ≡ []) → (RewindDue due → RewindDue due') → ((a t : ℕ) → DueBy a t (length acc) due → DueBy a t (length acc) due')
     → Timely k s timer tries acc due there tm back bm → Timely k s timer tries acc due' there tm back bm
 receives_as k s timer tries acc due due' there tm back bm empty rewind kept h =
@@ -119,7 +119,7 @@ receives_as k s timer tries acc due due' there tm back bm empty rewind kept h =
     evidence (inr (inl e)) = inr (inl e)
     evidence (inr (inr e)) = inr (inr (kept s.acked (timer + k) e))
 
-pub lasts_ready : (kn kf : ℕ) (near far : EndState) (to_near to_far : List Carried) (r : Bool)
+pub lasts_ready : (kn kf : ℕ) (near far : EndState) (to_near to_far : List OnWire) (r : Bool)
     → Lasts kn kf near far to_near to_far → Lasts kn kf (with_ready near r) far to_near to_far
 lasts_ready kn kf near far to_near to_far r h =
     ready_cases (λ e. Lasts kn kf e far to_near to_far) near r h
@@ -182,7 +182,7 @@ waits s h i = go (or_cases (nat_lt s.acked s.next) (s.peer_busy && nat_lt s.next
     go (inl e) = absurd (let g = ltb-true s.acked s.next e in omega arith)
     go (inr e) = let g = and_parts s.peer_busy (nat_lt s.next (length s.out)) e in (g.0, ltb-true s.next (length s.out) g.1)
 
-pub lasts_ticked : (kf : ℕ) (near far : EndState) (to_near to_far : List Carried) → near.session.probe ≡ false → far.due ≡ []
+pub lasts_ticked : (kf : ℕ) (near far : EndState) (to_near to_far : List OnWire) → near.session.probe ≡ false → far.due ≡ []
     → Lasts 1 kf near far to_near to_far → Lasts 0 kf (ticked near) far to_near to_far × ((tick_answer near).ended ≡ None)
 lasts_ticked kf near far to_near to_far noprobe none h =
     tick_by (λ e. Lasts 0 kf e far to_near to_far) near h.near_up
@@ -239,7 +239,7 @@ lasts_ticked kf near far to_near to_far noprobe none h =
     no_more late (inr (inr e)) = omega arith
 
 -- all frames grow older
-pub lasts_older : (near far : EndState) (to_near to_far : List Carried) → near.due ≡ [] → far.due ≡ [] → Young 4 (older to_near) → Young 4 (older to_far)
+pub lasts_older : (near far : EndState) (to_near to_far : List OnWire) → near.due ≡ [] → far.due ≡ [] → Young 4 (older to_near) → Young 4 (older to_far)
     → Lasts 0 0 near far to_near to_far → Lasts 1 1 near far (older to_near) (older to_far)
 lasts_older near far to_near to_far a b yn yf h =
     record {
@@ -306,7 +306,7 @@ gap_behind s p z g b i =
 
 -- the receiver took a frame without a fragment
 past_S : (k : ℕ) (s : Session) (timer tries n : ℕ) (kind : Kind) (acc : List Fragment) (due : List Due)
-    (x : Carried) (there : List Carried) (tm : List Control) (back : List Carried) (bm : List Control)
+    (x : OnWire) (there : List OnWire) (tm : List Control) (back : List OnWire) (bm : List Control)
     → Timely k s timer tries acc due (x ∷ there) (S kind n ∷ tm) back bm → Timely k s timer tries acc due there tm back bm
 past_S k s timer tries n kind acc due x there tm back bm h =
     record {
@@ -320,7 +320,7 @@ past_S k s timer tries n kind acc due x there tm back bm h =
       tried = h.tried;
     }
 
-pub lasts_taken : (near far : EndState) (x : Carried) (to_near to_far : List Carried) → near.session.probe ≡ false
+pub lasts_taken : (near far : EndState) (x : OnWire) (to_near to_far : List OnWire) → near.session.probe ≡ false
     → Lasts 0 0 near far (x ∷ to_near) to_far
     → Lasts 0 0 (taken near x.frame) far to_near to_far × ((take_answer near x.frame).ended ≡ None)
 lasts_taken near far x to_near to_far noprobe h = go h.near_marks h.near_shows h.near_sends h.far_sends h.near_timely h.far_timely
@@ -526,7 +526,7 @@ may_send s info e = go ((not s.peer_busy || s.probe) && nat_lt s.next (s.acked +
     go true q = pick (or_cases (not s.peer_busy) s.probe (and_parts (not s.peer_busy || s.probe) (nat_lt s.next (s.acked + s.window)) q).0)
     go false q = absurd (let n = rw q at e in cc)
 
-lasts_answered : (kn kf : ℕ) (near far : EndState) (to_near to_far : List Carried) (k : Kind) (d : Due) (ds : List Due) → near.due ≡ d ∷ ds → AnswersOnly ds
+lasts_answered : (kn kf : ℕ) (near far : EndState) (to_near to_far : List OnWire) (k : Kind) (d : Due) (ds : List Due) → near.due ≡ d ∷ ds → AnswersOnly ds
     → NoSrej (S k (length near.session.acc) ∷ []) → (RewindDue (d ∷ ds) → RewindBy (S k (length near.session.acc) ∷ []) ⊎ RewindDue ds)
     → ((a t : ℕ) → DueBy a t (length near.session.acc) (d ∷ ds) → (Answers a (S k (length near.session.acc)) × (t ≤ 4)) ⊎ DueBy a t (length near.session.acc) ds)
     → Lasts kn kf near far to_near to_far → Lasts kn kf (record near { due = ds }) far to_near (with_frame to_far (S k (expected near.session)))
@@ -551,7 +551,7 @@ lasts_answered kn kf near far to_near to_far k d ds is due srej rewind answers h
       far_timely = timely_answer kf t far.timer far.tries s.acc d ds k c to_near h.near_marks to_far h.far_marks h.far_shows srej rewind answers (rw is at h.far_timely);
     }
 
-lasts_sent : (kf : ℕ) (near far : EndState) (to_near to_far : List Carried) (info : Fragment) → fragment_due near.session ≡ Some info
+lasts_sent : (kf : ℕ) (near far : EndState) (to_near to_far : List OnWire) (info : Fragment) → fragment_due near.session ≡ Some info
     → Lasts 0 kf near far to_near to_far
     → Lasts 0 kf (record near { session = sent_next near.session }) far to_near (with_frame to_far (I (near.session.next % 8) (expected near.session) info))
 lasts_sent kf near far to_near to_far info is h =
@@ -578,7 +578,7 @@ lasts_sent kf near far to_near to_far info is h =
     }
 
 -- the near end sends its next frame, where one is due
-pub lasts_fetched : (kf : ℕ) (near far : EndState) (to_near to_far : List Carried)
+pub lasts_fetched : (kf : ℕ) (near far : EndState) (to_near to_far : List OnWire)
     → Lasts 0 kf near far to_near to_far → Lasts 0 kf (fetched near) far to_near (with_next to_far (frame_due near))
 lasts_fetched kf near far to_near to_far h =
     fetch_cases (λ e c. Lasts 0 kf e far to_near (with_next to_far c)) near
@@ -601,7 +601,7 @@ lasts_fetched kf near far to_near to_far h =
     control Ua_due ds p a = absurd a
 
 -- an end that has sent all that is due makes no probe
-pub no_probe : (k : ℕ) (near far : EndState) (to_near to_far : List Carried) → frame_due near ≡ None → Lasts 0 k near far to_near to_far → near.session.probe ≡ false
+pub no_probe : (k : ℕ) (near far : EndState) (to_near to_far : List OnWire) → frame_due near ≡ None → Lasts 0 k near far to_near to_far → near.session.probe ≡ false
 no_probe k near far to_near to_far idle h = go near.session.probe refl
   where
     s : Session

@@ -7,18 +7,18 @@ use Rattle.swp_base.specs.declared.control_frames.Control.{Control}
 use Rattle.swp_base.specs.declared.control_frames.Control.TheVariants.{I, S}
 use Rattle.shdlc_core.specs.declared.answers.Due.{Due}
 use Rattle.shdlc_core.specs.Machine.{Fragment, Session}
-use Rattle.link_laws.specs.Link.{Carried, older, with_frame}
+use Rattle.link_laws.specs.Wire.{OnWire, older, with_frame}
 use Rattle.link_laws.proofs.Marks.{Shows, last_count, last_count_push_I, last_count_push_S}
 use Rattle.link_laws.proofs.Whole.{AnswersOnly}
 use Rattle.lifetime_laws.proofs.Evidence.{Young, Answers, SentBy, AnswerBy, DueBy, RewindDue, RewindBy, NoSrej, course_of, sent_push, sent_new, answer_push, answer_new, sent_older, answer_older, sent_in_time, answer_in_time, rewind_push, rewind_new, no_srej_push, course_from, course_push, course_push_S, course_shows, last_answers, rewind_answers, rewind_due_answers, due_answers}
 
 -- the place a is answered in time
-abbrev pub Evidence : ℕ → ℕ → ℕ → List Due → List Carried → List Control → List Carried → List Control → Type 0
+abbrev pub Evidence : ℕ → ℕ → ℕ → List Due → List OnWire → List Control → List OnWire → List Control → Type 0
 Evidence a t r due there tm back bm = SentBy a t there tm ⊎ (AnswerBy a t back bm ⊎ DueBy a t r due)
 
 -- k ticks have passed that the sender has still to count
 pub record Timely (k : ℕ) (s : Session) (timer tries : ℕ) (acc : List Fragment) (due : List Due)
-    (there : List Carried) (tm : List Control) (back : List Carried) (bm : List Control) : Type 0 where
+    (there : List OnWire) (tm : List Control) (back : List OnWire) (bm : List Control) : Type 0 where
   pub told : due ≡ [] → last_count s.acked bm ≡ length acc
   pub known : NoSrej bm
   pub course : (s.next ≤ course_of (length acc) tm) ⊎ (RewindDue due ⊎ RewindBy bm)
@@ -31,7 +31,7 @@ pub record Timely (k : ℕ) (s : Session) (timer tries : ℕ) (acc : List Fragme
 -- ## The sender takes an answer
 
 -- a place that was sent and isn't acknowledged is answered
-untimed : (s : Session) (n : ℕ) (acc : List Fragment) (due : List Due) (there : List Carried) (tm : List Control) (back : List Carried) (bm : List Control)
+untimed : (s : Session) (n : ℕ) (acc : List Fragment) (due : List Due) (there : List OnWire) (tm : List Control) (back : List OnWire) (bm : List Control)
     → AnswersOnly due → Shows there tm → Shows back bm → NoSrej bm → n ≤ length acc → n < s.next
     → (due ≡ [] → last_count n bm ≡ length acc)
     → (s.next ≤ course_of (length acc) tm) ⊎ (RewindDue due ⊎ RewindBy bm)
@@ -55,7 +55,7 @@ untimed s n acc due there tm back bm answers st sb known i j told (inl h) = go (
 
 -- RR, or the number of an I frame
 pub timely_acked : (s s' : Session) (timer timer' tries tries' n : ℕ) (acc : List Fragment) (due : List Due)
-    (there : List Carried) (tm : List Control) (x : Carried) (back : List Carried) (m : Control) (bm : List Control)
+    (there : List OnWire) (tm : List Control) (x : OnWire) (back : List OnWire) (m : Control) (bm : List Control)
     → (Answers s.acked m → s.acked < n) → (RewindBy (m ∷ bm) → RewindBy bm) → (NoSrej (m ∷ bm) → NoSrej bm)
     → last_count s.acked (m ∷ bm) ≡ last_count n bm
     → AnswersOnly due → Shows there tm → Shows back bm → s.acked ≤ n → n ≤ length acc
@@ -129,7 +129,7 @@ timely_acked s s' timer timer' tries tries' n acc due there tm x back m bm plain
 
 -- REJ or RNR: all from its place on is to be sent again
 pub timely_rewound : (s s' : Session) (timer tries tries' n : ℕ) (acc : List Fragment) (due : List Due)
-    (there : List Carried) (tm : List Control) (x : Carried) (back : List Carried) (m : Control) (bm : List Control)
+    (there : List OnWire) (tm : List Control) (x : OnWire) (back : List OnWire) (m : Control) (bm : List Control)
     → (NoSrej (m ∷ bm) → NoSrej bm) → last_count s.acked (m ∷ bm) ≡ last_count n bm → n ≤ length acc
     → s'.acked ≡ n → s'.next ≡ n → s'.out ≡ s.out → s'.probe ≡ false → tries' ≤ 1
     → (tries' ≡ 1 → (n ≡ s.acked) × (tries ≡ 1) × (s'.peer_busy ≡ false))
@@ -150,7 +150,7 @@ timely_rewound s s' timer tries tries' n acc due there tm x back m bm srej last 
 
 -- a fragment, with what the receiver has accepted and has to answer then
 pub timely_received : (k : ℕ) (s : Session) (timer tries p n : ℕ) (info : Fragment) (acc acc' : List Fragment) (due due' : List Due)
-    (x : Carried) (there : List Carried) (tm : List Control) (back : List Carried) (bm : List Control)
+    (x : OnWire) (there : List OnWire) (tm : List Control) (back : List OnWire) (bm : List Control)
     → Young 4 (x ∷ there) → s.acked ≤ length acc
     → ((t : ℕ) → p ≤ length acc → t ≤ 4 → DueBy p t (length acc') due')
     → ((a t : ℕ) → DueBy a t (length acc) due → DueBy a t (length acc') due')
@@ -192,7 +192,7 @@ timely_received k s timer tries p n info acc acc' due due' x there tm back bm yo
 
 -- the receiver sends an answer that was due
 pub timely_answer : (k : ℕ) (s : Session) (timer tries : ℕ) (acc : List Fragment) (d : Due) (ds : List Due) (kind : Kind) (c : Control)
-    (there : List Carried) (tm : List Control) (back : List Carried) (bm : List Control)
+    (there : List OnWire) (tm : List Control) (back : List OnWire) (bm : List Control)
     → Shows back bm → NoSrej (S kind (length acc) ∷ []) → (RewindDue (d ∷ ds) → RewindBy (S kind (length acc) ∷ []) ⊎ RewindDue ds)
     → ((a t : ℕ) → DueBy a t (length acc) (d ∷ ds) → (Answers a (S kind (length acc)) × (t ≤ 4)) ⊎ DueBy a t (length acc) ds)
     → Timely k s timer tries acc (d ∷ ds) there tm back bm
@@ -231,7 +231,7 @@ timely_answer k s timer tries acc d ds kind c there tm back bm sb srej rewind an
 
 -- it sends a fragment of its own
 pub timely_answer_I : (k : ℕ) (s : Session) (timer tries p : ℕ) (info : Fragment) (acc : List Fragment) (due : List Due) (c : Control)
-    (there : List Carried) (tm : List Control) (back : List Carried) (bm : List Control)
+    (there : List OnWire) (tm : List Control) (back : List OnWire) (bm : List Control)
     → Timely k s timer tries acc due there tm back bm
     → Timely k s timer tries acc due there tm (with_frame back c) (bm ++ I p (length acc) info ∷ [])
 timely_answer_I k s timer tries p info acc due c there tm back bm h =
@@ -259,7 +259,7 @@ timely_answer_I k s timer tries p info acc due c there tm back bm h =
 
 -- the sender sends an answer
 pub timely_send_S : (k : ℕ) (s : Session) (timer tries n : ℕ) (kind : Kind) (acc : List Fragment) (due : List Due) (c : Control)
-    (there : List Carried) (tm : List Control) (back : List Carried) (bm : List Control)
+    (there : List OnWire) (tm : List Control) (back : List OnWire) (bm : List Control)
     → Timely k s timer tries acc due there tm back bm
     → Timely k s timer tries acc due (with_frame there c) (tm ++ S kind n ∷ []) back bm
 timely_send_S k s timer tries n kind acc due c there tm back bm h =
@@ -284,7 +284,7 @@ timely_send_S k s timer tries n kind acc due c there tm back bm h =
 
 -- the sender sends its next fragment
 pub timely_send : (s s' : Session) (timer tries n : ℕ) (info : Fragment) (acc : List Fragment) (due : List Due) (c : Control)
-    (there : List Carried) (tm : List Control) (back : List Carried) (bm : List Control)
+    (there : List OnWire) (tm : List Control) (back : List OnWire) (bm : List Control)
     → Shows there tm → s.acked ≤ s.next → s.next < length s.out → (s.peer_busy ≡ false) ⊎ (s.probe ≡ true)
     → s'.acked ≡ s.acked → s'.next ≡ s.next + 1 → s'.out ≡ s.out → s'.probe ≡ false
     → Timely 0 s timer tries acc due there tm back bm
@@ -320,7 +320,7 @@ timely_send s s' timer tries n info acc due c there tm back bm st from inside ma
 
 -- all frames grow older by a tick that the sender has still to count
 pub timely_older : (s : Session) (timer tries : ℕ) (acc : List Fragment) (due : List Due)
-    (there : List Carried) (tm : List Control) (back : List Carried) (bm : List Control) → due ≡ []
+    (there : List OnWire) (tm : List Control) (back : List OnWire) (bm : List Control) → due ≡ []
     → Timely 0 s timer tries acc due there tm back bm → Timely 1 s timer tries acc due (older there) tm (older back) bm
 timely_older s timer tries acc due there tm back bm none h =
     record {
@@ -344,7 +344,7 @@ timely_older s timer tries acc due there tm back bm none h =
 
 -- a tick of the sender comes before the tenth while something is sent and unacknowledged
 pub in_time : (s : Session) (timer tries : ℕ) (acc : List Fragment) (due : List Due)
-    (there : List Carried) (tm : List Control) (back : List Carried) (bm : List Control) → due ≡ [] → Young 4 there → Young 4 back
+    (there : List OnWire) (tm : List Control) (back : List OnWire) (bm : List Control) → due ≡ [] → Young 4 there → Young 4 back
     → Timely 1 s timer tries acc due there tm back bm → s.acked < s.next → timer + 1 < 10
 in_time s timer tries acc due there tm back bm none yt yb h e = go (h.evidence e)
   where
@@ -355,7 +355,7 @@ in_time s timer tries acc due there tm back bm none yt yb h e = go (h.evidence e
 
 -- the sender counts a tick
 pub timely_counted : (s : Session) (timer tries : ℕ) (acc : List Fragment) (due : List Due)
-    (there : List Carried) (tm : List Control) (back : List Carried) (bm : List Control)
+    (there : List OnWire) (tm : List Control) (back : List OnWire) (bm : List Control)
     → (s.acked ≡ s.next → (s.peer_busy ≡ false) ⊎ (s.probe ≡ true) → ⊥)
     → Timely 1 s timer tries acc due there tm back bm → Timely 0 s (timer + 1) tries acc due there tm back bm
 timely_counted s timer tries acc due there tm back bm runs h =
@@ -372,7 +372,7 @@ timely_counted s timer tries acc due there tm back bm runs h =
 
 -- a timer that doesn't run counts nothing
 pub timely_still : (s : Session) (timer tries : ℕ) (acc : List Fragment) (due : List Due)
-    (there : List Carried) (tm : List Control) (back : List Carried) (bm : List Control)
+    (there : List OnWire) (tm : List Control) (back : List OnWire) (bm : List Control)
     → (s.acked < s.next → ⊥)
     → Timely 1 s timer tries acc due there tm back bm → Timely 0 s timer tries acc due there tm back bm
 timely_still s timer tries acc due there tm back bm still h =
@@ -389,7 +389,7 @@ timely_still s timer tries acc due there tm back bm still h =
 
 -- the other end is busy, something waits and nothing is sent: the first try is made, with a probe
 pub timely_probe : (s s' : Session) (timer tries : ℕ) (acc : List Fragment) (due : List Due)
-    (there : List Carried) (tm : List Control) (back : List Carried) (bm : List Control)
+    (there : List OnWire) (tm : List Control) (back : List OnWire) (bm : List Control)
     → s.acked ≡ s.next → s.next < length s.out → s.peer_busy ≡ true → s.probe ≡ false
     → s'.acked ≡ s.acked → s'.next ≡ s.acked → s'.out ≡ s.out → s'.probe ≡ true → s.acked ≤ length acc
     → Timely 1 s timer tries acc due there tm back bm → Timely 0 s' 0 (tries + 1) acc due there tm back bm

@@ -7,7 +7,7 @@ use Rattle.swp_base.specs.declared.control_frames.Kind.TheVariants.{Rr, Rej, Rnr
 use Rattle.swp_base.specs.declared.control_frames.Control.{Control}
 use Rattle.swp_base.specs.declared.control_frames.Control.TheVariants.{I, S, Rset, Ua, Act, Clt}
 use Rattle.swp_base.specs.declared.control_frames.Act.{Act as Activation}
-use Rattle.link_laws.specs.Link.{is_rnr}
+use Rattle.link_laws.specs.Wire.{is_rnr}
 use Rattle.shdlc_core.specs.Machine.{EndState, frames_of, most_frames}
 use Rattle.session_laws.specs.Sessions.{OnWire, Link as CoreLink, put as core_put, put_all as core_put_all, is_rset}
 use Rattle.session_laws.specs.Losses.{Losses, counts_first, overflows, noted, noted_all, noted_out}

@@ -6,15 +6,14 @@ use Rattle.std.proofs.lemmas.Bool.{lt-ltb}
 use mathlib.Core.List.{IsPrefix}
 use Rattle.swp_base.specs.declared.control_frames.Control.{Control}
 use Rattle.shdlc_core.specs.Machine.{EndState, Session, Fragment, frame_due, fragment_due}
-use Rattle.link_laws.specs.Link.{Carried, start, LinkEvent, after}
+use Rattle.link_laws.specs.Wire.{OnWire}
 use Rattle.link_laws.specs.Order.{AllDelivered}
 use Rattle.link_laws.proofs.Marks.{Shows}
 use Rattle.link_laws.proofs.Whole.{NoRnr, Whole}
-use Rattle.link_laws.proofs.Joined.{Joined, Sends, joined_exchanged, fetch_cases}
-use Rattle.link_laws.proofs.InOrder.{IsWhole}
-use Rattle.link_laws.proofs.Idle.{stays_after, stays_start, no_due}
+use Rattle.link_laws.proofs.Joined.{Joined, Sends, fetch_cases}
+use Rattle.link_laws.proofs.Idle.{no_due}
 
-no_marks : (wire : List Carried) (ms : List Control) → wire ≡ [] → Shows wire ms → ms ≡ []
+no_marks : (wire : List OnWire) (ms : List Control) → wire ≡ [] → Shows wire ms → ms ≡ []
 no_marks [] [] e h = refl
 no_marks [] (m ∷ ms) e h = absurd h
 no_marks (x ∷ xs) ms e h = cc
@@ -50,7 +49,7 @@ delivered_by s acc sends whole none =
     let all : length s.out ≤ s.next = all_sent s whole.free inside none in
     (whole_front acc s.out sends.front (omega (arith, sends.next_reach)), omega (arith, sends.next_reach, sends.reach_out))
 
-pub delivered : (W : Type 0) (near far : EndState) (to_near to_far : List Carried) → Joined W near far to_near to_far
+pub delivered : (W : Type 0) (near far : EndState) (to_near to_far : List OnWire) → Joined W near far to_near to_far
     → W → frame_due near ≡ None → frame_due far ≡ None → to_near ≡ [] → to_far ≡ [] → AllDelivered near.session far.session
 delivered W near far to_near to_far h w near_idle far_idle near_empty far_empty =
     let a : h.near_marks ≡ [] = no_marks to_near h.near_marks near_empty h.near_shows in
@@ -61,22 +60,3 @@ delivered W near far to_near to_far h w near_idle far_idle near_empty far_empty 
     let whole : Whole near.session far.session.acc [] [] [] = rw (a, b, d) at (h.near_whole w none) in
     let all = delivered_by near.session far.session.acc sends whole (no_fragment near near_idle) in
     record { accepted = all.0; acked = all.1 }
-
-pub delivered_here : (events : List LinkEvent) → (after start events).ended ≡ false
-    → (after start events).lost ≡ false → (after start events).rnr ≡ false
-    → (after start events).to_controller ≡ [] → (after start events).to_host ≡ []
-    → AllDelivered (after start events).controller.session (after start events).host.session
-delivered_here events n lost rnr near far =
-    let l = after start events in
-    let calm = stays_after events start stays_start n in
-    delivered (IsWhole l) l.controller l.host l.to_controller l.to_host calm.joined (lost, rnr) calm.idle.controller calm.idle.host near far
-
-pub delivered_there : (events : List LinkEvent) → (after start events).ended ≡ false
-    → (after start events).lost ≡ false → (after start events).rnr ≡ false
-    → (after start events).to_controller ≡ [] → (after start events).to_host ≡ []
-    → AllDelivered (after start events).host.session (after start events).controller.session
-delivered_there events n lost rnr near far =
-    let l = after start events in
-    let calm = stays_after events start stays_start n in
-    delivered (IsWhole l) l.host l.controller l.to_host l.to_controller
-    (joined_exchanged (IsWhole l) l.controller l.host l.to_controller l.to_host calm.joined) (lost, rnr) calm.idle.host calm.idle.controller far near

@@ -11,7 +11,7 @@ use Rattle.shdlc_core.specs.declared.answers.LinkState.TheVariants.{Up}
 use Rattle.shdlc_core.specs.declared.answers.Due.{Due}
 use Rattle.shdlc_core.specs.declared.answers.Due.TheVariants.{Rr as Rr_due, Rej as Rej_due, Rnr as Rnr_due, Rset as Rset_due, Ua as Ua_due}
 use Rattle.shdlc_core.specs.Machine.{EndState, Session, Fragment, place_of, acknowledged, ahead, received, accepted, repeated, discarded, taken, take_answer, ticked, tick_answer, with_ready, put_out, fetched, frame_due, fragment_due, expected, control_due, sent_next, ready_again, rejected, made_busy, sent_again, runs_timer}
-use Rattle.link_laws.specs.Link.{Carried, older, with_frame, is_rnr}
+use Rattle.link_laws.specs.Wire.{OnWire, older, with_frame, is_rnr}
 use Rattle.link_laws.proofs.Numbers.{place_found, ahead_same, ahead_other, ahead_repeat}
 use Rattle.link_laws.proofs.Marks.{Shows, counts_le, AcksOnly, shows_push, shows_older}
 use Rattle.link_laws.proofs.Whole.{AnswersOnly, NoRnr, Whole, answers_push, no_rnr_push, rnr_pushed, push_not_empty, whole_send, whole_send_S, whole_answer_I, whole_answer_S}
@@ -133,7 +133,7 @@ fetch_cases P e control none fragment = go e.due (fragment_due e.session) refl r
     go (d ∷ ds) f p q = rw p (rw p at (control d ds p))
 
 -- a wire with one more frame, where there is one
-abbrev pub with_next : List Carried → Option Control → List Carried
+abbrev pub with_next : List OnWire → Option Control → List OnWire
 with_next wire None = wire
 with_next wire (Some c) = with_frame wire c
 
@@ -142,7 +142,7 @@ rnr_next None = false
 rnr_next (Some c) = is_rnr c
 
 -- W says that nothing was lost and no RNR was made
-pub record Joined (W : Type 0) (near far : EndState) (to_near to_far : List Carried) : Type 0 where
+pub record Joined (W : Type 0) (near far : EndState) (to_near to_far : List OnWire) : Type 0 where
   pub near_up : near.phase ≡ Up
   pub far_up : far.phase ≡ Up
   pub near_due : AnswersOnly near.due
@@ -159,7 +159,7 @@ pub record Joined (W : Type 0) (near far : EndState) (to_near to_far : List Carr
 
 module _ (W : Type 0) where
   -- the two ends are alike
-  pub joined_exchanged : (near far : EndState) (to_near to_far : List Carried) → Joined W near far to_near to_far → Joined W far near to_far to_near
+  pub joined_exchanged : (near far : EndState) (to_near to_far : List OnWire) → Joined W near far to_near to_far → Joined W far near to_far to_near
   joined_exchanged near far to_near to_far h =
       record {
         near_up = h.far_up;
@@ -177,7 +177,7 @@ module _ (W : Type 0) where
       }
 
   -- less is claimed to be whole
-  pub joined_weaker : (V : Type 0) → (V → W) → (near far : EndState) (to_near to_far : List Carried) → Joined W near far to_near to_far → Joined V near far to_near to_far
+  pub joined_weaker : (V : Type 0) → (V → W) → (near far : EndState) (to_near to_far : List OnWire) → Joined W near far to_near to_far → Joined V near far to_near to_far
   joined_weaker V f near far to_near to_far h =
       record {
         near_up = h.near_up;
@@ -195,7 +195,7 @@ module _ (W : Type 0) where
       }
 
   -- more is offered
-  pub joined_put : (near far : EndState) (to_near to_far : List Carried) (more : List Fragment)
+  pub joined_put : (near far : EndState) (to_near to_far : List OnWire) (more : List Fragment)
       → Joined W near far to_near to_far → Joined W (put_out near more) far to_near to_far
   joined_put near far to_near to_far more h =
       let s = near.session in
@@ -215,7 +215,7 @@ module _ (W : Type 0) where
       }
 
   -- an end that changed its timer and what it notes of itself, and that has perhaps one more answer to send
-  joined_same : (near near' far : EndState) (to_near to_far : List Carried) → near'.phase ≡ Up → AnswersOnly near'.due
+  joined_same : (near near' far : EndState) (to_near to_far : List OnWire) → near'.phase ≡ Up → AnswersOnly near'.due
       → (NoRnr near'.due → NoRnr near.due) → (near'.due ≡ [] → near.due ≡ [])
       → Sends near'.session ≡ Sends near.session → near'.session.acc ≡ near.session.acc
       → near'.session.acked ≡ near.session.acked → near'.session.reached ≡ near.session.reached → near'.session.peer_busy ≡ near.session.peer_busy
@@ -241,7 +241,7 @@ module _ (W : Type 0) where
       }
 
   -- the end becomes ready or not ready
-  pub joined_ready : (near far : EndState) (to_near to_far : List Carried) (r : Bool)
+  pub joined_ready : (near far : EndState) (to_near to_far : List OnWire) (r : Bool)
       → Joined W near far to_near to_far → Joined W (with_ready near r) far to_near to_far
   joined_ready near far to_near to_far r h =
       ready_cases (λ e. Joined W e far to_near to_far) near r h
@@ -250,7 +250,7 @@ module _ (W : Type 0) where
       (no_rnr_push near.due Rr_due) (λ n. absurd (push_not_empty near.due Rr_due n)) refl refl refl refl refl h)
 
   -- a tick that doesn't end the session
-  pub joined_ticked : (near far : EndState) (to_near to_far : List Carried) → (tick_answer near).ended ≡ None
+  pub joined_ticked : (near far : EndState) (to_near to_far : List OnWire) → (tick_answer near).ended ≡ None
       → Joined W near far to_near to_far → Joined W (ticked near) far to_near to_far
   joined_ticked near far to_near to_far answer h =
       let s = near.session in
@@ -273,7 +273,7 @@ module _ (W : Type 0) where
       })
 
   -- a frame on the way to the near end is lost, and nothing is whole any more
-  pub joined_lost : (V : Type 0) → (V → ⊥) → (near far : EndState) (x : Carried) (to_near to_far : List Carried)
+  pub joined_lost : (V : Type 0) → (V → ⊥) → (near far : EndState) (x : OnWire) (to_near to_far : List OnWire)
       → Joined W near far (x ∷ to_near) to_far → Joined V near far to_near to_far
   joined_lost V lossy near far x to_near to_far h = go h.near_marks h.near_shows h.near_sends h.far_sends
     where
@@ -299,7 +299,7 @@ module _ (W : Type 0) where
           }
 
   -- the frames on the way to the near end grow older
-  pub joined_older : (near far : EndState) (to_near to_far : List Carried)
+  pub joined_older : (near far : EndState) (to_near to_far : List OnWire)
       → Joined W near far to_near to_far → Joined W near far (older to_near) to_far
   joined_older near far to_near to_far h =
       record {
@@ -318,7 +318,7 @@ module _ (W : Type 0) where
       }
 
   -- the near end takes the first frame on the way to it, which ends no session
-  pub joined_taken : (near far : EndState) (x : Carried) (to_near to_far : List Carried)
+  pub joined_taken : (near far : EndState) (x : OnWire) (to_near to_far : List OnWire)
       → Joined W near far (x ∷ to_near) to_far
       → Joined W (taken near x.frame) far to_near to_far × ((take_answer near x.frame).ended ≡ None)
   joined_taken near far x to_near to_far h = go h.near_marks h.near_shows h.near_sends h.far_sends h.near_whole h.far_whole
@@ -462,7 +462,7 @@ module _ (W : Type 0) where
 
   -- ## A frame is made. V says that nothing was lost and no RNR was made, this frame among them.
 
-  joined_answered : (V : Type 0) → (V → W) → (near far : EndState) (to_near to_far : List Carried) (k : Kind) (ds : List Due) → AnswersOnly ds
+  joined_answered : (V : Type 0) → (V → W) → (near far : EndState) (to_near to_far : List OnWire) (k : Kind) (ds : List Due) → AnswersOnly ds
       → (V → AcksOnly (S k (length near.session.acc) ∷ [])) → (V → NoRnr ds → NoRnr near.due)
       → Joined W near far to_near to_far → Joined V (record near { due = ds }) far to_near (with_frame to_far (S k (expected near.session)))
   joined_answered V weak near far to_near to_far k ds due acks rnr h =
@@ -483,7 +483,7 @@ module _ (W : Type 0) where
         far_whole = λ v q. whole_answer_S t s.acc near.due ds h.near_marks h.far_marks k (acks v) (h.far_whole (weak v) (rnr v q));
       }
 
-  joined_sent : (V : Type 0) → (V → W) → (near far : EndState) (to_near to_far : List Carried) (info : Fragment) → fragment_due near.session ≡ Some info
+  joined_sent : (V : Type 0) → (V → W) → (near far : EndState) (to_near to_far : List OnWire) (info : Fragment) → fragment_due near.session ≡ Some info
       → Joined W near far to_near to_far
       → Joined V (record near { session = sent_next near.session }) far to_near (with_frame to_far (I (near.session.next % 8) (expected near.session) info))
   joined_sent V weak near far to_near to_far info is h =
@@ -507,7 +507,7 @@ module _ (W : Type 0) where
       }
 
   -- the near end sends its next frame, where one is due
-  pub joined_fetched : (V : Type 0) → (V → W) → (near far : EndState) (to_near to_far : List Carried)
+  pub joined_fetched : (V : Type 0) → (V → W) → (near far : EndState) (to_near to_far : List OnWire)
       → (V → rnr_next (frame_due near) ≡ false)
       → Joined W near far to_near to_far → Joined V (fetched near) far to_near (with_next to_far (frame_due near))
   joined_fetched V weak near far to_near to_far rnr h =

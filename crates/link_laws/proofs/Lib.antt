@@ -3,8 +3,5 @@ pub mod Marks
 pub mod Flows
 pub mod Whole
 pub mod Joined
-pub mod InOrder
 pub mod Idle
 pub mod Delivered
-pub mod Wires
-mod Examples

@@ -6,7 +6,7 @@ use Rattle.swp_base.specs.declared.control_frames.Kind.TheVariants.{Rr, Rej}
 use Rattle.swp_base.specs.declared.control_frames.Control.{Control}
 use Rattle.swp_base.specs.declared.control_frames.Control.TheVariants.{I, S, Rset, Ua, Act, Clt}
 use Rattle.shdlc_core.specs.Machine.{Fragment}
-use Rattle.link_laws.specs.Link.{Carried, older, with_frame}
+use Rattle.link_laws.specs.Wire.{OnWire, older, with_frame}
 
 -- the frame that a mark is on the wire: its numbers modulo 8
 abbrev pub reduced : Control → Control
@@ -18,7 +18,7 @@ reduced (Act a b) = Act a b
 reduced Clt = Clt
 
 -- the wire shows these marks
-abbrev pub Shows : List Carried → List Control → Type 0
+abbrev pub Shows : List OnWire → List Control → Type 0
 Shows [] [] = Unit {0}
 Shows [] (m ∷ ms) = ⊥
 Shows (x ∷ xs) [] = ⊥
@@ -139,13 +139,13 @@ places_push_S out r m n k (_ ∷ ms) h = places_push_S out r m n k ms h
 
 -- ## Wires
 
-pub shows_push : (wire : List Carried) (ms : List Control) (c m : Control) → c ≡ reduced m → Shows wire ms → Shows (with_frame wire c) (ms ++ m ∷ [])
+pub shows_push : (wire : List OnWire) (ms : List Control) (c m : Control) → c ≡ reduced m → Shows wire ms → Shows (with_frame wire c) (ms ++ m ∷ [])
 shows_push [] [] c m e h = (e, tt)
 shows_push [] (_ ∷ _) c m e h = absurd h
 shows_push (x ∷ xs) [] c m e h = absurd h
 shows_push (x ∷ xs) (_ ∷ ms) c m e h = (h.0, shows_push xs ms c m e h.1)
 
-pub shows_older : (wire : List Carried) (ms : List Control) → Shows wire ms → Shows (older wire) ms
+pub shows_older : (wire : List OnWire) (ms : List Control) → Shows wire ms → Shows (older wire) ms
 shows_older [] [] h = tt
 shows_older [] (_ ∷ _) h = absurd h
 shows_older (x ∷ xs) [] h = absurd h

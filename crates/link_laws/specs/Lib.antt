@@ -1,2 +1,2 @@
-pub mod Link
+pub mod Wire
 pub mod Order

@@ -14,7 +14,7 @@ use Rattle.shdlc_core.specs.declared.answers.LinkState.{LinkState}
 use Rattle.shdlc_core.specs.declared.answers.LinkState.TheVariants.{Down, Waiting, Up}
 use Rattle.shdlc_core.specs.Machine.{EndState, frame_due, frames_of, after_frames, most_frames, taken, take_answer, ticked, tick_answer, reset_with, is_waiting, runs_timer, stopped, new_end, no_session}
 use Rattle.hcp_packet.specs.Packets.{fragments_of}
-use Rattle.link_laws.proofs.InOrder.{after_frames_idle}
+use Rattle.link_laws.proofs.Idle.{after_frames_idle}
 use Rattle.session_laws.specs.Sessions.{OnWire, Link as CoreLink, Turn as CoreTurn, EndEvent as CoreEndEvent, turned as core_turned, is_up, put_all as core_put_all, becomes as core_becomes, with_ended as core_with_ended, with_controller as core_with_controller, silent as core_silent, happens_here as core_happens_here, all_here as core_all_here, ticks_here as core_ticks_here, ticks_or_cut as core_ticks_or_cut, took_with}
 use Rattle.session_laws.specs.Sessions.EndEvent.{Turns as CoreTurns, Deliver as CoreDeliver, Acts as CoreActs, Stop as CoreStop}
 use Rattle.link_machine.specs.Machine.{LinkEnd, Role, Turn, Refused, is_faulty, is_open, role_after, act_answer, moved, put_down, activated, heard, took, renewed, new_link_end, reset_refusal, if_up, reset_by, window_of, turned, after_input, among, frames_out, sent_all, ended_by, ended_by_act, ended_by_frame}

@@ -10,7 +10,6 @@ use Rattle.shdlc_core.specs.declared.answers.LinkState.TheVariants.{Down, Waitin
 use Rattle.shdlc_core.specs.declared.answers.Due.{Due}
 use Rattle.shdlc_core.specs.declared.answers.Due.TheVariants.{Rr as Rr_due, Rej as Rej_due, Rnr as Rnr_due, Rset as Rset_due, Ua as Ua_due}
 use Rattle.shdlc_core.specs.Machine.{EndState, Session, begun, new_end, new_session, no_session, frame_due, taken, take_answer, ticked, tick_answer, is_waiting, waiting_from, up_with, given_up, asked_again, reset_with, stopped, runs_timer}
-use Rattle.link_laws.specs.Link.{Carried}
 use Rattle.link_laws.specs.Order.{AllDelivered}
 use Rattle.link_laws.proofs.Delivered.{delivered}
 use Rattle.link_laws.proofs.Whole.{AnswersOnly}
@@ -27,7 +26,7 @@ use Rattle.session_laws.proofs.Data.{IsAnswer, taken_up}
 use Rattle.session_laws.proofs.Safe.{Safe, agreed, pair_from, frame_cases, up_end, safe_swap, safe_lose}
 use Rattle.session_laws.proofs.Sending.{SafeLink, sans-push_act, fits_keeps, no_rset_out, room, ready_by, at_most_one}
 use Rattle.session_laws.proofs.Steps.{passes, passes_act, took, took_other, not_rset, fresh, aged-fresh, sans-aged, safe_fresh, safe_aged, safe_turn, safe_turns, safe_exchanged, tick_or_cut, tick_if_waiting, safe_event, safe_start}
-use Rattle.session_laws.proofs.Ties.{carried, as_up, to_up, Meets, Tied, IsWhole, TiedLink, tied_swap, meets_like, none_due, IsNew, waiting_new, tied_new, new_meets, behind_fits, Rests, drains, sends_nothing, sends_ua, tied_none, tied_older, turned-phase}
+use Rattle.session_laws.proofs.Ties.{as_up, to_up, Meets, Tied, IsWhole, TiedLink, tied_swap, meets_like, none_due, IsNew, waiting_new, tied_new, new_meets, behind_fits, Rests, drains, sends_nothing, sends_ua, tied_none, tied_older, turned-phase}
 
 -- one answer at most
 one_answer : (due before : List Due) → before ≡ [] → (due ≡ before) ⊎ ((d : Due) × IsAnswer d × (due ≡ before ++ d ∷ [])) → AnswersOnly due × (length due ≤ 1)
@@ -128,12 +127,12 @@ Goes n l ts e = TiedLink (noted_out n l (turned e ts)) (becomes l (turned e ts))
 
 -- it becomes e, and what joins them is kept
 up_becomes : (n : Losses) (ts : List Turn) (l : Link) (e : EndState) → l.controller.side.phase ≡ Up → e.phase ≡ Up → AnswersOnly e.due → length e.due ≤ 1
-    → ((f : EndState) (w : List Carried) → Joined (Unit {0}) l.controller.side f (carried (sans l.to_controller)) w
-    → Joined (Unit {0}) e f (carried (sans l.to_controller)) w)
+    → ((f : EndState) (w : List OnWire) → Joined (Unit {0}) l.controller.side f (sans l.to_controller) w
+    → Joined (Unit {0}) e f (sans l.to_controller) w)
     → TiedLink n l → Goes n l ts e
 up_becomes n ts l e up eup answers few step t =
     drains 12 (omega arith) n ts l e eup answers (few_room e few)
-    (λ w b q. let m = meets_up n l up t w b q in (step (as_up l.host.side.phase l.host.side) (carried b) m.joined, m.far, tt))
+    (λ w b q. let m = meets_up n l up t w b q in (step (as_up l.host.side.phase l.host.side) b m.joined, m.far, tt))
 
 -- it is in no session, and has nothing to send
 tied_down : (n : Losses) (l : Link) → l.controller.side.phase ≡ Down → TiedLink n l
@@ -273,7 +272,7 @@ ticks kf n ts l h t = go e.phase (runs_timer e.session) (nat_lt (e.timer + 1) 10
         (up_becomes n ts l (ticked e) p (tick_cases (λ f. f.phase ≡ Up) e p quit p p p)
         (tick_cases (λ f. AnswersOnly f.due) e p quit (rw h.n_due tt) (rw h.n_due tt) (rw h.n_due tt))
         (tick_cases (λ f. length f.due ≤ 1) e p quit (rw h.n_due (omega arith)) (rw h.n_due (omega arith)) (rw h.n_due (omega arith)))
-        (λ f w j. joined_ticked (Unit {0}) e f (carried (sans l.to_controller)) w quit j) t)
+        (λ f w j. joined_ticked (Unit {0}) e f (sans l.to_controller) w quit j) t)
 
     late : nat_lt (e.timer + 1) 10 ≡ false → (rsets (sans l.to_host) ≡ []) × (uas (sans l.to_controller) ≡ [])
     late r =
@@ -360,7 +359,7 @@ takes n l ts x xs h t = takes_by (TiedLink (noted_took n l ts x xs) (took l ts x
         (few_room (taken e x.frame) few)
         (λ w b q.
         let m = to_up (λ y. Meets y f (x ∷ sans xs) b) e up (t (inr w) (x ∷ sans xs) b (rw up refl) q) in
-        ((joined_taken (Unit {0}) e f (record { frame = x.frame; age = x.age }) (carried (sans xs)) (carried b) m.joined).0, m.far, tt)))
+        ((joined_taken (Unit {0}) e f x (sans xs) b m.joined).0, m.far, tt)))
 
     passed : IsData x.frame → (e.phase ≡ Up → ⊥) → taken e x.frame ≡ e → TiedLink (noted_took n l ts x xs) (took l ts x xs)
     passed d no_up same =
@@ -406,8 +405,8 @@ takes n l ts x xs h t = takes_by (TiedLink (noted_took n l ts x xs) (took l ts x
         (λ y b q.
         let g = new_meets (up_end e w) f new (far_new u s) in
         let empty : b ≡ [] = far_empty u s c b q in
-        let P : List OnWire → Type 0 = λ a. Joined (Unit {0}) (up_end e w) f (carried a) (carried b) in
-        let R : List OnWire → Type 0 = λ a. Joined (Unit {0}) (up_end e w) f [] (carried a) in
+        let P : List OnWire → Type 0 = λ a. Joined (Unit {0}) (up_end e w) f a b in
+        let R : List OnWire → Type 0 = λ a. Joined (Unit {0}) (up_end e w) f [] a in
         (subst P (sym gone) (subst R (sym empty) g.joined), g.far, tt))))
 
     waits : (u : ℕ) → Tells v (sans xs) u → e.phase ≡ Waiting → e.session ≡ no_session → taken e x.frame ≡ record e { due = Ua_due ∷ []; peer_window = min u 4 }
@@ -449,7 +448,7 @@ takes n l ts x xs h t = takes_by (TiedLink (noted_took n l ts x xs) (took l ts x
 
         -- as it was before
         meets : (((e.phase ≡ Waiting) × (l.host.side.phase ≡ Waiting)) ⊎ IsWhole n) → (b : List OnWire) → live l.host.side.phase (sans l.to_host) ≡ Some b
-            → Joined (Unit {0}) (up_with e w) f (carried (sans xs)) (carried b) × (frame_due f ≡ None) × Unit {0}
+            → Joined (Unit {0}) (up_with e w) f (sans xs) b × (frame_due f ≡ None) × Unit {0}
         meets u b r =
             let P : LinkState → Type 0 = λ s. Meets (as_up s e) f (sans xs) b in
             let g : Meets (up_end e w) f (sans xs) b = subst P p (t u (sans xs) b lives r) in
@@ -727,8 +726,8 @@ all_delivered : (n : Losses) (l : Link) → TiedLink n l → IsQuiet l n → All
 all_delivered n l t q =
     let m = meets_up n l q.controller t (q.lost, q.rnr) (sans l.to_host) (rw q.host refl) in
     let k = to_up (λ e. Meets l.controller.side e (sans l.to_controller) (sans l.to_host)) l.host.side q.host m in
-    delivered (Unit {0}) l.controller.side l.host.side (carried (sans l.to_controller)) (carried (sans l.to_host)) k.joined tt k.near k.far
-    (ap carried q.to_controller) (ap carried q.to_host)
+    delivered (Unit {0}) l.controller.side l.host.side (sans l.to_controller) (sans l.to_host) k.joined tt k.near k.far
+    q.to_controller q.to_host
 
 pub delivered_here : (l : Link) → IsStart l → (events : List LinkEvent) → AllAllowed events → IsQuiet (after l events) (losses_after no_losses l events)
     → AllDelivered (after l events).controller.side.session (after l events).host.side.session

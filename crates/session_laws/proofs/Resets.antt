@@ -13,7 +13,7 @@ use Rattle.shdlc_core.specs.declared.answers.Due.TheVariants.{Rset as Rset_due, 
 use Rattle.shdlc_core.specs.Machine.{EndState, no_session, fetched, frame_due, frames_of, after_frames, taken, take_answer, ticked, tick_answer, is_waiting, up_with, waiting_from, asked_again, given_up, reset_with, runs_timer}
 use Rattle.link_laws.proofs.Whole.{AnswersOnly}
 use Rattle.link_laws.proofs.Joined.{tick_cases, ready_cases}
-use Rattle.link_laws.proofs.InOrder.{fetched_idle, after_frames_idle}
+use Rattle.link_laws.proofs.Idle.{fetched_idle, after_frames_idle}
 use Rattle.session_laws.specs.Sessions.{OnWire, Half, Link, IsStart, exchanged, number_of, fits, put, put_all, becomes, with_controller, with_ended, took_with, is_up, act_frame, happens_here, ticks_here, older, aged_wire, aged, EndEvent, IsTurn, AreTurns, all_here, ticks_or_cut, ticks_if_waiting, LinkEvent, AllAllowed, happens, after, Turn, turn, turned}
 use Rattle.session_laws.specs.Sessions.Turn.{Offer, SetReady}
 use Rattle.session_laws.specs.Sessions.EndEvent.{Turns, Deliver, Ignore, Acts, Lose, Reset, Cut, Stop}

@@ -12,7 +12,7 @@ use Rattle.shdlc_core.specs.declared.answers.LinkState.TheVariants.{Down, Waitin
 use Rattle.shdlc_core.specs.declared.answers.Due.{Due}
 use Rattle.shdlc_core.specs.declared.answers.Due.TheVariants.{Rr as Rr_due, Rej as Rej_due, Rnr as Rnr_due, Rset as Rset_due, Ua as Ua_due}
 use Rattle.shdlc_core.specs.Machine.{EndState, Session, Fragment, no_session, sent_next, fetched, frame_due, fragment_due, control_due, expected, frames_of, after_frames, put_out, with_ready}
-use Rattle.link_laws.proofs.InOrder.{fetched_idle, after_frames_idle}
+use Rattle.link_laws.proofs.Idle.{fetched_idle, after_frames_idle}
 use Rattle.link_laws.proofs.Joined.{fetch_cases, fragment_due_tells, changed}
 use Rattle.session_laws.specs.Sessions.{OnWire, Half, Link, number_of, session_of, fits, put, put_all, with_controller, becomes, Turn, turn, turned}
 use Rattle.session_laws.specs.Losses.{is_act, sans}

@@ -10,12 +10,11 @@ use Rattle.shdlc_core.specs.declared.answers.LinkState.TheVariants.{Down, Waitin
 use Rattle.shdlc_core.specs.declared.answers.Due.{Due}
 use Rattle.shdlc_core.specs.declared.answers.Due.TheVariants.{Rr as Rr_due, Rej as Rej_due, Rnr as Rnr_due, Rset as Rset_due, Ua as Ua_due}
 use Rattle.shdlc_core.specs.Machine.{EndState, Fragment, new_session, fetched, frame_due, fragment_due, control_due, expected, frames_of, after_frames, put_out, with_ready}
-use Rattle.link_laws.specs.Link.{Carried, with_frame, is_rnr, older as grown}
+use Rattle.link_laws.specs.Wire.{with_frame, is_rnr}
 use Rattle.link_laws.proofs.Flows.{Flows}
 use Rattle.link_laws.proofs.Whole.{AnswersOnly, Whole}
 use Rattle.link_laws.proofs.Joined.{Joined, joined_exchanged, joined_older, joined_fetched, joined_put, joined_ready, ready_cases, fetch_cases}
-use Rattle.link_laws.proofs.InOrder.{fetched_idle, after_frames_idle}
-use Rattle.link_laws.proofs.Idle.{left, idle_after}
+use Rattle.link_laws.proofs.Idle.{fetched_idle, after_frames_idle, left, idle_after}
 use Rattle.session_laws.specs.Sessions.{OnWire, Link, fits, put, put_all, with_controller, older, Turn, turn, turned}
 use Rattle.session_laws.specs.Sessions.Turn.{Offer, SetReady}
 use Rattle.session_laws.specs.Losses.{is_act, sans, Losses, counts_first, overflows, noted, noted_all}
@@ -24,19 +23,6 @@ use Rattle.session_laws.proofs.Data.{pushed}
 use Rattle.session_laws.proofs.Safe.{HasWindows, up_end}
 use Rattle.session_laws.proofs.Sending.{sans-push, live-push, room, ready_by}
 use Rattle.session_laws.proofs.Steps.{not_rset}
-
--- a wire as the law of one session sees it
-abbrev pub carried : List OnWire → List Carried
-carried [] = []
-carried (x ∷ xs) = record { frame = x.frame; age = x.age } ∷ carried xs
-
-carried-append : (w : List OnWire) (x : OnWire) → x.age ≡ 0 → carried (w ++ x ∷ []) ≡ with_frame (carried w) x.frame
-carried-append [] x e = rw e refl
-carried-append (y ∷ w) x e = ap (λ (r : List Carried). record { frame = y.frame; age = y.age } ∷ r) (carried-append w x e)
-
-carried-older : (w : List OnWire) → carried (older w) ≡ grown (carried w)
-carried-older [] = refl
-carried-older (y ∷ w) = ap (λ (r : List Carried). record { frame = y.frame; age = y.age + 1 } ∷ r) (carried-older w)
 
 -- the end as it will be once it took its UA
 abbrev pub as_up : LinkState → EndState → EndState
@@ -52,7 +38,7 @@ pub to_up : (P : EndState → Type 0) (e : EndState) → e.phase ≡ Up → P (a
 to_up P e up h = let Q : LinkState → Type 0 = λ p. P (as_up p e) in subst Q up h
 
 pub record Meets (n f : EndState) (to_n to_f : List OnWire) : Type 0 where
-  pub joined : Joined (Unit {0}) n f (carried to_n) (carried to_f)
+  pub joined : Joined (Unit {0}) n f to_n to_f
   pub near : frame_due n ≡ None
   pub far : frame_due f ≡ None
 
@@ -71,7 +57,7 @@ TiedLink n l = Tied (IsWhole n) l.controller.side l.host.side (sans l.to_control
 pub tied_swap : (W : Type 0) (n f : EndState) (to_n to_f : List OnWire) → Tied W n f to_n to_f → Tied W f n to_f to_n
 tied_swap W n f to_n to_f h w a b p q =
     let m = h (turned w) b a q p in
-    record { joined = joined_exchanged (Unit {0}) (as_up n.phase n) (as_up f.phase f) (carried b) (carried a) m.joined; near = m.far; far = m.near }
+    record { joined = joined_exchanged (Unit {0}) (as_up n.phase n) (as_up f.phase f) b a m.joined; near = m.far; far = m.near }
   where
     turned : (((f.phase ≡ Waiting) × (n.phase ≡ Waiting)) ⊎ W) → ((n.phase ≡ Waiting) × (f.phase ≡ Waiting)) ⊎ W
     turned (inl e) = inl (e.1, e.0)
@@ -224,7 +210,7 @@ fits_sans w h = go (nat_lt 64 (length w)) w h
 abbrev pub Rests : Type 0 → Type 0 → EndState → EndState → List OnWire → List OnWire → Type 0
 Rests G W e f to_n to_f =
     W → (b : List OnWire) → live f.phase to_f ≡ Some b
-    → Joined (Unit {0}) e (as_up f.phase f) (carried to_n) (carried b) × (frame_due (as_up f.phase f) ≡ None) × G
+    → Joined (Unit {0}) e (as_up f.phase f) to_n b × (frame_due (as_up f.phase f) ≡ None) × G
 
 pub data_due : (e : EndState) (c : Control) → AnswersOnly e.due → frame_due e ≡ Some c → IsData c × (is_act c ≡ false)
 data_due e c a is =
@@ -259,30 +245,31 @@ pub fetched_answers : (e : EndState) → AnswersOnly e.due → AnswersOnly (fetc
 fetched_answers e a =
     fetch_cases (λ f o. AnswersOnly f.due) e (λ d ds p. answers_rest d ds (rw p at a)) (λ p q. a) (λ info p q. a)
 
-rests_put : (G W V : Type 0) (e f : EndState) (c : Control) (x : OnWire) (to_n w : List OnWire) → x.frame ≡ c → x.age ≡ 0 → frame_due e ≡ Some c
-    → IsData c → is_act c ≡ false
-    → (V → W) → (V → overflows (w ++ x ∷ []) ≡ false) → (V → is_rnr c ≡ false)
-    → Rests G W e f to_n (sans w) → Rests G V (fetched e) f to_n (sans (fits (w ++ x ∷ [])))
-rests_put G W V e f c x to_n w frame age is d no_act weak over rnr h v b p =
-    go (live f.phase (sans w)) refl (sym (live-push f.phase (sans w) x (rw frame d)) ∙ whole)
+rests_put : (G W V : Type 0) (e f : EndState) (c : Control) (to_n w : List OnWire) → frame_due e ≡ Some c → IsData c → is_act c ≡ false
+    → (V → W) → (V → overflows (with_frame w c) ≡ false) → (V → is_rnr c ≡ false)
+    → Rests G W e f to_n (sans w) → Rests G V (fetched e) f to_n (sans (fits (with_frame w c)))
+rests_put G W V e f c to_n w is d no_act weak over rnr h v b p =
+    go (live f.phase (sans w)) refl (sym (live-push f.phase (sans w) x d) ∙ whole)
   where
-    kept : sans (fits (w ++ x ∷ [])) ≡ sans w ++ x ∷ []
-    kept = fits_sans (w ++ x ∷ []) (over v) ∙ sans-push w x (rw frame no_act)
+    x : OnWire
+    x = record { frame = c; age = 0; number = 0 }
+
+    kept : sans (fits (with_frame w c)) ≡ sans w ++ x ∷ []
+    kept = fits_sans (with_frame w c) (over v) ∙ sans-push w x no_act
 
     whole : live f.phase (sans w ++ x ∷ []) ≡ Some b
     whole = ap (live f.phase) (sym kept) ∙ p
 
     go : (o : Option (List OnWire)) → live f.phase (sans w) ≡ o → pushed (live f.phase (sans w)) x ≡ Some b
-        → Joined (Unit {0}) (fetched e) (as_up f.phase f) (carried to_n) (carried b) × (frame_due (as_up f.phase f) ≡ None) × G
+        → Joined (Unit {0}) (fetched e) (as_up f.phase f) to_n b × (frame_due (as_up f.phase f) ≡ None) × G
     go None q r = absurd (let z : pushed None x ≡ Some b = rw q at r in cc)
     go (Some u) q r =
         let z : pushed (Some u) x ≡ Some b = rw q at r in
         let same : u ++ x ∷ [] ≡ b = cc in
         let g = h (weak v) u q in
-        let one : Joined (Unit {0}) (fetched e) (as_up f.phase f) (carried to_n) (with_frame (carried u) c) =
-        rw is at (joined_fetched (Unit {0}) (Unit {0}) (λ u. u) e (as_up f.phase f) (carried to_n) (carried u) (λ u. rw is (rnr v)) g.0) in
-        let two : carried b ≡ with_frame (carried u) c = ap carried (sym same) ∙ carried-append u x age ∙ ap (with_frame (carried u)) frame in
-        (rw two one, g.1, g.2)
+        let one : Joined (Unit {0}) (fetched e) (as_up f.phase f) to_n (with_frame u c) =
+        rw is at (joined_fetched (Unit {0}) (Unit {0}) (λ u. u) e (as_up f.phase f) to_n u (λ u. rw is (rnr v)) g.0) in
+        (subst (Joined (Unit {0}) (fetched e) (as_up f.phase f) to_n) same one, g.1, g.2)
 
 -- what the near end keeps as it sends
 abbrev pub Keeps : Type 0 → Losses → EndState → Link → Type 0
@@ -292,11 +279,10 @@ keeps_each : (G : Type 0) (n : Losses) (e : EndState) (v : Link) (c : Control) �
     → Keeps G (noted n v c) (fetched e) (put v c)
 keeps_each G n e v c is k =
     let d = data_due e c k.1 is in
-    let x : OnWire = record { frame = c; age = 0; number = 0 } in
-    let over : Bool = overflows (v.to_host ++ x ∷ []) in
+    let over : Bool = overflows (with_frame v.to_host c) in
     let V : Type 0 = ((n.lost || over) ≡ false) × ((n.rnr || is_rnr c) ≡ false) in
-    let r : Rests G V (fetched e) v.host.side (sans v.to_controller) (sans (fits (v.to_host ++ x ∷ []))) =
-    rests_put G (IsWhole n) V e v.host.side c x (sans v.to_controller) v.to_host refl refl is d.0 d.1
+    let r : Rests G V (fetched e) v.host.side (sans v.to_controller) (sans (fits (with_frame v.to_host c))) =
+    rests_put G (IsWhole n) V e v.host.side c (sans v.to_controller) v.to_host is d.0 d.1
     (λ w. ((or_parts n.lost over w.0).0, (or_parts n.rnr (is_rnr c) w.1).0))
     (λ w. (or_parts n.lost over w.0).1) (λ w. (or_parts n.rnr (is_rnr c) w.1).1) k.2 in
     (fetched-phase e ∙ k.0, fetched_answers e k.1, rw (not_rset c (inl d.0)) r)
@@ -330,7 +316,7 @@ tied_drains m n e l h w a b p q =
         let r = k.2 u b q in
         let y : Some (sans v.to_controller) ≡ Some a = rw k.0 at p in
         let same : sans v.to_controller ≡ a = cc in
-        let j : Joined (Unit {0}) z (as_up v.host.side.phase v.host.side) (carried a) (carried b) = rw same at r.0 in
+        let j : Joined (Unit {0}) z (as_up v.host.side.phase v.host.side) a b = rw same at r.0 in
         from_up (λ y. Meets y (as_up v.host.side.phase v.host.side) a b) z k.0 (record { joined = j; near = idle r.2; far = r.1 })
 
 -- ## Turns
@@ -355,7 +341,7 @@ turn_keeps n e (Offer fragments) l k few =
         k.0,
         k.1,
         λ w b q. let r = k.2 w b q in
-            (joined_put (Unit {0}) e (as_up l.host.side.phase l.host.side) (carried (sans l.to_controller)) (carried b) fragments r.0, r.1, tt),
+            (joined_put (Unit {0}) e (as_up l.host.side.phase l.host.side) (sans l.to_controller) b fragments r.0, r.1, tt),
       ),
       few,
     )
@@ -364,7 +350,7 @@ turn_keeps n e (SetReady r) l k few = (
     ready-phase e r ∙ k.0,
     ready_cases (λ f. AnswersOnly f.due) e r k.1 k.1 (answers_more e.due k.1),
     λ w b q. let g = k.2 w b q in
-        (joined_ready (Unit {0}) e (as_up l.host.side.phase l.host.side) (carried (sans l.to_controller)) (carried b) r g.0, g.1, tt),
+        (joined_ready (Unit {0}) e (as_up l.host.side.phase l.host.side) (sans l.to_controller) b r g.0, g.1, tt),
   ),
   ready_by (λ f. room f ≤ 2) e r (inr k.0) (λ no. absurd (no k.0)) few (omega (arith, few))
       (λ up noted. let j : length (e.due ++ Rr_due ∷ []) ≡ length e.due + 1 = length-append e.due (Rr_due ∷ []) in let i = rw noted at few in omega arith),
@@ -477,10 +463,8 @@ tied_older W n f to_n to_f h w a b p q =
     let m = h w s.0 t.0 s.1 t.1 in
     let x : EndState = as_up n.phase n in
     let y : EndState = as_up f.phase f in
-    let one : Joined (Unit {0}) y x (carried t.0) (grown (carried s.0)) =
-    joined_exchanged (Unit {0}) x y (grown (carried s.0)) (carried t.0) (joined_older (Unit {0}) x y (carried s.0) (carried t.0) m.joined) in
-    let two : Joined (Unit {0}) x y (grown (carried s.0)) (grown (carried t.0)) =
-    joined_exchanged (Unit {0}) y x (grown (carried t.0)) (grown (carried s.0)) (joined_older (Unit {0}) y x (carried t.0) (grown (carried s.0)) one) in
-    let e : carried a ≡ grown (carried s.0) = ap carried s.2 ∙ carried-older s.0 in
-    let g : carried b ≡ grown (carried t.0) = ap carried t.2 ∙ carried-older t.0 in
-    record { joined = rw (e, g) two; near = m.near; far = m.far }
+    let one : Joined (Unit {0}) y x t.0 (older s.0) =
+    joined_exchanged (Unit {0}) x y (older s.0) t.0 (joined_older (Unit {0}) x y s.0 t.0 m.joined) in
+    let two : Joined (Unit {0}) x y (older s.0) (older t.0) =
+    joined_exchanged (Unit {0}) y x (older t.0) (older s.0) (joined_older (Unit {0}) y x t.0 (older s.0) one) in
+    record { joined = rw (s.2, t.2) two; near = m.near; far = m.far }

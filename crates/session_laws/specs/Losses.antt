@@ -1,24 +1,15 @@
 -- What was lost on a link and whether an RNR was made, since an end last came up as the first of the two in a session. Frames
 -- of activation don't count.
-use Rattle.std.specs.Prelude.{◌≡◌, ℕ, nat_lt, Bool, true, false, not, ◌&&◌, ◌||◌, if◌then◌else◌, List, [], ◌∷◌, ◌++◌, length, map, is_some, ◌==◌, Option, Some, None}
+use Rattle.std.specs.Prelude.{◌≡◌, ℕ, Bool, true, false, ◌&&◌, ◌||◌, if◌then◌else◌, List, [], ◌∷◌, map, is_some, ◌==◌, Option, Some, None}
 use Rattle.swp_base.specs.declared.control_frames.Control.{Control}
-use Rattle.swp_base.specs.declared.control_frames.Control.TheVariants.{Act as ActFrame}
-use Rattle.link_laws.specs.Link.{is_rnr}
+use Rattle.link_laws.specs.Wire.{with_frame, is_rnr}
+pub use Rattle.link_laws.specs.Wire.{is_act, sans, counts_first, overflows, loses_aged}
 use Rattle.shdlc_core.specs.declared.answers.LinkState.{LinkState}
 use Rattle.shdlc_core.specs.declared.answers.LinkState.TheVariants.{Down, Up}
 use Rattle.shdlc_core.specs.Machine.{EndState, taken, take_answer, ticked, tick_answer, is_waiting, reset_with, frames_of, most_frames}
 use Rattle.session_laws.specs.Sessions.{OnWire, Half, Link, exchanged, number_of, is_up, put, put_all, with_ended, Turn, turned, act_frame, EndEvent, took_with, happens_here, aged, LinkEvent, all_here, ticks_or_cut, ticks_if_waiting, happens}
 use Rattle.session_laws.specs.Sessions.EndEvent.{Turns, Deliver, Ignore, Acts, Lose, Reset, Cut, Stop}
 use Rattle.session_laws.specs.Sessions.LinkEvent.{AtController, AtHost, Tick, TickWithout}
-
--- a wire without its frames of activation
-abbrev pub is_act : Control → Bool
-is_act (ActFrame act again) = true
-is_act _ = false
-
-abbrev pub sans : List OnWire → List OnWire
-sans [] = []
-sans (x ∷ xs) = if is_act x.frame then sans xs else x ∷ sans xs
 
 -- a frame was lost, an RNR was made
 pub record Losses : Type 0 where
@@ -28,19 +19,10 @@ pub record Losses : Type 0 where
 abbrev pub no_losses : Losses
 no_losses = record { lost = false; rnr = false }
 
--- the first frame of a wire isn't one of activation
-abbrev pub counts_first : List OnWire → Bool
-counts_first [] = false
-counts_first (x ∷ xs) = not (is_act x.frame)
-
--- a wire that is too long loses its first frame
-abbrev pub overflows : List OnWire → Bool
-overflows wire = nat_lt 64 (length wire) && counts_first wire
-
 -- a frame is put on the wire to the host
 abbrev pub noted : Losses → Link → Control → Losses
 noted n l c =
-    record { lost = n.lost || overflows (l.to_host ++ record { frame = c; age = 0; number = 0 } ∷ []); rnr = n.rnr || is_rnr c }
+    record { lost = n.lost || overflows (with_frame l.to_host c); rnr = n.rnr || is_rnr c }
 
 abbrev pub noted_all : Losses → Link → List Control → Losses
 noted_all n l [] = n
@@ -92,11 +74,6 @@ noted_tick n None l = n
 
 abbrev pub noted_if_waiting : Losses → Link → Losses
 noted_if_waiting n l = if is_waiting l.controller.side then noted_tick n (Some []) l else n
-
--- a frame grows too old
-abbrev pub loses_aged : List OnWire → Bool
-loses_aged [] = false
-loses_aged (x ∷ xs) = if nat_lt x.age 4 then loses_aged xs else true
 
 abbrev pub noted_aged : Losses → Link → Losses
 noted_aged n l = record n { lost = n.lost || loses_aged (sans l.to_controller) || loses_aged (sans l.to_host) }

@@ -1,18 +1,14 @@
 -- Two ends of one bare link and the two wires between them, over resets: sessions have the numbers of the RSETs that began
 -- them. A wire is first in first out; any frame on it may be lost, and none lives longer than four ticks.
-use Rattle.std.specs.Prelude.{ℕ, ◌+◌, ◌==◌, ◌<◌, ◌≤◌, nat_lt, Bool, true, false, if◌then◌else◌, List, [], ◌∷◌, ◌++◌, length, drop, map, is_some, max, Option, Some, None}
+use Rattle.std.specs.Prelude.{ℕ, ◌+◌, ◌==◌, ◌<◌, ◌≤◌, Bool, true, false, if◌then◌else◌, List, [], ◌∷◌, ◌++◌, drop, map, is_some, max, Option, Some, None}
 use Rattle.swp_base.specs.declared.control_frames.Control.{Control}
-use Rattle.swp_base.specs.declared.control_frames.Control.TheVariants.{Rset, Act as ActFrame}
+use Rattle.swp_base.specs.declared.control_frames.Control.TheVariants.{Act as ActFrame}
 use Rattle.swp_base.specs.declared.control_frames.Act.{Act}
 use Rattle.shdlc_core.specs.declared.answers.LinkState.{LinkState}
 use Rattle.shdlc_core.specs.declared.answers.LinkState.TheVariants.{Down, Waiting, Up}
 use Rattle.shdlc_core.specs.Machine.{EndState, Session, Fragment, new_end, no_session, begun, put_out, taken, take_answer, ticked, tick_answer, is_waiting, with_ready, reset_with, stopped, frames_of, after_frames, most_frames}
-
--- a frame on a wire, the ticks since it was put there, and its number where it is an RSET
-pub record OnWire : Type 0 where
-  pub frame : Control
-  pub age : ℕ
-  pub number : ℕ
+use Rattle.link_laws.specs.Wire.{with_frame}
+pub use Rattle.link_laws.specs.Wire.{OnWire, is_rset, fits, older, aged_wire}
 
 -- one end, with the greatest numbers of RSETs that it has sent and taken, and its ended sessions with their numbers
 pub record Half : Type 0 where
@@ -72,14 +68,6 @@ abbrev pub exchanged : Link → Link
 exchanged l =
     record l { controller = l.host; host = l.controller; to_controller = l.to_host; to_host = l.to_controller }
 
-abbrev pub is_rset : Control → Bool
-is_rset (Rset window caps) = true
-is_rset _ = false
-
--- a wire holds 64 frames: one more pushes the first out
-abbrev pub fits : List OnWire → List OnWire
-fits wire = if nat_lt 64 (length wire) then drop 1 wire else wire
-
 -- the controller's end puts a frame on the wire to the host. The RSETs of a link are numbered from 1 as they are put on it
 abbrev pub put : Link → Control → Link
 put l c = by_kind (is_rset c) where
@@ -90,7 +78,7 @@ put l c = by_kind (is_rset c) where
         controller = record l.controller { emitted = l.resets + 1 };
         resets = l.resets + 1;
       }
-  by_kind false = record l { to_host = fits (l.to_host ++ record { frame = c; age = 0; number = 0 } ∷ []) }
+  by_kind false = record l { to_host = fits (with_frame l.to_host c) }
 
 abbrev pub put_all : Link → List Control → Link
 put_all l [] = l
@@ -199,16 +187,7 @@ happens_here l Stop = silent l (stopped l.controller.side)
 abbrev pub ticks_here : Link → List Turn → Link
 ticks_here l ts = becomes (with_ended l (is_some (tick_answer l.controller.side).ended)) (turned (ticked l.controller.side) ts)
 
--- a tick makes each frame older by one
-abbrev pub older : List OnWire → List OnWire
-older [] = []
-older (x ∷ xs) = record x { age = x.age + 1 } ∷ older xs
-
--- those that were four ticks old already are lost
-abbrev pub aged_wire : List OnWire → List OnWire
-aged_wire [] = []
-aged_wire (x ∷ xs) = if nat_lt x.age 4 then record x { age = x.age + 1 } ∷ aged_wire xs else aged_wire xs
-
+-- a tick makes each frame older by one, and those that were four ticks old already are lost
 abbrev pub aged : Link → Link
 aged l = record l { to_controller = aged_wire l.to_controller; to_host = aged_wire l.to_host }
 

@@ -1,10 +1,11 @@
 -- Whether a reset put the last RSET on the link while the other end wasn't Waiting, and since then no frame was lost but of
 -- activation, no end was stopped, none was inactive and none lost power.
-use Rattle.std.specs.Prelude.{◌≡◌, Bool, true, false, not, ◌&&◌, ◌||◌, if◌then◌else◌, List, [], ◌∷◌, ◌++◌, map, is_some, Option, Some, None}
+use Rattle.std.specs.Prelude.{◌≡◌, Bool, true, false, not, ◌&&◌, ◌||◌, if◌then◌else◌, List, [], ◌∷◌, map, is_some, Option, Some, None}
 use Rattle.swp_base.specs.declared.control_frames.Control.{Control}
 use Rattle.shdlc_core.specs.declared.answers.LinkState.{LinkState}
 use Rattle.shdlc_core.specs.declared.answers.LinkState.TheVariants.{Down, Up}
 use Rattle.shdlc_core.specs.Machine.{EndState, taken, take_answer, ticked, tick_answer, is_waiting, frames_of, most_frames}
+use Rattle.link_laws.specs.Wire.{with_frame}
 use Rattle.session_laws.specs.Sessions.{OnWire, Link, exchanged, number_of, is_rset, put, put_all, with_ended, Turn, turned, act_frame, EndEvent, took_with, happens_here, aged, LinkEvent, all_here, ticks_or_cut, ticks_if_waiting, happens}
 use Rattle.session_laws.specs.Sessions.EndEvent.{Turns, Deliver, Ignore, Acts, Lose, Reset, Cut, Stop}
 use Rattle.session_laws.specs.Sessions.LinkEvent.{AtController, AtHost, Tick, TickWithout}
@@ -13,7 +14,7 @@ use Rattle.session_laws.specs.Losses.{sans, counts_first, overflows, loses_aged}
 -- a frame is put on the wire to the host
 abbrev pub sure_put : Bool → Link → Control → Bool
 sure_put s l c =
-    if is_rset c then false else s && not (overflows (l.to_host ++ record { frame = c; age = 0; number = 0 } ∷ []))
+    if is_rset c then false else s && not (overflows (with_frame l.to_host c))
 
 abbrev pub sure_all : Bool → Link → List Control → Bool
 sure_all s l [] = s
