@@ -601,8 +601,8 @@ lasts_fetched kf near far to_near to_far h =
     control Ua_due ds p a = absurd a
 
 -- an end that has sent all that is due makes no probe
-pub no_probe : (k : ℕ) (near far : EndState) (to_near to_far : List OnWire) → frame_due near ≡ None → Lasts 0 k near far to_near to_far → near.session.probe ≡ false
-no_probe k near far to_near to_far idle h = go near.session.probe refl
+pub no_probe : (kn kf : ℕ) (near far : EndState) (to_near to_far : List OnWire) → frame_due near ≡ None → Lasts kn kf near far to_near to_far → near.session.probe ≡ false
+no_probe kn kf near far to_near to_far idle h = go near.session.probe refl
   where
     s : Session
     s = near.session

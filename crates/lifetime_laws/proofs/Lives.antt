@@ -1,195 +1,339 @@
 -- Each event without a loss keeps both timers in time.
-use Rattle.std.proofs.Common.{◌≡◌, ℕ, ◌<◌, ◌≤◌, Bool, true, false, ◌||◌, List, [], ◌∷◌, Some, None, refl, ap, ◌∙◌, inl, arith, length}
+use Rattle.std.proofs.Common.{◌≡◌, ℕ, ◌≤◌, Bool, true, false, ◌||◌, List, [], ◌∷◌, Some, None, refl, ap, sym, subst, ◌∙◌, inl, arith, length}
 use Rattle.std.specs.Prelude.{is_some, nat_lt}
 use Rattle.std.proofs.lemmas.Bool.{or_parts, true≢false, ltb-true}
+use mathlib.Core.List.{IsPrefix}
 use Rattle.swp_base.specs.declared.control_frames.Control.{Control}
-use Rattle.shdlc_core.specs.Machine.{EndState, taken, take_answer, ticked, tick_answer, with_ready, put_out, fetched, frame_due, frames_of, after_frames, most_frames, new_session}
-use Rattle.link_laws.specs.Link.{Link, Carried, start, exchanged, is_full, with_frame, put, put_all, becomes, EndEvent, happens_here, ticks_here, older, aged_wire, loses_aged, aged, LinkEvent, happens, after}
-use Rattle.link_laws.specs.Link.EndEvent.{Offer, Deliver, Lose, Busy, Ready}
-use Rattle.link_laws.specs.Link.LinkEvent.{AtController, AtHost, Tick}
-use Rattle.link_laws.proofs.Flows.{Flows}
-use Rattle.link_laws.proofs.Joined.{joined_exchanged}
-use Rattle.link_laws.proofs.InOrder.{IsWhole, sends_keeps, becomes-put_all, becomes-ended, offer_cases, deliver_cases, lose_cases}
-use Rattle.link_laws.proofs.Idle.{Stays, stays_after, stays_start, no_due, idle_after, left}
+use Rattle.swp_base.specs.declared.control_frames.Control.TheVariants.{I, S, Rset, Ua, Act, Clt}
+use Rattle.shdlc_core.specs.declared.answers.LinkState.TheVariants.{Up}
+use Rattle.shdlc_core.specs.Machine.{EndState, begun, new_end, new_session, taken, take_answer, ticked, tick_answer, fetched, frame_due, frames_of, most_frames}
+use Rattle.link_laws.specs.Wire.{OnWire, with_frame, fits, is_act, sans, overflows, loses_aged, aged_wire, older}
+use Rattle.link_laws.proofs.Marks.{Shows, Counts}
+use Rattle.link_laws.proofs.Flows.{flows_new}
+use Rattle.link_laws.proofs.Idle.{few_taken, idle_after, left, no_due}
+use Rattle.session_laws.specs.Sessions.{Half, Link, exchanged, put, put_all, becomes, with_ended, took_with, happens_here, ticks_here, aged, EndEvent, all_here, LinkEvent, happens, after, start, Turn, turn, turned}
+use Rattle.session_laws.specs.Sessions.Turn.{Offer, SetReady}
+use Rattle.session_laws.specs.Sessions.EndEvent.{Turns, Deliver}
+use Rattle.session_laws.specs.Sessions.LinkEvent.{AtController, AtHost, Tick, TickWithout}
+use Rattle.session_laws.specs.Losses.{Losses, no_losses, noted, noted_all, noted_out, came_up, noted_here, noted_turns, noted_tick, noted_aged, noted_event, losses_after}
+use Rattle.session_laws.proofs.Wire.{IsData}
+use Rattle.session_laws.proofs.Steps.{not_rset, took_other}
+use Rattle.session_laws.proofs.Ties.{data_due, sends_noted, offer_up, few_turns, none_due}
+use Rattle.session_laws.proofs.Quiet.{began_data, few_room}
+use Rattle.lifetime_laws.specs.Lifetime.{IsAnew, BeginsAnew, AreTurns, IsPlainHere, IsPlain, AllPlain, LosesNone, GoesOn}
 use Rattle.lifetime_laws.proofs.Evidence.{Young, young_older}
 use Rattle.lifetime_laws.proofs.Timely.{Timely}
 use Rattle.lifetime_laws.proofs.Lasts.{Lasts, lasts_exchanged, lasts_put, lasts_ready, lasts_ticked, lasts_older, lasts_taken, lasts_fetched, no_probe, ticked-due}
 
-abbrev pub LastsLink : ℕ → ℕ → Link → Type 0
-LastsLink kc kh l = Lasts kc kh l.controller l.host l.to_controller l.to_host
+-- ## Wires that show marks
 
--- while nothing was lost no session has ended
-pub record IsAlive (l : Link) : Type 0 where
-  pub lasts : LastsLink 0 0 l
-  pub goes_on : l.ended ≡ false
+mark_data : (x : OnWire) (xs : List OnWire) (lo hi : ℕ) (ms : List Control) → Shows (x ∷ xs) ms → Counts lo hi ms → IsData x.frame × (is_act x.frame ≡ false)
+mark_data x xs lo hi [] shows counts = absurd shows
+mark_data x xs lo hi (I p n info ∷ ms) shows counts = rw shows.0 (tt, refl)
+mark_data x xs lo hi (S k n ∷ ms) shows counts = rw shows.0 (tt, refl)
+mark_data x xs lo hi (Rset _ _ ∷ ms) shows counts = absurd counts
+mark_data x xs lo hi (Ua ∷ ms) shows counts = absurd counts
+mark_data x xs lo hi (Act _ _ ∷ ms) shows counts = absurd counts
+mark_data x xs lo hi (Clt ∷ ms) shows counts = absurd counts
 
-abbrev pub Lives : Link → Type 0
-Lives l = l.lost ≡ false → IsAlive l
+-- no frame of activation is among them
+sans_all : (wire : List OnWire) (lo hi : ℕ) (ms : List Control) → Shows wire ms → Counts lo hi ms → sans wire ≡ wire
+sans_all [] lo hi ms shows counts = refl
+sans_all (x ∷ xs) lo hi [] shows counts = absurd shows
+sans_all (x ∷ xs) lo hi (I p n info ∷ ms) shows counts =
+    rw ((mark_data x xs lo hi (I p n info ∷ ms) shows counts).1) (ap (λ r. x ∷ r) (sans_all xs n hi ms shows.1 counts.1))
+sans_all (x ∷ xs) lo hi (S k n ∷ ms) shows counts =
+    rw ((mark_data x xs lo hi (S k n ∷ ms) shows counts).1) (ap (λ r. x ∷ r) (sans_all xs n hi ms shows.1 counts.1))
+sans_all (x ∷ xs) lo hi (Rset _ _ ∷ ms) shows counts = absurd counts
+sans_all (x ∷ xs) lo hi (Ua ∷ ms) shows counts = absurd counts
+sans_all (x ∷ xs) lo hi (Act _ _ ∷ ms) shows counts = absurd counts
+sans_all (x ∷ xs) lo hi (Clt ∷ ms) shows counts = absurd counts
 
-put_all-lost : (cs : List Control) (l : Link) → (put_all l cs).lost ≡ false → l.lost ≡ false
-put_all-lost [] l h = h
-put_all-lost (c ∷ cs) l h = (or_parts l.lost (is_full (with_frame l.to_host c)) (put_all-lost cs (put l c) h)).0
-
-becomes-lost : (l : Link) (e : EndState) → (becomes l e).lost ≡ false → l.lost ≡ false
-becomes-lost l e h = put_all-lost (frames_of most_frames e) (record l { controller = after_frames most_frames e }) h
-
-put_all-host : (cs : List Control) (l : Link) → (put_all l cs).host ≡ l.host
-put_all-host [] l = refl
-put_all-host (c ∷ cs) l = put_all-host cs (put l c)
-
-becomes-host : (l : Link) (e : EndState) → (becomes l e).host ≡ l.host
-becomes-host l e = put_all-host (frames_of most_frames e) (record l { controller = after_frames most_frames e })
-
--- the controller's end becomes e, and sends what is due
-lasts_becomes : (kh : ℕ) (l : Link) (e : EndState) → Lasts 0 kh e l.host l.to_controller l.to_host → (becomes l e).lost ≡ false → LastsLink 0 kh (becomes l e)
-lasts_becomes kh l e h =
-    rw (becomes-put_all l e)
-    (sends_keeps (λ f m. m.lost ≡ false → Lasts 0 kh f m.host m.to_controller m.to_host) each most_frames e l (λ v. h))
+-- such a wire that loses no frame where one more is put on it holds all of them
+fits_all : (wire : List OnWire) (lo hi : ℕ) (ms : List Control) → Shows wire ms → Counts lo hi ms → overflows wire ≡ false → fits wire ≡ wire
+fits_all [] lo hi ms shows counts none = refl
+fits_all (x ∷ xs) lo hi ms shows counts none = go (nat_lt 64 (length (x ∷ xs))) refl
   where
-    each : (f : EndState) (m : Link) (c : Control) → frame_due f ≡ Some c → (m.lost ≡ false → Lasts 0 kh f m.host m.to_controller m.to_host)
-        → (put m c).lost ≡ false → Lasts 0 kh (fetched f) m.host m.to_controller (put m c).to_host
-    each f m c q k v =
-        let parts = or_parts m.lost (is_full (with_frame m.to_host c)) v in
-        rw parts.1 (rw q at (lasts_fetched kh f m.host m.to_controller m.to_host (k parts.0)))
+    go : (b : Bool) → nat_lt 64 (length (x ∷ xs)) ≡ b → fits (x ∷ xs) ≡ x ∷ xs
+    go false q = rw q refl
+    go true q = absurd (true≢false (rw (q, (mark_data x xs lo hi ms shows counts).1) at none))
 
-alive_becomes : (l : Link) (e : EndState) → l.ended ≡ false → Lasts 0 0 e l.host l.to_controller l.to_host → (becomes l e).lost ≡ false → IsAlive (becomes l e)
-alive_becomes l e n h v = record { lasts = lasts_becomes 0 l e h v; goes_on = becomes-ended l e ∙ n }
+-- where none is lost by its age, all grow older
+aged_is_older : (wire : List OnWire) → loses_aged wire ≡ false → Young 4 wire → (aged_wire wire ≡ older wire) × Young 4 (older wire)
+aged_is_older [] h y = (refl, tt)
+aged_is_older (x ∷ xs) h y = go (nat_lt x.age 4) refl (aged_is_older xs)
+  where
+    later : (b c : ℕ) (w : List OnWire) → b ≤ c → Young b w → Young c w
+    later b c [] i k = tt
+    later b c (z ∷ w) i k = (omega (arith, k.0), k.1)
 
-lives_ready : (l : Link) (r : Bool) → Lives l → Lives (becomes l (with_ready l.controller r))
-lives_ready l r k v =
-    let a = k (becomes-lost l (with_ready l.controller r) v) in
-    alive_becomes l (with_ready l.controller r) a.goes_on (lasts_ready 0 0 l.controller l.host l.to_controller l.to_host r a.lasts) v
+    go : (b : Bool) → nat_lt x.age 4 ≡ b → (loses_aged xs ≡ false → Young 4 xs → (aged_wire xs ≡ older xs) × Young 4 (older xs))
+        → (aged_wire (x ∷ xs) ≡ older (x ∷ xs)) × Young 4 (older (x ∷ xs))
+    go true q rest =
+        let k = rest (rw q at h) (later x.age 4 xs y.0 y.1) in
+        (rw (q, k.0) refl, (let g = ltb-true x.age 4 q in omega arith, young_older x.age xs y.1))
+    go false q rest = absurd (true≢false (rw q at h))
 
-lives_here : (l : Link) (e : EndEvent) → Stays l → Lives l → Lives (happens_here l e)
-lives_here l (Offer fragments) s k =
-    offer_cases Lives l fragments k (λ up v.
-    let a = k (becomes-lost l (put_out l.controller fragments) v) in
-    alive_becomes l (put_out l.controller fragments) a.goes_on (lasts_put 0 0 l.controller l.host l.to_controller l.to_host fragments a.lasts) v)
-lives_here l Deliver s k =
-    deliver_cases Lives l k (λ x xs q v.
-    let m : Link = record l { to_controller = xs; ended = l.ended || is_some (take_answer l.controller x.frame).ended } in
-    let a = k (becomes-lost m (taken l.controller x.frame) v) in
-    let idle = (s a.goes_on).idle.controller in
-    let lasts : Lasts 0 0 l.controller l.host (x ∷ xs) l.to_host = rw q at a.lasts in
-    let t = lasts_taken l.controller l.host x xs l.to_host (no_probe 0 l.controller l.host l.to_controller l.to_host idle a.lasts) lasts in
-    let goes_on : (l.ended || is_some (take_answer l.controller x.frame).ended) ≡ false = rw (a.goes_on, t.1) refl in
-    alive_becomes m (taken l.controller x.frame) goes_on t.0 v)
-lives_here l Lose s k = lose_cases Lives l k (λ x xs q v. absurd (true≢false v))
-lives_here l Busy s k = lives_ready l false k
-lives_here l Ready s k = lives_ready l true k
+-- ## The link
 
-lives_exchanged : (l : Link) → Lives l → Lives (exchanged l)
-lives_exchanged l k v = record { lasts = lasts_exchanged 0 0 l.controller l.host l.to_controller l.to_host (k v).lasts; goes_on = (k v).goes_on }
+-- what an end keeps of its sessions and their numbers
+record Keeps (before now : Half) : Type 0 where
+  emitted : now.emitted ≡ before.emitted
+  took : now.took ≡ before.took
+  past : now.past ≡ before.past
 
-stays_exchanged : (l : Link) → Stays l → Stays (exchanged l)
-stays_exchanged l k n =
+-- both ends go on in their session, c and h are what they were as it began, and both have sent all that is due; kn and kf ticks
+-- have passed that they have still to count
+record IsAlive (kn kf : ℕ) (c h : Half) (l : Link) : Type 0 where
+  lasts : Lasts kn kf l.controller.side l.host.side l.to_controller l.to_host
+  near_idle : frame_due l.controller.side ≡ None
+  far_idle : frame_due l.host.side ≡ None
+  near : Keeps c l.controller
+  far : Keeps h l.host
+
+alive_exchanged : (kn kf : ℕ) (c h : Half) (l : Link) → IsAlive kn kf c h l → IsAlive kf kn h c (exchanged l)
+alive_exchanged kn kf c h l a =
     record {
-      joined = joined_exchanged (IsWhole l) l.controller l.host l.to_controller l.to_host (k n).joined;
-      idle = record { controller = (k n).idle.host; host = (k n).idle.controller };
+      lasts = lasts_exchanged kn kf l.controller.side l.host.side l.to_controller l.to_host a.lasts;
+      near_idle = a.far_idle;
+      far_idle = a.near_idle;
+      near = a.far;
+      far = a.near;
     }
+
+-- what was lost stays lost as frames go out
+out_lost : (cs : List Control) (n : Losses) (l : Link) → (noted_all n l cs).lost ≡ false → n.lost ≡ false
+out_lost [] n l v = v
+out_lost (c ∷ cs) n l v = (or_parts n.lost (overflows (with_frame l.to_host c)) (out_lost cs (noted n l c) (put l c) v)).0
+
+-- the near end, which has become e, while it sends what is due on the link m; c and h are both ends as it began
+abbrev Sends : ℕ → Half → Half → Losses → EndState → Link → Type 0
+Sends kf c h n e m = n.lost ≡ false → Lasts 0 kf e m.host.side m.to_controller m.to_host × (m.controller ≡ c) × (m.host ≡ h)
+
+sends_each : (kf : ℕ) (c h : Half) (n : Losses) (e : EndState) (m : Link) (f : Control) → frame_due e ≡ Some f → Sends kf c h n e m
+    → Sends kf c h (noted n m f) (fetched e) (put m f)
+sends_each kf c h n e m f is k v =
+    let parts = or_parts n.lost (overflows (with_frame m.to_host f)) v in
+    let g = k parts.0 in
+    let d = data_due e f g.0.near_due is in
+    let one : Lasts 0 kf (fetched e) m.host.side m.to_controller (with_frame m.to_host f) =
+    rw is at (lasts_fetched kf e m.host.side m.to_controller m.to_host g.0) in
+    let all : fits (with_frame m.to_host f) ≡ with_frame m.to_host f =
+    fits_all (with_frame m.to_host f) m.host.side.session.acked (length (fetched e).session.acc) one.far_marks one.far_shows one.far_sends.counts parts.1 in
+    rw (not_rset f (inl d.0), all) (one, g.1, g.2)
+
+-- it becomes e, and sends all that is due
+alive_becomes : (kf : ℕ) (c h : Half) (n : Losses) (l : Link) (e : EndState) → Lasts 0 kf e l.host.side l.to_controller l.to_host → left e ≤ most_frames
+    → frame_due l.host.side ≡ None → Keeps c l.controller → Keeps h l.host → (noted_out n l e).lost ≡ false → IsAlive 0 kf c h (becomes l e)
+alive_becomes kf c h n l e lasts few idle near far v =
+    let m : Link = put_all l (frames_of most_frames e) in
+    let r = sends_noted (Sends kf l.controller l.host) (sends_each kf l.controller l.host) most_frames n e l (λ w. (lasts, refl, refl)) v in
+    record {
+      lasts = r.0;
+      near_idle = idle_after most_frames e few;
+      far_idle = ap (λ (k : Half). frame_due k.side) r.2 ∙ idle;
+      near = record {
+        emitted = ap (λ (k : Half). k.emitted) r.1 ∙ near.emitted;
+        took = ap (λ (k : Half). k.took) r.1 ∙ near.took;
+        past = ap (λ (k : Half). k.past) r.1 ∙ near.past;
+      };
+      far = let P : Half → Type 0 = Keeps h in subst P (sym r.2) far;
+    }
+
+-- ## Turns
+
+lasts_turn : (kn kf : ℕ) (e f : EndState) (to_near to_far : List OnWire) (t : Turn) → Lasts kn kf e f to_near to_far → Lasts kn kf (turn e t) f to_near to_far
+lasts_turn kn kf e f to_near to_far (Offer fragments) k =
+    let P : EndState → Type 0 = λ g. Lasts kn kf g f to_near to_far in
+    subst P (sym (offer_up e fragments k.near_up)) (lasts_put kn kf e f to_near to_far fragments k)
+lasts_turn kn kf e f to_near to_far (SetReady r) k = lasts_ready kn kf e f to_near to_far r k
+
+lasts_turns : (kn kf : ℕ) (ts : List Turn) (e f : EndState) (to_near to_far : List OnWire) → Lasts kn kf e f to_near to_far
+    → Lasts kn kf (turned e ts) f to_near to_far
+lasts_turns kn kf [] e f to_near to_far k = k
+lasts_turns kn kf (t ∷ ts) e f to_near to_far k = lasts_turns kn kf ts (turn e t) f to_near to_far (lasts_turn kn kf e f to_near to_far t k)
+
+-- it becomes e, with few answers to send, has its turns, and sends all that is due
+alive_turned : (kf : ℕ) (c h : Half) (n : Losses) (l : Link) (ts : List Turn) (e : EndState) → Lasts 0 kf e l.host.side l.to_controller l.to_host
+    → length e.due ≤ 1 → frame_due l.host.side ≡ None → Keeps c l.controller → Keeps h l.host → (noted_out n l (turned e ts)).lost ≡ false
+    → IsAlive 0 kf c h (becomes l (turned e ts))
+alive_turned kf c h n l ts e lasts one idle near far v =
+    let k = lasts_turns 0 kf ts e l.host.side l.to_controller l.to_host lasts in
+    let few = few_turns ts e lasts.near_up (few_room e one) in
+    alive_becomes kf c h n l (turned e ts) k (omega (arith, few, k.near_sends.window, k.near_sends.acked_next)) idle near far v
+
+none_waits : (e : EndState) → frame_due e ≡ None → length e.due ≡ 0
+none_waits e idle = ap length (no_due e idle)
+
+alive_turns : (kf : ℕ) (c h : Half) (n : Losses) (l : Link) (ts : List Turn) → IsAlive 0 kf c h l → (noted_here n l (Turns ts)).lost ≡ false
+    → IsAlive 0 kf c h (happens_here l (Turns ts))
+alive_turns kf c h n l ts a v =
+    alive_turned kf c h n l ts l.controller.side a.lasts (let z = none_waits l.controller.side a.near_idle in omega arith) a.far_idle a.near a.far v
+
+-- ## A frame is taken
+
+alive_takes : (c h : Half) (n : Losses) (l : Link) (ts : List Turn) → IsAlive 0 0 c h l → (noted_here n l (Deliver ts)).lost ≡ false
+    → IsAlive 0 0 c h (happens_here l (Deliver ts))
+alive_takes c h n l ts a = go l.to_controller a
+  where
+    e : EndState
+    e = l.controller.side
+
+    go : (wire : List OnWire) → IsAlive 0 0 c h (record l { to_controller = wire }) → (noted_here n (record l { to_controller = wire }) (Deliver ts)).lost ≡ false
+        → IsAlive 0 0 c h (happens_here (record l { to_controller = wire }) (Deliver ts))
+    go [] b v = b
+    go (x ∷ xs) b v =
+        let t = lasts_taken e l.host.side x xs l.to_host (no_probe 0 0 e l.host.side (x ∷ xs) l.to_host b.near_idle b.lasts) b.lasts in
+        let d = (mark_data x xs e.session.acked (length l.host.side.session.acc) b.lasts.near_marks b.lasts.near_shows b.lasts.near_sends.counts).0 in
+        let few = few_taken e l.host.side.session.acc x xs b.lasts.far_marks b.lasts.near_marks b.lasts.near_up b.lasts.near_shows b.lasts.near_sends in
+        let none = none_waits e b.near_idle in
+        by (is_some (take_answer e x.frame).ended) (take_answer e x.frame).began (took_with l.controller.took x) (ap is_some t.1) (began_data e x.frame d)
+        (took_other l.controller.took x (not_rset x.frame (inl d)))
+        (λ w. alive_turned 0 c h n (record l { to_controller = xs }) ts (taken e x.frame) t.0 (omega arith) b.far_idle b.near b.far w) v
+      where
+        from : Bool → ℕ → Link
+        from ended took =
+            let m : Link = with_ended (record l { to_controller = xs }) ended in
+            record m { controller = record m.controller { took = took } }
+
+        Goes : Bool → Bool → ℕ → Type 0
+        Goes ended began took =
+            (noted_out (came_up n (from ended took) began) (from ended took) (turned (taken e x.frame) ts)).lost ≡ false
+            → IsAlive 0 0 c h (becomes (from ended took) (turned (taken e x.frame) ts))
+
+        by : (ended began : Bool) (took : ℕ) → ended ≡ false → began ≡ false → took ≡ l.controller.took → Goes false false l.controller.took → Goes ended began took
+        by true began took p q r g = absurd (true≢false p)
+        by false true took p q r g = absurd (true≢false q)
+        by false false took p q r g = subst (Goes false false) (sym r) g
 
 -- ## A tick
 
-aged_is_older : (wire : List Carried) → loses_aged wire ≡ false → Young 4 wire → (aged_wire wire ≡ older wire) × Young 4 (older wire)
-aged_is_older [] h y = (refl, tt)
-aged_is_older (x ∷ xs) h y = go (nat_lt x.age 4) refl
-  where
-    go : (b : Bool) → nat_lt x.age 4 ≡ b → (aged_wire (x ∷ xs) ≡ older (x ∷ xs)) × Young 4 (older (x ∷ xs))
-    go true q = (rw q refl, (let g = ltb-true x.age 4 q in omega arith, young_older x.age xs y.1))
-    go false q = absurd (true≢false (rw q at h))
-
-lives_tick_here : (kh : ℕ) (l : Link) → l.controller.session.probe ≡ false → l.controller.due ≡ [] → l.host.due ≡ [] → l.ended ≡ false → LastsLink 1 kh l
-    → (ticks_here l).lost ≡ false → LastsLink 0 kh (ticks_here l) × ((ticks_here l).ended ≡ false) × (frame_due (ticks_here l).controller ≡ None)
-lives_tick_here kh l noprobe mine none n h v =
-    let e : EndState = ticked l.controller in
-    let m : Link = record l { ended = l.ended || is_some (tick_answer l.controller).ended } in
-    let t = lasts_ticked kh l.controller l.host l.to_controller l.to_host noprobe none h in
-    let goes_on : (l.ended || is_some (tick_answer l.controller).ended) ≡ false = rw (n, t.1) refl in
-    let few : l.controller.tries < 5 = omega (arith, h.near_timely.most) in
-    let empty : length e.due ≡ 0 = ap length (ticked-due l.controller h.near_up few ∙ mine) in
-    let most : left e ≤ most_frames = omega (arith, t.0.near_sends.window, t.0.near_sends.acked_next) in
-    (lasts_becomes kh m e t.0 v, becomes-ended m e ∙ goes_on, rw (becomes-put_all m e) (idle_after most_frames e most))
-
-lives_tick : (l : Link) → Stays l → Lives l → Lives (happens l Tick)
-lives_tick l s k v =
-    let one : Link = aged l in
-    let two : Link = ticks_here one in
-    let three : Link = exchanged two in
-    let lost_three : three.lost ≡ false =
-    becomes-lost (record three { ended = three.ended || is_some (tick_answer three.controller).ended }) (ticked three.controller) v in
-    let lost_one : one.lost ≡ false =
-    becomes-lost (record one { ended = one.ended || is_some (tick_answer one.controller).ended }) (ticked one.controller) lost_three in
-    let a : Bool = loses_aged l.to_controller in
-    let b : Bool = loses_aged l.to_host in
-    let parts = or_parts (l.lost || a) b lost_one in
-    let first = or_parts l.lost a parts.0 in
-    let alive = k first.0 in
-    let calm = s alive.goes_on in
-    let mine : l.controller.due ≡ [] = no_due l.controller calm.idle.controller in
-    let other : l.host.due ≡ [] = no_due l.host calm.idle.host in
-    let near = aged_is_older l.to_controller first.1 alive.lasts.near_young in
-    let far = aged_is_older l.to_host parts.1 alive.lasts.far_young in
-    let lasts_one : LastsLink 1 1 one = rw (near.0, far.0) (lasts_older l.controller l.host l.to_controller l.to_host mine other near.1 far.1 alive.lasts) in
-    let near_probe = no_probe 0 l.controller l.host l.to_controller l.to_host calm.idle.controller alive.lasts in
-    let far_probe = no_probe 0 l.host l.controller l.to_host l.to_controller calm.idle.host
-    (lasts_exchanged 0 0 l.controller l.host l.to_controller l.to_host alive.lasts) in
-    let t = lives_tick_here 1 one near_probe mine other alive.goes_on lasts_one lost_three in
-    let host : two.host ≡ l.host =
-    becomes-host (record one { ended = one.ended || is_some (tick_answer one.controller).ended }) (ticked one.controller) in
-    let lasts_three : LastsLink 1 0 three = lasts_exchanged 0 1 two.controller two.host two.to_controller two.to_host t.0 in
-    let u = lives_tick_here 0 three (ap (λ (e : EndState). e.session.probe) host ∙ far_probe) (ap (λ (e : EndState). e.due) host ∙ other)
-    (no_due two.controller t.2) t.1 lasts_three v in
-    let four : Link = ticks_here three in
-    record { lasts = lasts_exchanged 0 0 four.controller four.host four.to_controller four.to_host u.0; goes_on = u.1 }
-
-lives : (l : Link) (e : LinkEvent) → Stays l → Lives l → Lives (happens l e)
-lives l (AtController e) s k = lives_here l e s k
-lives l (AtHost e) s k = lives_exchanged (happens_here (exchanged l) e) (lives_here (exchanged l) e (stays_exchanged l s) (lives_exchanged l k))
-lives l Tick s k = lives_tick l s k
-
-lives_after : (events : List LinkEvent) (l : Link) → Stays l → Lives l → Lives (after l events)
-lives_after [] l s k = k
-lives_after (e ∷ es) l s k = lives_after es (happens l e) (stays_after (e ∷ []) l s) (lives l e s k)
-
-lives_start : Lives start
-lives_start v =
+alive_aged : (c h : Half) (n : Losses) (l : Link) → IsAlive 0 0 c h l → (noted_aged n l).lost ≡ false → IsAlive 1 1 c h (aged l)
+alive_aged c h n l a v =
+    let s = l.controller.side.session in
+    let t = l.host.side.session in
+    let near_sans = sans_all l.to_controller s.acked (length t.acc) a.lasts.near_marks a.lasts.near_shows a.lasts.near_sends.counts in
+    let far_sans = sans_all l.to_host t.acked (length s.acc) a.lasts.far_marks a.lasts.far_shows a.lasts.far_sends.counts in
+    let x : Bool = loses_aged (sans l.to_controller) in
+    let y : Bool = loses_aged (sans l.to_host) in
+    let parts = or_parts (n.lost || x) y v in
+    let first = or_parts n.lost x parts.0 in
+    let near = aged_is_older l.to_controller (rw near_sans at first.1) a.lasts.near_young in
+    let far = aged_is_older l.to_host (rw far_sans at parts.1) a.lasts.far_young in
     record {
-      lasts = record {
-        near_up = refl;
-        far_up = refl;
-        near_due = tt;
-        far_due = tt;
-        near_marks = [];
-        far_marks = [];
-        near_shows = tt;
-        far_shows = tt;
-        near_young = tt;
-        far_young = tt;
-        near_sends = fresh;
-        far_sends = fresh;
-        near_timely = timely;
-        far_timely = timely;
-      };
-      goes_on = refl;
+      lasts = rw (near.0, far.0)
+          (lasts_older l.controller.side l.host.side l.to_controller l.to_host (no_due l.controller.side a.near_idle) (no_due l.host.side a.far_idle) near.1 far.1
+          a.lasts);
+      near_idle = a.near_idle;
+      far_idle = a.far_idle;
+      near = a.near;
+      far = a.far;
+    }
+
+alive_ticks : (kf : ℕ) (c h : Half) (n : Losses) (l : Link) (ts : List Turn) → IsAlive 1 kf c h l → (noted_tick n (Some ts) l).lost ≡ false
+    → IsAlive 0 kf c h (ticks_here l ts)
+alive_ticks kf c h n l ts a v =
+    by (is_some (tick_answer e).ended) (ap is_some t.1)
+    (λ w. alive_turned kf c h n l ts (ticked e) t.0 (omega (arith, none)) a.far_idle a.near a.far w) v
+  where
+    e : EndState
+    e = l.controller.side
+
+    t : Lasts 0 kf (ticked e) l.host.side l.to_controller l.to_host × ((tick_answer e).ended ≡ None)
+    t = lasts_ticked kf e l.host.side l.to_controller l.to_host (no_probe 1 kf e l.host.side l.to_controller l.to_host a.near_idle a.lasts)
+        (no_due l.host.side a.far_idle) a.lasts
+
+    none : length (ticked e).due ≡ 0
+    none = ap length (ticked-due e a.lasts.near_up (omega (arith, a.lasts.near_timely.most)) ∙ no_due e a.near_idle)
+
+    Goes : Bool → Type 0
+    Goes ended = (noted_out n (with_ended l ended) (turned (ticked e) ts)).lost ≡ false → IsAlive 0 kf c h (becomes (with_ended l ended) (turned (ticked e) ts))
+
+    by : (ended : Bool) → ended ≡ false → Goes false → Goes ended
+    by true p g = absurd (true≢false p)
+    by false p g = g
+
+turns_lost : (es : List EndEvent) (n : Losses) (l : Link) → AreTurns es → (noted_turns n l es).lost ≡ false → n.lost ≡ false
+turns_lost [] n l a v = v
+turns_lost (Turns ts ∷ es) n l a v =
+    out_lost (frames_of most_frames (turned l.controller.side ts)) n l (turns_lost es (noted_here n l (Turns ts)) (happens_here l (Turns ts)) a v)
+turns_lost (_ ∷ es) n l a v = absurd a
+
+alive_all : (es : List EndEvent) (kf : ℕ) (c h : Half) (n : Losses) (l : Link) → AreTurns es → IsAlive 0 kf c h l → (noted_turns n l es).lost ≡ false
+    → IsAlive 0 kf c h (all_here l es)
+alive_all [] kf c h n l a k v = k
+alive_all (Turns ts ∷ es) kf c h n l a k v =
+    alive_all es kf c h (noted_here n l (Turns ts)) (happens_here l (Turns ts)) a
+    (alive_turns kf c h n l ts k (turns_lost es (noted_here n l (Turns ts)) (happens_here l (Turns ts)) a v)) v
+alive_all (_ ∷ es) kf c h n l a k v = absurd a
+
+alive_tick : (c h : Half) (n : Losses) (l : Link) (ts : List Turn) (es : List EndEvent) (us : List Turn) → AreTurns es → IsAlive 0 0 c h l
+    → (noted_event n l (Tick (Some ts) es (Some us))).lost ≡ false → IsAlive 0 0 c h (happens l (Tick (Some ts) es (Some us)))
+alive_tick c h n l ts es us a k v =
+    let one : Link = aged l in
+    let two : Link = ticks_here one ts in
+    let three : Link = exchanged (all_here two es) in
+    let n_one : Losses = noted_aged n l in
+    let n_two : Losses = noted_tick n_one (Some ts) one in
+    let n_three : Losses = noted_turns n_two two es in
+    let v_three : n_three.lost ≡ false = ticks_lost n_three us three v in
+    let v_two : n_two.lost ≡ false = turns_lost es n_two two a v_three in
+    let v_one : n_one.lost ≡ false = ticks_lost n_one ts one v_two in
+    let k_two = alive_ticks 1 c h n_one one ts (alive_aged c h n l k v_one) v_two in
+    let k_three = alive_exchanged 0 1 c h (all_here two es) (alive_all es 1 c h n_two two a k_two v_three) in
+    alive_exchanged 0 0 h c (ticks_here three us) (alive_ticks 0 h c n_three three us k_three v)
+  where
+    ticks_lost : (n : Losses) (ts : List Turn) (l : Link) → (noted_tick n (Some ts) l).lost ≡ false → n.lost ≡ false
+    ticks_lost n ts l w = out_lost (frames_of most_frames (turned (ticked l.controller.side) ts)) n (with_ended l (is_some (tick_answer l.controller.side).ended)) w
+
+-- ## Events
+
+alive_here : (c h : Half) (n : Losses) (l : Link) (e : EndEvent) → IsPlainHere e → IsAlive 0 0 c h l → (noted_here n l e).lost ≡ false
+    → IsAlive 0 0 c h (happens_here l e)
+alive_here c h n l (Turns ts) p a v = alive_turns 0 c h n l ts a v
+alive_here c h n l (Deliver ts) p a v = alive_takes c h n l ts a v
+alive_here c h n l (_) p a v = absurd p
+
+alive_event : (c h : Half) (n : Losses) (l : Link) (e : LinkEvent) → IsPlain e → IsAlive 0 0 c h l → (noted_event n l e).lost ≡ false
+    → IsAlive 0 0 c h (happens l e)
+alive_event c h n l (AtController e) p a v = alive_here c h n l e p a v
+alive_event c h n l (AtHost e) p a v =
+    alive_exchanged 0 0 h c (happens_here (exchanged l) e) (alive_here h c n (exchanged l) e p (alive_exchanged 0 0 c h l a) v)
+alive_event c h n l (Tick (Some ts) es (Some us)) p a v = alive_tick c h n l ts es us p a v
+alive_event c h n l (Tick (Some ts) es None) p a v = absurd p
+alive_event c h n l (Tick None es d) p a v = absurd p
+alive_event c h n l (TickWithout es d) p a v = absurd p
+
+alive_after : (events : List LinkEvent) (c h : Half) (n : Losses) (l : Link) → AllPlain events
+    → ((front : List LinkEvent) → IsPrefix front events → (losses_after n l front).lost ≡ false) → IsAlive 0 0 c h l → IsAlive 0 0 c h (after l events)
+alive_after [] c h n l p none a = a
+alive_after (e ∷ es) c h n l p none a =
+    alive_after es c h (noted_event n l e) (happens l e) p.1 (λ front is. none (e ∷ front) (is.0, ap (λ (r : List LinkEvent). e ∷ r) is.1))
+    (alive_event c h n l e p.0 a (none (e ∷ []) (es, refl)))
+
+-- ## A new session
+
+anew_lasts : (n f : EndState) → IsAnew n → IsAnew f → Lasts 0 0 n f [] []
+anew_lasts n f g k =
+    record {
+      near_up = g.up;
+      far_up = k.up;
+      near_due = rw g.due tt;
+      far_due = rw k.due tt;
+      near_marks = [];
+      far_marks = [];
+      near_shows = tt;
+      far_shows = tt;
+      near_young = tt;
+      far_young = tt;
+      near_sends = rw (g.session, k.session) (flows_new g.window g.fits.0 g.fits.1);
+      far_sends = rw (g.session, k.session) (flows_new k.window k.fits.0 k.fits.1);
+      near_timely = rw (g.session, k.session, g.timer, g.tries, k.due) (timely g.window);
+      far_timely = rw (g.session, k.session, k.timer, k.tries, g.due) (timely k.window);
     }
   where
-    fresh : Flows [] 4 0 0 0 [] [] []
-    fresh =
-        record {
-          window = omega arith;
-          wide = omega arith;
-          acked_next = omega arith;
-          next_reach = omega arith;
-          reach_out = omega arith;
-          reach_window = omega arith;
-          front = ([], refl);
-          sent = omega arith;
-          counts = omega arith;
-          places = tt;
-        }
-
-    timely : Timely 0 (new_session 4) 0 0 [] [] [] [] [] []
-    timely =
+    timely : (w : ℕ) → Timely 0 (new_session w) 0 0 [] [] [] [] [] []
+    timely w =
         record {
           told = λ e. refl;
           known = tt;
@@ -201,5 +345,38 @@ lives_start v =
           tried = λ e. absurd (omega arith);
         }
 
-pub alive : (events : List LinkEvent) → (after start events).lost ≡ false → (after start events).ended ≡ false
-alive events v = (lives_after events start stays_start lives_start v).goes_on
+begins_alive : (l : Link) → BeginsAnew l → IsAlive 0 0 l.controller l.host l
+begins_alive l b =
+    record {
+      lasts = rw (b.to_controller, b.to_host) (anew_lasts l.controller.side l.host.side b.controller b.host);
+      near_idle = anew_idle l.controller.side b.controller;
+      far_idle = anew_idle l.host.side b.host;
+      near = record { emitted = refl; took = refl; past = refl };
+      far = record { emitted = refl; took = refl; past = refl };
+    }
+  where
+    anew_idle : (e : EndState) → IsAnew e → frame_due e ≡ None
+    anew_idle e a = rw (a.due, a.session, none_due a.window) refl
+
+goes_on : (before now : Half) → now.side.phase ≡ Up → Keeps before now → GoesOn before now
+goes_on before now up k = record { up = up; number = rw (k.emitted, k.took) refl; past = k.past }
+
+pub alive_at_controller : (l : Link) → BeginsAnew l → (events : List LinkEvent) → AllPlain events → LosesNone l events → GoesOn l.controller (after l events).controller
+alive_at_controller l b events plain none =
+    let a = alive_after events l.controller l.host no_losses l plain none (begins_alive l b) in
+    goes_on l.controller (after l events).controller a.lasts.near_up a.near
+
+pub alive_at_host : (l : Link) → BeginsAnew l → (events : List LinkEvent) → AllPlain events → LosesNone l events → GoesOn l.host (after l events).host
+alive_at_host l b events plain none =
+    let a = alive_after events l.controller l.host no_losses l plain none (begins_alive l b) in
+    goes_on l.host (after l events).host a.lasts.far_up a.far
+
+start_anew : BeginsAnew start
+start_anew = record { controller = anew; host = anew; to_controller = refl; to_host = refl }
+  where
+    anew : IsAnew (begun (new_end 4))
+    anew = record { up = refl; due = refl; timer = refl; tries = refl; window = 4; fits = (omega arith, omega arith); session = refl }
+
+pub alive_from_start : (events : List LinkEvent) → AllPlain events → LosesNone start events
+    → GoesOn start.controller (after start events).controller × GoesOn start.host (after start events).host
+alive_from_start events plain none = (alive_at_controller start start_anew events plain none, alive_at_host start start_anew events plain none)

@@ -1,10 +1,18 @@
 //! The law of a link whose frames are all taken within their life. There is no code here that runs.
 #![tactic(auto)]
 
-ghost use Rattle.std.specs.Prelude.{◌≡◌, false, List};
-ghost use Rattle.link_laws.specs.Link.{LinkEvent, after, start};
+ghost use Rattle.std.specs.Prelude.{◌≡◌, [], List};
+ghost use Rattle.shdlc_core.specs.declared.answers.LinkState.TheVariants.{Up};
+ghost use Rattle.session_laws.specs.Sessions.{Link, LinkEvent, after, number_of, start};
+ghost use Rattle.lifetime_laws.specs.Lifetime.{AllPlain, BeginsAnew, GoesOn, LosesNone};
 
-/// Where no frame was lost, by its age among others, no end gives up: no session ends.
+/// From where a session is new at both ends on, and as long as no frame is lost, by its age among others, and only turns, frames
+/// that are taken and ticks happen, no end gives up: both ends stay up in it.
 pub fn no_end_gives_up()
-    ensures { (events : List LinkEvent) → (after start events).lost ≡ false → (after start events).ended ≡ false }
+    ensures controller { (l : Link) → BeginsAnew l → (events : List LinkEvent) → AllPlain events → LosesNone l events →
+        GoesOn l.controller (after l events).controller }
+    ensures host { (l : Link) → BeginsAnew l → (events : List LinkEvent) → AllPlain events → LosesNone l events →
+        GoesOn l.host (after l events).host }
+    ensures from_start { (events : List LinkEvent) → AllPlain events → LosesNone start events →
+        GoesOn start.controller (after start events).controller × GoesOn start.host (after start events).host }
 {}

@@ -1,5 +1,5 @@
 -- What one sender, its receiver and the wires between them have to do with each other at every moment.
-use Rattle.std.proofs.Common.{◌≡◌, ℕ, ◌+◌, ◌<◌, ◌≤◌, List, [], ◌∷◌, ◌++◌, Some, ap, sym, subst, ◌∙◌, arith, length, max, length-append, append_assoc}
+use Rattle.std.proofs.Common.{◌≡◌, ℕ, ◌+◌, ◌<◌, ◌≤◌, List, [], ◌∷◌, ◌++◌, Some, refl, ap, sym, subst, ◌∙◌, arith, length, max, length-append, append_assoc}
 use Rattle.std.specs.Prelude.{slice_get}
 use Rattle.std.proofs.lemmas.Option.{slice_get_within}
 use mathlib.Core.List.{IsPrefix}
@@ -22,6 +22,22 @@ pub record Flows (out : List Fragment) (w a s m : ℕ) (acc : List Fragment) (th
   pub sent : length acc ≤ m
   pub counts : Counts a (length acc) back
   pub places : Places out (length acc) m there
+
+-- a new session
+pub flows_new : (w : ℕ) → 0 < w → w ≤ 4 → Flows [] w 0 0 0 [] [] []
+flows_new w wide most =
+    record {
+      window = most;
+      wide = wide;
+      acked_next = omega arith;
+      next_reach = omega arith;
+      reach_out = omega arith;
+      reach_window = omega arith;
+      front = ([], refl);
+      sent = omega arith;
+      counts = omega arith;
+      places = tt;
+    }
 
 -- more is offered
 pub flows_put : (out more : List Fragment) (w a s m : ℕ) (acc : List Fragment) (there back : List Control)

@@ -118,7 +118,7 @@ meets_up : (n : Losses) (l : Link) → l.controller.side.phase ≡ Up → TiedLi
 meets_up n l up t w b q =
     to_up (λ e. Meets e (as_up l.host.side.phase l.host.side) (sans l.to_controller) b) l.controller.side up (t (inr w) (sans l.to_controller) b (rw up refl) q)
 
-few_room : (e : EndState) → length e.due ≤ 1 → room e ≤ 2
+pub few_room : (e : EndState) → length e.due ≤ 1 → room e ≤ 2
 few_room e i = omega (arith, i, at_most_one e.session.answered_rnr)
 
 -- the link after it became e, had its turns and sent what is due
@@ -319,7 +319,7 @@ took_tied n l ts x xs q began a b h = rw (a, b) (go (is_some (take_answer l.cont
     go true = h (record l.controller { took = t; past = (number_of l.controller, l.controller.side.session) ∷ l.controller.past }) refl refl
     go false = h (record l.controller { took = t }) refl refl
 
-began_data : (e : EndState) (c : Control) → IsData c → (take_answer e c).began ≡ false
+pub began_data : (e : EndState) (c : Control) → IsData c → (take_answer e c).began ≡ false
 began_data e c d = go e.phase refl c d
   where
     go : (p : LinkState) → e.phase ≡ p → (c : Control) → IsData c → (take_answer e c).began ≡ false

@@ -11,7 +11,7 @@ use Rattle.shdlc_core.specs.declared.answers.Due.{Due}
 use Rattle.shdlc_core.specs.declared.answers.Due.TheVariants.{Rr as Rr_due, Rej as Rej_due, Rnr as Rnr_due, Rset as Rset_due, Ua as Ua_due}
 use Rattle.shdlc_core.specs.Machine.{EndState, Fragment, new_session, fetched, frame_due, fragment_due, control_due, expected, frames_of, after_frames, put_out, with_ready}
 use Rattle.link_laws.specs.Wire.{with_frame, is_rnr}
-use Rattle.link_laws.proofs.Flows.{Flows}
+use Rattle.link_laws.proofs.Flows.{flows_new}
 use Rattle.link_laws.proofs.Whole.{AnswersOnly, Whole}
 use Rattle.link_laws.proofs.Joined.{Joined, joined_exchanged, joined_older, joined_fetched, joined_put, joined_ready, ready_cases, fetch_cases}
 use Rattle.link_laws.proofs.Idle.{fetched_idle, after_frames_idle, left, idle_after}
@@ -132,8 +132,8 @@ new_meets n f g h =
         far_marks = [];
         near_shows = tt;
         far_shows = tt;
-        near_sends = rw (g.session, h.session) (flows g.window g.fits.0 g.fits.1);
-        far_sends = rw (g.session, h.session) (flows h.window h.fits.0 h.fits.1);
+        near_sends = rw (g.session, h.session) (flows_new g.window g.fits.0 g.fits.1);
+        far_sends = rw (g.session, h.session) (flows_new h.window h.fits.0 h.fits.1);
         near_whole = λ v d. rw (g.session, h.session) (whole g.window f.due);
         far_whole = λ v d. rw (g.session, h.session) (whole h.window n.due);
       };
@@ -143,21 +143,6 @@ new_meets n f g h =
   where
     whole : (w : ℕ) (d : List Due) → Whole (new_session w) [] d [] []
     whole w d = record { caught = refl; told = λ e. refl; free = refl; acks = tt }
-
-    flows : (w : ℕ) → 0 < w → w ≤ 4 → Flows [] w 0 0 0 [] [] []
-    flows w wide most =
-        record {
-          window = most;
-          wide = wide;
-          acked_next = omega arith;
-          next_reach = omega arith;
-          reach_out = omega arith;
-          reach_window = omega arith;
-          front = ([], refl);
-          sent = omega arith;
-          counts = omega arith;
-          places = tt;
-        }
 
 pub tied_new : (W : Type 0) (n f : EndState) (to_n to_f : List OnWire) → IsNew (as_up n.phase n) → IsNew (as_up f.phase f)
     → ((a : List OnWire) → live n.phase to_n ≡ Some a → a ≡ []) → ((b : List OnWire) → live f.phase to_f ≡ Some b → b ≡ []) → Tied W n f to_n to_f
@@ -288,7 +273,7 @@ keeps_each G n e v c is k =
     (fetched-phase e ∙ k.0, fetched_answers e k.1, rw (not_rset c (inl d.0)) r)
 
 -- what each frame that is due keeps, as the end sends it, all of them keep
-sends_noted : (P : Losses → EndState → Link → Type 0)
+pub sends_noted : (P : Losses → EndState → Link → Type 0)
     → ((n : Losses) (e : EndState) (l : Link) (c : Control) → frame_due e ≡ Some c → P n e l → P (noted n l c) (fetched e) (put l c))
     → (m : ℕ) (n : Losses) (e : EndState) (l : Link) → P n e l → P (noted_all n l (frames_of m e)) (after_frames m e) (put_all l (frames_of m e))
 sends_noted P each zero n e l h = h
@@ -332,43 +317,59 @@ answers_more (Rnr_due ∷ ds) a = answers_more ds a
 answers_more (Rset_due ∷ ds) a = absurd a
 answers_more (Ua_due ∷ ds) a = absurd a
 
-turn_keeps : (n : Losses) (e : EndState) (t : Turn) (l : Link) → Keeps (Unit {0}) n e l → room e ≤ 2 → Keeps (Unit {0}) n (turn e t) l × (room (turn e t) ≤ 2)
-turn_keeps n e (Offer fragments) l k few =
-    let is : turn e (Offer fragments) ≡ put_out e fragments = rw k.0 refl in
-    let P : EndState → Type 0 = λ f. Keeps (Unit {0}) n f l × (room f ≤ 2) in
-    subst P (sym is) (
-      (
-        k.0,
-        k.1,
-        λ w b q. let r = k.2 w b q in
-            (joined_put (Unit {0}) e (as_up l.host.side.phase l.host.side) (sans l.to_controller) b fragments r.0, r.1, tt),
-      ),
-      few,
+-- an end that is up is given fragments
+pub offer_up : (e : EndState) (fragments : List Fragment) → e.phase ≡ Up → turn e (Offer fragments) ≡ put_out e fragments
+offer_up e fragments up = rw up refl
+
+pub turn-phase : (e : EndState) (t : Turn) → (turn e t).phase ≡ e.phase
+turn-phase e (SetReady r) = ready-phase e r
+turn-phase e (Offer fragments) = go e.phase refl
+  where
+    go : (p : LinkState) → e.phase ≡ p → (turn e (Offer fragments)).phase ≡ e.phase
+    go Up q = rw q refl
+    go Waiting q = rw q refl
+    go Down q = rw q refl
+
+-- turns leave few answers to send
+few_turn : (e : EndState) (t : Turn) → e.phase ≡ Up → room e ≤ 2 → room (turn e t) ≤ 2
+few_turn e (Offer fragments) up few = let P : EndState → Type 0 = λ f. room f ≤ 2 in subst P (sym (offer_up e fragments up)) few
+few_turn e (SetReady r) up few =
+    ready_by (λ f. room f ≤ 2) e r (inr up) (λ no. absurd (no up)) few (omega (arith, few))
+    (λ up noted. let j : length (e.due ++ Rr_due ∷ []) ≡ length e.due + 1 = length-append e.due (Rr_due ∷ []) in let i = rw noted at few in omega arith)
+
+pub few_turns : (ts : List Turn) (e : EndState) → e.phase ≡ Up → room e ≤ 2 → room (turned e ts) ≤ 2
+few_turns [] e up few = few
+few_turns (t ∷ ts) e up few = few_turns ts (turn e t) (turn-phase e t ∙ up) (few_turn e t up few)
+
+turn_keeps : (n : Losses) (e : EndState) (t : Turn) (l : Link) → Keeps (Unit {0}) n e l → Keeps (Unit {0}) n (turn e t) l
+turn_keeps n e (Offer fragments) l k =
+    let P : EndState → Type 0 = λ f. Keeps (Unit {0}) n f l in
+    subst P (sym (offer_up e fragments k.0)) (
+      k.0,
+      k.1,
+      λ w b q. let r = k.2 w b q in
+          (joined_put (Unit {0}) e (as_up l.host.side.phase l.host.side) (sans l.to_controller) b fragments r.0, r.1, tt),
     )
-turn_keeps n e (SetReady r) l k few = (
-  (
-    ready-phase e r ∙ k.0,
-    ready_cases (λ f. AnswersOnly f.due) e r k.1 k.1 (answers_more e.due k.1),
-    λ w b q. let g = k.2 w b q in
-        (joined_ready (Unit {0}) e (as_up l.host.side.phase l.host.side) (sans l.to_controller) b r g.0, g.1, tt),
-  ),
-  ready_by (λ f. room f ≤ 2) e r (inr k.0) (λ no. absurd (no k.0)) few (omega (arith, few))
-      (λ up noted. let j : length (e.due ++ Rr_due ∷ []) ≡ length e.due + 1 = length-append e.due (Rr_due ∷ []) in let i = rw noted at few in omega arith),
+turn_keeps n e (SetReady r) l k = (
+  ready-phase e r ∙ k.0,
+  ready_cases (λ f. AnswersOnly f.due) e r k.1 k.1 (answers_more e.due k.1),
+  λ w b q. let g = k.2 w b q in
+      (joined_ready (Unit {0}) e (as_up l.host.side.phase l.host.side) (sans l.to_controller) b r g.0, g.1, tt),
 )
 
-turns_keep : (n : Losses) (ts : List Turn) (e : EndState) (l : Link) → Keeps (Unit {0}) n e l → room e ≤ 2
-    → Keeps (Unit {0}) n (turned e ts) l × (room (turned e ts) ≤ 2)
-turns_keep n [] e l k few = (k, few)
-turns_keep n (t ∷ ts) e l k few = let one = turn_keeps n e t l k few in turns_keep n ts (turn e t) l one.0 one.1
+turns_keep : (n : Losses) (ts : List Turn) (e : EndState) (l : Link) → Keeps (Unit {0}) n e l → Keeps (Unit {0}) n (turned e ts) l
+turns_keep n [] e l k = k
+turns_keep n (t ∷ ts) e l k = turns_keep n ts (turn e t) l (turn_keeps n e t l k)
 
 -- an end that is up, and has few answers to send, has its turns
 pub drains : (m : ℕ) → 6 ≤ m → (n : Losses) (ts : List Turn) (l : Link) (e : EndState) → e.phase ≡ Up → AnswersOnly e.due → room e ≤ 2
     → Rests (Unit {0}) (IsWhole n) e l.host.side (sans l.to_controller) (sans l.to_host)
     → TiedLink (noted_all n l (frames_of m (turned e ts))) (with_controller (put_all l (frames_of m (turned e ts))) (after_frames m (turned e ts)))
 drains m i n ts l e up answers few h =
-    let k = turns_keep n ts e l (up, answers, h) few in
+    let k = turns_keep n ts e l (up, answers, h) in
+    let f = few_turns ts e up few in
     tied_drains m n (turned e ts) l
-    (k.0.0, k.0.1, λ w b q. let r = k.0.2 w b q in (r.0, r.1, omega (arith, i, k.1, r.0.near_sends.acked_next, r.0.near_sends.window)))
+    (k.0, k.1, λ w b q. let r = k.2 w b q in (r.0, r.1, omega (arith, i, f, r.0.near_sends.acked_next, r.0.near_sends.window)))
 
 -- an end with nothing to send
 nothing_sent : (m : ℕ) (e : EndState) → frame_due e ≡ None → frames_of m e ≡ []
@@ -433,15 +434,6 @@ put_all-to_controller (c ∷ cs) l = put_all-to_controller cs (put l c) ∙ put-
 pub tied_none : (m : ℕ) (n : Losses) (l : Link) (e : EndState) → live e.phase (sans l.to_controller) ≡ None
     → TiedLink (noted_all n l (frames_of m e)) (with_controller (put_all l (frames_of m e)) (after_frames m e))
 tied_none m n l e none w a b p q = absurd (let z : None ≡ Some a = sym (rw (after_frames-phase m e, put_all-to_controller (frames_of m e) l) none) ∙ p in cc)
-
-pub turn-phase : (e : EndState) (t : Turn) → (turn e t).phase ≡ e.phase
-turn-phase e (SetReady r) = ready-phase e r
-turn-phase e (Offer fragments) = go e.phase refl
-  where
-    go : (p : LinkState) → e.phase ≡ p → (turn e (Offer fragments)).phase ≡ e.phase
-    go Up q = rw q refl
-    go Waiting q = rw q refl
-    go Down q = rw q refl
 
 pub turned-phase : (ts : List Turn) (e : EndState) → (turned e ts).phase ≡ e.phase
 turned-phase [] e = refl

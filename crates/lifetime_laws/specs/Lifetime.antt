@@ -1,0 +1,58 @@
+-- A new session in which only the two nodes have their turns, frames are taken and time passes, and what goes on then.
+use Rattle.std.specs.Prelude.{◌≡◌, ℕ, ◌<◌, ◌≤◌, false, List, [], ◌∷◌, Some}
+use mathlib.Core.List.{IsPrefix}
+use Rattle.shdlc_core.specs.declared.answers.LinkState.TheVariants.{Up}
+use Rattle.shdlc_core.specs.Machine.{EndState, new_session}
+use Rattle.session_laws.specs.Losses.{no_losses, losses_after}
+use Rattle.session_laws.specs.Sessions.{Half, Link, number_of, EndEvent, LinkEvent}
+use Rattle.session_laws.specs.Sessions.EndEvent.{Turns, Deliver}
+use Rattle.session_laws.specs.Sessions.LinkEvent.{AtController, AtHost, Tick}
+
+-- the end has a new session, and sent and took nothing in it
+pub record IsAnew (e : EndState) : Type 0 where
+  pub up : e.phase ≡ Up
+  pub due : e.due ≡ []
+  pub timer : e.timer ≡ 0
+  pub tries : e.tries ≡ 0
+  pub window : ℕ
+  pub fits : (0 < window) × (window ≤ 4)
+  pub session : e.session ≡ new_session window
+
+-- so have both ends, and nothing is on its way
+pub record BeginsAnew (l : Link) : Type 0 where
+  pub controller : IsAnew l.controller.side
+  pub host : IsAnew l.host.side
+  pub to_controller : l.to_controller ≡ []
+  pub to_host : l.to_host ≡ []
+
+-- its node has turns
+abbrev pub AreTurns : List EndEvent → Type 0
+AreTurns [] = Unit {0}
+AreTurns (Turns ts ∷ es) = AreTurns es
+AreTurns (_ ∷ es) = ⊥
+
+-- an end takes a frame, or its node has turns; where time passes each end has its tick, the controller's with turns behind it
+abbrev pub IsPlainHere : EndEvent → Type 0
+IsPlainHere (Turns ts) = Unit {0}
+IsPlainHere (Deliver ts) = Unit {0}
+IsPlainHere _ = ⊥
+
+abbrev pub IsPlain : LinkEvent → Type 0
+IsPlain (AtController e) = IsPlainHere e
+IsPlain (AtHost e) = IsPlainHere e
+IsPlain (Tick (Some ts) turns (Some us)) = AreTurns turns
+IsPlain _ = ⊥
+
+abbrev pub AllPlain : List LinkEvent → Type 0
+AllPlain [] = Unit {0}
+AllPlain (e ∷ es) = IsPlain e × AllPlain es
+
+-- at no moment of these events a frame was lost
+abbrev pub LosesNone : Link → List LinkEvent → Type 0
+LosesNone l events = (front : List LinkEvent) → IsPrefix front events → (losses_after no_losses l front).lost ≡ false
+
+-- the end is up in the same session as before, and no other has ended
+pub record GoesOn (before now : Half) : Type 0 where
+  pub up : now.side.phase ≡ Up
+  pub number : number_of now ≡ number_of before
+  pub past : now.past ≡ before.past
