@@ -11,11 +11,7 @@ use Rattle.shdlc_core.specs.Machine.{Fragment}
 use Rattle.link_laws.specs.Wire.{OnWire, older, with_frame}
 use Rattle.link_laws.proofs.Marks.{Shows, last_count}
 use Rattle.link_laws.proofs.Whole.{AnswersOnly}
-
--- no frame on the wire is more than b ticks old, and none is older than those in front of it
-abbrev pub Young : ℕ → List OnWire → Type 0
-Young b [] = Unit {0}
-Young b (x ∷ xs) = (x.age ≤ b) × Young x.age xs
+use Rattle.session_laws.proofs.Wire.{Young, young_later}
 
 -- this answer acknowledges the place a, or makes the sender's timer start again
 abbrev pub Answers : ℕ → Control → Type 0
@@ -99,18 +95,6 @@ answer_new a t [] [] c m e i h = inl (e, omega arith)
 answer_new a t [] (_ ∷ ms) c m e i h = absurd h
 answer_new a t (x ∷ xs) [] c m e i h = absurd h
 answer_new a t (x ∷ xs) (k ∷ ms) c m e i h = inr (answer_new a t xs ms c m e i h.1)
-
-pub young_push : (b : ℕ) (wire : List OnWire) (c : Control) → Young b wire → Young b (with_frame wire c)
-young_push b [] c h = (omega arith, tt)
-young_push b (x ∷ xs) c h = (h.0, young_push x.age xs c h.1)
-
-pub young_later : (b c : ℕ) (wire : List OnWire) → b ≤ c → Young b wire → Young c wire
-young_later b c [] i h = tt
-young_later b c (x ∷ xs) i h = (omega (arith, h.0), h.1)
-
-pub young_older : (b : ℕ) (wire : List OnWire) → Young b wire → Young (b + 1) (older wire)
-young_older b [] h = tt
-young_older b (x ∷ xs) h = (omega (arith, h.0), young_older x.age xs h.1)
 
 -- ## Wires that grow older
 

@@ -1,8 +1,8 @@
 -- Two ends that are Up in one session and the wires between them, where nothing was lost: how each thing that one end does
 -- keeps its timer in time.
-use Rattle.std.proofs.Common.{◌≡◌, ℕ, zero, suc, ◌+◌, ◌%◌, ◌<◌, ◌≤◌, ◌==◌, Bool, true, false, ◌&&◌, ◌||◌, not, List, [], ◌∷◌, ◌++◌, Some, None, refl, sym, ◌∙◌, ◌⊎◌, inl, inr, arith, length, length-append, max}
+use Rattle.std.proofs.Common.{◌≡◌, ℕ, ◌+◌, ◌%◌, ◌<◌, ◌≤◌, ◌==◌, Bool, true, false, ◌&&◌, ◌||◌, not, List, [], ◌∷◌, ◌++◌, Some, None, refl, sym, ◌∙◌, ◌⊎◌, inl, inr, arith, length, length-append, max}
 use Rattle.std.specs.Prelude.{slice_get, nat_lt}
-use Rattle.std.proofs.lemmas.Bool.{eq-eqb, ne_eqb, ltb-true, ltb-false, lt-ltb, le-ltb, and_parts, and_from, or_parts, or_cases, or_right, cases_eq, cases_order, true≢false, not-true}
+use Rattle.std.proofs.lemmas.Bool.{eq-eqb, ne_eqb, ltb-true, ltb-false, lt-ltb, le-ltb, and_parts, and_from, or_parts, or_cases, or_right, cases_order, true≢false, not-true}
 use Rattle.std.proofs.lemmas.Option.{slice_get_within}
 use Rattle.swp_base.specs.declared.control_frames.Kind.{Kind}
 use Rattle.swp_base.specs.declared.control_frames.Kind.TheVariants.{Rr, Rej, Rnr, Srej}
@@ -13,12 +13,14 @@ use Rattle.shdlc_core.specs.declared.answers.Due.{Due}
 use Rattle.shdlc_core.specs.declared.answers.Due.TheVariants.{Rr as Rr_due, Rej as Rej_due, Rnr as Rnr_due, Rset as Rset_due, Ua as Ua_due}
 use Rattle.shdlc_core.specs.Machine.{EndState, Session, Fragment, place_of, acknowledged, ahead, accepted, repeated, discarded, taken, take_answer, ticked, tick_answer, sent_again, with_ready, put_out, fetched, frame_due, fragment_due, expected, control_due, sent_next, ready_again, rejected, made_busy, runs_timer}
 use Rattle.link_laws.specs.Wire.{OnWire, older, with_frame}
-use Rattle.link_laws.proofs.Numbers.{place_found, ahead_same, ahead_other, ahead_repeat}
+use Rattle.link_laws.proofs.Numbers.{place_found, ahead_same, ahead_other}
 use Rattle.link_laws.proofs.Marks.{Shows, counts_le, shows_push, shows_older}
 use Rattle.link_laws.proofs.Flows.{Flows, flows_put, flows_send, flows_send_S, flows_answer, flows_move, flows_number, flows_acked, flows_accept, flows_past}
 use Rattle.link_laws.proofs.Whole.{AnswersOnly, answers_push, push_not_empty}
-use Rattle.link_laws.proofs.Joined.{Sends, changed, ready_cases, received_cases, taken_I, taken_S, fetch_cases, fragment_due_tells, with_next}
-use Rattle.lifetime_laws.proofs.Evidence.{Young, Answers, DueBy, RewindDue, RewindBy, NoSrej, course_of, young_push, young_later, due_push, due_more, due_new_rr, due_new_rnr, rewind_due_push, rewind_due_rnr}
+use Rattle.link_laws.proofs.Delivered.{past_end}
+use Rattle.link_laws.proofs.Joined.{Sends, changed, ready_cases, received_cases, taken_I, taken_S, answer_I, answer_S, not_expected, gap_behind, fetch_cases, fragment_due_tells, with_next}
+use Rattle.session_laws.proofs.Wire.{Young, young_push, young_later}
+use Rattle.lifetime_laws.proofs.Evidence.{Answers, DueBy, RewindDue, RewindBy, NoSrej, course_of, due_push, due_more, due_new_rr, due_new_rnr, rewind_due_push, rewind_due_rnr}
 use Rattle.lifetime_laws.proofs.Timely.{Timely, Evidence, timely_acked, timely_rewound, timely_received, timely_answer, timely_answer_I, timely_send, timely_send_S, timely_older, in_time, timely_counted, timely_still, timely_probe}
 
 -- kn and kf ticks have passed that the near and the far end have still to count
@@ -285,25 +287,6 @@ rr_stops e n i =
     let b : nat_lt n (max e.session.next n) ≡ false = le-ltb n (max e.session.next n) (omega arith) in
     rw b refl
 
-answer_I : (e : EndState) (ns nr : ℕ) (info : Fragment) → e.phase ≡ Up → (take_answer e (I ns nr info)).ended ≡ None
-answer_I e ns nr info up = rw up refl
-
-answer_S : (e : EndState) (k : Kind) (nr : ℕ) → e.phase ≡ Up → (take_answer e (S k nr)).ended ≡ None
-answer_S e k nr up = rw up refl
-
--- a place that isn't the one expected, and not ahead of it, is behind it
-not_expected : (s : Session) (p : ℕ) → (ahead s (p % 8) ≡ 0 → ⊥) → p ≤ length s.acc → p < length s.acc
-not_expected s p z b = go (cases_eq p (length s.acc))
-  where
-    go : (p ≡ length s.acc) ⊎ (p ≡ length s.acc → ⊥) → p < length s.acc
-    go (inl e) = absurd (z (ahead_same s p e))
-    go (inr n) = omega arith
-
-gap_behind : (s : Session) (p : ℕ) → (ahead s (p % 8) ≡ 0 → ⊥) → ahead s (p % 8) < 4 → p ≤ length s.acc → length s.acc ≤ p + 4 → ⊥
-gap_behind s p z g b i =
-    let behind : 4 ≤ ahead s (p % 8) = ahead_repeat s p (not_expected s p z b) i in
-    omega arith
-
 -- the receiver took a frame without a fragment
 past_S : (k : ℕ) (s : Session) (timer tries n : ℕ) (kind : Kind) (acc : List Fragment) (due : List Due)
     (x : OnWire) (there : List OnWire) (tm : List Control) (back : List OnWire) (bm : List Control)
@@ -509,11 +492,6 @@ lasts_taken near far x to_near to_far noprobe h = go h.near_marks h.near_shows h
 
 -- ## A frame is made
 
-past_end : {X : Type 0} (xs : List X) (k : ℕ) → slice_get xs k ≡ None → length xs ≤ k
-past_end [] k h = omega arith
-past_end (x ∷ xs) zero h = cc
-past_end (x ∷ xs) (suc k) h = omega (arith, past_end xs k h)
-
 -- where a fragment is due the sender may send: the other end isn't busy, or a probe goes out
 may_send : (s : Session) (info : Fragment) → fragment_due s ≡ Some info → (s.peer_busy ≡ false) ⊎ (s.probe ≡ true)
 may_send s info e = go ((not s.peer_busy || s.probe) && nat_lt s.next (s.acked + s.window)) refl
@@ -544,7 +522,7 @@ lasts_answered kn kf near far to_near to_far k d ds is due srej rewind answers h
       near_shows = h.near_shows;
       far_shows = shows_push to_far h.far_marks c (S k (length s.acc)) refl h.far_shows;
       near_young = h.near_young;
-      far_young = young_push 4 to_far c h.far_young;
+      far_young = young_push 4 to_far (record { frame = c; age = 0; number = 0 }) refl h.far_young;
       near_sends = flows_send_S s.out s.window s.acked s.next s.reached t.acc h.far_marks h.near_marks (length s.acc) k h.near_sends;
       far_sends = flows_answer t.out t.window t.acked t.next t.reached s.acc h.near_marks h.far_marks (S k (length s.acc)) refl h.far_sends;
       near_timely = timely_send_S kn s near.timer near.tries (length s.acc) k t.acc far.due c to_far h.far_marks to_near h.near_marks h.near_timely;
@@ -569,7 +547,7 @@ lasts_sent kf near far to_near to_far info is h =
       near_shows = h.near_shows;
       far_shows = shows_push to_far h.far_marks c (I s.next (length s.acc) info) refl h.far_shows;
       near_young = h.near_young;
-      far_young = young_push 4 to_far c h.far_young;
+      far_young = young_push 4 to_far (record { frame = c; age = 0; number = 0 }) refl h.far_young;
       near_sends = flows_send s.out s.window s.acked s.next s.reached t.acc h.far_marks h.near_marks (length s.acc) info tells.0 tells.1 h.near_sends;
       far_sends = flows_answer t.out t.window t.acked t.next t.reached s.acc h.near_marks h.far_marks (I s.next (length s.acc) info) refl h.far_sends;
       near_timely = timely_send s (sent_next s) near.timer near.tries (length s.acc) info t.acc far.due c to_far h.far_marks to_near h.near_marks

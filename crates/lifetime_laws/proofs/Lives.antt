@@ -16,12 +16,11 @@ use Rattle.session_laws.specs.Sessions.Turn.{Offer, SetReady}
 use Rattle.session_laws.specs.Sessions.EndEvent.{Turns, Deliver}
 use Rattle.session_laws.specs.Sessions.LinkEvent.{AtController, AtHost, Tick, TickWithout}
 use Rattle.session_laws.specs.Losses.{Losses, no_losses, noted, noted_all, noted_out, came_up, noted_here, noted_turns, noted_tick, noted_aged, noted_event, losses_after}
-use Rattle.session_laws.proofs.Wire.{IsData}
+use Rattle.session_laws.proofs.Wire.{IsData, Young, young_later, young_older}
 use Rattle.session_laws.proofs.Steps.{not_rset, took_other}
 use Rattle.session_laws.proofs.Ties.{data_due, sends_noted, offer_up, few_turns, none_due}
 use Rattle.session_laws.proofs.Quiet.{began_data, few_room}
 use Rattle.lifetime_laws.specs.Lifetime.{IsAnew, BeginsAnew, AreTurns, IsPlainHere, IsPlain, AllPlain, LosesNone, GoesOn}
-use Rattle.lifetime_laws.proofs.Evidence.{Young, young_older}
 use Rattle.lifetime_laws.proofs.Timely.{Timely}
 use Rattle.lifetime_laws.proofs.Lasts.{Lasts, lasts_exchanged, lasts_put, lasts_ready, lasts_ticked, lasts_older, lasts_taken, lasts_fetched, no_probe, ticked-due}
 
@@ -63,14 +62,10 @@ aged_is_older : (wire : List OnWire) → loses_aged wire ≡ false → Young 4 w
 aged_is_older [] h y = (refl, tt)
 aged_is_older (x ∷ xs) h y = go (nat_lt x.age 4) refl (aged_is_older xs)
   where
-    later : (b c : ℕ) (w : List OnWire) → b ≤ c → Young b w → Young c w
-    later b c [] i k = tt
-    later b c (z ∷ w) i k = (omega (arith, k.0), k.1)
-
     go : (b : Bool) → nat_lt x.age 4 ≡ b → (loses_aged xs ≡ false → Young 4 xs → (aged_wire xs ≡ older xs) × Young 4 (older xs))
         → (aged_wire (x ∷ xs) ≡ older (x ∷ xs)) × Young 4 (older (x ∷ xs))
     go true q rest =
-        let k = rest (rw q at h) (later x.age 4 xs y.0 y.1) in
+        let k = rest (rw q at h) (young_later x.age 4 xs y.0 y.1) in
         (rw (q, k.0) refl, (let g = ltb-true x.age 4 q in omega arith, young_older x.age xs y.1))
     go false q rest = absurd (true≢false (rw q at h))
 

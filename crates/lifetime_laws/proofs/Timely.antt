@@ -10,7 +10,8 @@ use Rattle.shdlc_core.specs.Machine.{Fragment, Session}
 use Rattle.link_laws.specs.Wire.{OnWire, older, with_frame}
 use Rattle.link_laws.proofs.Marks.{Shows, last_count, last_count_push_I, last_count_push_S}
 use Rattle.link_laws.proofs.Whole.{AnswersOnly}
-use Rattle.lifetime_laws.proofs.Evidence.{Young, Answers, SentBy, AnswerBy, DueBy, RewindDue, RewindBy, NoSrej, course_of, sent_push, sent_new, answer_push, answer_new, sent_older, answer_older, sent_in_time, answer_in_time, rewind_push, rewind_new, no_srej_push, course_from, course_push, course_push_S, course_shows, last_answers, rewind_answers, rewind_due_answers, due_answers}
+use Rattle.session_laws.proofs.Wire.{Young}
+use Rattle.lifetime_laws.proofs.Evidence.{Answers, SentBy, AnswerBy, DueBy, RewindDue, RewindBy, NoSrej, course_of, sent_push, sent_new, answer_push, answer_new, sent_older, answer_older, sent_in_time, answer_in_time, rewind_push, rewind_new, no_srej_push, course_from, course_push, course_push_S, course_shows, last_answers, rewind_answers, rewind_due_answers, due_answers}
 
 -- the place a is answered in time
 abbrev pub Evidence : ℕ → ℕ → ℕ → List Due → List OnWire → List Control → List OnWire → List Control → Type 0

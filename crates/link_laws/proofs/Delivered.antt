@@ -18,7 +18,7 @@ no_marks [] [] e h = refl
 no_marks [] (m ∷ ms) e h = absurd h
 no_marks (x ∷ xs) ms e h = cc
 
-past_end : {X : Type 0} (xs : List X) (k : ℕ) → slice_get xs k ≡ None → length xs ≤ k
+pub past_end : {X : Type 0} (xs : List X) (k : ℕ) → slice_get xs k ≡ None → length xs ≤ k
 past_end [] k h = omega arith
 past_end (x ∷ xs) zero h = cc
 past_end (x ∷ xs) (suc k) h = omega (arith, past_end xs k h)

@@ -163,7 +163,7 @@ front_more [] [] info h = cc
 front_more [] (x ∷ xs) info h = (xs, let e : info ≡ x = cc in ap (λ y. y ∷ xs) e)
 front_more (a ∷ acc) rest info h = let p = front_more acc rest info h in (p.0, ap (λ l. a ∷ l) p.1)
 
-front_accept : (acc out : List Fragment) (info : Fragment) → slice_get out (length acc) ≡ Some info → IsPrefix acc out → IsPrefix (acc ++ info ∷ []) out
+pub front_accept : (acc out : List Fragment) (info : Fragment) → slice_get out (length acc) ≡ Some info → IsPrefix acc out → IsPrefix (acc ++ info ∷ []) out
 front_accept acc out info h p =
     let P : List Fragment → Type 0 = λ l. slice_get l (length acc) ≡ Some info → IsPrefix (acc ++ info ∷ []) l in
     subst P p.1 (front_more acc p.0 info) h

@@ -65,14 +65,14 @@ received_cases P e ns info takes same gap repeat not_ready = go e.ready (ahead e
     go true false false d p q r t = rw (p, q, r) (rw p at (repeat (eqb-false (ahead e.session ns) 0 q) (ltb-false (ahead e.session ns) 4 r)))
 
 -- a place that isn't the one expected, and not ahead of it, is behind it
-not_expected : (s : Session) (p : ℕ) → (ahead s (p % 8) ≡ 0 → ⊥) → p ≤ length s.acc → p < length s.acc
+pub not_expected : (s : Session) (p : ℕ) → (ahead s (p % 8) ≡ 0 → ⊥) → p ≤ length s.acc → p < length s.acc
 not_expected s p z b = go (cases_eq p (length s.acc))
   where
     go : (p ≡ length s.acc) ⊎ (p ≡ length s.acc → ⊥) → p < length s.acc
     go (inl e) = absurd (z (ahead_same s p e))
     go (inr n) = omega arith
 
-gap_behind : (s : Session) (p : ℕ) → (ahead s (p % 8) ≡ 0 → ⊥) → ahead s (p % 8) < 4 → p ≤ length s.acc → length s.acc ≤ p + 4 → ⊥
+pub gap_behind : (s : Session) (p : ℕ) → (ahead s (p % 8) ≡ 0 → ⊥) → ahead s (p % 8) < 4 → p ≤ length s.acc → length s.acc ≤ p + 4 → ⊥
 gap_behind s p z g b i =
     let behind : 4 ≤ ahead s (p % 8) = ahead_repeat s p (not_expected s p z b) i in
     omega arith
@@ -104,10 +104,10 @@ taken_S P e Rej nr x up at a b c d = rw (up, at) (rw up at (b refl))
 taken_S P e Rnr nr x up at a b c d = rw (up, at) (rw up at (c refl))
 taken_S P e Srej nr x up at a b c d = rw up (rw up at (d refl))
 
-answer_I : (e : EndState) (ns nr : ℕ) (info : Fragment) → e.phase ≡ Up → (take_answer e (I ns nr info)).ended ≡ None
+pub answer_I : (e : EndState) (ns nr : ℕ) (info : Fragment) → e.phase ≡ Up → (take_answer e (I ns nr info)).ended ≡ None
 answer_I e ns nr info up = rw up refl
 
-answer_S : (e : EndState) (k : Kind) (nr : ℕ) → e.phase ≡ Up → (take_answer e (S k nr)).ended ≡ None
+pub answer_S : (e : EndState) (k : Kind) (nr : ℕ) → e.phase ≡ Up → (take_answer e (S k nr)).ended ≡ None
 answer_S e k nr up = rw up refl
 
 -- a fragment that is due stands at the place to be sent next, inside the window

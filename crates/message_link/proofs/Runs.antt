@@ -10,7 +10,7 @@ use Rattle.session_laws.specs.Sessions.{OnWire, Link as CoreLink, Turn as CoreTu
 use Rattle.session_laws.specs.Sessions.EndEvent.{Deliver as CoreDeliver}
 use Rattle.session_laws.specs.Sessions.LinkEvent.{AtController as CoreAtController, AtHost as CoreAtHost, Tick as CoreTick, TickWithout as CoreTickWithout}
 use Rattle.session_laws.proofs.Sending.{SafeLink}
-use Rattle.session_laws.proofs.Steps.{safe, in_order_here, in_order_there, safe_aged, safe_turns, safe_exchanged, tick_or_cut, tick_if_waiting}
+use Rattle.session_laws.proofs.Steps.{after-append, safe, in_order_here, in_order_there, safe_aged, safe_turns, safe_exchanged, tick_or_cut, tick_if_waiting}
 use Rattle.link_machine.specs.Machine.{LinkEnd, Role, Turn, Refused, reset_refusal, window_of, is_open, moved, role_after, started, renewed, turned}
 use Rattle.link_machine.specs.Machine.Role.{Bare, Clf, Uicc}
 use Rattle.message_link.specs.Links.{Link, Half, Ending, Comes, Loss, EndEvent, Node, LinkEvent, exchanged, steps_here, happens_here, all_here, happens, after, aged, ticks_here, IsClf, IsUicc, IsWindow, CanStart, CanCome, IsNode, IsAllowed, IsOwn, AreOwn, IsEvent, AllAllowed}
@@ -25,10 +25,6 @@ use Rattle.message_link.proofs.Finishing.{step_idle, step_frame, step_reset, ste
 use Rattle.message_link.proofs.Calm.{Calm, CalmLink, calm_swap, calm_drop, calm_aged, calm_start, calm_stop, polite_of}
 
 -- ## Lists of events
-
-after-append : (c : CoreLink) (es fs : List CoreLinkEvent) → core_after c (es ++ fs) ≡ core_after (core_after c es) fs
-after-append c [] fs = refl
-after-append c (e ∷ es) fs = after-append (core_happens c e) es fs
 
 allowed-append : (es fs : List CoreLinkEvent) → CoreAllAllowed es → CoreAllAllowed fs → CoreAllAllowed (es ++ fs)
 allowed-append [] fs a b = b

@@ -1,7 +1,7 @@
 -- What the sessions of two ends have to do with each other and with the frames on the wires, over resets.
-use Rattle.std.proofs.Common.{◌≡◌, ℕ, ◌+◌, ◌%◌, ◌<◌, ◌≤◌, ◌==◌, Bool, true, false, List, [], ◌∷◌, ◌++◌, Option, Some, None, ◌⊎◌, inl, inr, refl, ap, sym, subst, ◌∙◌, arith, length, max, length-append, append_assoc}
+use Rattle.std.proofs.Common.{◌≡◌, ℕ, ◌+◌, ◌%◌, ◌<◌, ◌≤◌, ◌==◌, Bool, true, false, List, [], ◌∷◌, ◌++◌, Option, Some, None, ◌⊎◌, inl, inr, refl, ap, sym, ◌∙◌, arith, length, max, length-append, append_assoc}
 use Rattle.std.specs.Prelude.{slice_get}
-use Rattle.std.proofs.lemmas.Bool.{eqb-true, eq-eqb, ne_eqb, cases_eq}
+use Rattle.std.proofs.lemmas.Bool.{eqb-true, eq-eqb, ne_eqb}
 use Rattle.std.proofs.lemmas.Option.{slice_get_within}
 use mathlib.Core.List.{IsPrefix}
 use Rattle.swp_base.specs.declared.control_frames.Kind.{Kind}
@@ -11,9 +11,10 @@ use Rattle.shdlc_core.specs.declared.answers.LinkState.{LinkState}
 use Rattle.shdlc_core.specs.declared.answers.LinkState.TheVariants.{Down, Waiting, Up}
 use Rattle.shdlc_core.specs.declared.answers.Due.{Due}
 use Rattle.shdlc_core.specs.declared.answers.Due.TheVariants.{Rr as Rr_due, Rej as Rej_due, Rnr as Rnr_due}
-use Rattle.shdlc_core.specs.Machine.{EndState, Session, Fragment, new_session, no_session, sent_next, place_of, ahead, acknowledged, accepted, repeated, discarded, ready_again, rejected, made_busy, taken, take_answer}
-use Rattle.link_laws.proofs.Numbers.{place_found, ahead_same, ahead_other}
-use Rattle.link_laws.proofs.Joined.{received_cases, taken_I, taken_S}
+use Rattle.shdlc_core.specs.Machine.{EndState, Session, Fragment, new_session, no_session, sent_next, place_of, acknowledged, accepted, repeated, discarded, ready_again, rejected, made_busy, taken, take_answer}
+use Rattle.link_laws.proofs.Numbers.{place_found, ahead_other}
+use Rattle.link_laws.proofs.Flows.{front_accept}
+use Rattle.link_laws.proofs.Joined.{received_cases, taken_I, taken_S, answer_I, answer_S}
 use Rattle.link_laws.proofs.Marks.{reduced, Carries, Counts, NoneBelow, Places, counts_le, counts_lower, counts_higher, counts_push, counts_lost, places_grow, places_reach, places_accepted, places_lost, places_push, places_push_S}
 use Rattle.session_laws.specs.Sessions.{OnWire, Half, older, number_of, session_of, ended_session}
 use Rattle.session_laws.proofs.Wire.{IsData, add_rset, no_rset_step, rsets}
@@ -387,22 +388,6 @@ pub record TakenUp (e f : EndState) (r : Session) (here : List OnWire) (there : 
   pub own : f.own_window ≡ e.own_window
   pub peer : f.peer_window ≡ e.peer_window
 
-answer_I : (e : EndState) (ns nr : ℕ) (info : Fragment) → e.phase ≡ Up → (take_answer e (I ns nr info)).ended ≡ None
-answer_I e ns nr info up = rw up refl
-
-answer_S : (e : EndState) (k : Kind) (nr : ℕ) → e.phase ≡ Up → (take_answer e (S k nr)).ended ≡ None
-answer_S e k nr up = rw up refl
-
-front_more : (acc rest : List Fragment) (info : Fragment) → slice_get (acc ++ rest) (length acc) ≡ Some info → IsPrefix (acc ++ info ∷ []) (acc ++ rest)
-front_more [] [] info h = cc
-front_more [] (x ∷ xs) info h = (xs, let e : info ≡ x = cc in ap (λ y. y ∷ xs) e)
-front_more (a ∷ acc) rest info h = let p = front_more acc rest info h in (p.0, ap (λ l. a ∷ l) p.1)
-
-front_accept : (acc out : List Fragment) (info : Fragment) → slice_get out (length acc) ≡ Some info → IsPrefix acc out → IsPrefix (acc ++ info ∷ []) out
-front_accept acc out info h p =
-    let P : List Fragment → Type 0 = λ l. slice_get l (length acc) ≡ Some info → IsPrefix (acc ++ info ∷ []) l in
-    subst P p.1 (front_more acc p.0 info) h
-
 -- a number that comes is a length accepted, from what is acknowledged to what was sent
 number_of_mark : (s r : Session) (c : Control) (n : ℕ) (ms : List Control) → Base s r → Carries c n → Counts s.acked (length r.acc) (c ∷ ms)
     → (s.acked ≤ n) × (n ≤ s.reached) × (n ≤ length r.acc) × Counts n (length r.acc) ms
@@ -454,13 +439,6 @@ pair_of s r f n next here there ms b t i j k l out acc acked nx reached window s
     go : (o : Option (List OnWire)) → OnLive o r s → OnLive o r (record s { acked = n; next = next })
     go None g = tt
     go (Some w) g = record { marks = g.marks; shows = g.shows; places = g.places; counts = g.counts }
-
-not_expected : (s : Session) (p : ℕ) → (ahead s (p % 8) ≡ 0 → ⊥) → p ≤ length s.acc → p < length s.acc
-not_expected s p z b = go (cases_eq p (length s.acc))
-  where
-    go : (p ≡ length s.acc) ⊎ (p ≡ length s.acc → ⊥) → p < length s.acc
-    go (inl e) = absurd (z (ahead_same s p e))
-    go (inr n) = omega arith
 
 pub taken_up : (e : EndState) (r : Session) (x : OnWire) (here : List OnWire) (there : Option (List OnWire)) → e.phase ≡ Up → IsData x.frame
     → Pair e.session r (x ∷ here) there

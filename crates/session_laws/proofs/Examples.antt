@@ -1,16 +1,95 @@
--- The two machines, the wires and the numbers compute the worked examples with resets.
-use Rattle.std.proofs.Common.{true, false, ◌≡◌, refl, Some, ℕ, suc, zero, List, [], ◌∷◌, ◌++◌}
+-- The two machines, the wires and the numbers compute the worked examples with losses and resets.
+use Rattle.std.proofs.Common.{true, false, ◌≡◌, refl, Some, ℕ, suc, zero, List, [], ◌∷◌, ◌++◌, map}
+use Rattle.swp_base.specs.declared.control_frames.Control.{Control}
+use Rattle.swp_base.specs.declared.control_frames.Control.TheVariants.{I, S, Rset}
+use Rattle.swp_base.specs.declared.control_frames.Kind.TheVariants.{Rr, Rej, Rnr}
 use Rattle.shdlc_core.specs.declared.answers.LinkState.TheVariants.{Waiting, Up, Down}
 use Rattle.session_laws.specs.Losses.{no_losses, losses_after, IsQuiet}
 use Rattle.session_laws.specs.Settled.{sure_after, IsSettled}
-use Rattle.session_laws.specs.Sessions.Turn.{Offer}
-use Rattle.session_laws.specs.Sessions.{start, start_down, number_of, LinkEvent, after}
+use Rattle.session_laws.specs.Sessions.Turn.{Offer, SetReady}
+use Rattle.session_laws.specs.Sessions.{OnWire, start, start_down, number_of, LinkEvent, after}
 use Rattle.session_laws.specs.Sessions.EndEvent.{Turns, Deliver, Ignore, Lose, Reset, Cut, Stop}
 use Rattle.session_laws.specs.Sessions.LinkEvent.{AtController, AtHost, Tick}
 
 abbrev ticks : ℕ → List LinkEvent
 ticks zero = []
 ticks (suc n) = Tick (Some []) [] (Some []) ∷ ticks n
+
+abbrev frames : List OnWire → List Control
+frames wire = map (λ x. x.frame) wire
+
+-- the one packet of the message 03 on pipe 01
+abbrev packet : List ℕ
+packet = 129 ∷ 3 ∷ []
+
+abbrev send : LinkEvent
+send = AtHost (Turns (Offer (packet ∷ []) ∷ []))
+
+-- a lost frame is rejected and sent again
+abbrev rejected : List LinkEvent
+rejected = send ∷ send ∷ send ∷ AtController (Deliver []) ∷ AtController Lose ∷ AtController (Deliver []) ∷ []
+
+rejected_answers : frames (after start rejected).to_host ≡ S Rr 1 ∷ S Rej 1 ∷ []
+rejected_answers = refl
+
+abbrev gap : List LinkEvent
+gap = rejected ++ (AtHost (Deliver []) ∷ AtHost (Deliver []) ∷ [])
+
+gap_sends_again : frames (after start gap).to_controller ≡ I 1 0 packet ∷ I 2 0 packet ∷ []
+gap_sends_again = refl
+
+gap_accepts_all : (after start (gap ++ (AtController (Deliver []) ∷ AtController (Deliver []) ∷ []))).controller.side.session.acc ≡ packet ∷ packet ∷ packet ∷ []
+gap_accepts_all = refl
+
+-- a lost acknowledgement is answered again
+abbrev lost_ack : List LinkEvent
+lost_ack = send ∷ AtController (Deliver []) ∷ AtHost Lose ∷ ticks 10
+
+lost_ack_sends_again : frames (after start lost_ack).to_controller ≡ I 0 0 packet ∷ []
+lost_ack_sends_again = refl
+
+abbrev acked_again : List LinkEvent
+acked_again = lost_ack ++ (AtController (Deliver []) ∷ AtHost (Deliver []) ∷ [])
+
+acked_again_accepts_once : (after start acked_again).controller.side.session.acc ≡ packet ∷ []
+acked_again_accepts_once = refl
+
+acked_again_is_acknowledged : (after start acked_again).host.side.session.acked ≡ 1
+acked_again_is_acknowledged = refl
+
+-- busy, then ready
+abbrev busy : List LinkEvent
+busy =
+    AtController (Turns (SetReady false ∷ [])) ∷ send ∷ AtController (Deliver []) ∷ AtController (Turns (SetReady true ∷ [])) ∷ []
+
+busy_answers : frames (after start busy).to_host ≡ S Rnr 0 ∷ S Rr 0 ∷ []
+busy_answers = refl
+
+busy_sends_again : frames (after start (busy ++ (AtHost (Deliver []) ∷ AtHost (Deliver []) ∷ []))).to_controller ≡ I 0 0 packet ∷ []
+busy_sends_again = refl
+
+-- nobody delivers: each frame is lost by its age, and the sixtieth tick ends the session
+abbrev nobody : ℕ → List LinkEvent
+nobody n = send ∷ ticks n
+
+nobody_goes_on : (after start (nobody 59)).host.side.phase ≡ Up
+nobody_goes_on = refl
+
+nobody_ends : (after start (nobody 60)).host.side.phase ≡ Waiting
+nobody_ends = refl
+
+nobody_resets : frames (after start (nobody 60)).to_controller ≡ Rset 4 0 ∷ []
+nobody_resets = refl
+
+-- what was lost in that session isn't counted in the next one
+abbrev next_session : List LinkEvent
+next_session = nobody 60 ++ (AtController (Deliver []) ∷ AtHost (Deliver []) ∷ [])
+
+next_session_number : number_of (after start next_session).host ≡ 1
+next_session_number = refl
+
+next_session_lost : (losses_after no_losses start next_session).lost ≡ false
+next_session_lost = refl
 
 -- a reset whose first RSET is lost
 abbrev resent : List LinkEvent

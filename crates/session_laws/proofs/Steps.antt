@@ -715,3 +715,8 @@ new_number_here l s events a up = new_number (after l events).controller up (saf
 pub new_number_there : (l : Link) → IsStart l → (events : List LinkEvent) → AllAllowed events → (after l events).host.side.phase ≡ Up
     → ended_session (after l events).host.past (number_of (after l events).host) ≡ no_session
 new_number_there l s events a up = new_number (after l events).host up (safe l s events a).f_past
+
+-- events happen one after another
+pub after-append : (l : Link) (events later : List LinkEvent) → after l (events ++ later) ≡ after (after l events) later
+after-append l [] later = refl
+after-append l (e ∷ events) later = after-append (happens l e) events later

@@ -3,13 +3,18 @@
 //! brings both ends up. There is no code here that runs.
 #![tactic(auto)]
 
-ghost use Rattle.std.specs.Prelude.{◌≡◌, ℕ, List, false};
+ghost use Rattle.std.specs.Prelude.{◌≡◌, ◌++◌, ℕ, List, false};
 ghost use Rattle.shdlc_core.specs.declared.answers.LinkState.TheVariants.{Up};
 ghost use Rattle.shdlc_core.specs.Machine.{no_session};
 ghost use Rattle.link_laws.specs.Order.{AllDelivered, InOrder};
 ghost use Rattle.session_laws.specs.Losses.{IsQuiet, losses_after, no_losses};
 ghost use Rattle.session_laws.specs.Settled.{AreUpTogether, IsSettled, sure_after};
 ghost use Rattle.session_laws.specs.Sessions.{AllAllowed, IsStart, Link, LinkEvent, after, ended_session, number_of, session_of};
+
+/// Events happen one after another.
+pub fn events_in_turn()
+    ensures { (l : Link) (events later : List LinkEvent) → after l (events ++ later) ≡ after (after l events) later }
+{}
 
 /// In each session, whatever was lost and whenever either end was reset, what was accepted at an end is a front of what the
 /// other end was given in the session of this number, and what counts as acknowledged was accepted.
