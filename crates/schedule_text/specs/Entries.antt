@@ -133,12 +133,12 @@ entry_words (entry.InitMade at count) = codes "init" ∷ end_text at ∷ codes "
 entry_words (entry.InitFailed at code) = codes "init" ∷ end_text at ∷ codes "failed" ∷ byte_text code ∷ []
 entry_words (entry.Cut node) = codes "cut" ∷ byte_text node ∷ []
 entry_words (entry.Booted node count) = codes "booted" ∷ byte_text node ∷ decimal count ∷ []
-entry_words (entry.Tables node tables) = count_words node tables.value
+entry_words (entry.Tables node tables) = count_words node tables
 entry_words (entry.No cause) = codes "no" ∷ cause_words cause
 
 -- the lines behind the first one: those of the rows of tables
 abbrev pub lines_behind : Entry → List ℕ
-lines_behind (entry.Tables node tables) = rows_text tables.value
+lines_behind (entry.Tables node tables) = rows_text tables
 lines_behind said = []
 
 -- the text of a line, and of an entry's first line, without its end

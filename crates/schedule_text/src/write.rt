@@ -41,7 +41,7 @@ fn lines_behind(alloc: Global, entry: &Entry) -> Result<Vec<u8>, AllocError>
 {
     let mut lines = Vec::new(alloc);
     if let Entry::Tables { tables, .. } = entry {
-        tables_text::write_rows(alloc, tables, &mut lines)?;
+        tables_text::write_rows(alloc, tables.tables(), &mut lines)?;
     }
     Ok(lines)
 }
@@ -101,7 +101,7 @@ fn write_words(text: &mut Text, entry: &Entry)
         Entry::InitFailed { at, code } => write_init_failed(text, *at, *code),
         Entry::Cut { node } => write_node(text, b"cut", *node),
         Entry::Booted { node, count } => write_node_number(text, b"booted", *node, *count),
-        Entry::Tables { node, tables } => write_counts(text, *node, tables),
+        Entry::Tables { node, tables } => write_counts(text, *node, tables.tables()),
         Entry::No { cause } => {
             text.entry(b"no", &[]);
             write_cause(text, *cause);

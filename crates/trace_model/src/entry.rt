@@ -1,5 +1,5 @@
-use crate::{End, Header, Line, Octets};
-use hci_tables::{Command, Tables};
+use crate::{End, Header, Line, NodeTables, Octets};
+use hci_tables::Command;
 use swp_base::{Cause, Lpdu};
 
 /// Why a line was refused and changed nothing. Where several hold, the first of these is told.
@@ -166,7 +166,7 @@ pub enum Entry {
     /// The tables of a node.
     Tables {
         node: u8,
-        tables: Box<Tables>,
+        tables: NodeTables,
     },
     /// The line was refused and changed nothing.
     No {

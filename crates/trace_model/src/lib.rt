@@ -3,10 +3,12 @@
 
 mod entry;
 mod line;
+mod node_tables;
 mod octets;
 mod watch;
 
 pub use entry::{Entry, LostCause, NoCause};
 pub use line::{End, Header, Line};
+pub use node_tables::NodeTables;
 pub use octets::Octets;
 pub use watch::Watch;

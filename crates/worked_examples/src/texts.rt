@@ -5,7 +5,7 @@ use schedule_text::{LineFault, Read, read_line, write_entry};
 use std::alloc::{AllocError, Global};
 use std::test::Fail;
 use swp_base::{Cause, Lpdu};
-use trace_model::{End, Entry, Header, Line, LostCause, NoCause, Octets};
+use trace_model::{End, Entry, Header, Line, LostCause, NoCause, NodeTables, Octets};
 
 const HOST: End = End {
     link: 2,
@@ -579,7 +579,7 @@ fn commands_and_tables_are_written(rt: HostRuntime) -> Result<(), Fail> {
         },
         Entry::Tables {
             node: 0,
-            tables: Box::new(alloc, tables)?,
+            tables: NodeTables::new(alloc, tables)?,
         },
     ];
     assert_eq!(rt;
