@@ -1,3 +1,6 @@
 pub mod CauseLemmas
+pub mod CleanLemmas
+pub mod EntryLemmas
+pub mod RowLemmas
 pub mod SameLemmas
 pub mod ShownLemmas

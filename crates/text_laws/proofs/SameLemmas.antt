@@ -1,5 +1,5 @@
--- Entries with the same words are the same.
-use Rattle.std.proofs.Common.{◌≡◌, ℕ, zero, suc, ◌/◌, ◌%◌, ◌<◌, ◌≤◌, Bool, true, false, cond, List, [], ◌∷◌, length, get_or, refl, sym, ◌∙◌, ap, arith, Option, Some, None, IfSome, All, map, codes}
+-- What says the same words is the same.
+use Rattle.std.proofs.Common.{◌≡◌, ℕ, zero, suc, ◌/◌, ◌%◌, ◌<◌, Bool, true, false, cond, List, [], ◌∷◌, length, refl, sym, ◌∙◌, ap, arith, Option, Some, None, IfSome, All, map}
 use Rattle.std.specs.Str.{bytes_eq}
 use Rattle.std.proofs.lemmas.Slice.Eq.{bytes_eq-Decides}
 use Rattle.std.specs.Fmt.{decimal}
@@ -12,52 +12,48 @@ use Rattle.hci_tables.specs.declared.command.Command.{Command}
 use Rattle.hci_tables.specs.declared.command.Command.TheVariants as command
 use Rattle.tables_text.specs.Tables.{hex_or_dash}
 use Rattle.trace_model.specs.declared.line.End.{End}
-use Rattle.trace_model.specs.declared.line.Header.{Header}
 use Rattle.trace_model.specs.declared.line.Line.{Line}
 use Rattle.trace_model.specs.declared.line.Line.TheVariants as line
 use Rattle.trace_model.specs.declared.entry.LostCause.{LostCause}
 use Rattle.trace_model.specs.declared.entry.LostCause.TheVariants as lost
 use Rattle.trace_model.specs.declared.entry.NoCause.{NoCause}
 use Rattle.trace_model.specs.declared.entry.NoCause.TheVariants as cause
-use Rattle.trace_model.specs.declared.entry.Entry.{Entry}
-use Rattle.trace_model.specs.declared.entry.Entry.TheVariants as entry
-use Rattle.trace_model.specs.Lines.{IsHeader}
 use Rattle.schedule_text.specs.Values.{byte_value, bytes_value, end_value}
-use Rattle.schedule_text.specs.Entries.{byte_text, two_bytes_text, end_text, number_words, header_words, line_words, down_word, lost_word, cause_words, command_words, entry_words}
+use Rattle.schedule_text.specs.Entries.{byte_text, two_bytes_text, end_text, number_words, line_words, down_word, lost_word, cause_words, command_words}
 use Rattle.schedule_text.proofs.AgainLemmas.{byte_again, bytes_again, end_again, length-hex}
-use Rattle.text_laws.specs.Ranges.{IsByte, IsEnd, AreBytes, IsNumber, IsTwoBytes, IsSaid, IsCause, IsSaidCommand, IsEntry}
+use Rattle.text_laws.specs.Ranges.{IsByte, IsEnd, AreBytes, IsNumber, IsTwoBytes, IsSaid, IsCause, IsSaidCommand}
 
 -- other words
-abbrev head : List (List ℕ) → List ℕ
+abbrev pub head : List (List ℕ) → List ℕ
 head [] = []
 head (w ∷ ws) = w
 
-other_word : (u v : List ℕ) → bytes_eq u v ≡ false → u ≡ v → ⊥
+pub other_word : (u v : List ℕ) → bytes_eq u v ≡ false → u ≡ v → ⊥
 other_word u v e h = let same : bytes_eq u v ≡ true = (bytes_eq-Decides u v).1 h in clash (bytes_eq u v) same e
   where
     clash : (t : Bool) → t ≡ true → t ≡ false → ⊥
     clash true a b = cc
     clash false a b = cc
 
-other_words : (xs ys : List (List ℕ)) → bytes_eq (head xs) (head ys) ≡ false → xs ≡ ys → ⊥
+pub other_words : (xs ys : List (List ℕ)) → bytes_eq (head xs) (head ys) ≡ false → xs ≡ ys → ⊥
 other_words xs ys e h = other_word (head xs) (head ys) e (ap head h)
 
 unwrapped : {A : Type 0} (a b : A) → Some a ≡ Some b → a ≡ b
 unwrapped a b h = cc
 
-same_end : (a b : End) → IsEnd a → IsEnd b → end_text a ≡ end_text b → a ≡ b
+pub same_end : (a b : End) → IsEnd a → IsEnd b → end_text a ≡ end_text b → a ≡ b
 same_end a b ra rb h = unwrapped a b (sym (end_again a ra) ∙ ap end_value h ∙ end_again b rb)
 
-same_byte : (a b : ℕ) → a < 256 → b < 256 → byte_text a ≡ byte_text b → a ≡ b
+pub same_byte : (a b : ℕ) → a < 256 → b < 256 → byte_text a ≡ byte_text b → a ≡ b
 same_byte a b ra rb h = unwrapped a b (sym (byte_again a ra) ∙ ap byte_value h ∙ byte_again b rb)
 
-same_bytes : (a b : List ℕ) → AreBytes a → AreBytes b → encode_upper a ≡ encode_upper b → a ≡ b
+pub same_bytes : (a b : List ℕ) → AreBytes a → AreBytes b → encode_upper a ≡ encode_upper b → a ≡ b
 same_bytes a b ra rb h = unwrapped a b (sym (bytes_again a ra.1) ∙ ap bytes_value h ∙ bytes_again b rb.1)
 
-same_number : (a b : ℕ) → IsNumber a → IsNumber b → decimal a ≡ decimal b → a ≡ b
+pub same_number : (a b : ℕ) → IsNumber a → IsNumber b → decimal a ≡ decimal b → a ≡ b
 same_number a b ra rb h = decimal_injective a b (omega arith) (omega arith) h
 
-same_lost : (a b : LostCause) → lost_word a ≡ lost_word b → a ≡ b
+pub same_lost : (a b : LostCause) → lost_word a ≡ lost_word b → a ≡ b
 same_lost lost.Asked lost.Asked h = refl
 same_lost lost.Age lost.Age h = refl
 same_lost lost.Full lost.Full h = refl
@@ -69,7 +65,7 @@ same_lost lost.Nothing lost.Nothing h = refl
 same_lost a b h = absurd (other_word (lost_word a) (lost_word b) refl h)
 
 -- words of the same kind
-same_map : {X : Type 0} (f : X → List ℕ) (R : X → Type 0) → ((x y : X) → R x → R y → f x ≡ f y → x ≡ y) → (xs ys : List X) → All R xs → All R ys
+pub same_map : {X Y : Type 0} (f : X → Y) (R : X → Type 0) → ((x y : X) → R x → R y → f x ≡ f y → x ≡ y) → (xs ys : List X) → All R xs → All R ys
     → map f xs ≡ map f ys → xs ≡ ys
 same_map f R same [] [] rx ry h = refl
 same_map f R same [] (y ∷ ys) rx ry h = cc
@@ -93,14 +89,14 @@ two high low a b = (omega arith, go)
     go (suc zero) d within = b
     go (suc (suc k)) d within = absurd (omega arith)
 
-same_two : (a b : ℕ) → IsTwoBytes a → IsTwoBytes b → two_bytes_text a ≡ two_bytes_text b → a ≡ b
+pub same_two : (a b : ℕ) → IsTwoBytes a → IsTwoBytes b → two_bytes_text a ≡ two_bytes_text b → a ≡ b
 same_two a b ra rb h =
     let bytes = same_bytes (a / 256 ∷ a % 256 ∷ []) (b / 256 ∷ b % 256 ∷ []) (two _ _ (omega arith) (omega arith)) (two _ _ (omega arith) (omega arith)) h in
     let high : a / 256 ≡ b / 256 = cc (bytes) in
     let low : a % 256 ≡ b % 256 = cc (bytes) in
     omega arith
 
-same_down : (a b : Cause) → down_word a ≡ down_word b → a ≡ b
+pub same_down : (a b : Cause) → down_word a ≡ down_word b → a ≡ b
 same_down why.Asked why.Asked h = refl
 same_down why.NoAnswer why.NoAnswer h = refl
 same_down why.Peer why.Peer h = refl
@@ -108,7 +104,7 @@ same_down why.Act why.Act h = refl
 same_down why.Chain why.Chain h = refl
 same_down a b h = absurd (other_word (down_word a) (down_word b) refl h)
 
-same_cause : (a b : NoCause) → IsCause a → IsCause b → cause_words a ≡ cause_words b → a ≡ b
+pub same_cause : (a b : NoCause) → IsCause a → IsCause b → cause_words a ≡ cause_words b → a ≡ b
 same_cause cause.Off cause.Off ra rb h = refl
 same_cause cause.Running cause.Running ra rb h = refl
 same_cause cause.Inactive cause.Inactive ra rb h = refl
@@ -122,10 +118,10 @@ same_cause (cause.Full n s) (cause.Full m t) ra rb h =
 same_cause (cause.Beyond n) (cause.Beyond m) ra rb h = ap cause.Beyond (same_number n m ra rb cc)
 same_cause a b ra rb h = absurd (other_words (cause_words a) (cause_words b) refl h)
 
-behind : (a b : List ℕ) (xs ys : List (List ℕ)) → a ∷ xs ≡ b ∷ ys → xs ≡ ys
+pub behind : (a b : List ℕ) (xs ys : List (List ℕ)) → a ∷ xs ≡ b ∷ ys → xs ≡ ys
 behind a b xs ys h = cc
 
-behind_two : (a b c d : List ℕ) (xs ys : List (List ℕ)) → a ∷ b ∷ xs ≡ c ∷ d ∷ ys → xs ≡ ys
+pub behind_two : (a b c d : List ℕ) (xs ys : List (List ℕ)) → a ∷ b ∷ xs ≡ c ∷ d ∷ ys → xs ≡ ys
 behind_two a b c d xs ys h = cc
 
 differ : (a b : ℕ) → a < 256 → b < 256 → a < b → byte_text a ≡ byte_text b → ⊥
@@ -137,13 +133,13 @@ same_flag true false h = absurd (differ 0 1 (omega arith) (omega arith) (omega a
 same_flag false true h = absurd (differ 0 1 (omega arith) (omega arith) (omega arith) h)
 same_flag false false h = refl
 
-same_value : (xs ys : List ℕ) → All IsByte xs → All IsByte ys → hex_or_dash xs ≡ hex_or_dash ys → xs ≡ ys
+pub same_value : (xs ys : List ℕ) → All IsByte xs → All IsByte ys → hex_or_dash xs ≡ hex_or_dash ys → xs ≡ ys
 same_value [] [] rx ry h = refl
 same_value [] (y ∷ ys) rx ry h = let long = length-hex (y ∷ ys) in let one = ap length h in absurd (omega (arith, long, one))
 same_value (x ∷ xs) [] rx ry h = let long = length-hex (x ∷ xs) in let one = ap length h in absurd (omega (arith, long, one))
 same_value (x ∷ xs) (y ∷ ys) rx ry h = same_bytes (x ∷ xs) (y ∷ ys) (omega arith, rx) (omega arith, ry) h
 
-same_row : (a b : PipeRow) → a.opened ≡ b.opened → a.pid ≡ b.pid → a.creator ≡ b.creator → a.creator_gate ≡ b.creator_gate → a.dest ≡ b.dest
+pub same_row : (a b : PipeRow) → a.opened ≡ b.opened → a.pid ≡ b.pid → a.creator ≡ b.creator → a.creator_gate ≡ b.creator_gate → a.dest ≡ b.dest
     → a.dest_gate ≡ b.dest_gate → a ≡ b
 same_row a b opened pid creator creator_gate dest dest_gate =
     ap (λ x. record a { opened = x }) opened ∙ ap (λ x. record a { opened = b.opened; pid = x }) pid
@@ -151,13 +147,13 @@ same_row a b opened pid creator creator_gate dest dest_gate =
     ∙ ap (λ x. record a { opened = b.opened; pid = b.pid; creator = b.creator; creator_gate = x }) creator_gate
     ∙ ap (λ x. record b { dest = x; dest_gate = a.dest_gate }) dest ∙ ap (λ x. record b { dest_gate = x }) dest_gate
 
-same_command : (a b : Command) → IsSaidCommand a → IsSaidCommand b → command_words a ≡ command_words b → a ≡ b
+pub same_command : (a b : Command) → IsSaidCommand a → IsSaidCommand b → command_words a ≡ command_words b → a ≡ b
 same_command (command.Create r) (command.Create s) ra rb h =
-    let pid : r.pid ≡ s.pid = same_byte r.pid s.pid ra.1 rb.1 cc in
-    let creator : r.creator ≡ s.creator = same_byte r.creator s.creator ra.2 rb.2 cc in
-    let creator_gate : r.creator_gate ≡ s.creator_gate = same_byte r.creator_gate s.creator_gate ra.3 rb.3 cc in
-    let dest : r.dest ≡ s.dest = same_byte r.dest s.dest ra.4 rb.4 cc in
-    let dest_gate : r.dest_gate ≡ s.dest_gate = same_byte r.dest_gate s.dest_gate ra.5 rb.5 cc in
+    let pid : r.pid ≡ s.pid = same_byte r.pid s.pid ra.1.pid rb.1.pid cc in
+    let creator : r.creator ≡ s.creator = same_byte r.creator s.creator ra.1.creator rb.1.creator cc in
+    let creator_gate : r.creator_gate ≡ s.creator_gate = same_byte r.creator_gate s.creator_gate ra.1.creator_gate rb.1.creator_gate cc in
+    let dest : r.dest ≡ s.dest = same_byte r.dest s.dest ra.1.dest rb.1.dest cc in
+    let dest_gate : r.dest_gate ≡ s.dest_gate = same_byte r.dest_gate s.dest_gate ra.1.dest_gate rb.1.dest_gate cc in
     ap command.Create (same_row r s (ra.0 ∙ sym rb.0) pid creator creator_gate dest dest_gate)
 same_command (command.Delete p) (command.Delete q) ra rb h = ap command.Delete (same_byte p q ra rb cc)
 same_command (command.Clear n) (command.Clear m) ra rb h = ap command.Clear (same_byte n m ra rb cc)
@@ -177,7 +173,7 @@ same_command (command.Sync n i) (command.Sync m j) ra rb h =
     let id : i ≡ j = same_two i j ra.1 rb.1 cc in cc
 same_command a b ra rb h = absurd (other_words (command_words a) (command_words b) refl h)
 
-same_said : (a b : Line) → IsSaid a → IsSaid b → line_words a ≡ line_words b → a ≡ b
+pub same_said : (a b : Line) → IsSaid a → IsSaid b → line_words a ≡ line_words b → a ≡ b
 same_said (line.Send e p m) (line.Send f q n) ra rb h =
     let end : e ≡ f = same_end e f ra.0 rb.0 cc in
     let pid : p ≡ q = same_byte p q ra.1 rb.1 cc in
@@ -214,113 +210,3 @@ same_said (line.Init e i p) (line.Init f j q) ra rb h =
     ap (λ at. line.Init at i p) end ∙ ap (λ bytes. line.Init f bytes p) identity ∙ ap (λ ps. line.Init f j (record { items = ps })) pipes
 same_said (line.Tables n) (line.Tables m) ra rb h = ap line.Tables (same_byte n m ra rb cc)
 same_said a b ra rb h = absurd (other_words (line_words a) (line_words b) refl h)
-
-hosts_are_bytes : (header : Header) → IsHeader header → All IsByte header.hosts.items
-hosts_are_bytes header known = λ k d within. let small : get_or header.hosts.items k d ≤ 7 = (known.hosts k d within).1 in omega (arith, small)
-
-same_header : (a b : Header) → IsHeader a → IsHeader b → header_words a ≡ header_words b → a ≡ b
-same_header a b ra rb h =
-    let hosts : map byte_text a.hosts.items ≡ map byte_text b.hosts.items = cc in
-    let items = same_map byte_text IsByte same_byte a.hosts.items b.hosts.items (hosts_are_bytes a ra) (hosts_are_bytes b rb) hosts in
-    let made : Bool → List ℕ → Header = λ hci xs. record { hci = hci; hosts = record { items = xs } } in
-    ap (λ hci. made hci a.hosts.items) (ra.bare ∙ sym rb.bare) ∙ ap (made b.hci) items
-
-no_swp : (said : Line) → bytes_eq (codes "swp") (head (line_words said)) ≡ false
-no_swp (line.Send e p m) = refl
-no_swp (line.Deliver e n) = refl
-no_swp (line.Lose e) = refl
-no_swp (line.Damage e p) = refl
-no_swp (line.Tick n) = refl
-no_swp (line.Reset e n) = refl
-no_swp (line.Busy e) = refl
-no_swp (line.Ready e) = refl
-no_swp (line.Boot n) = refl
-no_swp (line.Cut n) = refl
-no_swp (line.Activate h s p) = refl
-no_swp (line.Arm n k x) = refl
-no_swp (line.Init e i p) = refl
-no_swp (line.Tables n) = refl
-
-no_line : (header : Header) (said : Line) → header_words header ≡ line_words said → ⊥
-no_line header said h = other_words (header_words header) (line_words said) (no_swp said) h
-
--- entries with the same words
-pub same_entry : (a b : Entry) → IsEntry a → IsEntry b → entry_words a ≡ entry_words b → a ≡ b
-same_entry (entry.Head a) (entry.Head b) ra rb h = ap entry.Head (same_header a b ra rb (behind _ _ _ _ h))
-same_entry (entry.Head a) (entry.Echo b) ra rb h = absurd (no_line a b (behind _ _ _ _ h))
-same_entry (entry.Echo a) (entry.Head b) ra rb h = absurd (no_line b a (sym (behind _ _ _ _ h)))
-same_entry (entry.Echo a) (entry.Echo b) ra rb h = ap entry.Echo (same_said a b ra rb (behind _ _ _ _ h))
-same_entry (entry.Up e n) (entry.Up f m) ra rb h =
-    let end : e ≡ f = same_end e f ra.0 rb.0 cc in
-    let session : n ≡ m = same_number n m ra.1 rb.1 cc in cc
-same_entry (entry.Sent e n p x) (entry.Sent f m q y) ra rb h =
-    let end : e ≡ f = same_end e f ra.0 rb.0 cc in
-    let session : n ≡ m = same_number n m ra.1 rb.1 cc in
-    let pid : p ≡ q = same_byte p q ra.2 rb.2 cc in
-    let message : x ≡ y = same_bytes x y ra.3 rb.3 cc in cc
-same_entry (entry.Got e n p x) (entry.Got f m q y) ra rb h =
-    let end : e ≡ f = same_end e f ra.0 rb.0 cc in
-    let session : n ≡ m = same_number n m ra.1 rb.1 cc in
-    let pid : p ≡ q = same_byte p q ra.2 rb.2 cc in
-    let message : x ≡ y = same_bytes x y ra.3 rb.3 cc in cc
-same_entry (entry.Acked e n k) (entry.Acked f m l) ra rb h =
-    let end : e ≡ f = same_end e f ra.0 rb.0 cc in
-    let session : n ≡ m = same_number n m ra.1 rb.1 cc in
-    let count : k ≡ l = same_number k l ra.2 rb.2 cc in cc
-same_entry (entry.Emit e x) (entry.Emit f y) ra rb h =
-    let end : e ≡ f = same_end e f ra.0 rb.0 cc in
-    let bytes : x ≡ y = same_bytes x y ra.1 rb.1 cc in cc
-same_entry (entry.Took e x) (entry.Took f y) ra rb h =
-    let end : e ≡ f = same_end e f ra.0 rb.0 cc in
-    let bytes : x ≡ y = same_bytes x y ra.1 rb.1 cc in cc
-same_entry (entry.Lost e x c) (entry.Lost f y d) ra rb h =
-    let end : e ≡ f = same_end e f ra.0 rb.0 cc in
-    let bytes : x ≡ y = same_bytes x y ra.1 rb.1 cc in
-    let why : c ≡ d = same_lost c d cc in cc
-same_entry (entry.Down e c) (entry.Down f d) ra rb h =
-    let end : e ≡ f = same_end e f ra rb cc in
-    let cause : c ≡ d = same_down c d cc in cc
-same_entry (entry.Active e) (entry.Active f) ra rb h = ap entry.Active (same_end e f ra rb cc)
-same_entry (entry.GaveUp e n) (entry.GaveUp f m) ra rb h =
-    let end : e ≡ f = same_end e f ra.0 rb.0 cc in
-    let tries : n ≡ m = same_number n m ra.1 rb.1 cc in cc
-same_entry (entry.Turn e p x) (entry.Turn f q y) ra rb h =
-    let end : e ≡ f = same_end e f ra.0 rb.0 cc in
-    let pid : p ≡ q = same_byte p q ra.1 rb.1 cc in
-    let message : x ≡ y = same_bytes x y ra.2 rb.2 cc in cc
-same_entry (entry.Held e n s) (entry.Held f m t) ra rb h =
-    let end : e ≡ f = same_end e f ra.0 rb.0 cc in
-    let need : n ≡ m = same_number n m ra.1 rb.1 cc in
-    let spare : s ≡ t = same_number s t ra.2 rb.2 cc in cc
-same_entry (entry.Ask n x) (entry.Ask m y) ra rb h =
-    let host : n ≡ m = same_byte n m ra.0 rb.0 cc in
-    let message : x ≡ y = same_bytes x y ra.1 rb.1 cc in cc
-same_entry (entry.Dropped e p) (entry.Dropped f q) ra rb h =
-    let end : e ≡ f = same_end e f ra.0 rb.0 cc in
-    let pid : p ≡ q = same_byte p q ra.1 rb.1 cc in cc
-same_entry (entry.Command n c) (entry.Command m d) ra rb h =
-    let node : n ≡ m = same_byte n m ra.0 rb.0 cc in
-    let command : c ≡ d = same_command c d ra.1 rb.1 (behind_two _ _ _ _ _ _ h) in cc
-same_entry (entry.AnyOk n k) (entry.AnyOk m l) ra rb h =
-    let node : n ≡ m = same_byte n m ra.0 rb.0 cc in
-    let count : k ≡ l = same_number k l ra.1 rb.1 cc in cc
-same_entry (entry.InitSame e) (entry.InitSame f) ra rb h = ap entry.InitSame (same_end e f ra rb cc)
-same_entry (entry.InitSame e) (entry.InitMade f m) ra rb h = absurd (other_word (codes "same") (codes "made") refl cc)
-same_entry (entry.InitSame e) (entry.InitFailed f c) ra rb h = absurd (other_word (codes "same") (codes "failed") refl cc)
-same_entry (entry.InitMade e n) (entry.InitSame f) ra rb h = absurd (other_word (codes "made") (codes "same") refl cc)
-same_entry (entry.InitMade e n) (entry.InitMade f m) ra rb h =
-    let end : e ≡ f = same_end e f ra.0 rb.0 cc in
-    let count : n ≡ m = same_number n m ra.1 rb.1 cc in cc
-same_entry (entry.InitMade e n) (entry.InitFailed f c) ra rb h = absurd (other_word (codes "made") (codes "failed") refl cc)
-same_entry (entry.InitFailed e c) (entry.InitSame f) ra rb h = absurd (other_word (codes "failed") (codes "same") refl cc)
-same_entry (entry.InitFailed e c) (entry.InitMade f m) ra rb h = absurd (other_word (codes "failed") (codes "made") refl cc)
-same_entry (entry.InitFailed e c) (entry.InitFailed f d) ra rb h =
-    let end : e ≡ f = same_end e f ra.0 rb.0 cc in
-    let code : c ≡ d = same_byte c d ra.1 rb.1 cc in cc
-same_entry (entry.Cut n) (entry.Cut m) ra rb h = ap entry.Cut (same_byte n m ra rb cc)
-same_entry (entry.Booted n k) (entry.Booted m l) ra rb h =
-    let node : n ≡ m = same_byte n m ra.0 rb.0 cc in
-    let count : k ≡ l = same_number k l ra.1 rb.1 cc in cc
-same_entry (entry.Tables n t) b ra rb h = absurd ra
-same_entry (entry.No c) (entry.No d) ra rb h = ap entry.No (same_cause c d ra rb (behind _ _ _ _ h))
-same_entry a b ra rb h = absurd (other_words (entry_words a) (entry_words b) refl h)

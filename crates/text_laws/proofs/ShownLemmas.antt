@@ -1,208 +1,20 @@
 -- The texts of entries end at their first LF.
-use Rattle.std.proofs.Common.{◌≡◌, ◌==◌, ◌&&◌, ℕ, suc, ◌/◌, ◌%◌, ◌<◌, ◌≤◌, Bool, true, false, not, cond, nat_lt, List, [], ◌∷◌, ◌++◌, length, slice_index, refl, sym, ◌∙◌, ap, subst, arith, Option, Some, None, IfSome, All, codes, map, append_assoc, length-append}
+use Rattle.std.proofs.Common.{◌≡◌, ◌==◌, ◌&&◌, ℕ, suc, Bool, true, false, not, List, [], ◌∷◌, ◌++◌, length, refl, sym, ◌∙◌, ap, subst, arith, All, append_assoc, length-append}
 use Rattle.std.specs.List.{list_all, flat_map, AllByRecursion}
-use Rattle.std.specs.Char.{is_ascii_digit}
-use Rattle.std.specs.Str.{all_ascii_digits}
-use Rattle.std.specs.Fmt.{decimal}
-use Rattle.std.specs.Str.Parse.{digits_value}
-use Rattle.std.proofs.lemmas.Str.Parse.{IsNumeralModel, numerals_by_value}
-use Rattle.std.proofs.lemmas.Fmt.{digits_decimal}
-use Rattle.std.proofs.Common.{rules}
-use Rattle.std.proofs.lemmas.Bool.{ltb-true, ltb-false}
-use Rattle.std.proofs.lemmas.Bool.Decides.{nat_tests}
-use Rattle.std.proofs.lemmas.List.Sums.{AllPass-from_list_all}
 use Rattle.std.proofs.lemmas.List.Folds.{list_all-append}
-use Rattle.std.proofs.Math.ListN.{get_or-eq_default}
-use Rattle.hex.specs.Hex.{encode_with, encode_upper, upper_digits}
-use Rattle.swp_base.specs.declared.link_terms.Cause.{Cause}
-use Rattle.swp_base.specs.declared.link_terms.Cause.TheVariants as why
-use Rattle.hci_tables.specs.declared.command.Command.{Command}
-use Rattle.hci_tables.specs.declared.command.Command.TheVariants as command
-use Rattle.tables_text.specs.Tables.{hex_or_dash}
-use Rattle.trace_model.specs.declared.line.End.{End}
-use Rattle.trace_model.specs.declared.line.Line.{Line}
-use Rattle.trace_model.specs.declared.line.Line.TheVariants as line
-use Rattle.trace_model.specs.declared.entry.LostCause.{LostCause}
-use Rattle.trace_model.specs.declared.entry.LostCause.TheVariants as lost
-use Rattle.trace_model.specs.declared.entry.NoCause.{NoCause}
-use Rattle.trace_model.specs.declared.entry.NoCause.TheVariants as cause
 use Rattle.trace_model.specs.declared.entry.Entry.{Entry}
 use Rattle.trace_model.specs.declared.entry.Entry.TheVariants as entry
 use Rattle.schedule_text.specs.Words.{words, spaced}
-use Rattle.schedule_text.specs.Entries.{byte_text, two_bytes_text, end_text, number_words, line_words, down_word, lost_word, cause_words, command_words, entry_words, lines_behind, entry_text, entry_line}
-use Rattle.schedule_text.proofs.AgainLemmas.{IsWord, words-spaced, hex_word, end_word, number_word}
-use Rattle.text_laws.specs.Ranges.{AreBytes, IsNumber, IsSaid, IsCause, IsEntry}
-use Rattle.text_laws.proofs.SameLemmas.{same_entry}
+use Rattle.schedule_text.specs.Entries.{entry_words, lines_behind, entry_text, entry_line}
+use Rattle.schedule_text.proofs.AgainLemmas.{IsWord, words-spaced}
+use Rattle.text_laws.specs.Ranges.{IsEntry}
+use Rattle.std.proofs.lemmas.Grind.{flat_map-append}
+use Rattle.text_laws.proofs.SameLemmas.{other_words}
+use Rattle.text_laws.proofs.RowLemmas.{told_line, rows_told, cut_at, same_counts, rows_length}
+use Rattle.text_laws.proofs.CleanLemmas.{is_inside, IsClean, IsCleanLine, entry_clean, rows_clean}
+use Rattle.text_laws.proofs.EntryLemmas.{words_behind, same_entry}
 
--- no LF
-abbrev pub is_inside : ℕ → Bool
-is_inside b = not (b == 10)
-
--- a word without LF
-abbrev pub IsClean : List ℕ → Type 0
-IsClean word = IsWord word × (list_all is_inside word ≡ true)
-
-by_size : (P : Type 0) (k n : ℕ) (t : Bool) → nat_lt k n ≡ t → (k < n → P) → (n ≤ k → P) → P
-by_size P k n true e below above = below (ltb-true _ _ e)
-by_size P k n false e below above = above (ltb-false _ _ e)
-
-hex_inside : (k : ℕ) → is_inside (slice_index upper_digits k) ≡ true
-hex_inside k =
-    by_size (is_inside (slice_index upper_digits k) ≡ true) k 16 (nat_lt k 16) refl (λ h. AllPass-from_list_all is_inside upper_digits refl k 0 h)
-    (λ h. subst (λ b. is_inside b ≡ true) (sym (get_or-eq_default upper_digits 0 h)) refl)
-
-hex_all_inside : (xs : List ℕ) → list_all is_inside (encode_upper xs) ≡ true
-unfolding encode_with
-hex_all_inside [] = refl
-hex_all_inside (x ∷ xs) = rw (hex_inside (x / 16), hex_inside (x % 16)) (hex_all_inside xs)
-
-hex_clean : (xs : List ℕ) → 0 < length xs → IsClean (encode_upper xs)
-hex_clean xs some = (hex_word xs some, hex_all_inside xs)
-
-byte_clean : (b : ℕ) → IsClean (byte_text b)
-byte_clean b = hex_clean (b ∷ []) (omega arith)
-
-side_inside : (at_host : Bool) → is_inside (cond at_host 104 99) ≡ true
-side_inside true = refl
-side_inside false = refl
-
-end_clean : (e : End) → IsClean (end_text e)
-end_clean e =
-    (end_word e, list_all-append is_inside (byte_text e.link) (cond e.at_host 104 99 ∷ []) ∙ rw (hex_all_inside (e.link ∷ []), side_inside e.at_host) refl)
-
-own : IsNumeralModel (λ ds. all_ascii_digits ds ≡ true) (digits_value 10)
-own = numerals_by_value _ (search rules)
-
-digit_inside : (c : ℕ) (cs : List ℕ) (t : Bool) → is_ascii_digit c ≡ t → (t && all_ascii_digits cs) ≡ true → (all_ascii_digits cs ≡ true → list_all is_inside cs ≡ true)
-    → (is_inside c && list_all is_inside cs) ≡ true
-digit_inside c cs true e h k = let inside : is_inside c ≡ true = grind (arith, nat_tests) in rw inside (k h)
-digit_inside c cs false e h k = cc
-
-digits_inside : (ds : List ℕ) → all_ascii_digits ds ≡ true → list_all is_inside ds ≡ true
-digits_inside [] h = refl
-digits_inside (c ∷ cs) h = digit_inside c cs (is_ascii_digit c) refl h (digits_inside cs)
-
-number_clean : (n : ℕ) → IsNumber n → IsClean (decimal n)
-number_clean n h = (number_word n (omega arith), digits_inside (decimal n) (digits_decimal own n (omega arith)))
-
-letters : (word : List ℕ) → 0 < length word → list_all (λ b. not (b == 32)) word ≡ true → list_all is_inside word ≡ true → IsClean word
-letters word some a b = ((some, a), b)
-
-lost_clean : (why : LostCause) → IsClean (lost_word why)
-lost_clean lost.Asked = ((omega arith, refl), refl)
-lost_clean lost.Age = ((omega arith, refl), refl)
-lost_clean lost.Full = ((omega arith, refl), refl)
-lost_clean lost.Length = ((omega arith, refl), refl)
-lost_clean lost.Alignment = ((omega arith, refl), refl)
-lost_clean lost.Crc = ((omega arith, refl), refl)
-lost_clean lost.Broken = ((omega arith, refl), refl)
-lost_clean lost.Nothing = ((omega arith, refl), refl)
-
-world_clean : (hci : Bool) → IsClean (cond hci (codes "hci") (codes "bare"))
-world_clean true = ((omega arith, refl), refl)
-world_clean false = ((omega arith, refl), refl)
-
-hosts_clean : (hosts : List ℕ) → AllByRecursion IsClean (map byte_text hosts)
-hosts_clean [] = tt
-hosts_clean (h ∷ hosts) = (byte_clean h, hosts_clean hosts)
-
-down_clean : (why : Cause) → IsClean (down_word why)
-down_clean why.Asked = ((omega arith, refl), refl)
-down_clean why.NoAnswer = ((omega arith, refl), refl)
-down_clean why.Peer = ((omega arith, refl), refl)
-down_clean why.Act = ((omega arith, refl), refl)
-down_clean why.Chain = ((omega arith, refl), refl)
-
-maybe_clean : (o : Option ℕ) → IfSome o IsNumber → AllByRecursion IsClean (number_words o)
-maybe_clean None h = tt
-maybe_clean (Some n) h = (number_clean n h, tt)
-
-numbers_clean : (ns : List ℕ) → All IsNumber ns → AllByRecursion IsClean (map decimal ns)
-numbers_clean [] h = tt
-numbers_clean (n ∷ ns) h = (number_clean n (h 0 n (omega arith)), numbers_clean ns (λ k d within. h (suc k) d (omega arith)))
-
-two_clean : (n : ℕ) → IsClean (two_bytes_text n)
-two_clean n = hex_clean (n / 256 ∷ n % 256 ∷ []) (omega arith)
-
-cause_clean : (why : NoCause) → IsCause why → AllByRecursion IsClean (cause_words why)
-cause_clean cause.Off h = (((omega arith, refl), refl), tt)
-cause_clean cause.Running h = (((omega arith, refl), refl), tt)
-cause_clean cause.Inactive h = (((omega arith, refl), refl), tt)
-cause_clean cause.NotUp h = (((omega arith, refl), refl), tt)
-cause_clean cause.Waiting h = (((omega arith, refl), refl), tt)
-cause_clean cause.TooLong h = (((omega arith, refl), refl), tt)
-cause_clean cause.Empty h = (((omega arith, refl), refl), tt)
-cause_clean (cause.Full n s) h = (((omega arith, refl), refl), (number_clean n h.0, (number_clean s h.1, tt)))
-cause_clean (cause.Beyond n) h = (((omega arith, refl), refl), (number_clean n h, tt))
-
-each_clean : (xs : List (List ℕ)) → All AreBytes xs → AllByRecursion IsClean (map encode_upper xs)
-each_clean [] h = tt
-each_clean (x ∷ xs) h = (hex_clean x (h 0 x (omega arith)).0, each_clean xs (λ k d within. h (suc k) d (omega arith)))
-
-value_clean : (xs : List ℕ) → IsClean (hex_or_dash xs)
-value_clean [] = ((omega arith, refl), refl)
-value_clean (x ∷ xs) = hex_clean (x ∷ xs) (omega arith)
-
-command_clean : (c : Command) → AllByRecursion IsClean (command_words c)
-command_clean (command.Create r) =
-    (((omega arith, refl), refl), (byte_clean r.pid, (byte_clean r.creator, (byte_clean r.creator_gate, (byte_clean r.dest, (byte_clean r.dest_gate, tt))))))
-command_clean (command.Delete p) = (((omega arith, refl), refl), (byte_clean p, tt))
-command_clean (command.Clear n) = (((omega arith, refl), refl), (byte_clean n, tt))
-command_clean (command.SetOpened n p o) = (((omega arith, refl), refl), (byte_clean n, (byte_clean p, (byte_clean (cond o 1 0), tt))))
-command_clean (command.Set n g p x) = (((omega arith, refl), refl), (byte_clean n, (byte_clean g, (byte_clean p, (value_clean x.items, tt)))))
-command_clean (command.Sync n i) = (((omega arith, refl), refl), (byte_clean n, (two_clean i, tt)))
-
-said_clean : (said : Line) → IsSaid said → AllByRecursion IsClean (line_words said)
-said_clean (line.Send e p m) h = (((omega arith, refl), refl), (end_clean e, (byte_clean p, (hex_clean m h.2.0, tt))))
-said_clean (line.Deliver e n) h = (((omega arith, refl), refl), (end_clean e, maybe_clean n h.1))
-said_clean (line.Lose e) h = (((omega arith, refl), refl), (end_clean e, tt))
-said_clean (line.Damage e p) h = (((omega arith, refl), refl), (end_clean e, numbers_clean p.items h.1))
-said_clean (line.Tick n) h = (((omega arith, refl), refl), maybe_clean n h)
-said_clean (line.Reset e n) h = (((omega arith, refl), refl), (end_clean e, maybe_clean n h.1))
-said_clean (line.Busy e) h = (((omega arith, refl), refl), (end_clean e, tt))
-said_clean (line.Ready e) h = (((omega arith, refl), refl), (end_clean e, tt))
-said_clean (line.Boot n) h = (((omega arith, refl), refl), (byte_clean n, tt))
-said_clean (line.Cut n) h = (((omega arith, refl), refl), (byte_clean n, tt))
-said_clean (line.Activate n s p) h = (((omega arith, refl), refl), (byte_clean n, (two_clean s, (byte_clean p, tt))))
-said_clean (line.Arm n k x) h = (((omega arith, refl), refl), (byte_clean n, (number_clean k h.1, (hex_clean x.items h.2.0, tt))))
-said_clean (line.Init e i p) h = (((omega arith, refl), refl), (end_clean e, (hex_clean i h.1.0, each_clean p.items h.2)))
-said_clean (line.Tables n) h = (((omega arith, refl), refl), (byte_clean n, tt))
-
-entry_clean : (a : Entry) → IsEntry a → AllByRecursion IsClean (entry_words a)
-entry_clean (entry.Head header) h =
-    (((omega arith, refl), refl), (((omega arith, refl), refl), (((omega arith, refl), refl), (world_clean header.hci, hosts_clean header.hosts.items))))
-entry_clean (entry.Echo said) h = (((omega arith, refl), refl), said_clean said h)
-entry_clean (entry.Up e n) h = (((omega arith, refl), refl), (end_clean e, (number_clean n h.1, tt)))
-entry_clean (entry.Down e why) h = (((omega arith, refl), refl), (end_clean e, (down_clean why, tt)))
-entry_clean (entry.Active e) h = (((omega arith, refl), refl), (end_clean e, tt))
-entry_clean (entry.GaveUp e n) h = (((omega arith, refl), refl), (end_clean e, (number_clean n h.1, tt)))
-entry_clean (entry.Sent e n p m) h = (((omega arith, refl), refl), (end_clean e, (number_clean n h.1, (byte_clean p, (hex_clean m h.3.0, tt)))))
-entry_clean (entry.Got e n p m) h = (((omega arith, refl), refl), (end_clean e, (number_clean n h.1, (byte_clean p, (hex_clean m h.3.0, tt)))))
-entry_clean (entry.Acked e n k) h = (((omega arith, refl), refl), (end_clean e, (number_clean n h.1, (number_clean k h.2, tt))))
-entry_clean (entry.Emit e l) h = (((omega arith, refl), refl), (end_clean e, (hex_clean l h.1.0, tt)))
-entry_clean (entry.Took e l) h = (((omega arith, refl), refl), (end_clean e, (hex_clean l h.1.0, tt)))
-entry_clean (entry.Lost e l why) h = (((omega arith, refl), refl), (end_clean e, (hex_clean l h.1.0, (lost_clean why, tt))))
-entry_clean (entry.Turn e p m) h = (((omega arith, refl), refl), (end_clean e, (byte_clean p, (hex_clean m h.2.0, tt))))
-entry_clean (entry.Held e n s) h = (((omega arith, refl), refl), (end_clean e, (number_clean n h.1, (number_clean s h.2, tt))))
-entry_clean (entry.Ask n m) h = (((omega arith, refl), refl), (byte_clean n, (hex_clean m h.1.0, tt)))
-entry_clean (entry.Dropped e p) h = (((omega arith, refl), refl), (end_clean e, (byte_clean p, tt)))
-entry_clean (entry.Command n c) h = (((omega arith, refl), refl), (byte_clean n, command_clean c))
-entry_clean (entry.AnyOk n k) h = (((omega arith, refl), refl), (byte_clean n, (number_clean k h.1, tt)))
-entry_clean (entry.InitSame e) h = (((omega arith, refl), refl), (end_clean e, (((omega arith, refl), refl), tt)))
-entry_clean (entry.InitMade e n) h = (((omega arith, refl), refl), (end_clean e, (((omega arith, refl), refl), (number_clean n h.1, tt))))
-entry_clean (entry.InitFailed e c) h = (((omega arith, refl), refl), (end_clean e, (((omega arith, refl), refl), (byte_clean c, tt))))
-entry_clean (entry.Cut n) h = (((omega arith, refl), refl), (byte_clean n, tt))
-entry_clean (entry.Booted n k) h = (((omega arith, refl), refl), (byte_clean n, (number_clean k h.1, tt)))
-entry_clean (entry.Tables n t) h = absurd h
-entry_clean (entry.No why) h = (((omega arith, refl), refl), cause_clean why h)
-
--- such an entry is one line
-nothing_behind : (a : Entry) → IsEntry a → lines_behind a ≡ []
-nothing_behind (entry.Tables n t) h = absurd h
-nothing_behind a h = refl
-
-one_line : (a : Entry) → IsEntry a → entry_line a ≡ entry_text a ++ 10 ∷ []
-one_line a h = ap (λ lines. entry_text a ++ (10 ∷ lines)) (nothing_behind a h)
+-- ## Lines
 
 all_words : (ws : List (List ℕ)) → AllByRecursion IsClean ws → AllByRecursion IsWord ws
 all_words [] h = tt
@@ -214,12 +26,6 @@ spaced_inside (w ∷ []) h = h.0.1
 spaced_inside (w ∷ v ∷ ws) h =
     let behind : list_all is_inside (spaced (v ∷ ws)) ≡ true = spaced_inside (v ∷ ws) h.1 in
     list_all-append is_inside w (32 ∷ spaced (v ∷ ws)) ∙ rw (h.0.1, behind) refl
-
--- entries with the same text
-same_text : (a b : Entry) → IsEntry a → IsEntry b → entry_text a ≡ entry_text b → a ≡ b
-same_text a b ra rb h =
-    same_entry a b ra rb
-    (sym (words-spaced (entry_words a) (all_words _ (entry_clean a ra))) ∙ ap words h ∙ words-spaced (entry_words b) (all_words _ (entry_clean b rb)))
 
 inside_end : (b : ℕ) (t : Bool) → (not (b == 10) && t) ≡ true → b ≡ 10 → ⊥
 inside_end b t h e = let bad : (not (10 == 10) && t) ≡ true = subst (λ c. (not (c == 10) && t) ≡ true) e h in cc
@@ -239,26 +45,84 @@ cut (c ∷ x) (d ∷ y) r s a b h =
     let behind = cut x y r s (rest_inside _ _ a) (rest_inside _ _ b) tails in
     (ap (λ e. e ∷ x) same ∙ ap (λ t. d ∷ t) behind.0, behind.1)
 
-no_text : (a : Entry) (rest : List ℕ) → entry_line a ++ rest ≡ [] → ⊥
-no_text a rest h =
-    let long = length-append (entry_line a) rest in
-    let line = length-append (entry_text a) (10 ∷ lines_behind a) in
-    let none : length (entry_line a ++ rest) ≡ 0 = ap length h in
+same_words : (ws vs : List (List ℕ)) → IsCleanLine ws → IsCleanLine vs → spaced ws ≡ spaced vs → ws ≡ vs
+same_words ws vs rw rv h = sym (words-spaced ws (all_words ws rw)) ∙ ap words h ∙ words-spaced vs (all_words vs rv)
+
+no_line : (ws : List (List ℕ)) (rest : List ℕ) → told_line ws ++ rest ≡ [] → ⊥
+no_line ws rest h =
+    let long = length-append (told_line ws) rest in
+    let line = length-append (spaced ws) (10 ∷ []) in
+    let none : length (told_line ws ++ rest) ≡ 0 = ap length h in
     omega (arith, long, line, none)
 
-split : (a : Entry) (xs : List Entry) → IsEntry a → flat_map entry_line (a ∷ xs) ≡ entry_text a ++ (10 ∷ flat_map entry_line xs)
-split a xs h = ap (λ line. line ++ flat_map entry_line xs) (one_line a h) ∙ append_assoc (entry_text a) (10 ∷ []) (flat_map entry_line xs)
+-- texts of lines
+same_lines : (xs ys : List (List (List ℕ))) → AllByRecursion IsCleanLine xs → AllByRecursion IsCleanLine ys
+    → flat_map told_line xs ≡ flat_map told_line ys → xs ≡ ys
+same_lines [] [] ra rb h = refl
+same_lines [] (v ∷ ys) ra rb h = absurd (no_line v (flat_map told_line ys) (sym h))
+same_lines (w ∷ xs) [] ra rb h = absurd (no_line w (flat_map told_line xs) h)
+same_lines (w ∷ xs) (v ∷ ys) ra rb h =
+    let parts = cut (spaced w) (spaced v) (flat_map told_line xs) (flat_map told_line ys) (spaced_inside w ra.0) (spaced_inside v rb.0)
+    (sym (append_assoc (spaced w) (10 ∷ []) (flat_map told_line xs)) ∙ h ∙ append_assoc (spaced v) (10 ∷ []) (flat_map told_line ys)) in
+    ap (λ ws. ws ∷ xs) (same_words w v ra.0 rb.0 parts.0) ∙ ap (λ lines. v ∷ lines) (same_lines xs ys ra.1 rb.1 parts.1)
+
+-- ## Entries
+
+-- the words of all lines of an entry
+abbrev entry_lines : Entry → List (List (List ℕ))
+entry_lines a = entry_words a ∷ words_behind a
+
+behind_told : (a : Entry) → lines_behind a ≡ flat_map told_line (words_behind a)
+behind_told (entry.Tables n t) = rows_told t
+behind_told a = refl
+
+entry_told : (a : Entry) → entry_line a ≡ flat_map told_line (entry_lines a)
+entry_told a =
+    ap (λ lines. entry_text a ++ (10 ∷ lines)) (behind_told a) ∙ sym (append_assoc (entry_text a) (10 ∷ []) (flat_map told_line (words_behind a)))
+
+all_told : (xs : List Entry) → flat_map entry_line xs ≡ flat_map told_line (flat_map entry_lines xs)
+all_told [] = refl
+all_told (a ∷ xs) =
+    ap (λ text. text ++ flat_map entry_line xs) (entry_told a) ∙ ap (λ text. flat_map told_line (entry_lines a) ++ text) (all_told xs)
+    ∙ sym (flat_map-append told_line (entry_lines a) (flat_map entry_lines xs))
+
+behind_clean : (a : Entry) → AllByRecursion IsCleanLine (words_behind a)
+behind_clean (entry.Tables n t) = rows_clean t
+behind_clean a = tt
+
+joined_lines : (xs ys : List (List (List ℕ))) → AllByRecursion IsCleanLine xs → AllByRecursion IsCleanLine ys → AllByRecursion IsCleanLine (xs ++ ys)
+joined_lines [] ys ra rb = rb
+joined_lines (x ∷ xs) ys ra rb = (ra.0, joined_lines xs ys ra.1 rb)
+
+all_clean : (xs : List Entry) → All IsEntry xs → AllByRecursion IsCleanLine (flat_map entry_lines xs)
+all_clean [] h = tt
+all_clean (a ∷ xs) h = (
+  entry_clean a (h 0 a (omega arith)),
+  joined_lines (words_behind a) (flat_map entry_lines xs) (behind_clean a) (all_clean xs (λ k d within. h (suc k) d (omega arith))),
+)
+
+-- entries with the same first line have as many lines behind it
+as_many : (a b : Entry) → IsEntry a → IsEntry b → entry_words a ≡ entry_words b → length (words_behind a) ≡ length (words_behind b)
+as_many (entry.Tables n t) (entry.Tables m u) ra rb h = rows_length t u (same_counts n m t u ra.1 rb.1 h)
+as_many (entry.Tables n t) b ra rb h = absurd (other_words (entry_words (entry.Tables n t)) (entry_words b) refl h)
+as_many a (entry.Tables m u) ra rb h = absurd (other_words (entry_words a) (entry_words (entry.Tables m u)) refl h)
+as_many a b ra rb h = refl
+
+same_said_lines : (xs ys : List Entry) → All IsEntry xs → All IsEntry ys → flat_map entry_lines xs ≡ flat_map entry_lines ys → xs ≡ ys
+same_said_lines [] [] ra rb h = refl
+same_said_lines [] (b ∷ ys) ra rb h = cc
+same_said_lines (a ∷ xs) [] ra rb h = cc
+same_said_lines (a ∷ xs) (b ∷ ys) ra rb h =
+    let is_a = ra 0 a (omega arith) in
+    let is_b = rb 0 b (omega arith) in
+    let first : entry_words a ≡ entry_words b = cc in
+    let behind : words_behind a ++ flat_map entry_lines xs ≡ words_behind b ++ flat_map entry_lines ys = cc in
+    let parts = cut_at (words_behind a) (words_behind b) _ _ (as_many a b is_a is_b first) behind in
+    let entry : a ≡ b = same_entry a b is_a is_b first parts.0 in
+    let rest : xs ≡ ys = same_said_lines xs ys (λ k d within. ra (suc k) d (omega arith)) (λ k d within. rb (suc k) d (omega arith)) parts.1 in cc
 
 -- transcripts with the same text
 pub same_transcript : (xs ys : List Entry) → All IsEntry xs → All IsEntry ys → flat_map entry_line xs ≡ flat_map entry_line ys → xs ≡ ys
-same_transcript [] [] ra rb h = refl
-same_transcript [] (b ∷ ys) ra rb h = absurd (no_text b (flat_map entry_line ys) (sym h))
-same_transcript (a ∷ xs) [] ra rb h = absurd (no_text a (flat_map entry_line xs) h)
-same_transcript (a ∷ xs) (b ∷ ys) ra rb h =
-    let is_a = ra 0 a (omega arith) in
-    let is_b = rb 0 b (omega arith) in
-    let parts = cut (entry_text a) (entry_text b) (flat_map entry_line xs) (flat_map entry_line ys)
-    (spaced_inside _ (entry_clean a is_a)) (spaced_inside _ (entry_clean b is_b))
-    (sym (split a xs is_a) ∙ h ∙ split b ys is_b) in
-    let first : a ≡ b = same_text a b is_a is_b parts.0 in
-    let rest : xs ≡ ys = same_transcript xs ys (λ k d within. ra (suc k) d (omega arith)) (λ k d within. rb (suc k) d (omega arith)) parts.1 in cc
+same_transcript xs ys ra rb h =
+    same_said_lines xs ys ra rb
+    (same_lines (flat_map entry_lines xs) (flat_map entry_lines ys) (all_clean xs ra) (all_clean ys rb) (sym (all_told xs) ∙ h ∙ all_told ys))

@@ -1,5 +1,8 @@
 -- The ranges of what an entry of a transcript says.
 use Rattle.std.specs.Prelude.{◌≡◌, ℕ, ◌^◌, ◌<◌, false, List, length, All, IfSome}
+use Rattle.pipe_table.specs.declared.row.PipeRow.{PipeRow}
+use Rattle.registry.specs.declared.value.RegValue.{RegValue}
+use Rattle.hci_tables.specs.Tables.{HciTables}
 use Rattle.hci_tables.specs.declared.command.Command.{Command}
 use Rattle.hci_tables.specs.declared.command.Command.TheVariants as command
 use Rattle.trace_model.specs.declared.line.End.{End}
@@ -55,17 +58,44 @@ IsCause cause.Waiting = Unit {0}
 IsCause cause.TooLong = Unit {0}
 IsCause cause.Empty = Unit {0}
 
+-- a pipe
+pub record IsSaidPipe (row : PipeRow) : Type 0 where
+  pub pid : IsByte row.pid
+  pub creator : IsByte row.creator
+  pub creator_gate : IsByte row.creator_gate
+  pub dest : IsByte row.dest
+  pub dest_gate : IsByte row.dest_gate
+
 -- a command: a created pipe is closed, which its text doesn't tell
 abbrev pub IsSaidCommand : Command → Type 0
-IsSaidCommand (command.Create row) =
-    (row.opened ≡ false) × IsByte row.pid × IsByte row.creator × IsByte row.creator_gate × IsByte row.dest × IsByte row.dest_gate
+IsSaidCommand (command.Create row) = (row.opened ≡ false) × IsSaidPipe row
 IsSaidCommand (command.Delete pid) = IsByte pid
 IsSaidCommand (command.Clear host) = IsByte host
 IsSaidCommand (command.SetOpened host pid opened) = IsByte host × IsByte pid
 IsSaidCommand (command.Set host gate param value) = IsByte host × IsByte gate × IsByte param × All IsByte value.items
 IsSaidCommand (command.Sync host id) = IsByte host × IsTwoBytes id
 
--- an entry, but tables
+-- an opened static pipe: its host and the pipe
+abbrev pub IsSaidStatic : ℕ × ℕ → Type 0
+IsSaidStatic static = IsByte static.0 × IsByte static.1
+
+-- a value of a registry
+abbrev pub IsSaidValue : RegValue → Type 0
+IsSaidValue value = IsByte value.host × IsByte value.gate × IsByte value.param × All IsByte value.value.items
+
+-- a kept sync identifier, with its host
+abbrev pub IsSaidSync : ℕ × ℕ → Type 0
+IsSaidSync sync = IsByte sync.0 × IsTwoBytes sync.1
+
+-- tables: so many rows of each kind, and what the rows say
+pub record AreSaidTables (t : HciTables) : Type 0 where
+  pub counts : IsNumber (length t.rows) × IsNumber (length t.statics) × IsNumber (length t.values) × IsNumber (length t.syncs)
+  pub pipes : All IsSaidPipe t.rows
+  pub statics : All IsSaidStatic t.statics
+  pub values : All IsSaidValue t.values
+  pub syncs : All IsSaidSync t.syncs
+
+-- an entry
 abbrev pub IsEntry : Entry → Type 0
 IsEntry (entry.Head header) = IsHeader header
 IsEntry (entry.Echo said) = IsSaid said
@@ -90,5 +120,5 @@ IsEntry (entry.InitMade at count) = IsEnd at × IsNumber count
 IsEntry (entry.InitFailed at code) = IsEnd at × IsByte code
 IsEntry (entry.Cut node) = IsByte node
 IsEntry (entry.Booted node count) = IsByte node × IsNumber count
-IsEntry (entry.Tables node tables) = ⊥
+IsEntry (entry.Tables node tables) = IsByte node × AreSaidTables tables
 IsEntry (entry.No cause) = IsCause cause
