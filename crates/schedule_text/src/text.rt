@@ -1,11 +1,12 @@
 //! Text that grows at the end of a vector until memory runs out.
-ghost use Rattle.std.specs.Prelude.{◌≡◌, List, ℕ, [], ◌∷◌, ◌++◌, map, if◌then◌else◌};
+ghost use Rattle.std.specs.Prelude.{◌≡◌, true, false, List, ℕ, [], ◌∷◌, ◌++◌, map, if◌then◌else◌};
 ghost use Rattle.std.specs.Fmt.{decimal};
 ghost use Rattle.hex.specs.Hex.{encode_upper};
 ghost use Rattle.schedule_text.specs.Entries.{end_text, byte_text, two_bytes_text, number_words};
-ghost use Rattle.schedule_text.specs.Growth.{Holds, HoldsWords};
+ghost use Rattle.schedule_text.specs.Growth.{Holds, HoldsWords, IsFront};
 ghost use Rattle.schedule_text.specs.Parts.{part_words, parts_words};
 
+use arrayvec::ArrayVec;
 use trace_model::End;
 
 /// The sixteen hexadecimal digits.
@@ -38,22 +39,47 @@ pub(crate) enum Part<'a> {
     EachThree(&'a [[u8; 3]]),
 }
 
-/// Text that grows at the end of a vector. Once memory has run out nothing is appended.
+/// Text that grows at the end of a vector. What comes last waits, so that a line is appended at once. Once memory has run out
+/// nothing is appended.
 #[derive(Drop)]
 pub(crate) struct Text {
     pub bytes: Vec<u8>,
+    pub waiting: ArrayVec<u8, 64>,
     pub short: bool,
 }
 
 impl Text {
     /// Appends bytes.
+    #[inline(always)]
     pub(crate) fn push(&mut self, bytes: &[u8])
-        ensures { (start text : List ℕ) → Holds start text self.old.bytes.items self.old.short
-            → Holds start (text ++ bytes.now) self.new.bytes.items self.new.short }
+        ensures { (start text : List ℕ) → Holds start text self.old
+            → Holds start (text ++ bytes.now) self.new }
+    {
+        if self.waiting.try_extend_from_slice(bytes).is_err() {
+            self.push_behind(bytes);
+        }
+    }
+
+    /// Appends lines, or nothing.
+    #[inline(always)]
+    pub(crate) fn lines(&mut self, bytes: &[u8])
+        ensures { (start text : List ℕ) → Holds start text self.old
+            → Holds start (text ++ bytes.now) self.new }
     {
         if bytes.is_empty() {
             return;
         }
+        self.push_behind(bytes);
+    }
+
+    /// Appends bytes for which there is no room beside those that wait.
+    #[cold]
+    #[inline(never)]
+    fn push_behind(&mut self, bytes: &[u8])
+        ensures { (start text : List ℕ) → Holds start text self.old
+            → Holds start (text ++ bytes.now) self.new }
+    {
+        self.flush();
         if self.short {
             return;
         }
@@ -63,10 +89,44 @@ impl Text {
         }
     }
 
+    /// Appends what waits to the vector.
+    fn flush(&mut self)
+        ensures same { (start text : List ℕ) → Holds start text self.old → Holds start text self.new }
+        ensures none { self.new.short ≡ false → self.new.waiting.items ≡ [] }
+    {
+        if self.short {
+            return;
+        }
+        match self.bytes.extend_from_slice(self.waiting.as_slice()) {
+            Ok(()) => self.waiting.clear(),
+            Err(_) => self.short = true,
+        }
+    }
+
+    /// The vector with all that was appended, and whether memory has run out before.
+    #[inline(always)]
+    pub(crate) fn finish(self) -> (Vec<u8>, bool)
+        ensures all { result.1 ≡ false → (start text : List ℕ) → Holds start text self → result.0.items ≡ start ++ text }
+        ensures front { result.1 ≡ true → (start text : List ℕ) → Holds start text self → IsFront start text result.0.items }
+    {
+        let Text {
+            mut bytes,
+            waiting,
+            short,
+        } = self;
+        if short {
+            return (bytes, true);
+        }
+        match bytes.extend_from_slice(waiting.as_slice()) {
+            Ok(()) => (bytes, false),
+            Err(_) => (bytes, true),
+        }
+    }
+
     /// Appends a word and behind it parts, as the first ones of a line.
     pub(crate) fn entry(&mut self, word: &[u8], parts: &[Part<'_>])
-        ensures { (start : List ℕ) → Holds start [] self.old.bytes.items self.old.short
-            → HoldsWords start (word.now ∷ parts_words parts.now) self.new.bytes.items self.new.short }
+        ensures { (start : List ℕ) → Holds start [] self.old
+            → HoldsWords start (word.now ∷ parts_words parts.now) self.new }
     {
         self.push(word);
         self.parts(parts);
@@ -74,8 +134,8 @@ impl Text {
 
     /// Appends parts, a space before each word.
     pub(crate) fn parts(&mut self, parts: &[Part<'_>])
-        ensures { (start first : List ℕ) (more : List (List ℕ)) → HoldsWords start (first ∷ more) self.old.bytes.items self.old.short
-            → HoldsWords start (first ∷ (more ++ parts_words parts.now)) self.new.bytes.items self.new.short }
+        ensures { (start first : List ℕ) (more : List (List ℕ)) → HoldsWords start (first ∷ more) self.old
+            → HoldsWords start (first ∷ (more ++ parts_words parts.now)) self.new }
     {
         for part in parts {
             self.part(part);
@@ -83,8 +143,8 @@ impl Text {
     }
 
     fn part(&mut self, part: &Part<'_>)
-        ensures { (start first : List ℕ) (more : List (List ℕ)) → HoldsWords start (first ∷ more) self.old.bytes.items self.old.short
-            → HoldsWords start (first ∷ (more ++ part_words part.now)) self.new.bytes.items self.new.short }
+        ensures { (start first : List ℕ) (more : List (List ℕ)) → HoldsWords start (first ∷ more) self.old
+            → HoldsWords start (first ∷ (more ++ part_words part.now)) self.new }
     {
         match part {
             Part::Word(word) => self.word(word),
@@ -92,7 +152,7 @@ impl Text {
             Part::Byte(byte) => self.byte(*byte),
             Part::TwoBytes(number) => self.two_bytes(*number),
             Part::Bytes(bytes) => self.hex(bytes),
-            Part::Number(number) => self.number(u64::from(*number)),
+            Part::Number(number) => self.short_number(*number),
             Part::Count(count) => self.number(*count as u64),
             Part::Maybe(number) => self.maybe(*number),
             Part::Numbers(numbers) => self.numbers(numbers),
@@ -102,16 +162,16 @@ impl Text {
     }
 
     fn two_bytes(&mut self, number: u16)
-        ensures { (start first : List ℕ) (more : List (List ℕ)) → HoldsWords start (first ∷ more) self.old.bytes.items self.old.short
-            → HoldsWords start (first ∷ (more ++ two_bytes_text number ∷ [])) self.new.bytes.items self.new.short }
+        ensures { (start first : List ℕ) (more : List (List ℕ)) → HoldsWords start (first ∷ more) self.old
+            → HoldsWords start (first ∷ (more ++ two_bytes_text number ∷ [])) self.new }
     {
         let [high, low] = number.to_be_bytes();
         self.hex(&[high, low]);
     }
 
-    fn maybe(&mut self, number: Option<u8>)
-        ensures { (start first : List ℕ) (more : List (List ℕ)) → HoldsWords start (first ∷ more) self.old.bytes.items self.old.short
-            → HoldsWords start (first ∷ (more ++ number_words number)) self.new.bytes.items self.new.short }
+    pub(crate) fn maybe(&mut self, number: Option<u8>)
+        ensures { (start first : List ℕ) (more : List (List ℕ)) → HoldsWords start (first ∷ more) self.old
+            → HoldsWords start (first ∷ (more ++ number_words number)) self.new }
     {
         if let Some(number) = number {
             self.number(u64::from(number));
@@ -119,8 +179,8 @@ impl Text {
     }
 
     fn numbers(&mut self, numbers: &[u16])
-        ensures { (start first : List ℕ) (more : List (List ℕ)) → HoldsWords start (first ∷ more) self.old.bytes.items self.old.short
-            → HoldsWords start (first ∷ (more ++ map decimal numbers.now)) self.new.bytes.items self.new.short }
+        ensures { (start first : List ℕ) (more : List (List ℕ)) → HoldsWords start (first ∷ more) self.old
+            → HoldsWords start (first ∷ (more ++ map decimal numbers.now)) self.new }
     {
         for number in numbers {
             self.number(u64::from(*number));
@@ -128,8 +188,8 @@ impl Text {
     }
 
     fn each_byte(&mut self, bytes: &[u8])
-        ensures { (start first : List ℕ) (more : List (List ℕ)) → HoldsWords start (first ∷ more) self.old.bytes.items self.old.short
-            → HoldsWords start (first ∷ (more ++ map byte_text bytes.now)) self.new.bytes.items self.new.short }
+        ensures { (start first : List ℕ) (more : List (List ℕ)) → HoldsWords start (first ∷ more) self.old
+            → HoldsWords start (first ∷ (more ++ map byte_text bytes.now)) self.new }
     {
         for byte in bytes {
             self.byte(*byte);
@@ -137,8 +197,8 @@ impl Text {
     }
 
     fn each_three(&mut self, threes: &[[u8; 3]])
-        ensures { (start first : List ℕ) (more : List (List ℕ)) → HoldsWords start (first ∷ more) self.old.bytes.items self.old.short
-            → HoldsWords start (first ∷ (more ++ map encode_upper threes.now)) self.new.bytes.items self.new.short }
+        ensures { (start first : List ℕ) (more : List (List ℕ)) → HoldsWords start (first ∷ more) self.old
+            → HoldsWords start (first ∷ (more ++ map encode_upper threes.now)) self.new }
     {
         for three in threes {
             self.hex(three);
@@ -146,36 +206,39 @@ impl Text {
     }
 
     /// Appends a space and a word.
-    fn word(&mut self, word: &[u8])
-        ensures { (start first : List ℕ) (more : List (List ℕ)) → HoldsWords start (first ∷ more) self.old.bytes.items self.old.short
-            → HoldsWords start (first ∷ (more ++ word.now ∷ [])) self.new.bytes.items self.new.short }
+    #[inline]
+    pub(crate) fn word(&mut self, word: &[u8])
+        ensures { (start first : List ℕ) (more : List (List ℕ)) → HoldsWords start (first ∷ more) self.old
+            → HoldsWords start (first ∷ (more ++ word.now ∷ [])) self.new }
     {
         self.push(b" ");
         self.push(word);
     }
 
     /// Appends a space and an end, as `02c` or `02h`.
-    fn end(&mut self, at: End)
-        ensures { (start first : List ℕ) (more : List (List ℕ)) → HoldsWords start (first ∷ more) self.old.bytes.items self.old.short
-            → HoldsWords start (first ∷ (more ++ end_text at ∷ [])) self.new.bytes.items self.new.short }
+    #[inline]
+    pub(crate) fn end(&mut self, at: End)
+        ensures { (start first : List ℕ) (more : List (List ℕ)) → HoldsWords start (first ∷ more) self.old
+            → HoldsWords start (first ∷ (more ++ end_text at ∷ [])) self.new }
     {
         let [high, low, letter] = end_letters(at);
         self.push(&[b' ', high, low, letter]);
     }
 
     /// Appends a space and a byte as two hexadecimal digits.
-    fn byte(&mut self, byte: u8)
-        ensures { (start first : List ℕ) (more : List (List ℕ)) → HoldsWords start (first ∷ more) self.old.bytes.items self.old.short
-            → HoldsWords start (first ∷ (more ++ byte_text byte ∷ [])) self.new.bytes.items self.new.short }
+    #[inline]
+    pub(crate) fn byte(&mut self, byte: u8)
+        ensures { (start first : List ℕ) (more : List (List ℕ)) → HoldsWords start (first ∷ more) self.old
+            → HoldsWords start (first ∷ (more ++ byte_text byte ∷ [])) self.new }
     {
         let [high, low] = hex_digits(byte);
         self.push(&[b' ', high, low]);
     }
 
     /// Appends a space and bytes as pairs of hexadecimal digits.
-    fn hex(&mut self, bytes: &[u8])
-        ensures { (start first : List ℕ) (more : List (List ℕ)) → HoldsWords start (first ∷ more) self.old.bytes.items self.old.short
-            → HoldsWords start (first ∷ (more ++ encode_upper bytes.now ∷ [])) self.new.bytes.items self.new.short }
+    pub(crate) fn hex(&mut self, bytes: &[u8])
+        ensures { (start first : List ℕ) (more : List (List ℕ)) → HoldsWords start (first ∷ more) self.old
+            → HoldsWords start (first ∷ (more ++ encode_upper bytes.now ∷ [])) self.new }
     {
         match bytes.split_first() {
             Some((first, rest)) => {
@@ -188,8 +251,8 @@ impl Text {
 
     /// Appends bytes as pairs of hexadecimal digits, two bytes at once.
     fn pairs(&mut self, bytes: &[u8])
-        ensures { (start text : List ℕ) → Holds start text self.old.bytes.items self.old.short
-            → Holds start (text ++ encode_upper bytes.now) self.new.bytes.items self.new.short }
+        ensures { (start text : List ℕ) → Holds start text self.old
+            → Holds start (text ++ encode_upper bytes.now) self.new }
     {
         let mut left = bytes;
         'twos: while let Some(([first, second], more)) = left.split_first_chunk::<2>() {
@@ -204,9 +267,10 @@ impl Text {
     }
 
     /// Appends a space and a decimal number.
-    fn number(&mut self, number: u64)
-        ensures { (start first : List ℕ) (more : List (List ℕ)) → HoldsWords start (first ∷ more) self.old.bytes.items self.old.short
-            → HoldsWords start (first ∷ (more ++ decimal number ∷ [])) self.new.bytes.items self.new.short }
+    #[inline]
+    pub(crate) fn number(&mut self, number: u64)
+        ensures { (start first : List ℕ) (more : List (List ℕ)) → HoldsWords start (first ∷ more) self.old
+            → HoldsWords start (first ∷ (more ++ decimal number ∷ [])) self.new }
     {
         if number < 10 {
             self.push(&[b' ', b'0' + number as u8]);
@@ -216,9 +280,18 @@ impl Text {
         self.digits(number);
     }
 
+    /// Appends a space and a decimal number.
+    #[inline]
+    pub(crate) fn short_number(&mut self, number: u32)
+        ensures { (start first : List ℕ) (more : List (List ℕ)) → HoldsWords start (first ∷ more) self.old
+            → HoldsWords start (first ∷ (more ++ decimal number ∷ [])) self.new }
+    {
+        self.number(u64::from(number));
+    }
+
     fn digits(&mut self, number: u64)
-        ensures { (start text : List ℕ) → Holds start text self.old.bytes.items self.old.short
-            → Holds start (text ++ decimal number) self.new.bytes.items self.new.short }
+        ensures { (start text : List ℕ) → Holds start text self.old
+            → Holds start (text ++ decimal number) self.new }
     {
         if number < 10 {
             self.push(&[b'0' + number as u8]);

@@ -4,13 +4,14 @@ ghost use Rattle.std.specs.Fmt.{decimal};
 ghost use Rattle.hex.specs.Hex.{encode_upper};
 ghost use Rattle.tables_text.specs.Tables.{hex_or_dash};
 ghost use Rattle.schedule_text.specs.Parts.{part_words};
-ghost use Rattle.schedule_text.specs.Entries.{end_text, byte_text, header_words, line_words, down_word, lost_word, cause_words, command_words, count_words, entry_words, lines_behind, entry_line};
+ghost use Rattle.schedule_text.specs.Entries.{end_text, byte_text, number_words, header_words, line_words, down_word, lost_word, cause_words, command_words, count_words, entry_words, lines_behind, entry_line};
 ghost use Rattle.schedule_text.specs.Growth.{Holds, HoldsWords, IsFront};
 
 use crate::text::Part::{
     self, Byte, Bytes, Count, EachByte, EachThree, End, Maybe, Number, Numbers, TwoBytes, Word,
 };
 use crate::text::Text;
+use arrayvec::ArrayVec;
 use hci_tables::{Command, Tables};
 use std::alloc::{AllocError, Global};
 use std::mem;
@@ -26,12 +27,13 @@ pub fn write_entry(alloc: Global, entry: &Entry, out: &mut Vec<u8>) -> Result<()
     let behind = lines_behind(alloc, entry)?;
     let mut text = Text {
         bytes: mem::replace(out, Vec::new(alloc)),
+        waiting: ArrayVec::new(),
         short: false,
     };
     write_words(&mut text, entry);
     text.push(b"\n");
-    text.push(behind.as_slice());
-    let Text { bytes, short } = text;
+    text.lines(behind.as_slice());
+    let (bytes, short) = text.finish();
     *out = bytes;
     if short { Err(NoMemory) } else { Ok(()) }
 }
@@ -47,8 +49,8 @@ fn lines_behind(alloc: Global, entry: &Entry) -> Result<Vec<u8>, AllocError>
 }
 
 fn write_words(text: &mut Text, entry: &Entry)
-    ensures { (start : List ℕ) → Holds start [] text.old.bytes.items text.old.short
-        → HoldsWords start (entry_words entry.now) text.new.bytes.items text.new.short }
+    ensures { (start : List ℕ) → Holds start [] text.old
+        → HoldsWords start (entry_words entry.now) text.new }
 {
     match entry {
         Entry::Head(header) => {
@@ -111,80 +113,89 @@ fn write_words(text: &mut Text, entry: &Entry)
 
 #[inline(never)]
 fn write_at(text: &mut Text, word: &[u8], at: At)
-    ensures { (start : List ℕ) → Holds start [] text.old.bytes.items text.old.short
-        → HoldsWords start (word.now ∷ end_text at ∷ []) text.new.bytes.items text.new.short }
+    ensures { (start : List ℕ) → Holds start [] text.old
+        → HoldsWords start (word.now ∷ end_text at ∷ []) text.new }
 {
     text.entry(word, &[End(at)]);
 }
 
 #[inline(never)]
 fn write_at_word(text: &mut Text, word: &[u8], at: At, other: &[u8])
-    ensures { (start : List ℕ) → Holds start [] text.old.bytes.items text.old.short
-        → HoldsWords start (word.now ∷ end_text at ∷ other.now ∷ []) text.new.bytes.items text.new.short }
+    ensures { (start : List ℕ) → Holds start [] text.old
+        → HoldsWords start (word.now ∷ end_text at ∷ other.now ∷ []) text.new }
 {
     text.entry(word, &[End(at), Word(other)]);
 }
 
 #[inline(never)]
 fn write_at_byte(text: &mut Text, word: &[u8], at: At, byte: u8)
-    ensures { (start : List ℕ) → Holds start [] text.old.bytes.items text.old.short
-        → HoldsWords start (word.now ∷ end_text at ∷ byte_text byte ∷ []) text.new.bytes.items text.new.short }
+    ensures { (start : List ℕ) → Holds start [] text.old
+        → HoldsWords start (word.now ∷ end_text at ∷ byte_text byte ∷ []) text.new }
 {
     text.entry(word, &[End(at), Byte(byte)]);
 }
 
 #[inline(never)]
 fn write_at_number(text: &mut Text, word: &[u8], at: At, number: u32)
-    ensures { (start : List ℕ) → Holds start [] text.old.bytes.items text.old.short
-        → HoldsWords start (word.now ∷ end_text at ∷ decimal number ∷ []) text.new.bytes.items text.new.short }
+    ensures { (start : List ℕ) → Holds start [] text.old
+        → HoldsWords start (word.now ∷ end_text at ∷ decimal number ∷ []) text.new }
 {
     text.entry(word, &[End(at), Number(number)]);
 }
 
-#[inline(never)]
+#[inline(always)]
 fn write_at_numbers(text: &mut Text, word: &[u8], at: At, first: u32, second: u32)
-    ensures { (start : List ℕ) → Holds start [] text.old.bytes.items text.old.short
-        → HoldsWords start (word.now ∷ end_text at ∷ decimal first ∷ decimal second ∷ []) text.new.bytes.items text.new.short }
+    ensures { (start : List ℕ) → Holds start [] text.old
+        → HoldsWords start (word.now ∷ end_text at ∷ decimal first ∷ decimal second ∷ []) text.new }
 {
-    text.entry(word, &[End(at), Number(first), Number(second)]);
+    text.push(word);
+    text.end(at);
+    text.short_number(first);
+    text.short_number(second);
 }
 
-#[inline(never)]
+#[inline(always)]
 fn write_frame(text: &mut Text, word: &[u8], at: At, bytes: &[u8])
-    ensures { (start : List ℕ) → Holds start [] text.old.bytes.items text.old.short
-        → HoldsWords start (word.now ∷ end_text at ∷ encode_upper bytes.now ∷ []) text.new.bytes.items text.new.short }
+    ensures { (start : List ℕ) → Holds start [] text.old
+        → HoldsWords start (word.now ∷ end_text at ∷ encode_upper bytes.now ∷ []) text.new }
 {
-    text.entry(word, &[End(at), Bytes(bytes)]);
+    text.push(word);
+    text.end(at);
+    text.hex(bytes);
 }
 
-#[inline(never)]
+#[inline(always)]
 fn write_message(text: &mut Text, word: &[u8], at: At, session: u32, pid: u8, message: &[u8])
-    ensures { (start : List ℕ) → Holds start [] text.old.bytes.items text.old.short
-        → HoldsWords start (word.now ∷ end_text at ∷ decimal session ∷ byte_text pid ∷ encode_upper message.now ∷ []) text.new.bytes.items text.new.short }
+    ensures { (start : List ℕ) → Holds start [] text.old
+        → HoldsWords start (word.now ∷ end_text at ∷ decimal session ∷ byte_text pid ∷ encode_upper message.now ∷ []) text.new }
 {
-    text.entry(word, &[End(at), Number(session), Byte(pid), Bytes(message)]);
+    text.push(word);
+    text.end(at);
+    text.short_number(session);
+    text.byte(pid);
+    text.hex(message);
 }
 
 #[inline(never)]
 fn write_node(text: &mut Text, word: &[u8], node: u8)
-    ensures { (start : List ℕ) → Holds start [] text.old.bytes.items text.old.short
-        → HoldsWords start (word.now ∷ byte_text node ∷ []) text.new.bytes.items text.new.short }
+    ensures { (start : List ℕ) → Holds start [] text.old
+        → HoldsWords start (word.now ∷ byte_text node ∷ []) text.new }
 {
     text.entry(word, &[Byte(node)]);
 }
 
 #[inline(never)]
 fn write_node_number(text: &mut Text, word: &[u8], node: u8, number: u32)
-    ensures { (start : List ℕ) → Holds start [] text.old.bytes.items text.old.short
-        → HoldsWords start (word.now ∷ byte_text node ∷ decimal number ∷ []) text.new.bytes.items text.new.short }
+    ensures { (start : List ℕ) → Holds start [] text.old
+        → HoldsWords start (word.now ∷ byte_text node ∷ decimal number ∷ []) text.new }
 {
     text.entry(word, &[Byte(node), Number(number)]);
 }
 
 #[inline(never)]
 fn write_loss(text: &mut Text, at: At, bytes: &[u8], cause: LostCause)
-    ensures { (start : List ℕ) → Holds start [] text.old.bytes.items text.old.short
-        → HoldsWords start (codes "lost" ∷ end_text at ∷ encode_upper bytes.now ∷ lost_word cause ∷ []) text.new.bytes.items text.new.short }
+    ensures { (start : List ℕ) → Holds start [] text.old
+        → HoldsWords start (codes "lost" ∷ end_text at ∷ encode_upper bytes.now ∷ lost_word cause ∷ []) text.new }
 {
     text.entry(
         b"lost",
@@ -194,40 +205,40 @@ fn write_loss(text: &mut Text, at: At, bytes: &[u8], cause: LostCause)
 
 #[inline(never)]
 fn write_turn(text: &mut Text, at: At, pid: u8, message: &[u8])
-    ensures { (start : List ℕ) → Holds start [] text.old.bytes.items text.old.short
-        → HoldsWords start (codes "turn" ∷ end_text at ∷ byte_text pid ∷ encode_upper message.now ∷ []) text.new.bytes.items text.new.short }
+    ensures { (start : List ℕ) → Holds start [] text.old
+        → HoldsWords start (codes "turn" ∷ end_text at ∷ byte_text pid ∷ encode_upper message.now ∷ []) text.new }
 {
     text.entry(b"turn", &[End(at), Byte(pid), Bytes(message)]);
 }
 
 #[inline(never)]
 fn write_ask(text: &mut Text, host: u8, message: &[u8])
-    ensures { (start : List ℕ) → Holds start [] text.old.bytes.items text.old.short
-        → HoldsWords start (codes "ask" ∷ byte_text host ∷ encode_upper message.now ∷ []) text.new.bytes.items text.new.short }
+    ensures { (start : List ℕ) → Holds start [] text.old
+        → HoldsWords start (codes "ask" ∷ byte_text host ∷ encode_upper message.now ∷ []) text.new }
 {
     text.entry(b"ask", &[Byte(host), Bytes(message)]);
 }
 
 #[inline(never)]
 fn write_init_made(text: &mut Text, at: At, count: u32)
-    ensures { (start : List ℕ) → Holds start [] text.old.bytes.items text.old.short
-        → HoldsWords start (codes "init" ∷ end_text at ∷ codes "made" ∷ decimal count ∷ []) text.new.bytes.items text.new.short }
+    ensures { (start : List ℕ) → Holds start [] text.old
+        → HoldsWords start (codes "init" ∷ end_text at ∷ codes "made" ∷ decimal count ∷ []) text.new }
 {
     text.entry(b"init", &[End(at), Word(b"made"), Number(count)]);
 }
 
 #[inline(never)]
 fn write_init_failed(text: &mut Text, at: At, code: u8)
-    ensures { (start : List ℕ) → Holds start [] text.old.bytes.items text.old.short
-        → HoldsWords start (codes "init" ∷ end_text at ∷ codes "failed" ∷ byte_text code ∷ []) text.new.bytes.items text.new.short }
+    ensures { (start : List ℕ) → Holds start [] text.old
+        → HoldsWords start (codes "init" ∷ end_text at ∷ codes "failed" ∷ byte_text code ∷ []) text.new }
 {
     text.entry(b"init", &[End(at), Word(b"failed"), Byte(code)]);
 }
 
 #[inline(never)]
 fn write_counts(text: &mut Text, node: u8, tables: &Tables)
-    ensures { (start : List ℕ) → Holds start [] text.old.bytes.items text.old.short
-        → HoldsWords start (count_words node tables.now) text.new.bytes.items text.new.short }
+    ensures { (start : List ℕ) → Holds start [] text.old
+        → HoldsWords start (count_words node tables.now) text.new }
 {
     text.entry(
         b"tables",
@@ -270,8 +281,8 @@ fn cause_of_loss(cause: LostCause) -> &'static [u8]
 
 #[inline(never)]
 fn write_header(text: &mut Text, header: &Header)
-    ensures { (start first : List ℕ) (more : List (List ℕ)) → HoldsWords start (first ∷ more) text.old.bytes.items text.old.short
-        → HoldsWords start (first ∷ (more ++ header_words header.now)) text.new.bytes.items text.new.short }
+    ensures { (start first : List ℕ) (more : List (List ℕ)) → HoldsWords start (first ∷ more) text.old
+        → HoldsWords start (first ∷ (more ++ header_words header.now)) text.new }
 {
     text.parts(&[
         Word(b"swp"),
@@ -289,17 +300,12 @@ fn world_of(hci: bool) -> &'static [u8]
 
 #[inline(never)]
 fn write_line(text: &mut Text, line: &Line)
-    ensures { (start first : List ℕ) (more : List (List ℕ)) → HoldsWords start (first ∷ more) text.old.bytes.items text.old.short
-        → HoldsWords start (first ∷ (more ++ line_words line.now)) text.new.bytes.items text.new.short }
+    ensures { (start first : List ℕ) (more : List (List ℕ)) → HoldsWords start (first ∷ more) text.old
+        → HoldsWords start (first ∷ (more ++ line_words line.now)) text.new }
 {
     match line {
-        Line::Send { at, pid, message } => text.parts(&[
-            Word(b"send"),
-            End(*at),
-            Byte(*pid),
-            Bytes(message.as_slice()),
-        ]),
-        Line::Deliver { at, count } => { text.parts(&[Word(b"deliver"), End(*at), Maybe(*count)]) }
+        Line::Send { at, pid, message } => write_send(text, *at, *pid, message.as_slice()),
+        Line::Deliver { at, count } => write_deliver(text, *at, *count),
         Line::Lose { at } => text.parts(&[Word(b"lose"), End(*at)]),
         Line::Damage { at, places } => text.parts(&[
             Word(b"damage"),
@@ -338,10 +344,31 @@ fn write_line(text: &mut Text, line: &Line)
     }
 }
 
+#[inline(always)]
+fn write_send(text: &mut Text, at: At, pid: u8, message: &[u8])
+    ensures { (start first : List ℕ) (more : List (List ℕ)) → HoldsWords start (first ∷ more) text.old
+        → HoldsWords start (first ∷ (more ++ codes "send" ∷ end_text at ∷ byte_text pid ∷ encode_upper message.now ∷ [])) text.new }
+{
+    text.word(b"send");
+    text.end(at);
+    text.byte(pid);
+    text.hex(message);
+}
+
+#[inline(always)]
+fn write_deliver(text: &mut Text, at: At, count: Option<u8>)
+    ensures { (start first : List ℕ) (more : List (List ℕ)) → HoldsWords start (first ∷ more) text.old
+        → HoldsWords start (first ∷ (more ++ codes "deliver" ∷ end_text at ∷ number_words count)) text.new }
+{
+    text.word(b"deliver");
+    text.end(at);
+    text.maybe(count);
+}
+
 #[inline(never)]
 fn write_cause(text: &mut Text, cause: NoCause)
-    ensures { (start first : List ℕ) (more : List (List ℕ)) → HoldsWords start (first ∷ more) text.old.bytes.items text.old.short
-        → HoldsWords start (first ∷ (more ++ cause_words cause)) text.new.bytes.items text.new.short }
+    ensures { (start first : List ℕ) (more : List (List ℕ)) → HoldsWords start (first ∷ more) text.old
+        → HoldsWords start (first ∷ (more ++ cause_words cause)) text.new }
 {
     match cause {
         NoCause::Off => text.parts(&[Word(b"off")]),
@@ -362,8 +389,8 @@ fn write_cause(text: &mut Text, cause: NoCause)
 
 #[inline(never)]
 fn write_command(text: &mut Text, command: &Command)
-    ensures { (start first : List ℕ) (more : List (List ℕ)) → HoldsWords start (first ∷ more) text.old.bytes.items text.old.short
-        → HoldsWords start (first ∷ (more ++ command_words command.now)) text.new.bytes.items text.new.short }
+    ensures { (start first : List ℕ) (more : List (List ℕ)) → HoldsWords start (first ∷ more) text.old
+        → HoldsWords start (first ∷ (more ++ command_words command.now)) text.new }
 {
     match command {
         Command::Create(row) => text.parts(&[

@@ -1,7 +1,6 @@
-use Rattle.std.proofs.Common.{◌≡◌, [], ◌∷◌, ◌++◌, false, sym, subst}
+use Rattle.std.proofs.Common.{◌≡◌, [], ◌∷◌, ◌++◌}
 use Rattle.schedule_text.specs.Words.{spaced}
 use Rattle.schedule_text.specs.Entries.{entry_words, lines_behind}
-use Rattle.schedule_text.specs.Growth.{Holds}
 use Rattle.schedule_text.proofs.GrowthLemmas.{holds_nothing, holds_line}
 use Rattle.schedule_text.proofs.write.write_entry.Goals as goal
 
@@ -10,17 +9,17 @@ returns-then-short-clause-err c =
     let start = c.args.out.now.items in
     let text = spaced (entry_words c.args.entry.now) in
     let behind : c.as_slice.result.now ≡ lines_behind c.args.entry.now = cc (c.in_ok-behind.ensures) in
-    let empty = subst (λ v. Holds start [] v.items false) (sym c.replace.ensures.value) (holds_nothing start) in
-    (holds_line start text c.as_slice.result.now (lines_behind c.args.entry.now) _ _ behind
-    (c.push-2.ensures start (text ++ (10 ∷ [])) (c.push.ensures start text (c.write_words.ensures start empty)))).front
-    c.if-short.true
+    let empty = holds_nothing start _ (let is = c.replace.ensures.value in cc) c.new-2.ensures (cc) in
+    c.finish-bytes.ensures.front c.if-short.true start _
+    (holds_line start text c.as_slice.result.now (lines_behind c.args.entry.now) _ behind
+    (c.lines.ensures start (text ++ (10 ∷ [])) (c.push.ensures start text (c.write_words.ensures start empty))))
 
 pub returns-clause-ok : goal.returns-clause-ok
 returns-clause-ok c =
     let start = c.args.out.now.items in
     let text = spaced (entry_words c.args.entry.now) in
     let behind : c.as_slice.result.now ≡ lines_behind c.args.entry.now = cc (c.in_ok-behind.ensures) in
-    let empty = subst (λ v. Holds start [] v.items false) (sym c.replace.ensures.value) (holds_nothing start) in
-    (holds_line start text c.as_slice.result.now (lines_behind c.args.entry.now) _ _ behind
-    (c.push-2.ensures start (text ++ (10 ∷ [])) (c.push.ensures start text (c.write_words.ensures start empty)))).whole
-    c.if-short.false
+    let empty = holds_nothing start _ (let is = c.replace.ensures.value in cc) c.new-2.ensures (cc) in
+    c.finish-bytes.ensures.all c.if-short.false start _
+    (holds_line start text c.as_slice.result.now (lines_behind c.args.entry.now) _ behind
+    (c.lines.ensures start (text ++ (10 ∷ [])) (c.push.ensures start text (c.write_words.ensures start empty))))

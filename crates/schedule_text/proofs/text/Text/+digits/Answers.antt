@@ -8,11 +8,11 @@ use Rattle.schedule_text.proofs.text.Text.+digits.Goals as goal
 pub returns-then-number-lt10 : goal.returns-then-number-lt10
 returns-then-number-lt10 t c =
     λ start text h.
-    subst (λ ds. Holds start (text ++ ds) c.push.new.self.bytes.items c.push.new.self.short) (sym (decimal_digit c.args.number (omega arith)))
+    subst (λ ds. Holds start (text ++ ds) c.push.new.self) (sym (decimal_digit c.args.number (omega arith)))
     (c.push.ensures start text h)
 
 pub returns : goal.returns
 returns t c =
     λ start text h.
-    holds_digit start text _ c.args.number _ (omega arith) (omega arith)
+    holds_digit start text c.args.number _ (omega arith) (omega arith)
     (c.push-2.ensures start (text ++ decimal (c.args.number / 10)) (c.digits.ensures start text h))

@@ -5,5 +5,5 @@ use Rattle.schedule_text.proofs.text.Text.each_byte.Given as goal
 
 abbrev pub invariant-loop-byte : goal.invariant-loop-byte
 invariant-loop-byte l =
-    (start first : List ℕ) (more : List (List ℕ)) → HoldsWords start (first ∷ more) l.fn.self.bytes.items l.fn.self.short
-    → HoldsWords start (first ∷ (more ++ map byte_text (take l.byte-index l.bytes))) l.self.bytes.items l.self.short
+    (start first : List ℕ) (more : List (List ℕ)) → HoldsWords start (first ∷ more) l.fn.self
+    → HoldsWords start (first ∷ (more ++ map byte_text (take l.byte-index l.bytes))) l.self

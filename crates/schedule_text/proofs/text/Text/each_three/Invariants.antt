@@ -5,5 +5,5 @@ use Rattle.schedule_text.proofs.text.Text.each_three.Given as goal
 
 abbrev pub invariant-loop-three : goal.invariant-loop-three
 invariant-loop-three l =
-    (start first : List ℕ) (more : List (List ℕ)) → HoldsWords start (first ∷ more) l.fn.self.bytes.items l.fn.self.short
-    → HoldsWords start (first ∷ (more ++ map encode_upper (take l.three-index l.threes))) l.self.bytes.items l.self.short
+    (start first : List ℕ) (more : List (List ℕ)) → HoldsWords start (first ∷ more) l.fn.self
+    → HoldsWords start (first ∷ (more ++ map encode_upper (take l.three-index l.threes))) l.self

@@ -10,6 +10,6 @@ pub returns : goal.returns
 unfolding encode_with
 returns c =
     λ start first more h.
-    holds_spaced start first (end_text c.args.at) _ more _
-    (subst (λ r. Holds start (spaced (first ∷ more) ++ (32 ∷ get_or r 0 0 ∷ get_or r 1 0 ∷ get_or r 2 0 ∷ [])) c.push.new.self.bytes.items c.push.new.self.short) c.end_letters.ensures
+    holds_spaced start first (end_text c.args.at) more _
+    (subst (λ r. Holds start (spaced (first ∷ more) ++ (32 ∷ get_or r 0 0 ∷ get_or r 1 0 ∷ get_or r 2 0 ∷ [])) c.push.new.self) c.end_letters.ensures
     (c.push.ensures start (spaced (first ∷ more)) h))

@@ -10,9 +10,9 @@ returns-in-Some c =
     λ start first more h.
     let byte = c.in-Some.first.now in
     let rest = c.in-Some.rest.now in
-    subst (λ bytes. HoldsWords start (first ∷ (more ++ encode_upper bytes ∷ [])) c.pairs.new.self.bytes.items c.pairs.new.self.short) (sym c.in-Some.ensures.cases.0)
-    (subst (λ word. HoldsWords start (first ∷ (more ++ word ∷ [])) c.pairs.new.self.bytes.items c.pairs.new.self.short) (sym (encode-append (byte ∷ []) rest))
-    (holds_longer start first (encode_upper (byte ∷ [])) (encode_upper rest) _ more _
+    subst (λ bytes. HoldsWords start (first ∷ (more ++ encode_upper bytes ∷ [])) c.pairs.new.self) (sym c.in-Some.ensures.cases.0)
+    (subst (λ word. HoldsWords start (first ∷ (more ++ word ∷ [])) c.pairs.new.self) (sym (encode-append (byte ∷ []) rest))
+    (holds_longer start first (encode_upper (byte ∷ [])) (encode_upper rest) more _
     (c.pairs.ensures start (spaced (first ∷ (more ++ encode_upper (byte ∷ []) ∷ []))) (c.byte.ensures start first more h))))
 
 none_left : (xs : List ℕ) → length xs ≡ 0 → xs ≡ []
@@ -22,7 +22,7 @@ none_left (x ∷ xs) h = absurd (omega arith)
 pub returns-in-None : goal.returns-in-None
 returns-in-None c =
     λ start first more h.
-    holds_spaced start first (encode_upper c.args.bytes.now) _ more _
-    (subst (λ word. Holds start (spaced (first ∷ more) ++ (32 ∷ word)) c.push.new.self.bytes.items c.push.new.self.short)
+    holds_spaced start first (encode_upper c.args.bytes.now) more _
+    (subst (λ word. Holds start (spaced (first ∷ more) ++ (32 ∷ word)) c.push.new.self)
     (sym (ap encode_upper (none_left c.args.bytes.now c.in-None.ensures.cases) ∙ encode-nil))
     (c.push.ensures start (spaced (first ∷ more)) h))

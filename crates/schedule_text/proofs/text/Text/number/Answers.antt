@@ -9,12 +9,12 @@ use Rattle.schedule_text.proofs.text.Text.number.Goals as goal
 pub returns-then-number-lt10 : goal.returns-then-number-lt10
 returns-then-number-lt10 c =
     λ start first more h.
-    holds_spaced start first (decimal c.args.number) _ more _
-    (subst (λ ds. Holds start (spaced (first ∷ more) ++ (32 ∷ ds)) c.push.new.self.bytes.items c.push.new.self.short) (sym (decimal_digit c.args.number (omega arith)))
+    holds_spaced start first (decimal c.args.number) more _
+    (subst (λ ds. Holds start (spaced (first ∷ more) ++ (32 ∷ ds)) c.push.new.self) (sym (decimal_digit c.args.number (omega arith)))
     (c.push.ensures start (spaced (first ∷ more)) h))
 
 pub returns : goal.returns
 returns c =
     λ start first more h.
-    holds_word start first (decimal c.args.number) _ more _
+    holds_word start first (decimal c.args.number) more _
     (c.digits.ensures start (spaced (first ∷ more) ++ (32 ∷ [])) (c.push-2.ensures start (spaced (first ∷ more)) h))

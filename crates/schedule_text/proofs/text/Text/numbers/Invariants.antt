@@ -5,5 +5,5 @@ use Rattle.schedule_text.proofs.text.Text.numbers.Given as goal
 
 abbrev pub invariant-loop-number : goal.invariant-loop-number
 invariant-loop-number l =
-    (start first : List ℕ) (more : List (List ℕ)) → HoldsWords start (first ∷ more) l.fn.self.bytes.items l.fn.self.short
-    → HoldsWords start (first ∷ (more ++ map decimal (take l.number-index l.numbers))) l.self.bytes.items l.self.short
+    (start first : List ℕ) (more : List (List ℕ)) → HoldsWords start (first ∷ more) l.fn.self
+    → HoldsWords start (first ∷ (more ++ map decimal (take l.number-index l.numbers))) l.self

@@ -10,7 +10,7 @@ twos-init c = (
   (
     refl,
     λ start text h.
-        subst (λ t. Holds start t c.args.self.now.bytes.items c.args.self.now.short) (sym (ap (λ t. text ++ t) encode-nil ∙ append-nil text)) h,
+        subst (λ t. Holds start t c.args.self.now) (sym (ap (λ t. text ++ t) encode-nil ∙ append-nil text)) h,
   ),
 )
 
@@ -25,7 +25,7 @@ twos-preserved c =
       (
         append_assoc front two c.in-Some.more.now ∙ ap (λ xs. front ++ xs) (ap₂ (λ xs ys. xs ++ ys) cases.0 cases.1 ∙ take-append-drop 2 left) ∙ c.twos.invariant.1.0,
         λ start text h.
-            holds_two start text front two c.hex_digits.result c.hex_digits-in-Some.result _ _ long c.hex_digits.ensures c.hex_digits-in-Some.ensures
+            holds_two start text front two c.hex_digits.result c.hex_digits-in-Some.result _ long c.hex_digits.ensures c.hex_digits-in-Some.ensures
             (c.push.ensures start _ (c.twos.invariant.1.1 start text h)),
       ),
     )
@@ -44,7 +44,7 @@ returns-in-Some-first c =
     let front = c.twos.invariant.0 in
     let one = last_left left last c.in_default.ensures.cases c.in-Some-first.ensures.value in
     let digits = c.hex_digits-in-Some-first.result in
-    subst (λ t. Holds start t c.push-in-Some-first.new.self.bytes.items c.push-in-Some-first.new.self.short)
+    subst (λ t. Holds start t c.push-in-Some-first.new.self)
     (ap (λ t. (text ++ encode_upper front) ++ t) c.hex_digits-in-Some-first.ensures
     ∙ append_assoc text (encode_upper front) (encode_upper (last ∷ []))
     ∙ ap (λ t. text ++ t) (sym (encode-append front (last ∷ [])) ∙ ap (λ xs. encode_upper (front ++ xs)) (sym one) ∙ ap encode_upper c.twos.invariant.1.0))

@@ -7,7 +7,7 @@ use Rattle.schedule_text.proofs.text.Text.pairs.Given as goal
 abbrev pub invariant-twos : goal.invariant-twos
 invariant-twos l =
     (front : List ℕ) × ((front ++ l.left ≡ l.bytes)
-    × ((start text : List ℕ) → Holds start text l.fn.self.bytes.items l.fn.self.short → Holds start (text ++ encode_upper front) l.self.bytes.items l.self.short))
+    × ((start text : List ℕ) → Holds start text l.fn.self → Holds start (text ++ encode_upper front) l.self))
 
 abbrev pub decreases-twos : goal.decreases-twos
 decreases-twos l = length l.left

@@ -5,5 +5,5 @@ use Rattle.schedule_text.proofs.text.Text.parts.Given as goal
 
 abbrev pub invariant-loop-part : goal.invariant-loop-part
 invariant-loop-part l =
-    (start first : List ℕ) (more : List (List ℕ)) → HoldsWords start (first ∷ more) l.fn.self.bytes.items l.fn.self.short
-    → HoldsWords start (first ∷ (more ++ parts_words (take l.part-index l.parts))) l.self.bytes.items l.self.short
+    (start first : List ℕ) (more : List (List ℕ)) → HoldsWords start (first ∷ more) l.fn.self
+    → HoldsWords start (first ∷ (more ++ parts_words (take l.part-index l.parts))) l.self

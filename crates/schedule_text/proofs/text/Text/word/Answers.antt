@@ -6,5 +6,5 @@ use Rattle.schedule_text.proofs.text.Text.word.Goals as goal
 pub returns : goal.returns
 returns c =
     λ start first more h.
-    holds_word start first c.args.word.now _ more _
+    holds_word start first c.args.word.now more _
     (c.push-2.ensures start (spaced (first ∷ more) ++ (32 ∷ [])) (c.push.ensures start (spaced (first ∷ more)) h))
