@@ -5,7 +5,8 @@ use Rattle.std.proofs.lemmas.Bool.{cond_both}
 use Rattle.std.proofs.lemmas.List.Sums.{sum_by-cons}
 use Rattle.gate_admin.specs.View.{has, hosts_where, mask_of}
 
-bit : Bool → ℕ
+-- one where it is so
+pub bit : Bool → ℕ
 bit true = 1
 bit false = 0
 
@@ -14,7 +15,7 @@ unfolding bit
 bit_one true e = refl
 bit_one false e = absurd (cc e)
 
-bit_most : (b : Bool) → bit b ≤ 1
+pub bit_most : (b : Bool) → bit b ≤ 1
 unfolding bit
 bit_most true = omega arith
 bit_most false = omega arith
@@ -25,7 +26,7 @@ once p s = omega arith
 never : (p s : ℕ) → s ≡ 0 * p + s
 never p s = omega arith
 
-bit_none : (b : Bool) → b ≡ false → bit b ≡ 0
+pub bit_none : (b : Bool) → b ≡ false → bit b ≡ 0
 unfolding bit
 bit_none true e = absurd (cc e)
 bit_none false e = refl
@@ -37,7 +38,8 @@ more test x xs =
     (λ passed. sum_by-cons (λ h. 2 ^ h) x (filter test xs) ∙ (once (2 ^ x) s ∙ ap (λ b. b * 2 ^ x + s) (sym (bit_one (test x) passed))))
     (λ failed. never (2 ^ x) s ∙ ap (λ b. b * 2 ^ x + s) (sym (bit_none (test x) failed)))
 
-digits : (test : ℕ → Bool) → mask_of (hosts_where test)
+-- a mask is the sum of the places of the hosts that pass
+pub digits : (test : ℕ → Bool) → mask_of (hosts_where test)
     ≡ 2 * bit (test 1) + 4 * bit (test 2) + 8 * bit (test 3) + 16 * bit (test 4) + 32 * bit (test 5) + 64 * bit (test 6) + 128 * bit (test 7)
 unfolding hosts_where
 digits test =

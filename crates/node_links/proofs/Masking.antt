@@ -1,56 +1,10 @@
 -- A host that is in the mask of the hosts that pass a test passes it.
-use Rattle.std.proofs.Common.{◌≡◌, ℕ, zero, suc, ◌+◌, ◌*◌, ◌/◌, ◌%◌, ◌^◌, ◌≤◌, Bool, true, false, eqb, List, [], ◌∷◌, refl, sym, ap, ◌∙◌, arith}
+use Rattle.std.proofs.Common.{◌≡◌, ℕ, zero, suc, ◌/◌, ◌%◌, ◌≤◌, Bool, true, false, eqb, List, [], ◌∷◌, refl, sym, ap, ◌∙◌, arith}
 use Rattle.std.specs.Prelude.{nat_le}
 use Rattle.std.specs.List.{filter, AllByRecursion}
-use Rattle.std.proofs.lemmas.Bool.{cond_both, true≢false, leb-true}
-use Rattle.std.proofs.lemmas.List.Sums.{sum_by-cons}
+use Rattle.std.proofs.lemmas.Bool.{true≢false, leb-true}
 use Rattle.gate_admin.specs.View.{has, hosts_where, mask_of}
-
-bit : Bool → ℕ
-bit true = 1
-bit false = 0
-
-bit_one : (b : Bool) → b ≡ true → bit b ≡ 1
-unfolding bit
-bit_one true e = refl
-bit_one false e = absurd (cc e)
-
-bit_most : (b : Bool) → bit b ≤ 1
-unfolding bit
-bit_most true = omega arith
-bit_most false = omega arith
-
-once : (p s : ℕ) → p + s ≡ 1 * p + s
-once p s = omega arith
-
-never : (p s : ℕ) → s ≡ 0 * p + s
-never p s = omega arith
-
-bit_none : (b : Bool) → b ≡ false → bit b ≡ 0
-unfolding bit
-bit_none true e = absurd (cc e)
-bit_none false e = refl
-
-more : (test : ℕ → Bool) (x : ℕ) (xs : List ℕ) → mask_of (filter test (x ∷ xs)) ≡ bit (test x) * 2 ^ x + mask_of (filter test xs)
-more test x xs =
-    let s : ℕ = mask_of (filter test xs) in
-    cond_both (test x) (x ∷ filter test xs) (filter test xs) (λ ys. mask_of ys ≡ bit (test x) * 2 ^ x + s)
-    (λ passed. sum_by-cons (λ h. 2 ^ h) x (filter test xs) ∙ (once (2 ^ x) s ∙ ap (λ b. b * 2 ^ x + s) (sym (bit_one (test x) passed))))
-    (λ failed. never (2 ^ x) s ∙ ap (λ b. b * 2 ^ x + s) (sym (bit_none (test x) failed)))
-
-digits : (test : ℕ → Bool) → mask_of (hosts_where test)
-    ≡ 2 * bit (test 1) + 4 * bit (test 2) + 8 * bit (test 3) + 16 * bit (test 4) + 32 * bit (test 5) + 64 * bit (test 6) + 128 * bit (test 7)
-unfolding hosts_where
-digits test =
-    let a = more test 1 (2 ∷ 3 ∷ 4 ∷ 5 ∷ 6 ∷ 7 ∷ []) in
-    let b = more test 2 (3 ∷ 4 ∷ 5 ∷ 6 ∷ 7 ∷ []) in
-    let c = more test 3 (4 ∷ 5 ∷ 6 ∷ 7 ∷ []) in
-    let d = more test 4 (5 ∷ 6 ∷ 7 ∷ []) in
-    let e = more test 5 (6 ∷ 7 ∷ []) in
-    let f = more test 6 (7 ∷ []) in
-    let g = more test 7 [] in
-    let last : mask_of (filter test []) ≡ 0 = refl in
-    omega arith
+use Rattle.node_laws.proofs.Masks.{bit_most, bit_none, digits}
 
 zero_one : (n : ℕ) → n ≡ 0 → eqb n 1 ≡ true → ⊥
 zero_one n z q = absurd (true≢false (sym q ∙ ap (λ k. eqb k 1) z))
