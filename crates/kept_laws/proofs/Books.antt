@@ -14,7 +14,7 @@ use Rattle.hci_store.proofs.Closing.{close-close, same_closed}
 use Rattle.node_world.specs.NodeFilters.{Book, new_book, with_command, with_found, book_after, book_in}
 use Rattle.node_world.specs.NodeLegal.{Last, last_after, last_in}
 use Rattle.node_world.specs.NodeLegal.Last.{NothingYet, CutBehindCommand, CommandLast}
-use Rattle.kept_laws.specs.Finds.{Finds}
+use Rattle.kept_laws.specs.Finds.{BootFinds}
 use Rattle.kept_laws.specs.Books.{IsPlain, IsOf, IsTold, AreToldBehind, WouldFind}
 use Rattle.kept_laws.proofs.Commits.{finds_closed}
 
@@ -115,23 +115,23 @@ closed_book t n = closed_fold n new_book t refl
 -- ## Memories
 
 -- all commands are found
-pub finds_all : (content : List ℕ) (b : Book) (last : Last) (t : HciTables) (many : ℕ) → Finds content t many → close t ≡ close (after no_tables b.commands)
+pub finds_all : (content : List ℕ) (b : Book) (last : Last) (t : HciTables) (many : ℕ) → BootFinds content t many → close t ≡ close (after no_tables b.commands)
     → many ≡ min (length b.commands) (2 ^ 32 - 1) → WouldFind content b last
 finds_all content b last t many finds same is = record {
   many = length b.commands;
   which = inl refl;
-  finds = subst (λ l. Finds content (after no_tables l) (min (length b.commands) (2 ^ 32 - 1))) (sym (take-length b.commands))
-      (finds_closed content t (after no_tables b.commands) (min (length b.commands) (2 ^ 32 - 1)) (subst (λ k. Finds content t k) is finds) same);
+  finds = subst (λ l. BootFinds content (after no_tables l) (min (length b.commands) (2 ^ 32 - 1))) (sym (take-length b.commands))
+      (finds_closed content t (after no_tables b.commands) (min (length b.commands) (2 ^ 32 - 1)) (subst (λ k. BootFinds content t k) is finds) same);
 }
 
 -- all but the last one
-pub finds_less : (content : List ℕ) (b : Book) (c : Command) (t : HciTables) (many : ℕ) → Finds content t many → close t ≡ close (after no_tables b.commands)
+pub finds_less : (content : List ℕ) (b : Book) (c : Command) (t : HciTables) (many : ℕ) → BootFinds content t many → close t ≡ close (after no_tables b.commands)
     → many ≡ min (length b.commands) (2 ^ 32 - 1) → IsSome (current content) → WouldFind content (with_command c b) CutBehindCommand
 finds_less content b c t many finds same is used = record {
   many = length b.commands;
   which = inr (omega (arith, length-append b.commands (c ∷ [])), refl, used);
-  finds = subst (λ l. Finds content (after no_tables l) (min (length b.commands) (2 ^ 32 - 1))) (sym (take-append_seam b.commands (c ∷ [])))
-      (finds_closed content t (after no_tables b.commands) (min (length b.commands) (2 ^ 32 - 1)) (subst (λ k. Finds content t k) is finds) same);
+  finds = subst (λ l. BootFinds content (after no_tables l) (min (length b.commands) (2 ^ 32 - 1))) (sym (take-append_seam b.commands (c ∷ [])))
+      (finds_closed content t (after no_tables b.commands) (min (length b.commands) (2 ^ 32 - 1)) (subst (λ k. BootFinds content t k) is finds) same);
 }
 
 -- of equal memories and books

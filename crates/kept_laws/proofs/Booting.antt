@@ -37,7 +37,7 @@ use Rattle.node_machine.specs.Node.{new_desk, found, boot_writes}
 use Rattle.node_world.specs.NodeFilters.{Book, with_found, book_in, commands_in}
 use Rattle.node_world.specs.NodeLegal.{last_in, FindsCommands}
 use Rattle.node_world.specs.NodeLegal.Last.{CutBehindCommand}
-use Rattle.kept_laws.specs.Finds.{Finds, Knows}
+use Rattle.kept_laws.specs.Finds.{BootFinds, Knows}
 use Rattle.kept_laws.specs.Books.{WaitsFor, WouldFind}
 use Rattle.kept_laws.specs.Worlds.{RunsSo, NodeKeeps}
 use Rattle.kept_laws.proofs.Planned.{planned_whole, planned_cut}
@@ -73,7 +73,7 @@ good_found content =
 
 -- ## What it finds
 
-module _ (content : List ℕ) (t : HciTables) (many : ℕ) (f : Finds content t many) where
+module _ (content : List ℕ) (t : HciTables) (many : ℕ) (f : BootFinds content t many) where
   says : Says content (state_of content)
   says = record { size = f.size; state_is = refl; sound = f.keeps.sound }
 
@@ -85,7 +85,7 @@ module _ (content : List ℕ) (t : HciTables) (many : ℕ) (f : Finds content t 
   knows_used some = record {
     state_is = refl;
     in_use = some;
-    finds = finds_closed content t (close (tables_of content)) (count content) (subst (λ k. Finds content t k) (sym f.keeps.count_is) f) same_tables;
+    finds = finds_closed content t (close (tables_of content)) (count content) (subst (λ k. BootFinds content t k) (sym f.keeps.count_is) f) same_tables;
   }
 
   module _ (none : current content ≡ None) where
@@ -102,14 +102,14 @@ module _ (content : List ℕ) (t : HciTables) (many : ℕ) (f : Finds content t 
     count_formatted : count_of formatted ≡ many
     count_formatted = counted content (state_of content) formatted says started_is ∙ f.keeps.count_is
 
-    left_formatted : (j : ℕ) (left : List ℕ) → IsCut j format_writes content left → Finds left t many
+    left_formatted : (j : ℕ) (left : List ℕ) → IsCut j format_writes content left → BootFinds left t many
     left_formatted j left cut =
         either (left_finds format_writes content left t t many many j (format_all_or_nothing content (state_of content) says none) cut f after_it) where
-          after_it : Finds (after format_writes content) t many
+          after_it : BootFinds (after format_writes content) t many
           after_it = finds_closed (after format_writes content) (close (tables_of content)) t many
-              (subst (λ k. Finds (after format_writes content) (close (tables_of content)) k) count_formatted knows_formatted.finds) (sym same_tables)
+              (subst (λ k. BootFinds (after format_writes content) (close (tables_of content)) k) count_formatted knows_formatted.finds) (sym same_tables)
 
-          either : Finds left t many ⊎ Finds left t many → Finds left t many
+          either : BootFinds left t many ⊎ BootFinds left t many → BootFinds left t many
           either (inl x) = x
           either (inr x) = x
 

@@ -27,13 +27,13 @@ use Rattle.hci_store.specs.Stored.{Holds}
 use Rattle.hci_store.specs.Committing.{fits, snapshot_bodies, room_writes, with_room, commit_writes, committed}
 use Rattle.hci_store.proofs.CutShort.{journal_left, holds_still, room_count}
 use Rattle.hci_store.proofs.Committed.{all_recordable, holds_more, holds_snapshot}
-use Rattle.kept_laws.specs.Finds.{Finds, Knows, FindsRoom}
+use Rattle.kept_laws.specs.Finds.{BootFinds, Knows, FindsRoom}
 use Rattle.kept_laws.proofs.Snapshots.{is_body, are_bodies, snapshot_fits}
 use Rattle.kept_laws.proofs.Planned.{planned_whole, planned_cut}
 
 -- a memory that says what another one says
-pub finds_still : (content new : List ℕ) (t : HciTables) (many : ℕ) → Finds content t many → length new ≡ length content → journal new ≡ journal content
-    → Finds new t many
+pub finds_still : (content new : List ℕ) (t : HciTables) (many : ℕ) → BootFinds content t many → length new ≡ length content → journal new ≡ journal content
+    → BootFinds new t many
 finds_still content new t many f size same = record {
   size = omega (arith, size, f.size);
   version = ap (λ (j : Journal). j.head.version) same ∙ f.version;
@@ -46,7 +46,7 @@ finds_still content new t many f size same = record {
 }
 
 -- only closed tables count
-pub finds_closed : (content : List ℕ) (t u : HciTables) (many : ℕ) → Finds content t many → close t ≡ close u → Finds content u many
+pub finds_closed : (content : List ℕ) (t u : HciTables) (many : ℕ) → BootFinds content t many → close t ≡ close u → BootFinds content u many
 finds_closed content t u many f same = record {
   size = f.size;
   version = f.version;
@@ -87,13 +87,13 @@ some_other (Some side) some = refl
 
 -- a cut of writes that are all or nothing
 pub left_finds : (writes : List Write) (content left : List ℕ) (t u : HciTables) (m n k : ℕ) → IsAllOrNothing writes content → IsCut k writes content left
-    → Finds content t m → Finds (after writes content) u n → Finds left t m ⊎ Finds left u n
+    → BootFinds content t m → BootFinds (after writes content) u n → BootFinds left t m ⊎ BootFinds left u n
 left_finds writes content left t u m n k whole cut before done = either (journal_left writes content left
     (record { whole = k; cut = cut; says = whole.says k left cut })) where
       size : length left ≡ length content
       size = length-cut k writes content left whole.fit cut
 
-      either : (journal left ≡ journal content) ⊎ (journal left ≡ journal (after writes content)) → Finds left t m ⊎ Finds left u n
+      either : (journal left ≡ journal content) ⊎ (journal left ≡ journal (after writes content)) → BootFinds left t m ⊎ BootFinds left u n
       either (inl same) = inl (finds_still content left t m before size same)
       either (inr same) = inr (finds_still (after writes content) left u n done (size ∙ sym (length-after writes content whole.fit)) same)
 
@@ -131,7 +131,7 @@ module _ (content : List ℕ) (s : State) (t : HciTables) (k : Knows content s t
         (body_of c) s says_of has_room) refl may)
 
     append_left : (j : ℕ) (left : List ℕ) → IsCut j (append_writes s (body_of c)) content left
-        → Finds left t (count_of s) ⊎ Finds left (apply t c) (count_of (appended s (body_of c)))
+        → BootFinds left t (count_of s) ⊎ BootFinds left (apply t c) (count_of (appended s (body_of c)))
     append_left j left cut =
         left_finds (append_writes s (body_of c)) content left t (apply t c) (count_of s) (count_of (appended s (body_of c))) j
         (appending.all_or_nothing content (body_of c) s says_of has_room) cut k.finds append_knows.finds
@@ -156,14 +156,14 @@ module _ (content : List ℕ) (s : State) (t : HciTables) (k : Knows content s t
         (compacting.says_after content (snapshot_bodies t) s says_of can) (some_other s.in_use k.in_use) refl (omega arith)
         (holds_snapshot (after (compact_writes s (snapshot_bodies t)) content) t may are (compacting.records_after content (snapshot_bodies t) s says_of can))
 
-    compact_left : (j : ℕ) (left : List ℕ) → IsCut j (compact_writes s (snapshot_bodies t)) content left → Finds left t (count_of s)
+    compact_left : (j : ℕ) (left : List ℕ) → IsCut j (compact_writes s (snapshot_bodies t)) content left → BootFinds left t (count_of s)
     compact_left j left cut = either
         (left_finds (compact_writes s (snapshot_bodies t)) content left t t (count_of s) (count_of (compacted s (snapshot_bodies t))) j
         (compacting.all_or_nothing content (snapshot_bodies t) s says_of can) cut k.finds compact_knows.finds)
       where
-        either : Finds left t (count_of s) ⊎ Finds left t (count_of (compacted s (snapshot_bodies t))) → Finds left t (count_of s)
+        either : BootFinds left t (count_of s) ⊎ BootFinds left t (count_of (compacted s (snapshot_bodies t))) → BootFinds left t (count_of s)
         either (inl before) = before
-        either (inr later) = subst (λ n. Finds left t n) (compact_count s (snapshot_bodies t)) later
+        either (inr later) = subst (λ n. BootFinds left t n) (compact_count s (snapshot_bodies t)) later
 
 compact_used : (content : List ℕ) (s : State) (t : HciTables) (k : Knows content s t) (are : AreTables t) (may : IsRecordable t)
     (next : s.generation < 4294967295) (j : ℕ) (left : List ℕ)
@@ -205,7 +205,7 @@ module _ (content : List ℕ) (s : State) (t : HciTables) (c : Command) (k : Kno
       ∙ ap (λ n. min (n + 1) (2 ^ 32 - 1)) (room_count s t (body_of c))
 
   room_left : (b : Bool) → fits s (body_of c) ≡ b → (j : ℕ) (left : List ℕ) → IsCut j (cond b [] (compact_writes s (snapshot_bodies t))) content left
-      → Finds left t (count_of s)
+      → BootFinds left t (count_of s)
   room_left true is j left cut = absurd cut
   room_left false is j left cut = compact_left content s t k are may (next_of is) j left cut
 
@@ -224,15 +224,15 @@ module _ (content : List ℕ) (s : State) (t : HciTables) (c : Command) (k : Kno
         append_used between (with_room s t (body_of c)) t r.0 c command r.1 later.0 left later.1
 
   pub commit_left : (j : ℕ) (left : List ℕ) → IsCut j (commit_writes s t (body_of c)) content left
-      → Finds left t (count_of s) ⊎ Finds left (apply t c) (count_of (committed s t (body_of c)))
+      → BootFinds left t (count_of s) ⊎ BootFinds left (apply t c) (count_of (committed s t (body_of c)))
   commit_left j left cut = by_part (cut-append j (room_writes s t (body_of c)) (append_writes (with_room s t (body_of c)) (body_of c)) content left cut) where
-    by_record : Finds left t (count_of (with_room s t (body_of c))) ⊎ Finds left (apply t c) (count_of (committed s t (body_of c)))
-        → Finds left t (count_of s) ⊎ Finds left (apply t c) (count_of (committed s t (body_of c)))
-    by_record (inl before) = inl (subst (λ n. Finds left t n) (room_count s t (body_of c)) before)
+    by_record : BootFinds left t (count_of (with_room s t (body_of c))) ⊎ BootFinds left (apply t c) (count_of (committed s t (body_of c)))
+        → BootFinds left t (count_of s) ⊎ BootFinds left (apply t c) (count_of (committed s t (body_of c)))
+    by_record (inl before) = inl (subst (λ n. BootFinds left t n) (room_count s t (body_of c)) before)
     by_record (inr later) = inr later
 
     by_part : IsCut j (room_writes s t (body_of c)) content left ⊎ ((i : ℕ) × IsCut i (append_writes (with_room s t (body_of c)) (body_of c)) between left)
-        → Finds left t (count_of s) ⊎ Finds left (apply t c) (count_of (committed s t (body_of c)))
+        → BootFinds left t (count_of s) ⊎ BootFinds left (apply t c) (count_of (committed s t (body_of c)))
     by_part (inl first) = inl (room_left (fits s (body_of c)) refl j left first)
     by_part (inr later) =
         let r = room_knows (fits s (body_of c)) refl in
@@ -248,8 +248,8 @@ planned_knows m s t c k are may command room none =
 
 pub planned_left : (m : Memory) (s : State) (t : HciTables) (c : Command) → Knows m.content s t → AreTables t → IsRecordable t → IsCommand c → FindsRoom s c
     → fails_within (length (commit_writes s t (body_of c))) m.plan ≡ true
-    → Finds (after_planned (commit_writes s t (body_of c)) m).content t (count_of s)
-    ⊎ Finds (after_planned (commit_writes s t (body_of c)) m).content (apply t c) (count_of (committed s t (body_of c)))
+    → BootFinds (after_planned (commit_writes s t (body_of c)) m).content t (count_of s)
+    ⊎ BootFinds (after_planned (commit_writes s t (body_of c)) m).content (apply t c) (count_of (committed s t (body_of c)))
 planned_left m s t c k are may command room fails =
     let cut = planned_cut (commit_writes s t (body_of c)) m fails in
     commit_left m.content s t c k are may command room cut.0 (after_planned (commit_writes s t (body_of c)) m).content cut.1

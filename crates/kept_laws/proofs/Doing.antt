@@ -28,7 +28,7 @@ use Rattle.node_machine.specs.Carrying.{port_at, changed_if, plan_behind, noting
 use Rattle.node_world.specs.NodeFilters.{tables_in, Book, with_command, book_in, commands_in}
 use Rattle.node_world.specs.NodeLegal.{IsAllowedBy, last_in}
 use Rattle.node_world.specs.NodeLegal.Last.{CutBehindCommand}
-use Rattle.kept_laws.specs.Finds.{Finds, FindsRoom}
+use Rattle.kept_laws.specs.Finds.{BootFinds, FindsRoom}
 use Rattle.kept_laws.specs.Books.{IsOf, WouldFind, StillRuns, HasLostPower}
 use Rattle.kept_laws.specs.Deeds.{IsOnOrder, MayBeDone}
 use Rattle.kept_laws.proofs.Planned.{planned_whole, after_planned-append}
@@ -131,7 +131,7 @@ module _ (n : ℕ) (hosts : List ℕ) (old : Memory) (before : List Entry) where
         last_is : last_in (before ++ ((w.entries ++ entry.Command w.core.node c ∷ []) ++ entry.Cut w.core.node ∷ [])) n ≡ CutBehindCommand
         last_is = ap (λ l. last_in l n) behind ∙ last_cut seen w.core.node n c r.number
 
-        either : Finds left w.core.tables (count_of w.core.journal) ⊎ Finds left (apply w.core.tables c) (count_of (committed w.core.journal w.core.tables
+        either : BootFinds left w.core.tables (count_of w.core.journal) ⊎ BootFinds left (apply w.core.tables c) (count_of (committed w.core.journal w.core.tables
             (body_of c)))
             → WouldFind left (with_command c (book_in seen n)) CutBehindCommand
         either (inl before_it) = finds_less left (book_in seen n) c w.core.tables (count_of w.core.journal) before_it closed_now r.count_is

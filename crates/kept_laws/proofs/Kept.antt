@@ -20,7 +20,7 @@ use Rattle.node_world.specs.NodeHistories.{LineStep, NodeHistory, steps_from, Fo
 use Rattle.node_world.specs.NodeFilters.{Book, book_after, book_in, commands_in, tables_in}
 use Rattle.node_world.specs.NodeLegal.{Last, last_after, last_in, FindsCommands, AreFound, AreCounted, AreAnswered, Kept, Allowed}
 use Rattle.node_world.specs.NodeLegal.Last.{NothingYet, CommandLast, CutBehindCommand, OtherLast}
-use Rattle.kept_laws.specs.Finds.{Finds}
+use Rattle.kept_laws.specs.Finds.{BootFinds}
 use Rattle.kept_laws.specs.Books.{IsTold, AreToldBehind}
 use Rattle.kept_laws.specs.Hosts.{AreHosts, IsSentByHost, IsFew}
 use Rattle.kept_laws.specs.Worlds.{NodeKeeps, SiteKeeps, AllKeep}
@@ -30,7 +30,7 @@ use Rattle.kept_laws.proofs.Lines.{TellsRight, TellRight, Schedule, schedule_goe
 
 -- ## The beginning
 
-blank_finds : (content : List ℕ) → IsUnformatted content → Finds content no_tables 0
+blank_finds : (content : List ℕ) → IsUnformatted content → BootFinds content no_tables 0
 blank_finds content blank =
     let is : journal content ≡ unformatted = no_journal content blank.closed in
     record {

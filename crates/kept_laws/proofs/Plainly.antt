@@ -20,7 +20,7 @@ use Rattle.node_world.specs.NodeFilters.{Book, book_in}
 use Rattle.node_machine.specs.Controller.{creation_in, asked_at}
 use Rattle.node_laws.specs.Waiting.{MayWait}
 use Rattle.kept_laws.specs.Finds.{Knows}
-use Rattle.kept_laws.specs.Books.{IsPlain, IsOf, AreToldBehind, WaitsAbout, WaitsFor, WaitsAt, hosts_of, StillRuns}
+use Rattle.kept_laws.specs.Books.{IsPlain, IsOf, AreToldBehind, WaitsAbout, WaitsFor, WaitsAt, hosts_of_ends, StillRuns}
 use Rattle.kept_laws.proofs.Asking.{NoneNew, same_new, new_then, may_still, map_new, changed_new}
 use Rattle.kept_laws.proofs.Books.{plain_book, plain_told, plain_own, all_append, told_append}
 
@@ -35,7 +35,7 @@ pub record Plainly (w v : Work) : Type 0 where
   pub node : v.core.node ≡ w.core.node
   pub journal : v.core.journal ≡ w.core.journal
   pub tables : v.core.tables ≡ w.core.tables
-  pub hosts : hosts_of v.ports ≡ hosts_of w.ports
+  pub hosts : hosts_of_ends v.ports ≡ hosts_of_ends w.ports
   pub waits : AllByRecursion WaitsAt w.ports → AllByRecursion WaitsAt v.ports
   pub none_new : NoneNew w.ports v.ports
 
@@ -113,7 +113,7 @@ pub changed_waits : (b : Bool) (f : Port → Port) (p : Port) → (WaitsAt p →
 changed_waits true f p is w = is w
 changed_waits false f p is w = w
 
-pub hosts_map : (f : Port → Port) → ((p : Port) → (f p).desk.host ≡ p.desk.host) → (ports : List Port) → hosts_of (map f ports) ≡ hosts_of ports
+pub hosts_map : (f : Port → Port) → ((p : Port) → (f p).desk.host ≡ p.desk.host) → (ports : List Port) → hosts_of_ends (map f ports) ≡ hosts_of_ends ports
 hosts_map f same [] = refl
 hosts_map f same (p ∷ ports) = ap₂ (λ x l. x ∷ l) (same p) (hosts_map f same ports)
 

@@ -15,7 +15,7 @@ use Rattle.node_world.specs.World.{port_for, work_of, runs_on}
 use Rattle.node_world.specs.NodeFilters.{Book, with_command, with_found, book_after, book_in}
 use Rattle.node_world.specs.NodeLegal.{Last, last_after, last_in}
 use Rattle.kept_laws.specs.Finds.{Knows}
-use Rattle.kept_laws.specs.Books.{IsPlain, IsOf, AreToldBehind, WaitsFor, WaitsAt, WouldFind, hosts_of, StillRuns}
+use Rattle.kept_laws.specs.Books.{IsPlain, IsOf, AreToldBehind, WaitsFor, WaitsAt, WouldFind, hosts_of_ends, StillRuns}
 use Rattle.kept_laws.specs.Worlds.{RunsSo, IfRuns, NodeKeeps}
 use Rattle.kept_laws.proofs.Books.{book_more, last_more, plain_book, plain_last, plain_told, plain_own, closed_book, finds_all}
 use Rattle.kept_laws.proofs.Asking.{NoneNew, may_still, map_new, map_two}
@@ -87,7 +87,7 @@ keeps_same n hosts t u m node same k = record {
 
 -- ## Before and after a step
 
-port_hosts : (halves : ℕ → Half) (desks : List Desk) → hosts_of (map (λ (d : Desk). port_for (halves d.host) d) desks) ≡ map (λ (d : Desk). d.host) desks
+port_hosts : (halves : ℕ → Half) (desks : List Desk) → hosts_of_ends (map (λ (d : Desk). port_for (halves d.host) d) desks) ≡ map (λ (d : Desk). d.host) desks
 port_hosts halves [] = refl
 port_hosts halves (d ∷ desks) = ap (λ l. d.host ∷ l) (port_hosts halves desks)
 
@@ -96,7 +96,7 @@ port_waits : (halves : ℕ → Half) (desks : List Desk) → AllByRecursion (λ 
 port_waits halves [] all = tt
 port_waits halves (d ∷ desks) all = (all.0, port_waits halves desks all.1)
 
-desk_hosts : (ports : List Port) → map (λ (d : Desk). d.host) (map (λ (p : Port). p.desk) ports) ≡ hosts_of ports
+desk_hosts : (ports : List Port) → map (λ (d : Desk). d.host) (map (λ (p : Port). p.desk) ports) ≡ hosts_of_ends ports
 desk_hosts [] = refl
 desk_hosts (p ∷ ports) = ap (λ l. p.desk.host ∷ l) (desk_hosts ports)
 

@@ -37,9 +37,9 @@ use Rattle.kept_laws.proofs.Books.{all_append}
 use Rattle.node_machine.specs.Turns.{passes}
 use Rattle.node_machine.specs.Node.{NodeInput, input_at, has_come, told_at, all_come, with_older, is_late, reset_late, told_late, times_out, is_over, is_over_at, is_forgotten, forgotten, forgets, owed, all_owed, without_notice, after_sessions, synced, steps}
 use Rattle.node_machine.specs.Node.NodeInput.{AtEnd, TimePasses}
-use Rattle.kept_laws.specs.Books.{IsPlain, WaitsFor, WaitsAt, hosts_of, StillRuns}
+use Rattle.kept_laws.specs.Books.{IsPlain, WaitsFor, WaitsAt, hosts_of_ends, StillRuns}
 use Rattle.kept_laws.specs.Deeds.{IsOnOrder, MayBeDone}
-use Rattle.kept_laws.specs.Hosts.{AreDifferent, AreHosts, IsNode}
+use Rattle.kept_laws.specs.Hosts.{AreDifferent, AreHosts, IsNodeNumber}
 use Rattle.kept_laws.proofs.Plainly.{Plainly, runs_plainly, plainly_then, plainly_map, plain_flat, plain_entries, hosts_map, waits_map}
 use Rattle.kept_laws.proofs.Doing.{uncut, GoesOn_or_lost, all_fine}
 use Rattle.kept_laws.proofs.HostsReply.{OneOrNone, behind_one}
@@ -296,24 +296,24 @@ flat_tick : (core : Core) (ports : List Port) → flat_map (synced core TimePass
 flat_tick core [] = refl
 flat_tick core (p ∷ ports) = ap (λ l. l ++ flat_map (synced core TimePasses) ports) (synced_tick core p) ∙ flat_tick core ports
 
-flat_other : (core : Core) (h : ℕ) (i : LinkInput) (ports : List Port) → AllByRecursion (λ k. eqb k h ≡ false) (hosts_of ports)
+flat_other : (core : Core) (h : ℕ) (i : LinkInput) (ports : List Port) → AllByRecursion (λ k. eqb k h ≡ false) (hosts_of_ends ports)
     → flat_map (synced core (AtEnd h i)) ports ≡ []
 flat_other core h i [] all = refl
 flat_other core h i (p ∷ ports) all = ap (λ l. l ++ flat_map (synced core (AtEnd h i)) ports) (synced_other core h i p all.0) ∙ flat_other core h i ports all.1
 
-flat_one : (core : Core) (h : ℕ) (i : LinkInput) (ports : List Port) → AreDifferent (hosts_of ports) → AllByRecursion IsHost (hosts_of ports)
+flat_one : (core : Core) (h : ℕ) (i : LinkInput) (ports : List Port) → AreDifferent (hosts_of_ends ports) → AllByRecursion IsHost (hosts_of_ends ports)
     → OneOrNone core (flat_map (synced core (AtEnd h i)) ports)
 flat_one core h i [] different all = inl refl
 flat_one core h i (p ∷ ports) different all = by_host (cases_Bool (eqb p.desk.host h)) (flat_one core h i ports different.1 all.1) where
   by_host : (eqb p.desk.host h ≡ true) ⊎ (eqb p.desk.host h ≡ false) → OneOrNone core (flat_map (synced core (AtEnd h i)) ports)
       → OneOrNone core (synced core (AtEnd h i) p ++ flat_map (synced core (AtEnd h i)) ports)
   by_host (inl e) rest =
-      let none = flat_other core h i ports (subst (λ x. AllByRecursion (λ k. eqb k x ≡ false) (hosts_of ports)) (eqb-true p.desk.host h e) different.0) in
+      let none = flat_other core h i ports (subst (λ x. AllByRecursion (λ k. eqb k x ≡ false) (hosts_of_ends ports)) (eqb-true p.desk.host h e) different.0) in
       subst (λ l. OneOrNone core (synced core (AtEnd h i) p ++ l)) (sym none)
       (subst (OneOrNone core) (sym (append-nil (synced core (AtEnd h i) p))) (synced_here core h i p all.0 e))
   by_host (inr e) rest = subst (λ l. OneOrNone core (l ++ flat_map (synced core (AtEnd h i)) ports)) (sym (synced_other core h i p e)) rest
 
-syncs_one : (core : Core) (input : NodeInput) (ports : List Port) → AreDifferent (hosts_of ports) → AllByRecursion IsHost (hosts_of ports)
+syncs_one : (core : Core) (input : NodeInput) (ports : List Port) → AreDifferent (hosts_of_ends ports) → AllByRecursion IsHost (hosts_of_ends ports)
     → OneOrNone core (flat_map (synced core input) ports)
 syncs_one core (AtEnd h i) ports different all = flat_one core h i ports different all
 syncs_one core TimePasses ports different all = inl (flat_tick core ports)
@@ -356,7 +356,7 @@ module _ (t : HciTables) (ports : List Port) (sorted : AreTables t) (may : MayWa
 
 -- ## Steps
 
-module _ (n : ℕ) (hosts : List ℕ) (old : Memory) (before : List Entry) (node : IsNode n) (are : AreHosts hosts) where
+module _ (n : ℕ) (hosts : List ℕ) (old : Memory) (before : List Entry) (node : IsNodeNumber n) (are : AreHosts hosts) where
   pub steps_fine : (input : NodeInput) (w : Work) → StillRuns n hosts old before w → IsOnOrder w.core.command w.core.init
       → GoesOn_or_lost n hosts old before (steps input w)
   steps_fine input w r on =

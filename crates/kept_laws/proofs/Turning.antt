@@ -16,15 +16,15 @@ use Rattle.node_machine.specs.Parts.{Port, Work, Deed}
 use Rattle.node_machine.specs.Carrying.{noting, unless_cut, port_at, with_desk, turn_at, end_of_node, needs, lack}
 use Rattle.node_machine.specs.HostReplies.{host_deeds}
 use Rattle.node_machine.specs.Turns.{deeds_of, handles, holds_back, lets_go, have_turns, goes_through_ends, passes}
-use Rattle.kept_laws.specs.Books.{hosts_of, StillRuns}
+use Rattle.kept_laws.specs.Books.{hosts_of_ends, StillRuns}
 use Rattle.kept_laws.specs.Deeds.{IsOnOrder, MayBeDone}
-use Rattle.kept_laws.specs.Hosts.{IsNode}
+use Rattle.kept_laws.specs.Hosts.{IsNodeNumber}
 use Rattle.kept_laws.proofs.Plainly.{Plainly, runs_plainly, plainly_then, plainly_turn, plainly_desk, plainly_noting}
 use Rattle.kept_laws.proofs.Doing.{uncut, stays_cut, GoesOn_or_lost, all_fine}
 use Rattle.kept_laws.proofs.Replies.{controller_may}
 use Rattle.kept_laws.proofs.HostsReply.{host_may}
 
-seven : (n : ℕ) → IsNode n → n ≤ 7
+seven : (n : ℕ) → IsNodeNumber n → n ≤ 7
 seven n (inl is) = omega (arith, is)
 seven n (inr host) = host.1
 
@@ -44,7 +44,7 @@ module _ (n : ℕ) (hosts : List ℕ) (old : Memory) (before : List Entry) where
   then_all f w (inl on) later = subst Fine (sym (uncut f w on.0.on)) (later w on.0 on.1)
   then_all f w (inr lost) later = subst Fine (sym (stays_cut f w lost.off)) (inr lost)
 
-  module _ (node : IsNode n) where
+  module _ (node : IsNodeNumber n) where
     deeds_may : (w : Work) (h : ℕ) (m : Message) → Runs w → IsOnOrder w.core.command w.core.init → IsHost h
         → MayBeDone (Some w.core.journal) w.core.command w.core.init (deeds_of w.core w.ports h m)
     deeds_may w h m r on host = by_node (cases_Bool (eqb w.core.node 0)) where
@@ -115,4 +115,4 @@ module _ (n : ℕ) (hosts : List ℕ) (old : Memory) (before : List Entry) where
         (turns_fine h (option_map_or (λ (p : Port). p.side.got) (port_at w.ports h) []) all.0 w r on) (λ x q o. ends_fine hs all.1 x q o)
 
     pub passes_fine : AllByRecursion IsHost hosts → (w : Work) → Runs w → IsOnOrder w.core.command w.core.init → Fine (passes w)
-    passes_fine all w r on = ends_fine (hosts_of w.ports) (subst (AllByRecursion IsHost) (sym r.hosts_are) all) w r on
+    passes_fine all w r on = ends_fine (hosts_of_ends w.ports) (subst (AllByRecursion IsHost) (sym r.hosts_are) all) w r on

@@ -17,7 +17,7 @@ use Rattle.node_world.specs.NodeFilters.{Book, book_in, commands_in, tables_in}
 use Rattle.node_world.specs.NodeLegal.{Last, last_in, FindsCommands, IsAllowedBy}
 use Rattle.node_world.specs.NodeLegal.Last.{CutBehindCommand}
 use Rattle.node_laws.specs.Waiting.{MayWait}
-use Rattle.kept_laws.specs.Finds.{Finds, Knows}
+use Rattle.kept_laws.specs.Finds.{BootFinds, Knows}
 
 -- ## Entries
 
@@ -57,7 +57,7 @@ AreToldBehind front (x ∷ es) = IsTold front x × AreToldBehind (front ++ x ∷
 pub record WouldFind (content : List ℕ) (book : Book) (last : Last) : Type 0 where
   pub many : ℕ
   pub which : (many ≡ length book.commands) ⊎ ((suc many ≡ length book.commands) × (last ≡ CutBehindCommand) × IsSome (current content))
-  pub finds : Finds content (after no_tables (take many book.commands)) (min many (2 ^ 32 - 1))
+  pub finds : BootFinds content (after no_tables (take many book.commands)) (min many (2 ^ 32 - 1))
 
 -- ## A step
 
@@ -75,8 +75,8 @@ abbrev pub WaitsAt : Port → Type 0
 WaitsAt p = WaitsFor p.desk.notice
 
 -- the hosts of ends
-abbrev pub hosts_of : List Port → List ℕ
-hosts_of ports = map (λ (p : Port). p.desk.host) ports
+abbrev pub hosts_of_ends : List Port → List ℕ
+hosts_of_ends ports = map (λ (p : Port). p.desk.host) ports
 
 -- The node n has links to these hosts, had this memory as the step began, and these entries were noted before. It runs: it keeps
 -- exactly the tables and the count of the commands that were noted, and its memory holds them.
@@ -86,7 +86,7 @@ pub record StillRuns (n : ℕ) (hosts : List ℕ) (old : Memory) (before : List 
   pub written : (more : List Write) → after_planned (w.writes ++ more) old ≡ after_planned more memory
   pub plan_is : w.plan ≡ memory.plan
   pub number : w.core.node ≡ n
-  pub hosts_are : hosts_of w.ports ≡ hosts
+  pub hosts_are : hosts_of_ends w.ports ≡ hosts
   pub knows : Knows memory.content w.core.journal w.core.tables
   pub sorted : AreTables w.core.tables
   pub recordable : IsRecordable w.core.tables

@@ -9,7 +9,7 @@ use Rattle.node_machine.specs.Carrying.{has_room_for}
 
 -- A boot on this memory finds these tables, all pipes closed, and counts so many commands. What it finds is of version 02, and no
 -- head names more records of a snapshot than its base and its records make.
-pub record Finds (content : List ℕ) (tables : HciTables) (many : ℕ) : Type 0 where
+pub record BootFinds (content : List ℕ) (tables : HciTables) (many : ℕ) : Type 0 where
   pub size : 65536 ≤ length content
   pub version : (journal content).head.version ≡ 2
   pub enough : (journal content).head.snapshot ≤ (journal content).head.base + length (records content)
@@ -19,7 +19,7 @@ pub record Finds (content : List ℕ) (tables : HciTables) (many : ℕ) : Type 0
 pub record Knows (content : List ℕ) (state : State) (tables : HciTables) : Type 0 where
   pub state_is : state_of content ≡ state
   pub in_use : IsSome state.in_use
-  pub finds : Finds content tables (count_of state)
+  pub finds : BootFinds content tables (count_of state)
 
 -- the record of a command fits into this journal, or one more generation is there for a snapshot
 abbrev pub FindsRoom : State → Command → Type 0

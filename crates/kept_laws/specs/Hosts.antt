@@ -18,8 +18,8 @@ pub record AreHosts (hosts : List ℕ) : Type 0 where
   pub different : AreDifferent hosts
 
 -- a node is the controller or a host
-abbrev pub IsNode : ℕ → Type 0
-IsNode n = (n ≡ 0) ⊎ IsHost n
+abbrev pub IsNodeNumber : ℕ → Type 0
+IsNodeNumber n = (n ≡ 0) ⊎ IsHost n
 
 -- a line that sends a message does so at a host's end
 abbrev pub IsSentByHost : Line → Type 0

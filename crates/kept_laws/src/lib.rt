@@ -24,10 +24,10 @@ ghost use Rattle.node_world.specs.NodeFilters.{commands_in};
 ghost use Rattle.node_world.specs.NodeHistories.{NodeHistory, FollowsNodes, node_entries};
 ghost use Rattle.node_world.specs.NodeLegal.{Allowed, Kept};
 ghost use Rattle.node_laws.specs.Waiting.{IsAllowedStill};
-ghost use Rattle.kept_laws.specs.Finds.{Finds, Knows, FindsRoom};
+ghost use Rattle.kept_laws.specs.Finds.{BootFinds, Knows, FindsRoom};
 ghost use Rattle.kept_laws.specs.Books.{StillRuns, HasLostPower};
 ghost use Rattle.kept_laws.specs.Deeds.{IsOnOrder, MayBeDone};
-ghost use Rattle.kept_laws.specs.Hosts.{AreHosts, IsNode, IsSentByHost, IsFew};
+ghost use Rattle.kept_laws.specs.Hosts.{AreHosts, IsNodeNumber, IsSentByHost, IsFew};
 ghost use Rattle.kept_laws.specs.Worlds.{AllKeep, MayHappen};
 ghost use Rattle.node_world.specs.NodeHistories.{world_after};
 
@@ -42,8 +42,8 @@ pub fn a_commit_is_kept_or_left_out()
         → FindsRoom s c → count_of (committed s t (body_of c)) ≡ min (count_of s + 1) (2 ^ 32 - 1) }
     ensures cut { (m : Memory) (s : State) (t : HciTables) (c : Command) → Knows m.content s t → AreTables t → IsRecordable t → IsCommand c
         → FindsRoom s c → fails_within (length (commit_writes s t (body_of c))) m.plan ≡ true
-        → Finds (after_planned (commit_writes s t (body_of c)) m).content t (count_of s)
-        ⊎ Finds (after_planned (commit_writes s t (body_of c)) m).content (apply t c) (count_of (committed s t (body_of c))) }
+        → BootFinds (after_planned (commit_writes s t (body_of c)) m).content t (count_of s)
+        ⊎ BootFinds (after_planned (commit_writes s t (body_of c)) m).content (apply t c) (count_of (committed s t (body_of c))) }
 {}
 
 /// A node does the deeds of a message, of which one at most is a commit, and one that may be recorded and finds room; or a whole step
@@ -55,7 +55,7 @@ pub fn a_step_is_kept_or_cut()
         (n ≡ 0 → AllByRecursion (IsAllowedStill w.core.tables w.ports) deeds) →
         (StillRuns n hosts old before (all_done h deeds w) × IsOnOrder (all_done h deeds w).core.command (all_done h deeds w).core.init)
         ⊎ HasLostPower n old before (all_done h deeds w) }
-    ensures step { (n : ℕ) (hosts : List ℕ) (old : Memory) (before : List Entry) (input : NodeInput) (w : Work) → IsNode n → AreHosts hosts →
+    ensures step { (n : ℕ) (hosts : List ℕ) (old : Memory) (before : List Entry) (input : NodeInput) (w : Work) → IsNodeNumber n → AreHosts hosts →
         StillRuns n hosts old before w → IsOnOrder w.core.command w.core.init →
         (StillRuns n hosts old before (steps input w) × IsOnOrder (steps input w).core.command (steps input w).core.init)
         ⊎ HasLostPower n old before (steps input w) }

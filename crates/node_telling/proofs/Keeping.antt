@@ -9,7 +9,7 @@ use Rattle.node_machine.specs.Carrying.{noting, changed_if, with_desk, after_tur
 use Rattle.node_machine.specs.Node.{input_at, has_come, all_come, with_older, reset_late, times_out, is_over, forgotten, forgets, all_owed, without_notice, after_sessions, synced, steps, begins_with}
 use Rattle.node_machine.specs.Node.NodeInput.{AtEnd, TimePasses}
 use Rattle.node_world.specs.World.{runs_on}
-use Rattle.kept_laws.specs.Books.{hosts_of}
+use Rattle.kept_laws.specs.Books.{hosts_of_ends}
 use Rattle.kept_laws.proofs.Plainly.{hosts_map}
 use Rattle.node_telling.specs.Telling.{IfItRuns}
 use Rattle.node_telling.proofs.Mute.{AreMute, forgotten_mute, all_owed_mute, all_synced_mute}
@@ -21,7 +21,7 @@ use Rattle.node_telling.proofs.Ticks.{reset_host}
 -- it has this number, and ends on the links with these hosts
 pub record Keeps (n : ℕ) (hosts : List ℕ) (w : Work) : Type 0 where
   pub number : w.core.node ≡ n
-  pub ends : hosts_of w.ports ≡ hosts
+  pub ends : hosts_of_ends w.ports ≡ hosts
 
 module _ (n : ℕ) (hosts : List ℕ) where
   abbrev Of : Work → Type 0
@@ -48,7 +48,7 @@ module _ (n : ℕ) (hosts : List ℕ) where
       }
 
   beside : (w v : Work) → v.core.node ≡ w.core.node → v.ports ≡ w.ports → v.entries ≡ w.entries → Of w → Of v
-  beside w v core ports entries a = record { number = core ∙ a.number; ends = ap hosts_of ports ∙ a.ends }
+  beside w v core ports entries a = record { number = core ∙ a.number; ends = ap hosts_of_ends ports ∙ a.ends }
 
   sessions_node : (core : Core) (ports : List Port) → (after_sessions core ports).node ≡ core.node
   sessions_node core ports = go (list_any is_over ports) refl
@@ -94,7 +94,7 @@ module _ (n : ℕ) (hosts : List ℕ) where
       by : Bool → Option Running
       by b = cond b None (Some (record { core = w.core; desks = map (λ (p : Port). p.desk) w.ports }))
 
-      same : (ports : List Port) → map (λ (d : Desk). d.host) (map (λ (p : Port). p.desk) ports) ≡ hosts_of ports
+      same : (ports : List Port) → map (λ (d : Desk). d.host) (map (λ (p : Port). p.desk) ports) ≡ hosts_of_ends ports
       same [] = refl
       same (p ∷ ports) = ap (λ xs. p.desk.host ∷ xs) (same ports)
 

@@ -19,7 +19,7 @@ use Rattle.node_machine.specs.Carrying.{port_at}
 use Rattle.node_machine.specs.Node.{steps, begins_with}
 use Rattle.node_machine.specs.Node.NodeInput.{AtEnd}
 use Rattle.node_world.specs.World.{Site, NodeWorld, site_at, link_to, input_of, half_in, arrival, wires_for, port_for, work_of, ending_of, turns_at, frames_noted, comes_to, controller_work, after_controller, host_work}
-use Rattle.kept_laws.specs.Books.{hosts_of}
+use Rattle.kept_laws.specs.Books.{hosts_of_ends}
 use Rattle.kept_laws.specs.Hosts.{AreDifferent}
 use Rattle.node_telling.specs.Telling.{of_link, TellOf, HasEnds, hosts_in, IsOrderly}
 use Rattle.node_telling.proofs.Mute.{AreMute}
@@ -51,7 +51,7 @@ link_is sites h s q = ap (λ o. option_map_or (λ (x : Site). x.link) o (new_lin
 abbrev pub ports_for : (ℕ → Half) → List Desk → List Port
 ports_for halves desks = map (λ (d : Desk). port_for (halves d.host) d) desks
 
-pub hosts_same : (halves : ℕ → Half) (desks : List Desk) → hosts_of (ports_for halves desks) ≡ map (λ (d : Desk). d.host) desks
+pub hosts_same : (halves : ℕ → Half) (desks : List Desk) → hosts_of_ends (ports_for halves desks) ≡ map (λ (d : Desk). d.host) desks
 hosts_same halves [] = refl
 hosts_same halves (d ∷ desks) = ap (λ xs. d.host ∷ xs) (hosts_same halves desks)
 

@@ -15,7 +15,7 @@ use Rattle.node_machine.specs.Controller.{asked_at}
 use Rattle.node_machine.specs.Node.{NodeInput, input_at, has_come, told_at, all_come, is_over, is_forgotten, forgotten, forgets, all_owed, without_notice, after_sessions, synced, steps, begins_with}
 use Rattle.node_machine.specs.Node.NodeInput.{AtEnd}
 use Rattle.node_world.specs.World.{input_of, half_in, arrival, wires_for, ending_of, turns_at, frames_noted}
-use Rattle.kept_laws.specs.Books.{hosts_of}
+use Rattle.kept_laws.specs.Books.{hosts_of_ends}
 use Rattle.kept_laws.specs.Hosts.{AreDifferent}
 use Rattle.node_telling.specs.Telling.{of_link}
 use Rattle.node_telling.proofs.Mute.{AreMute, forgotten_mute, all_owed_mute, all_synced_mute}
@@ -129,7 +129,7 @@ pub record Opening (h : ℕ) (who : Side) (l : Link) (comes : Comes) (w : Work) 
   pub late : port.late ≡ false
   pub turns : port.turns ≡ []
   pub told : of_link h w.entries ≡ of_link h (entries_for h (arrival who l comes))
-  pub different : AreDifferent (hosts_of w.ports)
+  pub different : AreDifferent (hosts_of_ends w.ports)
 
 module _ (h : ℕ) (who : Side) (l : Link) (comes : Comes) (o : Option LinkInput) where
   half : Half
