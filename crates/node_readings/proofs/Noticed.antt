@@ -42,7 +42,7 @@ pub input_phase : (l : Link) (i : LinkInput) (ts : List Turn)
 input_phase l i ts = sent_phase (after_input l.controller.side i) ts
 
 -- an end that is up isn't waiting
-not_waiting : (e : EndState) → e.phase ≡ Up → is_waiting e ≡ false
+pub not_waiting : (e : EndState) → e.phase ≡ Up → is_waiting e ≡ false
 not_waiting e up = rw up refl
 
 -- an open end keeps its role over a tick
@@ -207,26 +207,63 @@ module _ (r : Running) (plan : Option Plan) (halves : ℕ → Half) (es : List E
             sym (ap (λ (s : LinkEnd). is_up s.shdlc.phase) side) ∙ (sym (ap (λ o. up_at (option_map come o)) e) ∙ up);
       }
 
+    -- ## A tick
+
+    abbrev come_tick : Port → Port
+    come_tick q = has_come q (Some Tick)
+
+    ticked_ports : (x : ℕ) → port_at (map reset_late (map with_older (map come_tick (starts r.desks)))) x
+        ≡ option_map reset_late (option_map with_older (option_map come_tick (port_at (starts r.desks) x)))
+    ticked_ports x =
+        at_all (map with_older (map come_tick (starts r.desks))) x reset_late reset_host
+        ∙ ap (option_map reset_late) (at_all (map come_tick (starts r.desks)) x with_older (λ q. refl)
+        ∙ ap (option_map with_older) (at_all (starts r.desks) x come_tick (λ q. refl)))
+
+    -- whether the notice of an end is late, by the end as the step began
+    abbrev LateOf : Option Port → Bool
+    LateOf o = option_map_or (λ (q : Port). q.late) (option_map reset_late (option_map with_older (option_map come_tick o))) false
+
+    late_at : (x : ℕ) → is_late_at (steps TimePasses begun) x ≡ LateOf (port_at (starts r.desks) x)
+    late_at x = late_is number noticed TimePasses tt x ∙ ap (λ o. option_map_or (λ (q : Port). q.late) o false) (ticked_ports x)
+
+    -- a notice that is late stood there, and its session went on
+    has_notice : (q : Port) (o : Option Notice) → q.desk.notice ≡ o
+        → option_map_or (λ (n : Notice). nat_le 100 n.age) (with_older q).desk.notice false ≡ true → is_some o ≡ true
+    has_notice q None is e = let z : false ≡ true = rw is at e in absurd (true≢false (sym z))
+    has_notice q (Some n) is e = refl
+
+    both : (a b : Bool) → (a && not b) ≡ true → (a ≡ true) × (b ≡ false)
+    both true false e = (refl, refl)
+    both true true e = absurd (true≢false (sym e))
+    both false b e = absurd (true≢false (sym e))
+
+    late_up : (x : ℕ) (q : Port) → port_at (starts r.desks) x ≡ Some q → is_late (with_older (come_tick q)) ≡ true → q.side.shdlc.phase ≡ Up
+    late_up x q e is =
+        let stood : is_some q.desk.notice ≡ true → q.side.shdlc.phase ≡ Up = subst (OnFirst IsNoticedUp) e (noticed x) in
+        stood (has_notice (come_tick q) q.desk.notice refl (both _ (with_older (come_tick q)).ended is).0)
+
+    -- an end whose notice is late was up as the step began
+    pub was_up : (x : ℕ) → is_late_at (steps TimePasses begun) x ≡ true → (halves x).side.shdlc.phase ≡ Up
+    was_up x is = go (port_at (starts r.desks) x) refl where
+      go : (o : Option Port) → port_at (starts r.desks) x ≡ o → (halves x).side.shdlc.phase ≡ Up
+      go None e = absurd (true≢false (sym is ∙ (late_at x ∙ ap LateOf e)))
+      go (Some q) e = ap (λ (s : LinkEnd). s.shdlc.phase) (sym (is_start r.desks x q e).side) ∙ by_late (cases_Bool (is_late (with_older (come_tick q))))
+        where
+          late_q : (reset_late (with_older (come_tick q))).late ≡ true
+          late_q = sym (late_at x ∙ ap LateOf e) ∙ is
+
+          by_late : (is_late (with_older (come_tick q)) ≡ true) ⊎ (is_late (with_older (come_tick q)) ≡ false) → q.side.shdlc.phase ≡ Up
+          by_late (inl z) = late_up x q e z
+          by_late (inr off) =
+              let was : q.late ≡ true = rw off at late_q in
+              absurd (true≢false (sym was ∙ (is_start r.desks x q e).late))
+
     pub tick_up : (x : ℕ) (p : Port) (l : Link) (ts : List Turn) → port_at (steps TimePasses begun).ports x ≡ Some p
         → is_some p.desk.notice ≡ true → l.controller.side ≡ (halves x).side
         → CameUp x (ticked_so l (is_late_at (steps TimePasses begun) x) ts GoesOut).controller.side.shdlc.phase
     tick_up x p l ts here some side = go (port_at (starts r.desks) x) refl where
-      come : Port → Port
-      come q = has_come q (Some Tick)
-
-      ports_is : port_at (map reset_late (map with_older (map come (starts r.desks)))) x
-          ≡ option_map reset_late (option_map with_older (option_map come (port_at (starts r.desks) x)))
-      ports_is =
-          at_all (map with_older (map come (starts r.desks))) x reset_late reset_host
-          ∙ ap (option_map reset_late) (at_all (map come (starts r.desks)) x with_older (λ q. refl)
-          ∙ ap (option_map with_older) (at_all (starts r.desks) x come (λ q. refl)))
-
-      up : up_at (option_map reset_late (option_map with_older (option_map come (port_at (starts r.desks) x)))) ≡ true
-      up = sym (ap up_at ports_is) ∙ came_up number noticed TimePasses tt x p here some
-
-      late : is_late_at (steps TimePasses begun) x
-          ≡ option_map_or (λ (q : Port). q.late) (option_map reset_late (option_map with_older (option_map come (port_at (starts r.desks) x)))) false
-      late = late_is number noticed TimePasses tt x ∙ ap (λ o. option_map_or (λ (q : Port). q.late) o false) ports_is
+      up : up_at (option_map reset_late (option_map with_older (option_map come_tick (port_at (starts r.desks) x)))) ≡ true
+      up = sym (ap up_at (ticked_ports x)) ∙ came_up number noticed TimePasses tt x p here some
 
       Goal : Bool → Type 0
       Goal b = is_up (ticked_so l b ts GoesOut).controller.side.shdlc.phase ≡ true
@@ -253,40 +290,26 @@ module _ (r : Running) (plan : Option Plan) (halves : ℕ → Half) (es : List E
             (ap (λ (e : LinkEnd). is_up (after_input e (Reset None)).shdlc.phase) (sym same)
             ∙ (ap (λ (e : LinkEnd). is_up e.shdlc.phase) (reset_refused q.side closed) ∙ ap is_up was))
 
-      -- a notice that is late stood there, and its session went on
-      has_notice : (q : Port) (o : Option Notice) → q.desk.notice ≡ o
-          → option_map_or (λ (n : Notice). nat_le 100 n.age) (with_older q).desk.notice false ≡ true → is_some o ≡ true
-      has_notice q None is e = let z : false ≡ true = rw is at e in absurd (true≢false (sym z))
-      has_notice q (Some n) is e = refl
-
-      both : (a b : Bool) → (a && not b) ≡ true → (a ≡ true) × (b ≡ false)
-      both true false e = (refl, refl)
-      both true true e = absurd (true≢false (sym e))
-      both false b e = absurd (true≢false (sym e))
-
       go : (o : Option Port) → port_at (starts r.desks) x ≡ o
           → CameUp x (ticked_so l (is_late_at (steps TimePasses begun) x) ts GoesOut).controller.side.shdlc.phase
-      go None e = absurd (true≢false (sym up ∙ ap (λ o. up_at (option_map reset_late (option_map with_older (option_map come o)))) e))
-      go (Some q) e = record { start = q; here = e; up = subst Goal (sym late_q) (by_late (cases_Bool (is_late (with_older (come q))))) } where
+      go None e = absurd (true≢false (sym up ∙ ap (λ o. up_at (option_map reset_late (option_map with_older (option_map come_tick o)))) e))
+      go (Some q) e = record { start = q; here = e; up = subst Goal (sym late_q) (by_late (cases_Bool (is_late (with_older (come_tick q))))) } where
         old : Port
-        old = with_older (come q)
+        old = with_older (come_tick q)
 
         same : q.side ≡ l.controller.side
         same = (is_start r.desks x q e).side ∙ sym side
 
         late_q : is_late_at (steps TimePasses begun) x ≡ (reset_late old).late
-        late_q = late ∙ ap (λ o. option_map_or (λ (p : Port). p.late) (option_map reset_late (option_map with_older (option_map come o))) false) e
+        late_q = late_at x ∙ ap LateOf e
 
         up_q : is_up (reset_late old).side.shdlc.phase ≡ true
-        up_q = sym (ap (λ o. up_at (option_map reset_late (option_map with_older (option_map come o)))) e) ∙ up
-
-        stood : is_some q.desk.notice ≡ true → q.side.shdlc.phase ≡ Up
-        stood = subst (OnFirst IsNoticedUp) e (noticed x)
+        up_q = sym (ap (λ o. up_at (option_map reset_late (option_map with_older (option_map come_tick o)))) e) ∙ up
 
         by_late : (is_late old ≡ true) ⊎ (is_late old ≡ false) → Goal (reset_late old).late
         by_late (inl is) =
             let parts = both _ old.ended is in
-            let was : q.side.shdlc.phase ≡ Up = stood (has_notice (come q) q.desk.notice refl parts.0) in
+            let was : q.side.shdlc.phase ≡ Up = late_up x q e is in
             let now : (after_input q.side Tick).shdlc.phase ≡ Up = stays_up q.side Tick tt was parts.1 in
             let after : is_up (after_input (after_input q.side Tick) (Reset None)).shdlc.phase ≡ true = rw is at up_q in
             rw is (too_late q same was now after)

@@ -1,5 +1,5 @@
 -- Over whatever happens in a world a controller has notices that aren't answered only at ends that are up.
-use Rattle.std.proofs.Common.{◌≡◌, ◌⊎◌, inl, inr, ℕ, ◌+◌, Bool, true, false, cond, eqb, List, [], ◌∷◌, map, length, min, sym, refl, ap, ◌∙◌, subst, arith}
+use Rattle.std.proofs.Common.{◌≡◌, ◌⊎◌, inl, inr, ℕ, ◌+◌, Bool, true, false, not, cond, eqb, List, [], ◌∷◌, map, length, min, sym, refl, ap, ◌∙◌, subst, arith}
 use Rattle.std.specs.Prelude.{Option, Some, None, is_some}
 use Rattle.std.specs.List.{AllByRecursion}
 use Rattle.std.specs.Option.{option_map}
@@ -8,14 +8,13 @@ use Rattle.swp_base.specs.InMemory.{Memory}
 use Rattle.journal_laws.specs.Planned.{fails_within, after_planned}
 use Rattle.trace_model.specs.Lines.{IsHost}
 use Rattle.trace_model.specs.declared.entry.Entry.{Entry}
-use Rattle.trace_model.specs.declared.entry.NoCause.{NoCause}
 use Rattle.trace_model.specs.declared.line.End.{End}
 use Rattle.trace_model.specs.declared.line.Line.{Line}
-use Rattle.trace_model.specs.declared.line.Line.TheVariants as line
 use Rattle.shdlc_core.specs.declared.answers.LinkState.{LinkState}
 use Rattle.shdlc_core.specs.declared.answers.LinkState.TheVariants.{Up}
 use Rattle.link_machine.specs.Machine.{LinkEnd, LinkInput, Turn, after_input}
-use Rattle.message_link.specs.Links.{Link, Half, Ending, Comes, Loss, EndEvent, exchanged, aged, steps_here, ticks_here, happens}
+use Rattle.link_machine.specs.Machine.LinkInput.{Reset}
+use Rattle.message_link.specs.Links.{Link, Half, Ending, Comes, Loss, EndEvent, exchanged, aged, has_input, steps_here, ticks_here, happens}
 use Rattle.message_link.specs.Links.Ending.{GoesOut, CutOff}
 use Rattle.message_link.specs.Links.Comes.{NextFrame, AsksReset, Starts, NoInput}
 use Rattle.message_link.specs.Links.Loss.{OnDemand, Broken, Unread, TooOld, TooMany}
@@ -30,8 +29,7 @@ use Rattle.node_machine.specs.Node.{steps, begins_with, boot_writes, found, new_
 use Rattle.node_machine.specs.Node.NodeInput.{AtEnd, TimePasses}
 use Rattle.node_world.specs.World.{NodeWorld, Site, Happening, site_at, link_to, memory_at, with_site, with_memory, with_node, links_of, ending_of, runs_on, turns_at, input_of, half_in, arrival, port_for, work_of, comes_to, controller_work, link_after_controller, after_controller, controller_does, host_work, after_host, host_does, controller_cut, host_cut, loses_power_at, boots, counts, frame_lost, all_aged, is_late_at, ticked_so, controller_ticks, host_ticks, hosts_tick, world_ticks, sending, beginning, comes_at, end_c, end_h, new_world, world_step}
 use Rattle.node_world.specs.World.Happening.{Boots, IsCut, Gives, Inits, Takes, Loses, Ticks, Resets, Activates, Arms}
-use Rattle.node_world.specs.Lines.{refusal_in, happenings, Occurrence, can_happen, all_happen, LineOutcome, goes_on, line_step}
-use Rattle.node_world.specs.Lines.LineOutcome.{WasRefused}
+use Rattle.node_world.specs.Lines.{happenings}
 use Rattle.node_world.specs.NodeHistories.{world_after}
 use Rattle.node_links.specs.Notices.{IsNoticedUp, OnFirst}
 use Rattle.node_links.proofs.Ends.{here_host, tick_host}
@@ -39,12 +37,13 @@ use Rattle.node_links.proofs.Noticing.{at_all, at_host}
 use Rattle.kept_laws.specs.Hosts.{AreHosts}
 use Rattle.node_telling.specs.Telling.{HasEnds, IfItRuns, hosts_in, IsOrderly}
 use Rattle.node_telling.proofs.Events.{site_map, orderly_map, comes_goes}
+use Rattle.node_telling.proofs.Lasting.{Any, AnyLine, all_any, all_lines, lines_last}
 use Rattle.node_telling.proofs.Nodes.{site_host, link_is}
 use Rattle.node_telling.proofs.Orderly.{new_orderly, step_orderly}
 use Rattle.node_telling.proofs.WorldTicks.{tick_host as ticked_number}
 use Rattle.node_readings.specs.Noticed.{IfNoticedUp, NoticesAreUp}
 use Rattle.node_readings.proofs.Sites.{half_side, comes_outside, sent_phase, stepped_phase}
-use Rattle.node_readings.proofs.Noticed.{up_is, CameUp, input_up, tick_up}
+use Rattle.node_readings.proofs.Noticed.{up_is, not_waiting, CameUp, input_up, tick_up, was_up}
 
 -- ## Ends
 
@@ -509,53 +508,32 @@ event_up w (Arms n plan) o a = memory_up n (record (memory_at w n) { plan = Some
 abbrev IsSo : NodeWorld → Type 0
 IsSo w = IsOrderly w × NoticesAreUp w
 
-all_so : (causes : List Happening) (w : NodeWorld) → IsSo w → IsSo (all_happen w causes).0
-all_so [] w a = a
-all_so (c ∷ causes) w a = go (can_happen w c) (all_so causes (world_step w c).0 (step_orderly w c a.0, event_up w c a.0 a.1)) where
-  by : Bool → NodeWorld × List Occurrence
-  by true = (
-    (all_happen (world_step w c).0 causes).0,
-    record { cause = c; entries = (world_step w c).1 } ∷ (all_happen (world_step w c).0 causes).1,
-  )
-  by false = (w, [])
-
-  go : (b : Bool) → IsSo (all_happen (world_step w c).0 causes).0 → IsSo (by b).0
-  go true z = z
-  go false z = a
-
-goes_so : (w : NodeWorld) (l : Line) → IsSo w → IsSo (goes_on w l).0
-goes_so w (line.Tables node) a = a
-goes_so w (line.Send e pid message) a = all_so (happenings w (line.Send e pid message)) w a
-goes_so w (line.Deliver e count) a = all_so (happenings w (line.Deliver e count)) w a
-goes_so w (line.Lose e) a = all_so (happenings w (line.Lose e)) w a
-goes_so w (line.Damage e places) a = all_so (happenings w (line.Damage e places)) w a
-goes_so w (line.Tick times) a = all_so (happenings w (line.Tick times)) w a
-goes_so w (line.Reset e window) a = all_so (happenings w (line.Reset e window)) w a
-goes_so w (line.Busy e) a = a
-goes_so w (line.Ready e) a = a
-goes_so w (line.Boot node) a = all_so (happenings w (line.Boot node)) w a
-goes_so w (line.Cut node) a = all_so (happenings w (line.Cut node)) w a
-goes_so w (line.Activate host sync power) a = all_so (happenings w (line.Activate host sync power)) w a
-goes_so w (line.Arm node nth fill) a = all_so (happenings w (line.Arm node nth fill)) w a
-goes_so w (line.Init e identity pipes) a = all_so (happenings w (line.Init e identity pipes)) w a
-
-line_so : (w : NodeWorld) (l : Line) → IsSo w → IsSo (line_step w l).0
-line_so w l a = go (refusal_in w l) where
-  by : Option NoCause → NodeWorld × LineOutcome
-  by (Some cause) = (w, WasRefused cause)
-  by None = goes_on w l
-
-  go : (o : Option NoCause) → IsSo (by o).0
-  go (Some cause) = a
-  go None = goes_so w l a
-
-lines_so : (lines : List Line) (w : NodeWorld) → IsSo w → IsSo (world_after w lines)
-lines_so [] w a = a
-lines_so (l ∷ lines) w a = lines_so lines (line_step w l).0 (line_so w l a)
-
 numbers : (hosts : List ℕ) → AllByRecursion IsHost hosts → AllByRecursion (λ h. eqb h 0 ≡ false) hosts
 numbers [] a = tt
 numbers (h ∷ hosts) a = (ne_eqb h 0 (λ z. omega (arith, z, a.0.0)), numbers hosts a.1)
 
 pub lines_up : (hosts : List ℕ) (lines : List Line) → AreHosts hosts → NoticesAreUp (world_after (new_world hosts) lines)
-lines_up hosts lines are = (lines_so lines (new_world hosts) (new_orderly hosts are.different (numbers hosts are.all), tt)).1
+lines_up hosts lines are =
+    (lines_last (λ t w. IsSo w) Any AnyLine (λ t w c a may. (step_orderly w c a.0, event_up w c a.0 a.1)) (λ w l is none. all_any w (happenings w l)) lines []
+    (new_world hosts) (new_orderly hosts are.different (numbers hosts are.all), tt) (all_lines lines)).1
+
+-- ## Late notices
+
+-- an end whose notice is late is up, so it is reset in place of its tick
+pub late_resets : (w : NodeWorld) (r : Running) (h : ℕ) (turns : List Turn) (ending : Ending) → IsOrderly w → NoticesAreUp w → w.controller ≡ Some r
+    → is_late_at (steps TimePasses (work_of r w.memory.plan (λ n. (link_to w.sites n).controller) [])) h ≡ true
+    → ticked_so (link_to w.sites h) true turns ending ≡ has_input (link_to w.sites h) (Reset None) turns ending
+late_resets w r h turns ending orderly a runs late =
+    ap (λ b. cond (not b) (has_input l (Reset None) turns ending) (ticks_here l turns ending)) (not_waiting l.controller.side.shdlc up)
+  where
+    l : Link
+    l = link_to w.sites h
+
+    has : HasEnds 0 (hosts_in w.sites) r
+    has = subst (IfItRuns 0 (hosts_in w.sites)) runs orderly.controller
+
+    noticed : IfNoticedUp w.sites (Some r)
+    noticed = subst (IfNoticedUp w.sites) runs a
+
+    up : l.controller.side.shdlc.phase ≡ Up
+    up = was_up r w.memory.plan (λ n. (link_to w.sites n).controller) [] has.number noticed h late

@@ -2,20 +2,21 @@
 //! controller has notices that aren't answered only at ends that are up. Nothing here runs.
 #![tactic(auto)]
 
-ghost use Rattle.std.specs.Prelude.{◌≡◌, ◌∷◌, ◌++◌, ℕ, false, List, [], Option, None, Some};
+ghost use Rattle.std.specs.Prelude.{◌≡◌, ◌∷◌, ◌++◌, ℕ, true, false, List, [], Option, None, Some};
 ghost use Rattle.std.specs.List.{AllByRecursion};
 ghost use Rattle.swp_base.specs.InMemory.{Memory};
 ghost use Rattle.trace_model.specs.Lines.{IsHost};
 ghost use Rattle.trace_model.specs.declared.entry.Entry.{Entry};
 ghost use Rattle.trace_model.specs.declared.entry.Entry.TheVariants.{Booted, Cut};
-ghost use Rattle.link_machine.specs.Machine.{LinkInput, Message, give_refusal};
-ghost use Rattle.message_link.specs.Links.{Comes, exchanged};
+ghost use Rattle.link_machine.specs.Machine.{LinkInput, Message, Turn, give_refusal};
+ghost use Rattle.link_machine.specs.Machine.LinkInput.{Reset};
+ghost use Rattle.message_link.specs.Links.{Comes, Ending, exchanged, has_input};
 ghost use Rattle.node_links.specs.Notices.{IsOutside};
 ghost use Rattle.node_machine.specs.Parts.{Running, Port, Work, Deed};
 ghost use Rattle.node_machine.specs.Node.{NodeInput, steps, begins_with, found};
-ghost use Rattle.node_machine.specs.Node.NodeInput.{AtEnd};
+ghost use Rattle.node_machine.specs.Node.NodeInput.{AtEnd, TimePasses};
 ghost use Rattle.message_link.specs.Links.Comes.{NoInput};
-ghost use Rattle.node_world.specs.World.{Site, beginning, host_cut, host_ticks, input_of, sending};
+ghost use Rattle.node_world.specs.World.{Site, beginning, host_cut, host_ticks, input_of, is_late_at, link_to, sending, ticked_so, work_of};
 ghost use Rattle.node_readings.specs.Orders.{AreInitsShort, Fits, IsAnother, IsFresh, IsSilent, KeepsOrder, MayDo};
 ghost use Rattle.trace_model.specs.declared.line.Header.{Header};
 ghost use Rattle.trace_model.specs.declared.line.Line.{Line};
@@ -86,9 +87,12 @@ pub fn unanswered_commands_are_read_off_histories()
 {}
 
 /// A controller has a notice that isn't answered only at an end that is up: over whatever happens in an orderly world, also over the
-/// tick in which the notice is late and its link is reset, and so behind any lines. It asks for hosts from 01 to 07 that are all
-/// different.
+/// tick in which the notice is late and its link is reset, and so behind any lines of a schedule with hosts from 01 to 07 that are
+/// all different. An end whose notice is late is up, so it never waits, and is reset in place of having its tick.
 pub fn unanswered_notices_stand_at_links_that_are_up()
     ensures event { (w : NodeWorld) (c : Happening) → IsOrderly w → NoticesAreUp w → NoticesAreUp (world_step w c).0 }
     ensures histories { (hosts : List ℕ) (lines : List Line) → AreHosts hosts → NoticesAreUp (world_after (new_world hosts) lines) }
+    ensures late { (w : NodeWorld) (r : Running) (h : ℕ) (turns : List Turn) (ending : Ending) → IsOrderly w → NoticesAreUp w →
+        w.controller ≡ Some r → is_late_at (steps TimePasses (work_of r w.memory.plan (λ n. (link_to w.sites n).controller) [])) h ≡ true →
+        ticked_so (link_to w.sites h) true turns ending ≡ has_input (link_to w.sites h) (Reset None) turns ending }
 {}

@@ -10,5 +10,6 @@ pub mod Nodes
 pub mod Worlds
 pub mod Events
 pub mod WorldTicks
+pub mod Lasting
 pub mod Orderly
 pub mod Histories

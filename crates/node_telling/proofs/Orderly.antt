@@ -1,11 +1,9 @@
 -- Whatever lines are played, a world of nodes is orderly.
-use Rattle.std.proofs.Common.{◌≡◌, ℕ, ◌==◌, Bool, true, false, List, [], ◌∷◌, ◌++◌, Option, Some, None, map, refl, ap, sym, subst, ◌∙◌}
+use Rattle.std.proofs.Common.{◌≡◌, ℕ, ◌==◌, false, List, [], ◌∷◌, ◌++◌, Option, Some, None, map, refl, ap, sym, subst, ◌∙◌}
 use Rattle.std.specs.Prelude.{replicate}
 use Rattle.std.specs.List.{AllByRecursion, flat_map}
 use Rattle.trace_model.specs.declared.entry.Entry.{Entry}
-use Rattle.trace_model.specs.declared.entry.NoCause.{NoCause}
 use Rattle.trace_model.specs.declared.line.Line.{Line}
-use Rattle.trace_model.specs.declared.line.Line.TheVariants as line
 use Rattle.journal_laws.specs.Planned.{after_planned}
 use Rattle.message_link.specs.Links.{Half, exchanged, aged, ticks_here}
 use Rattle.message_link.specs.Links.Ending.{GoesOut}
@@ -15,14 +13,14 @@ use Rattle.node_machine.specs.Node.{steps}
 use Rattle.node_machine.specs.Node.NodeInput.{TimePasses}
 use Rattle.node_world.specs.World.{Site, NodeWorld, Happening, new_site, new_world, link_to, work_of, ending_of, turns_at, runs_on, frames_noted, is_late_at, ticked_so, all_aged, controller_ticks, host_ticks, hosts_tick, world_ticks, world_step}
 use Rattle.node_world.specs.World.Happening.{Boots, IsCut, Gives, Inits, Takes, Loses, Ticks, Resets, Activates, Arms}
-use Rattle.node_world.specs.Lines.{refusal_in, happenings, Occurrence, can_happen, all_happen, LineOutcome, goes_on, line_step}
-use Rattle.node_world.specs.Lines.LineOutcome.{WasRefused}
+use Rattle.node_world.specs.Lines.{happenings}
 use Rattle.node_world.specs.NodeHistories.{world_after}
 use Rattle.kept_laws.specs.Hosts.{AreDifferent}
 use Rattle.node_telling.specs.Telling.{IfItRuns, hosts_in, IsOrderly}
 use Rattle.node_telling.proofs.Keeping.{Keeps, tick_keeps, runs_keep}
 use Rattle.node_telling.proofs.Nodes.{hosts_same}
 use Rattle.node_telling.proofs.Events.{orderly_map, untimed_goes}
+use Rattle.node_telling.proofs.Lasting.{Any, AnyLine, all_any, all_lines, lines_last}
 use Rattle.node_telling.proofs.WorldTicks.{after_tick, host_tick, tick_host}
 
 -- ## Ticks
@@ -110,7 +108,7 @@ ticks_orderly w a =
     same : hosts_in (hosts_tick (controller_ticks old).0.sites).0 ≡ hosts_in (controller_ticks old).0.sites
     same = hosts_ticked (controller_ticks old).0.sites
 
--- ## Events and lines
+-- ## Events
 
 pub step_orderly : (w : NodeWorld) (c : Happening) → IsOrderly w → IsOrderly (world_step w c).0
 step_orderly w Ticks a = ticks_orderly w a
@@ -123,52 +121,6 @@ step_orderly w (Loses e why) a = (untimed_goes w (Loses e why) tt a).orderly
 step_orderly w (Resets e window) a = (untimed_goes w (Resets e window) tt a).orderly
 step_orderly w (Activates h sync power) a = (untimed_goes w (Activates h sync power) tt a).orderly
 step_orderly w (Arms n plan) a = (untimed_goes w (Arms n plan) tt a).orderly
-
-all_orderly : (causes : List Happening) (w : NodeWorld) → IsOrderly w → IsOrderly (all_happen w causes).0
-all_orderly [] w a = a
-all_orderly (c ∷ causes) w a = go (can_happen w c) (all_orderly causes (world_step w c).0 (step_orderly w c a))
-  where
-    by : Bool → NodeWorld × List Occurrence
-    by true = (
-      (all_happen (world_step w c).0 causes).0,
-      record { cause = c; entries = (world_step w c).1 } ∷ (all_happen (world_step w c).0 causes).1,
-    )
-    by false = (w, [])
-
-    go : (b : Bool) → IsOrderly (all_happen (world_step w c).0 causes).0 → IsOrderly (by b).0
-    go true z = z
-    go false z = a
-
-goes_orderly : (w : NodeWorld) (l : Line) → IsOrderly w → IsOrderly (goes_on w l).0
-goes_orderly w (line.Tables node) a = a
-goes_orderly w (line.Send e pid message) a = all_orderly (happenings w (line.Send e pid message)) w a
-goes_orderly w (line.Deliver e count) a = all_orderly (happenings w (line.Deliver e count)) w a
-goes_orderly w (line.Lose e) a = all_orderly (happenings w (line.Lose e)) w a
-goes_orderly w (line.Damage e places) a = all_orderly (happenings w (line.Damage e places)) w a
-goes_orderly w (line.Tick times) a = all_orderly (happenings w (line.Tick times)) w a
-goes_orderly w (line.Reset e window) a = all_orderly (happenings w (line.Reset e window)) w a
-goes_orderly w (line.Busy e) a = a
-goes_orderly w (line.Ready e) a = a
-goes_orderly w (line.Boot node) a = all_orderly (happenings w (line.Boot node)) w a
-goes_orderly w (line.Cut node) a = all_orderly (happenings w (line.Cut node)) w a
-goes_orderly w (line.Activate host sync power) a = all_orderly (happenings w (line.Activate host sync power)) w a
-goes_orderly w (line.Arm node nth fill) a = all_orderly (happenings w (line.Arm node nth fill)) w a
-goes_orderly w (line.Init e identity pipes) a = all_orderly (happenings w (line.Init e identity pipes)) w a
-
-line_orderly : (w : NodeWorld) (l : Line) → IsOrderly w → IsOrderly (line_step w l).0
-line_orderly w l a = go (refusal_in w l)
-  where
-    by : Option NoCause → NodeWorld × LineOutcome
-    by (Some cause) = (w, WasRefused cause)
-    by None = goes_on w l
-
-    go : (o : Option NoCause) → IsOrderly (by o).0
-    go (Some cause) = a
-    go None = goes_orderly w l a
-
-lines_orderly : (lines : List Line) (w : NodeWorld) → IsOrderly w → IsOrderly (world_after w lines)
-lines_orderly [] w a = a
-lines_orderly (l ∷ lines) w a = lines_orderly lines (line_step w l).0 (line_orderly w l a)
 
 -- ## The beginning
 
@@ -191,4 +143,6 @@ new_orderly hosts d a =
 
 pub worlds_are_orderly : (hosts : List ℕ) (lines : List Line) → AreDifferent hosts → AllByRecursion (λ h. (h == 0) ≡ false) hosts
     → IsOrderly (world_after (new_world hosts) lines)
-worlds_are_orderly hosts lines d a = lines_orderly lines (new_world hosts) (new_orderly hosts d a)
+worlds_are_orderly hosts lines d a =
+    lines_last (λ t w. IsOrderly w) Any AnyLine (λ t w c is may. step_orderly w c is) (λ w l is none. all_any w (happenings w l)) lines [] (new_world hosts)
+    (new_orderly hosts d a) (all_lines lines)
