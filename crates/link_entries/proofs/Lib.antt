@@ -13,4 +13,7 @@ pub mod Lasting
 pub mod Completing
 pub mod Quieting
 pub mod Delivering
+pub mod Sparing
+pub mod Settling
+pub mod Together
 mod Examples

@@ -4,3 +4,4 @@ pub mod Reading
 pub mod Sessions
 pub mod Order
 pub mod Quiet
+pub mod Settled

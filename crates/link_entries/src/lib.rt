@@ -1,9 +1,10 @@
 //! What is noted of a link, entry by entry, and what can be read off it. There is no code here that runs.
 #![tactic(auto)]
 
-ghost use Rattle.std.specs.Prelude.{◌≡◌, ℕ, false, List};
+ghost use Rattle.std.specs.Prelude.{◌≡◌, ◌++◌, ◌∷◌, ℕ, false, List};
 ghost use Rattle.std.specs.List.{list_any};
 ghost use Rattle.message_link.specs.Links.{AllAllowed, IsStart, Link, LinkEvent, after, number_of, talk_of};
+ghost use Rattle.message_link.specs.Settled.{AreUpTogether};
 ghost use Rattle.hcp_packet.specs.Packets.{IsFrontOf};
 ghost use Rattle.link_entries.specs.Entries.{End, Entry, trace};
 ghost use Rattle.link_entries.specs.Entries.End.{Controller, Host};
@@ -11,6 +12,7 @@ ghost use Rattle.link_entries.specs.Order.{InOrderIn, is_chain_fault};
 ghost use Rattle.link_entries.specs.Quiet.{IsDelivered, IsQuietSince};
 ghost use Rattle.link_entries.specs.Reading.{kept, nothing_seen, see_all};
 ghost use Rattle.link_entries.specs.Sessions.{IsRead};
+ghost use Rattle.link_entries.specs.Settled.{IsSettledSince};
 
 /// The frames on both wires with their ages and numbers, how many RSETs were put on the link, and the greatest number that each
 /// end has put on it and taken, are read off the entries.
@@ -48,4 +50,14 @@ pub fn quiet_session_has_delivered_all()
         IsDelivered (trace l events) Controller (number_of (after l events).controller) }
     ensures to_controller { (l : Link) → IsStart l → (events : List LinkEvent) → AllAllowed l events → IsQuietSince (trace l events) (after l events) →
         IsDelivered (trace l events) Host (number_of (after l events).controller) }
+{}
+
+/// Where a reset was asked for at an end, not refused, while the other end was active and not waiting, and in what was noted in
+/// the events behind it no frame was lost, no RSET put on the link and no end started, stopped or cut off, both ends are up with
+/// one number once both wires are empty. Two ends that are active stay so as long as none is started, stopped or cut off, so that no
+/// end that isn't active takes a frame then.
+pub fn reset_brings_both_up()
+    ensures { (l : Link) → IsStart l → (before : List LinkEvent) (reset : LinkEvent) (behind : List LinkEvent) →
+        AllAllowed l (before ++ reset ∷ behind) → IsSettledSince (after l before) reset behind →
+        AreUpTogether (after l (before ++ reset ∷ behind)) }
 {}

@@ -516,7 +516,7 @@ calm_stop (Uicc u) (Clf c) w v i h =
     record { clf = λ a. (tt, refl); ready = inl tt; tail = tt; plain = tt; last = λ a. absurd (true≢false (sym a)) }
 
 -- an end whose link activation puts down isn't open
-ended_means : (r f : Role) (x : OnWire) (w v : List OnWire) (act : Activation) (again : Bool) → x.frame ≡ Act act again → Calm r f (x ∷ w) v
+pub ended_means : (r f : Role) (x : OnWire) (w v : List OnWire) (act : Activation) (again : Bool) → x.frame ≡ Act act again → Calm r f (x ∷ w) v
     → (act_answer r (ActTake act again)).ended_link ≡ true → is_open r ≡ false
 ended_means Bare f x w v act again q h e = absurd (true≢false (sym e))
 ended_means (Clf c) Bare x w v act again q h e = absurd h

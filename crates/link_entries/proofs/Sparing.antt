@@ -27,7 +27,8 @@ use Rattle.message_link.proofs.Project.{Now, Tells, turns_mid, with_ended-core, 
 use Rattle.message_link.proofs.Steps.{FromHost, Rests, Heard, is_shdlc, heard_end, heard_is, counted_is, took_open, no_fault_first, polite, role_closes, stays_down, act_mid}
 use Rattle.message_link.proofs.Finishing.{tick_open}
 use Rattle.link_entries.specs.Entries.{End, Entry, far, first_lost, pushed_out, wire_with, put_entries, puts_entries, turn_entries, rest_entries, left_after}
-use Rattle.link_entries.specs.Entries.Entry.{Emit, Lost}
+use Rattle.link_entries.specs.Entries.Entry.{Emit, Lost, Restarted, Cut}
+use Rattle.link_entries.specs.Settled.{withholds}
 use Rattle.link_entries.proofs.Disturbing.{left_core}
 
 -- ## What keeps an answer back
@@ -41,6 +42,15 @@ spoils _ = false
 abbrev pub Spared : List Entry → Type 0
 Spared t = list_any spoils t ≡ false
 
+-- an end is started, stopped or cut off
+abbrev pub silences : Entry → Bool
+silences (Restarted who) = true
+silences (Cut who) = true
+silences _ = false
+
+abbrev pub Stands : List Entry → Type 0
+Stands t = list_any silences t ≡ false
+
 pub or_none : (a b : Bool) → (a || b) ≡ false → (a ≡ false) × (b ≡ false)
 or_none true b q = absurd (true≢false q)
 or_none false b q = (refl, q)
@@ -48,12 +58,30 @@ or_none false b q = (refl, q)
 none_or : (a b : Bool) → a ≡ false → b ≡ false → (a || b) ≡ false
 none_or a b p q = rw p q
 
+pub any_parts : (f : Entry → Bool) (t u : List Entry) → list_any f (t ++ u) ≡ false → (list_any f t ≡ false) × (list_any f u ≡ false)
+any_parts f [] u s = (refl, s)
+any_parts f (e ∷ t) u s =
+    let a = or_none (f e) (list_any f (t ++ u)) s in
+    let r = any_parts f t u a.1 in
+    (none_or (f e) (list_any f t) a.0 r.0, r.1)
+
 pub spared_parts : (t u : List Entry) → Spared (t ++ u) → Spared t × Spared u
-spared_parts [] u s = (refl, s)
-spared_parts (e ∷ t) u s =
-    let a = or_none (spoils e) (list_any spoils (t ++ u)) s in
-    let r = spared_parts t u a.1 in
-    (none_or (spoils e) (list_any spoils t) a.0 r.0, r.1)
+spared_parts t u s = any_parts spoils t u s
+
+pub stands_parts : (t u : List Entry) → Stands (t ++ u) → Stands t × Stands u
+stands_parts t u s = any_parts silences t u s
+
+-- nothing withholds an answer
+pub none_withholds : (t : List Entry) → list_any withholds t ≡ false → Spared t × Stands t
+none_withholds [] q = (refl, refl)
+none_withholds (Lost who c why ∷ t) q = absurd (true≢false q)
+none_withholds (Restarted who ∷ t) q = absurd (true≢false q)
+none_withholds (Cut who ∷ t) q = absurd (true≢false q)
+none_withholds (Emit who c ∷ t) q =
+    let a = or_none (is_rset c) (list_any withholds t) q in
+    let r = none_withholds t a.1 in
+    (none_or (is_rset c) (list_any spoils t) a.0 r.0, r.1)
+none_withholds (_ ∷ t) q = none_withholds t q
 
 -- ## Frames go out
 
@@ -235,17 +263,22 @@ idle_sure n l ts a h =
     let tm = turns_mid None e ts a h.now in
     out_sure n (core_of l) None (turned e ts) (core_turned e.shdlc (core_turns e ts)) tm.mid.acts tm.is
 
--- an end that is open has its tick, and its node no turns
-pub tick_sure : (n : Bool) (l : Link) → Tells l.controller → is_open l.controller.side.role ≡ true
-    → sure_tick n (Some []) (core_of l)
-    ≡ sure_all n (core_of (with_ended l (is_some (ended_by l.controller.side HasTick)))) (frames_out (after_input l.controller.side HasTick))
-tick_sure n l h o =
+-- an end that is open has its tick
+pub tick_sure : (n : Bool) (l : Link) (ts : List Turn) → AreSendableTurns ts → Tells l.controller → is_open l.controller.side.role ≡ true
+    → sure_tick n (Some (core_turns (after_input l.controller.side HasTick) ts)) (core_of l)
+    ≡ sure_all n (core_of (with_ended l (is_some (ended_by l.controller.side HasTick)))) (frames_out (turned (after_input l.controller.side HasTick) ts))
+tick_sure n l ts a h o =
     let e : LinkEnd = l.controller.side in
     let t = tick_open e o in
     let b : Bool = is_some (tick_answer e.shdlc).ended in
     let f : LinkEnd = moved e b (ticked e.shdlc) in
+    let us : List CoreTurn = core_turns f ts in
     let now : Now f = mid_moved e b (ticked e.shdlc) h.now (ticked_keeps e.shdlc h.now.idle) (opened e.role ((ticked e.shdlc).phase ≡ IsDown) o) in
-    ap (λ z. sure_out n z (ticked e.shdlc)) (sym (with_ended-core l b))
-    ∙ (out_sure n (core_of (with_ended l b)) None f (ticked e.shdlc) now.acts (shdlc_moved e b (ticked e.shdlc))
-    ∙ (ap (λ z. sure_all n (core_of (with_ended l z)) (frames_out f)) (sym t.1)
-    ∙ ap (λ g. sure_all n (core_of (with_ended l (is_some (ended_by e HasTick)))) (frames_out g)) (sym t.0)))
+    let tm = turns_mid None f ts a now in
+    let s : EndState = core_turned (ticked e.shdlc) us in
+    let is : (turned f ts).shdlc ≡ s = tm.is ∙ ap (λ z. core_turned z us) (shdlc_moved e b (ticked e.shdlc)) in
+    ap (λ g. sure_tick n (Some (core_turns g ts)) (core_of l)) t.0
+    ∙ (ap (λ z. sure_out n z s) (sym (with_ended-core l b))
+    ∙ (out_sure n (core_of (with_ended l b)) None (turned f ts) s tm.mid.acts is
+    ∙ (ap (λ z. sure_all n (core_of (with_ended l z)) (frames_out (turned f ts))) (sym t.1)
+    ∙ ap (λ g. sure_all n (core_of (with_ended l (is_some (ended_by e HasTick)))) (frames_out (turned g ts))) (sym t.0))))

@@ -1,0 +1,41 @@
+-- Where nothing kept the answer to a reset back, and nothing is on its way, both ends are up together.
+use Rattle.std.specs.Prelude.{◌≡◌, Bool, true, false, List, [], None}
+use Rattle.std.specs.List.{list_any}
+use Rattle.shdlc_core.specs.Machine.{is_waiting}
+use Rattle.link_machine.specs.Machine.{is_open, reset_refusal}
+use Rattle.session_laws.specs.Sessions.{is_rset}
+use Rattle.message_link.specs.Links.{Link, LinkEvent, exchanged, happens, after}
+use Rattle.message_link.specs.Links.Ending.{GoesOut}
+use Rattle.message_link.specs.Links.Comes.{AsksReset}
+use Rattle.message_link.specs.Links.EndEvent.{Step}
+use Rattle.message_link.specs.Links.LinkEvent.{AtController, AtHost}
+use Rattle.link_entries.specs.Entries.{Entry, entries}
+use Rattle.link_entries.specs.Entries.Entry.{Emit, Lost, Restarted, Cut}
+
+-- a frame is lost, RSET is put on the link, or an end is started, stopped or cut off, which empties both wires
+abbrev pub withholds : Entry → Bool
+withholds (Lost who frame why) = true
+withholds (Emit who frame) = is_rset frame
+withholds (Restarted who) = true
+withholds (Cut who) = true
+withholds _ = false
+
+-- a reset that is asked for at the controller's end is not refused, and finds the other end active and not waiting
+pub record FindsReady (l : Link) : Type 0 where
+  pub granted : reset_refusal l.controller.side ≡ None
+  pub active : is_open l.host.side.role ≡ true
+  pub free : is_waiting l.host.side.shdlc ≡ false
+
+-- such a reset is asked for at an end
+abbrev pub IsReset : Link → LinkEvent → Type 0
+IsReset l (AtController (Step (AsksReset window) turns GoesOut)) = FindsReady l
+IsReset l (AtHost (Step (AsksReset window) turns GoesOut)) = FindsReady (exchanged l)
+IsReset l _ = ⊥
+
+-- On this link there was such a reset, nothing that was noted in the events behind it withholds its answer, and now both wires are
+-- empty.
+pub record IsSettledSince (l : Link) (reset : LinkEvent) (behind : List LinkEvent) : Type 0 where
+  pub asked : IsReset l reset
+  pub undisturbed : list_any withholds (entries (happens l reset) behind) ≡ false
+  pub to_controller : (after (happens l reset) behind).to_controller ≡ []
+  pub to_host : (after (happens l reset) behind).to_host ≡ []
