@@ -165,9 +165,9 @@ rest_cut t who l e ts q =
     let b = stands_parts (turn_entries who _ e ts) (Cut who ∷ []) a.1 in
     true≢false b.1
 
--- the answer isn't kept back, and the end is active
-abbrev pub Keeps : Bool → Link → Type 0
-Keeps s l = (s ≡ true) × (is_open l.controller.side.role ≡ true)
+-- where this was noted: the answer is kept back no more than before, which s and n tell, if it was spared, and the end is active
+abbrev pub Spares : List Entry → Bool → Bool → Link → Type 0
+Spares u s n l = (s ≡ true → Spared u → n ≡ true) × (is_open l.controller.side.role ≡ true)
 
 -- a reset that is refused
 refused_spares : (s : Bool) (who : End) (l : Link) (window : Option ℕ) (ts : List Turn) (why : Refused) → reset_refusal l.controller.side ≡ Some why
@@ -189,28 +189,30 @@ refused_spares s who l window ts why q a h p sp =
     (spared_parts (told_of who l.controller (Reset window)) (rest_entries who (with_ended l b) f ts GoesOut) sp).1
 
 -- a step that takes no frame
-pub own_spares : (s : Bool) (who : End) (l : Link) (e : EndEvent) → IsOwn e → IsAllowed l e → Tells l.controller → Rests l.controller.side.shdlc → Keeps s l
-    → Spared (here_entries who l e) → Stands (here_entries who l e) → Keeps (sure_turns s (core_of l) (core_here l e)) (happens_here l e)
-own_spares s who l (Lose why) o a h r k sp st = absurd o
-own_spares s who l (Step NextFrame ts ending) o a h r k sp st = absurd o
-own_spares s who l (Step (Starts v) ts ending) o a h r k sp st = absurd (true≢false st)
-own_spares s who l (Step Stops ts ending) o a h r k sp st = absurd (true≢false st)
-own_spares s who l (Step NoInput ts CutOff) o a h r k sp st = absurd (rest_cut [] who l l.controller.side ts st)
-own_spares s who l (Step NoInput ts GoesOut) o a h r k sp st = (
-  rest_sure s (sure_turns s (core_of l) (core_here l (Step NoInput ts GoesOut))) who l l.controller.side ts (idle_sure s l ts a.1.0 h) k.0 sp,
-  ap is_open (turned_role l.controller.side ts) ∙ k.1,
+pub own_spares : (s : Bool) (who : End) (l : Link) (e : EndEvent) → IsOwn e → IsAllowed l e → Tells l.controller → Rests l.controller.side.shdlc
+    → is_open l.controller.side.role ≡ true → Stands (here_entries who l e)
+    → Spares (here_entries who l e) s (sure_turns s (core_of l) (core_here l e)) (happens_here l e)
+own_spares s who l (Lose why) o a h r k st = absurd o
+own_spares s who l (Step NextFrame ts ending) o a h r k st = absurd o
+own_spares s who l (Step (Starts v) ts ending) o a h r k st = absurd (true≢false st)
+own_spares s who l (Step Stops ts ending) o a h r k st = absurd (true≢false st)
+own_spares s who l (Step NoInput ts CutOff) o a h r k st = absurd (rest_cut [] who l l.controller.side ts st)
+own_spares s who l (Step NoInput ts GoesOut) o a h r k st = (
+  λ p sp. rest_sure s (sure_turns s (core_of l) (core_here l (Step NoInput ts GoesOut))) who l l.controller.side ts (idle_sure s l ts a.1.0 h) p sp,
+  ap is_open (turned_role l.controller.side ts) ∙ k,
 )
-own_spares s who l (Step (AsksReset window) ts CutOff) o a h r k sp st =
+own_spares s who l (Step (AsksReset window) ts CutOff) o a h r k st =
     absurd (rest_cut (told_of who l.controller (Reset window)) who (with_ended l (is_some (ended_by l.controller.side (Reset window))))
     (after_input l.controller.side (Reset window)) ts st)
-own_spares s who l (Step (AsksReset window) ts GoesOut) o a h r k sp st = (
+own_spares s who l (Step (AsksReset window) ts GoesOut) o a h r k st = (
   go (reset_refusal l.controller.side) refl,
-  ap is_open (turned_role (after_input l.controller.side (Reset window)) ts ∙ reset_role l.controller.side window) ∙ k.1,
+  ap is_open (turned_role (after_input l.controller.side (Reset window)) ts ∙ reset_role l.controller.side window) ∙ k,
 )
   where
-    go : (q : Option Refused) → reset_refusal l.controller.side ≡ q → sure_turns s (core_of l) (core_here l (Step (AsksReset window) ts GoesOut)) ≡ true
-    go (Some why) q = refused_spares s who l window ts why q a.1.0 h k.0 sp
-    go None q = absurd (reset_puts who l window ts a.1.0 h r q sp)
+    go : (q : Option Refused) → reset_refusal l.controller.side ≡ q → s ≡ true → Spared (here_entries who l (Step (AsksReset window) ts GoesOut))
+        → sure_turns s (core_of l) (core_here l (Step (AsksReset window) ts GoesOut)) ≡ true
+    go (Some why) q p sp = refused_spares s who l window ts why q a.1.0 h p sp
+    go None q p sp = absurd (reset_puts who l window ts a.1.0 h r q sp)
 
 lost_spares : (s : Bool) (who : End) (l : Link) (why : Loss) → s ≡ true → Spared (here_entries who l (Lose why))
     → sure_turns s (core_of l) (core_here l (Lose why)) ≡ true
@@ -221,10 +223,10 @@ lost_spares s who l why p q = go l.to_controller refl
     go (x ∷ xs) r = absurd (let z : Spared (here_entries who l (Lose why)) = q in true≢false (rw r at z))
 
 -- a frame is taken
-frame_spares : (s : Bool) (who : End) (l : Link) (ts : List Turn) → AreSendableTurns ts → Before l → Keeps s l
-    → Spared (step_entries who l NextFrame ts GoesOut)
-    → Keeps (sure_turns s (core_of l) (core_step l NextFrame ts GoesOut)) (happens_here l (Step NextFrame ts GoesOut))
-frame_spares s who l ts a b k q = go l.to_controller refl
+frame_spares : (s : Bool) (who : End) (l : Link) (ts : List Turn) → AreSendableTurns ts → Before l → is_open l.controller.side.role ≡ true
+    → Spares (step_entries who l NextFrame ts GoesOut) s (sure_turns s (core_of l) (core_step l NextFrame ts GoesOut))
+    (happens_here l (Step NextFrame ts GoesOut))
+frame_spares s who l ts a b k = go l.to_controller refl
   where
     c : CoreLink
     c = core_of l
@@ -233,11 +235,12 @@ frame_spares s who l ts a b k q = go l.to_controller refl
     no_more [] n d = refl
     no_more (e ∷ es) n d = no_more es (sure_here n d e) (core_happens_here d e)
 
-    go : (w : List OnWire) → l.to_controller ≡ w → Keeps (sure_turns s c (core_step l NextFrame ts GoesOut)) (happens_here l (Step NextFrame ts GoesOut))
+    go : (w : List OnWire) → l.to_controller ≡ w
+        → Spares (step_entries who l NextFrame ts GoesOut) s (sure_turns s c (core_step l NextFrame ts GoesOut)) (happens_here l (Step NextFrame ts GoesOut))
     go [] r =
         let none : core_step l NextFrame ts GoesOut ≡ [] = rw r refl in
         let same : happens_here l (Step NextFrame ts GoesOut) ≡ l = rw r refl in
-        (ap (sure_turns s c) none ∙ k.0, ap (λ (m : Link). is_open m.controller.side.role) same ∙ k.1)
+        (λ p q. ap (sure_turns s c) none ∙ p, ap (λ (m : Link). is_open m.controller.side.role) same ∙ k)
     go (x ∷ xs) r =
         let e : LinkEnd = l.controller.side in
         let list : core_step l NextFrame ts GoesOut ≡ core_take e x.frame ts ++ [] = rw r refl in
@@ -248,29 +251,29 @@ frame_spares s who l ts a b k q = go l.to_controller refl
         let u : List Entry = told_of who h (Take x.frame) in
         let v : List Entry = rest_entries who m (took e x.frame) ts GoesOut in
         let P : List Entry → Type 0 = λ z. Spared z in
-        let tail : Spared (u ++ v) = subst P some q in
         let C : List OnWire → Type 0 = λ z. Calm e.role l.host.side.role z l.to_host in
         let calm : Calm e.role l.host.side.role (x ∷ xs) l.to_host = subst C r b.calm in
         let is = take_sure s l ts x xs r a
         (subst (IsPolite e) r (polite_of e l.host.side.role l.to_controller l.to_host b.calm b.tells.now.closed)) b.tells b.host
-        (rests_of 0 0 c b.safe) (subst FromHost (core_first c [] x xs r) b.from) k.1 in (
-          ap (sure_turns s c) list
+        (rests_of 0 0 c b.safe) (subst FromHost (core_first c [] x xs r) b.from) k in (
+          λ p q. ap (sure_turns s c) list
               ∙ (no_more (core_take e x.frame ts) s c
-              ∙ rest_sure s (sure_turns s c (core_take e x.frame ts)) who m (took e x.frame) ts is k.0 (spared_parts u v tail).1),
+              ∙ rest_sure s (sure_turns s c (core_take e x.frame ts)) who m (took e x.frame) ts is p (spared_parts u v (subst P some q)).1),
           ap (λ (z : Link). is_open z.controller.side.role) next
-              ∙ (ap is_open (turned_role (took e x.frame) ts) ∙ took_open e l.host.side.role x xs l.to_host calm k.1),
+              ∙ (ap is_open (turned_role (took e x.frame) ts) ∙ took_open e l.host.side.role x xs l.to_host calm k),
         )
 
-cut_spares : (s : Bool) (who : End) (l : Link) (ts : List Turn) → Keeps s l → Stands (step_entries who l NextFrame ts CutOff)
-    → Keeps (sure_turns s (core_of l) (core_step l NextFrame ts CutOff)) (happens_here l (Step NextFrame ts CutOff))
+cut_spares : (s : Bool) (who : End) (l : Link) (ts : List Turn) → is_open l.controller.side.role ≡ true
+    → Stands (step_entries who l NextFrame ts CutOff)
+    → Spares (step_entries who l NextFrame ts CutOff) s (sure_turns s (core_of l) (core_step l NextFrame ts CutOff)) (happens_here l (Step NextFrame ts CutOff))
 cut_spares s who l ts k q = go l.to_controller refl
   where
     go : (w : List OnWire) → l.to_controller ≡ w
-        → Keeps (sure_turns s (core_of l) (core_step l NextFrame ts CutOff)) (happens_here l (Step NextFrame ts CutOff))
+        → Spares (step_entries who l NextFrame ts CutOff) s (sure_turns s (core_of l) (core_step l NextFrame ts CutOff)) (happens_here l (Step NextFrame ts CutOff))
     go [] r =
         let none : core_step l NextFrame ts CutOff ≡ [] = rw r refl in
         let same : happens_here l (Step NextFrame ts CutOff) ≡ l = rw r refl in
-        (ap (sure_turns s (core_of l)) none ∙ k.0, ap (λ (m : Link). is_open m.controller.side.role) same ∙ k.1)
+        (λ p q. ap (sure_turns s (core_of l)) none ∙ p, ap (λ (m : Link). is_open m.controller.side.role) same ∙ k)
     go (x ∷ xs) r =
         let some : step_entries who l NextFrame ts CutOff ≡ taken_entries who l x xs ts CutOff = rw r refl in
         let P : List Entry → Type 0 = λ z. Stands z in
@@ -278,14 +281,15 @@ cut_spares s who l ts k q = go l.to_controller refl
         let u : List Entry = told_of who (record l.controller { took = m.controller.took }) (Take x.frame) in
         absurd (rest_cut u who m (took l.controller.side x.frame) ts (subst P some q))
 
-pub here_spares : (s : Bool) (who : End) (l : Link) (e : EndEvent) → IsAllowed l e → Before l → Keeps s l
-    → Spared (here_entries who l e) → Stands (here_entries who l e) → Keeps (sure_turns s (core_of l) (core_here l e)) (happens_here l e)
-here_spares s who l (Lose why) a b k sp st = (lost_spares s who l why k.0 sp, k.1)
-here_spares s who l (Step NextFrame ts GoesOut) a b k sp st = frame_spares s who l ts a.1.0 b k sp
-here_spares s who l (Step NextFrame ts CutOff) a b k sp st = cut_spares s who l ts k st
-here_spares s who l (Step (AsksReset window) ts ending) a b k sp st =
-    own_spares s who l (Step (AsksReset window) ts ending) tt a b.tells (rests_of 0 0 (core_of l) b.safe) k sp st
-here_spares s who l (Step (Starts v) ts ending) a b k sp st =
-    own_spares s who l (Step (Starts v) ts ending) tt a b.tells (rests_of 0 0 (core_of l) b.safe) k sp st
-here_spares s who l (Step Stops ts ending) a b k sp st = own_spares s who l (Step Stops ts ending) tt a b.tells (rests_of 0 0 (core_of l) b.safe) k sp st
-here_spares s who l (Step NoInput ts ending) a b k sp st = own_spares s who l (Step NoInput ts ending) tt a b.tells (rests_of 0 0 (core_of l) b.safe) k sp st
+-- what happens at an end
+pub here_spares : (s : Bool) (who : End) (l : Link) (e : EndEvent) → IsAllowed l e → Before l → is_open l.controller.side.role ≡ true
+    → Stands (here_entries who l e) → Spares (here_entries who l e) s (sure_turns s (core_of l) (core_here l e)) (happens_here l e)
+here_spares s who l (Lose why) a b k st = (λ p sp. lost_spares s who l why p sp, k)
+here_spares s who l (Step NextFrame ts GoesOut) a b k st = frame_spares s who l ts a.1.0 b k
+here_spares s who l (Step NextFrame ts CutOff) a b k st = cut_spares s who l ts k st
+here_spares s who l (Step (AsksReset window) ts ending) a b k st =
+    own_spares s who l (Step (AsksReset window) ts ending) tt a b.tells (rests_of 0 0 (core_of l) b.safe) k st
+here_spares s who l (Step (Starts v) ts ending) a b k st =
+    own_spares s who l (Step (Starts v) ts ending) tt a b.tells (rests_of 0 0 (core_of l) b.safe) k st
+here_spares s who l (Step Stops ts ending) a b k st = own_spares s who l (Step Stops ts ending) tt a b.tells (rests_of 0 0 (core_of l) b.safe) k st
+here_spares s who l (Step NoInput ts ending) a b k st = own_spares s who l (Step NoInput ts ending) tt a b.tells (rests_of 0 0 (core_of l) b.safe) k st

@@ -30,7 +30,7 @@ use Rattle.link_entries.proofs.Noting.{reset_role}
 use Rattle.link_entries.proofs.Stepping.{host_finished}
 use Rattle.link_entries.proofs.Completing.{ended_host}
 use Rattle.link_entries.proofs.Sparing.{Spared, Stands, spared_parts, stands_parts, none_withholds, rest_sure, tick_sure}
-use Rattle.link_entries.proofs.Settling.{Keeps, rest_cut, reset_sure, own_spares, here_spares}
+use Rattle.link_entries.proofs.Settling.{Spares, rest_cut, reset_sure, own_spares, here_spares}
 
 -- ## How far it is kept back, over what happens at one end
 
@@ -50,10 +50,11 @@ turns-append : (s : Bool) (c : CoreLink) (es fs : List CoreEndEvent) → sure_tu
 turns-append s c [] fs = refl
 turns-append s c (e ∷ es) fs = turns-append (sure_here s c e) (core_happens_here c e) es fs
 
-all_spares : (kf : ℕ) (es : List EndEvent) (s : Bool) (l : Link) → AreOwn l es → Tells l.controller → SafeLink 0 kf (core_of l) → Keeps s l
-    → Spared (all_entries Controller l es) → Stands (all_entries Controller l es) → Keeps (sure_turns s (core_of l) (core_all l es)) (all_here l es)
-all_spares kf [] s l a h safe k sp st = k
-all_spares kf (e ∷ es) s l a h safe k sp st =
+all_spares : (kf : ℕ) (es : List EndEvent) (s : Bool) (l : Link) → AreOwn l es → Tells l.controller → SafeLink 0 kf (core_of l)
+    → is_open l.controller.side.role ≡ true → Stands (all_entries Controller l es)
+    → Spares (all_entries Controller l es) s (sure_turns s (core_of l) (core_all l es)) (all_here l es)
+all_spares kf [] s l a h safe k st = (λ p sp. p, k)
+all_spares kf (e ∷ es) s l a h safe k st =
     let r = rests_of 0 kf (core_of l) safe in
     let one = own_here l e a.0 a.1 h r in
     let m : Link = happens_here l e in
@@ -61,12 +62,15 @@ all_spares kf (e ∷ es) s l a h safe k sp st =
     let next : SafeLink 0 kf (core_of m) = subst P (sym one.core) (safe_turns kf (core_here l e) (core_of l) (own_turns l e r a.0 a.1) safe) in
     let u : List Entry = here_entries Controller l e in
     let v : List Entry = all_entries Controller m es in
-    let x = spared_parts u v sp in
     let y = stands_parts u v st in
     let n : Bool = sure_turns s (core_of l) (core_here l e) in
-    let first = own_spares s Controller l e a.0 a.1 h r k x.0 y.0 in
-    let more = all_spares kf es n m a.2 one.tells next first x.1 y.1 in
-    (turns-append s (core_of l) (core_here l e) (core_all m es) ∙ (ap (λ c. sure_turns n c (core_all m es)) (sym one.core) ∙ more.0), more.1)
+    let first = own_spares s Controller l e a.0 a.1 h r k y.0 in
+    let more = all_spares kf es n m a.2 one.tells next first.1 y.1 in (
+      λ p sp. let x = spared_parts u v sp in
+          turns-append s (core_of l) (core_here l e) (core_all m es)
+          ∙ (ap (λ c. sure_turns n c (core_all m es)) (sym one.core) ∙ more.0 (first.0 p x.0) x.1),
+      more.1,
+    )
 
 -- ## Ticks
 
@@ -94,9 +98,10 @@ tick_flag s l node =
     let t : Option (List CoreTurn) = core_tick l.controller.side node.turns node.ending in
     sure_turns (sure_tick s t (core_of l)) (core_ticks_or_cut t (core_of l)) (core_tick_rest l.controller.side node.turns node.ending)
 
-tick_spares : (s : Bool) (who : End) (l : Link) (node : Node) → IsNode l node.turns node.ending → Tells l.controller → Keeps s l
-    → Spared (tick_entries who l node) → Stands (tick_entries who l node) → Keeps (tick_flag s l node) (ticks_here l node.turns node.ending)
-tick_spares s who l node a h k sp st = go node.ending refl
+tick_spares : (s : Bool) (who : End) (l : Link) (node : Node) → IsNode l node.turns node.ending → Tells l.controller
+    → is_open l.controller.side.role ≡ true → Stands (tick_entries who l node)
+    → Spares (tick_entries who l node) s (tick_flag s l node) (ticks_here l node.turns node.ending)
+tick_spares s who l node a h k st = go node.ending refl
   where
     e : LinkEnd
     e = l.controller.side
@@ -113,23 +118,22 @@ tick_spares s who l node a h k sp st = go node.ending refl
     as_named : Ending → Node
     as_named ending = record { turns = ts; ending = ending }
 
-    go : (ending : Ending) → node.ending ≡ ending → Keeps (tick_flag s l node) (ticks_here l ts node.ending)
+    go : (ending : Ending) → node.ending ≡ ending → Spares (tick_entries who l node) s (tick_flag s l node) (ticks_here l ts node.ending)
     go CutOff q =
         let P : Ending → Type 0 = λ z. Stands (tick_entries who l (as_named z)) in
         absurd (rest_cut (told_of who l.controller HasTick) who m f ts (subst P q st))
     go GoesOut q =
-        let P : Ending → Type 0 = λ z. Spared (tick_entries who l (as_named z)) in
-        let Q : Ending → Type 0 = λ z. Keeps (tick_flag s l (as_named z)) (ticks_here l ts z) in
-        let first : core_tick e ts GoesOut ≡ Some (core_turns f ts) = rw k.1 refl in
-        let rest : core_tick_rest e ts GoesOut ≡ [] = rw k.1 refl in
+        let Q : Ending → Type 0 = λ z. Spares (tick_entries who l (as_named z)) s (tick_flag s l (as_named z)) (ticks_here l ts z) in
+        let first : core_tick e ts GoesOut ≡ Some (core_turns f ts) = rw k refl in
+        let rest : core_tick_rest e ts GoesOut ≡ [] = rw k refl in
         let flag : tick_flag s l (as_named GoesOut) ≡ sure_tick s (Some (core_turns f ts)) (core_of l) =
         ap (λ z. flags z (core_tick_rest e ts GoesOut)) first ∙ ap (flags (Some (core_turns f ts))) rest in
         let role : (turned f ts).role ≡ e.role =
-        turned_role f ts ∙ (ap (λ (z : LinkEnd). z.role) (tick_open e k.1).0 ∙ moved_role e _ _) in
+        turned_role f ts ∙ (ap (λ (z : LinkEnd). z.role) (tick_open e k).0 ∙ moved_role e _ _) in
         subst Q (sym q) (
-          flag ∙ rest_sure s (sure_tick s (Some (core_turns f ts)) (core_of l)) who m f ts (tick_sure s l ts a.0 h k.1) k.0
-              (spared_parts (told_of who l.controller HasTick) (rest_entries who m f ts GoesOut) (subst P q sp)).1,
-          ap is_open role ∙ k.1,
+          λ p sp. flag ∙ rest_sure s (sure_tick s (Some (core_turns f ts)) (core_of l)) who m f ts (tick_sure s l ts a.0 h k) p
+              (spared_parts (told_of who l.controller HasTick) (rest_entries who m f ts GoesOut) sp).1,
+          ap is_open role ∙ k,
         )
       where
         flags : Option (List CoreTurn) → List CoreEndEvent → Bool
@@ -138,14 +142,14 @@ tick_spares s who l node a h k sp st = go node.ending refl
 -- ## Events
 
 -- both ends are active
-record AreActive (l : Link) : Type 0 where
-  controller : is_open l.controller.side.role ≡ true
-  host : is_open l.host.side.role ≡ true
+pub record AreActive (l : Link) : Type 0 where
+  pub controller : is_open l.controller.side.role ≡ true
+  pub host : is_open l.host.side.role ≡ true
 
--- the answer isn't kept back after an event, and both ends stay active
-record Goes (s : Bool) (l : Link) : Type 0 where
-  sure : s ≡ true
-  active : AreActive l
+-- where this was noted of an event: the answer is kept back no more than before, if it was spared, and both ends are active
+pub record Goes (u : List Entry) (s n : Bool) (l : Link) : Type 0 where
+  pub sure : s ≡ true → Spared u → n ≡ true
+  pub active : AreActive l
 
 open_as : (h k : Half) → h ≡ k → is_open k.side.role ≡ true → is_open h.side.role ≡ true
 open_as h k q o = ap (λ (z : Half). is_open z.side.role) q ∙ o
@@ -156,25 +160,25 @@ ticks_host l ts ending =
     let b : Bool = is_some (ended_by l.controller.side HasTick) in
     host_finished (with_ended l b) (turned (after_input l.controller.side HasTick) ts) ending ∙ ended_host l b
 
--- an event in which nothing withholds the answer
-event_goes : (t : List Entry) (s : Bool) (l : Link) (e : LinkEvent) → IsEvent l e → Good l → Reached (core_of l) → Noted t l → AreActive l → s ≡ true
-    → Spared (event_entries l e) → Stands (event_entries l e) → Goes (sure_after s (core_of l) (core_event l e)) (happens l e)
-event_goes t s l (AtController e) a g r n o p sp st =
-    let k = here_spares s Controller l e a (before_here l g r n.sounds) (p, o.controller) sp st in
+-- an event in which no end is started, stopped or cut off
+pub event_goes : (t : List Entry) (s : Bool) (l : Link) (e : LinkEvent) → IsEvent l e → Good l → Reached (core_of l) → Noted t l → AreActive l
+    → Stands (event_entries l e) → Goes (event_entries l e) s (sure_after s (core_of l) (core_event l e)) (happens l e)
+event_goes t s l (AtController e) a g r n o st =
+    let k = here_spares s Controller l e a (before_here l g r n.sounds) o.controller st in
     record {
-      sure = sure_near s (core_of l) (core_here l e) ∙ k.0;
+      sure = λ p sp. sure_near s (core_of l) (core_here l e) ∙ k.0 p sp;
       active = record { controller = k.1; host = open_as (happens_here l e).host l.host (host_here l e a g r) o.host };
     }
-event_goes t s l (AtHost e) a g r n o p sp st =
+event_goes t s l (AtHost e) a g r n o st =
     let f : Link = exchanged l in
     let b = before_there l g r n.sounds in
-    let k = here_spares s Host f e a b (p, o.host) sp st in
+    let k = here_spares s Host f e a b o.host st in
     let host : (happens_here f e).host ≡ f.host = (step_here f e a b.tells b.host b.calm (rests_of 0 0 (core_of f) b.safe) b.from).host in
     record {
-      sure = sure_there s (core_of l) (core_here f e) ∙ k.0;
+      sure = λ p sp. sure_there s (core_of l) (core_here f e) ∙ k.0 p sp;
       active = record { controller = open_as (happens_here f e).host f.host host o.controller; host = k.1 };
     }
-event_goes t s l (Ticks c es h) a g r n o p sp st =
+event_goes t s l (Ticks c es h) a g r n o st =
     let s0 = safe_aged (core_of l) (safe_reached (core_of l) r) in
     let ps : List Entry = aged_entries Controller l.to_controller in
     let bs : List Entry = aged_entries Host l.to_host in
@@ -183,10 +187,6 @@ event_goes t s l (Ticks c es h) a g r n o p sp st =
     let ds : List Entry = all_entries Controller near es in
     let m : Link = all_here near es in
     let fs : List Entry = tick_entries Host (exchanged m) h in
-    let p1 = spared_parts ps (bs ++ (cs ++ (ds ++ fs))) sp in
-    let p2 = spared_parts bs (cs ++ (ds ++ fs)) p1.1 in
-    let p3 = spared_parts cs (ds ++ fs) p2.1 in
-    let p4 = spared_parts ds fs p3.1 in
     let q1 = stands_parts ps (bs ++ (cs ++ (ds ++ fs))) st in
     let q2 = stands_parts bs (cs ++ (ds ++ fs)) q1.1 in
     let q3 = stands_parts cs (ds ++ fs) q2.1 in
@@ -194,7 +194,7 @@ event_goes t s l (Ticks c es h) a g r n o p sp st =
     let n1 : Bool = sure_aged s (core_of l) in
     let one = step_tick (aged l) c.turns c.ending a.0.0 a.0.1 g.controller (rests_of 1 1 (core_of (aged l)) s0) in
     let n2 : Bool = tick_flag n1 (aged l) c in
-    let k2 = tick_spares n1 Controller (aged l) c a.0 g.controller (aged_sure s l p p1.0 p2.0, o.controller) p3.0 q3.0 in
+    let k2 = tick_spares n1 Controller (aged l) c a.0 g.controller o.controller q3.0 in
     let t1 : Option (List CoreTurn) = core_tick l.controller.side c.turns c.ending in
     let rest : List CoreEndEvent = core_tick_rest l.controller.side c.turns c.ending in
     let first : CoreLink = core_ticks_or_cut t1 (core_aged (core_of l)) in
@@ -203,10 +203,10 @@ event_goes t s l (Ticks c es h) a g r n o p sp st =
     subst P (sym one.core) (safe_turns 1 rest first (rest_both l.controller.side c.turns c.ending).turns (tick_or_cut 1 t1 (core_aged (core_of l)) s0)) in
     let all = all_step 1 near es a.1 one.tells near_safe in
     let n3 : Bool = sure_turns n2 (core_of near) (core_all near es) in
-    let k3 = all_spares 1 es n2 near a.1 one.tells near_safe k2 p4.0 q4.0 in
+    let k3 = all_spares 1 es n2 near a.1 one.tells near_safe k2.1 q4.0 in
     let host_is : m.host ≡ l.host = all.step.host ∙ one.host in
     let n4 : Bool = tick_flag n3 (exchanged m) h in
-    let k4 = tick_spares n3 Host (exchanged m) h a.2 (tells_same m.host l.host host_is g.host) (k3.0, open_as m.host l.host host_is o.host) p4.1 q4.1 in
+    let k4 = tick_spares n3 Host (exchanged m) h a.2 (tells_same m.host l.host host_is g.host) (open_as m.host l.host host_is o.host) q4.1 in
     let turns : List CoreEndEvent = rest ++ core_all near es in
     let d : CoreLink = core_all_here first turns in
     let x : Bool = sure_turns (sure_tick n1 t1 (core_aged (core_of l))) first turns in
@@ -219,7 +219,11 @@ event_goes t s l (Ticks c es h) a g r n o p sp st =
     sure_there (sure_event s (core_of l) core) (core_happens (core_of l) core) (core_tick_rest l.host.side h.turns h.ending)
     ∙ (ap (λ z. flags z d l.host) x_is ∙ (ap (λ z. flags n3 z l.host) d_is ∙ ap (flags n3 (core_of m)) (sym host_is))) in
     record {
-      sure = flag ∙ k4.0;
+      sure = λ p sp. let p1 = spared_parts ps (bs ++ (cs ++ (ds ++ fs))) sp in
+          let p2 = spared_parts bs (cs ++ (ds ++ fs)) p1.1 in
+          let p3 = spared_parts cs (ds ++ fs) p2.1 in
+          let p4 = spared_parts ds fs p3.1 in
+          flag ∙ k4.0 (k3.0 (k2.0 (aged_sure s l p p1.0 p2.0) p3.0) p4.0) p4.1;
       active = record {
         controller = open_as (ticks_here (exchanged m) h.turns h.ending).host m.controller (ticks_host (exchanged m) h.turns h.ending) k3.1;
         host = k4.1;
@@ -230,7 +234,7 @@ event_goes t s l (Ticks c es h) a g r n o p sp st =
     flags n d z =
         let t : Option (List CoreTurn) = core_tick z.side h.turns h.ending in
         sure_turns (sure_tick n t (core_exchanged d)) (core_ticks_or_cut t (core_exchanged d)) (core_tick_rest z.side h.turns h.ending)
-event_goes t s l (TicksWithout es h) a g r n o p sp st =
+event_goes t s l (TicksWithout es h) a g r n o st =
     let s0 = safe_aged (core_of l) (safe_reached (core_of l) r) in
     let ps : List Entry = aged_entries Controller l.to_controller in
     let bs : List Entry = aged_entries Host l.to_host in
@@ -238,9 +242,6 @@ event_goes t s l (TicksWithout es h) a g r n o p sp st =
     let ds : List Entry = all_entries Controller near es in
     let m : Link = all_here near es in
     let fs : List Entry = tick_entries Host (exchanged m) h in
-    let p1 = spared_parts ps (bs ++ (ds ++ fs)) sp in
-    let p2 = spared_parts bs (ds ++ fs) p1.1 in
-    let p4 = spared_parts ds fs p2.1 in
     let q1 = stands_parts ps (bs ++ (ds ++ fs)) st in
     let q2 = stands_parts bs (ds ++ fs) q1.1 in
     let q4 = stands_parts ds fs q2.1 in
@@ -252,10 +253,10 @@ event_goes t s l (TicksWithout es h) a g r n o p sp st =
     let all = all_step 1 near es a.1 g.controller near_safe in
     let turns : List CoreEndEvent = core_all near es in
     let n3 : Bool = sure_turns n1 (core_of near) turns in
-    let k3 = all_spares 1 es n1 near a.1 g.controller near_safe (aged_sure s l p p1.0 p2.0, o.controller) p4.0 q4.0 in
+    let k3 = all_spares 1 es n1 near a.1 g.controller near_safe o.controller q4.0 in
     let host_is : m.host ≡ l.host = all.step.host in
     let n4 : Bool = tick_flag n3 (exchanged m) h in
-    let k4 = tick_spares n3 Host (exchanged m) h a.2 (tells_same m.host l.host host_is g.host) (k3.0, open_as m.host l.host host_is o.host) p4.1 q4.1 in
+    let k4 = tick_spares n3 Host (exchanged m) h a.2 (tells_same m.host l.host host_is g.host) (open_as m.host l.host host_is o.host) q4.1 in
     let x : Bool = sure_turns (sure_if_waiting n1 (core_aged (core_of l))) first turns in
     let x_is : x ≡ n3 = rw a.0 refl in
     let d_is : core_all_here first turns ≡ core_of m = ap (λ z. core_all_here z turns) kept ∙ sym all.step.core in
@@ -264,7 +265,10 @@ event_goes t s l (TicksWithout es h) a g r n o p sp st =
     sure_there (sure_event s (core_of l) core) (core_happens (core_of l) core) (core_tick_rest l.host.side h.turns h.ending)
     ∙ (ap (λ z. flags z (core_all_here first turns) l.host) x_is ∙ (ap (λ z. flags n3 z l.host) d_is ∙ ap (flags n3 (core_of m)) (sym host_is))) in
     record {
-      sure = flag ∙ k4.0;
+      sure = λ p sp. let p1 = spared_parts ps (bs ++ (ds ++ fs)) sp in
+          let p2 = spared_parts bs (ds ++ fs) p1.1 in
+          let p4 = spared_parts ds fs p2.1 in
+          flag ∙ k4.0 (k3.0 (aged_sure s l p p1.0 p2.0) p4.0) p4.1;
       active = record {
         controller = open_as (ticks_here (exchanged m) h.turns h.ending).host m.controller (ticks_host (exchanged m) h.turns h.ending) k3.1;
         host = k4.1;
@@ -275,7 +279,7 @@ event_goes t s l (TicksWithout es h) a g r n o p sp st =
     flags n d z =
         let t : Option (List CoreTurn) = core_tick z.side h.turns h.ending in
         sure_turns (sure_tick n t (core_exchanged d)) (core_ticks_or_cut t (core_exchanged d)) (core_tick_rest z.side h.turns h.ending)
-event_goes t s l (Activate power c id h) a g r n o p sp st = absurd (true≢false st)
+event_goes t s l (Activate power c id h) a g r n o st = absurd (true≢false st)
 
 -- ## Runs
 
@@ -299,37 +303,32 @@ behind_sure (e ∷ es) t s l a g r n o p sp st =
     let x = spared_parts u (entries m es) sp in
     let y = stands_parts u (entries m es) st in
     let k : Bool = sure_after s (core_of l) (core_event l e) in
-    let one = event_goes t s l e a.0 g r n o p x.0 y.0 in
+    let one = event_goes t s l e a.0 g r n o y.0 in
     sure_first s l e es ev.core
-    ∙ behind_sure es (t ++ u) k m a.1 ev.good next (note_event t l e a.0 g r n).noted one.active one.sure x.1 y.1
+    ∙ behind_sure es (t ++ u) k m a.1 ev.good next (note_event t l e a.0 g r n).noted one.active (one.sure p x.0) x.1 y.1
 
 -- a reset at the controller's end, and one at the host's
 asked_here : (s : Bool) (l : Link) (window : Option ℕ) (ts : List Turn) → IsAllowed l (Step (AsksReset window) ts GoesOut) → FindsReady l
-    → Keeps (sure_turns s (core_of l) (core_here l (Step (AsksReset window) ts GoesOut))) (happens_here l (Step (AsksReset window) ts GoesOut))
+    → (sure_turns s (core_of l) (core_here l (Step (AsksReset window) ts GoesOut)) ≡ true)
+    × (is_open (happens_here l (Step (AsksReset window) ts GoesOut)).controller.side.role ≡ true)
 asked_here s l window ts a f = (
   reset_sure s l window ts f.granted f.free,
   ap is_open (turned_role (after_input l.controller.side (Reset window)) ts ∙ reset_role l.controller.side window) ∙ (reset_tells l.controller.side f.granted).0,
 )
 
 asked_goes : (s : Bool) (l : Link) (e : LinkEvent) → IsEvent l e → Good l → Reached (core_of l) → IsReset l e
-    → Goes (sure_after s (core_of l) (core_event l e)) (happens l e)
+    → (sure_after s (core_of l) (core_event l e) ≡ true) × AreActive (happens l e)
 asked_goes s l (AtController (Step (AsksReset window) ts GoesOut)) a g r f =
     let x : EndEvent = Step (AsksReset window) ts GoesOut in
     let k = asked_here s l window ts a f in
-    record {
-      sure = sure_near s (core_of l) (core_here l x) ∙ k.0;
-      active = record { controller = k.1; host = open_as (happens_here l x).host l.host (host_here l x a g r) f.active };
-    }
+    (sure_near s (core_of l) (core_here l x) ∙ k.0, record { controller = k.1; host = open_as (happens_here l x).host l.host (host_here l x a g r) f.active })
 asked_goes s l (AtHost (Step (AsksReset window) ts GoesOut)) a g r f =
     let x : EndEvent = Step (AsksReset window) ts GoesOut in
     let m : Link = exchanged l in
     let k = asked_here s m window ts a f in
     let safe = safe_exchanged 0 0 (core_of l) (safe_reached (core_of l) r) in
     let host : (happens_here m x).host ≡ m.host = (own_here m x tt a g.host (rests_of 0 0 (core_of m) safe)).host in
-    record {
-      sure = sure_there s (core_of l) (core_here m x) ∙ k.0;
-      active = record { controller = open_as (happens_here m x).host m.host host f.active; host = k.1 };
-    }
+    (sure_there s (core_of l) (core_here m x) ∙ k.0, record { controller = open_as (happens_here m x).host m.host host f.active; host = k.1 })
 asked_goes s l (_) a g r f = absurd f
 
 run_sure : (before : List LinkEvent) (reset : LinkEvent) (behind : List LinkEvent) (t : List Entry) (s : Bool) (l : Link)
@@ -342,8 +341,8 @@ run_sure [] e behind t s l a g r n is sp st =
     let next : Reached (core_of m) = subst Reached (sym ev.core) (reached_more (core_of l) (core_event l e) ev.allowed r) in
     let one = asked_goes s l e a.0 g r is in
     sure_first s l e behind ev.core
-    ∙ behind_sure behind (t ++ event_entries l e) (sure_after s (core_of l) (core_event l e)) m a.1 ev.good next (note_event t l e a.0 g r n).noted one.active
-    one.sure sp st
+    ∙ behind_sure behind (t ++ event_entries l e) (sure_after s (core_of l) (core_event l e)) m a.1 ev.good next (note_event t l e a.0 g r n).noted one.1
+    one.0 sp st
 run_sure (x ∷ before) e behind t s l a g r n is sp st =
     let ev = event_step l x a.0 g r in
     let m : Link = happens l x in
