@@ -6,8 +6,5 @@ pub mod Sessions
 pub mod Plain
 pub mod Reading
 pub mod Complete
-pub mod Sure
-pub mod Steady
-pub mod Settling
 pub mod Asked
 pub mod Settled

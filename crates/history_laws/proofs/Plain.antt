@@ -219,7 +219,7 @@ plain_tick : (who : End) (l : Link) → ArePlain (ticks who l)
 plain_tick who l =
     plain_input who l.controller HasTick (with_ended l (is_some (ended_by l.controller.side HasTick))) (after_input l.controller.side HasTick) []
 
-plain_event : (l : Link) (c : Cause) → ArePlain (event_entries l (event_of c))
+pub plain_event : (l : Link) (c : Cause) → ArePlain (event_entries l (event_of c))
 plain_event l (Given e m) = plain_at l e _ tt
 plain_event l (Taken e) = plain_at l e _ tt
 plain_event l (WasLost e why) = plain_at l e _ tt
@@ -235,7 +235,7 @@ plain_event l Ticked =
           (plain-append (ticks Controller old) (ticks Host near) (plain_tick Controller old) (plain_tick Host near))),
     )
 
-plain_entries : (cs : List Cause) (l : Link) → ArePlain (entries l (map event_of cs))
+pub plain_entries : (cs : List Cause) (l : Link) → ArePlain (entries l (map event_of cs))
 plain_entries [] l = tt
 plain_entries (c ∷ cs) l = plain-append (event_entries l (event_of c)) _ (plain_event l c) (plain_entries cs (happens l (event_of c)))
 

@@ -1,5 +1,5 @@
 -- A reset whose answer nothing kept back has brought both ends up.
-use Rattle.std.proofs.Common.{◌≡◌, ℕ, Bool, true, false, List, [], ◌∷◌, ◌++◌, Option, Some, None, refl, ap, sym, subst, ◌∙◌, append_assoc}
+use Rattle.std.proofs.Common.{◌≡◌, ℕ, Bool, true, false, List, [], ◌∷◌, ◌++◌, map, Option, Some, None, refl, ap, sym, subst, ◌∙◌, append_assoc}
 use Rattle.std.specs.Prelude.{◌==◌, ◌&&◌}
 use Rattle.std.specs.List.{list_any, AllByRecursion}
 use Rattle.std.proofs.lemmas.Bool.{true≢false}
@@ -11,135 +11,106 @@ use Rattle.trace_model.specs.declared.line.Line.{Line}
 use Rattle.trace_model.specs.Ends.{other_end}
 use Rattle.trace_model.specs.Lines.{IsLineOf, IsHeader}
 use Rattle.shdlc_core.specs.Machine.{is_waiting}
-use Rattle.session_laws.specs.Losses.{sans}
-use Rattle.session_laws.specs.Settled.{sure_after}
-use Rattle.session_laws.specs.Sessions.{after as core_after}
-use Rattle.session_laws.proofs.Steps.{safe_exchanged}
 use Rattle.link_machine.specs.Machine.{reset_refusal}
-use Rattle.message_link.specs.Links.{Link, LinkEvent, exchanged, happens, number_of}
 use Rattle.message_link.specs.Links.Ending.{GoesOut}
 use Rattle.message_link.specs.Links.Comes.{AsksReset}
 use Rattle.message_link.specs.Links.EndEvent.{Step as EndStep}
 use Rattle.message_link.specs.Links.IsStart.{IsBare}
-use Rattle.message_link.specs.Projection.{core_of, core_here, core_event, core_events}
 use Rattle.message_link.specs.Settled.{AreUpTogether as LinkTogether}
-use Rattle.message_link.proofs.Runs.{safe_reached, rests_of, event_step}
 use Rattle.message_link.proofs.Whole.{start_good, start_reached}
-use Rattle.message_link.proofs.Quiet.{up_together}
-use Rattle.link_entries.specs.Entries.{Entry as Noted, event_entries, entries, first_entries}
 use Rattle.link_entries.specs.Entries.End.{Controller, Host}
 use Rattle.link_entries.specs.Entries.Entry.{Up, Down, Active, GaveUp, Acked, Got, Sent, Emit, Took, Lost, Tick, Restarted, Cut}
-use Rattle.link_entries.proofs.Running.{start_noted}
+use Rattle.message_link.specs.Links.{Link, LinkEvent, happens, after, number_of, AllAllowed}
+use Rattle.message_link.specs.Projection.{core_of, core_event}
+use Rattle.message_link.proofs.Runs.{Good, Reached, reached_more, event_step}
+use Rattle.link_entries.specs.Entries.{Entry as Noted, event_entries, entries, first_entries}
+use Rattle.link_entries.specs.Settled.{IsReset, IsSettledSince}
+use Rattle.link_entries.proofs.Running.{Noted as IsNoted, note_event, start_noted}
+use Rattle.link_entries.proofs.Sparing.{Spared, Stands, or_none, none_withheld}
+use Rattle.link_entries.proofs.Together.{AreActive, event_goes, together}
+use Rattle.history_laws.proofs.Runs.{AreOf, CanAll, can_event, link_events, of_front, of_entries, of_allowed, of_can}
+use Rattle.history_laws.proofs.Plain.{ArePlain, plain_event, plain_entries}
 use Rattle.history.specs.Histories.{Cause, Event, History, entries_of, causes_of, all_events}
-use Rattle.history.specs.Histories.Cause.{Given, Taken, WasLost, Ticked, WasReset, Readied}
+use Rattle.history.specs.Histories.Cause.{WasReset}
 use Rattle.history.specs.Filters.{session_of, wire_to}
 use Rattle.history.specs.Legal.{has_lost, has_rset, AreUpTogether, Settled}
 use Rattle.history.specs.Steps.{at, event_of, end_of, entries_for, bare_link, link_after, link_after_all}
 use Rattle.history.specs.Follows.{machine_of, Follows, host_of}
-use Rattle.history_laws.proofs.Runs.{CanCause, can_event, AreOf, link_events, of_front, of_entries, of_allowed, of_can}
 use Rattle.history_laws.proofs.Ordered.{IsRun, is_run, notes_of, run_entries}
 use Rattle.history_laws.proofs.Heard.{up_session}
 use Rattle.history_laws.proofs.Sessions.{controller_heard, host_heard}
 use Rattle.history_laws.proofs.Reading.{session-all, link_same}
 use Rattle.history_laws.proofs.Complete.{link_now, empty_controller, empty_host}
-use Rattle.history_laws.proofs.Sure.{Spared, spared_parts, or_none}
-use Rattle.history_laws.proofs.Steady.{sure_near, sure_there, sure-append}
-use Rattle.history_laws.proofs.Settling.{Between, next_between, at_sure, ticks_sure, reset_puts, reset_sure}
 use Rattle.history_laws.proofs.Asked.{IsAsked, AreAsked, asked_front, all_asked}
 
 -- ## Events
 
--- an end with this side named
-abbrev with_side : End → Bool → End
-with_side e b = record { link = e.link; at_host = b }
+-- none of these starts, stops or cuts off an end
+plain_stands : (t : List Noted) → ArePlain t → Stands t
+plain_stands [] p = refl
+plain_stands (Restarted who ∷ t) p = absurd p.0
+plain_stands (Cut who ∷ t) p = absurd p.0
+plain_stands (_ ∷ t) p = plain_stands t p.1
 
-reset_noted : (t : List Noted) (l : Link) (e : End) (window : Option ℕ) → Between t l → reset_refusal (machine_of l e) ≡ None
-    → Spared (event_entries l (event_of (WasReset e window))) → ⊥
-reset_noted t l e window b r q = go e.at_host r q
+-- both ends stay active
+actives : (cs : List Cause) (t : List Noted) (l : Link) → CanAll cs → Good l → Reached (core_of l) → IsNoted t l → AreActive l → AreActive (link_after_all l cs)
+actives [] t l can g r n o = o
+actives (c ∷ cs) t l can g r n o =
+    let e : LinkEvent = event_of c in
+    let a = can_event l c can.0 in
+    let st = event_step l e a g r in
+    let next : Reached (core_of (happens l e)) = subst Reached (sym st.core) (reached_more (core_of l) (core_event l e) st.allowed r) in
+    let one = event_goes t false l e a g r n o (plain_stands (event_entries l e) (plain_event l c)) in
+    actives cs (t ++ event_entries l e) (happens l e) can.1 st.good next (note_event t l e a g r n).noted one.active
+
+always_active : (cs : List Cause) → CanAll cs → AreActive (link_after_all bare_link cs)
+always_active cs can =
+    actives cs (first_entries bare_link.controller.side.role) bare_link can (start_good bare_link IsBare) (start_reached bare_link IsBare)
+    (start_noted bare_link IsBare) (record { controller = refl; host = refl })
+
+-- a reset that isn't refused, where the other end isn't waiting
+reset_ready : (l : Link) (e : End) (window : Option ℕ) → reset_refusal (machine_of l e) ≡ None → is_waiting (machine_of l (other_end e)).shdlc ≡ false
+    → AreActive l → IsReset l (event_of (WasReset e window))
+reset_ready l e window r n o = go e.at_host r n
   where
-    go : (side : Bool) → reset_refusal (machine_of l (with_side e side)) ≡ None
-        → Spared (event_entries l (at (with_side e side) (EndStep (AsksReset window) [] GoesOut))) → ⊥
-    go false r q = reset_puts Controller l window b.good.controller (rests_of 0 0 (core_of l) (safe_reached (core_of l) b.reached)) r q
-    go true r q =
-        reset_puts Host (exchanged l) window b.good.host
-        (rests_of 0 0 (core_of (exchanged l)) (safe_exchanged 0 0 (core_of l) (safe_reached (core_of l) b.reached))) r q
+    -- an end with this side named
+    with_side : Bool → End
+    with_side b = record { link = e.link; at_host = b }
 
--- an event spares the answer where no frame is lost and no RSET put on the link
-cause_sure : (t : List Noted) (h : ℕ) (l : Link) (s : Bool) (c : Cause) → CanCause c → IsAsked h l c → Between t l → s ≡ true
-    → Spared (event_entries l (event_of c)) → sure_after s (core_of l) (core_event l (event_of c)) ≡ true
-cause_sure t h l s (Given e m) can a b p q = at_sure s l e _ tt (tt, ((can, tt), tt)) (tt, ((can, tt), tt)) b.good b.reached b.noted.sounds b.bare p q
-cause_sure t h l s (Taken e) can a b p q = at_sure s l e _ tt (tt, (tt, tt)) (tt, (tt, tt)) b.good b.reached b.noted.sounds b.bare p q
-cause_sure t h l s (WasLost e why) can a b p q = at_sure s l e _ tt tt tt b.good b.reached b.noted.sounds b.bare p q
-cause_sure t h l s Ticked can a b p q = ticks_sure s l b.good b.reached b.bare p q
-cause_sure t h l s (WasReset e window) can a b p q = absurd (reset_noted t l e window b a.1 q)
-cause_sure t h l s (Readied e ready) can a b p q = at_sure s l e _ tt (tt, (tt, tt)) (tt, (tt, tt)) b.good b.reached b.noted.sounds b.bare p q
-
--- a reset where the other end isn't waiting
-asked_sure : (s : Bool) (l : Link) (e : End) (window : Option ℕ) → reset_refusal (machine_of l e) ≡ None → is_waiting (machine_of l (other_end e)).shdlc ≡ false
-    → sure_after s (core_of l) (core_event l (event_of (WasReset e window))) ≡ true
-asked_sure s l e window r n = go e.at_host r n
-  where
-    go : (side : Bool) → reset_refusal (machine_of l (with_side e side)) ≡ None → is_waiting (machine_of l (other_end (with_side e side))).shdlc ≡ false
-        → sure_after s (core_of l) (core_event l (at (with_side e side) (EndStep (AsksReset window) [] GoesOut))) ≡ true
-    go false r n = sure_near s (core_of l) (core_here l (EndStep (AsksReset window) [] GoesOut)) ∙ reset_sure s l window r n
-    go true r n = sure_there s (core_of l) (core_here (exchanged l) (EndStep (AsksReset window) [] GoesOut)) ∙ reset_sure s (exchanged l) window r n
-
--- one event, and those behind it
-sure_first : (s : Bool) (l : Link) (e : LinkEvent) (es : List LinkEvent) → core_of (happens l e) ≡ core_after (core_of l) (core_event l e)
-    → sure_after s (core_of l) (core_events l (e ∷ es))
-    ≡ sure_after (sure_after s (core_of l) (core_event l e)) (core_of (happens l e)) (core_events (happens l e) es)
-sure_first s l e es q =
-    let m : Bool = sure_after s (core_of l) (core_event l e) in
-    sure-append s (core_of l) (core_event l e) (core_events (happens l e) es) ∙ ap (λ z. sure_after m z (core_events (happens l e) es)) (sym q)
-
-event_core : (t : List Noted) (l : Link) (c : Cause) → CanCause c → Between t l
-    → core_of (happens l (event_of c)) ≡ core_after (core_of l) (core_event l (event_of c))
-event_core t l c can b = (event_step l (event_of c) (can_event l c can) b.good b.reached).core
+    go : (side : Bool) → reset_refusal (machine_of l (with_side side)) ≡ None → is_waiting (machine_of l (other_end (with_side side))).shdlc ≡ false
+        → IsReset l (at (with_side side) (EndStep (AsksReset window) [] GoesOut))
+    go false r n = record { granted = r; active = o.host; free = n }
+    go true r n = record { granted = r; active = o.controller; free = n }
 
 -- ## Runs
 
--- how it is kept back in these events
-abbrev sure_run : Bool → Link → List Event → Bool
-sure_run s l xs = sure_after s (core_of l) (core_events l (link_events xs))
+after_causes : (cs : List Cause) (l : Link) → after l (map event_of cs) ≡ link_after_all l cs
+after_causes [] l = refl
+after_causes (c ∷ cs) l = after_causes cs (link_after l c)
 
-behind_sure : (h : ℕ) (xs : List Event) (t : List Noted) (l : Link) (s : Bool) → s ≡ true → AreOf h l xs → AreAsked h l xs → Between t l
-    → Spared (entries l (link_events xs)) → sure_run s l xs ≡ true
-behind_sure h [] t l s p a k b q = p
-behind_sure h (x ∷ xs) t l s p a k b q =
-    let e : LinkEvent = event_of x.cause in
-    let u : List Noted = event_entries l e in
-    let parts = spared_parts u (entries (happens l e) (link_events xs)) q in
-    let m : Bool = sure_after s (core_of l) (core_event l e) in
-    let one : m ≡ true = cause_sure t h l s x.cause a.1 k.0 b p parts.0 in
-    sure_first s l e (link_events xs) (event_core t l x.cause a.1 b)
-    ∙ behind_sure h xs (t ++ u) (happens l e) m one a.2 k.1 (next_between t l x.cause a.1 b) parts.1
+events-append : (xs ys : List Event) → link_events (xs ++ ys) ≡ link_events xs ++ link_events ys
+events-append [] ys = refl
+events-append (x ∷ xs) ys = ap (λ (es : List LinkEvent). event_of x.cause ∷ es) (events-append xs ys)
 
-run_sure : (h : ℕ) (before : List Event) (x : Event) (behind : List Event) (e : End) (window : Option ℕ) (t : List Noted) (l : Link) (s : Bool)
-    → AreOf h l (before ++ x ∷ behind) → AreAsked h l (before ++ x ∷ behind) → Between t l → x.cause ≡ WasReset e window
-    → is_waiting (machine_of (link_after_all l (causes_of before)) (other_end e)).shdlc ≡ false
-    → Spared (entries (link_after (link_after_all l (causes_of before)) x.cause) (link_events behind)) → sure_run s l (before ++ x ∷ behind) ≡ true
-run_sure h [] x behind e window t l s a k b is n q =
-    let v : LinkEvent = event_of x.cause in
-    let m : Bool = sure_after s (core_of l) (core_event l v) in
-    let P : Cause → Type 0 = λ z. IsAsked h l z in
-    let asked : IsAsked h l (WasReset e window) = subst P is k.0 in
-    let one : m ≡ true = ap (λ z. sure_after s (core_of l) (core_event l (event_of z))) is ∙ asked_sure s l e window asked.1 n in
-    sure_first s l v (link_events behind) (event_core t l x.cause a.1 b)
-    ∙ behind_sure h behind (t ++ event_entries l v) (happens l v) m one a.2 k.1 (next_between t l x.cause a.1 b) q
-run_sure h (y ∷ before) x behind e window t l s a k b is n q =
-    let v : LinkEvent = event_of y.cause in
-    let m : Bool = sure_after s (core_of l) (core_event l v) in
-    sure_first s l v (link_events (before ++ x ∷ behind)) (event_core t l y.cause a.1 b)
-    ∙ run_sure h before x behind e window (t ++ event_entries l v) (happens l v) m a.2 k.1 (next_between t l y.cause a.1 b) is n q
+-- the link now, and as it is behind an event
+now_behind : (before : List Event) (x : Event) (behind : List Event) (l : Link)
+    → after l (link_events (before ++ x ∷ behind)) ≡ after (link_after (link_after_all l (causes_of before)) x.cause) (link_events behind)
+now_behind [] x behind l = refl
+now_behind (y ∷ before) x behind l = now_behind before x behind (link_after l y.cause)
 
-start_between : Between (first_entries bare_link.controller.side.role) bare_link
-start_between =
-    record {
-      good = start_good bare_link IsBare;
-      reached = start_reached bare_link IsBare;
-      noted = start_noted bare_link IsBare;
-      bare = record { controller = refl; host = refl };
-    }
+-- the law of the link
+run_together : (before : List Event) (reset : Event) (behind : List Event) → AllAllowed bare_link (link_events (before ++ reset ∷ behind))
+    → IsSettledSince (link_after_all bare_link (causes_of before)) (event_of reset.cause) (link_events behind)
+    → LinkTogether (link_now (before ++ reset ∷ behind))
+run_together before reset behind a since =
+    let es : List LinkEvent = link_events before in
+    let fs : List LinkEvent = link_events behind in
+    let e : LinkEvent = event_of reset.cause in
+    let is : link_events (before ++ reset ∷ behind) ≡ es ++ e ∷ fs = events-append before (reset ∷ behind) in
+    let A : List LinkEvent → Type 0 = λ z. AllAllowed bare_link z in
+    let U : List LinkEvent → Type 0 = λ z. LinkTogether (after bare_link z) in
+    let S : Link → Type 0 = λ z. IsSettledSince z e fs in
+    subst U (sym is) (together bare_link IsBare es e fs (subst A is a) (subst S (sym (after_causes (causes_of before) bare_link)) since))
 
 -- ## Entries
 
@@ -182,17 +153,16 @@ asked_at h l (y ∷ xs) x ys a = asked_at h (link_after l y.cause) xs x ys a.1
 -- ## Both ends are up
 
 -- where nothing kept the answer back and both wires are empty
-up_both : (h : ℕ) (xs : List Event) (e : End) → AreOf h bare_link xs → h ≡ e.link → sure_run false bare_link xs ≡ true
+up_both : (h : ℕ) (xs : List Event) (e : End) → AreOf h bare_link xs → h ≡ e.link
+    → ((link_now xs).to_controller ≡ [] → (link_now xs).to_host ≡ [] → LinkTogether (link_now xs))
     → wire_to (entries_for h (notes_of xs)) e ≡ [] → wire_to (entries_for h (notes_of xs)) (other_end e) ≡ [] → AreUpTogether (entries_for h (notes_of xs)) e
-up_both h xs e a q sure = side e.link e.at_host q
+up_both h xs e a q law = side e.link e.at_host q
   where
     t : List Entry
     t = entries_for h (notes_of xs)
 
     up : wire_to t (end_of h Controller) ≡ [] → wire_to t (end_of h Host) ≡ [] → LinkTogether (link_now xs)
-    up w v =
-        up_together bare_link IsBare (link_events xs) (of_allowed h bare_link xs a)
-        (record { undisturbed = sure; to_controller = ap sans (empty_controller h xs w); to_host = ap sans (empty_host h xs v) })
+    up w v = law (empty_controller h xs w) (empty_host h xs v)
 
     near : LinkTogether (link_now xs) → session_of t (end_of h Controller) ≡ Some (number_of (link_now xs).controller)
     near u =
@@ -233,12 +203,22 @@ settled_of h t run asked before reset behind back e window q z =
     let alone : has_rset h (entries_of behind) ≡ false = ap (λ n. has_rset n (entries_of behind)) (sym mine.0) ∙ z.alone in
     let spared : Spared (entries m (link_events behind)) =
     spared_of h (entries m (link_events behind)) (sym (ap (has_lost h) read) ∙ lossless) (sym (ap (has_rset h) read) ∙ alone) in
-    let sure : sure_run false bare_link xs ≡ true =
-    run_sure h before reset behind e window (first_entries bare_link.controller.side.role) bare_link false a k start_between z.cause z.other spared in
+    let now = now_behind before reset behind bare_link in
+    let can = of_can h bare_link before (of_front h bare_link before (reset ∷ behind) a) in
+    let R : Cause → Type 0 = λ c. IsReset l (event_of c) in
+    let law : (link_now xs).to_controller ≡ [] → (link_now xs).to_host ≡ [] → LinkTogether (link_now xs) =
+    λ c d. run_together before reset behind (of_allowed h bare_link xs a)
+    (record {
+      asked = subst R (sym z.cause) (reset_ready l e window mine.1 z.other (always_active (causes_of before) can));
+      undisturbed = none_withheld (entries m (link_events behind)) spared
+          (plain_stands (entries m (link_events behind)) (plain_entries (causes_of behind) m));
+      to_controller = sym (ap (λ (y : Link). y.to_controller) now) ∙ c;
+      to_host = sym (ap (λ (y : Link). y.to_host) now) ∙ d;
+    }) in
     let is : t.opening ++ entries_of xs ≡ entries_for h (notes_of xs) = run_entries h t.opening xs run.opening a in
     let P : List Entry → Type 0 = λ y. AreUpTogether y e in
     subst P (sym is)
-    (up_both h xs e a (sym mine.0) sure (sym (ap (λ y. wire_to y e) is) ∙ z.to_here) (sym (ap (λ y. wire_to y (other_end e)) is) ∙ z.to_there))
+    (up_both h xs e a (sym mine.0) law (sym (ap (λ y. wire_to y e) is) ∙ z.to_here) (sym (ap (λ y. wire_to y (other_end e)) is) ∙ z.to_there))
 
 pub settled : (header : Header) (lines : List Line) (t : History) → AllByRecursion (IsLineOf header) lines → IsHeader header → Follows header lines t
     → Settled t

@@ -71,6 +71,15 @@ spared_parts t u s = any_parts spoils t u s
 pub stands_parts : (t u : List Entry) → Stands (t ++ u) → Stands t × Stands u
 stands_parts t u s = any_parts silences t u s
 
+pub none_withheld : (t : List Entry) → Spared t → Stands t → list_any withholds t ≡ false
+none_withheld [] a b = refl
+none_withheld (Lost who c why ∷ t) a b = absurd (true≢false a)
+none_withheld (Restarted who ∷ t) a b = absurd (true≢false b)
+none_withheld (Cut who ∷ t) a b = absurd (true≢false b)
+none_withheld (Emit who c ∷ t) a b =
+    let x = or_none (is_rset c) (list_any spoils t) a in none_or (is_rset c) (list_any withholds t) x.0 (none_withheld t x.1 b)
+none_withheld (_ ∷ t) a b = none_withheld t a b
+
 -- nothing withholds an answer
 pub none_withholds : (t : List Entry) → list_any withholds t ≡ false → Spared t × Stands t
 none_withholds [] q = (refl, refl)

@@ -34,15 +34,15 @@ use Rattle.link_entries.proofs.Settling.{Spares, rest_cut, reset_sure, own_spare
 
 -- ## How far it is kept back, over what happens at one end
 
-pub sure_near : (s : Bool) (c : CoreLink) (es : List CoreEndEvent) → sure_after s c (map CoreAtController es) ≡ sure_turns s c es
+sure_near : (s : Bool) (c : CoreLink) (es : List CoreEndEvent) → sure_after s c (map CoreAtController es) ≡ sure_turns s c es
 sure_near s c [] = refl
 sure_near s c (e ∷ es) = sure_near (sure_here s c e) (core_happens_here c e) es
 
-pub sure_there : (s : Bool) (c : CoreLink) (es : List CoreEndEvent) → sure_after s c (map CoreAtHost es) ≡ sure_turns s (core_exchanged c) es
+sure_there : (s : Bool) (c : CoreLink) (es : List CoreEndEvent) → sure_after s c (map CoreAtHost es) ≡ sure_turns s (core_exchanged c) es
 sure_there s c [] = refl
 sure_there s c (e ∷ es) = sure_there (sure_here s (core_exchanged c) e) (core_happens c (CoreAtHost e)) es
 
-pub sure-append : (s : Bool) (c : CoreLink) (es fs : List CoreLinkEvent) → sure_after s c (es ++ fs) ≡ sure_after (sure_after s c es) (core_after c es) fs
+sure-append : (s : Bool) (c : CoreLink) (es fs : List CoreLinkEvent) → sure_after s c (es ++ fs) ≡ sure_after (sure_after s c es) (core_after c es) fs
 sure-append s c [] fs = refl
 sure-append s c (e ∷ es) fs = sure-append (sure_event s c e) (core_happens c e) es fs
 
