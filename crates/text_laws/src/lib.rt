@@ -1,17 +1,20 @@
 //! Laws of the texts of a run.
 #![tactic(auto)]
 
-ghost use Rattle.std.specs.Prelude.{◌≡◌, ◌↔◌, ℕ, List, All, Option, Some, Err, IsTrue, Contains};
+ghost use Rattle.std.specs.Prelude.{◌≡◌, ◌↔◌, ℕ, List, All, Option, Some, Ok, Err, IsTrue, Contains};
 ghost use Rattle.std.specs.List.{flat_map};
 ghost use Rattle.trace_model.specs.declared.entry.Entry.{Entry};
 ghost use Rattle.trace_model.specs.declared.line.Header.{Header};
+ghost use Rattle.trace_model.specs.declared.line.Line.{Line};
+ghost use Rattle.trace_model.specs.Lines.{IsHeader};
 ghost use Rattle.schedule_text.specs.declared.fault.LineFault.{LineFault};
 ghost use Rattle.schedule_text.specs.Entries.{entry_line};
 ghost use Rattle.schedule_text.specs.Forms.{Row, row_for};
 ghost use Rattle.schedule_text.specs.Rules.{words_fault};
 ghost use Rattle.schedule_text.specs.Lines.{may_stand, has_nodes, hosts_of, by_row, line_of};
 ghost use Rattle.schedule_text.specs.declared.fault.LineFault.TheVariants as fault;
-ghost use Rattle.text_laws.specs.Ranges.{IsEntry};
+ghost use Rattle.schedule_text.specs.declared.read.Read.TheVariants as read;
+ghost use Rattle.text_laws.specs.Ranges.{IsSaid, IsEntry};
 
 /// A text is the transcript of one list of entries alone: transcripts that differ in an entry differ in their text.
 pub fn a_text_has_one_transcript()
@@ -30,4 +33,9 @@ pub fn a_line_has_the_fault_of_its_words()
 /// A host that a line below the header is refused for isn't in the header.
 pub fn a_refused_host_is_unknown()
     ensures { (header : Header) (bytes : List ℕ) (id : ℕ) → line_of (Some header) bytes ≡ Err (fault.Host id) → ¬ Contains header.hosts.items id }
+{}
+
+/// What is read of a line below a header is in its range.
+pub fn a_read_line_is_in_its_range()
+    ensures { (header : Header) (bytes : List ℕ) (said : Line) → IsHeader header → line_of (Some header) bytes ≡ Ok (read.Line said) → IsSaid said }
 {}
