@@ -1,0 +1,5 @@
+pub mod Ends
+pub mod Links
+pub mod Notes
+pub mod Lines
+pub mod Coming

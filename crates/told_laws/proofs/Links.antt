@@ -1,0 +1,465 @@
+-- The ends of a bare link, and what is on its wires, are in their ranges.
+use Rattle.std.proofs.Common.{◌≡◌, ℕ, zero, suc, ◌+◌, ◌≤◌, ◌<◌, Bool, true, false, cond, nat_lt, List, [], ◌∷◌, ◌++◌, length, take, drop, map, refl, sym, ap, subst, arith, max, Option, Some, None, length-append}
+use Rattle.std.specs.Prelude.{is_some, if◌then◌else◌, ◌==◌, not}
+use Rattle.std.specs.List.{AllByRecursion}
+use Rattle.std.proofs.lemmas.Bool.{ltb-true, ltb-false}
+use Rattle.block_pool.proofs.HoldingLemmas.{all_mapped}
+use Rattle.swp_base.specs.declared.control_frames.Control.{Control}
+use Rattle.swp_base.specs.declared.control_frames.Control.TheVariants.{I, S, Rset, Ua, Act, Clt}
+use Rattle.shdlc_core.specs.declared.answers.LinkState.{LinkState}
+use Rattle.shdlc_core.specs.declared.answers.LinkState.TheVariants.{Down, Waiting, Up}
+use Rattle.shdlc_core.specs.Machine.{EndState, taken, take_answer, ticked, tick_answer, reset_with, stopped, all_frames}
+use Rattle.hcp_packet.specs.Packets.{packets_of, parts_of, packet_count, bytes_of}
+use Rattle.trace_model.specs.declared.line.End.{End}
+use Rattle.session_laws.specs.Sessions.{OnWire, is_rset, fits, aged_wire, took_with}
+use Rattle.link_machine.specs.Machine.{LinkEnd, LinkInput, Refused, Message, after_input, turn, moved, put_down, activated, heard, took, is_open, is_faulty, news, if_up, reset_by, reset_refusal, ended_by, window_of, give_refusal, given, unless, among, frames_out, sent_all, had_tick, in_front}
+use Rattle.link_machine.specs.Machine.Role.{Bare}
+use Rattle.link_machine.specs.Machine.LinkInput.{Take, Tick, Reset}
+use Rattle.link_machine.specs.Machine.Turn.{Give, Hold, FetchMessage}
+use Rattle.swp_base.specs.declared.link_terms.Cause.TheVariants.{Asked}
+use Rattle.swp_act.specs.declared.ActEvent.TheVariants.{Tick as ActTick}
+use Rattle.message_link.specs.Links.{Half, Link, EndEvent, Loss, put, put_all, becomes, with_ended, has_input, happens_here, ticks_here, aged, exchanged, happens}
+use Rattle.message_link.specs.Links.Ending.{GoesOut}
+use Rattle.message_link.specs.Links.Comes.{NextFrame, AsksReset, NoInput}
+use Rattle.message_link.specs.Links.EndEvent.{Step, Lose}
+use Rattle.history.specs.Histories.{Cause}
+use Rattle.history.specs.Histories.Cause.{Given, Taken, WasLost, Ticked, WasReset, Readied}
+use Rattle.history.specs.Steps.{at, bare_link, link_after}
+use Rattle.text_laws.specs.Ranges.{IsByte}
+use Rattle.told_laws.proofs.Ends.{IsFragment, IsFrame, Ranged, ranged_taken, ranged_ticked, ranged_reset, ranged_stopped, ranged_ready, ranged_out, ranged_after, frames_in, frames_few}
+
+-- ## Messages
+
+-- a message that a line may send
+pub record IsTellable (m : Message) : Type 0 where
+  pub pipe : m.0 < 112
+  pub some : 0 < length m.1
+  pub bytes : AllByRecursion IsByte m.1
+
+take_each : {X : Type 0} (P : X → Type 0) (n : ℕ) (xs : List X) → AllByRecursion P xs → AllByRecursion P (take n xs)
+take_each P zero xs h = tt
+take_each P (suc n) [] h = tt
+take_each P (suc n) (x ∷ xs) h = (h.0, take_each P n xs h.1)
+
+drop_each : {X : Type 0} (P : X → Type 0) (n : ℕ) (xs : List X) → AllByRecursion P xs → AllByRecursion P (drop n xs)
+drop_each P zero xs h = h
+drop_each P (suc n) [] h = tt
+drop_each P (suc n) (x ∷ xs) h = drop_each P n xs h.1
+
+take_few : {X : Type 0} (n : ℕ) (xs : List X) → length (take n xs) ≤ n
+take_few zero xs = omega arith
+take_few (suc n) [] = omega arith
+take_few (suc n) (x ∷ xs) = let few = take_few n xs in omega (arith, few)
+
+first_low : (last : Bool) (pipe : ℕ) → pipe < 112 → cond last 128 0 + pipe < 256
+first_low true pipe low = omega (arith, low)
+first_low false pipe low = omega (arith, low)
+
+parts_in : (pipe n : ℕ) (left : List ℕ) → pipe < 112 → AllByRecursion IsByte left → AllByRecursion IsFragment (map bytes_of (parts_of pipe n left))
+parts_in pipe zero left low h = tt
+parts_in pipe (suc n) left low h = (
+  ((first_low (n == 0) pipe low, take_each IsByte 28 left h), let few = take_few 28 left in omega (arith, few)),
+  parts_in pipe n (drop 28 left) low (drop_each IsByte 28 left h),
+)
+
+fragments_in : (m : Message) → IsTellable m → AllByRecursion IsFragment (map bytes_of (packets_of m.0 m.1))
+fragments_in m h = parts_in m.0 (packet_count (length m.1)) m.1 h.pipe h.bytes
+
+-- ## An end
+
+-- a bare end that was given at most n messages in its session
+pub record EndIs (n : ℕ) (e : LinkEnd) : Type 0 where
+  pub bare : e.role ≡ Bare
+  pub acts : e.acts ≡ []
+  pub few : length e.sent ≤ n
+  pub ranged : Ranged e.shdlc
+
+end_more : (n k : ℕ) (e : LinkEnd) → n ≤ k → EndIs n e → EndIs k e
+end_more n k e more h = let f = h.few in record { bare = h.bare; acts = h.acts; few = omega (arith, f, more); ranged = h.ranged }
+
+end_cond : (n : ℕ) (b : Bool) (e f : LinkEnd) → EndIs n e → EndIs n f → EndIs n (cond b e f)
+end_cond n true e f p q = p
+end_cond n false e f p q = q
+
+end_unless : (n : ℕ) (o : Option Refused) (e f : LinkEnd) → EndIs n e → EndIs n f → EndIs n (unless o e f)
+end_unless n None e f p q = q
+end_unless n (Some why) e f p q = p
+
+end_moved : (n : ℕ) (e : LinkEnd) (b : Bool) (s : EndState) → Ranged s → EndIs n e → EndIs n (moved e b s)
+end_moved n e false s r h = record { bare = h.bare; acts = h.acts; few = h.few; ranged = r }
+end_moved n e true s r h = record { bare = h.bare; acts = ap (map in_front) h.acts; few = omega arith; ranged = r }
+
+end_down : (n : ℕ) (e : LinkEnd) → EndIs n e → EndIs n (put_down true e)
+end_down n e h = by e.shdlc.phase refl
+  where
+    stops : EndIs n (moved e true (stopped e.shdlc))
+    stops = end_moved n e true (stopped e.shdlc) (ranged_stopped e.shdlc h.ranged) h
+
+    by : (p : LinkState) → e.shdlc.phase ≡ p → EndIs n (put_down true e)
+    by Up p = rw p stops
+    by Waiting p = rw p stops
+    by Down p = rw p (record { bare = h.bare; acts = ap (map in_front) h.acts; few = h.few; ranged = h.ranged })
+
+end_heard : (n : ℕ) (e : LinkEnd) (c : Control) → EndIs n e → EndIs n (heard e c)
+end_heard n e c h =
+    let f : LinkEnd = moved e (is_some (take_answer e.shdlc c).ended) (taken e.shdlc c) in
+    let is : EndIs n f = end_moved n e (is_some (take_answer e.shdlc c).ended) (taken e.shdlc c) (ranged_taken e.shdlc c h.ranged) h in
+    end_cond n (is_faulty (taken e.shdlc c).session) (put_down true e) (record f { got = e.got ++ news e.shdlc.session (taken e.shdlc c) })
+    (end_down n e h) (record { bare = is.bare; acts = is.acts; few = is.few; ranged = is.ranged })
+
+pub end_took : (n : ℕ) (e : LinkEnd) (c : Control) → IsFrame c → EndIs n e → EndIs n (took e c)
+end_took n e (I ns nr info) is h = end_cond n (is_open e.role) (heard e (I ns nr info)) e (end_heard n e (I ns nr info) h) h
+end_took n e (S kind nr) is h = end_cond n (is_open e.role) (heard e (S kind nr)) e (end_heard n e (S kind nr) h) h
+end_took n e (Rset window caps) is h = end_cond n (is_open e.role) (heard e (Rset window caps)) e (end_heard n e (Rset window caps) h) h
+end_took n e Ua is h = end_cond n (is_open e.role) (heard e Ua) e (end_heard n e Ua h) h
+end_took n e (Act act again) is h = absurd is
+end_took n e Clt is h = absurd is
+
+pub opens : (n : ℕ) (e : LinkEnd) → EndIs n e → is_open e.role ≡ true
+opens n e h = ap is_open h.bare
+
+pub end_ticked : (n : ℕ) (e : LinkEnd) → EndIs n e → EndIs n (had_tick e)
+end_ticked n e h =
+    let go : EndIs n (moved e (is_some (tick_answer e.shdlc).ended) (ticked e.shdlc)) =
+    end_moved n e (is_some (tick_answer e.shdlc).ended) (ticked e.shdlc) (ranged_ticked e.shdlc h.ranged) h in
+    subst (λ b. EndIs n (cond b (moved e (is_some (tick_answer e.shdlc).ended) (ticked e.shdlc)) (activated e ActTick))) (sym (opens n e h)) go
+
+-- a window that a reset names
+abbrev pub IsLowWindow : Option ℕ → Type 0
+IsLowWindow None = Unit {0}
+IsLowWindow (Some w) = w ≤ 4
+
+window_low : (e : LinkEnd) (window : Option ℕ) → IsLowWindow window → Ranged e.shdlc → window_of e window ≤ 4
+window_low e None low h = h.window
+window_low e (Some w) low h = low
+
+pub end_reset : (n : ℕ) (e : LinkEnd) (window : Option ℕ) → IsLowWindow window → EndIs n e → EndIs n (after_input e (Reset window))
+end_reset n e window low h =
+    end_unless n (reset_refusal e) e (reset_by e (window_of e window)) h
+    (end_moved n e (is_some (if_up e.shdlc Asked)) (reset_with e.shdlc (window_of e window))
+    (ranged_reset e.shdlc (window_of e window) (window_low e window low h.ranged) h.ranged) h)
+
+pub end_given : (n : ℕ) (e : LinkEnd) (m : Message) → IsTellable m → EndIs n e → EndIs (n + 1) (turn e (Give m))
+end_given n e m is h =
+    end_unless (n + 1) (give_refusal e m) e (given e m) (end_more n (n + 1) e (omega arith) h) (record {
+      bare = h.bare;
+      acts = h.acts;
+      few = let l = length-append e.sent (m ∷ []) in let f = h.few in omega (arith, l, f);
+      ranged = ranged_out e.shdlc (map bytes_of (packets_of m.0 m.1)) (fragments_in m is) h.ranged;
+    })
+
+pub end_held : (n : ℕ) (e : LinkEnd) (held : Bool) → EndIs n e → EndIs n (turn e (Hold held))
+end_held n e held h = record { bare = h.bare; acts = h.acts; few = h.few; ranged = ranged_ready e.shdlc (not held) h.ranged }
+
+pub end_fetched : (n : ℕ) (e : LinkEnd) → EndIs n e → EndIs n (turn e FetchMessage)
+end_fetched n e h = record { bare = h.bare; acts = h.acts; few = h.few; ranged = h.ranged }
+
+-- ## Wires
+
+pub record FrameIs (n : ℕ) (x : OnWire) : Type 0 where
+  pub frame : IsFrame x.frame
+  pub number : x.number ≤ n
+
+pub record WireIs (n : ℕ) (w : List OnWire) : Type 0 where
+  pub frames : AllByRecursion (FrameIs n) w
+  pub few : length w ≤ 64
+
+frame_more : (n k : ℕ) → n ≤ k → (x : OnWire) → FrameIs n x → FrameIs k x
+frame_more n k more x h = let l = h.number in record { frame = h.frame; number = omega (arith, l, more) }
+
+wire_more : (n k : ℕ) (w : List OnWire) → n ≤ k → WireIs n w → WireIs k w
+wire_more n k w more h = record { frames = all_mapped OnWire (FrameIs n) (FrameIs k) w (frame_more n k more) h.frames; few = h.few }
+
+fewer : {X : Type 0} (xs : List X) → length (drop 1 xs) ≤ length xs
+fewer [] = omega arith
+fewer (x ∷ xs) = omega arith
+
+one_less : {X : Type 0} (xs : List X) (n : ℕ) → n < length xs → length xs ≤ n + 1 → length (drop 1 xs) ≤ n
+one_less [] n a b = omega (arith, a)
+one_less (x ∷ xs) n a b = omega (arith, b)
+
+wire_dropped : (n : ℕ) (w : List OnWire) → WireIs n w → WireIs n (drop 1 w)
+wire_dropped n w h =
+    record { frames = drop_each (FrameIs n) 1 w h.frames; few = let l = fewer w in let f = h.few in omega (arith, l, f) }
+
+each_pushed : (n : ℕ) (w : List OnWire) (x : OnWire) → AllByRecursion (FrameIs n) w → FrameIs n x → AllByRecursion (FrameIs n) (w ++ x ∷ [])
+each_pushed n [] x h is = (is, tt)
+each_pushed n (y ∷ w) x h is = (h.0, each_pushed n w x h.1 is)
+
+-- the frames on a wire with one more
+pub pushed_is : (n : ℕ) (w : List OnWire) (x : OnWire) → WireIs n w → FrameIs n x → AllByRecursion (FrameIs n) (w ++ x ∷ [])
+pushed_is n w x h is = each_pushed n w x h.frames is
+
+wire_put : (n : ℕ) (w : List OnWire) (x : OnWire) → WireIs n w → FrameIs n x → WireIs n (fits (w ++ x ∷ []))
+wire_put n w x h is = go (nat_lt 64 (length (w ++ x ∷ []))) refl
+  where
+    long : length (w ++ x ∷ []) ≡ length w + 1
+    long = length-append w (x ∷ [])
+
+    go : (b : Bool) → nat_lt 64 (length (w ++ x ∷ [])) ≡ b → WireIs n (fits (w ++ x ∷ []))
+    go true q =
+        let more = ltb-true 64 (length (w ++ x ∷ [])) q in
+        let few = h.few in
+        rw q (record {
+          frames = drop_each (FrameIs n) 1 (w ++ x ∷ []) (pushed_is n w x h is);
+          few = one_less (w ++ x ∷ []) 64 more (omega (arith, long, few));
+        })
+    go false q = let less = ltb-false 64 (length (w ++ x ∷ [])) q in rw q (record { frames = pushed_is n w x h is; few = less })
+
+each_aged : (n : ℕ) (w : List OnWire) → AllByRecursion (FrameIs n) w → AllByRecursion (FrameIs n) (aged_wire w)
+each_aged n [] h = tt
+each_aged n (x ∷ w) h = go (nat_lt x.age 4) refl (each_aged n w h.1)
+  where
+    go : (b : Bool) → nat_lt x.age 4 ≡ b → AllByRecursion (FrameIs n) (aged_wire w) → AllByRecursion (FrameIs n) (aged_wire (x ∷ w))
+    go true q later = rw q (record { frame = h.0.frame; number = h.0.number }, later)
+    go false q later = rw q later
+
+aged_few : (w : List OnWire) → length (aged_wire w) ≤ length w
+aged_few [] = omega arith
+aged_few (x ∷ w) = go (nat_lt x.age 4) refl (aged_few w)
+  where
+    go : (b : Bool) → nat_lt x.age 4 ≡ b → length (aged_wire w) ≤ length w → length (aged_wire (x ∷ w)) ≤ length (x ∷ w)
+    go true q later = rw q (omega (arith, later))
+    go false q later = rw q (omega (arith, later))
+
+wire_aged : (n : ℕ) (w : List OnWire) → WireIs n w → WireIs n (aged_wire w)
+wire_aged n w h = record { frames = each_aged n w h.frames; few = let l = aged_few w in let f = h.few in omega (arith, l, f) }
+
+-- ## The link
+
+pub record HalfIs (n : ℕ) (h : Half) : Type 0 where
+  pub side : EndIs n h.side
+  pub emitted : h.emitted ≤ n
+  pub took : h.took ≤ n
+
+-- the link where no number is above n
+pub record LinkIs (n : ℕ) (l : Link) : Type 0 where
+  pub near : HalfIs n l.controller
+  pub far : HalfIs n l.host
+  pub to_near : WireIs n l.to_controller
+  pub to_far : WireIs n l.to_host
+  pub resets : l.resets ≤ n
+
+half_more : (n k : ℕ) (h : Half) → n ≤ k → HalfIs n h → HalfIs k h
+half_more n k h more is =
+    let a = is.emitted in
+    let b = is.took in
+    record { side = end_more n k h.side more is.side; emitted = omega (arith, a, more); took = omega (arith, b, more) }
+
+pub link_more : (n k : ℕ) (l : Link) → n ≤ k → LinkIs n l → LinkIs k l
+link_more n k l more h =
+    let r = h.resets in
+    record {
+      near = half_more n k l.controller more h.near;
+      far = half_more n k l.host more h.far;
+      to_near = wire_more n k l.to_controller more h.to_near;
+      to_far = wire_more n k l.to_host more h.to_far;
+      resets = omega (arith, r, more);
+    }
+
+pub link_swapped : (n : ℕ) (l : Link) → LinkIs n l → LinkIs n (exchanged l)
+link_swapped n l h = record { near = h.far; far = h.near; to_near = h.to_far; to_far = h.to_near; resets = h.resets }
+
+pub link_aged : (n : ℕ) (l : Link) → LinkIs n l → LinkIs n (aged l)
+link_aged n l h =
+    record { near = h.near; far = h.far; to_near = wire_aged n l.to_controller h.to_near; to_far = wire_aged n l.to_host h.to_far; resets = h.resets }
+
+-- the frame that is put on the wire to the host
+abbrev pub put_frame : Link → Control → OnWire
+put_frame l c = record { frame = c; age = 0; number = if is_rset c then l.resets + 1 else 0 }
+
+pub put_frame_is : (n : ℕ) (l : Link) (c : Control) → IsFrame c → LinkIs n l → FrameIs (n + 1) (put_frame l c)
+put_frame_is n l c is h = record { frame = is; number = go (is_rset c) }
+  where
+    go : (b : Bool) → cond b (l.resets + 1) 0 ≤ n + 1
+    go true = let r = h.resets in omega (arith, r)
+    go false = omega arith
+
+pub link_put : (n : ℕ) (l : Link) (c : Control) → IsFrame c → LinkIs n l → LinkIs (n + 1) (put l c)
+link_put n l c is h = go (is_rset c) refl
+  where
+    up : LinkIs (n + 1) l
+    up = link_more n (n + 1) l (omega arith) h
+
+    go : (b : Bool) → is_rset c ≡ b → LinkIs (n + 1) (put l c)
+    go true q =
+        let r = h.resets in
+        let x : OnWire = record { frame = c; age = 0; number = l.resets + 1 } in
+        rw q (record {
+          near = record { side = up.near.side; emitted = omega (arith, r); took = up.near.took };
+          far = up.far;
+          to_near = up.to_near;
+          to_far = wire_put (n + 1) l.to_host x up.to_far (record { frame = is; number = omega (arith, r) });
+          resets = omega (arith, r);
+        })
+    go false q =
+        let x : OnWire = record { frame = c; age = 0; number = 0 } in
+        rw q (record {
+          near = up.near;
+          far = up.far;
+          to_near = up.to_near;
+          to_far = wire_put (n + 1) l.to_host x up.to_far (record { frame = is; number = omega arith });
+          resets = up.resets;
+        })
+
+link_puts : (cs : List Control) (n : ℕ) (l : Link) → AllByRecursion IsFrame cs → LinkIs n l → LinkIs (n + length cs) (put_all l cs)
+link_puts [] n l is h = link_more n (n + 0) l (omega arith) h
+link_puts (c ∷ cs) n l is h =
+    link_more ((n + 1) + length cs) (n + length (c ∷ cs)) (put_all (put l c) cs) (omega arith)
+    (link_puts cs (n + 1) (put l c) is.1 (link_put n l c is.0 h))
+
+-- all frames that are due at a bare end
+pub out_is : (n : ℕ) (e : LinkEnd) → EndIs n e → AllByRecursion IsFrame (frames_out e)
+out_is n e h =
+    subst (λ acts. AllByRecursion IsFrame (among 0 acts (all_frames e.shdlc))) (sym h.acts) (frames_in 12 e.shdlc h.ranged)
+
+out_few : (n : ℕ) (e : LinkEnd) → EndIs n e → length (frames_out e) ≤ 12
+out_few n e h = subst (λ acts. length (among 0 acts (all_frames e.shdlc)) ≤ 12) (sym h.acts) (frames_few 12 e.shdlc)
+
+end_sent : (n : ℕ) (e : LinkEnd) → EndIs n e → EndIs n (sent_all e)
+end_sent n e h = record { bare = h.bare; acts = refl; few = h.few; ranged = ranged_after 12 e.shdlc h.ranged }
+
+-- the controller's end has become e, and all its frames went out
+link_becomes : (n : ℕ) (l : Link) (e : LinkEnd) → EndIs n e → LinkIs n l → LinkIs (n + 12) (becomes l e)
+link_becomes n l e is h =
+    let few = out_few n e is in
+    let m : Link = put_all l (frames_out e) in
+    let p : LinkIs (n + 12) m =
+    link_more (n + length (frames_out e)) (n + 12) m (omega (arith, few)) (link_puts (frames_out e) n l (out_is n e is) h) in
+    record {
+      near = record { side = end_more n (n + 12) (sent_all e) (omega arith) (end_sent n e is); emitted = p.near.emitted; took = p.near.took };
+      far = p.far;
+      to_near = p.to_near;
+      to_far = p.to_far;
+      resets = p.resets;
+    }
+
+pub link_ended : (n : ℕ) (l : Link) (b : Bool) → LinkIs n l → LinkIs n (with_ended l b)
+link_ended n l false h = h
+link_ended n l true h =
+    record {
+      near = record { side = h.near.side; emitted = h.near.emitted; took = h.near.took };
+      far = h.far;
+      to_near = h.to_near;
+      to_far = h.to_far;
+      resets = h.resets;
+    }
+
+link_input : (n : ℕ) (l : Link) (i : LinkInput) → EndIs n (after_input l.controller.side i) → LinkIs n l → LinkIs (n + 12) (has_input l i [] GoesOut)
+link_input n l i is h =
+    let b : Bool = is_some (ended_by l.controller.side i) in link_becomes n (with_ended l b) (after_input l.controller.side i) is (link_ended n l b h)
+
+pub took_low : (n t : ℕ) (x : OnWire) → t ≤ n → FrameIs n x → took_with t x ≤ n
+took_low n t x low is = go (is_rset x.frame)
+  where
+    go : (b : Bool) → cond b (max t x.number) t ≤ n
+    go true = let k = is.number in omega (arith, low, k)
+    go false = low
+
+-- the link where the controller's end has taken a frame, and these are left
+abbrev pub left_with : Link → OnWire → List OnWire → Link
+left_with l x xs =
+    let m : Link = with_ended (record l { to_controller = xs }) (is_some (ended_by l.controller.side (Take x.frame))) in
+    record m { controller = record m.controller { took = took_with l.controller.took x } }
+
+pub link_left : (n : ℕ) (l : Link) (x : OnWire) (xs : List OnWire) → l.to_controller ≡ x ∷ xs → LinkIs n l → LinkIs n (left_with l x xs)
+link_left n l x xs q h =
+    let wire : WireIs n (x ∷ xs) = subst (WireIs n) q h.to_near in
+    let few = wire.few in
+    let one : LinkIs n (record l { to_controller = xs }) =
+    record { near = h.near; far = h.far; to_near = record { frames = wire.frames.1; few = omega (arith, few) }; to_far = h.to_far; resets = h.resets } in
+    let b : Bool = is_some (ended_by l.controller.side (Take x.frame)) in
+    let two : LinkIs n (with_ended (record l { to_controller = xs }) b) = link_ended n (record l { to_controller = xs }) b one in
+    record {
+      near = record { side = two.near.side; emitted = two.near.emitted; took = took_low n l.controller.took x h.near.took wire.frames.0 };
+      far = two.far;
+      to_near = two.to_near;
+      to_far = two.to_far;
+      resets = two.resets;
+    }
+
+-- ## What happens at one end
+
+link_taken : (n : ℕ) (l : Link) → LinkIs n l → LinkIs (n + 12) (happens_here l (Step NextFrame (FetchMessage ∷ []) GoesOut))
+link_taken n l h = by l.to_controller refl
+  where
+    by : (w : List OnWire) → l.to_controller ≡ w → LinkIs (n + 12) (happens_here l (Step NextFrame (FetchMessage ∷ []) GoesOut))
+    by [] q =
+        rw q
+        (link_more n (n + 12) (record l { to_controller = [] }) (omega arith)
+        (record { near = h.near; far = h.far; to_near = record { frames = tt; few = omega arith }; to_far = h.to_far; resets = h.resets }))
+    by (x ∷ xs) q =
+        let wire : WireIs n (x ∷ xs) = subst (WireIs n) q h.to_near in
+        let e : LinkEnd = after_input l.controller.side (Take x.frame) in
+        rw q (link_becomes n (left_with l x xs) (turn e FetchMessage)
+        (end_fetched n e (end_took n l.controller.side x.frame wire.frames.0.frame h.near.side)) (link_left n l x xs q h))
+
+pub link_ticked : (n : ℕ) (l : Link) → LinkIs n l → LinkIs (n + 12) (ticks_here l [] GoesOut)
+link_ticked n l h = link_input n l Tick (end_ticked n l.controller.side h.near.side) h
+
+link_reset : (n : ℕ) (window : Option ℕ) (l : Link) → IsLowWindow window → LinkIs n l → LinkIs (n + 12) (happens_here l (Step (AsksReset window) [] GoesOut))
+link_reset n window l low h = link_input n l (Reset window) (end_reset n l.controller.side window low h.near.side) h
+
+link_held : (n : ℕ) (held : Bool) (l : Link) → LinkIs n l → LinkIs (n + 12) (happens_here l (Step NoInput (Hold held ∷ []) GoesOut))
+link_held n held l h = link_becomes n l (turn l.controller.side (Hold held)) (end_held n l.controller.side held h.near.side) h
+
+link_given : (n : ℕ) (m : Message) (l : Link) → IsTellable m → LinkIs n l → LinkIs (n + 13) (happens_here l (Step NoInput (Give m ∷ []) GoesOut))
+link_given n m l is h =
+    link_more ((n + 1) + 12) (n + 13) _ (omega arith)
+    (link_becomes (n + 1) l (turn l.controller.side (Give m)) (end_given n l.controller.side m is h.near.side) (link_more n (n + 1) l (omega arith) h))
+
+link_lost : (n : ℕ) (l : Link) (why : Loss) → LinkIs n l → LinkIs n (happens_here l (Lose why))
+link_lost n l why h = record { near = h.near; far = h.far; to_near = wire_dropped n l.to_controller h.to_near; to_far = h.to_far; resets = h.resets }
+
+-- it happens at either end
+link_either : (n k : ℕ) (l : Link) (e : End) (x : EndEvent) → ((m : Link) → LinkIs n m → LinkIs k (happens_here m x)) → LinkIs n l
+    → LinkIs k (happens l (at e x))
+link_either n k l e x here h = go e.at_host
+  where
+    go : (b : Bool) → LinkIs k (happens l (at (record { link = e.link; at_host = b }) x))
+    go true = link_swapped k (happens_here (exchanged l) x) (here (exchanged l) (link_swapped n l h))
+    go false = here l h
+
+-- ## Causes
+
+-- what a cause says is in its range
+abbrev pub CanTell : Cause → Type 0
+CanTell (Given e m) = IsTellable m
+CanTell (WasReset e window) = IsLowWindow window
+CanTell (Taken e) = Unit {0}
+CanTell (WasLost e why) = Unit {0}
+CanTell Ticked = Unit {0}
+CanTell (Readied e ready) = Unit {0}
+
+pub link_caused : (n : ℕ) (l : Link) (c : Cause) → CanTell c → LinkIs n l → LinkIs (n + 24) (link_after l c)
+link_caused n l (Given e m) can h =
+    link_more (n + 13) (n + 24) _ (omega arith)
+    (link_either n (n + 13) l e (Step NoInput (Give m ∷ []) GoesOut) (λ k g. link_given n m k can g) h)
+link_caused n l (Taken e) can h =
+    link_more (n + 12) (n + 24) _ (omega arith) (link_either n (n + 12) l e (Step NextFrame (FetchMessage ∷ []) GoesOut) (link_taken n) h)
+link_caused n l (WasLost e why) can h =
+    link_more n (n + 24) _ (omega arith) (link_either n n l e (Lose why) (λ k g. link_lost n k why g) h)
+link_caused n l (WasReset e window) can h =
+    link_more (n + 12) (n + 24) _ (omega arith)
+    (link_either n (n + 12) l e (Step (AsksReset window) [] GoesOut) (λ k g. link_reset n window k can g) h)
+link_caused n l (Readied e ready) can h =
+    link_more (n + 12) (n + 24) _ (omega arith)
+    (link_either n (n + 12) l e (Step NoInput (Hold (not ready) ∷ []) GoesOut) (link_held n (not ready)) h)
+link_caused n l Ticked can h =
+    let near : Link = ticks_here (aged l) [] GoesOut in
+    link_more ((n + 12) + 12) (n + 24) _ (omega arith)
+    (link_swapped ((n + 12) + 12) (ticks_here (exchanged near) [] GoesOut)
+    (link_ticked (n + 12) (exchanged near) (link_swapped (n + 12) near (link_ticked n (aged l) (link_aged n l h)))))
+
+-- nothing has happened yet
+pub bare_is : LinkIs 0 bare_link
+bare_is =
+    let side : EndIs 0 bare_link.controller.side =
+    record { bare = refl; acts = refl; few = omega arith; ranged = record { fragments = tt; window = omega arith; few = omega arith } } in
+    record {
+      near = record { side = side; emitted = omega arith; took = omega arith };
+      far = record { side = side; emitted = omega arith; took = omega arith };
+      to_near = record { frames = tt; few = omega arith };
+      to_far = record { frames = tt; few = omega arith };
+      resets = omega arith;
+    }
