@@ -27,7 +27,7 @@ use Rattle.text_laws.specs.Ranges.{IsByte, AreBytes, IsEntry}
 use Rattle.told_laws.specs.Told.{step_told, told_of}
 use Rattle.told_laws.proofs.Ends.{each-append}
 use Rattle.told_laws.proofs.Links.{bare_is}
-use Rattle.told_laws.proofs.Lines.{IsApart, AreApart, each_all, steps_told}
+use Rattle.told_laws.proofs.Lines.{IsApart, AreApart, each_all, host_low, steps_told}
 
 -- ## Parts of lists
 
@@ -183,9 +183,6 @@ spread (step ∷ steps) h =
     go (Refused why) p = (tt, tt)
     go (Caused events) p = p
 
-host_low : (header : Header) → IsHeader header → host_of header < 256
-host_low header is = let one = is.one in let host = is.hosts 0 0 (omega (arith, one)) in let low = host.1 in omega (arith, low)
-
 append_nil : (t : List Entry) → t ≡ t ++ []
 append_nil [] = refl
 append_nil (x ∷ t) = ap (λ u. x ∷ u) (append_nil t)
@@ -194,17 +191,14 @@ pub told_in : (header : Header) (lines : List Line) (t : History) → AllByRecur
     → length lines ≤ 20000 → All IsEntry (told_of t)
 told_in header lines t valid is follows few = each_all IsEntry (told_of t) entries
   where
-    h : ℕ
-    h = host_of header
-
-    low : h < 256
+    low : host_of header < 256
     low = host_low header is
 
     opening : AreApart t.opening
     opening = subst AreApart (sym follows.opening_is) ((low, omega arith), ((low, omega arith), tt))
 
     steps : AreApart (flat_map step_told t.steps)
-    steps = steps_told header h 0 bare_link lines t.steps is low valid follows.steps_follow bare_is (omega (arith, few))
+    steps = steps_told header 0 bare_link lines t.steps is valid follows.steps_follow bare_is (omega (arith, few))
 
     apart : AreApart (told_of t)
     apart = (subst IsHeader (sym follows.header_is) is, each-append IsApart t.opening (flat_map step_told t.steps) opening steps)

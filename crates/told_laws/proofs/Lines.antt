@@ -37,7 +37,7 @@ use Rattle.history.specs.Histories.Outcome.{Refused as LineRefused, Caused}
 use Rattle.history.specs.Damage.{Verdict}
 use Rattle.history.specs.Damage.Verdict.{Same, LostFor, Undetected}
 use Rattle.history.specs.Steps.{end_of, entry_of, entries_for, event_of, events_at, link_after, link_after_all}
-use Rattle.history.specs.Follows.{refusal, as_noted, if_empty, if_beyond, if_out_of_reach, machine_of, frames_to, taken_of, first_verdict, damage_causes, causes_in, outcome_of, link_after_line, StepsFollow}
+use Rattle.history.specs.Follows.{refusal, as_noted, if_empty, if_beyond, if_out_of_reach, machine_of, frames_to, taken_of, first_verdict, damage_causes, causes_in, outcome_of, host_of, link_after_line, StepsFollow}
 use Rattle.text_laws.specs.Ranges.{IsByte, IsEnd, AreBytes, IsNumber, IsCause, IsEntry}
 use Rattle.text_laws.proofs.ReadLemmas.{said_in}
 use Rattle.told_laws.specs.Told.{step_told}
@@ -304,16 +304,21 @@ line_told header h n l said low is link small = go (refusal l said) (refusal_in 
           link = link_more (n + 24 * length (causes_in l said)) (n + 2400) _ (omega (arith, few)) causes.link;
         }
 
+-- the host of a world is a byte
+pub host_low : (header : Header) → IsHeader header → host_of header < 256
+host_low header is = let one = is.one in let host = is.hosts 0 0 (omega (arith, one)) in let low = host.1 in omega (arith, low)
+
 -- what is told of the steps of a schedule
-pub steps_told : (header : Header) (h n : ℕ) (l : Link) (lines : List Line) (steps : List Step) → IsHeader header → h < 256
-    → AllByRecursion (IsLineOf header) lines → StepsFollow h l lines steps → LinkIs n l → n + 2400 * length lines < 2 ^ 32
+pub steps_told : (header : Header) (n : ℕ) (l : Link) (lines : List Line) (steps : List Step) → IsHeader header
+    → AllByRecursion (IsLineOf header) lines → StepsFollow (host_of header) l lines steps → LinkIs n l → n + 2400 * length lines < 2 ^ 32
     → AreApart (flat_map step_told steps)
-steps_told header h n l [] [] is low valid follows link small = tt
-steps_told header h n l [] (step ∷ steps) is low valid follows link small = absurd follows
-steps_told header h n l (said ∷ lines) [] is low valid follows link small = absurd follows
-steps_told header h n l (said ∷ lines) (step ∷ steps) is low valid follows link small =
+steps_told header n l [] [] is valid follows link small = tt
+steps_told header n l [] (step ∷ steps) is valid follows link small = absurd follows
+steps_told header n l (said ∷ lines) [] is valid follows link small = absurd follows
+steps_told header n l (said ∷ lines) (step ∷ steps) is valid follows link small =
     let here : LineTold n l step.outcome =
-    subst (LineTold n l) (sym follows.1) (line_told header h n l said low valid.0 link (omega (arith, small))) in
-    let later = steps_told header h (n + 2400) (link_after_line l step.outcome) lines steps is low valid.1 follows.3 here.link (omega (arith, small)) in
+    subst (LineTold n l) (sym follows.1)
+    (line_told header (host_of header) n l said (host_low header is) valid.0 link (omega (arith, small))) in
+    let later = steps_told header (n + 2400) (link_after_line l step.outcome) lines steps is valid.1 follows.3 here.link (omega (arith, small)) in
     let echo : IsApart (entry.Echo step.line) = subst (λ x. IsApart (entry.Echo x)) (sym follows.0) (said_in header is said valid.0) in
     each-append IsApart (step_told step) (flat_map step_told steps) (echo, here.told) later
