@@ -131,10 +131,7 @@ fn said(alloc: Global, name: Name, rest: &[u8]) -> Option<Read>
     let line = match name {
         Name::Header => return header(rest),
         Name::Send => return send(alloc, rest),
-        Name::Deliver => Line::Deliver {
-            at: end_at(rest, 0)?,
-            count: number_at(rest, 1, 64),
-        },
+        Name::Deliver => deliver(rest)?,
         Name::Lose => Line::Lose {
             at: end_at(rest, 0)?,
         },
@@ -188,9 +185,12 @@ fn send(alloc: Global, rest: &[u8]) -> Option<Read>
     requires { CanBeRead name.Send (words rest.now) }
     ensures { IsSaid result (read_of name.Send (words rest.now)) }
 {
-    let at = end_at(rest, 0)?;
-    let pid = byte_at(rest, 1)?;
-    match hex::decode(alloc, word_at(rest, 2)?) {
+    let (first, more) = next_word(rest)?;
+    let (second, more) = next_word(more)?;
+    let (third, _) = next_word(more)?;
+    let at = end_of(first)?;
+    let pid = byte_of(second)?;
+    match hex::decode(alloc, third) {
         Ok(bytes) => Some(Read::Line(Line::Send {
             at,
             pid,
@@ -199,6 +199,16 @@ fn send(alloc: Global, rest: &[u8]) -> Option<Read>
         Err(FromHexError::OutOfMemory) => Some(Read::NoMemory),
         Err(_) => None,
     }
+}
+
+fn deliver(rest: &[u8]) -> Option<Line>
+    ensures { option_map read.Line result ≡ read_of name.Deliver (words rest.now) }
+{
+    let (first, more) = next_word(rest)?;
+    Some(Line::Deliver {
+        at: end_of(first)?,
+        count: number_at(more, 0, 64),
+    })
 }
 
 fn damage(rest: &[u8]) -> Option<Line>

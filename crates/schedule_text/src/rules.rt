@@ -1,5 +1,5 @@
 //! What may be wrong with the words of a line: one rule over the kinds that its row in the table gives them.
-ghost use Rattle.std.specs.Prelude.{◌≡◌, ◌≤◌, ◌&&◌, length, is_some};
+ghost use Rattle.std.specs.Prelude.{◌≡◌, ◌+◌, ◌<◌, ◌≤◌, ◌&&◌, length, is_some};
 ghost use Rattle.std.specs.List.{list_all};
 ghost use Rattle.std.specs.Option.{option_map, option_or};
 ghost use Rattle.schedule_text.specs.Words.{words};
@@ -19,9 +19,8 @@ pub(crate) fn fault_in(hci: bool, hosts: &[u8], form: &Form, rest: &[u8]) -> Opt
     requires { length rest.now ≤ 9000 }
     ensures { result ≡ words_fault hci hosts.now (row_of form.now) (words rest.now) }
 {
-    let count = count_words(rest);
     let seen = look_over(hci, hosts, form.kinds, rest);
-    if count < form.least || form.most < count || !seen.shaped {
+    if seen.count < form.least || form.most < seen.count || !seen.shaped {
         return Some(LineFault::Word);
     }
     match (seen.digits, seen.host) {
@@ -33,7 +32,8 @@ pub(crate) fn fault_in(hci: bool, hosts: &[u8], form: &Form, rest: &[u8]) -> Opt
 
 fn count_words(rest: &[u8]) -> usize
     requires { length rest.now ≤ 9000 }
-    ensures { result ≡ length (words rest.now) }
+    ensures count { result ≡ length (words rest.now) }
+    ensures few { result ≤ length rest.now }
 {
     let mut count = 0;
     let mut left = rest;
@@ -44,10 +44,11 @@ fn count_words(rest: &[u8]) -> usize
     count
 }
 
-/// What is seen of the words behind the first one: whether all have their shapes, and the first that has wrong digits or
-/// names an unknown host.
+/// What is seen of the words behind the first one: how many there are, whether all have their shapes, and the first that has
+/// wrong digits or names an unknown host.
 #[derive(Clone, Copy)]
 struct Seen {
+    count: usize,
     shaped: bool,
     digits: Option<LineFault>,
     host: Option<u8>,
@@ -55,6 +56,7 @@ struct Seen {
 
 fn look_over(hci: bool, hosts: &[u8], kinds: &[Kind], rest: &[u8]) -> Seen
     requires { length rest.now ≤ 9000 }
+    ensures count { result.count ≡ length (words rest.now) }
     ensures shaped { result.shaped ≡ list_all (λ s. has_shape hci s.kind s.word) (slots kinds.now (words rest.now)) }
     ensures digits { result.digits ≡ first_digits_fault 2 0 (slots kinds.now (words rest.now)) }
     ensures host { result.host ≡ first_host_fault hosts.now 0 (slots kinds.now (words rest.now)) }
@@ -64,12 +66,14 @@ fn look_over(hci: bool, hosts: &[u8], kinds: &[Kind], rest: &[u8]) -> Seen
     let mut at = 2;
     let mut from = 0;
     let mut seen = Seen {
+        count: 0,
         shaped: true,
         digits: None,
         host: None,
     };
     'words: while let Some((word, more)) = next_word(left) {
         let Some((kind, others)) = coming.split_first() else {
+            seen.count += count_words(left);
             return seen;
         };
         seen = seen_with(seen, hci, hosts, at, from, *kind, word);
@@ -92,11 +96,14 @@ fn seen_with(
     kind: Kind,
     word: &[u8],
 ) -> Seen
+    requires { seen.count < 9000 }
+    ensures count { result.count ≡ seen.count + 1 }
     ensures shaped { result.shaped ≡ (seen.shaped && has_shape hci kind word.now) }
     ensures digits { result.digits ≡ option_or seen.digits (digits_fault at from kind word.now) }
     ensures host { result.host ≡ option_or seen.host (host_fault hosts.now from kind word.now) }
 {
     Seen {
+        count: seen.count + 1,
         shaped: seen.shaped && shaped(hci, kind, word),
         digits: digits_or(seen.digits, at, from, kind, word),
         host: host_or(seen.host, hosts, from, kind, word),
