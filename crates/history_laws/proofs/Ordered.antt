@@ -35,7 +35,7 @@ IsOneAtMost (y ∷ []) = Unit {0}
 IsOneAtMost (y ∷ z ∷ ys) = ⊥
 
 -- where each element gives one at most, a front of all that they give is what a front of them gives
-front_given : {X Y : Type 0} (f : X → List Y) → ((x : X) → IsOneAtMost (f x)) → (xs : List X) (front back : List Y) → flat_map f xs ≡ front ++ back
+pub front_given : {X Y : Type 0} (f : X → List Y) → ((x : X) → IsOneAtMost (f x)) → (xs : List X) (front back : List Y) → flat_map f xs ≡ front ++ back
     → (p : List X) × IsFrontOf p xs × (front ≡ flat_map f p)
 front_given f one xs [] back q = ([], (xs, refl), refl)
 front_given f one [] (y ∷ front) back q = absurd (nothing q)
@@ -63,7 +63,7 @@ front_given {X} {Y} f one (x ∷ xs) (y ∷ front) back q = go (f x) refl (one x
         )
     go (z ∷ w ∷ ys) e o later = absurd o
 
-one_entry : (h : ℕ) (x : Noted) → IsOneAtMost (entry_of h x)
+pub one_entry : (h : ℕ) (x : Noted) → IsOneAtMost (entry_of h x)
 one_entry h (Up w k) = tt
 one_entry h (Down w cause) = tt
 one_entry h (Active w) = tt
@@ -89,7 +89,7 @@ pub record AreInOrder (sent : List Message) (acked : ℕ) (got : List Message) :
 abbrev pub AtEnd : List Entry → End → ℕ → Type 0
 AtEnd t e n = AreInOrder (sent_in t e n) (acked_in t e n) (got_in t (other_end e) n)
 
-read_as : (t : List Entry) (e : End) (n : ℕ) (sent got : List Message) (acked : ℕ) → sent_in t e n ≡ sent → acked_in t e n ≡ acked
+pub read_as : (t : List Entry) (e : End) (n : ℕ) (sent got : List Message) (acked : ℕ) → sent_in t e n ≡ sent → acked_in t e n ≡ acked
     → got_in t (other_end e) n ≡ got → AreInOrder sent acked got → AtEnd t e n
 read_as t e n sent got acked p q r h =
     let P : List Message → Type 0 = λ z. AreInOrder z (acked_in t e n) (got_in t (other_end e) n) in
@@ -97,7 +97,7 @@ read_as t e n sent got acked p q r h =
     let R : List Message → Type 0 = λ z. AreInOrder sent acked z in
     subst P (sym p) (subst Q (sym q) (subst R (sym r) h))
 
-empty : AreInOrder [] 0 []
+pub empty : AreInOrder [] 0 []
 empty = record { delivered = ([], refl); acknowledged = ([], refl); counted = omega arith }
 
 -- at an end of the link
@@ -118,7 +118,7 @@ order_there h p e n q =
 pub same_link : (h k : ℕ) → (h == k) ≡ true → h ≡ k
 same_link h k q = grind (arith, common_steps)
 
-order_at : (h : ℕ) (p : List Noted) → ((who : Side) (n : ℕ) → InOrderIn p who n) → (e : End) (n : ℕ) → AtEnd (entries_for h p) e n
+pub order_at : (h : ℕ) (p : List Noted) → ((who : Side) (n : ℕ) → InOrderIn p who n) → (e : End) (n : ℕ) → AtEnd (entries_for h p) e n
 order_at h p o e n = go (h == e.link) refl
   where
     side : (k : ℕ) (b : Bool) → h ≡ k → AtEnd (entries_for h p) (record { link = k; at_host = b }) n

@@ -40,32 +40,32 @@ use Rattle.node_links.proofs.Worlds.{AreFineSites, IsFineWorld, AtHostOnly, CanR
 -- ## What comes to an end
 
 -- where activation doesn't begin, a host may always be reached
-abbrev IsPlain : Comes → Type 0
+abbrev pub IsPlain : Comes → Type 0
 IsPlain NextFrame = Unit {0}
 IsPlain (AsksReset window) = IsWindow window
 IsPlain (Starts value) = ⊥
 IsPlain Stops = ⊥
 IsPlain NoInput = Unit {0}
 
-plain_comes : (l : Link) (comes : Comes) → IsPlain comes → CanCome l comes
+pub plain_comes : (l : Link) (comes : Comes) → IsPlain comes → CanCome l comes
 plain_comes l NextFrame p = tt
 plain_comes l (AsksReset window) p = p
 plain_comes l (Starts value) p = absurd p
 plain_comes l Stops p = absurd p
 plain_comes l NoInput p = tt
 
-plain_may : (comes : Comes) → IsPlain comes → MayCome comes
+pub plain_may : (comes : Comes) → IsPlain comes → MayCome comes
 plain_may NextFrame p = tt
 plain_may (AsksReset window) p = p
 plain_may (Starts value) p = absurd p
 plain_may Stops p = absurd p
 plain_may NoInput p = tt
 
-plain_reach : (h : ℕ) (comes : Comes) → IsPlain comes → (sites : List Site) → AllByRecursion (AtHostOnly (CanReach comes) h) sites
+pub plain_reach : (h : ℕ) (comes : Comes) → IsPlain comes → (sites : List Site) → AllByRecursion (AtHostOnly (CanReach comes) h) sites
 plain_reach h comes p [] = tt
 plain_reach h comes p (s ∷ sites) = ((λ q. plain_comes (exchanged s.link) comes p), plain_reach h comes p sites)
 
-comes_fine : (w : NodeWorld) (e : End) (comes : Comes) → MayCome comes → AllByRecursion (AtHostOnly (CanReach comes) e.link) w.sites → IsFineWorld w
+pub comes_fine : (w : NodeWorld) (e : End) (comes : Comes) → MayCome comes → AllByRecursion (AtHostOnly (CanReach comes) e.link) w.sites → IsFineWorld w
     → IsFineWorld (comes_at w e comes).0
 comes_fine w e comes may reach fine = go (input_of (seen_from e (link_to w.sites e.link)) comes) e.at_host
   where
@@ -88,7 +88,7 @@ begins_fine : (w : NodeWorld) (h : ℕ) (deeds : List Deed) → AreFine deeds �
 begins_fine w h deeds a fine =
     host_fine w h NoInput (begins_with h deeds) (plain_reach h NoInput tt w.sites) (λ v b. all_done_fine h deeds v a b) fine
 
-sending_fine : (h : ℕ) (m : Message) → IsSendable m → AreFine (sending h m)
+pub sending_fine : (h : ℕ) (m : Message) → IsSendable m → AreFine (sending h m)
 sending_fine h m s = go (m.0 == 1 && is_command_message m.1)
   where
     go : (b : Bool) → AreFine (cond b (Orders m.1 ∷ []) (Sends h m ∷ []))
@@ -119,14 +119,17 @@ idle_reach h sync (s ∷ sites) a b = (
   idle_reach h sync sites a.1 b.1,
 )
 
-activates_fine : (w : NodeWorld) (h sync power : ℕ) → is_some w.controller ≡ true → IsFineWorld w → IsFineWorld (activates w h sync power).0
-activates_fine w h sync power runs fine =
-    comes_fine (comes_at w (end_c h) (Starts power)).0 (end_h h) (Starts sync) tt
-    (idle_reach h sync (comes_at w (end_c h) (Starts power)).0.sites near.sites (go w.controller runs)) near
-  where
-    near : IsFineWorld (comes_at w (end_c h) (Starts power)).0
-    near = controller_fine w h (Starts power) (steps (AtEnd h (Start power))) tt (λ v a. steps_fine (AtEnd h (Start power)) v a) fine
+-- activation begins at the controller's end
+pub starts_fine : (w : NodeWorld) (h power : ℕ) → IsFineWorld w → IsFineWorld (comes_at w (end_c h) (Starts power)).0
+starts_fine w h power fine =
+    controller_fine w h (Starts power) (steps (AtEnd h (Start power))) tt (λ v a. steps_fine (AtEnd h (Start power)) v a) fine
 
+-- and then it may begin at the host's
+pub starts_then : (w : NodeWorld) (h sync power : ℕ) → is_some w.controller ≡ true → IsFineWorld w
+    → AllByRecursion (AtHostOnly (CanReach (Starts sync)) h) (comes_at w (end_c h) (Starts power)).0.sites
+starts_then w h sync power runs fine =
+    idle_reach h sync (comes_at w (end_c h) (Starts power)).0.sites (starts_fine w h power fine).sites (go w.controller runs)
+  where
     by : Option Running → NodeWorld × List Entry
     by None = (w, [])
     by (Some r) = after_controller w h (Starts power) (controller_work w r h (Starts power) (steps (AtEnd h (Start power))))
@@ -134,6 +137,10 @@ activates_fine w h sync power runs fine =
     go : (o : Option Running) → is_some o ≡ true → AllByRecursion (AtHostOnly (λ s. IsIdleClf s.link.controller.side.role) h) (by o).0.sites
     go None q = absurd (true≢false (sym q))
     go (Some r) q = started_sites h power (controller_work w r h (Starts power) (steps (AtEnd h (Start power)))) w.sites fine.sites
+
+activates_fine : (w : NodeWorld) (h sync power : ℕ) → is_some w.controller ≡ true → IsFineWorld w → IsFineWorld (activates w h sync power).0
+activates_fine w h sync power runs fine =
+    comes_fine (comes_at w (end_c h) (Starts power)).0 (end_h h) (Starts sync) tt (starts_then w h sync power runs fine) (starts_fine w h power fine)
 
 -- ## One thing that happens
 
@@ -150,7 +157,7 @@ MayHappen w (Loses e why) = Unit {0}
 MayHappen w Ticks = Unit {0}
 MayHappen w (Arms n plan) = Unit {0}
 
-step_fine : (w : NodeWorld) (c : Happening) → MayHappen w c → IsFineWorld w → IsFineWorld (world_step w c).0
+pub step_fine : (w : NodeWorld) (c : Happening) → MayHappen w c → IsFineWorld w → IsFineWorld (world_step w c).0
 step_fine w (Boots n) m fine = boots_fine w n fine
 step_fine w (IsCut n) m fine = power_fine n w fine
 step_fine w (Gives e message) m fine = begins_fine w e.link (sending e.link message) (sending_fine e.link message m) fine
@@ -165,7 +172,7 @@ step_fine w (Arms n plan) m fine = memory_fine n (record (memory_at w n) { plan 
 -- ## Lines
 
 -- these may happen in any world
-abbrev AreLasting : List Happening → Type 0
+abbrev pub AreLasting : List Happening → Type 0
 AreLasting causes = AllByRecursion (λ c. (w : NodeWorld) → MayHappen w c) causes
 
 all_fine : (causes : List Happening) (w : NodeWorld) → AreLasting causes → IsFineWorld w → IsFineWorld (all_happen w causes).0
@@ -183,18 +190,18 @@ all_fine (c ∷ causes) w m fine = go (can_happen w c) (all_fine causes (world_s
     go true a = a
     go false a = fine
 
-repeated : (n : ℕ) (c : Happening) → ((w : NodeWorld) → MayHappen w c) → AreLasting (replicate n c)
+pub repeated : (n : ℕ) (c : Happening) → ((w : NodeWorld) → MayHappen w c) → AreLasting (replicate n c)
 repeated zero c m = tt
 repeated (suc n) c m = (m, repeated n c m)
 
-damaged : (e : End) (v : Option Verdict) → AreLasting (happens_by e v)
+pub damaged : (e : End) (v : Option Verdict) → AreLasting (happens_by e v)
 damaged e None = tt
 damaged e (Some Same) = ((λ w. tt), tt)
 damaged e (Some (LostFor why)) = ((λ w. tt), tt)
 damaged e (Some (Undetected read)) = tt
 
 -- a line that isn't refused found the controller running
-runs_then : (b : Bool) (o : Option NoCause) → first_cause (cond b None (Some no.Off)) o ≡ None → b ≡ true
+pub runs_then : (b : Bool) (o : Option NoCause) → first_cause (cond b None (Some no.Off)) o ≡ None → b ≡ true
 runs_then true o q = refl
 runs_then false o q = cc
 

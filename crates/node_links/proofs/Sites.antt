@@ -11,7 +11,7 @@ use Rattle.message_link.specs.Links.Comes.{NextFrame, AsksReset, Starts, Stops, 
 use Rattle.message_link.specs.Links.EndEvent.{Step, Lose}
 use Rattle.message_link.specs.Links.LinkEvent.{AtController, AtHost, Ticks, TicksWithout}
 use Rattle.node_world.specs.World.{ticked_so}
-use Rattle.node_links.specs.Runs.{new_line, IsRun}
+use Rattle.node_links.specs.Runs.{new_line, IsRun, IsRunOf}
 use Rattle.node_links.proofs.Got.{Clean}
 use Rattle.node_links.proofs.Ends.{here_host, tick_host, here_clf, here_uicc, here_clean, tick_clf, tick_uicc, tick_clean}
 
@@ -25,16 +25,17 @@ allowed_push : (es : List LinkEvent) (l : Link) (e : LinkEvent) → AllAllowed l
 allowed_push [] l e a b = (b, tt)
 allowed_push (x ∷ es) l e a b = (a.0, allowed_push es (happens l x) e a.1 b)
 
-run_more : (l : Link) (e : LinkEvent) → IsEvent l e → IsRun l → IsRun (happens l e)
-run_more l e can r =
+-- one event more
+pub run_of_more : (events : List LinkEvent) (l : Link) (e : LinkEvent) → IsEvent l e → IsRunOf events l → IsRunOf (events ++ e ∷ []) (happens l e)
+run_of_more events l e can run =
     let P : Link → Type 0 = λ k. IsEvent k e in
     record {
-      events = r.events ++ e ∷ [];
-      run = record {
-        allowed = allowed_push r.events new_line e r.run.allowed (subst P (sym r.run.is) can);
-        is = after_push r.events new_line e ∙ ap (λ k. happens k e) r.run.is;
-      };
+      allowed = allowed_push events new_line e run.allowed (subst P (sym run.is) can);
+      is = after_push events new_line e ∙ ap (λ k. happens k e) run.is;
     }
+
+run_more : (l : Link) (e : LinkEvent) → IsEvent l e → IsRun l → IsRun (happens l e)
+run_more l e can r = record { events = r.events ++ e ∷ []; run = run_of_more r.events l e can r.run }
 
 -- ## A link of a world
 
@@ -55,12 +56,12 @@ new_fine = record {
   line = record { clf = tt; uicc = tt; near = tt; far = tt };
 }
 
-clf_line : (r : Role) → IsClf r → IfLine r
+pub clf_line : (r : Role) → IsClf r → IfLine r
 clf_line (Clf s) a = tt
 clf_line (Uicc s) a = absurd a
 clf_line Bare a = absurd a
 
-uicc_line : (r : Role) → IsUicc r → IfLine r
+pub uicc_line : (r : Role) → IsUicc r → IfLine r
 uicc_line (Uicc s) a = tt
 uicc_line (Clf s) a = absurd a
 uicc_line Bare a = absurd a
@@ -107,7 +108,7 @@ may_start (Clf s) f a = tt
 may_start (Uicc s) f a = absurd a
 may_start Bare f a = absurd a
 
-can_come : (l : Link) (comes : Comes) → MayCome comes → IsClf l.controller.side.role → CanCome l comes
+pub can_come : (l : Link) (comes : Comes) → MayCome comes → IsClf l.controller.side.role → CanCome l comes
 can_come l NextFrame m a = tt
 can_come l (AsksReset window) m a = m
 can_come l (Starts value) m a = may_start l.controller.side.role l.host.side.role a
@@ -170,18 +171,30 @@ pub record AreNodes (c h : Node) : Type 0 where
   pub controller : AreSendableTurns c.turns
   pub host : AreSendableTurns h.turns
 
+-- a link of a world grows older and stays so
+line_aged : (l : Link) → IsLine l → IsLine (aged l)
+line_aged l a = record { clf = a.clf; uicc = a.uicc; near = a.near; far = a.far }
+
+-- a tick may happen, and so may one in which the controller's end is reset in place of its tick, unless it waits
+pub tick_allowed : (l : Link) (c h : Node) → AreNodes c h → IsLine l → IsEvent l (Ticks c [] h)
+tick_allowed l c h send a =
+    let m : Link = ticks_here (aged l) c.turns c.ending in
+    let b : IsLine m = line_tick (aged l) c.turns c.ending (line_aged l a) in
+    ((send.controller, can_end l.controller.side.role c.ending (clf_line l.controller.side.role a.clf)), tt,
+    (send.host, can_end m.host.side.role h.ending (uicc_line m.host.side.role b.uicc)))
+
+pub reset_allowed : (l : Link) (c h : Node) → AreNodes c h → IsLine l → is_waiting l.controller.side.shdlc ≡ false
+    → IsEvent l (TicksWithout (Step (AsksReset None) c.turns c.ending ∷ []) h)
+reset_allowed l c h send a q =
+    let reset : EndEvent = Step (AsksReset None) c.turns c.ending in
+    let m : Link = happens_here (aged l) reset in
+    let b : IsLine m = line_here (aged l) reset (line_aged l a) in
+    (q, (tt, (tt, (send.controller, can_end l.controller.side.role c.ending (clf_line l.controller.side.role a.clf))), tt),
+    (send.host, can_end m.host.side.role h.ending (uicc_line m.host.side.role b.uicc)))
+
 pub ticks_fine : (l : Link) (late : Bool) (c h : Node) → AreNodes c h → IsFineLink l → IsFineLink (ticked l late c h)
 ticks_fine l late c h send a = go late (is_waiting l.controller.side.shdlc) refl
   where
-    old : IsLine (aged l)
-    old = record { clf = a.line.clf; uicc = a.line.uicc; near = a.line.near; far = a.line.far }
-
-    here : CanEnd l.controller.side.role c.ending
-    here = can_end l.controller.side.role c.ending (clf_line l.controller.side.role a.line.clf)
-
-    there : (m : Link) → IsLine m → CanEnd m.host.side.role h.ending
-    there m b = can_end m.host.side.role h.ending (uicc_line m.host.side.role b.uicc)
-
     reset : EndEvent
     reset = Step (AsksReset None) c.turns c.ending
 
@@ -191,19 +204,17 @@ ticks_fine l late c h send a = go late (is_waiting l.controller.side.shdlc) refl
     plain : IsFineLink (then_host (ticks_here (aged l) c.turns c.ending))
     plain =
         let m : Link = ticks_here (aged l) c.turns c.ending in
-        let b : IsLine m = line_tick (aged l) c.turns c.ending old in
         record {
-          run = run_more l (Ticks c [] h) ((send.controller, here), tt, (send.host, there m b)) a.run;
-          line = line_ticked m h b;
+          run = run_more l (Ticks c [] h) (tick_allowed l c h send a.line) a.run;
+          line = line_ticked m h (line_tick (aged l) c.turns c.ending (line_aged l a.line));
         }
 
     by_reset : is_waiting l.controller.side.shdlc ≡ false → IsFineLink (then_host (has_input (aged l) (Reset None) c.turns c.ending))
     by_reset q =
         let m : Link = happens_here (aged l) reset in
-        let b : IsLine m = line_here (aged l) reset old in
         record {
-          run = run_more l (TicksWithout (reset ∷ []) h) (q, (tt, (tt, (send.controller, here)), tt), (send.host, there m b)) a.run;
-          line = line_ticked m h b;
+          run = run_more l (TicksWithout (reset ∷ []) h) (reset_allowed l c h send a.line q) a.run;
+          line = line_ticked m h (line_here (aged l) reset (line_aged l a.line));
         }
 
     choice : Bool → Bool → Link

@@ -98,10 +98,10 @@ fine_site (x ∷ sites) h s a q = go (x.host == h) refl (fine_site sites h s a.1
     go false e later = later (rw e at q)
 
 -- what came at the controller's ends may be sent on
-abbrev AreClean : List Site → Type 0
+abbrev pub AreClean : List Site → Type 0
 AreClean sites = AllByRecursion (λ (s : Site). Clean s.link.controller.side) sites
 
-fine_clean : (sites : List Site) → AreFineSites sites → AreClean sites
+pub fine_clean : (sites : List Site) → AreFineSites sites → AreClean sites
 fine_clean [] a = tt
 fine_clean (s ∷ sites) a = (a.0.link.line.near, fine_clean sites a.1)
 
@@ -116,7 +116,7 @@ clean_site (x ∷ sites) h s a q = go (x.host == h) refl (clean_site sites h s a
         let P : Site → Type 0 = λ z. Clean z.link.controller.side in subst P is a.0
     go false e later = later (rw e at q)
 
-near_clean : (sites : List Site) (h : ℕ) → AreClean sites → Clean (link_to sites h).controller.side
+pub near_clean : (sites : List Site) (h : ℕ) → AreClean sites → Clean (link_to sites h).controller.side
 near_clean sites h a = go (site_at sites h) refl
   where
     by : Option Site → Link
@@ -128,7 +128,7 @@ near_clean sites h a = go (site_at sites h) refl
 
 -- ## A step of a node
 
-half_clean : (l : Link) (comes : Comes) → Clean l.controller.side → Clean (half_in l comes).side
+pub half_clean : (l : Link) (comes : Comes) → Clean l.controller.side → Clean (half_in l comes).side
 half_clean l NextFrame a = go l.to_controller
   where
     by : List OnWire → Half
@@ -143,7 +143,7 @@ half_clean l (Starts value) a = a
 half_clean l Stops a = a
 half_clean l NoInput a = a
 
-ports_fine : (halves : ℕ → Half) → ((h : ℕ) → Clean (halves h).side) → (desks : List Desk) → AreTrueDesks desks
+pub ports_fine : (halves : ℕ → Half) → ((h : ℕ) → Clean (halves h).side) → (desks : List Desk) → AreTrueDesks desks
     → AreFinePorts (map (λ (d : Desk). port_for (halves d.host) d) desks)
 ports_fine halves clean [] a = tt
 ports_fine halves clean (d ∷ desks) a =
@@ -163,7 +163,7 @@ runs_fine k a = go k.cut
     go true = tt
     go false = desks_of k.ports a
 
-turns_fine : (k : Work) (h : ℕ) → IsFineWork k → AreSendableTurns (turns_at k h)
+pub turns_fine : (k : Work) (h : ℕ) → IsFineWork k → AreSendableTurns (turns_at k h)
 turns_fine k h a = go (port_at k.ports h) refl
   where
     by : Option Port → List Turn
@@ -179,7 +179,7 @@ KeepsFine f = (v : Work) → IsFineWork v → IsFineWork (f v)
 
 -- ## Steps of the controller
 
-may_here : (h : ℕ) (comes : Comes) (k : ℕ) → MayCome comes → MayCome (comes_to h comes k)
+pub may_here : (h : ℕ) (comes : Comes) (k : ℕ) → MayCome comes → MayCome (comes_to h comes k)
 may_here h comes k m = go (k == h)
   where
     go : (b : Bool) → MayCome (cond b comes NoInput)
@@ -470,7 +470,7 @@ controller_ticks_fine w old runs = go w.controller runs
           controller = runs_fine k done;
         }
 
-so_host : (l : Link) (late : Bool) (ts : List Turn) (ending : Ending) → (ticked_so l late ts ending).host ≡ l.host
+pub so_host : (l : Link) (late : Bool) (ts : List Turn) (ending : Ending) → (ticked_so l late ts ending).host ≡ l.host
 so_host l late ts ending = go (late && not (is_waiting l.controller.side.shdlc))
   where
     go : (b : Bool) → (cond b (has_input l (Reset None) ts ending) (ticks_here l ts ending)).host ≡ l.host

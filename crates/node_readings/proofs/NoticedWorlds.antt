@@ -103,7 +103,7 @@ side_with h f host side sites n = side_map (λ (s : Site). changed_if (eqb s.hos
   sides false s = refl
 
 -- what happens at the host's end leaves the controller's
-far_side : (l : Link) (e : EndEvent) → (happens l (AtHost e)).controller.side ≡ l.controller.side
+pub far_side : (l : Link) (e : EndEvent) → (happens l (AtHost e)).controller.side ≡ l.controller.side
 far_side l e = ap (λ (h : Half). h.side) (here_host (exchanged l) e)
 
 far_tick : (l : Link) (ts : List Turn) (ending : Ending) → (exchanged (ticks_here (exchanged l) ts ending)).controller.side ≡ l.controller.side
@@ -454,7 +454,7 @@ controller_tick_up w orderly a = go w.controller refl orderly.controller a where
   go None e has b = subst (IfNoticedUp (controller_ticks w).0.sites) (sym (off_is e)) tt
   go (Some r) e has b = subst NoticesAreUp (sym (on_is r e)) (near_tick w r e has b)
 
-host_tick_side : (s : Site) → (host_ticks s).0.link.controller.side ≡ s.link.controller.side
+pub host_tick_side : (s : Site) → (host_ticks s).0.link.controller.side ≡ s.link.controller.side
 host_tick_side s = go s.node refl where
   k : Running → Work
   k r = steps TimePasses (work_of r s.memory.plan (λ n. s.link.host) [])
@@ -508,7 +508,7 @@ event_up w (Arms n plan) o a = memory_up n (record (memory_at w n) { plan = Some
 abbrev IsSo : NodeWorld → Type 0
 IsSo w = IsOrderly w × NoticesAreUp w
 
-numbers : (hosts : List ℕ) → AllByRecursion IsHost hosts → AllByRecursion (λ h. eqb h 0 ≡ false) hosts
+pub numbers : (hosts : List ℕ) → AllByRecursion IsHost hosts → AllByRecursion (λ h. eqb h 0 ≡ false) hosts
 numbers [] a = tt
 numbers (h ∷ hosts) a = (ne_eqb h 0 (λ z. omega (arith, z, a.0.0)), numbers hosts a.1)
 

@@ -107,13 +107,14 @@ turn_entries-append who n e (x ∷ ts) t =
 
 -- ## What is known of one end in a step
 
--- the end of the link with this host began as e, in the session n, and all that was noted of its link since these entries is of its turns
-pub record Account (h : ℕ) (who : Side) (n : ℕ) (e : LinkEnd) (before : List Entry) (w : Work) : Type 0 where
+-- the end of the link with this host began as e, in the session n, its notice is late or not, and all that was noted of its link
+-- since these entries is of its turns
+pub record Account (h : ℕ) (who : Side) (n : ℕ) (e : LinkEnd) (before : List Entry) (late : Bool) (w : Work) : Type 0 where
   pub side : own_side w.core ≡ who
   pub port : Port
   pub here : port_at w.ports h ≡ Some port
   pub session : port.session ≡ n
-  pub late : port.late ≡ false
+  pub late_is : port.late ≡ late
   pub is : port.side ≡ turned e port.turns
   pub told : of_link h w.entries ≡ before ++ of_link h (entries_for h (turn_entries who n e port.turns))
 
@@ -124,9 +125,9 @@ pub record SameEnd (p q : Port) : Type 0 where
   pub side : q.side ≡ p.side
   pub turns : q.turns ≡ p.turns
 
-module _ (h : ℕ) (who : Side) (n : ℕ) (e : LinkEnd) (before : List Entry) where
+module _ (h : ℕ) (who : Side) (n : ℕ) (e : LinkEnd) (before : List Entry) (late : Bool) where
   abbrev pub Of : Work → Type 0
-  Of w = Account h who n e before w
+  Of w = Account h who n e before late w
 
   pub note : (es : List Entry) (w : Work) → AreSilent es → Of w → Of (noting es w)
   note es w silent a =
@@ -135,7 +136,7 @@ module _ (h : ℕ) (who : Side) (n : ℕ) (e : LinkEnd) (before : List Entry) wh
         port = a.port;
         here = a.here;
         session = a.session;
-        late = a.late;
+        late_is = a.late_is;
         is = a.is;
         told = of-append h w.entries es ∙ (ap (λ z. of_link h w.entries ++ z) (of_silent h es silent) ∙ (append-nil (of_link h w.entries) ∙ a.told));
       }
@@ -155,7 +156,7 @@ module _ (h : ℕ) (who : Side) (n : ℕ) (e : LinkEnd) (before : List Entry) wh
         port = changed_if b g a.port;
         here = at_changed w.ports h k g a.port (λ q. keeps q.desk) a.here;
         session = same.session ∙ a.session;
-        late = same.late ∙ a.late;
+        late_is = same.late ∙ a.late_is;
         is = same.side ∙ (a.is ∙ ap (turned e) (sym same.turns));
         told = a.told ∙ ap (λ ts. before ++ of_link h (entries_for h (turn_entries who n e ts))) (sym same.turns);
       }
@@ -201,7 +202,7 @@ module _ (h : ℕ) (who : Side) (n : ℕ) (e : LinkEnd) (before : List Entry) wh
             port = after_turn t p;
             here = here ∙ ap (λ b. Some (changed_if b (after_turn t) p)) one;
             session = a.session;
-            late = a.late;
+            late_is = a.late_is;
             is = ap (λ x. turn x t) a.is ∙ sym (turned-append e p.turns t);
             told =
                 all ∙ (ap (λ z. z ++ of_link h new) a.told ∙ (append_assoc before old (of_link h new)
@@ -217,7 +218,7 @@ module _ (h : ℕ) (who : Side) (n : ℕ) (e : LinkEnd) (before : List Entry) wh
             port = p;
             here = here ∙ ap (λ b. Some (changed_if b (after_turn t) p)) one;
             session = a.session;
-            late = a.late;
+            late_is = a.late_is;
             is = a.is;
             told = all ∙ (ap (λ z. of_link h w.entries ++ z) (none (port_at w.ports k) refl) ∙ (append-nil (of_link h w.entries) ∙ a.told));
           }
@@ -244,7 +245,7 @@ module _ (h : ℕ) (who : Side) (n : ℕ) (e : LinkEnd) (before : List Entry) wh
         port = a.port;
         here = ap (λ ps. port_at ps h) ports ∙ a.here;
         session = a.session;
-        late = a.late;
+        late_is = a.late_is;
         is = a.is;
         told = ap (of_link h) entries ∙ a.told;
       }

@@ -47,11 +47,11 @@ pub tells_one : (h : ℕ) (l : Link) (e : LinkEvent) (t : List Entry) → TellOf
 tells_one h l e t a =
     record { events = e ∷ []; is = refl; told = a ∙ ap (λ z. of_link h (entries_for h z)) (sym (append-nil (event_entries l e))) }
 
-after-append : (es fs : List LinkEvent) (l : Link) → after l (es ++ fs) ≡ after (after l es) fs
+pub after-append : (es fs : List LinkEvent) (l : Link) → after l (es ++ fs) ≡ after (after l es) fs
 after-append [] fs l = refl
 after-append (e ∷ es) fs l = after-append es fs (happens l e)
 
-entries-append : (es fs : List LinkEvent) (l : Link) → entries l (es ++ fs) ≡ entries l es ++ entries (after l es) fs
+pub entries-append : (es fs : List LinkEvent) (l : Link) → entries l (es ++ fs) ≡ entries l es ++ entries (after l es) fs
 entries-append [] fs l = refl
 entries-append (e ∷ es) fs l =
     ap (λ z. event_entries l e ++ z) (entries-append es fs (happens l e))
@@ -270,7 +270,7 @@ begins_goes w k deeds m a =
     host_goes w k NoInput (begins_with k deeds) a (λ v kept. begins_keep k (k ∷ []) k deeds v m kept)
     (λ s r found runs. host_does_begin w s r k a found runs deeds m)
 
-sending_mute : (h : ℕ) (m : Message) → AreMute (sending h m)
+pub sending_mute : (h : ℕ) (m : Message) → AreMute (sending h m)
 sending_mute h m = go (m.0 == 1 && is_command_message m.1)
   where
     go : (b : Bool) → AreMute (cond b (Orders m.1 ∷ []) (Sends h m ∷ []))
@@ -288,7 +288,7 @@ lost_goes_nothing w k g t keeps nodes links q a =
     (λ s found. let P : Link → Type 0 = λ l. Tells k s.link l t in subst P (sym (links s)) (tells_nothing k s.link t (q k)))
     (λ h z. q h)
 
-memory_goes : (n : ℕ) (m : Memory) (w : NodeWorld) → IsOrderly w → EachGoesSo w (with_memory n m w) []
+pub memory_goes : (n : ℕ) (m : Memory) (w : NodeWorld) → IsOrderly w → EachGoesSo w (with_memory n m w) []
 memory_goes n m w a = go (n == 0)
   where
     by : Bool → NodeWorld
@@ -320,7 +320,7 @@ power_goes n w a = go (n == 0)
         goes_site w w.memory w.controller n host_cut (entry.Cut n ∷ []) (λ s. refl) a a.controller (λ s e node. tt)
         (λ s found. tells_one n s.link (AtHost (Step NoInput [] CutOff)) (entry.Cut n ∷ []) refl) (λ h z. refl)
 
-new_ends : (hosts : List ℕ) → map (λ (d : Desk). d.host) (map new_desk hosts) ≡ hosts
+pub new_ends : (hosts : List ℕ) → map (λ (d : Desk). d.host) (map new_desk hosts) ≡ hosts
 new_ends [] = refl
 new_ends (h ∷ hosts) = ap (λ xs. h ∷ xs) (new_ends hosts)
 

@@ -4,6 +4,7 @@ pub mod Accounts
 pub mod Away
 pub mod Parts
 pub mod Steps
+pub mod Late
 pub mod Ticks
 pub mod Keeping
 pub mod Nodes

@@ -83,7 +83,7 @@ stands halves (d ∷ desks) (x ∷ sites) h s e q = go (x.host == h) refl (stand
         let rest : Stands halves desks h = later others (rw f at q) in
         record { desk = rest.desk; here = rw passed rest.here }
 
-is_step : (comes : Comes) (i : LinkInput) → IsStep comes (Some i)
+pub is_step : (comes : Comes) (i : LinkInput) → IsStep comes (Some i)
 is_step NextFrame i = tt
 is_step (AsksReset window) i = tt
 is_step (Starts value) i = tt
@@ -141,7 +141,7 @@ module _ (w : NodeWorld) (r : Running) (k : ℕ) (comes : Comes) (h : ℕ) (s : 
       (only (λ (x : Site). x.host) f h (λ x e. frames_of h x.host Controller (wires_for x.link (comes_to k comes x.host)) v e) w.sites s
       orderly.different found
       ∙ ap (λ n. of_link h (frames_noted Controller n (wires_for s.link (comes_to k comes n)) v)) (site_host w.sites h s found))
-      ∙ closed h Controller s.link (comes_to k comes h) o v q c a)
+      ∙ closed h Controller s.link (comes_to k comes h) o false v q c a)
     where
       f : Site → List Entry
       f x = frames_noted Controller x.host (wires_for x.link (comes_to k comes x.host)) v
@@ -193,7 +193,7 @@ module _ (s : Site) (r : Running) (comes : Comes) (host : (s.host == 0) ≡ fals
       → TellOf s.host s.link (AtHost (Step comes (turns_at v s.host) (ending_of v)))
       (v.entries ++ frames_noted Host s.host (wires_for (exchanged s.link) comes) v)
   host_closed o v q c a =
-      of-append s.host v.entries (frames_noted Host s.host (wires_for (exchanged s.link) comes) v) ∙ closed s.host Host (exchanged s.link) comes o v q c a
+      of-append s.host v.entries (frames_noted Host s.host (wires_for (exchanged s.link) comes) v) ∙ closed s.host Host (exchanged s.link) comes o false v q c a
 
   -- and nothing is told of any other link
   pub host_away : (h : ℕ) → (s.host == h) ≡ false → Away h HostStart

@@ -42,7 +42,7 @@ tick_node x a = go x.node a
         } in
         runs_keep x.host (x.host ∷ []) (host_tick x n) (tick_keeps x.host (x.host ∷ []) (work_of n x.memory.plan halves []) first)
 
-hosts_ticked : (sites : List Site) → hosts_in (hosts_tick sites).0 ≡ hosts_in sites
+pub hosts_ticked : (sites : List Site) → hosts_in (hosts_tick sites).0 ≡ hosts_in sites
 hosts_ticked [] = refl
 hosts_ticked (x ∷ sites) = ap (λ n. n ∷ hosts_in (hosts_tick sites).0) (tick_host x) ∙ ap (λ ns. x.host ∷ ns) (hosts_ticked sites)
 

@@ -138,9 +138,12 @@ module _ (h : ℕ) (who : Side) (l : Link) (comes : Comes) (o : Option LinkInput
   abbrev pub before : List Entry
   before = of_link h (entries_for h (arrival who l comes)) ++ of_link h (entries_for h (told_coming who (half_in l comes) o))
 
-  -- what was done so far
+  -- what was done so far, where the notice of the end is late or not
+  abbrev pub GoesLate : Bool → Work → Type 0
+  GoesLate late w = Account h who (number_of (half_in l comes)) (after_coming (half_in l comes).side o) before late w
+
   abbrev pub Goes : Work → Type 0
-  Goes w = Account h who (number_of (half_in l comes)) (after_coming (half_in l comes).side o) before w
+  Goes w = GoesLate false w
 
   came : (k : ℕ) (i : LinkInput) (w : Work) (a : Opening h who l comes w) → input_at (AtEnd k i) a.port ≡ o → (ports : List Port)
       → Goes (record (all_come (AtEnd k i) w) {
@@ -154,7 +157,7 @@ module _ (h : ℕ) (who : Side) (l : Link) (comes : Comes) (o : Option LinkInput
         here = at_map without_notice without_host _ h left (at_map (forgets ports) (forgets_host ports) _ h come
             (at_map (λ p. has_come p (input_at input p)) (λ p. come_host p (input_at input p)) w.ports h p a.here));
         session = session_is ∙ a.session;
-        late = (without_same left).late ∙ ((forgets_same ports come).late ∙ (come_late p (input_at input p) ∙ a.late));
+        late_is = (without_same left).late ∙ ((forgets_same ports come).late ∙ (come_late p (input_at input p) ∙ a.late));
         is = side_is;
         told = told_is;
       }
@@ -227,7 +230,7 @@ module _ (h : ℕ) (who : Side) (l : Link) (comes : Comes) (o : Option LinkInput
       let left : List Port = map (forgets v.ports) v.ports in
       let n : ℕ = number_of (half_in l comes) in
       let e : LinkEnd = after_coming (half_in l comes).side o in
-      rest Goes (note h who n e before) (desk h who n e before) (turns h who n e before) (beside h who n e before) (forgotten v.ports)
+      rest Goes (note h who n e before false) (desk h who n e before false) (turns h who n e before false) (beside h who n e before false) (forgotten v.ports)
       (flat_map (synced w.core (AtEnd k i)) w.ports) (all_owed left)
       (record v { core = after_sessions v.core v.ports; ports = map without_notice left })
       (forgotten_mute v.ports) (all_synced_mute w.core (AtEnd k i) w.ports) (all_owed_mute left) (came k i w a q v.ports)
@@ -242,19 +245,19 @@ module _ (h : ℕ) (who : Side) (l : Link) (comes : Comes) (o : Option LinkInput
         port = a.port;
         here = a.here;
         session = a.session;
-        late = a.late;
+        late_is = a.late;
         is = a.is ∙ (sym (ap (after_coming (half_in l comes).side) q) ∙ ap (turned e) (sym a.turns));
         told = a.told
             ∙ (sym (append-nil (of_link h (entries_for h (arrival who l comes))))
             ∙ (ap (λ x. of_link h (entries_for h (arrival who l comes)) ++ of_link h (entries_for h (told_coming who (half_in l comes) x))) (sym q)
             ∙ (sym (append-nil before) ∙ ap (λ ts. before ++ of_link h (entries_for h (turn_entries who n e ts))) (sym a.turns))));
       } in
-      all_do Goes (note h who n e before) (desk h who n e before) (turns h who n e before) (beside h who n e before) k deeds w m first
+      all_do Goes (note h who n e before false) (desk h who n e before false) (turns h who n e before false) (beside h who n e before false) k deeds w m first
 
   -- with the frames that go out it is all that is noted of the step
-  pub in_parts : (w : Work) → Goes w → of_link h w.entries ++ of_link h (frames_noted who h (wires_for l comes) w)
+  pub in_parts : (late : Bool) (w : Work) → GoesLate late w → of_link h w.entries ++ of_link h (frames_noted who h (wires_for l comes) w)
       ≡ of_link h (entries_for h (parts_of who l comes o (turns_at w h) (ending_of w)))
-  in_parts w a =
+  in_parts late w a =
       let n : ℕ = number_of (half_in l comes) in
       let e : LinkEnd = after_coming (half_in l comes).side o in
       let ts : List Turn = a.port.turns in
@@ -268,10 +271,10 @@ module _ (h : ℕ) (who : Side) (l : Link) (comes : Comes) (o : Option LinkInput
       ∙ ap (λ z. of_link h (entries_for h (parts_of who l comes o z (ending_of w)))) (sym turns)))
 
   -- and that is what the law of one link notes of it
-  pub closed : (w : Work) → input_of l comes ≡ o → IsStep comes o → Goes w
+  pub closed : (late : Bool) (w : Work) → input_of l comes ≡ o → IsStep comes o → GoesLate late w
       → of_link h w.entries ++ of_link h (frames_noted who h (wires_for l comes) w)
       ≡ of_link h (entries_for h (step_entries who l comes (turns_at w h) (ending_of w)))
-  closed w q c a = in_parts w a ∙ ap (of_link h) (sym (step_is h who (turns_at w h) (ending_of w) l comes o q c))
+  closed late w q c a = in_parts late w a ∙ ap (of_link h) (sym (step_is h who (turns_at w h) (ending_of w) l comes o q c))
 
 -- ## A node that has no end on the link
 

@@ -1,11 +1,15 @@
 -- Which entries of a world of nodes tell of the link with one host, and whether they are those of the law of one link.
-use Rattle.std.specs.Prelude.{◌+◌, nat_le, ◌≡◌, ℕ, ◌==◌, Bool, false, List, Option, Some, None, map, ◌∷◌, []}
-use Rattle.std.specs.List.{filter, AllByRecursion}
+use Rattle.std.specs.Prelude.{◌+◌, nat_le, ◌≡◌, ℕ, ◌==◌, Bool, true, false, List, Option, Some, None, map, ◌∷◌, []}
+use Rattle.std.specs.List.{filter, find, AllByRecursion}
 use Rattle.std.specs.Option.{option_map_or}
 use Rattle.trace_model.specs.declared.entry.Entry.{Entry}
 use Rattle.trace_model.specs.declared.line.End.{End}
 use Rattle.trace_model.specs.declared.line.Line.{Line}
 use Rattle.trace_model.specs.declared.line.Line.TheVariants.{Tick}
+use Rattle.swp_act.specs.Activation.{new_clf, new_uicc}
+use Rattle.shdlc_core.specs.declared.answers.LinkState.TheVariants.{Up}
+use Rattle.link_machine.specs.Machine.{LinkEnd, is_open, new_link_end}
+use Rattle.link_machine.specs.Machine.Role.{Clf, Uicc}
 use Rattle.message_link.specs.Links.{Link, LinkEvent, after}
 use Rattle.link_entries.specs.Entries.{event_entries, entries}
 use Rattle.history.specs.Filters.{Saying, said}
@@ -81,6 +85,25 @@ AreUntimed lines = AllByRecursion IsUntimedLine lines
 abbrev pub is_due : Desk → Bool
 is_due d = option_map_or (λ (n : Notice). nat_le 100 (n.age + 1)) d.notice false
 
--- none of a node does
-abbrev pub NoneDue : Running → Type 0
-NoneDue r = AllByRecursion (λ (d : Desk). is_due d ≡ false) r.desks
+-- none of a host does
+abbrev pub NoneDue : Option Running → Type 0
+NoneDue None = Unit {0}
+NoneDue (Some r) = AllByRecursion (λ (d : Desk). is_due d ≡ false) r.desks
+
+-- an end is new while its node doesn't run
+abbrev pub IfOff : Option Running → LinkEnd → LinkEnd → Type 0
+IfOff None new e = e ≡ new
+IfOff (Some r) new e = Unit {0}
+
+-- where the notice to this host does, the controller's end of its link is active and up
+abbrev pub IfDue : Option Running → ℕ → LinkEnd → Type 0
+IfDue None h e = Unit {0}
+IfDue (Some r) h e = (d : Desk) → find (λ d. d.host == h) r.desks ≡ Some d → is_due d ≡ true → (is_open e.role ≡ true) × (e.shdlc.phase ≡ Up)
+
+-- Ends whose nodes don't run are new, a notice that comes to its hundredth tick stands at an end of the controller that is active and up,
+-- and none does at a host.
+pub record IsTimely (w : NodeWorld) (h : ℕ) (s : Site) : Type 0 where
+  pub controller : IfOff w.controller (new_link_end (Clf new_clf)) s.link.controller.side
+  pub host : IfOff s.node (new_link_end (Uicc new_uicc)) s.link.host.side
+  pub up : IfDue w.controller h s.link.controller.side
+  pub young : NoneDue s.node

@@ -15,7 +15,7 @@ ghost use Rattle.node_machine.specs.Node.NodeInput.{AtEnd};
 ghost use Rattle.node_world.specs.World.{Happening, NodeWorld, Site, comes_to, controller_does, controller_work, ending_of, host_does, host_work, input_of, link_to, new_world, site_at, turns_at, world_step, world_ticks};
 ghost use Rattle.node_world.specs.NodeHistories.{FollowsNodes, NodeHistory, node_entries, world_after};
 ghost use Rattle.kept_laws.specs.Hosts.{AreDifferent};
-ghost use Rattle.node_telling.specs.Telling.{AreUntimed, EachGoesSo, GoesSo, IsOrderly, IsUntimed, NoneDue, TellOf, of_link};
+ghost use Rattle.node_telling.specs.Telling.{AreUntimed, EachGoesSo, GoesSo, IsOrderly, IsTimely, IsUntimed, TellOf, of_link};
 
 /// Where something comes to the controller's end of a link, what the controller notes of any link is what the law of one link notes
 /// of the step of its end there: of what comes, of the turns and of the frames that go out.
@@ -44,10 +44,11 @@ pub fn events_tell_of_each_link()
     ensures { (w : NodeWorld) (c : Happening) → IsUntimed c → IsOrderly w → EachGoesSo w (world_step w c).0 (world_step w c).1 }
 {}
 
-/// So it is in a tick with each link whose two nodes run, where no notice of theirs comes to its hundredth tick.
-pub fn a_tick_tells_of_links_whose_nodes_run()
-    ensures { (w : NodeWorld) (r n : Running) (h : ℕ) (s : Site) → IsOrderly w → w.controller ≡ Some r → NoneDue r →
-        site_at w.sites h ≡ Some s → s.node ≡ Some n → NoneDue n → GoesSo h s (world_ticks w).0 (world_ticks w).1 }
+/// So it is in a tick with each link, where an end whose node doesn't run is new, a notice comes to its hundredth tick only at an end of
+/// the controller that is active and up, and none does at a host. Where it does, the link is reset in place of the tick of that end.
+pub fn a_tick_tells_of_each_link()
+    ensures { (w : NodeWorld) (h : ℕ) (s : Site) → IsOrderly w → site_at w.sites h ≡ Some s → IsTimely w h s →
+        GoesSo h s (world_ticks w).0 (world_ticks w).1 }
 {}
 
 /// Whatever lines are played in a world whose hosts have different numbers, none of them 00, it stays orderly: so what is said here

@@ -1,5 +1,5 @@
 use Rattle.node_telling.proofs.WorldTicks.{tick_goes}
-use Rattle.node_telling.proofs.a_tick_tells_of_links_whose_nodes_run.Goals as goal
+use Rattle.node_telling.proofs.a_tick_tells_of_each_link.Goals as goal
 
 pub returns : goal.returns
 returns c = tick_goes
