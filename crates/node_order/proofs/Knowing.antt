@@ -1,0 +1,188 @@
+-- What is known of each link of a world of nodes by what was noted so far, and how it lasts as links go on.
+use Rattle.std.proofs.Common.{◌≡◌, ℕ, ◌==◌, Bool, true, false, cond, List, [], ◌∷◌, ◌++◌, Option, Some, None, map, refl, ap, sym, subst, ◌∙◌, append-nil, append_assoc}
+use Rattle.std.proofs.lemmas.Bool.{eqb-true}
+use Rattle.swp_base.specs.InMemory.{Memory}
+use Rattle.swp_act.specs.Activation.{new_clf, new_uicc}
+use Rattle.trace_model.specs.declared.entry.Entry.{Entry}
+use Rattle.link_machine.specs.Machine.{LinkInput, Turn, Role, LinkEnd, new_link_end, renewed, turned, after_input}
+use Rattle.link_machine.specs.Machine.LinkInput.{Take, Reset, Start, Stop}
+use Rattle.link_machine.specs.Machine.Role.{Bare, Clf, Uicc}
+use Rattle.message_link.specs.Links.{Link, Comes, LinkEvent, happens_here, steps_here, has_taken, happens, after, IsClf, IsUicc, IsEvent}
+use Rattle.message_link.specs.Links.Ending.{CutOff}
+use Rattle.message_link.specs.Links.Comes.{NextFrame, AsksReset, Starts, Stops, NoInput}
+use Rattle.message_link.specs.Links.EndEvent.{Step}
+use Rattle.session_laws.specs.Sessions.{OnWire}
+use Rattle.link_entries.specs.Entries.{event_entries, entries}
+use Rattle.history.specs.Steps.{entries_for}
+use Rattle.node_machine.specs.Parts.{Running}
+use Rattle.node_machine.specs.Carrying.{changed_if}
+use Rattle.node_world.specs.World.{Site, NodeWorld, site_at, input_of}
+use Rattle.node_links.specs.Runs.{new_line}
+use Rattle.node_links.proofs.Ends.{here_clf, here_uicc}
+use Rattle.node_links.proofs.Sites.{run_of_more}
+use Rattle.node_telling.specs.Telling.{of_link, TellOf, IfOff}
+use Rattle.node_telling.proofs.Accounts.{of-append}
+use Rattle.node_telling.proofs.Parts.{IsStep}
+use Rattle.node_telling.proofs.Steps.{notes-append}
+use Rattle.node_telling.proofs.Nodes.{site_host, swapped}
+use Rattle.node_telling.proofs.Events.{site_map, entries-append}
+use Rattle.node_order.specs.Told.{IsTold}
+use Rattle.node_order.proofs.Unnoticed.{IfNone}
+
+-- ## One link
+
+-- one event more
+pub told_more : (h : ℕ) (l : Link) (e : LinkEvent) (t u : List Entry) → IsEvent l e → TellOf h l e u → IsTold h l t → IsTold h (happens l e) (t ++ u)
+told_more h l e t u can tells a =
+    let O : List Entry → List Entry = of_link h in
+    let es : List LinkEvent = a.events in
+    let last : entries (after new_line es) (e ∷ []) ≡ event_entries l e =
+    append-nil (event_entries (after new_line es) e) ∙ ap (λ k. event_entries k e) a.run.is in
+    record {
+      events = es ++ e ∷ [];
+      run = run_of_more es l e can a.run;
+      told =
+          of-append h t u
+          ∙ (ap (λ z. z ++ O u) a.told
+          ∙ (ap (λ z. O (entries_for h (entries new_line es)) ++ z) (tells ∙ ap (λ z. O (entries_for h z)) (sym last))
+          ∙ sym (ap (λ z. O (entries_for h z)) (entries-append es (e ∷ []) new_line)
+          ∙ notes-append h (entries new_line es) (entries (after new_line es) (e ∷ [])))));
+    }
+
+pub told_same : (h : ℕ) (l : Link) (t u : List Entry) → of_link h u ≡ [] → IsTold h l t → IsTold h l (t ++ u)
+told_same h l t u q a =
+    record {
+      events = a.events;
+      run = a.run;
+      told = of-append h t u ∙ (ap (λ z. of_link h t ++ z) q ∙ (append-nil (of_link h t) ∙ a.told));
+    }
+
+-- ## Ends whose nodes lose power
+
+pub renewed_clf : (r : Role) → IsClf (renewed r) → new_link_end (renewed r) ≡ new_link_end (Clf new_clf)
+renewed_clf (Clf s) a = refl
+renewed_clf (Uicc s) a = absurd a
+renewed_clf Bare a = absurd a
+
+pub renewed_uicc : (r : Role) → IsUicc (renewed r) → new_link_end (renewed r) ≡ new_link_end (Uicc new_uicc)
+renewed_uicc (Uicc s) a = refl
+renewed_uicc (Clf s) a = absurd a
+renewed_uicc Bare a = absurd a
+
+-- an end is new after a step in which something came, or its node had turns, and its power went
+record IsCutNew (e : LinkEnd) : Type 0 where
+  role : Role
+  is : e ≡ new_link_end (renewed role)
+
+cut_new : (l : Link) (comes : Comes) (ts : List Turn) (o : Option LinkInput) → input_of l comes ≡ o → IsStep comes o
+    → IsCutNew (happens_here l (Step comes ts CutOff)).controller.side
+cut_new l NextFrame ts None q c = absurd c
+cut_new l NextFrame ts (Some i) q c = go l.to_controller refl
+  where
+    go : (w : List OnWire) → l.to_controller ≡ w → IsCutNew (happens_here l (Step NextFrame ts CutOff)).controller.side
+    go [] e = let z : None ≡ Some i = rw e at q in absurd (cc z)
+    go (x ∷ xs) e =
+        let is : steps_here l NextFrame ts CutOff ≡ has_taken l x xs ts CutOff = rw e refl in
+        record { role = (turned (after_input l.controller.side (Take x.frame)) ts).role; is = ap (λ (k : Link). k.controller.side) is }
+cut_new l (AsksReset window) ts o q c = record { role = (turned (after_input l.controller.side (Reset window)) ts).role; is = refl }
+cut_new l (Starts value) ts o q c = record { role = (turned (after_input l.controller.side (Start value)) ts).role; is = refl }
+cut_new l Stops ts o q c = record { role = (turned (after_input l.controller.side Stop) ts).role; is = refl }
+cut_new l NoInput ts o q c = record { role = (turned l.controller.side ts).role; is = refl }
+
+pub cut_clf : (l : Link) (comes : Comes) (ts : List Turn) (o : Option LinkInput) → input_of l comes ≡ o → IsStep comes o → IsClf l.controller.side.role
+    → (happens_here l (Step comes ts CutOff)).controller.side ≡ new_link_end (Clf new_clf)
+cut_clf l comes ts o q c a =
+    let z = cut_new l comes ts o q c in
+    let P : LinkEnd → Type 0 = λ e. IsClf e.role in
+    z.is ∙ renewed_clf z.role (subst P z.is (here_clf l (Step comes ts CutOff) a))
+
+pub cut_uicc : (l : Link) (comes : Comes) (ts : List Turn) (o : Option LinkInput) → input_of l comes ≡ o → IsStep comes o → IsUicc l.controller.side.role
+    → (happens_here l (Step comes ts CutOff)).controller.side ≡ new_link_end (Uicc new_uicc)
+cut_uicc l comes ts o q c a =
+    let z = cut_new l comes ts o q c in
+    let P : LinkEnd → Type 0 = λ e. IsUicc e.role in
+    z.is ∙ renewed_uicc z.role (subst P z.is (here_uicc l (Step comes ts CutOff) a))
+
+-- ## Worlds
+
+-- the link with a host is told, its ends are new while their nodes don't run, and its host has no notice of a controller
+pub record Knows (t : List Entry) (o : Option Running) (h : ℕ) (s : Site) : Type 0 where
+  pub told : IsTold h s.link t
+  pub near : IfOff o (new_link_end (Clf new_clf)) s.link.controller.side
+  pub far : IfOff s.node (new_link_end (Uicc new_uicc)) s.link.host.side
+  pub none : IfNone s.node
+
+-- so it is with each link
+abbrev pub Each : List Entry → NodeWorld → Type 0
+Each t w = (h : ℕ) (s : Site) → site_at w.sites h ≡ Some s → Knows t w.controller h s
+
+-- nothing was noted
+pub each_empty : (t : List Entry) (w : NodeWorld) → Each t w → Each (t ++ []) w
+each_empty t w a = let P : List Entry → Type 0 = λ z. Each z w in subst P (sym (append-nil t)) a
+
+pub site_none : (f : Site → Site) → ((s : Site) → (f s).host ≡ s.host) → (sites : List Site) (h : ℕ) → site_at sites h ≡ None → site_at (map f sites) h ≡ None
+site_none f keeps [] h q = refl
+site_none f keeps (x ∷ sites) h q = go (x.host == h) refl (site_none f keeps sites h)
+  where
+    same : ((f x).host == h) ≡ (x.host == h)
+    same = ap (λ n. n == h) (keeps x)
+
+    go : (b : Bool) → (x.host == h) ≡ b → (site_at sites h ≡ None → site_at (map f sites) h ≡ None) → site_at (map f (x ∷ sites)) h ≡ None
+    go true e later = let is : Some x ≡ None = rw e at q in absurd (cc is)
+    go false e later =
+        let fails : ((f x).host == h) ≡ false = same ∙ e in
+        rw fails (later (rw e at q))
+
+-- a changed site was one of those before
+pub record WasThere (f : Site → Site) (sites : List Site) (h : ℕ) (v : Site) : Type 0 where
+  pub site : Site
+  pub there : site_at sites h ≡ Some site
+  pub is : f site ≡ v
+
+pub was_there : (f : Site → Site) → ((s : Site) → (f s).host ≡ s.host) → (sites : List Site) (h : ℕ) (v : Site) → site_at (map f sites) h ≡ Some v
+    → WasThere f sites h v
+was_there f keeps sites h v q = go (site_at sites h) refl
+  where
+    go : (o : Option Site) → site_at sites h ≡ o → WasThere f sites h v
+    go None e = let is : None ≡ Some v = sym (site_none f keeps sites h e) ∙ q in absurd (cc is)
+    go (Some s) e =
+        let is : Some (f s) ≡ Some v = sym (site_map f keeps sites h s e) ∙ q in
+        record { site = s; there = e; is = cc }
+
+module _ (w : NodeWorld) (memory : Memory) (o : Option Running) (t u : List Entry) where
+  -- each site becomes another one
+  pub each_map : (f : Site → Site) → ((s : Site) → (f s).host ≡ s.host)
+      → ((h : ℕ) (s : Site) → site_at w.sites h ≡ Some s → Knows t w.controller h s → Knows (t ++ u) o h (f s)) → Each t w
+      → Each (t ++ u) (record { memory = memory; controller = o; sites = map f w.sites })
+  each_map f keeps one a h v q =
+      let was = was_there f keeps w.sites h v q in
+      let P : Site → Type 0 = λ s. Knows (t ++ u) o h s in
+      subst P was.is (one h was.site was.there (a h was.site was.there))
+
+  changed_host : (b : Bool) (g : Site → Site) (s : Site) → (g s).host ≡ s.host → (changed_if b g s).host ≡ s.host
+  changed_host true g s q = q
+  changed_host false g s q = refl
+
+  -- one becomes another one, and nothing is told of the others
+  pub each_site : (k : ℕ) (g : Site → Site) → ((s : Site) → (g s).host ≡ s.host)
+      → ((r : ℕ) (s : Site) → IfOff w.controller (new_link_end (Clf new_clf)) s.link.controller.side
+      → IfOff o (new_link_end (Clf new_clf)) s.link.controller.side)
+      → ((s : Site) → site_at w.sites k ≡ Some s → Knows t w.controller k s → Knows (t ++ u) o k (g s))
+      → ((h : ℕ) → (k == h) ≡ false → of_link h u ≡ []) → Each t w
+      → Each (t ++ u) (record { memory = memory; controller = o; sites = map (λ (s : Site). changed_if (s.host == k) g s) w.sites })
+  each_site k g keeps off own others a =
+      each_map (λ (s : Site). changed_if (s.host == k) g s) (λ s. changed_host (s.host == k) g s (keeps s)) (λ h s found b. go h s found b (s.host == k) refl) a
+    where
+      go : (h : ℕ) (s : Site) → site_at w.sites h ≡ Some s → Knows t w.controller h s → (b : Bool) → (s.host == k) ≡ b → Knows (t ++ u) o h (changed_if b g s)
+      go h s found b true q =
+          let is : k ≡ h = sym (eqb-true s.host k q) ∙ site_host w.sites h s found in
+          let P : ℕ → Type 0 = λ n. Knows (t ++ u) o n (g s) in
+          let Q : ℕ → Type 0 = λ n. Knows t w.controller n s in
+          subst P is (own s (ap (site_at w.sites) is ∙ found) (subst Q (sym is) b))
+      go h s found b false q =
+          record {
+            told = told_same h s.link t u (others h (swapped h k (ap (λ n. n == k) (sym (site_host w.sites h s found)) ∙ q))) b.told;
+            near = off h s b.near;
+            far = b.far;
+            none = b.none;
+          }

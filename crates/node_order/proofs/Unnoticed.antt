@@ -1,0 +1,357 @@
+-- A host keeps no notice of a controller: nothing that it does in a step gives it one.
+use Rattle.std.proofs.Common.{◌≡◌, ◌∙◌, ℕ, ◌==◌, ◌&&◌, Bool, true, false, cond, eqb, List, [], ◌∷◌, ◌++◌, refl, ap, length}
+use Rattle.std.specs.Prelude.{Option, Some, None, Result, Ok, Err, map, slice_get, ◌+◌}
+use Rattle.std.specs.List.{AllByRecursion, flat_map, filter, list_any}
+use Rattle.std.specs.Option.{option_map_or}
+use Rattle.trace_model.specs.declared.entry.Entry.TheVariants as entry
+use Rattle.hcp_packet.specs.declared.MessageKind.{MessageKind}
+use Rattle.hcp_packet.specs.declared.MessageKind.TheVariants.{Command as IsCommand, Event as IsEvent, Response as IsResponse}
+use Rattle.hcp_packet.specs.declared.MessageFault.{MessageFault}
+use Rattle.hcp_packet.specs.MessageHeader.{header_of}
+use Rattle.session_laws.specs.Sessions.{is_up}
+use Rattle.journal_laws.specs.Planned.{fails_within}
+use Rattle.hci_tables.specs.declared.command.Command.{Command}
+use Rattle.hci_tables.specs.declared.command.Command.TheVariants.{Sync, Set}
+use Rattle.hci_tables.specs.Bodies.{body_of}
+use Rattle.hci_store.specs.Committing.{commit_writes}
+use Rattle.gate_answers.specs.declared.response.Response.{Response}
+use Rattle.gate_answers.specs.declared.response.Response.TheVariants as response
+use Rattle.gate_answers.specs.Answers.{body_in}
+use Rattle.gate_loopback.specs.Loopback.{posts_back}
+use Rattle.link_machine.specs.Machine.{Message, LinkInput, Turn, is_held, report}
+use Rattle.link_machine.specs.Machine.Turn.{Give, Hold, FetchMessage, Release}
+use Rattle.node_machine.specs.Parts.{Init, Creation, Notice, Desk, Core, Running, Port, Work, Deed}
+use Rattle.node_machine.specs.Parts.Deed.{Commits, Sends, SaysOk, Asks, Releases, Tells, IsAnswered, Drops, SetsErrors, Orders, Hears, GoesOn, Ends}
+use Rattle.node_machine.specs.Carrying.{end_of_node, noting, unless_cut, port_at, changed_if, with_port, with_desk, after_turn, turn_at, commit, done, all_done, needs, lack}
+use Rattle.node_machine.specs.Controller.{asked_at}
+use Rattle.node_machine.specs.HostReplies.{orders_of, is_same, learns, init_agreed, init_deeds, learned, response_deeds, ordered_deeds, is_gate, gate_of_pipe, host_deeds}
+use Rattle.node_machine.specs.Turns.{deeds_of, handles, holds_back, lets_go, have_turns, goes_through_ends, passes}
+use Rattle.node_machine.specs.Node.{NodeInput, input_at, has_come, all_come, with_older, is_late, reset_late, times_out, is_over, is_forgotten, forgotten, forgets, owed, all_owed, without_notice, after_sessions, synced, steps, begins_with}
+use Rattle.node_machine.specs.Node.NodeInput.{AtEnd, TimePasses}
+use Rattle.node_world.specs.World.{runs_on}
+use Rattle.node_readings.specs.Orders.{MayDo}
+use Rattle.node_readings.proofs.Replying.{ordered_may, learned_then}
+
+-- ## Deeds
+
+-- no notice comes of it
+abbrev pub IsUnnoticed : Deed → Type 0
+IsUnnoticed (Asks to message c) = ⊥
+IsUnnoticed (Tells to message) = ⊥
+IsUnnoticed _ = Unit {0}
+
+abbrev pub AreUnnoticed : List Deed → Type 0
+AreUnnoticed deeds = AllByRecursion IsUnnoticed deeds
+
+unnoticed-append : (ds es : List Deed) → AreUnnoticed ds → AreUnnoticed es → AreUnnoticed (ds ++ es)
+unnoticed-append [] es a b = b
+unnoticed-append (d ∷ ds) es a b = (a.0, unnoticed-append ds es a.1 b)
+
+either : (b : Bool) (d e : List Deed) → AreUnnoticed d → AreUnnoticed e → AreUnnoticed (cond b d e)
+either true d e x y = x
+either false d e x y = y
+
+-- what a host may do one after another gives it none
+may_unnoticed : (h : ℕ) (F : List ℕ → Type 0) (deeds : List Deed) → MayDo h F deeds → AreUnnoticed deeds
+may_unnoticed h F [] may = tt
+may_unnoticed h F (Commits c ∷ deeds) may = (tt, may_unnoticed h F deeds may)
+may_unnoticed h F (Sends to m ∷ deeds) may = (tt, may_unnoticed h (λ o. ⊥) deeds may.1)
+may_unnoticed h F (SaysOk ∷ deeds) may = (tt, may_unnoticed h F deeds may)
+may_unnoticed h F (Asks to message c ∷ deeds) may = absurd may
+may_unnoticed h F (Releases asker ∷ deeds) may = (tt, may_unnoticed h (λ o. ⊥) deeds may)
+may_unnoticed h F (Tells to message ∷ deeds) may = absurd may
+may_unnoticed h F (IsAnswered ∷ deeds) may = absurd may
+may_unnoticed h F (Drops pid ∷ deeds) may = (tt, may_unnoticed h F deeds may)
+may_unnoticed h F (SetsErrors errors ∷ deeds) may = (tt, may_unnoticed h (λ o. ⊥) deeds may)
+may_unnoticed h F (Orders order ∷ deeds) may = (tt, may_unnoticed h (λ o. ⊥) deeds may.2)
+may_unnoticed h F (Hears ∷ deeds) may = absurd may
+may_unnoticed h F (GoesOn i ∷ deeds) may = (tt, may_unnoticed h F deeds may.1)
+may_unnoticed h F (Ends e ∷ deeds) may = (tt, may_unnoticed h F deeds may.1)
+
+abbrev Any : List ℕ → Type 0
+Any order = Unit {0}
+
+learns_unnoticed : (core : Core) (c : Command) (behind : List Deed) → AreUnnoticed behind → AreUnnoticed (learns core c ++ behind)
+learns_unnoticed core c behind a = unnoticed-append (learns core c) behind (go _) a
+  where
+    go : (b : Bool) → AreUnnoticed (cond b (Commits c ∷ []) [])
+    go true = (tt, tt)
+    go false = tt
+
+agreed_unnoticed : (core : Core) (i : Init) (value : List ℕ) → AreUnnoticed (init_agreed core i value)
+agreed_unnoticed core i value = go (is_same core i value) (slice_get (orders_of i) (i.answered + 1)) refl refl
+  where
+    go : (b : Bool) (o : Option (List ℕ)) → is_same core i value ≡ b → slice_get (orders_of i) (i.answered + 1) ≡ o → AreUnnoticed (init_agreed core i value)
+    go true o e q = rw e (tt, tt)
+    go false None e q = rw (e, q) (learns_unnoticed core (Set core.node 0 1 (record { items = i.identity })) _ (tt, tt))
+    go false (Some order) e q = rw (e, q) (tt, (tt, tt))
+
+init_unnoticed : (core : Core) (code : ℕ) (value : List ℕ) (o : Option Init) → AreUnnoticed (init_deeds core code value o)
+init_unnoticed core code value None = tt
+init_unnoticed core code value (Some i) = either (eqb code 0) (init_agreed core i value) _ (agreed_unnoticed core i value) (tt, tt)
+
+response_unnoticed : (core : Core) (code : ℕ) (value : List ℕ) → AreUnnoticed (response_deeds core code value)
+response_unnoticed core code value = go core.command refl
+  where
+    go : (o : Option (List ℕ)) → core.command ≡ o → AreUnnoticed (response_deeds core code value)
+    go None q = rw q tt
+    go (Some order) q =
+        let learns_it : AreUnnoticed (cond (eqb code 0) (learned core order value) []) =
+        either (eqb code 0) (learned core order value) [] (first (learned core order value) (learned_then 0 Any core order value [] tt)) tt in
+        rw q (tt, unnoticed-append (cond (eqb code 0) (learned core order value) []) (init_deeds core code value core.init) learns_it
+        (init_unnoticed core code value core.init))
+      where
+        first : (ds : List Deed) → MayDo 0 Any (ds ++ []) → AreUnnoticed ds
+        first ds may = front ds [] (may_unnoticed 0 Any (ds ++ []) may)
+          where
+            front : (ds es : List Deed) → AreUnnoticed (ds ++ es) → AreUnnoticed ds
+            front [] es a = tt
+            front (d ∷ ds) es a = (a.0, front ds es a.1)
+
+host_unnoticed : (core : Core) (p : Port) (m : Message) → AreUnnoticed (host_deeds core p m)
+host_unnoticed core p m = go (is_up p.side.shdlc.phase) (header_of m.1) refl refl
+  where
+    go : (b : Bool) (x : Result (MessageKind × ℕ) MessageFault) → is_up p.side.shdlc.phase ≡ b → header_of m.1 ≡ x → AreUnnoticed (host_deeds core p m)
+    go false x u q = rw u (tt, tt)
+    go true (Ok (IsCommand, n)) u q = rw (u, q) (may_unnoticed 0 Any _ (ordered_may 0 Any core p.desk.errors m.0 n (body_in m.1)))
+    go true (Ok (IsEvent, n)) u q = rw (u, q) (either (is_gate 4 (gate_of_pipe core m.0) && posts_back m.1) (Sends core.node m ∷ []) [] (tt, tt) tt)
+    go true (Ok (IsResponse, n)) u q = rw (u, q) (either (eqb m.0 1) (response_deeds core n (body_in m.1)) [] (response_unnoticed core n (body_in m.1)) tt)
+    go true (Err f) u q = rw (u, q) tt
+
+releases_unnoticed : (cs : List Creation) → AreUnnoticed (map (λ (c : Creation). Releases c.asker) cs)
+releases_unnoticed [] = tt
+releases_unnoticed (c ∷ cs) = (tt, releases_unnoticed cs)
+
+owed_unnoticed : (r : Response) (o : Option Creation) → AreUnnoticed (owed r o)
+owed_unnoticed r None = tt
+owed_unnoticed r (Some c) = (tt, (tt, tt))
+
+flat_unnoticed : {X : Type 0} (f : X → List Deed) → ((x : X) → AreUnnoticed (f x)) → (xs : List X) → AreUnnoticed (flat_map f xs)
+flat_unnoticed f one [] = tt
+flat_unnoticed f one (x ∷ xs) = unnoticed-append (f x) (flat_map f xs) (one x) (flat_unnoticed f one xs)
+
+all_owed_unnoticed : (ports : List Port) → AreUnnoticed (all_owed ports)
+all_owed_unnoticed ports =
+    unnoticed-append _ _
+    (flat_unnoticed (λ p. owed response.NotConnected (asked_at p)) (λ p. owed_unnoticed response.NotConnected (asked_at p)) (filter (λ p. p.ended) ports))
+    (flat_unnoticed (λ p. owed response.Timeout (asked_at p)) (λ p. owed_unnoticed response.Timeout (asked_at p)) (filter (λ p. p.late) ports))
+
+synced_unnoticed : (core : Core) (input : NodeInput) (p : Port) → AreUnnoticed (synced core input p)
+synced_unnoticed core input p = go (input_at input p) refl
+  where
+    go : (o : Option LinkInput) → input_at input p ≡ o → AreUnnoticed (synced core input p)
+    go None q = rw q tt
+    go (Some i) q = by (report p.side i).sync refl
+      where
+        by : (o : Option ℕ) → (report p.side i).sync ≡ o → AreUnnoticed (synced core input p)
+        by None e = rw (q, e) tt
+        by (Some id) e = rw (q, e) (either _ (Commits (Sync p.desk.host id) ∷ []) [] (tt, tt) tt)
+
+-- ## Ends
+
+-- a host in a step, whose ends have no notice
+abbrev HasNone : Port → Type 0
+HasNone p = p.desk.notice ≡ None
+
+pub record IsHostWork (w : Work) : Type 0 where
+  pub host : (w.core.node == 0) ≡ false
+  pub none : AllByRecursion HasNone w.ports
+
+none_map : (f : Port → Port) → ((p : Port) → HasNone p → HasNone (f p)) → (ports : List Port) → AllByRecursion HasNone ports
+    → AllByRecursion HasNone (map f ports)
+none_map f one [] a = tt
+none_map f one (p ∷ ports) a = (one p a.0, none_map f one ports a.1)
+
+changed_none : (b : Bool) (f : Port → Port) (p : Port) → ((q : Port) → HasNone q → HasNone (f q)) → HasNone p → HasNone (changed_if b f p)
+changed_none true f p one a = one p a
+changed_none false f p one a = a
+
+port_none : (h : ℕ) (f : Port → Port) → ((q : Port) → HasNone q → HasNone (f q)) → (ports : List Port) → AllByRecursion HasNone ports
+    → AllByRecursion HasNone (with_port h f ports)
+port_none h f one ports a = none_map (λ (p : Port). changed_if (p.desk.host == h) f p) (λ p b. changed_none (p.desk.host == h) f p one b) ports a
+
+turn_none : (h : ℕ) (t : Turn) (w : Work) → IsHostWork w → IsHostWork (turn_at h t w)
+turn_none h t w a = record { host = a.host; none = port_none h (after_turn t) (λ p b. b) w.ports a.none }
+
+desk_none : (h : ℕ) (f : Desk → Desk) (w : Work) → ((d : Desk) → d.notice ≡ None → (f d).notice ≡ None) → IsHostWork w → IsHostWork (with_desk h f w)
+desk_none h f w one a = record { host = a.host; none = port_none h (λ p. record p { desk = f p.desk }) (λ p b. one p.desk b) w.ports a.none }
+
+commit_none : (c : Command) (w : Work) → IsHostWork w → IsHostWork (commit c w)
+commit_none c w a = go (fails_within (length (commit_writes w.core.journal w.core.tables (body_of c))) w.plan) refl
+  where
+    go : (b : Bool) → fails_within (length (commit_writes w.core.journal w.core.tables (body_of c))) w.plan ≡ b → IsHostWork (commit c w)
+    go true q = rw q (record { host = a.host; none = a.none })
+    go false q = rw q (record { host = a.host; none = a.none })
+
+done_none : (h : ℕ) (d : Deed) (w : Work) → IsUnnoticed d → IsHostWork w → IsHostWork (done h d w)
+done_none h (Commits c) w u a = commit_none c w a
+done_none h (Sends to m) w u a = turn_none to (Give m) w a
+done_none h SaysOk w u a = record { host = a.host; none = a.none }
+done_none h (Asks to message c) w u a = absurd u
+done_none h (Releases asker) w u a = turn_none asker Release w a
+done_none h (Tells to message) w u a = absurd u
+done_none h IsAnswered w u a = desk_none h (λ d. record d { notice = None }) w (λ d b. refl) a
+done_none h (Drops pid) w u a = record { host = a.host; none = a.none }
+done_none h (SetsErrors errors) w u a = desk_none h (λ d. record d { errors = errors }) w (λ d b. b) a
+done_none h (Orders message) w u a =
+    turn_none h (Give (1, message)) (record w { core = record w.core { command = Some message } }) (record { host = a.host; none = a.none })
+done_none h Hears w u a = record { host = a.host; none = a.none }
+done_none h (GoesOn i) w u a = record { host = a.host; none = a.none }
+done_none h (Ends e) w u a = record { host = a.host; none = a.none }
+
+unless_none : (f : Work → Work) (w : Work) → ((v : Work) → IsHostWork v → IsHostWork (f v)) → IsHostWork w → IsHostWork (unless_cut f w)
+unless_none f w one a = go w.cut
+  where
+    by : Bool → Work
+    by true = w
+    by false = f w
+
+    go : (b : Bool) → IsHostWork (by b)
+    go true = a
+    go false = one w a
+
+pub all_done_none : (h : ℕ) (deeds : List Deed) (w : Work) → AreUnnoticed deeds → IsHostWork w → IsHostWork (all_done h deeds w)
+all_done_none h [] w u a = a
+all_done_none h (d ∷ deeds) w u a = unless_none (all_done h deeds) (done h d w) (λ v b. all_done_none h deeds v u.1 b) (done_none h d w u.0 a)
+
+-- ## The pass over its ends
+
+deeds_unnoticed : (core : Core) (ports : List Port) (h : ℕ) (m : Message) → (core.node == 0) ≡ false → AreUnnoticed (deeds_of core ports h m)
+deeds_unnoticed core ports h m off = go (port_at ports h) refl
+  where
+    go : (o : Option Port) → port_at ports h ≡ o → AreUnnoticed (deeds_of core ports h m)
+    go None q = rw (off, q) tt
+    go (Some p) q = rw (off, q) (host_unnoticed core p m)
+
+handles_none : (h : ℕ) (m : Message) (deeds : List Deed) (w : Work) → AreUnnoticed deeds → IsHostWork w → IsHostWork (handles h m deeds w)
+handles_none h m deeds w u a =
+    let told : Work = noting (entry.Turn (end_of_node w.core h) m.0 m.1 ∷ []) w in
+    let fetched : Work = turn_at h FetchMessage told in
+    all_done_none h deeds (with_desk h (λ d. record d { holds = false }) fetched) u
+    (desk_none h (λ d. record d { holds = false }) fetched (λ d b. b) (turn_none h FetchMessage told (record { host = a.host; none = a.none })))
+
+holds_none : (h : ℕ) (short : ℕ × ℕ) (w : Work) → IsHostWork w → IsHostWork (holds_back h short w)
+holds_none h short w a = go (option_map_or (λ (p : Port). p.desk.holds) (port_at w.ports h) false) refl
+  where
+    go : (b : Bool) → option_map_or (λ (p : Port). p.desk.holds) (port_at w.ports h) false ≡ b → IsHostWork (holds_back h short w)
+    go true q = rw q (turn_none h (Hold true) w a)
+    go false q =
+        let told : Work = noting (entry.Held (end_of_node w.core h) short.0 short.1 ∷ []) w in
+        rw q (turn_none h (Hold true) (with_desk h (λ d. record d { holds = true }) told)
+        (desk_none h (λ d. record d { holds = true }) told (λ d b. b) (record { host = a.host; none = a.none })))
+
+lets_none : (h : ℕ) (w : Work) → IsHostWork w → IsHostWork (lets_go h w)
+lets_none h w a = go (option_map_or (λ (p : Port). is_held p.side) (port_at w.ports h) false) refl
+  where
+    go : (b : Bool) → option_map_or (λ (p : Port). is_held p.side) (port_at w.ports h) false ≡ b → IsHostWork (lets_go h w)
+    go true q = rw q (turn_none h (Hold false) w a)
+    go false q = rw q a
+
+turns_none : (h : ℕ) (messages : List Message) (w : Work) → IsHostWork w → IsHostWork (have_turns h messages w)
+turns_none h [] w a = lets_none h w a
+turns_none h (m ∷ messages) w a = go (lack w.ports (needs h (deeds_of w.core w.ports h m))) (λ v b. turns_none h messages v b)
+  where
+    deeds : List Deed
+    deeds = deeds_of w.core w.ports h m
+
+    by : Option (ℕ × ℕ) → Work
+    by None = unless_cut (have_turns h messages) (handles h m deeds w)
+    by (Some short) = holds_back h short w
+
+    go : (o : Option (ℕ × ℕ)) → ((v : Work) → IsHostWork v → IsHostWork (have_turns h messages v)) → IsHostWork (by o)
+    go None later =
+        unless_none (have_turns h messages) (handles h m deeds w) later (handles_none h m deeds w (deeds_unnoticed w.core w.ports h m a.host) a)
+    go (Some short) later = holds_none h short w a
+
+ends_none : (hosts : List ℕ) (w : Work) → IsHostWork w → IsHostWork (goes_through_ends hosts w)
+ends_none [] w a = a
+ends_none (h ∷ hosts) w a =
+    unless_none (goes_through_ends hosts) (have_turns h (option_map_or (λ (p : Port). p.side.got) (port_at w.ports h) []) w)
+    (λ v b. ends_none hosts v b) (turns_none h _ w a)
+
+-- ## Steps
+
+come_none : (p : Port) (o : Option LinkInput) → HasNone p → HasNone (has_come p o)
+come_none p None a = a
+come_none p (Some i) a = a
+
+older_none : (p : Port) → HasNone p → HasNone (with_older p)
+older_none p a = rw a refl
+
+late_none : (p : Port) → HasNone p → HasNone (reset_late p)
+late_none p a = go (is_late p) refl
+  where
+    go : (b : Bool) → is_late p ≡ b → HasNone (reset_late p)
+    go true q = rw q a
+    go false q = rw q a
+
+without_none : (p : Port) → HasNone p → HasNone (without_notice p)
+without_none p a = go (is_over p) refl
+  where
+    go : (b : Bool) → is_over p ≡ b → HasNone (without_notice p)
+    go true q = rw q refl
+    go false q = rw q a
+
+forgets_none : (ports : List Port) (p : Port) → HasNone p → HasNone (forgets ports p)
+forgets_none ports p a = go (is_forgotten ports (asked_at p)) refl
+  where
+    go : (b : Bool) → is_forgotten ports (asked_at p) ≡ b → HasNone (forgets ports p)
+    go true q = rw (q, a) refl
+    go false q = rw q a
+
+came_none : (input : NodeInput) (w : Work) → IsHostWork w → AllByRecursion HasNone (times_out input (all_come input w)).ports
+came_none (AtEnd h i) w a = none_map (λ p. has_come p (input_at (AtEnd h i) p)) (λ p b. come_none p (input_at (AtEnd h i) p) b) w.ports a.none
+came_none TimePasses w a =
+    none_map reset_late late_none _
+    (none_map with_older older_none _ (none_map (λ p. has_come p (input_at TimePasses p)) (λ p b. come_none p (input_at TimePasses p) b) w.ports a.none))
+
+sessions_node : (core : Core) (ports : List Port) → (core.node == 0) ≡ false → ((after_sessions core ports).node == 0) ≡ false
+sessions_node core ports a = go _ refl
+  where
+    go : (b : Bool) → list_any is_over ports ≡ b → ((after_sessions core ports).node == 0) ≡ false
+    go true q = rw q a
+    go false q = rw q a
+
+came_core : (input : NodeInput) (w : Work) → (times_out input (all_come input w)).core ≡ w.core
+came_core (AtEnd h i) w = refl
+came_core TimePasses w = refl
+
+pub steps_none : (input : NodeInput) (w : Work) → IsHostWork w → IsHostWork (steps input w)
+steps_none input w a =
+    let came : Work = times_out input (all_come input w) in
+    let left : List Port = map (forgets came.ports) came.ports in
+    let begun : Work = record came { core = after_sessions came.core came.ports; ports = map without_notice left } in
+    let so : (came.core.node == 0) ≡ false = ap (λ (c : Core). c.node == 0) (came_core input w) ∙ a.host in
+    let first : IsHostWork begun = record {
+      host = sessions_node came.core came.ports so;
+      none = none_map without_notice without_none left (none_map (forgets came.ports) (forgets_none came.ports) came.ports (came_none input w a));
+    } in
+    let freed : List Deed = forgotten came.ports in
+    let syncs : List Deed = flat_map (synced w.core input) w.ports in
+    let owing : List Deed = all_owed left in
+    let one : IsHostWork (all_done 0 syncs (all_done 0 freed begun)) =
+    all_done_none 0 syncs (all_done 0 freed begun) (flat_unnoticed (synced w.core input) (synced_unnoticed w.core input) w.ports)
+    (all_done_none 0 freed begun (releases_unnoticed _) first) in
+    unless_none passes (unless_cut (all_done 0 owing) (all_done 0 syncs (all_done 0 freed begun))) (λ v b. ends_none _ v b)
+    (unless_none (all_done 0 owing) (all_done 0 syncs (all_done 0 freed begun)) (λ v b. all_done_none 0 owing v (all_owed_unnoticed left) b) one)
+
+-- ## Hosts
+
+-- a host that runs has no notice of a controller
+abbrev pub IfNone : Option Running → Type 0
+IfNone None = Unit {0}
+IfNone (Some r) = AllByRecursion (λ (d : Desk). d.notice ≡ None) r.desks
+
+desks_none : (ports : List Port) → AllByRecursion HasNone ports → AllByRecursion (λ (d : Desk). d.notice ≡ None) (map (λ (p : Port). p.desk) ports)
+desks_none [] a = tt
+desks_none (p ∷ ports) a = (a.0, desks_none ports a.1)
+
+pub runs_none : (k : Work) → IsHostWork k → IfNone (runs_on k)
+runs_none k a = go k.cut
+  where
+    by : Bool → Option Running
+    by b = cond b None (Some (record { core = k.core; desks = map (λ (p : Port). p.desk) k.ports }))
+
+    go : (b : Bool) → IfNone (by b)
+    go true = tt
+    go false = desks_none k.ports a.none

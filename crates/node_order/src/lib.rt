@@ -1,0 +1,42 @@
+//! What a history of a world of nodes tells of each of its links, with ticks, cuts and activations: at each moment messages are in order.
+//! Nothing here runs.
+#![tactic(auto)]
+
+ghost use Rattle.std.specs.Prelude.{◌≡◌, ◌++◌, ℕ, false, List, Some};
+ghost use Rattle.std.specs.List.{list_any};
+ghost use Rattle.trace_model.specs.declared.entry.Entry.{Entry};
+ghost use Rattle.trace_model.specs.declared.line.Header.{Header};
+ghost use Rattle.trace_model.specs.declared.line.Line.{Line};
+ghost use Rattle.history.specs.Legal.{IsInOrder, is_chain_fault};
+ghost use Rattle.node_world.specs.World.{Site, new_world, site_at};
+ghost use Rattle.node_world.specs.NodeHistories.{FollowsNodes, NodeHistory, node_entries, world_after};
+ghost use Rattle.node_links.specs.Runs.{ArePlayable};
+ghost use Rattle.kept_laws.specs.Hosts.{AreHosts};
+ghost use Rattle.node_telling.specs.Telling.{IsTimely};
+ghost use Rattle.node_order.specs.Told.{IsTold};
+
+/// Whatever lines are played in a world of hosts from 01 to 07 that are all different, each end is new while its node doesn't run, a
+/// notice comes to its hundredth tick only at an end that is active and up, and none does at a host: so what is said of ticks of
+/// such worlds holds at each moment.
+pub fn worlds_stay_timely()
+    ensures { (hosts : List ℕ) (lines : List Line) → AreHosts hosts → ArePlayable lines → (h : ℕ) (s : Site) →
+        site_at (world_after (new_world hosts) lines).sites h ≡ Some s → IsTimely (world_after (new_world hosts) lines) h s }
+{}
+
+/// Over a whole history of such a world each link is what events of the law of one link make of a new one, each of which may happen, and
+/// what the history notes of the link is what that law notes of these events.
+pub fn histories_tell_of_each_link()
+    ensures { (header : Header) (lines : List Line) (t : NodeHistory) → FollowsNodes header lines t → AreHosts header.hosts.items →
+        ArePlayable lines → (h : ℕ) (s : Site) → site_at (world_after (new_world header.hosts.items) lines).sites h ≡ Some s →
+        IsTold h s.link (node_entries t) }
+{}
+
+/// At each moment of such a history, between any two entries, each end has got in each session a front of the good messages that the
+/// other end of its link sent in it; the good ones among those that count as acknowledged are a front of what the other got; and no
+/// more count than were sent. And no session ends by packets that can't be joined.
+pub fn messages_are_in_order_in_each_history()
+    ensures in_order { (header : Header) (lines : List Line) (t : NodeHistory) → FollowsNodes header lines t → AreHosts header.hosts.items →
+        ArePlayable lines → (front back : List Entry) → node_entries t ≡ front ++ back → IsInOrder front }
+    ensures joined { (header : Header) (lines : List Line) (t : NodeHistory) → FollowsNodes header lines t → AreHosts header.hosts.items →
+        ArePlayable lines → list_any is_chain_fault (node_entries t) ≡ false }
+{}
