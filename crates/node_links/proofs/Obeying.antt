@@ -72,23 +72,23 @@ agree = obey Agree (λ l r. subst Agree r.run.is (one_number new_line IsLine r.e
 
 -- ## All delivered, and both up
 
-abbrev DeliversToHost : Link → Type 0
+abbrev pub DeliversToHost : Link → Type 0
 DeliversToHost l =
     (events : List LinkEvent) → IsRunOf events l → IsQuiet l (losses_of new_line events) → AllDelivered (talk_now l.controller.side) (talk_now l.host.side)
 
-abbrev DeliversToController : Link → Type 0
+abbrev pub DeliversToController : Link → Type 0
 DeliversToController l =
     (events : List LinkEvent) → IsRunOf events l → IsQuiet l (losses_of new_line events) → AllDelivered (talk_now l.host.side) (talk_now l.controller.side)
 
 abbrev Settles : Link → Type 0
 Settles l = (events : List LinkEvent) → IsRunOf events l → IsSettled l (sure_of new_line events) → AreUpTogether l
 
-delivers_to_host : (l : Link) → DeliversToHost l
+pub delivers_to_host : (l : Link) → DeliversToHost l
 delivers_to_host l events r =
     let P : Link → Type 0 = λ k. IsQuiet k (losses_of new_line events) → AllDelivered (talk_now k.controller.side) (talk_now k.host.side) in
     subst P r.is (all_here new_line IsLine events r.allowed)
 
-delivers_to_controller : (l : Link) → DeliversToController l
+pub delivers_to_controller : (l : Link) → DeliversToController l
 delivers_to_controller l events r =
     let P : Link → Type 0 = λ k. IsQuiet k (losses_of new_line events) → AllDelivered (talk_now k.host.side) (talk_now k.controller.side) in
     subst P r.is (all_there new_line IsLine events r.allowed)

@@ -6,3 +6,4 @@ pub mod Strangers
 pub mod Lines
 pub mod Prefix
 pub mod Ordered
+pub mod Quiet

@@ -8,14 +8,14 @@ use Rattle.trace_model.specs.declared.line.Line.{Line}
 use Rattle.history.specs.Legal.{IsInOrder, is_chain_fault}
 use Rattle.history_laws.proofs.Ordered.{AtEnd}
 use Rattle.node_world.specs.World.{Site, NodeWorld, new_world, site_at}
-use Rattle.node_world.specs.NodeHistories.{FollowsNodes, NodeHistory, node_entries, world_after}
+use Rattle.node_world.specs.NodeHistories.{FollowsNodes, NodeHistory, node_entries, occurrences_in}
 use Rattle.node_links.specs.Runs.{ArePlayable}
 use Rattle.kept_laws.specs.Hosts.{AreHosts}
 use Rattle.node_telling.specs.Telling.{of_link, hosts_in}
-use Rattle.node_order.specs.Told.{IsTold}
 use Rattle.node_order.proofs.Knowing.{Knows}
 use Rattle.node_order.proofs.Strangers.{IsStrange}
-use Rattle.node_order.proofs.Lines.{IsSo, history_so}
+use Rattle.node_order.specs.Told.{world_behind}
+use Rattle.node_order.proofs.Lines.{IsSo, all_so_behind}
 use Rattle.node_order.proofs.Prefix.{at_moment, at_none, told_chains, no_faults}
 
 -- a link of the world, or none with this number
@@ -65,9 +65,11 @@ module _ (hosts : List ℕ) (t : List Entry) (w : NodeWorld) (a : IsSo hosts t w
 pub in_order : (header : Header) (lines : List Line) (t : NodeHistory) → FollowsNodes header lines t → AreHosts header.hosts.items → ArePlayable lines
     → (front back : List Entry) → node_entries t ≡ front ++ back → IsInOrder front
 in_order header lines t follows are p front back q =
-    in_order_so header.hosts.items (node_entries t) (world_after (new_world header.hosts.items) lines) (history_so header lines t follows are p) front back q
+    in_order_so header.hosts.items (node_entries t) (world_behind (new_world header.hosts.items) (occurrences_in t))
+    (all_so_behind header lines t follows are p) front back q
 
 pub joined : (header : Header) (lines : List Line) (t : NodeHistory) → FollowsNodes header lines t → AreHosts header.hosts.items → ArePlayable lines
     → list_any is_chain_fault (node_entries t) ≡ false
 joined header lines t follows are p =
-    joined_so header.hosts.items (node_entries t) (world_after (new_world header.hosts.items) lines) (history_so header lines t follows are p)
+    joined_so header.hosts.items (node_entries t) (world_behind (new_world header.hosts.items) (occurrences_in t))
+    (all_so_behind header lines t follows are p)

@@ -60,18 +60,26 @@ acked_kept n h e q (x ∷ t) before = go (is_of h (said x)) refl (acked_kept n h
         let off : acked_after n before (said_of e x) ≡ before = ap (acked_after n before) (unheard h e (said x) q r) in
         rw r (ap (λ b. more b t) off ∙ later before)
 
--- where the entries of its link are alike, so are those of an end
-pub end_alike : (t v : List Entry) (e : End) (n : ℕ) → of_link e.link t ≡ of_link e.link v → AtEnd v e n → AtEnd t e n
+-- where the entries of its link are alike, so is what is read of an end
+pub sent_alike : (t v : List Entry) (e : End) (n : ℕ) → of_link e.link t ≡ of_link e.link v → sent_in t e n ≡ sent_in v e n
+sent_alike t v e n q =
+    filter_kept (sent_by n) refl e.link e refl t
+    ∙ (ap (λ x. filter_map (λ y. sent_by n (said_of e y)) x) q ∙ sym (filter_kept (sent_by n) refl e.link e refl v))
+
+pub got_alike : (t v : List Entry) (e : End) (n : ℕ) → of_link e.link t ≡ of_link e.link v → got_in t e n ≡ got_in v e n
+got_alike t v e n q =
+    filter_kept (got_by n) refl e.link e refl t
+    ∙ (ap (λ x. filter_map (λ y. got_by n (said_of e y)) x) q ∙ sym (filter_kept (got_by n) refl e.link e refl v))
+
+pub acked_alike : (t v : List Entry) (e : End) (n : ℕ) → of_link e.link t ≡ of_link e.link v → acked_in t e n ≡ acked_in v e n
+acked_alike t v e n q =
+    acked_kept n e.link e refl t 0
+    ∙ (ap (λ x. fold (λ before y. acked_after n before (said_of e y)) 0 x) q ∙ sym (acked_kept n e.link e refl v 0))
+
+end_alike : (t v : List Entry) (e : End) (n : ℕ) → of_link e.link t ≡ of_link e.link v → AtEnd v e n → AtEnd t e n
 end_alike t v e n q a =
-    let h : ℕ = e.link in
-    let S : List Entry → _ = λ x. filter_map (λ y. sent_by n (said_of e y)) x in
-    let G : List Entry → _ = λ x. filter_map (λ y. got_by n (said_of (other_end e) y)) x in
-    let A : List Entry → ℕ = λ x. fold (λ before y. acked_after n before (said_of e y)) 0 x in
-    read_as t e n (sent_in v e n) (got_in v (other_end e) n) (acked_in v e n)
-    (filter_kept (sent_by n) refl h e refl t ∙ (ap S q ∙ sym (filter_kept (sent_by n) refl h e refl v)))
-    (acked_kept n h e refl t 0 ∙ (ap A q ∙ sym (acked_kept n h e refl v 0)))
-    (filter_kept (got_by n) refl h (other_end e) refl t ∙ (ap G q ∙ sym (filter_kept (got_by n) refl h (other_end e) refl v)))
-    a
+    read_as t e n (sent_in v e n) (got_in v (other_end e) n) (acked_in v e n) (sent_alike t v e n q) (acked_alike t v e n q)
+    (got_alike t v (other_end e) n q) a
 
 -- ## Fronts of what is noted
 

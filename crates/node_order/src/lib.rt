@@ -9,26 +9,34 @@ ghost use Rattle.trace_model.specs.declared.line.Header.{Header};
 ghost use Rattle.trace_model.specs.declared.line.Line.{Line};
 ghost use Rattle.history.specs.Legal.{IsInOrder, is_chain_fault};
 ghost use Rattle.node_world.specs.World.{Site, new_world, site_at};
-ghost use Rattle.node_world.specs.NodeHistories.{FollowsNodes, NodeHistory, node_entries, world_after};
+ghost use Rattle.node_world.specs.Lines.{Occurrence};
+ghost use Rattle.node_world.specs.NodeHistories.{FollowsNodes, NodeHistory, entries_in, node_entries, occurrences_in, world_after};
 ghost use Rattle.node_links.specs.Runs.{ArePlayable};
 ghost use Rattle.kept_laws.specs.Hosts.{AreHosts};
 ghost use Rattle.node_telling.specs.Telling.{IsTimely};
-ghost use Rattle.node_order.specs.Told.{IsTold};
+ghost use Rattle.node_order.specs.Told.{AreReadOff, HasDelivered, IsTold, world_behind};
 
-/// Whatever lines are played in a world of hosts from 01 to 07 that are all different, each end is new while its node doesn't run, a
-/// notice comes to its hundredth tick only at an end that is active and up, and none does at a host: so what is said of ticks of
-/// such worlds holds at each moment.
+/// At the end of each event of a history of hosts from 01 to 07 that are all different, each end is new while its node doesn't run, a
+/// notice comes to its hundredth tick only at an end that is active and up, and none does at a host: so what is said of ticks of such
+/// worlds holds at each moment. And behind all events of a history its world is the one behind its lines.
 pub fn worlds_stay_timely()
-    ensures { (hosts : List ℕ) (lines : List Line) → AreHosts hosts → ArePlayable lines → (h : ℕ) (s : Site) →
-        site_at (world_after (new_world hosts) lines).sites h ≡ Some s → IsTimely (world_after (new_world hosts) lines) h s }
+    ensures timely { (header : Header) (lines : List Line) (t : NodeHistory) → FollowsNodes header lines t → AreHosts header.hosts.items →
+        ArePlayable lines → (front back : List Occurrence) → occurrences_in t ≡ front ++ back → (h : ℕ) (s : Site) →
+        site_at (world_behind (new_world header.hosts.items) front).sites h ≡ Some s → IsTimely (world_behind (new_world header.hosts.items) front) h s }
+    ensures last { (header : Header) (lines : List Line) (t : NodeHistory) → FollowsNodes header lines t →
+        world_behind (new_world header.hosts.items) (occurrences_in t) ≡ world_after (new_world header.hosts.items) lines }
 {}
 
-/// Over a whole history of such a world each link is what events of the law of one link make of a new one, each of which may happen, and
-/// what the history notes of the link is what that law notes of these events.
+/// At the end of each event of such a history each link is what events of the law of one link make of a new one, each of which may
+/// happen, and what the history told of the link until then is what that law notes of these events. So what the ends of a link have of
+/// each session, the messages sent and got and how many are acknowledged, is what is read off the entries.
 pub fn histories_tell_of_each_link()
-    ensures { (header : Header) (lines : List Line) (t : NodeHistory) → FollowsNodes header lines t → AreHosts header.hosts.items →
-        ArePlayable lines → (h : ℕ) (s : Site) → site_at (world_after (new_world header.hosts.items) lines).sites h ≡ Some s →
-        IsTold h s.link (node_entries t) }
+    ensures told { (header : Header) (lines : List Line) (t : NodeHistory) → FollowsNodes header lines t → AreHosts header.hosts.items →
+        ArePlayable lines → (front back : List Occurrence) → occurrences_in t ≡ front ++ back → (h : ℕ) (s : Site) →
+        site_at (world_behind (new_world header.hosts.items) front).sites h ≡ Some s → IsTold h s.link (entries_in front) }
+    ensures read { (header : Header) (lines : List Line) (t : NodeHistory) → FollowsNodes header lines t → AreHosts header.hosts.items →
+        ArePlayable lines → (front back : List Occurrence) → occurrences_in t ≡ front ++ back → (h : ℕ) (s : Site) →
+        site_at (world_behind (new_world header.hosts.items) front).sites h ≡ Some s → AreReadOff (entries_in front) h s.link }
 {}
 
 /// At each moment of such a history, between any two entries, each end has got in each session a front of the good messages that the
@@ -39,4 +47,13 @@ pub fn messages_are_in_order_in_each_history()
         ArePlayable lines → (front back : List Entry) → node_entries t ≡ front ++ back → IsInOrder front }
     ensures joined { (header : Header) (lines : List Line) (t : NodeHistory) → FollowsNodes header lines t → AreHosts header.hosts.items →
         ArePlayable lines → list_any is_chain_fault (node_entries t) ≡ false }
+{}
+
+/// At the end of each event of such a history, where both ends of a link are up in one session, no frame but of activation was lost and
+/// no RNR made since the first of them came up in it, and both wires hold none but of activation, the other end got all good messages
+/// that an end sent in that session, and all that it sent are acknowledged, as the history notes it.
+pub fn quiet_links_have_delivered_all_in_each_history()
+    ensures { (header : Header) (lines : List Line) (t : NodeHistory) → FollowsNodes header lines t → AreHosts header.hosts.items →
+        ArePlayable lines → (front back : List Occurrence) → occurrences_in t ≡ front ++ back → (h : ℕ) (s : Site) →
+        site_at (world_behind (new_world header.hosts.items) front).sites h ≡ Some s → HasDelivered (entries_in front) h s.link }
 {}

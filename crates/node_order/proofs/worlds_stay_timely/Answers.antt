@@ -1,10 +1,15 @@
 use Rattle.node_world.specs.World.{new_world}
-use Rattle.node_world.specs.NodeHistories.{world_after}
-use Rattle.node_order.proofs.Lines.{noted_from, IsSo, world_so}
+use Rattle.node_world.specs.NodeHistories.{entries_in}
+use Rattle.node_order.specs.Told.{world_behind}
+use Rattle.node_order.proofs.Lines.{IsSo, history_so, behind_history}
 use Rattle.node_order.proofs.Ticking.{timely}
 use Rattle.node_order.proofs.worlds_stay_timely.Goals as goal
 
-pub returns : goal.returns
-returns c = λ hosts lines are playable h s found.
-    let a : IsSo hosts (noted_from (new_world hosts) lines) (world_after (new_world hosts) lines) = world_so hosts lines are playable in
-    timely (world_after (new_world hosts) lines) (noted_from (new_world hosts) lines) h s a.up found (a.each h s found)
+pub returns-clause-timely : goal.returns-clause-timely
+returns-clause-timely c = λ header lines t follows are playable front back q h s found.
+    let a : IsSo header.hosts.items (entries_in front) (world_behind (new_world header.hosts.items) front) =
+    history_so header lines t follows are playable front back q in
+    timely (world_behind (new_world header.hosts.items) front) (entries_in front) h s a.up found (a.each h s found)
+
+pub returns-clause-last : goal.returns-clause-last
+returns-clause-last c = behind_history

@@ -1,0 +1,95 @@
+-- What the ends of a link have of their sessions is read off a history, and so is that a quiet link has delivered all.
+use Rattle.std.proofs.Common.{◌≡◌, ℕ, ◌==◌, Bool, true, false, cond, List, length, refl, ap, sym, subst, ◌∙◌}
+use Rattle.trace_model.specs.declared.entry.Entry.{Entry}
+use Rattle.hcp_packet.specs.Packets.{good_of}
+use Rattle.shdlc_core.specs.declared.answers.LinkState.TheVariants.{Up}
+use Rattle.link_machine.specs.Machine.{Message, messages_got, whole_among}
+use Rattle.message_link.specs.Links.{Talk, Half, Link, LinkEvent, after, number_of, talk_now, talk_of, ended_talk}
+use Rattle.message_link.specs.Links.IsStart.{IsLine}
+use Rattle.message_link.specs.Quiet.{AllDelivered, IsQuiet, losses_of}
+use Rattle.message_link.proofs.Whole.{one_number}
+use Rattle.link_entries.specs.Entries.{End as Side, Entry as Noted, entries, trace}
+use Rattle.link_entries.specs.Entries.End.{Controller, Host}
+use Rattle.link_entries.specs.Sessions.{IsRead}
+use Rattle.link_entries.proofs.Books.{up_talk}
+use Rattle.link_entries.proofs.Lasting.{same_number}
+use Rattle.link_entries.proofs.Running.{read_here, read_there}
+use Rattle.history.specs.Filters.{sent_in, got_in, acked_in}
+use Rattle.history.specs.Legal.{IsDelivered}
+use Rattle.history.specs.Steps.{end_of, entries_for}
+use Rattle.history_laws.proofs.Noted.{sent-all, got-all, acked-all}
+use Rattle.node_world.specs.World.{end_c, end_h}
+use Rattle.node_links.specs.Runs.{IsRunOf, new_line}
+use Rattle.node_links.proofs.Obeying.{delivers_to_host, delivers_to_controller}
+use Rattle.node_telling.specs.Telling.{of_link}
+use Rattle.node_order.specs.Told.{IsTold, IsReadOff, AreReadOff, HasDelivered}
+use Rattle.node_order.proofs.Prefix.{sent_alike, got_alike, acked_alike}
+
+module _ (h : ℕ) (l : Link) (t : List Entry) (a : IsTold h l t) where
+  abbrev notes : List Noted
+  notes = entries new_line a.events
+
+  read_controller : (n : ℕ) → IsReadOff t (end_c h) n (talk_of l.controller n)
+  read_controller n =
+      let P : Link → Type 0 = λ k. IsRead notes Controller n (talk_of k.controller n) in
+      let r : IsRead notes Controller n (talk_of l.controller n) = subst P a.run.is (read_here new_line IsLine a.events a.run.allowed n) in
+      record {
+        sent = sent_alike t (entries_for h notes) (end_c h) n a.told ∙ (sent-all h notes Controller n ∙ r.sent);
+        got = got_alike t (entries_for h notes) (end_c h) n a.told ∙ (got-all h notes Controller n ∙ r.got);
+        acked = acked_alike t (entries_for h notes) (end_c h) n a.told ∙ (acked-all h notes Controller n ∙ r.acked);
+      }
+
+  read_host : (n : ℕ) → IsReadOff t (end_h h) n (talk_of l.host n)
+  read_host n =
+      let P : Link → Type 0 = λ k. IsRead notes Host n (talk_of k.host n) in
+      let r : IsRead notes Host n (talk_of l.host n) = subst P a.run.is (read_there new_line IsLine a.events a.run.allowed n) in
+      record {
+        sent = sent_alike t (entries_for h notes) (end_h h) n a.told ∙ (sent-all h notes Host n ∙ r.sent);
+        got = got_alike t (entries_for h notes) (end_h h) n a.told ∙ (got-all h notes Host n ∙ r.got);
+        acked = acked_alike t (entries_for h notes) (end_h h) n a.told ∙ (acked-all h notes Host n ∙ r.acked);
+      }
+
+  pub read_off : AreReadOff t h l
+  read_off = record { controller = read_controller; host = read_host }
+
+  -- the session that goes on at an end
+  talk_up : (k : Half) → k.side.shdlc.phase ≡ Up → talk_of k (number_of k) ≡ talk_now k.side
+  talk_up k up =
+      up_talk k (number_of k) up
+      ∙ ap (λ b. cond b (talk_now k.side) (ended_talk k.past (number_of k))) (same_number (number_of k))
+
+  numbers : l.controller.side.shdlc.phase ≡ Up → l.host.side.shdlc.phase ≡ Up → number_of l.controller ≡ number_of l.host
+  numbers =
+      let P : Link → Type 0 = λ k. k.controller.side.shdlc.phase ≡ Up → k.host.side.shdlc.phase ≡ Up → number_of k.controller ≡ number_of k.host in
+      subst P a.run.is (one_number new_line IsLine a.events a.run.allowed)
+
+  -- both ends have this of the session that goes on
+  near_now : l.controller.side.shdlc.phase ≡ Up → IsReadOff t (end_c h) (number_of l.controller) (talk_now l.controller.side)
+  near_now up =
+      let P : Talk → Type 0 = λ k. IsReadOff t (end_c h) (number_of l.controller) k in subst P (talk_up l.controller up) (read_controller (number_of l.controller))
+
+  far_now : l.controller.side.shdlc.phase ≡ Up → l.host.side.shdlc.phase ≡ Up → IsReadOff t (end_h h) (number_of l.controller) (talk_now l.host.side)
+  far_now near up =
+      let P : Talk → Type 0 = λ k. IsReadOff t (end_h h) (number_of l.host) k in
+      let Q : ℕ → Type 0 = λ n. IsReadOff t (end_h h) n (talk_now l.host.side) in
+      subst Q (sym (numbers near up)) (subst P (talk_up l.host up) (read_host (number_of l.host)))
+
+  pub delivered : HasDelivered t h l
+  delivered = record {
+    to_host = λ events r q.
+        let near = near_now q.controller in
+        let far = far_now q.controller q.host in
+        let all : AllDelivered (talk_now l.controller.side) (talk_now l.host.side) = delivers_to_host l events r q in
+        record {
+          got = far.got ∙ (all.got ∙ ap good_of (sym near.sent));
+          acked = near.acked ∙ (all.acked ∙ ap (λ (ms : List Message). length ms) (sym near.sent));
+        };
+    to_controller = λ events r q.
+        let near = near_now q.controller in
+        let far = far_now q.controller q.host in
+        let all : AllDelivered (talk_now l.host.side) (talk_now l.controller.side) = delivers_to_controller l events r q in
+        record {
+          got = near.got ∙ (all.got ∙ ap good_of (sym far.sent));
+          acked = far.acked ∙ (all.acked ∙ ap (λ (ms : List Message). length ms) (sym far.sent));
+        };
+  }
