@@ -98,7 +98,7 @@ own_grows n who l NoInput ts GoesOut o a h =
 -- ## An end that is Up behind a step in which no session began
 
 -- the new end of a node that lost power isn't Up
-new_not_up : (r : Role) → CanEnd r CutOff → IsNotUp (new_link_end (renewed r)).shdlc
+pub new_not_up : (r : Role) → CanEnd r CutOff → IsNotUp (new_link_end (renewed r)).shdlc
 new_not_up Bare can u = absurd can
 new_not_up (Clf s) can u = cc
 new_not_up (Uicc s) can u = cc

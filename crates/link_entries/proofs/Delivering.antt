@@ -8,10 +8,8 @@ use Rattle.session_laws.specs.Sessions.LinkEvent.{AtController as CoreAtControll
 use Rattle.session_laws.specs.Losses.{Losses, no_losses, sans, noted_here, noted_turns, noted_tick, noted_if_waiting, noted_aged, noted_event, losses_after}
 use Rattle.session_laws.proofs.Sending.{SafeLink}
 use Rattle.session_laws.proofs.Steps.{safe_aged, safe_turns, safe_exchanged, tick_or_cut, tick_if_waiting}
-use Rattle.link_machine.specs.Machine.{Role}
-use Rattle.link_machine.specs.Machine.Role.{Bare, Clf, Uicc}
 use Rattle.link_machine.proofs.Runs.{Sound}
-use Rattle.message_link.specs.Links.{Talk, Half, Link, IsStart, EndEvent, LinkEvent, exchanged, number_of, happens_here, happens, all_here, ticks_here, aged, after, talk_now, talk_of, CanStart, IsClf, IsUicc, IsNode, AreOwn, IsEvent, AllAllowed}
+use Rattle.message_link.specs.Links.{Talk, Half, Link, IsStart, EndEvent, LinkEvent, exchanged, number_of, happens_here, happens, all_here, ticks_here, aged, after, talk_now, talk_of, CanStart, IsUicc, IsNode, AreOwn, IsEvent, AllAllowed}
 use Rattle.message_link.specs.Links.IsStart.{IsBare, IsLine}
 use Rattle.message_link.specs.Links.Comes.{Starts}
 use Rattle.message_link.specs.Links.EndEvent.{Step}
@@ -20,7 +18,7 @@ use Rattle.message_link.specs.Projection.{core_of, core_here, core_all, core_tic
 use Rattle.message_link.specs.Quiet.{losses_of, IsQuiet, AllDelivered}
 use Rattle.message_link.proofs.Project.{Tells}
 use Rattle.message_link.proofs.Finishing.{step_tick, all_here-append}
-use Rattle.message_link.proofs.Runs.{Good, Reached, safe_reached, rests_of, reached_more, event_step, own_here, own_turns, all_step, rest_both, tells_same, started_clf, can_start}
+use Rattle.message_link.proofs.Runs.{Good, Reached, safe_reached, rests_of, reached_more, event_step, own_here, own_turns, all_step, rest_both, tells_same, started_clf, clf_starts, can_start}
 use Rattle.message_link.proofs.Quiet.{all_here as delivered_here, all_there as delivered_there}
 use Rattle.message_link.proofs.Whole.{start_good, start_reached, one_number}
 use Rattle.link_entries.specs.Entries.{End, Entry, far, here_entries, all_entries, aged_entries, tick_entries, event_entries, entries, first_entries, trace}
@@ -229,11 +227,6 @@ event_knows t n l (Activate power c id h) a g r s b =
     ∙ (ap (λ z. losses_after n1 z fs) (sym one.core) ∙ there_losses n1 (core_of near) (core_here k y))) in
     as_is (t ++ (u ++ v)) ((t ++ u) ++ v) (losses_after n (core_of l) (es ++ fs)) n2 (happens l (Activate power c id h)) (sym (append_assoc t u v)) flag
     (swap ((t ++ u) ++ v) n2 (happens_here k y) second)
-  where
-    clf_starts : (r f : Role) → IsClf r → CanStart r f
-    clf_starts Bare f i = absurd i
-    clf_starts (Clf s) f i = tt
-    clf_starts (Uicc s) f i = absurd i
 
 -- ## Runs
 

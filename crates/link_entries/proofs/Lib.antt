@@ -13,7 +13,9 @@ pub mod Lasting
 pub mod Completing
 pub mod Quieting
 pub mod Delivering
+pub mod Hearing
 pub mod Sparing
 pub mod Settling
 pub mod Together
+pub mod Heard
 mod Examples

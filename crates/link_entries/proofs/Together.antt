@@ -1,6 +1,7 @@
 -- A reset whose answer nothing withheld has brought both ends up.
 use Rattle.std.proofs.Common.{◌≡◌, ℕ, Bool, true, false, List, [], ◌∷◌, ◌++◌, map, Option, Some, refl, ap, sym, subst, ◌∙◌}
 use Rattle.std.specs.Prelude.{is_some, nat_lt}
+use Rattle.std.specs.List.{list_any}
 use Rattle.std.proofs.lemmas.Bool.{true≢false}
 use Rattle.session_laws.specs.Sessions.{OnWire, Link as CoreLink, Turn as CoreTurn, EndEvent as CoreEndEvent, LinkEvent as CoreLinkEvent, exchanged as core_exchanged, aged as core_aged, happens as core_happens, happens_here as core_happens_here, all_here as core_all_here, after as core_after, ticks_or_cut as core_ticks_or_cut, ticks_if_waiting as core_ticks_if_waiting}
 use Rattle.session_laws.specs.Sessions.LinkEvent.{AtController as CoreAtController, AtHost as CoreAtHost, Tick as CoreTick, TickWithout as CoreTickWithout}
@@ -16,7 +17,7 @@ use Rattle.message_link.specs.Links.Comes.{AsksReset}
 use Rattle.message_link.specs.Links.EndEvent.{Step}
 use Rattle.message_link.specs.Links.LinkEvent.{AtController, AtHost, Ticks, TicksWithout, Activate}
 use Rattle.message_link.specs.Projection.{core_of, core_here, core_all, core_turns, core_tick, core_tick_rest, core_event, core_events}
-use Rattle.message_link.specs.Settled.{AreUpTogether}
+use Rattle.message_link.specs.Settled.{AreUpTogether as LinkTogether}
 use Rattle.message_link.proofs.Project.{Tells, turned_role, moved_role}
 use Rattle.message_link.proofs.Finishing.{reset_tells, step_tick, tick_open, all_here-append}
 use Rattle.message_link.proofs.Quiet.{up_together}
@@ -24,7 +25,7 @@ use Rattle.message_link.proofs.Runs.{Good, Reached, safe_reached, rests_of, reac
 use Rattle.message_link.proofs.Whole.{start_good, start_reached}
 use Rattle.link_entries.specs.Entries.{End, Entry, told_of, rest_entries, here_entries, all_entries, aged_entries, tick_entries, event_entries, entries, first_entries}
 use Rattle.link_entries.specs.Entries.End.{Controller, Host}
-use Rattle.link_entries.specs.Settled.{FindsReady, IsReset, IsSettledSince}
+use Rattle.link_entries.specs.Settled.{withholds, FindsReady, IsReset}
 use Rattle.link_entries.proofs.Running.{before_here, before_there, host_here, Noted, note_event, start_noted}
 use Rattle.link_entries.proofs.Noting.{reset_role}
 use Rattle.link_entries.proofs.Stepping.{host_finished}
@@ -155,7 +156,7 @@ open_as : (h k : Half) → h ≡ k → is_open k.side.role ≡ true → is_open 
 open_as h k q o = ap (λ (z : Half). is_open z.side.role) q ∙ o
 
 -- the tick of an end leaves the other one as it is
-ticks_host : (l : Link) (ts : List Turn) (ending : Ending) → (ticks_here l ts ending).host ≡ l.host
+pub ticks_host : (l : Link) (ts : List Turn) (ending : Ending) → (ticks_here l ts ending).host ≡ l.host
 ticks_host l ts ending =
     let b : Bool = is_some (ended_by l.controller.side HasTick) in
     host_finished (with_ended l b) (turned (after_input l.controller.side HasTick) ts) ending ∙ ended_host l b
@@ -350,19 +351,17 @@ run_sure (x ∷ before) e behind t s l a g r n is sp st =
     sure_first s l x (before ++ e ∷ behind) ev.core
     ∙ run_sure before e behind (t ++ event_entries l x) (sure_after s (core_of l) (core_event l x)) m a.1 ev.good next (note_event t l x a.0 g r n).noted is sp st
 
-after-append : (es fs : List LinkEvent) (l : Link) → after l (es ++ fs) ≡ after (after l es) fs
-after-append [] fs l = refl
-after-append (e ∷ es) fs l = after-append es fs (happens l e)
-
+-- where nothing withheld the answer to a reset, and both wires are empty now
 pub together : (l : Link) → IsStart l → (before : List LinkEvent) (reset : LinkEvent) (behind : List LinkEvent) → AllAllowed l (before ++ reset ∷ behind)
-    → IsSettledSince (after l before) reset behind → AreUpTogether (after l (before ++ reset ∷ behind))
-together l s before reset behind a q =
-    let none = none_withholds (entries (happens (after l before) reset) behind) q.undisturbed in
-    let whole : after l (before ++ reset ∷ behind) ≡ after (happens (after l before) reset) behind = after-append before (reset ∷ behind) l in
+    → IsReset (after l before) reset → list_any withholds (entries (happens (after l before) reset) behind) ≡ false
+    → (after l (before ++ reset ∷ behind)).to_controller ≡ [] → (after l (before ++ reset ∷ behind)).to_host ≡ []
+    → LinkTogether (after l (before ++ reset ∷ behind))
+together l s before reset behind a asked undisturbed near there =
+    let none = none_withholds (entries (happens (after l before) reset) behind) undisturbed in
     up_together l s (before ++ reset ∷ behind) a
     (record {
-      undisturbed = run_sure before reset behind (first_entries l.controller.side.role) false l a (start_good l s) (start_reached l s) (start_noted l s) q.asked
-          none.0 none.1;
-      to_controller = ap (λ (m : Link). sans m.to_controller) whole ∙ ap sans q.to_controller;
-      to_host = ap (λ (m : Link). sans m.to_host) whole ∙ ap sans q.to_host;
+      undisturbed = run_sure before reset behind (first_entries l.controller.side.role) false l a (start_good l s) (start_reached l s) (start_noted l s) asked none.0
+          none.1;
+      to_controller = ap sans near;
+      to_host = ap sans there;
     })

@@ -1,15 +1,18 @@
 -- Where nothing kept the answer to a reset back, and nothing is on its way, both ends are up together.
-use Rattle.std.specs.Prelude.{◌≡◌, Bool, true, false, List, [], None}
+use Rattle.std.specs.Prelude.{◌≡◌, ℕ, Bool, true, false, List, [], Some, None}
 use Rattle.std.specs.List.{list_any}
 use Rattle.shdlc_core.specs.Machine.{is_waiting}
 use Rattle.link_machine.specs.Machine.{is_open, reset_refusal}
 use Rattle.session_laws.specs.Sessions.{is_rset}
-use Rattle.message_link.specs.Links.{Link, LinkEvent, exchanged, happens, after}
+use Rattle.message_link.specs.Links.{Link, LinkEvent, exchanged, happens}
 use Rattle.message_link.specs.Links.Ending.{GoesOut}
 use Rattle.message_link.specs.Links.Comes.{AsksReset}
 use Rattle.message_link.specs.Links.EndEvent.{Step}
 use Rattle.message_link.specs.Links.LinkEvent.{AtController, AtHost}
 use Rattle.link_entries.specs.Entries.{Entry, entries}
+use Rattle.link_entries.specs.Entries.End.{Controller, Host}
+use Rattle.link_entries.specs.Reading.{nothing_seen, see_all}
+use Rattle.link_entries.specs.Sessions.{session_in}
 use Rattle.link_entries.specs.Entries.Entry.{Emit, Lost, Restarted, Cut}
 
 -- a frame is lost, RSET is put on the link, or an end is started, stopped or cut off, which empties both wires
@@ -32,10 +35,16 @@ IsReset l (AtController (Step (AsksReset window) turns GoesOut)) = FindsReady l
 IsReset l (AtHost (Step (AsksReset window) turns GoesOut)) = FindsReady (exchanged l)
 IsReset l _ = ⊥
 
--- On this link there was such a reset, nothing that was noted in the events behind it withholds its answer, and now both wires are
--- empty.
-pub record IsSettledSince (l : Link) (reset : LinkEvent) (behind : List LinkEvent) : Type 0 where
+-- t is all that is noted of a link up to now. Where l is the link before a reset, which was such a one, nothing that was noted in the
+-- events behind it withholds its answer, and now both wires are empty.
+pub record IsSettledSince (t : List Entry) (l : Link) (reset : LinkEvent) (behind : List LinkEvent) : Type 0 where
   pub asked : IsReset l reset
   pub undisturbed : list_any withholds (entries (happens l reset) behind) ≡ false
-  pub to_controller : (after (happens l reset) behind).to_controller ≡ []
-  pub to_host : (after (happens l reset) behind).to_host ≡ []
+  pub to_controller : (see_all nothing_seen t).to_controller ≡ []
+  pub to_host : (see_all nothing_seen t).to_host ≡ []
+
+-- both ends are up with one number, as it is noted
+pub record AreUpTogether (t : List Entry) : Type 0 where
+  pub number : ℕ
+  pub controller : session_in t Controller ≡ Some number
+  pub host : session_in t Host ≡ Some number

@@ -4,15 +4,14 @@
 ghost use Rattle.std.specs.Prelude.{◌≡◌, ◌++◌, ◌∷◌, ℕ, false, List};
 ghost use Rattle.std.specs.List.{list_any};
 ghost use Rattle.message_link.specs.Links.{AllAllowed, IsStart, Link, LinkEvent, after, number_of, talk_of};
-ghost use Rattle.message_link.specs.Settled.{AreUpTogether};
 ghost use Rattle.hcp_packet.specs.Packets.{IsFrontOf};
 ghost use Rattle.link_entries.specs.Entries.{End, Entry, trace};
 ghost use Rattle.link_entries.specs.Entries.End.{Controller, Host};
 ghost use Rattle.link_entries.specs.Order.{InOrderIn, is_chain_fault};
 ghost use Rattle.link_entries.specs.Quiet.{IsDelivered, IsQuietSince};
 ghost use Rattle.link_entries.specs.Reading.{kept, nothing_seen, see_all};
-ghost use Rattle.link_entries.specs.Sessions.{IsRead};
-ghost use Rattle.link_entries.specs.Settled.{IsSettledSince};
+ghost use Rattle.link_entries.specs.Sessions.{IsRead, session_in, session_now};
+ghost use Rattle.link_entries.specs.Settled.{AreUpTogether, IsSettledSince};
 
 /// The frames on both wires with their ages and numbers, how many RSETs were put on the link, and the greatest number that each
 /// end has put on it and taken, are read off the entries.
@@ -27,6 +26,14 @@ pub fn sessions_are_read_off()
         IsRead (trace l events) Controller n (talk_of (after l events).controller n) }
     ensures host { (l : Link) → IsStart l → (events : List LinkEvent) → AllAllowed l events → (n : ℕ) →
         IsRead (trace l events) Host n (talk_of (after l events).host n) }
+{}
+
+/// Whether each end is up, and with which number, is read off the entries.
+pub fn lasting_sessions_are_read_off()
+    ensures controller { (l : Link) → IsStart l → (events : List LinkEvent) → AllAllowed l events →
+        session_in (trace l events) Controller ≡ session_now (after l events).controller }
+    ensures host { (l : Link) → IsStart l → (events : List LinkEvent) → AllAllowed l events →
+        session_in (trace l events) Host ≡ session_now (after l events).host }
 {}
 
 /// At each moment, between any two entries, each end got in each session a front of the good messages that the other sent in it; the
@@ -54,10 +61,10 @@ pub fn quiet_session_has_delivered_all()
 
 /// Where a reset was asked for at an end, not refused, while the other end was active and not waiting, and in what was noted in
 /// the events behind it no frame was lost, no RSET put on the link and no end started, stopped or cut off, both ends are up with
-/// one number once both wires are empty. Two ends that are active stay so as long as none is started, stopped or cut off, so that no
-/// end that isn't active takes a frame then.
+/// one number once both wires are empty, all as it is noted. Two ends that are active stay so as long as none is started, stopped
+/// or cut off, so that no end that isn't active takes a frame then.
 pub fn reset_brings_both_up()
     ensures { (l : Link) → IsStart l → (before : List LinkEvent) (reset : LinkEvent) (behind : List LinkEvent) →
-        AllAllowed l (before ++ reset ∷ behind) → IsSettledSince (after l before) reset behind →
-        AreUpTogether (after l (before ++ reset ∷ behind)) }
+        AllAllowed l (before ++ reset ∷ behind) → IsSettledSince (trace l (before ++ reset ∷ behind)) (after l before) reset behind →
+        AreUpTogether (trace l (before ++ reset ∷ behind)) }
 {}

@@ -320,6 +320,12 @@ started_clf l power ts ending i = by ending (clf l.controller.side.role i refl)
     by GoesOut k = k
     by CutOff k = record { clf = _; is = ap renewed k.is; idle = refl }
 
+-- activation may begin at a CLF
+pub clf_starts : (r f : Role) → IsClf r → CanStart r f
+clf_starts Bare f i = absurd i
+clf_starts (Clf s) f i = tt
+clf_starts (Uicc s) f i = absurd i
+
 pub can_start : (r f : Role) → IsUicc r → IsIdleClf f → CanStart r f
 can_start Bare f u k = absurd u
 can_start (Clf s) f u k = absurd u
@@ -421,11 +427,6 @@ event_step l (Activate power c id h) a g r =
       good = two.good;
       allowed = allowed-append es fs one.allowed two.allowed;
     }
-  where
-    clf_starts : (r f : Role) → IsClf r → CanStart r f
-    clf_starts Bare f i = absurd i
-    clf_starts (Clf s) f i = tt
-    clf_starts (Uicc s) f i = absurd i
 
 -- ## Runs
 

@@ -1,5 +1,5 @@
--- What is noted of a link that is neither started, stopped nor cut off says which session each end has.
-use Rattle.std.proofs.Common.{◌≡◌, ℕ, Bool, true, false, List, [], ◌∷◌, ◌++◌, map, Option, Some, None, refl, ap, sym, ◌∙◌}
+-- What is noted of a step of an end says which session it has.
+use Rattle.std.proofs.Common.{◌≡◌, ℕ, Bool, true, false, List, [], ◌∷◌, ◌++◌, map, Option, Some, None, refl, ap, sym, subst, ◌∙◌}
 use Rattle.std.specs.Prelude.{is_some, nat_lt, option_to_list, max, length, if◌then◌else◌}
 use Rattle.std.specs.List.{fold}
 use Rattle.std.proofs.lemmas.List.Sums.{fold-append}
@@ -8,33 +8,33 @@ use Rattle.swp_base.specs.declared.link_terms.Cause.{Cause as EndedBy}
 use Rattle.shdlc_core.specs.declared.answers.LinkState.{LinkState}
 use Rattle.shdlc_core.specs.declared.answers.LinkState.TheVariants.{Down as IsDown, Waiting as IsWaitingNow, Up as IsUpNow}
 use Rattle.shdlc_core.specs.Machine.{most_frames}
-use Rattle.session_laws.specs.Sessions.{OnWire, took_with}
-use Rattle.link_machine.specs.Machine.{LinkEnd, Refused, LinkInput, Turn, Report, report, turn, turned, give_refusal, after_input, ended_by, began_by, whole_acked, frames_out}
-use Rattle.link_machine.specs.Machine.LinkInput.{Take, Tick as HasTick, Reset}
+use Rattle.session_laws.specs.Sessions.{OnWire, is_up, took_with}
+use Rattle.link_machine.specs.Machine.{LinkEnd, Refused, LinkInput, Turn, Report, report, turn, turned, give_refusal, took, after_input, ended_by, began_by, whole_acked, frames_out}
+use Rattle.link_machine.specs.Machine.LinkInput.{Take, Tick as HasTick, Reset, Start, Stop}
 use Rattle.link_machine.specs.Machine.Turn.{Give, Hold, FetchMessage, SetAside, Release}
 use Rattle.link_machine.proofs.Shifts.{Shift, IsNotUp}
 use Rattle.link_machine.proofs.Shifts.Shift.{Stays, Ends, Renews, Begins, Rests as ShiftRests}
-use Rattle.link_machine.proofs.Reports.{Reports, take_so, tick_so, reset_so}
-use Rattle.message_link.specs.Links.{Half, Link, Loss, number_of, put, becomes, finished, with_ended, has_taken, AreSendableTurns}
-use Rattle.message_link.specs.Links.Ending.{GoesOut}
+use Rattle.link_machine.proofs.Reports.{Reports, take_so, tick_so, reset_so, start_so, stop_so}
+use Rattle.message_link.specs.Links.{Half, Link, Loss, Ending, Node, EndEvent, number_of, put, becomes, silent, finished, with_ended, has_taken, happens_here, ticks_here, CanEnd, IsNode, IsAllowed, IsOwn}
+use Rattle.message_link.specs.Links.Ending.{GoesOut, CutOff}
+use Rattle.message_link.specs.Links.Comes.{NextFrame, AsksReset, Starts, Stops, NoInput}
+use Rattle.message_link.specs.Links.EndEvent.{Step, Lose}
+use Rattle.message_link.specs.Projection.{core_of}
+use Rattle.message_link.proofs.Runs.{rests_of}
+use Rattle.swp_act.specs.declared.ActEvent.TheVariants.{Start as ActStart, Stop as ActStop}
 use Rattle.message_link.specs.Links.Loss.{TooMany}
 use Rattle.message_link.proofs.Ends.{frames_alike}
-use Rattle.link_entries.specs.Entries.{End, Entry, far, if_so, told, told_of, turn_entry, turn_entries, sent_unless, first_lost, wire_with, put_entries, puts_entries, rest_entries, input_entries, left_after, taken_entries, aged_entries}
-use Rattle.link_entries.specs.Entries.Entry.{Up, Down, Active, GaveUp, Acked, Got}
-use Rattle.link_entries.specs.Filters.{same_end}
+use Rattle.link_entries.specs.Entries.{End, Entry, far, if_so, told, told_of, turn_entry, turn_entries, sent_unless, first_lost, wire_with, put_entries, puts_entries, rest_entries, input_entries, restart_entries, step_entries, here_entries, tick_entries, left_after, taken_entries, aged_entries}
+use Rattle.link_entries.specs.Entries.Entry.{Up, Down, Active, GaveUp, Acked, Got, Cut}
+use Rattle.link_entries.specs.Sessions.{hear, session_now}
 use Rattle.link_entries.proofs.Books.{same_self, same_far, with_side}
 use Rattle.link_entries.proofs.Stepping.{puts_number}
-use Rattle.link_entries.proofs.Noting.{turned_same, IsQuietEnd, quiet_idle, quiet_reset, quiet_tick, Near, Frame, ended_number}
+use Rattle.link_entries.proofs.Noting.{turned_same, IsQuietEnd, quiet_idle, quiet_reset, quiet_tick, not_up_quiet, restarted_down, Near, Frame, Frames, ended_number, reset_role, restart_can, tick_can}
+use Rattle.link_entries.proofs.Completing.{new_not_up}
+use Rattle.message_link.proofs.Finishing.{can_end, took_can}
+use Rattle.link_entries.proofs.Running.{Before, frame_facts}
 
 -- ## Sessions
-
--- the number of the session that an end has, if it is up
-abbrev pub session_now : Half → Option ℕ
-session_now h = by_phase h.side.shdlc.phase where
-  by_phase : LinkState → Option ℕ
-  by_phase IsUpNow = Some (number_of h)
-  by_phase IsWaitingNow = None
-  by_phase IsDown = None
 
 pub up_session : (h : Half) → h.side.shdlc.phase ≡ IsUpNow → session_now h ≡ Some (number_of h)
 up_session h p = rw p refl
@@ -68,18 +68,12 @@ same_session a b p n = go b.side.shdlc.phase refl
 
 -- ## What is heard of them
 
--- the session of an end after one more entry
-abbrev pub heard_one : End → Option ℕ → Entry → Option ℕ
-heard_one who s (Up w n) = if same_end w who then Some n else s
-heard_one who s (Down w cause) = if same_end w who then None else s
-heard_one who s _ = s
-
 -- after these entries, one after another
 abbrev pub heard : End → Option ℕ → List Entry → Option ℕ
-heard who s t = fold (heard_one who) s t
+heard who s t = fold (hear who) s t
 
 pub heard-append : (who : End) (s : Option ℕ) (t u : List Entry) → heard who s (t ++ u) ≡ heard who (heard who s t) u
-heard-append who s t u = fold-append (heard_one who) s t u
+heard-append who s t u = fold-append (hear who) s t u
 
 -- these say nothing of the sessions of an end
 abbrev pub Passes : End → List Entry → Type 0
@@ -191,10 +185,17 @@ passes_aged w who (x ∷ xs) = go (nat_lt x.age 4) refl (passes_aged w who xs)
     go true q later s = rw q (later s)
     go false q later s = rw q (later s)
 
-passes_rest : (w who : End) (l : Link) (e : LinkEnd) (ts : List Turn) → Passes w (rest_entries who l e ts GoesOut)
-passes_rest w who l e ts =
+passes_out : (w who : End) (l : Link) (e : LinkEnd) (ts : List Turn) → Passes w (rest_entries who l e ts GoesOut)
+passes_out w who l e ts =
     passes-append w (turn_entries who (number_of l.controller) e ts) (puts_entries who l (frames_out (turned e ts)))
     (passes_turns w who (number_of l.controller) e ts) (passes_puts w who (frames_out (turned e ts)) l)
+
+-- nothing of the other end
+rest_far : (who : End) (l : Link) (e : LinkEnd) (ts : List Turn) (ending : Ending) → Passes (far who) (rest_entries who l e ts ending)
+rest_far who l e ts GoesOut = passes_out (far who) who l e ts
+rest_far who l e ts CutOff =
+    passes-append (far who) (turn_entries who (number_of l.controller) e ts) (Cut who ∷ []) (passes_turns (far who) who (number_of l.controller) e ts)
+    (λ s. let q = same_far who in rw q refl)
 
 -- a step without an input keeps the session
 rest_session : (l : Link) (e : LinkEnd) (ts : List Turn) → IsQuietEnd e ts
@@ -204,89 +205,144 @@ rest_session l e ts quiet =
     same_session (becomes l f).controller (with_side l.controller e) ((frames_alike most_frames f.shdlc).phase ∙ turned_same ts e)
     (λ up. puts_number l (frames_out f) (quiet (turned_same ts e ∙ up)))
 
+-- turns of the node of an end that is e by now, and how the step ends
+rest_heard : (who : End) (l : Link) (e : LinkEnd) (ts : List Turn) (ending : Ending) → IsQuietEnd e ts → CanEnd (turned e ts).role ending
+    → heard who (session_now (with_side l.controller e)) (rest_entries who l e ts ending) ≡ session_now (finished l (turned e ts) ending).controller
+rest_heard who l e ts GoesOut quiet can = passes_out who who l e ts (session_now (with_side l.controller e)) ∙ sym (rest_session l e ts quiet)
+rest_heard who l e ts CutOff quiet can =
+    let s : Option ℕ = session_now (with_side l.controller e) in
+    let us : List Entry = turn_entries who (number_of l.controller) e ts in
+    let last : heard who s (Cut who ∷ []) ≡ None = let q = same_self who in rw q refl in
+    heard-append who s us (Cut who ∷ [])
+    ∙ (ap (λ z. heard who z (Cut who ∷ [])) (passes_turns who who (number_of l.controller) e ts s)
+    ∙ (last ∙ sym (down_session (finished l (turned e ts) CutOff).controller (new_not_up (turned e ts).role can))))
+
 -- ## Steps
-
--- an input, and what follows it
-input_heard : (who : End) (l k : Link) (took : ℕ) (i : LinkInput) (ts : List Turn) → Reports l.controller.side i
-    → number_of k.controller ≡ max l.controller.emitted took
-    → (l.controller.side.shdlc.phase ≡ IsUpNow → is_some (ended_by l.controller.side i) ≡ false → max l.controller.emitted took ≡ number_of l.controller)
-    → IsQuietEnd (after_input l.controller.side i) ts
-    → heard who (session_now l.controller)
-    (told_of who (record l.controller { took = took }) i ++ rest_entries who k (after_input l.controller.side i) ts GoesOut)
-    ≡ session_now (becomes k (turned (after_input l.controller.side i) ts)).controller
-input_heard who l k took i ts so number same quiet =
-    let e : LinkEnd = l.controller.side in
-    let f : LinkEnd = after_input e i in
-    let h : Half = record l.controller { took = took } in
-    let us : List Entry = told who (number_of h) (report e i) (whole_acked f) in
-    let vs : List Entry = rest_entries who k f ts GoesOut in
-    heard-append who (session_now l.controller) us vs
-    ∙ (passes_rest who who k f ts (heard who (session_now l.controller) us)
-    ∙ (heard_told who (number_of h) (report e i) (whole_acked f) (session_now l.controller)
-    ∙ (shifted l.controller (with_side h f) (is_some (ended_by e i)) (began_by e i) so.shift same
-    ∙ (same_session (with_side h f) (with_side k.controller f) refl (λ up. sym number) ∙ sym (rest_session k f ts quiet)))))
-
-input_far : (who : End) (l k : Link) (took : ℕ) (i : LinkInput) (ts : List Turn)
-    → Passes (far who) (told_of who (record l.controller { took = took }) i ++ rest_entries who k (after_input l.controller.side i) ts GoesOut)
-input_far who l k took i ts =
-    let e : LinkEnd = l.controller.side in
-    let f : LinkEnd = after_input e i in
-    passes-append (far who) (told who (max l.controller.emitted took) (report e i) (whole_acked f)) (rest_entries who k f ts GoesOut)
-    (passes_told who (max l.controller.emitted took) (report e i) (whole_acked f)) (passes_rest (far who) who k f ts)
 
 -- a step tells the session of its end, and nothing of the other end
 pub record Heard (who : End) (l m : Link) (u : List Entry) : Type 0 where
   pub here : heard who (session_now l.controller) u ≡ session_now m.controller
   pub there : Passes (far who) u
 
-pub tick_heard : (who : End) (l : Link) (ts : List Turn) → AreSendableTurns ts → Near l
-    → Heard who l (finished (with_ended l (is_some (ended_by l.controller.side HasTick))) (turned (after_input l.controller.side HasTick) ts) GoesOut)
-    (input_entries who l HasTick ts GoesOut)
-tick_heard who l ts a n =
+-- an input of the end, which has taken an RSET with the number `took` then, and what follows it
+input_heard : (who : End) (l k : Link) (took : ℕ) (i : LinkInput) (ts : List Turn) (ending : Ending) → Reports l.controller.side i
+    → number_of k.controller ≡ max l.controller.emitted took
+    → (l.controller.side.shdlc.phase ≡ IsUpNow → is_some (ended_by l.controller.side i) ≡ false → max l.controller.emitted took ≡ number_of l.controller)
+    → IsQuietEnd (after_input l.controller.side i) ts → CanEnd (turned (after_input l.controller.side i) ts).role ending
+    → Heard who l (finished k (turned (after_input l.controller.side i) ts) ending)
+    (told_of who (record l.controller { took = took }) i ++ rest_entries who k (after_input l.controller.side i) ts ending)
+input_heard who l k took i ts ending so number same quiet can =
     let e : LinkEnd = l.controller.side in
-    let k : Link = with_ended l (is_some (ended_by e HasTick)) in
+    let f : LinkEnd = after_input e i in
+    let h : Half = record l.controller { took = took } in
+    let us : List Entry = told who (number_of h) (report e i) (whole_acked f) in
+    let vs : List Entry = rest_entries who k f ts ending in
+    let now : heard who (session_now l.controller) us ≡ session_now (with_side k.controller f) =
+    heard_told who (number_of h) (report e i) (whole_acked f) (session_now l.controller)
+    ∙ (shifted l.controller (with_side h f) (is_some (ended_by e i)) (began_by e i) so.shift same
+    ∙ same_session (with_side h f) (with_side k.controller f) refl (λ up. sym number)) in
     record {
-      here = input_heard who l k l.controller.took HasTick ts (tick_so e n.sound) (ended_number l (is_some (ended_by e HasTick))) (λ up q. refl)
-          (quiet_tick l ts a n.tells n.rests);
-      there = input_far who l k l.controller.took HasTick ts;
+      here = heard-append who (session_now l.controller) us vs ∙ (ap (λ z. heard who z vs) now ∙ rest_heard who k f ts ending quiet can);
+      there = passes-append (far who) us vs (passes_told who (number_of h) (report e i) (whole_acked f)) (rest_far who k f ts ending);
     }
 
-pub reset_heard : (who : End) (l : Link) (window : Option ℕ) (ts : List Turn) → AreSendableTurns ts → Near l
-    → Heard who l
-    (finished (with_ended l (is_some (ended_by l.controller.side (Reset window)))) (turned (after_input l.controller.side (Reset window)) ts) GoesOut)
-    (input_entries who l (Reset window) ts GoesOut)
-reset_heard who l window ts a n =
-    let e : LinkEnd = l.controller.side in
-    let k : Link = with_ended l (is_some (ended_by e (Reset window))) in
-    record {
-      here = input_heard who l k l.controller.took (Reset window) ts (reset_so e window n.sound) (ended_number l (is_some (ended_by e (Reset window))))
-          (λ up q. refl) (quiet_reset l window ts a n.tells n.rests);
-      there = input_far who l k l.controller.took (Reset window) ts;
-    }
+-- an input of its own
+own_input_heard : (who : End) (l : Link) (i : LinkInput) (ts : List Turn) (ending : Ending) → Reports l.controller.side i
+    → IsQuietEnd (after_input l.controller.side i) ts → CanEnd (turned (after_input l.controller.side i) ts).role ending
+    → Heard who l (finished (with_ended l (is_some (ended_by l.controller.side i))) (turned (after_input l.controller.side i) ts) ending)
+    (input_entries who l i ts ending)
+own_input_heard who l i ts ending so quiet can =
+    let b : Bool = is_some (ended_by l.controller.side i) in
+    input_heard who l (with_ended l b) l.controller.took i ts ending so (ended_number l b) (λ up q. refl) quiet can
 
-pub idle_heard : (who : End) (l : Link) (ts : List Turn) → AreSendableTurns ts → Near l
-    → Heard who l (becomes l (turned l.controller.side ts)) (rest_entries who l l.controller.side ts GoesOut)
-idle_heard who l ts a n =
-    record {
-      here = passes_rest who who l l.controller.side ts (session_now l.controller)
-          ∙ sym (rest_session l l.controller.side ts (quiet_idle l ts a n.tells n.rests));
-      there = passes_rest (far who) who l l.controller.side ts;
-    }
+pub tick_heard : (who : End) (l : Link) (node : Node) → IsNode l node.turns node.ending → Near l
+    → Heard who l (ticks_here l node.turns node.ending) (tick_entries who l node)
+tick_heard who l node a n =
+    own_input_heard who l HasTick node.turns node.ending (tick_so l.controller.side n.sound) (quiet_tick l node.turns a.0 n.tells n.rests)
+    (tick_can l.controller.side node.turns node.ending a.1)
 
-pub taken_heard : (who : End) (l : Link) (x : OnWire) (xs : List OnWire) (ts : List Turn) → Near l → Frame l x ts
-    → Heard who l (has_taken l x xs ts GoesOut) (taken_entries who l x xs ts GoesOut)
-taken_heard who l x xs ts n fr =
+-- activation begins or ends
+restart_heard : (who : End) (l : Link) (i : LinkInput) (ts : List Turn) (ending : Ending) → Reports l.controller.side i
+    → IsNotUp (after_input l.controller.side i).shdlc → CanEnd (turned (after_input l.controller.side i) ts).role ending
+    → Heard who l (finished (silent l (after_input l.controller.side i)) (turned (after_input l.controller.side i) ts) ending)
+    (restart_entries who l i ts ending)
+restart_heard who l i ts ending so down can =
+    let f : LinkEnd = after_input l.controller.side i in
+    let h = input_heard who l (silent l f) l.controller.took i ts ending so (ended_number l (is_up l.controller.side.shdlc.phase)) (λ up q. refl)
+    (not_up_quiet f ts down) can in
+    record { here = h.here; there = h.there }
+
+taken_heard : (who : End) (l : Link) (x : OnWire) (xs : List OnWire) (ts : List Turn) (ending : Ending) → CanEnd l.controller.side.role ending → Near l → Frame l x ts
+    → Heard who l (has_taken l x xs ts ending) (taken_entries who l x xs ts ending)
+taken_heard who l x xs ts ending can n fr =
     let e : LinkEnd = l.controller.side in
     let i : LinkInput = Take x.frame in
-    let k : Link = left_after l x xs in
-    let j : ℕ = took_with l.controller.took x in
-    record {
-      here = input_heard who l k j i ts (take_so e x.frame n.sound) (number (is_some (ended_by e i)))
-          (λ up q. ap (max l.controller.emitted) (fr.same up q)) (λ _. fr.quiet);
-      there = input_far who l k j i ts;
-    }
+    let h = input_heard who l (left_after l x xs) (took_with l.controller.took x) i ts ending (take_so e x.frame n.sound) (number (is_some (ended_by e i)))
+    (λ up q. ap (max l.controller.emitted) (fr.same up q)) (λ _. fr.quiet)
+    (can_end (took e x.frame) ts (took e x.frame).role ending refl (took_can e x.frame ending can)) in
+    record { here = h.here; there = h.there }
   where
     number : (c : Bool) → number_of (record (with_ended (record l { to_controller = xs }) c).controller { took = took_with l.controller.took x })
         ≡ max l.controller.emitted (took_with l.controller.took x)
     number false = refl
     number true = refl
+
+-- a step that takes no frame
+pub own_heard : (who : End) (l : Link) (e : EndEvent) → IsOwn e → IsAllowed l e → Near l → Heard who l (happens_here l e) (here_entries who l e)
+own_heard who l (Lose why) o a n = absurd o
+own_heard who l (Step NextFrame ts ending) o a n = absurd o
+own_heard who l (Step (AsksReset window) ts ending) o a n =
+    own_input_heard who l (Reset window) ts ending (reset_so l.controller.side window n.sound) (quiet_reset l window ts a.1.0 n.tells n.rests)
+    (can_end (after_input l.controller.side (Reset window)) ts l.controller.side.role ending (reset_role l.controller.side window) a.1.1)
+own_heard who l (Step (Starts v) ts ending) o a n =
+    restart_heard who l (Start v) ts ending (start_so l.controller.side v n.sound) (restarted_down l.controller.side (ActStart v) n.tells.now)
+    (restart_can l.controller.side (ActStart v) ts ending a.1.1)
+own_heard who l (Step Stops ts ending) o a n =
+    restart_heard who l Stop ts ending (stop_so l.controller.side n.sound) (restarted_down l.controller.side ActStop n.tells.now)
+    (restart_can l.controller.side ActStop ts ending a.1.1)
+own_heard who l (Step NoInput ts ending) o a n =
+    record {
+      here = rest_heard who l l.controller.side ts ending (quiet_idle l ts a.1.0 n.tells n.rests)
+          (can_end l.controller.side ts l.controller.side.role ending refl a.1.1);
+      there = rest_far who l l.controller.side ts ending;
+    }
+
+frame_heard : (who : End) (l : Link) (ts : List Turn) (ending : Ending) → CanEnd l.controller.side.role ending → Near l → Frames l ts
+    → Heard who l (happens_here l (Step NextFrame ts ending)) (step_entries who l NextFrame ts ending)
+frame_heard who l ts ending can n frames = go l.to_controller refl
+  where
+    m : Link
+    m = happens_here l (Step NextFrame ts ending)
+
+    u : List Entry
+    u = step_entries who l NextFrame ts ending
+
+    P : Link → Type 0
+    P k = Heard who l k u
+
+    go : (w : List OnWire) → l.to_controller ≡ w → Heard who l m u
+    go [] q =
+        let none : u ≡ [] = rw q refl in
+        let same : m ≡ l = rw q refl in
+        let Q : List Entry → Type 0 = λ z. Heard who l l z in
+        subst P (sym same) (subst Q (sym none) (record { here = refl; there = λ s. refl }))
+    go (x ∷ xs) q =
+        let some : u ≡ taken_entries who l x xs ts ending = rw q refl in
+        let next : m ≡ has_taken l x xs ts ending = rw q refl in
+        let Q : List Entry → Type 0 = λ z. Heard who l (has_taken l x xs ts ending) z in
+        subst P (sym next) (subst Q (sym some) (taken_heard who l x xs ts ending can n (frames x xs q)))
+
+pub here_heard : (who : End) (l : Link) (e : EndEvent) → IsAllowed l e → Before l → Heard who l (happens_here l e) (here_entries who l e)
+here_heard who l e a b = go e a
+  where
+    near : Near l
+    near = record { tells = b.tells; rests = rests_of 0 0 (core_of l) b.safe; sound = b.sound }
+
+    go : (e : EndEvent) → IsAllowed l e → Heard who l (happens_here l e) (here_entries who l e)
+    go (Lose why) a =
+        record { here = passes_lost who who why l.to_controller (session_now l.controller); there = passes_lost (far who) who why l.to_controller }
+    go (Step NextFrame ts ending) a = frame_heard who l ts ending a.1.1 near (frame_facts l ts a.1.0 b)
+    go (Step (AsksReset window) ts ending) a = own_heard who l (Step (AsksReset window) ts ending) tt a near
+    go (Step (Starts v) ts ending) a = own_heard who l (Step (Starts v) ts ending) tt a near
+    go (Step Stops ts ending) a = own_heard who l (Step Stops ts ending) tt a near
+    go (Step NoInput ts ending) a = own_heard who l (Step NoInput ts ending) tt a near
