@@ -24,7 +24,7 @@ use Rattle.history.specs.Follows.{Follows, host_of}
 use Rattle.history_laws.proofs.Runs.{AreOf, link_events, of_front, of_allowed, of_can}
 use Rattle.history_laws.proofs.Noted.{sent-all, got-all, acked-all, unsaid}
 use Rattle.history_laws.proofs.Ordered.{IsRun, is_run, notes_of, run_entries, same_link}
-use Rattle.history_laws.proofs.Heard.{session_up}
+use Rattle.link_entries.proofs.Hearing.{session_up}
 use Rattle.history_laws.proofs.Sessions.{controller_heard, host_heard}
 use Rattle.history_laws.proofs.Plain.{plain_trace}
 use Rattle.history_laws.proofs.Reading.{session-all, none_session, no_bytes, wire-controller, wire-host, since-all, plain_since, undisturbed}
@@ -66,8 +66,9 @@ kept_quiet : (h : ℕ) (xs : List Event) (n : ℕ) → AreOf h bare_link xs → 
 kept_quiet h xs n a q =
     let t : List Noted = notes_of xs in
     let can = of_can h bare_link xs a in
-    let near = session_up (link_now xs).controller n (sym (session-all h t Controller ∙ controller_heard (causes_of xs) can) ∙ q.controller) in
-    let there = session_up (link_now xs).host n (sym (session-all h t Host ∙ host_heard (causes_of xs) can) ∙ q.host) in
+    let plain = plain_trace (causes_of xs) in
+    let near = session_up (link_now xs).controller n (sym (session-all h t Controller plain ∙ controller_heard (causes_of xs) can) ∙ q.controller) in
+    let there = session_up (link_now xs).host n (sym (session-all h t Host plain ∙ host_heard (causes_of xs) can) ∙ q.host) in
     let plain = plain_trace (causes_of xs) in
     let since_is = since-all h n t in
     let calm : list_any disturbs (since n t) ≡ false =

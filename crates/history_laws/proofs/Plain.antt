@@ -24,7 +24,6 @@ use Rattle.link_entries.specs.Entries.Entry.{Up, Down, Active, GaveUp, Acked, Go
 use Rattle.history.specs.Histories.{Cause}
 use Rattle.history.specs.Histories.Cause.{Given, Taken, WasLost, Ticked, WasReset, Readied}
 use Rattle.history.specs.Steps.{at, idle, event_of, bare_link}
-use Rattle.history_laws.proofs.Sessions.{IsStep}
 
 -- ## Frames
 
@@ -189,6 +188,14 @@ plain_frame who l ts = go l.to_controller refl
           tt,
           plain_input who (record l.controller { took = took_with l.controller.took x }) i (left_after l x xs) (after_input l.controller.side i) ts,
         )
+
+-- an end takes a frame, is reset, does something of its own or loses a frame
+abbrev pub IsStep : EndEvent → Type 0
+IsStep (Lose why) = Unit {0}
+IsStep (EndStep NextFrame ts GoesOut) = Unit {0}
+IsStep (EndStep NoInput ts GoesOut) = Unit {0}
+IsStep (EndStep (AsksReset window) ts GoesOut) = Unit {0}
+IsStep _ = ⊥
 
 plain_here : (who : End) (l : Link) (x : EndEvent) → IsStep x → ArePlain (here_entries who l x)
 plain_here who l (Lose why) s = plain_first who why l.to_controller

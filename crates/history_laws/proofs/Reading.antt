@@ -24,7 +24,7 @@ use Rattle.history.specs.Filters.Saying.{Begins, Ends, Sends, Gets, Counts, Puts
 use Rattle.history.specs.Legal.{begins_on, since_up, has_lost, has_rnr, is_rnr}
 use Rattle.history.specs.Steps.{end_of, entries_for}
 use Rattle.history_laws.proofs.Noted.{same_as, if_said, Unsaid}
-use Rattle.history_laws.proofs.Heard.{heard}
+use Rattle.link_entries.proofs.Hearing.{heard}
 use Rattle.history_laws.proofs.Plain.{ArePlain}
 
 -- ## Sessions
@@ -50,30 +50,30 @@ passed_over : (h : ℕ) (t : List Noted) (who w : Side) (s : Option ℕ) (x : Sa
     ≡ session_from s (end_of h who) (entries_for h t)
 passed_over h t who w s x q = ap (λ z. session_from z (end_of h who) (entries_for h t)) (unheard s (same_end (end_of h w) (end_of h who)) x q)
 
-session-from : (h : ℕ) (t : List Noted) (who : Side) (s : Option ℕ) → session_from s (end_of h who) (entries_for h t) ≡ heard who s t
-session-from h [] who s = refl
-session-from h (Up w k ∷ t) who s =
+session-from : (h : ℕ) (t : List Noted) (who : Side) (s : Option ℕ) → ArePlain t → session_from s (end_of h who) (entries_for h t) ≡ heard who s t
+session-from h [] who s p = refl
+session-from h (Up w k ∷ t) who s p =
     ap (λ z. session_from z (end_of h who) (entries_for h t))
     (begun_here s k (same_end (end_of h w) (end_of h who)) ∙ ap (λ b. if b then Some k else s) (same_as h w who))
-    ∙ session-from h t who (if same_side w who then Some k else s)
-session-from h (Down w cause ∷ t) who s =
+    ∙ session-from h t who (if same_side w who then Some k else s) p.1
+session-from h (Down w cause ∷ t) who s p =
     ap (λ z. session_from z (end_of h who) (entries_for h t))
     (ended_here s (same_end (end_of h w) (end_of h who)) ∙ ap (λ b. if b then None else s) (same_as h w who))
-    ∙ session-from h t who (if same_side w who then None else s)
-session-from h (Active w ∷ t) who s = session-from h t who s
-session-from h (GaveUp w tries ∷ t) who s = session-from h t who s
-session-from h (Acked w k count ∷ t) who s = passed_over h t who w s (Counts k count) refl ∙ session-from h t who s
-session-from h (Got w k m ∷ t) who s = passed_over h t who w s (Gets k m) refl ∙ session-from h t who s
-session-from h (Sent w k m ∷ t) who s = passed_over h t who w s (Sends k m) refl ∙ session-from h t who s
-session-from h (Emit w c ∷ t) who s = passed_over h t who w s (Puts (lpdu_of c)) refl ∙ session-from h t who s
-session-from h (Took w c ∷ t) who s = passed_over h t who w s (Takes (lpdu_of c)) refl ∙ session-from h t who s
-session-from h (Lost w c why ∷ t) who s = passed_over h t who w s (Loses (lpdu_of c)) refl ∙ session-from h t who s
-session-from h (Tick ∷ t) who s = session-from h t who s
-session-from h (Restarted w ∷ t) who s = session-from h t who s
-session-from h (Cut w ∷ t) who s = session-from h t who s
+    ∙ session-from h t who (if same_side w who then None else s) p.1
+session-from h (Active w ∷ t) who s p = session-from h t who s p.1
+session-from h (GaveUp w tries ∷ t) who s p = session-from h t who s p.1
+session-from h (Acked w k count ∷ t) who s p = passed_over h t who w s (Counts k count) refl ∙ session-from h t who s p.1
+session-from h (Got w k m ∷ t) who s p = passed_over h t who w s (Gets k m) refl ∙ session-from h t who s p.1
+session-from h (Sent w k m ∷ t) who s p = passed_over h t who w s (Sends k m) refl ∙ session-from h t who s p.1
+session-from h (Emit w c ∷ t) who s p = passed_over h t who w s (Puts (lpdu_of c)) refl ∙ session-from h t who s p.1
+session-from h (Took w c ∷ t) who s p = passed_over h t who w s (Takes (lpdu_of c)) refl ∙ session-from h t who s p.1
+session-from h (Lost w c why ∷ t) who s p = passed_over h t who w s (Loses (lpdu_of c)) refl ∙ session-from h t who s p.1
+session-from h (Tick ∷ t) who s p = session-from h t who s p.1
+session-from h (Restarted w ∷ t) who s p = session-from h t who s p.1
+session-from h (Cut w ∷ t) who s p = absurd p.0
 
-pub session-all : (h : ℕ) (t : List Noted) (who : Side) → session_of (entries_for h t) (end_of h who) ≡ heard who None t
-session-all h t who = session-from h t who None
+pub session-all : (h : ℕ) (t : List Noted) (who : Side) → ArePlain t → session_of (entries_for h t) (end_of h who) ≡ heard who None t
+session-all h t who p = session-from h t who None p
 
 pub none_session : (e : End) (t : List Entry) → Unsaid e t → session_of t e ≡ None
 none_session e [] u = refl

@@ -24,12 +24,12 @@ use Rattle.message_link.specs.Links.{Link, LinkEvent, happens, after, number_of,
 use Rattle.message_link.specs.Projection.{core_of, core_event}
 use Rattle.message_link.proofs.Runs.{Good, Reached, reached_more, event_step}
 use Rattle.link_entries.specs.Entries.{Entry as Noted, event_entries, entries, first_entries}
-use Rattle.link_entries.specs.Settled.{IsReset, IsSettledSince}
+use Rattle.link_entries.specs.Settled.{IsReset, withholds}
 use Rattle.link_entries.proofs.Running.{Noted as IsNoted, note_event, start_noted}
 use Rattle.link_entries.proofs.Sparing.{Spared, Stands, or_none, none_withheld}
 use Rattle.link_entries.proofs.Together.{AreActive, event_goes, together}
 use Rattle.history_laws.proofs.Runs.{AreOf, CanAll, can_event, link_events, of_front, of_entries, of_allowed, of_can}
-use Rattle.history_laws.proofs.Plain.{ArePlain, plain_event, plain_entries}
+use Rattle.history_laws.proofs.Plain.{ArePlain, plain_event, plain_entries, plain_trace}
 use Rattle.history.specs.Histories.{Cause, Event, History, entries_of, causes_of, all_events}
 use Rattle.history.specs.Histories.Cause.{WasReset}
 use Rattle.history.specs.Filters.{session_of, wire_to}
@@ -37,7 +37,7 @@ use Rattle.history.specs.Legal.{has_lost, has_rset, AreUpTogether, Settled}
 use Rattle.history.specs.Steps.{at, event_of, end_of, entries_for, bare_link, link_after, link_after_all}
 use Rattle.history.specs.Follows.{machine_of, Follows, host_of}
 use Rattle.history_laws.proofs.Ordered.{IsRun, is_run, notes_of, run_entries}
-use Rattle.history_laws.proofs.Heard.{up_session}
+use Rattle.link_entries.proofs.Hearing.{up_session}
 use Rattle.history_laws.proofs.Sessions.{controller_heard, host_heard}
 use Rattle.history_laws.proofs.Reading.{session-all, link_same}
 use Rattle.history_laws.proofs.Complete.{link_now, empty_controller, empty_host}
@@ -92,25 +92,24 @@ events-append : (xs ys : List Event) → link_events (xs ++ ys) ≡ link_events 
 events-append [] ys = refl
 events-append (x ∷ xs) ys = ap (λ (es : List LinkEvent). event_of x.cause ∷ es) (events-append xs ys)
 
--- the link now, and as it is behind an event
-now_behind : (before : List Event) (x : Event) (behind : List Event) (l : Link)
-    → after l (link_events (before ++ x ∷ behind)) ≡ after (link_after (link_after_all l (causes_of before)) x.cause) (link_events behind)
-now_behind [] x behind l = refl
-now_behind (y ∷ before) x behind l = now_behind before x behind (link_after l y.cause)
-
 -- the law of the link
 run_together : (before : List Event) (reset : Event) (behind : List Event) → AllAllowed bare_link (link_events (before ++ reset ∷ behind))
-    → IsSettledSince (link_after_all bare_link (causes_of before)) (event_of reset.cause) (link_events behind)
+    → IsReset (link_after_all bare_link (causes_of before)) (event_of reset.cause)
+    → list_any withholds (entries (link_after (link_after_all bare_link (causes_of before)) reset.cause) (link_events behind)) ≡ false
+    → (link_now (before ++ reset ∷ behind)).to_controller ≡ [] → (link_now (before ++ reset ∷ behind)).to_host ≡ []
     → LinkTogether (link_now (before ++ reset ∷ behind))
-run_together before reset behind a since =
+run_together before reset behind a asked undisturbed near there =
     let es : List LinkEvent = link_events before in
     let fs : List LinkEvent = link_events behind in
     let e : LinkEvent = event_of reset.cause in
     let is : link_events (before ++ reset ∷ behind) ≡ es ++ e ∷ fs = events-append before (reset ∷ behind) in
-    let A : List LinkEvent → Type 0 = λ z. AllAllowed bare_link z in
-    let U : List LinkEvent → Type 0 = λ z. LinkTogether (after bare_link z) in
-    let S : Link → Type 0 = λ z. IsSettledSince z e fs in
-    subst U (sym is) (together bare_link IsBare es e fs (subst A is a) (subst S (sym (after_causes (causes_of before) bare_link)) since))
+    let same = after_causes (causes_of before) bare_link in
+    let P : List LinkEvent → Type 0 = λ z. AllAllowed bare_link z → (after bare_link z).to_controller ≡ [] → (after bare_link z).to_host ≡ [] → LinkTogether (after bare_link z) in
+    let R : Link → Type 0 = λ z. IsReset z e in
+    let W : Link → Type 0 = λ z. list_any withholds (entries (happens z e) fs) ≡ false in
+    let law : P (es ++ e ∷ fs) =
+    λ b c d. together bare_link IsBare es e fs b (subst R (sym same) asked) (subst W (sym same) undisturbed) c d in
+    subst P (sym is) law a near there
 
 -- ## Entries
 
@@ -166,11 +165,11 @@ up_both h xs e a q law = side e.link e.at_host q
 
     near : LinkTogether (link_now xs) → session_of t (end_of h Controller) ≡ Some (number_of (link_now xs).controller)
     near u =
-        session-all h (notes_of xs) Controller ∙ (controller_heard (causes_of xs) (of_can h bare_link xs a) ∙ up_session (link_now xs).controller u.controller)
+        session-all h (notes_of xs) Controller (plain_trace (causes_of xs)) ∙ (controller_heard (causes_of xs) (of_can h bare_link xs a) ∙ up_session (link_now xs).controller u.controller)
 
     there : LinkTogether (link_now xs) → session_of t (end_of h Host) ≡ Some (number_of (link_now xs).controller)
     there u =
-        session-all h (notes_of xs) Host
+        session-all h (notes_of xs) Host (plain_trace (causes_of xs))
         ∙ (host_heard (causes_of xs) (of_can h bare_link xs a) ∙ (up_session (link_now xs).host u.host ∙ ap (λ n. Some n) (sym u.number)))
 
     P : Bool → ℕ → Type 0
@@ -203,18 +202,12 @@ settled_of h t run asked before reset behind back e window q z =
     let alone : has_rset h (entries_of behind) ≡ false = ap (λ n. has_rset n (entries_of behind)) (sym mine.0) ∙ z.alone in
     let spared : Spared (entries m (link_events behind)) =
     spared_of h (entries m (link_events behind)) (sym (ap (has_lost h) read) ∙ lossless) (sym (ap (has_rset h) read) ∙ alone) in
-    let now = now_behind before reset behind bare_link in
     let can = of_can h bare_link before (of_front h bare_link before (reset ∷ behind) a) in
     let R : Cause → Type 0 = λ c. IsReset l (event_of c) in
     let law : (link_now xs).to_controller ≡ [] → (link_now xs).to_host ≡ [] → LinkTogether (link_now xs) =
-    λ c d. run_together before reset behind (of_allowed h bare_link xs a)
-    (record {
-      asked = subst R (sym z.cause) (reset_ready l e window mine.1 z.other (always_active (causes_of before) can));
-      undisturbed = none_withheld (entries m (link_events behind)) spared
-          (plain_stands (entries m (link_events behind)) (plain_entries (causes_of behind) m));
-      to_controller = sym (ap (λ (y : Link). y.to_controller) now) ∙ c;
-      to_host = sym (ap (λ (y : Link). y.to_host) now) ∙ d;
-    }) in
+    run_together before reset behind (of_allowed h bare_link xs a)
+    (subst R (sym z.cause) (reset_ready l e window mine.1 z.other (always_active (causes_of before) can)))
+    (none_withheld (entries m (link_events behind)) spared (plain_stands (entries m (link_events behind)) (plain_entries (causes_of behind) m))) in
     let is : t.opening ++ entries_of xs ≡ entries_for h (notes_of xs) = run_entries h t.opening xs run.opening a in
     let P : List Entry → Type 0 = λ y. AreUpTogether y e in
     subst P (sym is)
