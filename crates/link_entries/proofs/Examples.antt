@@ -1,6 +1,6 @@
 -- The definitions compute the worked examples, entry by entry.
 use Rattle.std.specs.List.{list_any}
-use Rattle.std.proofs.Common.{◌≡◌, ℕ, zero, suc, true, false, refl, List, [], ◌∷◌, ◌++◌, drop, None}
+use Rattle.std.proofs.Common.{◌≡◌, ℕ, zero, suc, true, false, refl, List, [], ◌∷◌, ◌++◌, drop, Some, None}
 use Rattle.swp_base.specs.declared.control_frames.Control.{Control}
 use Rattle.swp_base.specs.declared.control_frames.Control.TheVariants.{I, S, Rset, Ua, Act}
 use Rattle.swp_base.specs.declared.control_frames.Act.TheVariants.{Ready, SyncId, PowerMode}
@@ -21,6 +21,8 @@ use Rattle.link_entries.specs.Entries.End.{Controller, Host}
 use Rattle.link_entries.specs.Entries.Entry.{Up, Down, Active, GaveUp, Acked, Got, Sent, Emit, Took, Lost, Tick, Restarted, Cut}
 use Rattle.link_entries.specs.Filters.{sent_in, got_in, acked_in}
 use Rattle.link_entries.specs.Quiet.{disturbs, since, IsQuietSince}
+use Rattle.link_entries.specs.Sessions.{session_in}
+use Rattle.link_entries.specs.Settled.{withholds, IsSettledSince}
 
 -- ## What may happen
 
@@ -197,3 +199,36 @@ quiet_is_quiet = record { controller = refl; host = refl; undisturbed = refl; to
 -- a message is lost and sent once more
 lost_disturbs : list_any disturbs (since 0 (trace bare (AtHost (gives (1, 3 ∷ [])) ∷ AtController (Lose OnDemand) ∷ ticks 5))) ≡ true
 lost_disturbs = refl
+
+-- ## Sessions that last, and resets
+
+-- the end of a node that lost power has no session; the other one's goes on
+cut_session : session_in (trace line cut) Controller ≡ None
+cut_session = refl
+
+cut_goes_on : session_in (trace line cut) Host ≡ Some 1
+cut_goes_on = refl
+
+-- a reset at the controller's end, once both ends are active
+settled : IsSettledSince (trace line up) (after line (activates ∷ AtController takes ∷ AtHost takes ∷ AtController takes ∷ [])) (AtController resets)
+    (AtHost takes ∷ AtController takes ∷ [])
+settled =
+    record {
+      asked = record { granted = refl; active = refl; free = refl };
+      undisturbed = refl;
+      to_controller = refl;
+      to_host = refl;
+    }
+
+settled_controller : session_in (trace line up) Controller ≡ Some 1
+settled_controller = refl
+
+settled_host : session_in (trace line up) Host ≡ Some 1
+settled_host = refl
+
+-- a second reset that crosses the first one, and a loss, withhold its answer
+crossing_withholds : list_any withholds (entries (after bare (AtController resets ∷ [])) (AtHost resets ∷ [])) ≡ true
+crossing_withholds = refl
+
+loss_withholds : list_any withholds (entries (after bare (AtHost resets ∷ [])) (AtController (Lose OnDemand) ∷ [])) ≡ true
+loss_withholds = refl
