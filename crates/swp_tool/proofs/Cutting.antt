@@ -1,8 +1,11 @@
 -- Cutting a stream of bytes into lines.
-use Rattle.std.proofs.Common.{◌≡◌, ℕ, ◌+◌, ◌-◌, ◌<◌, ◌≤◌, Bool, true, false, cond, eqb, List, [], ◌∷◌, ◌++◌, length, map, take, drop, get_or, zero, suc, refl, sym, ap, ◌∙◌, append_assoc, arith, length-append, length-take}
+use Rattle.std.proofs.Common.{◌≡◌, ℕ, ◌+◌, ◌-◌, ◌<◌, ◌≤◌, Bool, true, false, cond, eqb, List, [], ◌∷◌, ◌++◌, length, map, take, drop, get_or, suc, refl, sym, ap, ◌∙◌, append_assoc, arith, length-append, length-take, Some, None, position}
 use Rattle.std.specs.List.{flat_map, slice_split, onto_first}
 use Rattle.std.specs.Str.Lines.{lines, lines_of_parts, strip_carriage_return}
-use Rattle.std.proofs.lemmas.List.{take_more, take-append-drop}
+use Rattle.std.proofs.lemmas.List.{take_more, take-append-drop, get_or-take}
+use Rattle.std.proofs.lemmas.Bool.{eqb-true, ltb-false}
+use Rattle.std.proofs.lemmas.List.Sums.{fails_before_first}
+use Rattle.std.proofs.lemmas.List.Quantifiers.{position-Some}
 use Rattle.std.proofs.lemmas.List.Splits.{slice_split_at, slice_split_none}
 use Rattle.std.proofs.lemmas.List.Elements.{All-append}
 use Rattle.std.proofs.lemmas.Grind.{common_steps}
@@ -96,13 +99,34 @@ lines-lacks x lacks long =
     let some : eqb (length x) 0 ≡ false = grind (arith, common_steps) in
     ap lines_of_parts (slice_split_none (λ b. eqb b 10) x lacks) ∙ ap (λ b. cond b [] (x ∷ [])) some
 
--- a byte more that is no LF
-pub lacks_more : (x : List ℕ) (byte : ℕ) → LacksLineFeed x → eqb byte 10 ≡ false → LacksLineFeed (x ++ byte ∷ [])
-lacks_more x byte lacks other = All-append (λ b. eqb b 10 ≡ false) x (byte ∷ []) lacks one
-  where
-    one : LacksLineFeed (byte ∷ [])
-    one zero d within = other
-    one (suc k) d within = absurd (omega arith)
+-- more bytes of which none is an LF
+pub lacks_append : (x more : List ℕ) → LacksLineFeed x → LacksLineFeed more → LacksLineFeed (x ++ more)
+lacks_append x more = All-append (λ b. eqb b 10 ≡ false) x more
+
+none_test : (t : Bool) (a : ℕ) → cond t (Some a) None ≡ None → t ≡ false
+none_test true a h = cc
+none_test false a h = refl
+
+-- where no LF is found there is none
+pub lacks_all : (bytes : List ℕ) → position (λ b. eqb b 10) bytes ≡ None → LacksLineFeed bytes
+lacks_all bytes h =
+    let far = ltb-false _ _ (none_test _ _ h) in
+    λ k d within. fails_before_first (λ b. eqb b 10) bytes k d (omega (arith, far))
+
+-- bytes are cut at the first LF
+pub cut_at : (bytes : List ℕ) (end : ℕ) → position (λ b. eqb b 10) bytes ≡ Some end
+    → (bytes ≡ ended_line (take end bytes) ++ drop (end + 1) bytes) × LacksLineFeed (take end bytes) × (end < length bytes)
+cut_at bytes end h =
+    let at = position-Some (λ b. eqb b 10) bytes end 0 h in
+    let lf : get_or bytes end 0 ≡ 10 = eqb-true (get_or bytes end 0) 10 at.1 in
+    let front : take (end + 1) bytes ≡ ended_line (take end bytes) = take_more bytes end 0 at.0 ∙ ap (λ b. take end bytes ++ b ∷ []) lf in (
+      sym (ap (λ l. l ++ drop (end + 1) bytes) (sym front) ∙ take-append-drop (end + 1) bytes),
+      λ k d within.
+          let short : k < end = omega (arith, within, length-take end bytes) in
+          let before = (position-Some (λ b. eqb b 10) bytes end d h).2 k short in
+          ap (λ b. eqb b 10) (get_or-take end bytes k d short) ∙ before,
+      at.0,
+    )
 
 -- ## Pieces
 
@@ -120,3 +144,8 @@ whole_after bytes piece rest n =
 
 pub left_of : (piece : List ℕ) (n : ℕ) → n ≤ length piece → take (length piece - n) (drop n piece) ≡ drop n piece
 left_of piece n h = grind (arith, common_steps)
+
+-- what was read before a line, the line and what follows it
+pub whole_line : (bytes front line more left piece : List ℕ) → front ++ left ≡ piece → left ≡ line ++ more → ((bytes ++ front) ++ line) ++ more ≡ bytes ++ piece
+whole_line bytes front line more left piece whole cut =
+    append_assoc (bytes ++ front) line more ∙ append_assoc bytes front (line ++ more) ∙ ap (λ l. bytes ++ l) (ap (λ l. front ++ l) (sym cut) ∙ whole)

@@ -22,7 +22,7 @@ use Rattle.swp_tool.specs.Schedules.{Stop, AtFault, AtMisread, Too_many, Schedul
 use Rattle.swp_tool.specs.Transcripts.{IsTextOf, IsTranscript, done_line}
 use Rattle.swp_tool.specs.Replays.{IsAt, HasPlayed, HaltsAt}
 use Rattle.swp_tool.specs.Pieces.{LacksLineFeed, ended_line, AllLackLineFeed, schedule_so_far, HasRead, IsReading, IsFrontTranscript, StopsAt, Halts, HaltsAtEnd, schedule_read, IsCompleteTranscript}
-use Rattle.swp_tool.proofs.Cutting.{lines-ended, lines-all_ended, long_line, some_line, lacks_more, lines-lacks}
+use Rattle.swp_tool.proofs.Cutting.{lines-ended, lines-all_ended, long_line, some_line, lacks_append, lines-lacks}
 
 -- ## Schedules
 
@@ -153,17 +153,27 @@ halts_too_many p bytes written byte reading full h = λ rest.
         subst P (sym running)
         (ap (λ b. (cond b (record s { count = s.count + 1; stop = Some Too_many }) (with_said (record s { stop = None }) (line_of s.header line))).stop) (ap (λ n. eqb n 20000) count))
 
-pub halts_too_long : (p : Pieces) (bytes written : List ℕ) (byte : ℕ) → p.replay.count < 20000 → 9000 < length p.partial.items → (eqb byte 10 ≡ false) → HasRead p bytes written
-    → Halts (halt.Fault fault.TooLong) p.replay.count (bytes ++ byte ∷ []) (written ++ p.replay.text.items)
-halts_too_long p bytes written byte room long other h = λ rest.
-    let x = p.partial.items ++ byte ∷ [] in
-    let line = long_line x rest 9000 (lacks_more p.partial.items byte h.partial_lacks other) (let e : length x ≡ length p.partial.items + 1 = Rattle.std.proofs.Common.length-append p.partial.items (byte ∷ []) in omega arith) in
-    let next : lines (p.partial.items ++ byte ∷ rest) ≡ line.line ∷ line.more = ap lines (sym (append_assoc p.partial.items (byte ∷ []) rest)) ∙ line.lines_are in
+-- the same where more bytes than one come
+pub halts_too_many_in : (p : Pieces) (before written bytes : List ℕ) → 0 < length bytes → IsReading p → p.replay.count ≡ 20000 → HasRead p before written
+    → Halts halt.TooMany p.replay.count (before ++ bytes) (written ++ p.replay.text.items)
+halts_too_many_in p before written [] some reading full h = absurd (omega arith)
+halts_too_many_in p before written (byte ∷ more) some reading full h =
+    let text = written ++ p.replay.text.items in
+    let P : List ℕ → Type 0 = λ b. Halts halt.TooMany p.replay.count b text in
+    subst P (append_assoc before (byte ∷ []) more)
+    (halts_more halt.TooMany p.replay.count (before ++ byte ∷ []) more text (halts_too_many p before written byte reading full h))
+
+pub halts_too_long : (p : Pieces) (before written bytes : List ℕ) → p.replay.count < 20000 → 9001 < length p.partial.items + length bytes → LacksLineFeed bytes → HasRead p before written
+    → Halts (halt.Fault fault.TooLong) p.replay.count (before ++ bytes) (written ++ p.replay.text.items)
+halts_too_long p before written bytes room long lacks h = λ rest.
+    let x = p.partial.items ++ bytes in
+    let line = long_line x rest 9000 (lacks_append p.partial.items bytes h.partial_lacks lacks) (let e : length x ≡ length p.partial.items + length bytes = Rattle.std.proofs.Common.length-append p.partial.items bytes in omega arith) in
+    let next : lines (p.partial.items ++ (bytes ++ rest)) ≡ line.line ∷ line.more = ap lines (sym (append_assoc p.partial.items bytes rest)) ∙ line.lines_are in
     let s = schedule_so_far h.whole in
     let stop : (with_line s line.line).stop ≡ Some (AtFault fault.TooLong) = too_long s line.line h.played.running (omega (arith, h.played.count_is)) line.holds in
     let P : List ℕ → Type 0 = λ b. StopsAt b (AtFault fault.TooLong) (p.replay.count + 1) (written ++ p.replay.text.items) in
-    subst P (sym (append_assoc bytes (byte ∷ []) rest))
-    (stops_next p bytes written (byte ∷ rest) (AtFault fault.TooLong) (written ++ p.replay.text.items) h line.line line.more next stop (played_transcript p.replay s written h.played))
+    subst P (sym (append_assoc before bytes rest))
+    (stops_next p before written (bytes ++ rest) (AtFault fault.TooLong) (written ++ p.replay.text.items) h line.line line.more next stop (played_transcript p.replay s written h.played))
   where
     too_long : (s : Schedule) (line : List ℕ) → s.stop ≡ None → s.count < 20000 → 9000 < length line → (with_line s line).stop ≡ Some (AtFault fault.TooLong)
     too_long s line running room' long' =
@@ -174,6 +184,22 @@ halts_too_long p bytes written byte room long other h = λ rest.
         subst P (sym running)
         (ap (λ b. (cond b (record s { count = s.count + 1; stop = Some Too_many }) (with_said (record s { stop = None }) (line_of s.header line))).stop) below
         ∙ ap (λ r. (with_said (record s { stop = None }) r).stop) fault_is)
+
+-- ## Bytes of a line that has not ended
+
+-- they are kept
+pub read_more : (p q : Pieces) (before written bytes : List ℕ) → LacksLineFeed bytes → q.partial.items ≡ p.partial.items ++ bytes → q.replay ≡ p.replay
+    → HasRead p before written → HasRead q (before ++ bytes) written
+read_more p q before written bytes lacks items replay h =
+    let P : List ℕ → Type 0 = λ l. LacksLineFeed l in
+    let Q : Replay → Type 0 = λ r. HasPlayed r (schedule_so_far h.whole) written in
+    record {
+      whole = h.whole;
+      cut = ap (λ b. b ++ bytes) h.cut ∙ (append_assoc (flat_map ended_line h.whole) p.partial.items bytes ∙ ap (λ l. flat_map ended_line h.whole ++ l) (sym items));
+      lack = h.lack;
+      partial_lacks = subst P (sym items) (lacks_append p.partial.items bytes h.partial_lacks lacks);
+      played = subst Q (sym replay) h.played;
+    }
 
 -- ## A line that has ended
 

@@ -1,8 +1,8 @@
 //! A schedule comes in pieces; each line is played as soon as it has ended.
-ghost use Rattle.std.specs.Prelude.{◌≡◌, ◌≢◌, ◌+◌, ◌<◌, ◌≤◌, ◌++◌, ◌∷◌, [], List, ℕ, length, OnOk, IfErr};
+ghost use Rattle.std.specs.Prelude.{◌≡◌, ◌==◌, ◌+◌, ◌<◌, ◌≤◌, ◌++◌, ◌∷◌, [], List, ℕ, length, position, OnOk, IfErr, IfSome, IfNone};
 ghost use Rattle.std.specs.Str.Lines.{strip_carriage_return};
 ghost use Rattle.swp_tool.specs.Replays.{HasPlayed};
-ghost use Rattle.swp_tool.specs.Pieces.{schedule_read, HasRead, IsReading, IsCompleteTranscript, Halts, HaltsAtEnd, bytes_left};
+ghost use Rattle.swp_tool.specs.Pieces.{schedule_read, LacksLineFeed, ended_line, HasRead, IsReading, IsCompleteTranscript, Halts, HaltsAtEnd, bytes_left};
 
 use crate::replay::{Halt, Replay};
 use schedule_text::LineFault;
@@ -34,7 +34,7 @@ impl Pieces {
         }
     }
 
-    /// Takes the bytes of a piece, one after another. Where it halts, the text is that of the lines before.
+    /// Takes the bytes of a piece, line by line. Where it halts, the text is that of the lines before.
     pub fn feed(&mut self, alloc: Global, piece: &[u8]) -> Result<(), Halt>
         requires { IsReading self.old }
         ensures read { OnOk result ((bytes written : List ℕ) → HasRead self.old bytes written → HasRead self.new (bytes ++ piece.now) written) }
@@ -44,12 +44,17 @@ impl Pieces {
         ensures halts { IfErr result (λ why. (bytes written : List ℕ) → HasRead self.old bytes written
             → Halts why self.new.replay.count (bytes ++ piece.now) (written ++ self.new.replay.text.items)) }
     {
-        for byte in piece {
-            if let Err(why) = self.take(alloc, *byte) {
+        let mut left = piece;
+        'lines: while let Some((line, more)) = cut_line(left) {
+            if let Err(why) = self.take_line(alloc, line) {
                 return Err(why);
             }
+            left = more;
         }
-        Ok(())
+        match self.keep(left) {
+            Ok(()) => Ok(()),
+            Err(why) => Err(why),
+        }
     }
 
     /// The bytes have ended: plays the line that no LF has ended, if there is one, and gathers the last line of the
@@ -100,41 +105,51 @@ impl Pieces {
         }
     }
 
-    /// Takes a byte.
-    fn take(&mut self, alloc: Global, byte: u8) -> Result<(), Halt>
-        requires { IsReading self.old }
-        ensures read { OnOk result ((bytes written : List ℕ) → HasRead self.old bytes written → HasRead self.new (bytes ++ byte ∷ []) written) }
+    /// Takes bytes and the LF that ends their line.
+    fn take_line(&mut self, alloc: Global, bytes: &[u8]) -> Result<(), Halt>
+        requires reading { IsReading self.old }
+        requires lacks { LacksLineFeed bytes.now }
+        ensures read { OnOk result ((before written : List ℕ) → HasRead self.old before written → HasRead self.new (before ++ ended_line bytes.now) written) }
         ensures reading { OnOk result (IsReading self.new) }
         ensures counted { self.new.replay.count ≤ 20000 }
-        ensures progress { OnOk result (bytes_left self.new < bytes_left self.old) }
-        ensures halts { IfErr result (λ why. (bytes written : List ℕ) → HasRead self.old bytes written
-            → Halts why self.new.replay.count (bytes ++ byte ∷ []) (written ++ self.new.replay.text.items)) }
+        ensures progress { OnOk result (bytes_left self.new + length (ended_line bytes.now) ≤ bytes_left self.old) }
+        ensures halts { IfErr result (λ why. (before written : List ℕ) → HasRead self.old before written
+            → Halts why self.new.replay.count (before ++ ended_line bytes.now) (written ++ self.new.replay.text.items)) }
     {
         if self.replay.count == MAX_LINES {
             return Err(Halt::TooMany);
         }
-        if byte == b'\n' {
-            return self.end_line(alloc);
+        if let Err(why) = self.keep(bytes) {
+            return Err(why);
         }
-        self.keep(byte)
+        match self.end_line(alloc) {
+            Ok(()) => Ok(()),
+            Err(why) => Err(why),
+        }
     }
 
-    /// Keeps a byte of the line that has not ended.
-    fn keep(&mut self, byte: u8) -> Result<(), Halt>
+    /// Keeps bytes of the line that has not ended.
+    fn keep(&mut self, bytes: &[u8]) -> Result<(), Halt>
         requires reading { IsReading self.old }
-        requires room { self.old.replay.count < 20000 }
-        requires byte { byte ≢ 10 }
-        ensures read { OnOk result ((bytes written : List ℕ) → HasRead self.old bytes written → HasRead self.new (bytes ++ byte ∷ []) written) }
+        requires lacks { LacksLineFeed bytes.now }
+        ensures read { OnOk result ((before written : List ℕ) → HasRead self.old before written → HasRead self.new (before ++ bytes.now) written) }
         ensures reading { OnOk result (IsReading self.new) }
+        ensures same { self.new.replay ≡ self.old.replay }
         ensures counted { self.new.replay.count ≤ 20000 }
-        ensures progress { OnOk result (bytes_left self.new < bytes_left self.old) }
-        ensures halts { IfErr result (λ why. (bytes written : List ℕ) → HasRead self.old bytes written
-            → Halts why self.new.replay.count (bytes ++ byte ∷ []) (written ++ self.new.replay.text.items)) }
+        ensures progress { OnOk result (bytes_left self.new + length bytes.now ≡ bytes_left self.old) }
+        ensures halts { IfErr result (λ why. (before written : List ℕ) → HasRead self.old before written
+            → Halts why self.new.replay.count (before ++ bytes.now) (written ++ self.new.replay.text.items)) }
     {
-        if self.partial.len() > MAX_LINE {
+        if bytes.is_empty() {
+            return Ok(());
+        }
+        if self.replay.count == MAX_LINES {
+            return Err(Halt::TooMany);
+        }
+        if bytes.len() > MAX_LINE + 1 - self.partial.len() {
             return Err(Halt::Fault(LineFault::TooLong));
         }
-        match self.partial.push(byte) {
+        match self.partial.extend_from_slice(bytes) {
             Ok(()) => Ok(()),
             Err(_) => Err(Halt::NoMemory),
         }
@@ -160,6 +175,22 @@ impl Pieces {
             Err(why) => Err(why),
         }
     }
+}
+
+/// The bytes in front of the first LF, and those behind it.
+fn cut_line(bytes: &[u8]) -> Option<(&[u8], &[u8])>
+    ensures some { IfSome result (λ r. bytes.now ≡ ended_line r.0.now ++ r.1.now) }
+    ensures lacks { IfSome result (λ r. LacksLineFeed r.0.now) }
+    ensures none { IfNone result (LacksLineFeed bytes.now) }
+{
+    let end = line_feed_in(bytes)?;
+    Some((&bytes[..end], &bytes[end + 1..]))
+}
+
+fn line_feed_in(bytes: &[u8]) -> Option<usize>
+    ensures { result ≡ position (λ b. b == 10) bytes.now }
+{
+    bytes.iter().position(|byte| *byte == b'\n')
 }
 
 /// A line without the CR at its end, if it has one.

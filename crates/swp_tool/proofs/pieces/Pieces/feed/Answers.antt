@@ -1,17 +1,40 @@
--- Where a byte halts the replay, it halts however the piece goes on.
-use Rattle.std.proofs.Common.{◌+◌, ◌++◌, ◌∷◌, [], List, ℕ, take, drop, get_or, subst, arith}
-use Rattle.swp_tool.specs.Pieces.{Halts}
-use Rattle.swp_tool.proofs.Cutting.{whole_piece}
+-- Where a line halts the replay, it halts however the piece goes on.
+use Rattle.std.proofs.Common.{◌++◌, List, ℕ, length-append, subst, sym, ap, ◌∙◌, append_assoc, arith}
+use Rattle.swp_tool.specs.Pieces.{HasRead, Halts, ended_line}
+use Rattle.swp_tool.proofs.Cutting.{whole_line}
 use Rattle.swp_tool.proofs.Reading.{halts_more}
 use Rattle.swp_tool.proofs.pieces.Pieces.feed.Goals as goal
 
+pub lines-preserved : goal.lines-preserved
+lines-preserved c =
+    let front = c.lines.invariant.0 in
+    let line = ended_line c.in-Some.line.now in
+    let read = c.lines.invariant.3 in (
+      front ++ line,
+      append_assoc front line c.in-Some.more.now ∙ ap (λ l. front ++ l) (sym c.in-Some.ensures.some) ∙ c.lines.invariant.1,
+      c.in_default-take_line.ensures.reading,
+      λ bytes written h.
+          (let P : List ℕ → Type 0 = λ b. HasRead c.take_line.new.self b written in
+          subst P (append_assoc bytes front line) (c.in_default-take_line.ensures.read (bytes ++ front) written (read bytes written h))),
+      omega (arith, length-append front line, c.in_default-take_line.ensures.progress, c.lines.invariant.4),
+    )
+
 pub returns-in-Err-clause-halts : goal.returns-in-Err-clause-halts
 returns-in-Err-clause-halts c bytes written h =
-    let i = c.loop-byte.byte-index in
-    let piece = c.args.piece.now in
-    let text = written ++ c.take.new.self.replay.text.items in
-    let count = c.take.new.self.replay.count in
+    let front = c.lines.invariant.0 in
+    let line = ended_line c.in-Some.line.now in
+    let more = c.in-Some.more.now in
+    let text = written ++ c.take_line.new.self.replay.text.items in
+    let count = c.take_line.new.self.replay.count in
     let P : List ℕ → Type 0 = λ b. Halts c.in-Err.why count b text in
-    subst P (whole_piece bytes piece i (omega (arith, c.loop-byte-test.true)))
-    (halts_more c.in-Err.why count ((bytes ++ take i piece) ++ get_or piece i 0 ∷ []) (drop (i + 1) piece) text
-    (c.in-Err.ensures.halts (bytes ++ take i piece) written (c.loop-byte.invariant.read bytes written h)))
+    subst P (whole_line bytes front line more c.lines.left.now c.args.piece.now c.lines.invariant.1 c.in-Some.ensures.some)
+    (halts_more c.in-Err.why count ((bytes ++ front) ++ line) more text
+    (c.in-Err.ensures.halts (bytes ++ front) written (c.lines.invariant.3 bytes written h)))
+
+pub returns-in-Err-keep-clause-halts : goal.returns-in-Err-keep-clause-halts
+returns-in-Err-keep-clause-halts c bytes written h =
+    let front = c.lines.invariant.0 in
+    let p = c.keep.new.self in
+    let P : List ℕ → Type 0 = λ b. Halts c.in-Err-keep.why p.replay.count b (written ++ p.replay.text.items) in
+    subst P (append_assoc bytes front c.lines.left.now ∙ ap (λ l. bytes ++ l) c.lines.invariant.1)
+    (c.in-Err-keep.ensures.halts (bytes ++ front) written (c.lines.invariant.3 bytes written h))

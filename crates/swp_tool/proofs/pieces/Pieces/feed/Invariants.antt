@@ -1,12 +1,13 @@
-use Rattle.std.proofs.Common.{◌+◌, ◌≤◌, ◌++◌, take, List, ℕ}
+use Rattle.std.proofs.Common.{◌≡◌, ◌+◌, ◌≤◌, ◌++◌, length, List, ℕ}
 use Rattle.swp_tool.specs.Pieces.{HasRead, IsReading, bytes_left}
 use Rattle.swp_tool.proofs.pieces.Pieces.feed.Given as goal
 
--- the bytes so far were read, and each has left fewer to come
-abbrev pub invariant-loop-byte : goal.invariant-loop-byte
-invariant-loop-byte l =
-    record {
-      reading : IsReading l.self;
-      read : (bytes written : List ℕ) → HasRead l.fn.self bytes written → HasRead l.self (bytes ++ take l.byte-index l.piece) written;
-      fewer : bytes_left l.self + l.byte-index ≤ bytes_left l.fn.self;
-    }
+-- lines in front of the piece were read, and have left fewer bytes to come
+abbrev pub invariant-lines : goal.invariant-lines
+invariant-lines l =
+    (front : List ℕ) × (front ++ l.left ≡ l.piece) × IsReading l.self
+    × ((bytes written : List ℕ) → HasRead l.fn.self bytes written → HasRead l.self (bytes ++ front) written)
+    × (bytes_left l.self + length front ≤ bytes_left l.fn.self)
+
+abbrev pub decreases-lines : goal.decreases-lines
+decreases-lines l = length l.left

@@ -1,20 +1,27 @@
-use Rattle.std.proofs.Common.{◌≡◌, ◌++◌, ◌∷◌, [], eqb, false, subst, List, ℕ, arith, sym, append_assoc}
-use Rattle.std.proofs.lemmas.Grind.{common_steps}
+-- The bytes are kept, or the replay halts however they go on.
+use Rattle.std.proofs.Common.{◌++◌, subst, List, ℕ, arith, sym, append_assoc}
 use Rattle.swp_tool.specs.Pieces.{IsFrontTranscript}
-use Rattle.swp_tool.proofs.Reading.{halts_too_long, front_so_far, played_transcript}
+use Rattle.swp_tool.proofs.Texts.{tests_some}
+use Rattle.swp_tool.proofs.Reading.{halts_too_many_in, halts_too_long, front_so_far, played_transcript}
 use Rattle.swp_tool.proofs.pieces.Pieces.keep.Goals as goal
 
+-- a line too many begins
+pub returns-then-self-eq-MAX_LINES-clause-halts : goal.returns-then-self-eq-MAX_LINES-clause-halts
+returns-then-self-eq-MAX_LINES-clause-halts c before written h =
+    halts_too_many_in c.args.self.now before written c.args.bytes.now (tests_some c.args.bytes.now c.is_empty.result c.is_empty.ensures c.if-is_empty.false) c.requires.reading
+    (omega (arith, c.if-self-eq-MAX_LINES.true)) h
+
 -- the line is too long, however it goes on
-pub returns-then-len-gt-MAX_LINE-clause-halts : goal.returns-then-len-gt-MAX_LINE-clause-halts
-returns-then-len-gt-MAX_LINE-clause-halts c bytes written h =
-    let other : eqb c.args.byte 10 ≡ false = grind (arith, common_steps, c.requires.byte) in
-    halts_too_long c.args.self.now bytes written c.args.byte c.requires.room (omega (arith, c.len.ensures, c.if-len-gt-MAX_LINE.true)) other h
+pub returns-then-bytes-len-clause-halts : goal.returns-then-bytes-len-clause-halts
+returns-then-bytes-len-clause-halts c before written h =
+    halts_too_long c.args.self.now before written c.args.bytes.now (omega (arith, c.requires.reading.few.count, c.if-self-eq-MAX_LINES.false))
+    (omega (arith, c.requires.reading.short, c.if-bytes-len.true, c.len.ensures)) c.requires.lacks h
 
 -- the lines before stay played
 pub returns-in-Err-clause-halts : goal.returns-in-Err-clause-halts
-returns-in-Err-clause-halts c bytes written h rest =
+returns-in-Err-clause-halts c before written h rest =
     let p = c.args.self.now in
     let text = written ++ p.replay.text.items in
     let P : List ℕ → Type 0 = λ b. IsFrontTranscript b text in
-    subst P (sym (append_assoc bytes (c.args.byte ∷ []) rest))
-    (front_so_far p bytes written (c.args.byte ∷ rest) text h (played_transcript p.replay _ written h.played))
+    subst P (sym (append_assoc before c.args.bytes.now rest))
+    (front_so_far p before written (c.args.bytes.now ++ rest) text h (played_transcript p.replay _ written h.played))
