@@ -80,7 +80,7 @@ abbrev pub DeliversToController : Link → Type 0
 DeliversToController l =
     (events : List LinkEvent) → IsRunOf events l → IsQuiet l (losses_of new_line events) → AllDelivered (talk_now l.host.side) (talk_now l.controller.side)
 
-abbrev Settles : Link → Type 0
+abbrev pub Settles : Link → Type 0
 Settles l = (events : List LinkEvent) → IsRunOf events l → IsSettled l (sure_of new_line events) → AreUpTogether l
 
 pub delivers_to_host : (l : Link) → DeliversToHost l
@@ -93,7 +93,7 @@ delivers_to_controller l events r =
     let P : Link → Type 0 = λ k. IsQuiet k (losses_of new_line events) → AllDelivered (talk_now k.host.side) (talk_now k.controller.side) in
     subst P r.is (all_there new_line IsLine events r.allowed)
 
-settles : (l : Link) → Settles l
+pub settles : (l : Link) → Settles l
 settles l events r =
     let P : Link → Type 0 = λ k. IsSettled k (sure_of new_line events) → AreUpTogether k in
     subst P r.is (up_together new_line IsLine events r.allowed)

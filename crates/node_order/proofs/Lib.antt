@@ -7,3 +7,4 @@ pub mod Lines
 pub mod Prefix
 pub mod Ordered
 pub mod Quiet
+pub mod LegalLemmas

@@ -3,17 +3,17 @@
 #![tactic(auto)]
 
 ghost use Rattle.std.specs.Prelude.{◌≡◌, ◌++◌, ℕ, false, List, Some};
-ghost use Rattle.std.specs.List.{list_any};
-ghost use Rattle.trace_model.specs.declared.entry.Entry.{Entry};
+ghost use Rattle.std.specs.List.{AllByRecursion, list_any};
 ghost use Rattle.trace_model.specs.declared.line.Header.{Header};
 ghost use Rattle.trace_model.specs.declared.line.Line.{Line};
-ghost use Rattle.history.specs.Legal.{IsInOrder, is_chain_fault};
+ghost use Rattle.history.specs.Legal.{is_chain_fault};
 ghost use Rattle.node_world.specs.World.{Site, new_world, site_at};
 ghost use Rattle.node_world.specs.Lines.{Occurrence};
 ghost use Rattle.node_world.specs.NodeHistories.{FollowsNodes, NodeHistory, entries_in, node_entries, occurrences_in, world_after};
 ghost use Rattle.node_links.specs.Runs.{ArePlayable};
-ghost use Rattle.kept_laws.specs.Hosts.{AreHosts};
+ghost use Rattle.kept_laws.specs.Hosts.{AreHosts, IsFew, IsSentByHost};
 ghost use Rattle.node_telling.specs.Telling.{IsTimely};
+ghost use Rattle.node_order.specs.Legal.{LegalNodes, Prefix};
 ghost use Rattle.node_order.specs.Told.{AreReadOff, HasDelivered, IsTold, world_behind};
 
 /// At the end of each event of a history of hosts from 01 to 07 that are all different, each end is new while its node doesn't run, a
@@ -44,7 +44,7 @@ pub fn histories_tell_of_each_link()
 /// more count than were sent. And no session ends by packets that can't be joined.
 pub fn messages_are_in_order_in_each_history()
     ensures in_order { (header : Header) (lines : List Line) (t : NodeHistory) → FollowsNodes header lines t → AreHosts header.hosts.items →
-        ArePlayable lines → (front back : List Entry) → node_entries t ≡ front ++ back → IsInOrder front }
+        ArePlayable lines → Prefix t }
     ensures joined { (header : Header) (lines : List Line) (t : NodeHistory) → FollowsNodes header lines t → AreHosts header.hosts.items →
         ArePlayable lines → list_any is_chain_fault (node_entries t) ≡ false }
 {}
@@ -56,4 +56,13 @@ pub fn quiet_links_have_delivered_all_in_each_history()
     ensures { (header : Header) (lines : List Line) (t : NodeHistory) → FollowsNodes header lines t → AreHosts header.hosts.items →
         ArePlayable lines → (front back : List Occurrence) → occurrences_in t ≡ front ++ back → (h : ℕ) (s : Site) →
         site_at (world_behind (new_world header.hosts.items) front).sites h ≡ Some s → HasDelivered (entries_in front) h s.link }
+{}
+
+/// Every history that follows a schedule is legal, but for answers: messages are in order at each moment, at the end of each event quiet
+/// links have delivered all and resets have brought both ends up, pipes between hosts were made as whitelists allow, and commands are
+/// kept over power cuts. It asks for hosts from 01 to 07 that are all different, for lines that can be played, for messages that hosts
+/// send, and that no node has more commands than a journal counts.
+pub fn every_history_of_nodes_is_legal()
+    ensures { (header : Header) (lines : List Line) (t : NodeHistory) → FollowsNodes header lines t → AreHosts header.hosts.items →
+        ArePlayable lines → AllByRecursion IsSentByHost lines → IsFew (node_entries t) → LegalNodes t }
 {}

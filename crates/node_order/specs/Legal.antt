@@ -1,0 +1,37 @@
+-- What a history of a world of nodes is, whatever schedule it follows.
+use Rattle.std.specs.Prelude.{◌≡◌, ℕ, false, List, ◌++◌, Some}
+use Rattle.std.specs.List.{list_any}
+use Rattle.trace_model.specs.declared.entry.Entry.{Entry}
+use Rattle.message_link.specs.Links.{LinkEvent}
+use Rattle.message_link.specs.Settled.{AreUpTogether, IsSettled, sure_of}
+use Rattle.history.specs.Legal.{IsInOrder, is_chain_fault}
+use Rattle.node_world.specs.World.{Site, new_world, site_at}
+use Rattle.node_world.specs.Lines.{Occurrence}
+use Rattle.node_world.specs.NodeHistories.{NodeHistory, entries_in, node_entries, occurrences_in}
+use Rattle.node_world.specs.NodeLegal.{Allowed, Kept}
+use Rattle.node_links.specs.Runs.{IsRunOf, new_line}
+use Rattle.node_order.specs.Told.{HasDelivered, world_behind}
+
+-- At each moment messages are in order.
+abbrev pub Prefix : NodeHistory → Type 0
+Prefix t = (front back : List Entry) → node_entries t ≡ front ++ back → IsInOrder front
+
+-- So it is with the link of each host at the end of each event.
+abbrev pub AtEachEvent : NodeHistory → (List Entry → ℕ → Site → Type 0) → Type 0
+AtEachEvent t P =
+    (front back : List Occurrence) → occurrences_in t ≡ front ++ back → (h : ℕ) (s : Site)
+    → site_at (world_behind (new_world t.header.hosts.items) front).sites h ≡ Some s → P (entries_in front) h s
+
+-- At the end of each event a quiet link has delivered all, a reset whose answer nothing kept back has brought both ends up, and no session
+-- ends by packets that can't be joined.
+pub record Complete (t : NodeHistory) : Type 0 where
+  pub delivered : AtEachEvent t (λ entries h s. HasDelivered entries h s.link)
+  pub settled : AtEachEvent t (λ entries h s. (events : List LinkEvent) → IsRunOf events s.link → IsSettled s.link (sure_of new_line events) → AreUpTogether s.link)
+  pub joined : list_any is_chain_fault (node_entries t) ≡ false
+
+-- a legal history of nodes, but for answers
+pub record LegalNodes (t : NodeHistory) : Type 0 where
+  pub in_order : Prefix t
+  pub complete : Complete t
+  pub allowed : Allowed (node_entries t)
+  pub kept : Kept t
