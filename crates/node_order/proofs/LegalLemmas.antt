@@ -13,7 +13,8 @@ use Rattle.node_links.specs.Runs.{IsRunOf, new_line, ArePlayable}
 use Rattle.node_links.proofs.Obeying.{settles}
 use Rattle.kept_laws.specs.Hosts.{AreHosts, IsFew, IsSentByHost}
 use Rattle.kept_laws.proofs.Kept.{are_kept, are_allowed}
-use Rattle.node_order.specs.Told.{HasDelivered, world_behind}
+use Rattle.node_telling.specs.Telling.{world_behind}
+use Rattle.node_order.specs.Told.{HasDelivered}
 use Rattle.node_order.specs.Legal.{AtEachEvent, Complete, LegalNodes}
 use Rattle.node_order.proofs.Knowing.{Knows}
 use Rattle.node_order.proofs.Lines.{IsSo, history_so}

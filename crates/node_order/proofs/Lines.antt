@@ -22,13 +22,13 @@ use Rattle.node_world.specs.NodeHistories.{LineStep, NodeHistory, FollowsNodes, 
 use Rattle.node_links.specs.Runs.{IsPlayable, ArePlayable}
 use Rattle.node_links.proofs.Playing.{MayHappen, AreLasting, plain_reach, sending_fine, step_fine, repeated, damaged, runs_then, world_fine}
 use Rattle.kept_laws.specs.Hosts.{AreHosts}
-use Rattle.node_telling.specs.Telling.{of_link, hosts_in}
+use Rattle.node_telling.specs.Telling.{of_link, hosts_in, world_behind}
+use Rattle.node_telling.proofs.Lasting.{AllMay, events_of_steps, AllHold, front_holds, lines_hold, behind_lines}
 use Rattle.node_telling.proofs.Accounts.{of-append}
 use Rattle.node_telling.proofs.Orderly.{step_orderly, new_orderly}
 use Rattle.node_telling.proofs.Events.{sending_mute}
 use Rattle.node_readings.specs.Noticed.{NoticesAreUp}
 use Rattle.node_readings.proofs.NoticedWorlds.{event_up, numbers, lines_up}
-use Rattle.node_order.specs.Told.{world_behind}
 use Rattle.node_order.proofs.Unnoticed.{AreUnnoticed}
 use Rattle.node_order.proofs.Knowing.{Knows, Each}
 use Rattle.node_order.proofs.Events.{IsWell, comes_each, begins_each, memory_each, power_each, boots_each, lost_each, activates_each}
@@ -51,76 +51,6 @@ sending_unnoticed h m = go _
     go : (b : Bool) → AreUnnoticed (cond b (Orders m.1 ∷ []) (Sends h m ∷ []))
     go true = (tt, tt)
     go false = (tt, tt)
-
--- what lines cause
-abbrev pub caused_by : NodeWorld → List Line → List Occurrence
-caused_by w lines = flat_map (λ (s : LineStep). occurrences_of s.outcome) (steps_from w lines)
-
--- ## Events and worlds
-
-behind-append : (xs ys : List Occurrence) (w : NodeWorld) → world_behind w (xs ++ ys) ≡ world_behind (world_behind w xs) ys
-behind-append [] ys w = refl
-behind-append (o ∷ xs) ys w = behind-append xs ys (world_step w o.cause).0
-
-behind_all : (causes : List Happening) (w : NodeWorld) → world_behind w (all_happen w causes).1 ≡ (all_happen w causes).0
-behind_all [] w = refl
-behind_all (c ∷ causes) w = go (can_happen w c) (behind_all causes (world_step w c).0)
-  where
-    later : NodeWorld × List Occurrence
-    later = all_happen (world_step w c).0 causes
-
-    by : Bool → NodeWorld × List Occurrence
-    by true = (later.0, record { cause = c; entries = (world_step w c).1 } ∷ later.1)
-    by false = (w, [])
-
-    go : (b : Bool) → world_behind (world_step w c).0 later.1 ≡ later.0 → world_behind w (by b).1 ≡ (by b).0
-    go true q = q
-    go false q = refl
-
-behind_goes : (w : NodeWorld) (l : Line) → world_behind w (occurrences_of (goes_on w l).1) ≡ (goes_on w l).0
-behind_goes w (line.Send e pid message) = behind_all (happenings w (line.Send e pid message)) w
-behind_goes w (line.Deliver e count) = behind_all (happenings w (line.Deliver e count)) w
-behind_goes w (line.Lose e) = behind_all (happenings w (line.Lose e)) w
-behind_goes w (line.Damage e places) = behind_all (happenings w (line.Damage e places)) w
-behind_goes w (line.Tick times) = behind_all (happenings w (line.Tick times)) w
-behind_goes w (line.Reset e window) = behind_all (happenings w (line.Reset e window)) w
-behind_goes w (line.Busy e) = refl
-behind_goes w (line.Ready e) = refl
-behind_goes w (line.Boot node) = behind_all (happenings w (line.Boot node)) w
-behind_goes w (line.Cut node) = behind_all (happenings w (line.Cut node)) w
-behind_goes w (line.Activate host sync power) = behind_all (happenings w (line.Activate host sync power)) w
-behind_goes w (line.Arm node nth fill) = behind_all (happenings w (line.Arm node nth fill)) w
-behind_goes w (line.Init e identity pipes) = behind_all (happenings w (line.Init e identity pipes)) w
-behind_goes w (line.Tables n) = go (node_at w n)
-  where
-    go : (o : Option Running) → world_behind w (occurrences_of (tables_told n o)) ≡ w
-    go None = refl
-    go (Some r) = refl
-
-behind_line : (w : NodeWorld) (l : Line) → world_behind w (occurrences_of (line_step w l).1) ≡ (line_step w l).0
-behind_line w l = go (refusal_in w l)
-  where
-    by : Option NoCause → NodeWorld × LineOutcome
-    by (Some cause) = (w, WasRefused cause)
-    by None = goes_on w l
-
-    go : (o : Option NoCause) → world_behind w (occurrences_of (by o).1) ≡ (by o).0
-    go (Some cause) = refl
-    go None = behind_goes w l
-
-behind_lines : (lines : List Line) (w : NodeWorld) → world_behind w (caused_by w lines) ≡ world_after w lines
-behind_lines [] w = refl
-behind_lines (l ∷ lines) w =
-    behind-append (occurrences_of (line_step w l).1) (caused_by (line_step w l).0 lines) w
-    ∙ (ap (λ v. world_behind v (caused_by (line_step w l).0 lines)) (behind_line w l) ∙ behind_lines lines (line_step w l).0)
-
--- the world behind all events of a history is the one behind its lines
-pub behind_history : (header : Header) (lines : List Line) (t : NodeHistory) → FollowsNodes header lines t
-    → world_behind (new_world header.hosts.items) (occurrences_in t) ≡ world_after (new_world header.hosts.items) lines
-behind_history header lines t follows =
-    ap (λ (steps : List LineStep). world_behind (new_world header.hosts.items) (flat_map (λ (s : LineStep). occurrences_of s.outcome) steps))
-    follows.steps_are
-    ∙ behind_lines lines (new_world header.hosts.items)
 
 module _ (hosts : List ℕ) where
   step_each : (w : NodeWorld) (t : List Entry) (c : Happening) → MayHappen w c → IsSo hosts t w → Each (t ++ (world_step w c).1) (world_step w c).0
@@ -151,97 +81,31 @@ module _ (hosts : List ℕ) where
             ∙ step_none h w c a.well.orderly (subst (IsStrange h) (sym a.hosts_are) q));
       }
 
-  -- ## Lines
+-- ## Lines
 
-  nothing_more : (t : List Entry) (w : NodeWorld) → IsSo hosts t w → IsSo hosts (t ++ []) w
-  nothing_more t w a = let P : List Entry → Type 0 = λ z. IsSo hosts z w in subst P (sym (append-nil t)) a
+-- what may happen in any world may happen here
+lasting_may : (causes : List Happening) (w : NodeWorld) → AreLasting causes → AllMay MayHappen w causes
+lasting_may [] w a = tt
+lasting_may (c ∷ causes) w a = (a.0 w, lasting_may causes (world_step w c).0 a.1)
 
-  -- so it is before each of these events, and behind all of them
-  abbrev pub AllSo : List Entry → NodeWorld → List Occurrence → Type 0
-  AllSo t w [] = IsSo hosts t w
-  AllSo t w (o ∷ events) = IsSo hosts t w × AllSo (t ++ o.entries) (world_step w o.cause).0 events
-
-  all_so : (causes : List Happening) (w : NodeWorld) (t : List Entry) → AreLasting causes → IsSo hosts t w → AllSo t w (all_happen w causes).1
-  all_so [] w t m a = a
-  all_so (c ∷ causes) w t m a =
-      go (can_happen w c) (all_so causes (world_step w c).0 (t ++ (world_step w c).1) m.1 (step_so w t c (m.0 w) a))
-    where
-      later : NodeWorld × List Occurrence
-      later = all_happen (world_step w c).0 causes
-
-      by : Bool → NodeWorld × List Occurrence
-      by true = (later.0, record { cause = c; entries = (world_step w c).1 } ∷ later.1)
-      by false = (w, [])
-
-      go : (b : Bool) → AllSo (t ++ (world_step w c).1) (world_step w c).0 later.1 → AllSo t w (by b).1
-      go true z = (a, z)
-      go false z = a
-
-  abbrev LineSo : List Entry → NodeWorld → NodeWorld × LineOutcome → Type 0
-  LineSo t w o = AllSo t w (occurrences_of o.1)
-
-  goes_so : (w : NodeWorld) (t : List Entry) (l : Line) → IsPlayable l → refusal_in w l ≡ None → IsSo hosts t w → LineSo t w (goes_on w l)
-  goes_so w t (line.Send e pid message) p q a = all_so (Gives e (pid, message) ∷ []) w t ((λ v. p), tt) a
-  goes_so w t (line.Deliver e count) p q a =
-      all_so (replicate (taken_of count (frames_at w e)) (Takes e)) w t (repeated (taken_of count (frames_at w e)) (Takes e) (λ v. tt)) a
-  goes_so w t (line.Lose e) p q a = all_so (Loses e OnDemand ∷ []) w t ((λ v. tt), tt) a
-  goes_so w t (line.Damage e places) p q a =
-      all_so (happens_by e (first_verdict (frames_at w e) places.items)) w t (damaged e (first_verdict (frames_at w e) places.items)) a
-  goes_so w t (line.Tick times) p q a = all_so (replicate (unwrap_or times 1) Ticks) w t (repeated (unwrap_or times 1) Ticks (λ v. tt)) a
-  goes_so w t (line.Reset e window) p q a = all_so (Resets e window ∷ []) w t ((λ v. p), tt) a
-  goes_so w t (line.Busy e) p q a = a
-  goes_so w t (line.Ready e) p q a = a
-  goes_so w t (line.Boot node) p q a = all_so (Boots node ∷ []) w t ((λ v. tt), tt) a
-  goes_so w t (line.Cut node) p q a = all_so (IsCut node ∷ []) w t ((λ v. tt), tt) a
-  goes_so w t (line.Activate host sync power) p q a =
-      (a, step_so w t (Activates host sync power) (runs_then (is_some w.controller) (if_off w host) q) a)
-  goes_so w t (line.Arm node nth fill) p q a = all_so (Arms node _ ∷ []) w t ((λ v. tt), tt) a
-  goes_so w t (line.Init e identity pipes) p q a = all_so (Inits e identity pipes.items ∷ []) w t ((λ v. tt), tt) a
-  goes_so w t (line.Tables n) p q a = go (node_at w n)
-    where
-      go : (o : Option Running) → LineSo t w (w, tables_told n o)
-      go None = a
-      go (Some r) = a
-
-  line_so : (w : NodeWorld) (t : List Entry) (l : Line) → IsPlayable l → IsSo hosts t w → LineSo t w (line_step w l)
-  line_so w t l p a = go (refusal_in w l) refl
-    where
-      by : Option NoCause → NodeWorld × LineOutcome
-      by (Some cause) = (w, WasRefused cause)
-      by None = goes_on w l
-
-      go : (o : Option NoCause) → refusal_in w l ≡ o → LineSo t w (by o)
-      go (Some cause) q = a
-      go None q = goes_so w t l p q a
-
-  -- behind the first of these events
-  pub front_so : (front back : List Occurrence) (t : List Entry) (w : NodeWorld) → AllSo t w (front ++ back)
-      → IsSo hosts (t ++ entries_in front) (world_behind w front)
-  front_so [] [] t w a = nothing_more t w a
-  front_so [] (o ∷ back) t w a = nothing_more t w a.0
-  front_so (o ∷ front) back t w a =
-      let P : List Entry → Type 0 = λ x. IsSo hosts x (world_behind w (o ∷ front)) in
-      subst P (append_assoc t o.entries (entries_in front)) (front_so front back (t ++ o.entries) (world_step w o.cause).0 a.1)
-
-  all-append : (xs ys : List Occurrence) (t : List Entry) (w : NodeWorld) → AllSo t w xs
-      → (IsSo hosts (t ++ entries_in xs) (world_behind w xs) → AllSo (t ++ entries_in xs) (world_behind w xs) ys) → AllSo t w (xs ++ ys)
-  all-append [] ys t w a later = let P : List Entry → Type 0 = λ x. AllSo x w ys in subst P (append-nil t) (later (nothing_more t w a))
-  all-append (o ∷ xs) ys t w a later =
-      let v : NodeWorld = (world_step w o.cause).0 in
-      let P : List Entry → Type 0 = λ x. IsSo hosts x (world_behind v xs) in
-      let Q : List Entry → Type 0 = λ x. AllSo x (world_behind v xs) ys in
-      let same : (t ++ o.entries) ++ entries_in xs ≡ t ++ (o.entries ++ entries_in xs) = append_assoc t o.entries (entries_in xs) in
-      (a.0, all-append xs ys (t ++ o.entries) v a.1 (λ z. subst Q (sym same) (later (subst P same z))))
-
-  pub lines_so : (lines : List Line) (w : NodeWorld) (t : List Entry) → ArePlayable lines → IsSo hosts t w → AllSo t w (caused_by w lines)
-  lines_so [] w t p a = a
-  lines_so (l ∷ lines) w t p a =
-      let here : List Occurrence = occurrences_of (line_step w l).1 in
-      let is : world_behind w here ≡ (line_step w l).0 = behind_line w l in
-      let P : NodeWorld → Type 0 = λ x. IsSo hosts (t ++ entries_in here) x in
-      let Q : NodeWorld → Type 0 = λ x. AllSo (t ++ entries_in here) x (caused_by (line_step w l).0 lines) in
-      all-append here (caused_by (line_step w l).0 lines) t w (line_so w t l p.0 a)
-      (λ z. subst Q (sym is) (lines_so lines (line_step w l).0 (t ++ entries_in here) p.1 (subst P is z)))
+-- what a line that may be played causes may happen, where it isn't refused
+line_may : (w : NodeWorld) (l : Line) → IsPlayable l → refusal_in w l ≡ None → AllMay MayHappen w (happenings w l)
+line_may w (line.Send e pid message) p q = (p, tt)
+line_may w (line.Deliver e count) p q =
+    lasting_may (happenings w (line.Deliver e count)) w (repeated (taken_of count (frames_at w e)) (Takes e) (λ v. tt))
+line_may w (line.Lose e) p q = (tt, tt)
+line_may w (line.Damage e places) p q =
+    lasting_may (happenings w (line.Damage e places)) w (damaged e (first_verdict (frames_at w e) places.items))
+line_may w (line.Tick times) p q = lasting_may (happenings w (line.Tick times)) w (repeated (unwrap_or times 1) Ticks (λ v. tt))
+line_may w (line.Reset e window) p q = (p, tt)
+line_may w (line.Busy e) p q = tt
+line_may w (line.Ready e) p q = tt
+line_may w (line.Boot node) p q = (tt, tt)
+line_may w (line.Cut node) p q = (tt, tt)
+line_may w (line.Activate host sync power) p q = (runs_then (is_some w.controller) (if_off w host) q, tt)
+line_may w (line.Arm node nth fill) p q = (tt, tt)
+line_may w (line.Init e identity pipes) p q = (tt, tt)
+line_may w (line.Tables n) p q = tt
 
 -- ## Schedules
 
@@ -283,12 +147,21 @@ pub history_so : (header : Header) (lines : List Line) (t : NodeHistory) → Fol
     → IsSo header.hosts.items (entries_in front) (world_behind (new_world header.hosts.items) front)
 history_so header lines t follows are p front back q =
     let hosts : List ℕ = header.hosts.items in
-    let P : List Occurrence → Type 0 = λ events. AllSo hosts [] (new_world hosts) events in
-    let is : caused_by (new_world hosts) lines ≡ front ++ back =
-    ap (flat_map (λ (s : LineStep). occurrences_of s.outcome)) (sym follows.steps_are) ∙ q in
-    front_so hosts front back [] (new_world hosts) (subst P is (lines_so hosts lines (new_world hosts) [] p (new_so hosts are)))
+    let lasts : (u : List Entry) (w : NodeWorld) (c : Happening) → IsSo hosts u w → MayHappen w c → IsSo hosts (u ++ (world_step w c).1) (world_step w c).0 =
+    λ u w c a m. step_so hosts w u c m a in
+    let P : List Occurrence → Type 0 = λ events. AllHold (IsSo hosts) MayHappen IsPlayable lasts line_may [] (new_world hosts) events in
+    let is : events_of_steps (steps_from (new_world hosts) lines) ≡ front ++ back = ap events_of_steps (sym follows.steps_are) ∙ q in
+    front_holds (IsSo hosts) MayHappen IsPlayable lasts line_may front back [] (new_world hosts)
+    (subst P is (lines_hold (IsSo hosts) MayHappen IsPlayable lasts line_may lines [] (new_world hosts) (new_so hosts are) p))
 
 -- behind all of them
 pub all_so_behind : (header : Header) (lines : List Line) (t : NodeHistory) → FollowsNodes header lines t → AreHosts header.hosts.items → ArePlayable lines
     → IsSo header.hosts.items (node_entries t) (world_behind (new_world header.hosts.items) (occurrences_in t))
 all_so_behind header lines t follows are p = history_so header lines t follows are p (occurrences_in t) [] (sym (append-nil (occurrences_in t)))
+
+-- the world behind all events of a history is the one behind its lines
+pub behind_history : (header : Header) (lines : List Line) (t : NodeHistory) → FollowsNodes header lines t
+    → world_behind (new_world header.hosts.items) (occurrences_in t) ≡ world_after (new_world header.hosts.items) lines
+behind_history header lines t follows =
+    ap (λ (steps : List LineStep). world_behind (new_world header.hosts.items) (events_of_steps steps)) follows.steps_are
+    ∙ behind_lines lines (new_world header.hosts.items)

@@ -10,7 +10,8 @@ use Rattle.node_world.specs.Lines.{Occurrence}
 use Rattle.node_world.specs.NodeHistories.{NodeHistory, entries_in, node_entries, occurrences_in}
 use Rattle.node_world.specs.NodeLegal.{Allowed, Kept}
 use Rattle.node_links.specs.Runs.{IsRunOf, new_line}
-use Rattle.node_order.specs.Told.{HasDelivered, world_behind}
+use Rattle.node_telling.specs.Telling.{world_behind}
+use Rattle.node_order.specs.Told.{HasDelivered}
 
 -- At each moment messages are in order.
 abbrev pub Prefix : NodeHistory → Type 0

@@ -1,5 +1,5 @@
 -- What a history of a world of nodes tells of one of its links.
-use Rattle.std.specs.Prelude.{◌≡◌, ℕ, List, [], ◌∷◌}
+use Rattle.std.specs.Prelude.{◌≡◌, ℕ, List}
 use Rattle.trace_model.specs.declared.entry.Entry.{Entry}
 use Rattle.trace_model.specs.declared.line.End.{End}
 use Rattle.link_machine.specs.Machine.{messages_got, whole_among}
@@ -9,8 +9,7 @@ use Rattle.link_entries.specs.Entries.{entries}
 use Rattle.history.specs.Filters.{sent_in, got_in, acked_in}
 use Rattle.history.specs.Legal.{IsDelivered}
 use Rattle.history.specs.Steps.{entries_for}
-use Rattle.node_world.specs.World.{NodeWorld, end_c, end_h, world_step}
-use Rattle.node_world.specs.Lines.{Occurrence}
+use Rattle.node_world.specs.World.{end_c, end_h}
 use Rattle.node_links.specs.Runs.{IsRunOf, new_line}
 use Rattle.node_telling.specs.Telling.{of_link}
 
@@ -20,11 +19,6 @@ pub record IsTold (h : ℕ) (l : Link) (t : List Entry) : Type 0 where
   pub events : List LinkEvent
   pub run : IsRunOf events l
   pub told : of_link h t ≡ of_link h (entries_for h (entries new_line events))
-
--- the world behind these events, one after another
-abbrev pub world_behind : NodeWorld → List Occurrence → NodeWorld
-world_behind w [] = w
-world_behind w (o ∷ events) = world_behind (world_step w o.cause).0 events
 
 -- what an end has of a session is what is read off these entries: the messages sent and got, and how many are acknowledged whole
 pub record IsReadOff (t : List Entry) (e : End) (n : ℕ) (talk : Talk) : Type 0 where

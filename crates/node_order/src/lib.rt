@@ -12,9 +12,9 @@ ghost use Rattle.node_world.specs.Lines.{Occurrence};
 ghost use Rattle.node_world.specs.NodeHistories.{FollowsNodes, NodeHistory, entries_in, node_entries, occurrences_in, world_after};
 ghost use Rattle.node_links.specs.Runs.{ArePlayable};
 ghost use Rattle.kept_laws.specs.Hosts.{AreHosts, IsFew, IsSentByHost};
-ghost use Rattle.node_telling.specs.Telling.{IsTimely};
+ghost use Rattle.node_telling.specs.Telling.{IsTimely, world_behind};
 ghost use Rattle.node_order.specs.Legal.{LegalNodes, Prefix};
-ghost use Rattle.node_order.specs.Told.{AreReadOff, HasDelivered, IsTold, world_behind};
+ghost use Rattle.node_order.specs.Told.{AreReadOff, HasDelivered, IsTold};
 
 /// At the end of each event of a history of hosts from 01 to 07 that are all different, each end is new while its node doesn't run, a
 /// notice comes to its hundredth tick only at an end that is active and up, and none does at a host: so what is said of ticks of such

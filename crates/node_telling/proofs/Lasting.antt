@@ -1,9 +1,7 @@
--- What lasts over each event of a world of nodes, with the entries noted so far, lasts over all lines of a schedule.
-use Rattle.std.proofs.Common.{◌≡◌, ◌⊎◌, inl, inr, ℕ, true, false, List, [], ◌∷◌, ◌++◌, sym, refl, ap, ◌∙◌, subst, append_assoc, append-nil}
+-- What lasts over each event of a world of nodes, with the entries noted so far, lasts over all events of a schedule.
+use Rattle.std.proofs.Common.{◌≡◌, ℕ, Bool, true, false, List, [], ◌∷◌, ◌++◌, sym, refl, ap, ◌∙◌, subst, append_assoc, append-nil}
 use Rattle.std.specs.Prelude.{Option, Some, None}
 use Rattle.std.specs.List.{AllByRecursion, flat_map}
-use Rattle.std.proofs.lemmas.Grind.{flat_map-append}
-use Rattle.std.proofs.lemmas.Bool.{cases_Bool}
 use Rattle.trace_model.specs.declared.entry.Entry.{Entry}
 use Rattle.trace_model.specs.declared.entry.NoCause.{NoCause}
 use Rattle.trace_model.specs.declared.line.Line.{Line}
@@ -13,6 +11,7 @@ use Rattle.node_world.specs.World.{NodeWorld, Happening, node_at, world_step}
 use Rattle.node_world.specs.Lines.{refusal_in, happenings, Occurrence, can_happen, all_happen, LineOutcome, tables_told, goes_on, line_step}
 use Rattle.node_world.specs.Lines.LineOutcome.{WasRefused}
 use Rattle.node_world.specs.NodeHistories.{LineStep, steps_from, occurrences_of, entries_in, world_after}
+use Rattle.node_telling.specs.Telling.{world_behind}
 
 -- events that may happen one after another
 abbrev pub AllMay : (NodeWorld → Happening → Type 0) → NodeWorld → List Happening → Type 0
@@ -34,9 +33,95 @@ pub all_lines : (lines : List Line) → AllByRecursion AnyLine lines
 all_lines [] = tt
 all_lines (l ∷ lines) = (tt, all_lines lines)
 
--- the entries of the steps of a history
+-- the events of the steps of a history, and their entries
+abbrev pub events_of_steps : List LineStep → List Occurrence
+events_of_steps steps = flat_map (λ (s : LineStep). occurrences_of s.outcome) steps
+
 abbrev pub entries_of_steps : List LineStep → List Entry
-entries_of_steps steps = entries_in (flat_map (λ (s : LineStep). occurrences_of s.outcome) steps)
+entries_of_steps steps = entries_in (events_of_steps steps)
+
+-- ## The worlds behind events
+
+behind-append : (xs ys : List Occurrence) (w : NodeWorld) → world_behind w (xs ++ ys) ≡ world_behind (world_behind w xs) ys
+behind-append [] ys w = refl
+behind-append (o ∷ xs) ys w = behind-append xs ys (world_step w o.cause).0
+
+behind_all : (causes : List Happening) (w : NodeWorld) → world_behind w (all_happen w causes).1 ≡ (all_happen w causes).0
+behind_all [] w = refl
+behind_all (c ∷ causes) w = go (can_happen w c) (behind_all causes (world_step w c).0)
+  where
+    later : NodeWorld × List Occurrence
+    later = all_happen (world_step w c).0 causes
+
+    by : Bool → NodeWorld × List Occurrence
+    by true = (later.0, record { cause = c; entries = (world_step w c).1 } ∷ later.1)
+    by false = (w, [])
+
+    go : (b : Bool) → world_behind (world_step w c).0 later.1 ≡ later.0 → world_behind w (by b).1 ≡ (by b).0
+    go true q = q
+    go false q = refl
+
+told_nothing : (n : ℕ) (o : Option Running) → occurrences_of (tables_told n o) ≡ []
+told_nothing n None = refl
+told_nothing n (Some r) = refl
+
+-- what a line that isn't refused causes is what happens
+caused_is : (w : NodeWorld) (l : Line) → occurrences_of (goes_on w l).1 ≡ (all_happen w (happenings w l)).1
+caused_is w (line.Tables n) = told_nothing n (node_at w n)
+caused_is w (line.Send e pid message) = refl
+caused_is w (line.Deliver e count) = refl
+caused_is w (line.Lose e) = refl
+caused_is w (line.Damage e places) = refl
+caused_is w (line.Tick times) = refl
+caused_is w (line.Reset e window) = refl
+caused_is w (line.Busy e) = refl
+caused_is w (line.Ready e) = refl
+caused_is w (line.Boot n) = refl
+caused_is w (line.Cut n) = refl
+caused_is w (line.Activate host sync power) = refl
+caused_is w (line.Arm n nth fill) = refl
+caused_is w (line.Init e identity pipes) = refl
+
+left_is : (w : NodeWorld) (l : Line) → (goes_on w l).0 ≡ (all_happen w (happenings w l)).0
+left_is w (line.Tables n) = refl
+left_is w (line.Send e pid message) = refl
+left_is w (line.Deliver e count) = refl
+left_is w (line.Lose e) = refl
+left_is w (line.Damage e places) = refl
+left_is w (line.Tick times) = refl
+left_is w (line.Reset e window) = refl
+left_is w (line.Busy e) = refl
+left_is w (line.Ready e) = refl
+left_is w (line.Boot n) = refl
+left_is w (line.Cut n) = refl
+left_is w (line.Activate host sync power) = refl
+left_is w (line.Arm n nth fill) = refl
+left_is w (line.Init e identity pipes) = refl
+
+refused_is : (w : NodeWorld) (l : Line) (cause : NoCause) → refusal_in w l ≡ Some cause → line_step w l ≡ (w, WasRefused cause)
+refused_is w l cause e = rw e refl
+
+goes_is : (w : NodeWorld) (l : Line) → refusal_in w l ≡ None → line_step w l ≡ goes_on w l
+goes_is w l e = rw e refl
+
+behind_line : (w : NodeWorld) (l : Line) → world_behind w (occurrences_of (line_step w l).1) ≡ (line_step w l).0
+behind_line w l = go (refusal_in w l) refl
+  where
+    IsBehind : NodeWorld × LineOutcome → Type 0
+    IsBehind o = world_behind w (occurrences_of o.1) ≡ o.0
+
+    go : (o : Option NoCause) → refusal_in w l ≡ o → IsBehind (line_step w l)
+    go (Some cause) e = subst IsBehind (sym (refused_is w l cause e)) refl
+    go None e =
+        subst IsBehind (sym (goes_is w l e))
+        (ap (world_behind w) (caused_is w l) ∙ (behind_all (happenings w l) w ∙ sym (left_is w l)))
+
+pub behind_lines : (lines : List Line) (w : NodeWorld) → world_behind w (events_of_steps (steps_from w lines)) ≡ world_after w lines
+behind_lines [] w = refl
+behind_lines (l ∷ lines) w =
+    let v : NodeWorld = (line_step w l).0 in
+    behind-append (occurrences_of (line_step w l).1) (events_of_steps (steps_from v lines)) w
+    ∙ (ap (λ x. world_behind x (events_of_steps (steps_from v lines))) (behind_line w l) ∙ behind_lines lines v)
 
 module _ (Holds : List Entry → NodeWorld → Type 0) (May : NodeWorld → Happening → Type 0) (Is : Line → Type 0)
     (lasts : (t : List Entry) (w : NodeWorld) (c : Happening) → Holds t w → May w c → Holds (t ++ (world_step w c).1) (world_step w c).0)
@@ -46,82 +131,74 @@ module _ (Holds : List Entry → NodeWorld → Type 0) (May : NodeWorld → Happ
 
   -- ## Events
 
-  all_happen_last : (causes : List Happening) (t : List Entry) (w : NodeWorld) → Holds t w → AllMay May w causes
-      → Holds (t ++ entries_in (all_happen w causes).1) (all_happen w causes).0
-  all_happen_last [] t w all may = nothing t w all
-  all_happen_last (c ∷ causes) t w all may = by_can (λ u v a m. all_happen_last causes u v a m) (cases_Bool (can_happen w c)) where
-    next : NodeWorld × List Entry
-    next = world_step w c
+  -- it holds before each of these events, and behind all of them
+  abbrev pub AllHold : List Entry → NodeWorld → List Occurrence → Type 0
+  AllHold t w [] = Holds t w
+  AllHold t w (o ∷ events) = Holds t w × AllHold (t ++ o.entries) (world_step w o.cause).0 events
 
-    later : NodeWorld × List Occurrence
-    later = all_happen next.0 causes
+  all_happen_hold : (causes : List Happening) (t : List Entry) (w : NodeWorld) → Holds t w → AllMay May w causes → AllHold t w (all_happen w causes).1
+  all_happen_hold [] t w all may = all
+  all_happen_hold (c ∷ causes) t w all may =
+      go (can_happen w c) (all_happen_hold causes (t ++ (world_step w c).1) (world_step w c).0 (lasts t w c all may.0) may.1)
+    where
+      later : NodeWorld × List Occurrence
+      later = all_happen (world_step w c).0 causes
 
-    on_is : can_happen w c ≡ true → all_happen w (c ∷ causes) ≡ (later.0, record { cause = c; entries = next.1 } ∷ later.1)
-    on_is e = rw e refl
+      by : Bool → NodeWorld × List Occurrence
+      by true = (later.0, record { cause = c; entries = (world_step w c).1 } ∷ later.1)
+      by false = (w, [])
 
-    off_is : can_happen w c ≡ false → all_happen w (c ∷ causes) ≡ (w, [])
-    off_is e = rw e refl
+      go : (b : Bool) → AllHold (t ++ (world_step w c).1) (world_step w c).0 later.1 → AllHold t w (by b).1
+      go true z = (all, z)
+      go false z = all
 
-    Fine : NodeWorld × List Occurrence → Type 0
-    Fine p = Holds (t ++ entries_in p.1) p.0
+  -- behind the first of them
+  pub front_holds : (front back : List Occurrence) (t : List Entry) (w : NodeWorld) → AllHold t w (front ++ back)
+      → Holds (t ++ entries_in front) (world_behind w front)
+  front_holds [] [] t w a = nothing t w a
+  front_holds [] (o ∷ back) t w a = nothing t w a.0
+  front_holds (o ∷ front) back t w a =
+      subst (λ x. Holds x (world_behind w (o ∷ front))) (append_assoc t o.entries (entries_in front))
+      (front_holds front back (t ++ o.entries) (world_step w o.cause).0 a.1)
 
-    by_can : ((u : List Entry) (v : NodeWorld) → Holds u v → AllMay May v causes
-        → Holds (u ++ entries_in (all_happen v causes).1) (all_happen v causes).0)
-        → (can_happen w c ≡ true) ⊎ (can_happen w c ≡ false) → Fine (all_happen w (c ∷ causes))
-    by_can rest (inl e) =
-        subst Fine (sym (on_is e))
-        (subst (λ l. Holds l later.0) (append_assoc t next.1 (entries_in later.1))
-        (rest (t ++ next.1) next.0 (lasts t w c all may.0) may.1))
-    by_can rest (inr e) = subst Fine (sym (off_is e)) (nothing t w all)
+  hold-append : (xs ys : List Occurrence) (t : List Entry) (w : NodeWorld) → AllHold t w xs
+      → (Holds (t ++ entries_in xs) (world_behind w xs) → AllHold (t ++ entries_in xs) (world_behind w xs) ys) → AllHold t w (xs ++ ys)
+  hold-append [] ys t w a later = subst (λ x. AllHold x w ys) (append-nil t) (later (nothing t w a))
+  hold-append (o ∷ xs) ys t w a later =
+      let v : NodeWorld = (world_step w o.cause).0 in
+      let same : (t ++ o.entries) ++ entries_in xs ≡ t ++ (o.entries ++ entries_in xs) = append_assoc t o.entries (entries_in xs) in
+      (a.0, hold-append xs ys (t ++ o.entries) v a.1
+      (λ z. subst (λ x. AllHold x (world_behind v xs) ys) (sym same) (later (subst (λ x. Holds x (world_behind v xs)) same z))))
 
   -- ## Lines
 
-  abbrev LineFine : List Entry → NodeWorld × LineOutcome → Type 0
-  LineFine t p = Holds (t ++ entries_in (occurrences_of p.1)) p.0
+  line_holds : (t : List Entry) (w : NodeWorld) (l : Line) → Holds t w → Is l → AllHold t w (occurrences_of (line_step w l).1)
+  line_holds t w l all is = by_refusal (refusal_in w l) refl where
+    Fine : NodeWorld × LineOutcome → Type 0
+    Fine o = AllHold t w (occurrences_of o.1)
 
-  told_nothing : (n : ℕ) (o : Option Running) → occurrences_of (tables_told n o) ≡ []
-  told_nothing n None = refl
-  told_nothing n (Some r) = refl
-
-  goes_on_last : (t : List Entry) (w : NodeWorld) (l : Line) → Holds t w → AllMay May w (happenings w l) → LineFine t (goes_on w l)
-  goes_on_last t w (line.Tables n) all may =
-      subst (λ (os : List Occurrence). Holds (t ++ entries_in os) w) (sym (told_nothing n (node_at w n))) (nothing t w all)
-  goes_on_last t w (line.Send e pid message) all may = all_happen_last (happenings w (line.Send e pid message)) t w all may
-  goes_on_last t w (line.Deliver e count) all may = all_happen_last (happenings w (line.Deliver e count)) t w all may
-  goes_on_last t w (line.Lose e) all may = all_happen_last (happenings w (line.Lose e)) t w all may
-  goes_on_last t w (line.Damage e places) all may = all_happen_last (happenings w (line.Damage e places)) t w all may
-  goes_on_last t w (line.Tick times) all may = all_happen_last (happenings w (line.Tick times)) t w all may
-  goes_on_last t w (line.Reset e window) all may = all_happen_last (happenings w (line.Reset e window)) t w all may
-  goes_on_last t w (line.Busy e) all may = all_happen_last (happenings w (line.Busy e)) t w all may
-  goes_on_last t w (line.Ready e) all may = all_happen_last (happenings w (line.Ready e)) t w all may
-  goes_on_last t w (line.Boot n) all may = all_happen_last (happenings w (line.Boot n)) t w all may
-  goes_on_last t w (line.Cut n) all may = all_happen_last (happenings w (line.Cut n)) t w all may
-  goes_on_last t w (line.Activate host sync power) all may = all_happen_last (happenings w (line.Activate host sync power)) t w all may
-  goes_on_last t w (line.Arm n nth fill) all may = all_happen_last (happenings w (line.Arm n nth fill)) t w all may
-  goes_on_last t w (line.Init e identity pipes) all may = all_happen_last (happenings w (line.Init e identity pipes)) t w all may
-
-  refused_is : (w : NodeWorld) (l : Line) (cause : NoCause) → refusal_in w l ≡ Some cause → line_step w l ≡ (w, WasRefused cause)
-  refused_is w l cause e = rw e refl
-
-  goes_is : (w : NodeWorld) (l : Line) → refusal_in w l ≡ None → line_step w l ≡ goes_on w l
-  goes_is w l e = rw e refl
-
-  line_lasts : (t : List Entry) (w : NodeWorld) (l : Line) → Holds t w → Is l → LineFine t (line_step w l)
-  line_lasts t w l all is = by_refusal (refusal_in w l) refl where
-    by_refusal : (o : Option NoCause) → refusal_in w l ≡ o → LineFine t (line_step w l)
-    by_refusal (Some cause) e = subst (LineFine t) (sym (refused_is w l cause e)) (nothing t w all)
-    by_refusal None e = subst (LineFine t) (sym (goes_is w l e)) (goes_on_last t w l all (line_may w l is e))
+    by_refusal : (o : Option NoCause) → refusal_in w l ≡ o → Fine (line_step w l)
+    by_refusal (Some cause) e = subst Fine (sym (refused_is w l cause e)) all
+    by_refusal None e =
+        subst Fine (sym (goes_is w l e))
+        (subst (AllHold t w) (sym (caused_is w l)) (all_happen_hold (happenings w l) t w all (line_may w l is e)))
 
   -- ## Schedules
 
+  pub lines_hold : (lines : List Line) (t : List Entry) (w : NodeWorld) → Holds t w → AllByRecursion Is lines
+      → AllHold t w (events_of_steps (steps_from w lines))
+  lines_hold [] t w all are = all
+  lines_hold (l ∷ lines) t w all are =
+      let v : NodeWorld = (line_step w l).0 in
+      let here : List Occurrence = occurrences_of (line_step w l).1 in
+      let later : List Occurrence = events_of_steps (steps_from v lines) in
+      hold-append here later t w (line_holds t w l all are.0)
+      (λ z. subst (λ x. AllHold (t ++ entries_in here) x later) (sym (behind_line w l))
+      (lines_hold lines (t ++ entries_in here) v (subst (λ x. Holds (t ++ entries_in here) x) (behind_line w l) z) are.1))
+
   pub lines_last : (lines : List Line) (t : List Entry) (w : NodeWorld) → Holds t w → AllByRecursion Is lines
       → Holds (t ++ entries_of_steps (steps_from w lines)) (world_after w lines)
-  lines_last [] t w all are = nothing t w all
-  lines_last (l ∷ lines) t w all are =
-      let o = line_step w l in
-      let es = entries_in (occurrences_of o.1) in
-      let parts : entries_of_steps (steps_from w (l ∷ lines)) ≡ es ++ entries_of_steps (steps_from o.0 lines) =
-      flat_map-append (λ (x : Occurrence). x.entries) (occurrences_of o.1)
-      (flat_map (λ (s : LineStep). occurrences_of s.outcome) (steps_from o.0 lines)) in
-      subst (λ l. Holds l (world_after o.0 lines)) (append_assoc t es (entries_of_steps (steps_from o.0 lines)) ∙ ap (λ x. t ++ x) (sym parts))
-      (lines_last lines (t ++ es) o.0 (line_lasts t w l all are.0) are.1)
+  lines_last lines t w all are =
+      let events : List Occurrence = events_of_steps (steps_from w lines) in
+      subst (λ x. Holds (t ++ entries_in events) x) (behind_lines lines w)
+      (front_holds events [] t w (subst (AllHold t w) (sym (append-nil events)) (lines_hold lines t w all are)))

@@ -15,7 +15,8 @@ use Rattle.link_entries.specs.Entries.{event_entries, entries}
 use Rattle.history.specs.Filters.{Saying, said}
 use Rattle.history.specs.Steps.{entries_for}
 use Rattle.node_machine.specs.Parts.{Notice, Desk, Running}
-use Rattle.node_world.specs.World.{Site, NodeWorld, Happening, site_at}
+use Rattle.node_world.specs.World.{Site, NodeWorld, Happening, site_at, world_step}
+use Rattle.node_world.specs.Lines.{Occurrence}
 use Rattle.node_world.specs.World.Happening.{Ticks}
 use Rattle.kept_laws.specs.Hosts.{AreDifferent}
 
@@ -107,3 +108,8 @@ pub record IsTimely (w : NodeWorld) (h : ℕ) (s : Site) : Type 0 where
   pub host : IfOff s.node (new_link_end (Uicc new_uicc)) s.link.host.side
   pub up : IfDue w.controller h s.link.controller.side
   pub young : NoneDue s.node
+
+-- the world behind these events, one after another
+abbrev pub world_behind : NodeWorld → List Occurrence → NodeWorld
+world_behind w [] = w
+world_behind w (o ∷ events) = world_behind (world_step w o.cause).0 events

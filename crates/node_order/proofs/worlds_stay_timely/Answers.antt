@@ -1,6 +1,6 @@
 use Rattle.node_world.specs.World.{new_world}
 use Rattle.node_world.specs.NodeHistories.{entries_in}
-use Rattle.node_order.specs.Told.{world_behind}
+use Rattle.node_telling.specs.Telling.{world_behind}
 use Rattle.node_order.proofs.Lines.{IsSo, history_so, behind_history}
 use Rattle.node_order.proofs.Ticking.{timely}
 use Rattle.node_order.proofs.worlds_stay_timely.Goals as goal
