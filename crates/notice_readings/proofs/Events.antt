@@ -1,0 +1,337 @@
+-- What is read of the controller's notices over whatever happens.
+use Rattle.std.proofs.Common.{◌≡◌, ◌⊎◌, inl, inr, ℕ, ◌+◌, Bool, true, false, cond, eqb, List, [], ◌∷◌, ◌++◌, length, map, min, sym, refl, ap, ◌∙◌, subst, append-nil, arith}
+use Rattle.std.specs.Prelude.{Option, Some, None, replicate}
+use Rattle.std.specs.List.{AllByRecursion, fold}
+use Rattle.std.specs.Option.{option_map_or}
+use Rattle.std.proofs.lemmas.Bool.{cases_Bool, eqb-true, ne_eqb}
+use Rattle.swp_base.specs.InMemory.{Memory}
+use Rattle.journal_laws.specs.Journal.{count_of, records}
+use Rattle.journal_laws.specs.Planned.{fails_within, after_planned}
+use Rattle.trace_model.specs.Lines.{IsHost}
+use Rattle.trace_model.specs.declared.entry.Entry.{Entry}
+use Rattle.trace_model.specs.declared.entry.Entry.TheVariants as entry
+use Rattle.trace_model.specs.declared.line.End.{End}
+use Rattle.hci_tables.specs.declared.command.Command.{Command}
+use Rattle.hci_tables.specs.Commands.{is_command, IsCommand}
+use Rattle.hci_tables.specs.Bodies.{spelled_by, if_command, command_of}
+use Rattle.hci_tables.specs.Tables.{HciTables, AreTables, no_tables, apply, close}
+use Rattle.tables_laws.specs.Changes.{JoinTwo}
+use Rattle.tables_laws.proofs.SortedTables.{AreTables-apply, AreTables-close, AreTables-none}
+use Rattle.tables_laws.proofs.TwoHosts.{JoinTwo-after, JoinTwo-closed}
+use Rattle.hci_store.specs.Image.{applied, tables_of}
+use Rattle.message_link.specs.Links.{Link, Loss, happens}
+use Rattle.message_link.specs.Links.Ending.{CutOff}
+use Rattle.message_link.specs.Links.Comes.{NextFrame, AsksReset, NoInput}
+use Rattle.message_link.specs.Links.Loss.{OnDemand, Broken, Unread, TooOld, TooMany}
+use Rattle.message_link.specs.Links.EndEvent.{Step, Lose}
+use Rattle.message_link.specs.Links.LinkEvent.{AtController, AtHost}
+use Rattle.link_entries.specs.Entries.{first_lost}
+use Rattle.link_entries.specs.Entries.End.{Controller, Host}
+use Rattle.history.specs.Steps.{entries_for}
+use Rattle.node_machine.specs.Parts.{Desk, Running}
+use Rattle.node_machine.specs.Carrying.{changed_if}
+use Rattle.node_machine.specs.Node.{boot_writes, found, new_desk, with_error}
+use Rattle.node_world.specs.World.{NodeWorld, Site, Happening, node_at, memory_at, with_site, with_memory, with_node, link_to, links_of, controller_cut, host_cut, loses_power_at, boots, counts, frame_lost, sending, beginning, new_site, new_world, world_step}
+use Rattle.node_world.specs.World.Happening.{Boots, IsCut, Gives, Inits, Takes, Loses, Ticks, Resets, Activates, Arms}
+use Rattle.node_world.specs.NodeFilters.{notice_in}
+use Rattle.kept_laws.specs.Hosts.{AreHosts}
+use Rattle.node_telling.specs.Telling.{IsOrderly}
+use Rattle.node_telling.proofs.Orderly.{new_orderly, step_orderly}
+use Rattle.node_readings.specs.Noticed.{NoticesAreUp}
+use Rattle.node_readings.proofs.NoticedWorlds.{event_up}
+use Rattle.node_readings.proofs.Sites.{lost_quiet}
+use Rattle.notice_readings.specs.Notices.{IsKept, notice_at, MayBoot}
+use Rattle.notice_readings.proofs.Reading.{notice_more}
+use Rattle.notice_readings.proofs.Telling.{IsRightNotice}
+use Rattle.notice_readings.proofs.Shut.{here_shut}
+use Rattle.notice_readings.proofs.Far.{quiet_far}
+use Rattle.notice_readings.proofs.Sites.{IfHostNode, AreGood, ControllerReads, IfReads, Reads, AreHushed, still_reads, far_hushed, good_map, good_with, far_shut, begins_reads, sending_own, beginning_own}
+use Rattle.notice_readings.proofs.Near.{comes_reads, ticks_reads, activates_reads}
+
+-- ## The tables of a memory
+
+command_read : (o : Option Command) (c : Command) → if_command o ≡ Some c → IsCommand c
+command_read None c e = absurd (cc e)
+command_read (Some d) c e = by_test (cases_Bool (is_command d)) where
+  by_test : (is_command d ≡ true) ⊎ (is_command d ≡ false) → IsCommand c
+  by_test (inl may) = let e2 : Some d ≡ Some c = sym (ap (λ b. cond b (Some d) None) may) ∙ e in let same : d ≡ c = cc in subst IsCommand same may
+  by_test (inr not) = let e2 : None ≡ Some c = sym (ap (λ b. cond b (Some d) None) not) ∙ e in absurd (cc e2)
+
+-- tables are sorted, and each pipe joins two hosts
+abbrev AreFine : HciTables → Type 0
+AreFine t = AreTables t × JoinTwo t.rows
+
+fine_one : (t : HciTables) (o : Option Command) → ((c : Command) → o ≡ Some c → IsCommand c) → AreFine t → AreFine (option_map_or (apply t) o t)
+fine_one t None may fine = fine
+fine_one t (Some c) may fine = (AreTables-apply t c (may c refl) fine.0, JoinTwo-after t (c ∷ []) (may c refl, tt) fine.1)
+
+fine_fold : (t : HciTables) (bodies : List (List ℕ)) → AreFine t → AreFine (fold applied t bodies)
+fine_fold t [] fine = fine
+fine_fold t (body ∷ bodies) fine =
+    fine_fold (applied t body) bodies (fine_one t (command_of body) (λ c e. command_read (spelled_by body) c e) fine)
+
+fine_found : (content : List ℕ) → AreFine (close (tables_of content))
+fine_found content =
+    let fine = fine_fold no_tables (records content) (AreTables-none, refl) in
+    (AreTables-close (tables_of content) fine.0, JoinTwo-closed (tables_of content).rows fine.1)
+
+-- a controller that boots has no notices
+none_noticed : (hosts : List ℕ) (x : ℕ) → notice_at (map new_desk hosts) x ≡ None
+none_noticed [] x = refl
+none_noticed (h ∷ hosts) x = go (cases_Bool (eqb h x)) (none_noticed hosts x) where
+  go : (eqb h x ≡ true) ⊎ (eqb h x ≡ false) → notice_at (map new_desk hosts) x ≡ None → notice_at (map new_desk (h ∷ hosts)) x ≡ None
+  go (inl is) later = rw is refl
+  go (inr off) later = rw off later
+
+none_right : (hosts : List ℕ) → AllByRecursion (λ (d : Desk). IsRightNotice d.notice) (map new_desk hosts)
+none_right [] = tt
+none_right (h ∷ hosts) = (tt, none_right hosts)
+
+found_reads : (t : List Entry) (hosts content : List ℕ) → IfReads t None → ControllerReads t (found 0 hosts content)
+found_reads t hosts content none = record {
+  sorted = (fine_found content).0;
+  two = (fine_found content).1;
+  right = none_right hosts;
+  kept = λ x. subst (λ m. IsKept m (notice_at (map new_desk hosts) x)) (sym (none x)) (subst (IsKept None) (sym (none_noticed hosts x)) tt);
+}
+
+module _ (t : List Entry) (w : NodeWorld) (a : Reads t w) where
+  -- ## Memories
+
+  memory_reads : (n : ℕ) (m : Memory) → Reads t (with_memory n m w)
+  memory_reads n m = by_number (cases_Bool (eqb n 0)) where
+    near_is : eqb n 0 ≡ true → with_memory n m w ≡ record w { memory = m }
+    near_is e = rw e refl
+
+    far_is : eqb n 0 ≡ false → with_memory n m w ≡ record w { sites = with_site n (λ (s : Site). record s { memory = m }) w.sites }
+    far_is e = rw e refl
+
+    by_number : (eqb n 0 ≡ true) ⊎ (eqb n 0 ≡ false) → Reads t (with_memory n m w)
+    by_number (inl e) = subst (Reads t) (sym (near_is e)) (record { sites = a.sites; reads_so = a.reads_so })
+    by_number (inr e) = subst (Reads t) (sym (far_is e)) (record {
+      sites = good_with n (λ (s : Site). record s { memory = m }) (λ s b. record { host = b.host; node = b.node; shut = b.shut }) w.sites a.sites;
+      reads_so = a.reads_so;
+    })
+
+  -- ## Power
+
+  near_cut : Reads (t ++ entry.Cut 0 ∷ []) (controller_cut w)
+  near_cut = record {
+    sites = good_map (λ (s : Site). record s { link = happens s.link (AtController (Step NoInput [] CutOff)) })
+        (λ s b. record { host = b.host; node = b.node; shut = here_shut s.link (Step NoInput [] CutOff) b.shut }) w.sites a.sites;
+    reads_so = λ x. notice_more x t (entry.Cut 0 ∷ []);
+  }
+
+  cut_hushed : (n : ℕ) → eqb n 0 ≡ false → AreHushed (entry.Cut n ∷ [])
+  cut_hushed n e = far_hushed (entry.Cut n ∷ []) (e, tt)
+
+  far_cut : (n : ℕ) → eqb n 0 ≡ false → Reads (t ++ entry.Cut n ∷ []) (record w { sites = with_site n host_cut w.sites })
+  far_cut n e = record {
+    sites = good_with n host_cut (λ s b. record { host = b.host; node = tt; shut = far_shut s.link (Step NoInput [] CutOff) b.shut }) w.sites a.sites;
+    reads_so = still_reads t (entry.Cut n ∷ []) w.controller (cut_hushed n e) a.reads_so;
+  }
+
+  pub cut_reads : (n : ℕ) → Reads (t ++ entry.Cut n ∷ []) (loses_power_at n w)
+  cut_reads n = by_number (cases_Bool (eqb n 0)) where
+    near_is : eqb n 0 ≡ true → loses_power_at n w ≡ controller_cut w
+    near_is e = rw e refl
+
+    far_is : eqb n 0 ≡ false → loses_power_at n w ≡ record w { sites = with_site n host_cut w.sites }
+    far_is e = rw e refl
+
+    by_number : (eqb n 0 ≡ true) ⊎ (eqb n 0 ≡ false) → Reads (t ++ entry.Cut n ∷ []) (loses_power_at n w)
+    by_number (inl e) =
+        subst (Reads (t ++ entry.Cut n ∷ [])) (sym (near_is e))
+        (subst (λ m. Reads (t ++ entry.Cut m ∷ []) (controller_cut w)) (sym (eqb-true n 0 e)) near_cut)
+    by_number (inr e) = subst (Reads (t ++ entry.Cut n ∷ [])) (sym (far_is e)) (far_cut n e)
+
+booted_hushed : (n k : ℕ) → AreHushed (entry.Booted n k ∷ [])
+booted_hushed n k x r = refl
+
+-- a node that doesn't run boots
+runs_reads : (t : List Entry) (w : NodeWorld) (n k : ℕ) (hosts content : List ℕ) → Reads t w → (eqb n 0 ≡ true → w.controller ≡ None)
+    → Reads (t ++ entry.Booted n k ∷ []) (with_node n (found n hosts content) w)
+runs_reads t w n k hosts content a off = by_number (cases_Bool (eqb n 0)) where
+  near_is : eqb n 0 ≡ true → with_node n (found n hosts content) w ≡ record w { controller = Some (found n hosts content) }
+  near_is e = rw e refl
+
+  far_is : eqb n 0 ≡ false
+      → with_node n (found n hosts content) w ≡ record w { sites = with_site n (λ (s : Site). record s { node = Some (found n hosts content) }) w.sites }
+  far_is e = rw e refl
+
+  by_number : (eqb n 0 ≡ true) ⊎ (eqb n 0 ≡ false) → Reads (t ++ entry.Booted n k ∷ []) (with_node n (found n hosts content) w)
+  by_number (inl e) = subst (Reads (t ++ entry.Booted n k ∷ [])) (sym (near_is e)) (record {
+    sites = a.sites;
+    reads_so = still_reads t (entry.Booted n k ∷ []) (Some (found n hosts content)) (booted_hushed n k)
+        (subst (λ m. ControllerReads t (found m hosts content)) (sym (eqb-true n 0 e))
+        (found_reads t hosts content (subst (IfReads t) (off e) a.reads_so)));
+  })
+  by_number (inr e) = subst (Reads (t ++ entry.Booted n k ∷ [])) (sym (far_is e)) (record {
+    sites = good_with n (λ (s : Site). record s { node = Some (found n hosts content) })
+        (λ s b. record { host = b.host; node = e; shut = b.shut }) w.sites a.sites;
+    reads_so = still_reads t (entry.Booted n k ∷ []) w.controller (booted_hushed n k) a.reads_so;
+  })
+
+boots_reads : (t : List Entry) (w : NodeWorld) (n : ℕ) → Reads t w → node_at w n ≡ None → Reads (t ++ (boots w n).1) (boots w n).0
+boots_reads t w n a stands = by_plan (cases_Bool (fails_within (length (boot_writes before.content)) before.plan)) where
+  before : Memory
+  before = memory_at w n
+
+  written : NodeWorld
+  written = with_memory n (after_planned (boot_writes before.content) before) w
+
+  noted : List Entry
+  noted = entry.Booted n (count_of (found n (links_of w n) before.content).core.journal) ∷ []
+
+  Fine : NodeWorld × List Entry → Type 0
+  Fine p = Reads (t ++ p.1) p.0
+
+  lost_is : fails_within (length (boot_writes before.content)) before.plan ≡ true → boots w n ≡ (loses_power_at n written, entry.Cut n ∷ [])
+  lost_is e = rw e refl
+
+  runs_is : fails_within (length (boot_writes before.content)) before.plan ≡ false
+      → boots w n ≡ (with_node n (found n (links_of w n) before.content) written, noted)
+  runs_is e = rw e refl
+
+  off : eqb n 0 ≡ true → written.controller ≡ None
+  off e =
+      let same : written ≡ record w { memory = after_planned (boot_writes before.content) before } = rw e refl in
+      let none : w.controller ≡ None = rw e at stands in
+      ap (λ (v : NodeWorld). v.controller) same ∙ none
+
+  by_plan : (fails_within (length (boot_writes before.content)) before.plan ≡ true)
+      ⊎ (fails_within (length (boot_writes before.content)) before.plan ≡ false) → Fine (boots w n)
+  by_plan (inl fails) = subst Fine (sym (lost_is fails))
+      (cut_reads t written (memory_reads t w a n (after_planned (boot_writes before.content) before)) n)
+  by_plan (inr none) = subst Fine (sym (runs_is none))
+      (runs_reads t written n (count_of (found n (links_of w n) before.content).core.journal) (links_of w n) before.content
+      (memory_reads t w a n (after_planned (boot_writes before.content) before)) off)
+
+-- ## Losses
+
+-- frames that are counted leave the notices
+noticed_counted : (h : ℕ) (desks : List Desk) (x : ℕ) → notice_at (with_error h desks) x ≡ notice_at desks x
+noticed_counted h [] x = refl
+noticed_counted h (d ∷ desks) x = by_error (eqb d.host h) (cases_Bool (eqb d.host x)) (noticed_counted h desks x) where
+  more : Desk → Desk
+  more c = record c { errors = min 65535 (c.errors + 1) }
+
+  by_error : (b : Bool) → (eqb d.host x ≡ true) ⊎ (eqb d.host x ≡ false) → notice_at (with_error h desks) x ≡ notice_at desks x
+      → notice_at (changed_if b more d ∷ with_error h desks) x ≡ notice_at (d ∷ desks) x
+  by_error true (inl is) later = rw is refl
+  by_error true (inr off) later = rw off later
+  by_error false (inl is) later = rw is refl
+  by_error false (inr off) later = rw off later
+
+right_counted : (h : ℕ) (desks : List Desk) → AllByRecursion (λ (d : Desk). IsRightNotice d.notice) desks
+    → AllByRecursion (λ (d : Desk). IsRightNotice d.notice) (with_error h desks)
+right_counted h [] a = tt
+right_counted h (d ∷ desks) a = (by (eqb d.host h), right_counted h desks a.1) where
+  by : (b : Bool) → IsRightNotice (changed_if b (λ c. record c { errors = min 65535 (c.errors + 1) }) d).notice
+  by true = a.0
+  by false = a.0
+
+counted_reads : (t : List Entry) (why : Loss) (h : ℕ) (o : Option Running) → IfReads t o → IfReads t (counts why h o)
+counted_reads t (Broken fault) h None a = a
+counted_reads t (Broken fault) h (Some r) a = record {
+  sorted = a.sorted;
+  two = a.two;
+  right = right_counted h r.desks a.right;
+  kept = λ x. subst (IsKept (notice_in t x)) (sym (noticed_counted h r.desks x)) (a.kept x);
+}
+counted_reads t OnDemand h o a = a
+counted_reads t Unread h o a = a
+counted_reads t TooOld h o a = a
+counted_reads t TooMany h o a = a
+
+counted_node : (why : Loss) (h : ℕ) (o : Option Running) → IfHostNode o → IfHostNode (counts why h o)
+counted_node (Broken fault) h None a = tt
+counted_node (Broken fault) h (Some r) a = a
+counted_node OnDemand h o a = a
+counted_node Unread h o a = a
+counted_node TooOld h o a = a
+counted_node TooMany h o a = a
+
+lost_reads : (t : List Entry) (w : NodeWorld) (e : End) (why : Loss) → Reads t w → Reads (t ++ (frame_lost w e why).1) (frame_lost w e why).0
+lost_reads t w e why a = by_side (cases_Bool e.at_host) where
+  Fine : NodeWorld × List Entry → Type 0
+  Fine p = Reads (t ++ p.1) p.0
+
+  l : Link
+  l = link_to w.sites e.link
+
+  near : Site → Site
+  near s = record s { link = happens s.link (AtController (Lose why)) }
+
+  far : Site → Site
+  far s = record s { link = happens s.link (AtHost (Lose why)); node = counts why e.link s.node }
+
+  near_is : e.at_host ≡ false → frame_lost w e why
+      ≡ (
+        record w { controller = counts why e.link w.controller; sites = with_site e.link near w.sites },
+        entries_for e.link (first_lost Controller why l.to_controller),
+      )
+  near_is b = rw b refl
+
+  far_is : e.at_host ≡ true → frame_lost w e why ≡ (record w { sites = with_site e.link far w.sites }, entries_for e.link (first_lost Host why l.to_host))
+  far_is b = rw b refl
+
+  by_side : (e.at_host ≡ true) ⊎ (e.at_host ≡ false) → Fine (frame_lost w e why)
+  by_side (inl b) = subst Fine (sym (far_is b)) (record {
+    sites = good_with e.link far (λ s k. record {
+      host = k.host;
+      node = counted_node why e.link s.node k.node;
+      shut = far_shut s.link (Lose why) k.shut;
+    }) w.sites a.sites;
+    reads_so = still_reads t (entries_for e.link (first_lost Host why l.to_host)) w.controller
+        (far_hushed (entries_for e.link (first_lost Host why l.to_host)) (quiet_far e.link (first_lost Host why l.to_host) (lost_quiet Host why l.to_host)))
+        a.reads_so;
+  })
+  by_side (inr b) = subst Fine (sym (near_is b)) (record {
+    sites = good_with e.link near (λ s k. record { host = k.host; node = k.node; shut = here_shut s.link (Lose why) k.shut }) w.sites a.sites;
+    reads_so = counted_reads (t ++ entries_for e.link (first_lost Controller why l.to_controller)) why e.link w.controller
+        (still_reads t (entries_for e.link (first_lost Controller why l.to_controller)) w.controller
+        (far_hushed (entries_for e.link (first_lost Controller why l.to_controller)) (quiet_far e.link (first_lost Controller why l.to_controller)
+        (lost_quiet Controller why l.to_controller))) a.reads_so);
+  })
+
+-- ## Events
+
+-- an orderly world whose notices stand at ends that are up
+pub record IsRead (t : List Entry) (w : NodeWorld) : Type 0 where
+  pub orderly : IsOrderly w
+  pub up : NoticesAreUp w
+  pub so : Reads t w
+
+event_so : (t : List Entry) (w : NodeWorld) (c : Happening) → IsRead t w → MayBoot w c → Reads (t ++ (world_step w c).1) (world_step w c).0
+event_so t w (Boots n) a may = boots_reads t w n a.so may
+event_so t w (IsCut n) a may = cut_reads t w a.so n
+event_so t w (Gives e m) a may = begins_reads t w a.so e.link (sending e.link m) (sending_own e.link m)
+event_so t w (Inits e identity pipes) a may = begins_reads t w a.so e.link (beginning identity pipes) (beginning_own identity pipes)
+event_so t w (Takes e) a may = comes_reads t w a.orderly a.up a.so e NextFrame
+event_so t w (Loses e why) a may = lost_reads t w e why a.so
+event_so t w Ticks a may = ticks_reads t w a.orderly a.up a.so
+event_so t w (Resets e window) a may = comes_reads t w a.orderly a.up a.so e (AsksReset window)
+event_so t w (Activates h sync power) a may = activates_reads t w a.orderly a.up a.so h sync power
+event_so t w (Arms n plan) a may =
+    subst (λ l. Reads l (world_step w (Arms n plan)).0) (sym (append-nil t)) (memory_reads t w a.so n (record (memory_at w n) { plan = Some plan }))
+
+pub event_read : (t : List Entry) (w : NodeWorld) (c : Happening) → IsRead t w → MayBoot w c → IsRead (t ++ (world_step w c).1) (world_step w c).0
+event_read t w c a may = record { orderly = step_orderly w c a.orderly; up = event_up w c a.orderly a.up; so = event_so t w c a may }
+
+-- ## The beginning
+
+numbers : (hosts : List ℕ) → AllByRecursion IsHost hosts → AllByRecursion (λ h. eqb h 0 ≡ false) hosts
+numbers [] a = tt
+numbers (h ∷ hosts) a = (ne_eqb h 0 (λ z. omega (arith, z, a.0.0)), numbers hosts a.1)
+
+new_good : (content : List ℕ) (hosts : List ℕ) → AllByRecursion IsHost hosts → AreGood (map (new_site content) hosts)
+new_good content [] a = tt
+new_good content (h ∷ hosts) a = (record { host = a.0; node = tt; shut = λ q. refl }, new_good content hosts a.1)
+
+pub begins_read : (hosts : List ℕ) → AreHosts hosts → IsRead [] (new_world hosts)
+begins_read hosts are = record {
+  orderly = new_orderly hosts are.different (numbers hosts are.all);
+  up = tt;
+  so = record { sites = new_good (replicate 65536 255) hosts are.all; reads_so = λ x. refl };
+}

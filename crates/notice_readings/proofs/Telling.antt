@@ -1,0 +1,408 @@
+-- Which notices a controller sends as it handles a message, and which message answers one.
+use Rattle.std.proofs.Common.{◌≡◌, ℕ, ◌≤◌, ◌&&◌, Bool, true, false, cond, eqb, not, List, [], ◌∷◌, length, map, sym, refl, ap, ◌∙◌, subst, arith}
+use Rattle.std.specs.Prelude.{Option, Some, None, Result, Ok, Err, is_some}
+use Rattle.std.specs.List.{AllByRecursion, filter}
+use Rattle.std.specs.Option.{option_map_or, option_and_then}
+use Rattle.std.proofs.lemmas.Bool.{cond_both, true≢false, eqb-true, eqb-false, ne_eqb, and_parts}
+use Rattle.hcp_packet.specs.declared.MessageKind.{MessageKind}
+use Rattle.hcp_packet.specs.declared.MessageKind.TheVariants.{Command as IsCommandKind, Event as IsEvent, Response as IsResponse}
+use Rattle.hcp_packet.specs.declared.MessageFault.{MessageFault}
+use Rattle.hcp_packet.specs.MessageHeader.{header_of}
+use Rattle.hci_tables.specs.declared.command.Command.{Command}
+use Rattle.hci_tables.specs.declared.command.Command.TheVariants.{Create}
+use Rattle.hci_tables.specs.Commands.{is_dynamic, is_host, IsCommand}
+use Rattle.hci_tables.specs.Tables.{HciTables, AreTables}
+use Rattle.pipe_table.specs.declared.row.PipeRow.{PipeRow}
+use Rattle.tables_laws.specs.Changes.{JoinTwo}
+use Rattle.gate_answers.specs.declared.response.Response.TheVariants as response
+use Rattle.gate_answers.specs.Answers.{answer_of, body_in}
+use Rattle.gate_admin.specs.declared.view.LinkView.{LinkView}
+use Rattle.gate_admin.specs.declared.decision.Decision.{Decision}
+use Rattle.gate_admin.specs.declared.decision.Decision.TheVariants.{Answer, Commit, Ask}
+use Rattle.gate_admin.specs.View.{has, hosts_where}
+use Rattle.gate_admin.specs.Decide.{decided, IsRecordable}
+use Rattle.gate_link.specs.Link.{served as link_served}
+use Rattle.gate_identity.specs.Identity.{served as identity_served}
+use Rattle.gate_laws.specs.Rules.{IsAskedFor, AsksAsAllowed}
+use Rattle.gate_laws.proofs.Decisions.{decided_as_allowed}
+use Rattle.link_machine.specs.Machine.{Message}
+use Rattle.node_machine.specs.Parts.{Creation, About, Notice, Core, Port, Deed}
+use Rattle.node_machine.specs.Parts.About.{Waits, Forgotten, Removed}
+use Rattle.node_machine.specs.Parts.Deed.{Commits, Sends, SaysOk, Asks, Releases, Tells, IsAnswered, Drops, SetsErrors}
+use Rattle.node_machine.specs.Carrying.{port_at, finds_room}
+use Rattle.node_machine.specs.Controller.{has_link, creation_in, asks_for, view_for, answers_on, commit_deeds, decision_deeds, link_deeds, gates, gate_deeds, own_gate, goes_through, served_at, agreed, creation_deeds, notice_deeds, response_at, is_command_message, relayed_to, unrelayed, event_deeds, unless_asking, if_notice, kind_deeds, own_deeds, relay_deeds, deeds_by_relay, controller_deeds}
+use Rattle.node_world.specs.NodeFilters.{is_response, is_notice}
+use Rattle.node_links.proofs.Noticing.{UpAt}
+use Rattle.kept_laws.specs.Hosts.{AreDifferent}
+use Rattle.kept_laws.proofs.Deciding.{decided_recordable}
+use Rattle.notice_readings.specs.Notices.{IsNoticeOf}
+use Rattle.notice_readings.proofs.Deciding.{IsOther, IsRemoval, IsAsking, AreTold, Says, answer_other, decided_says}
+
+-- ## Creations
+
+-- the command of a creation may be recorded, and its answer is no notice
+abbrev pub IsRight : Creation → Type 0
+IsRight c = IsCommand c.command × IsOther c.answer
+
+abbrev pub IsRightAbout : About → Type 0
+IsRightAbout (Waits c) = IsRight c
+IsRightAbout Forgotten = Unit {0}
+IsRightAbout Removed = Unit {0}
+
+abbrev pub IsRightNotice : Option Notice → Type 0
+IsRightNotice None = Unit {0}
+IsRightNotice (Some n) = IsRightAbout n.about
+
+abbrev pub AreRight : List Port → Type 0
+AreRight ports = AllByRecursion (λ (p : Port). IsRightNotice p.desk.notice) ports
+
+pub at_port : (P : Port → Type 0) (ports : List Port) (h : ℕ) (p : Port) → AllByRecursion P ports → port_at ports h ≡ Some p → P p
+at_port P [] h p a q = cc
+at_port P (z ∷ ports) h p a q = go (eqb z.desk.host h) refl (at_port P ports h p a.1)
+  where
+    go : (b : Bool) → eqb z.desk.host h ≡ b → (port_at ports h ≡ Some p → P p) → P p
+    go true e later =
+        let same : Some z ≡ Some p = rw e at q in
+        let is : z ≡ p = cc in
+        subst P is a.0
+    go false e later = later (rw e at q)
+
+-- the notice to this host that isn't answered
+abbrev pub noticed : List Port → ℕ → Option Notice
+noticed ports x = option_and_then (λ (p : Port). p.desk.notice) (port_at ports x)
+
+-- a creation for which this host is asked by this message
+pub record IsAsked (to : ℕ) (message : List ℕ) (c : Creation) : Type 0 where
+  pub test : is_notice message ≡ true
+  pub notice : IsNoticeOf c message
+  pub right : IsRight c
+  pub else : eqb c.asker to ≡ false
+
+-- it isn't too long
+abbrev pub IsShort : List ℕ → Type 0
+IsShort message = length message ≤ 4096
+
+module _ (x : ℕ) where
+  -- Deeds of a controller that may follow each other, by what may go to the host x: a notice goes to it once at most, and before all
+  -- other messages to it.
+  abbrev pub MayTell : (List ℕ → Type 0) → List Deed → Type 0
+  MayTell F [] = Unit {0}
+  MayTell F (Commits c ∷ deeds) = IsCommand c × MayTell F deeds
+  MayTell F (Sends to m ∷ deeds) = ((eqb m.0 1 && is_notice m.1) ≡ false) × MayTell (λ n. (eqb to x ≡ false) × F n) deeds
+  MayTell F (SaysOk ∷ deeds) = MayTell F deeds
+  MayTell F (Asks to message c ∷ deeds) = (eqb to x ≡ true → F message) × IsAsked to message c × MayTell (λ n. ⊥) deeds
+  MayTell F (Releases asker ∷ deeds) = MayTell (λ n. ⊥) deeds
+  MayTell F (Tells to message ∷ deeds) = (eqb to x ≡ true → F message) × IsRemoval message × MayTell (λ n. (eqb to x ≡ false) × F n) deeds
+  MayTell F (Drops pid ∷ deeds) = MayTell F deeds
+  MayTell F (SetsErrors errors ∷ deeds) = MayTell F deeds
+  MayTell F (_ ∷ deeds) = ⊥
+
+  -- ## Answers
+
+  no_and : (a b : Bool) → b ≡ false → (a && b) ≡ false
+  no_and true b e = e
+  no_and false b e = refl
+
+  off_and : (a b : Bool) → a ≡ false → (a && b) ≡ false
+  off_and true b e = absurd (true≢false e)
+  off_and false b e = refl
+
+  either : (F : List ℕ → Type 0) (b : Bool) (d e : List Deed) → MayTell F d → MayTell F e → MayTell F (cond b d e)
+  either F true d e y z = y
+  either F false d e y z = z
+
+  other_may : (F : List ℕ → Type 0) (h pipe : ℕ) (answer : List ℕ) → (eqb pipe 1 && is_notice answer) ≡ false → MayTell F (answers_on h pipe answer)
+  other_may F h pipe answer e = (e, tt)
+
+  answer_may : (F : List ℕ → Type 0) (h pipe : ℕ) (answer : List ℕ) → IsOther answer → MayTell F (answers_on h pipe answer)
+  answer_may F h pipe answer e = (no_and (eqb pipe 1) (is_notice answer) e, tt)
+
+  abbrev May : List Deed → Type 0
+  May deeds = MayTell IsShort deeds
+
+  -- ## Decisions
+
+  module _ (h : ℕ) where
+    -- hosts are told one after another
+    told_may : (F : List ℕ → Type 0) (notice : List ℕ) (hosts : List ℕ) → AreDifferent hosts → AreTold h notice hosts
+        → AllByRecursion (λ (y : ℕ). eqb y x ≡ true → F notice) hosts → MayTell F (map (λ y. Tells y notice) hosts)
+    told_may F notice [] different told all = tt
+    told_may F notice (y ∷ hosts) different told all =
+        (all.0, told.0.0, told_may (λ n. (eqb y x ≡ false) × F n) notice hosts different.1 told.1 (later hosts different.0 all.1)) where
+          later : (hosts : List ℕ) → AllByRecursion (λ (k : ℕ). eqb k y ≡ false) hosts → AllByRecursion (λ (k : ℕ). eqb k x ≡ true → F notice) hosts
+              → AllByRecursion (λ (k : ℕ). eqb k x ≡ true → (eqb y x ≡ false) × F notice) hosts
+          later [] d a = tt
+          later (k ∷ hosts) d a = ((λ e. (ne_eqb y x (λ s. eqb-false k y d.0 (eqb-true k x e ∙ sym s)), a.0 e)), later hosts d.1 a.1)
+
+    behind_answer : (notice : List ℕ) (hosts : List ℕ) → AreTold h notice hosts
+        → AllByRecursion (λ (y : ℕ). eqb y x ≡ true → (eqb h x ≡ false) × IsShort notice) hosts
+    behind_answer notice [] told = tt
+    behind_answer notice (y ∷ hosts) told =
+        ((λ e. (ne_eqb h x (λ s. eqb-false y h told.0.1 (eqb-true y x e ∙ sym s)), told.0.0.short)), behind_answer notice hosts told.1)
+
+    commit_may : (room : Bool) (pipe : ℕ) (c : Command) (answer notice : List ℕ) (hosts : List ℕ) → IsCommand c → IsOther answer
+        → AreDifferent hosts → AreTold h notice hosts → May (commit_deeds room h pipe c answer (map (λ y. Tells y notice) hosts))
+    commit_may true pipe c answer notice hosts may other different told = (
+      may,
+      (
+        no_and (eqb pipe 1) (is_notice answer) other,
+        told_may (λ n. (eqb h x ≡ false) × IsShort n) notice hosts different told (behind_answer notice hosts told),
+      ),
+    )
+    commit_may false pipe c answer notice hosts may other different told =
+        answer_may IsShort h pipe (answer_of response.NotOk []) (answer_other response.NotOk [])
+
+    -- the two hosts of a pipe that may be made
+    apart : (row : PipeRow) → IsCommand (Create row) → eqb row.creator row.dest ≡ false
+    apart row may =
+        let closed = and_parts (is_dynamic row.pid && is_host row.creator && is_host row.dest && not (eqb row.creator row.dest)) (not row.opened) may in
+        no (eqb row.creator row.dest) (and_parts (is_dynamic row.pid && is_host row.creator && is_host row.dest) (not (eqb row.creator row.dest)) closed.0).1
+      where
+        no : (b : Bool) → not b ≡ true → b ≡ false
+        no true q = sym q
+        no false q = refl
+
+    asked_may : (t : HciTables) (v : LinkView) (asked : ℕ) (notice : List ℕ) (c : Command) (answer : List ℕ) → IsAsking h notice c answer → IsCommand c
+        → IsAskedFor t v h asked c → May (Asks asked notice (record { asker = h; command = c; answer = answer }) ∷ [])
+    asked_may t v asked notice c answer says may allowed =
+        let row : PipeRow = says.row in
+        let create : IsCommand (Create row) = subst IsCommand says.command may in
+        let named = subst (λ k. IsAskedFor t v h asked k) says.command allowed in
+        let two : eqb h asked ≡ false = ap (λ n. eqb n asked) (sym says.creator) ∙ (ap (λ n. eqb row.creator n) (sym named.asked) ∙ apart row create) in (
+          (λ e. subst IsShort (sym says.notice_is) (omega arith)),
+          record {
+            test = ap is_notice says.notice_is;
+            notice = record { row = row; command = says.command; asker = says.creator; message_is = says.notice_is };
+            right = (may, says.other);
+            else = two;
+          },
+          tt,
+        )
+
+    -- no host is twice in a mask
+    filter_different : (test : ℕ → Bool) (hosts : List ℕ) → AreDifferent hosts → AreDifferent (filter test hosts)
+    filter_different test [] d = tt
+    filter_different test (y ∷ hosts) d = go (test y) refl (filter_different test hosts d.1) where
+      fewer : (hosts : List ℕ) → AllByRecursion (λ (k : ℕ). eqb k y ≡ false) hosts → AllByRecursion (λ (k : ℕ). eqb k y ≡ false) (filter test hosts)
+      fewer [] a = tt
+      fewer (k ∷ hosts) a = by (test k) refl (fewer hosts a.1) where
+        by : (b : Bool) → test k ≡ b → AllByRecursion (λ (k : ℕ). eqb k y ≡ false) (filter test hosts)
+            → AllByRecursion (λ (k : ℕ). eqb k y ≡ false) (filter test (k ∷ hosts))
+        by true q later = rw q (a.0, later)
+        by false q later = rw q later
+
+      go : (b : Bool) → test y ≡ b → AreDifferent (filter test hosts) → AreDifferent (filter test (y ∷ hosts))
+      go true q later = rw q (fewer hosts d.0, later)
+      go false q later = rw q later
+
+    mask_different : (test : ℕ → Bool) → AreDifferent (hosts_where test)
+    unfolding hosts_where
+    mask_different test = filter_different test (1 ∷ 2 ∷ 3 ∷ 4 ∷ 5 ∷ 6 ∷ 7 ∷ []) (
+      (refl, (refl, (refl, (refl, (refl, (refl, tt)))))),
+      (
+        (refl, (refl, (refl, (refl, (refl, tt))))),
+        (
+          (refl, (refl, (refl, (refl, tt)))),
+          (
+            (refl, (refl, (refl, tt))),
+            (
+              (refl, (refl, tt)),
+              (
+                (refl, tt),
+                (
+                  tt,
+                  tt,
+                ),
+              ),
+            ),
+          ),
+        ),
+      ),
+    )
+
+    decision_may : (core : Core) (v : LinkView) (pipe : ℕ) (d : Decision) → Says h d → IsRecordable d → AsksAsAllowed core.tables v h d
+        → May (decision_deeds core h pipe d)
+    decision_may core v pipe (Answer answer) says may allowed = answer_may IsShort h pipe answer.items says
+    decision_may core v pipe (Commit c answer tell notice) says may allowed =
+        commit_may (finds_room core c) pipe c answer.items notice.items (hosts_where (has tell)) may says.0 (mask_different (has tell)) says.1
+    decision_may core v pipe (Ask asked notice c answer) says may allowed = asked_may core.tables v asked notice.items c answer.items says may allowed
+
+    -- ## Gates
+
+    link_may : (pipe : ℕ) (answer : List ℕ × Option ℕ) → eqb pipe 1 ≡ false → May (link_deeds h pipe answer)
+    link_may pipe answer e = by_value answer.0 answer.1 where
+      by_value : (message : List ℕ) (value : Option ℕ) → May (link_deeds h pipe (message, value))
+      by_value message None = other_may IsShort h pipe message (off_and (eqb pipe 1) (is_notice message) e)
+      by_value message (Some errors) = other_may IsShort h pipe message (off_and (eqb pipe 1) (is_notice message) e)
+
+    gate_may : (gate errors pipe instruction : ℕ) (body : List ℕ) → eqb pipe 1 ≡ false → May (gate_deeds gate errors h pipe instruction body)
+    gate_may gate errors pipe instruction body e =
+        either IsShort (eqb gate 6) (link_deeds h pipe (link_served errors instruction body)) _ (link_may pipe (link_served errors instruction body) e)
+        (either IsShort (eqb gate 5) (answers_on h pipe (identity_served gates instruction body))
+        (answers_on h pipe (answer_of response.CommandNotSupported []))
+        (other_may IsShort h pipe (identity_served gates instruction body) (off_and (eqb pipe 1) (is_notice (identity_served gates instruction body)) e))
+        (answer_may IsShort h pipe (answer_of response.CommandNotSupported []) (answer_other response.CommandNotSupported [])))
+
+    event_may : (t : HciTables) (m : Message) → IsOther m.1 → May (event_deeds t h m)
+    event_may t m other = either IsShort _ (Sends h m ∷ []) (Drops m.0 ∷ []) (no_and (eqb m.0 1) (is_notice m.1) other, tt) tt
+
+    unrelayed_may : (up : Bool) (m : Message) → May (unrelayed up h m)
+    unrelayed_may up m =
+        either IsShort (up && is_command_message m.1) (answers_on h m.0 (answer_of response.NotConnected [])) (Drops m.0 ∷ [])
+        (answer_may IsShort h m.0 (answer_of response.NotConnected []) (answer_other response.NotConnected [])) tt
+
+    relay_may : (ports : List Port) (m : Message) (other : ℕ) (up : Bool) → eqb m.0 1 ≡ false → May (relay_deeds ports h m other up)
+    relay_may ports m other true e = (off_and (eqb m.0 1) (is_notice m.1) e, tt)
+    relay_may ports m other false e = unrelayed_may (has_link ports h) m
+
+    agreed_may : (flag : Bool) (c : Creation) → IsRight c → (rest : List Deed) → agreed flag c ≡ IsAnswered ∷ rest → May rest
+    agreed_may true c right rest e =
+        let is : (Commits c.command ∷ Releases c.asker ∷ Sends c.asker (1, c.answer) ∷ SaysOk ∷ []) ≡ rest = cc in
+        subst May is (right.0, (right.1, tt))
+    agreed_may false c right rest e =
+        let is : (Releases c.asker ∷ Sends c.asker (1, answer_of response.NotOk []) ∷ []) ≡ rest = cc in
+        subst May is (answer_other response.NotOk [], tt)
+
+    -- ## Of a controller
+
+    -- a message of the host h answers a notice to it
+    abbrev pub answers : Message → Bool
+    answers m = eqb m.0 1 && is_response m.1
+
+    -- What a message does: it leaves the notice to x, or it answers the one to h.
+    pub data Outcome (ports : List Port) (m : Message) (deeds : List Deed) : Type 0 where
+      Leaves : ((eqb h x && answers m) ≡ true → noticed ports x ≡ None) → May deeds → Outcome ports m deeds
+      IsHeard : (rest : List Deed) → deeds ≡ IsAnswered ∷ rest → answers m ≡ true → May rest → Outcome ports m deeds
+
+    both : (a b : Bool) → (a && b) ≡ true → (a ≡ true) × (b ≡ true)
+    both true b e = (refl, e)
+    both false b e = absurd (true≢false (sym e))
+
+    no_response : (ports : List Port) (m : Message) → is_response m.1 ≡ false → (eqb h x && answers m) ≡ true → noticed ports x ≡ None
+    no_response ports m off e =
+        absurd (true≢false (sym (both (eqb m.0 1) (is_response m.1) (both (eqb h x) (answers m) e).1).1 ∙ off))
+
+    not_on_one : (ports : List Port) (m : Message) → eqb m.0 1 ≡ false → (eqb h x && answers m) ≡ true → noticed ports x ≡ None
+    not_on_one ports m off e =
+        absurd (true≢false (sym (both (eqb m.0 1) (is_response m.1) (both (eqb h x) (answers m) e).1).0 ∙ off))
+
+    module _ (core : Core) (ports : List Port) (sorted : AreTables core.tables) (two : JoinTwo core.tables.rows) (some : 1 ≤ h) (most : h ≤ 7)
+        (right : AreRight ports) (up : UpAt (port_at ports x)) where
+      -- pipe 01 leads to the administration gate
+      own_gate_one : (pipe : ℕ) → eqb pipe 1 ≡ true → own_gate core.tables h pipe ≡ None
+      own_gate_one pipe e = subst (λ n. own_gate core.tables h n ≡ None) (sym (eqb-true pipe 1 e)) refl
+
+      served_may : (pipe instruction : ℕ) (body : List ℕ) (gate : Option ℕ) → (eqb pipe 1 ≡ true → gate ≡ None)
+          → May (served_at core (view_for core.tables ports h) h pipe instruction body gate)
+      served_may pipe instruction body None one =
+          let v : LinkView = view_for core.tables ports h in
+          decision_may core v pipe (decided core.tables v h pipe instruction body) (decided_says v h core.tables pipe instruction body two)
+          (decided_recordable core.tables v h pipe instruction body sorted some most) (decided_as_allowed core.tables v h pipe instruction body)
+      served_may pipe instruction body (Some gate) one = go (eqb pipe 1) refl where
+        go : (b : Bool) → eqb pipe 1 ≡ b → May (gate_deeds gate (view_for core.tables ports h).errors h pipe instruction body)
+        go true e = let z : Some gate ≡ None = one e in absurd (cc z)
+        go false e = gate_may gate (view_for core.tables ports h).errors pipe instruction body e
+
+      asking_may : (m : Message) (instruction : ℕ) (asks : Bool) → May (unless_asking core ports h m instruction asks)
+      asking_may m instruction true = tt
+      asking_may m instruction false =
+          served_may m.0 instruction (body_in m.1) (cond (goes_through core.tables h m.0 instruction) (own_gate core.tables h m.0) None)
+          (λ e. by (goes_through core.tables h m.0 instruction) (own_gate core.tables h m.0) (own_gate_one m.0 e)) where
+            by : (b : Bool) (o : Option ℕ) → o ≡ None → cond b o None ≡ None
+            by true o e = e
+            by false o e = refl
+
+      dropped : (m : Message) → ((eqb h x && answers m) ≡ true → noticed ports x ≡ None) → (pid : ℕ) → Outcome ports m (Drops pid ∷ [])
+      dropped m none pid = Leaves none tt
+
+      none_there : (p : Port) → noticed ports h ≡ None → eqb h x ≡ true → noticed ports x ≡ None
+      none_there p none e = subst (λ n. noticed ports n ≡ None) (eqb-true h x e) none
+
+      response_is : (m : Message) (code : ℕ) (o : Option Port) → port_at ports h ≡ o → answers m ≡ true → Outcome ports m (response_at core code o)
+      response_is m code None here e =
+          Leaves (λ q. subst (λ n. noticed ports n ≡ None) (eqb-true h x (both (eqb h x) (answers m) q).0)
+          (ap (λ o. option_and_then (λ (p : Port). p.desk.notice) o) here)) tt
+      response_is m code (Some p) here e = by_notice p.desk.notice refl where
+        by_creation : (n : Notice) → p.desk.notice ≡ Some n → (o : Option Creation) → creation_in (Some n) ≡ o → Outcome ports m (creation_deeds core code o)
+        by_creation n is None q = IsHeard [] refl e tt
+        by_creation n is (Some c) q = by_flag (eqb code 0 && finds_room core c.command) where
+          right_there : IsRight c
+          right_there = by_about n.about refl where
+            about_right : IsRightAbout n.about
+            about_right = subst IsRightNotice is (at_port (λ (p : Port). IsRightNotice p.desk.notice) ports h p right here)
+
+            by_about : (a : About) → n.about ≡ a → IsRight c
+            by_about (Waits d) r =
+                let z : Some d ≡ Some c = rw r at q in
+                let same : d ≡ c = cc in
+                subst IsRight same (subst IsRightAbout r about_right)
+            by_about Forgotten r = let z : None ≡ Some c = rw r at q in absurd (cc z)
+            by_about Removed r = let z : None ≡ Some c = rw r at q in absurd (cc z)
+
+          by_flag : (flag : Bool) → Outcome ports m (agreed flag c)
+          by_flag true =
+              IsHeard (Commits c.command ∷ Releases c.asker ∷ Sends c.asker (1, c.answer) ∷ SaysOk ∷ []) refl e (agreed_may true c right_there _ refl)
+          by_flag false =
+              IsHeard (Releases c.asker ∷ Sends c.asker (1, answer_of response.NotOk []) ∷ []) refl e (agreed_may false c right_there _ refl)
+
+        by_notice : (o : Option Notice) → p.desk.notice ≡ o → Outcome ports m (notice_deeds core code o)
+        by_notice None is =
+            Leaves (λ q. subst (λ n. noticed ports n ≡ None) (eqb-true h x (both (eqb h x) (answers m) q).0)
+            (ap (λ o. option_and_then (λ (p : Port). p.desk.notice) o) here ∙ is)) tt
+        by_notice (Some n) is = by_creation n is (creation_in (Some n)) refl
+
+      if_notice_is : (m : Message) (code : ℕ) (b : Bool) → eqb m.0 1 ≡ b → header_of m.1 ≡ Ok (IsResponse, code)
+          → Outcome ports m (if_notice core ports h m code b)
+      if_notice_is m code true e q =
+          let is : is_response m.1 ≡ true = rw q refl in
+          let yes : answers m ≡ true = rw (e, is) refl in
+          response_is m code (port_at ports h) refl yes
+      if_notice_is m code false e q = Leaves (not_on_one ports m e) tt
+
+      kind_is : (m : Message) (header : Result (MessageKind × ℕ) MessageFault) → header_of m.1 ≡ header → Outcome ports m (kind_deeds core ports h m header)
+      kind_is m (Ok (IsCommandKind, instruction)) q =
+          let off : is_response m.1 ≡ false = rw q refl in
+          Leaves (no_response ports m off) (asking_may m instruction (eqb m.0 1 && asks_for ports h))
+      kind_is m (Ok (IsEvent, instruction)) q =
+          let off : is_response m.1 ≡ false = rw q refl in
+          let other : IsOther m.1 = rw q refl in
+          Leaves (no_response ports m off) (event_may core.tables m other)
+      kind_is m (Ok (IsResponse, code)) q = if_notice_is m code (eqb m.0 1) refl q
+      kind_is m (Err fault) q =
+          let off : is_response m.1 ≡ false = rw q refl in
+          Leaves (no_response ports m off) tt
+
+      -- a link that isn't up has no notice
+      none_down : has_link ports h ≡ false → eqb h x ≡ true → noticed ports x ≡ None
+      none_down down e = go (port_at ports x) up (subst (λ n. has_link ports n ≡ false) (eqb-true h x e) down) where
+        by : (p : Port) (o : Option Notice) → p.desk.notice ≡ o → UpAt (Some p) → has_link (p ∷ []) p.desk.host ≡ has_link (p ∷ []) p.desk.host
+            → Rattle.session_laws.specs.Sessions.is_up p.side.shdlc.phase ≡ false → o ≡ None
+        by p None is u same off = refl
+        by p (Some n) is u same off = absurd (true≢false (sym (u (ap is_some is)) ∙ off))
+
+        go : (o : Option Port) → UpAt o → option_map_or (λ (p : Port). Rattle.session_laws.specs.Sessions.is_up p.side.shdlc.phase) o false ≡ false
+            → option_and_then (λ (p : Port). p.desk.notice) o ≡ None
+        go None u off = refl
+        go (Some p) u off = by p p.desk.notice refl u refl off
+
+      own_is : (m : Message) (b : Bool) → has_link ports h ≡ b → Outcome ports m (own_deeds core ports h m b)
+      own_is m true e = kind_is m (header_of m.1) refl
+      own_is m false e = Leaves (λ q. none_down e (both (eqb h x) (answers m) q).0) tt
+
+      -- pipe 01 leads to no other host
+      relayed_off : (m : Message) (other : ℕ) → relayed_to core.tables h m ≡ Some other → eqb m.0 1 ≡ false
+      relayed_off m other q = go (eqb m.0 1) refl where
+        none : (n : ℕ) → n ≡ 1 → relayed_to core.tables h (n, m.1) ≡ None
+        none n e = subst (λ k. relayed_to core.tables h (k, m.1) ≡ None) (sym e) (cond_both _ None None (λ o. o ≡ None) (λ _. refl) (λ _. refl))
+
+        go : (b : Bool) → eqb m.0 1 ≡ b → eqb m.0 1 ≡ false
+        go true e = let z : None ≡ Some other = sym (none m.0 (eqb-true m.0 1 e)) ∙ q in absurd (cc z)
+        go false e = e
+
+      by_relay : (m : Message) (o : Option ℕ) → relayed_to core.tables h m ≡ o → Outcome ports m (deeds_by_relay core ports h m o)
+      by_relay m (Some other) q =
+          Leaves (not_on_one ports m (relayed_off m other q)) (relay_may ports m other (has_link ports other) (relayed_off m other q))
+      by_relay m None q = own_is m (has_link ports h) refl
+
+      pub controller_outcome : (m : Message) → Outcome ports m (controller_deeds core ports h m)
+      controller_outcome m = by_relay m (relayed_to core.tables h m) refl

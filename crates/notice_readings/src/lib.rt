@@ -1,0 +1,29 @@
+//! The unanswered notices of a controller are those that are read off the entries of its world. Nothing here runs.
+#![tactic(auto)]
+
+ghost use Rattle.trace_model.specs.declared.line.Header.{Header};
+ghost use Rattle.trace_model.specs.declared.line.Line.{Line};
+ghost use Rattle.std.specs.Prelude.{ℕ, List};
+ghost use Rattle.std.specs.List.{AllByRecursion};
+ghost use Rattle.link_machine.specs.Machine.{Message};
+ghost use Rattle.node_machine.specs.Parts.{Core, Port};
+ghost use Rattle.node_machine.specs.Controller.{controller_deeds};
+ghost use Rattle.node_world.specs.World.{new_world};
+ghost use Rattle.node_world.specs.NodeHistories.{NodeHistory, FollowsNodes, node_entries, world_after};
+ghost use Rattle.kept_laws.specs.Hosts.{AreHosts};
+ghost use Rattle.notice_readings.specs.Notices.{GoesToFree, NoticesAreRead};
+
+/// Whatever message of a host a controller handles, it asks and tells by a notice only hosts that have no notice to answer: so no
+/// notice takes the place of another one.
+pub fn no_notice_takes_the_place_of_another()
+    ensures { (core : Core) (ports : List Port) (h : ℕ) (m : Message) → AllByRecursion (GoesToFree ports) (controller_deeds core ports h m) }
+{}
+
+/// Behind any lines of a schedule the unanswered notice of the controller to each host is the one that is read off the entries, and it
+/// is about what that message says: that of a creation while it waits, with the two ends and the number of its pipe, or one that was
+/// forgotten, or that of a pipe that was deleted or of all pipes of a host. None is read of a controller that doesn't run. It asks for
+/// hosts from 01 to 07 that are all different.
+pub fn unanswered_notices_are_read_off_histories()
+    ensures { (header : Header) (lines : List Line) (t : NodeHistory) → FollowsNodes header lines t → AreHosts header.hosts.items →
+        NoticesAreRead (node_entries t) (world_after (new_world header.hosts.items) lines) }
+{}
