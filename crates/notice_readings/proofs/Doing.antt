@@ -32,7 +32,8 @@ use Rattle.node_world.specs.NodeFilters.{is_notice, notice_in}
 use Rattle.node_links.proofs.Noticing.{turn-phase, UpAt, at_all, at_host}
 use Rattle.notice_readings.specs.Notices.{IsAbout, IsKept}
 use Rattle.notice_readings.proofs.Reading.{reads, read_more, sent_reads, sent_elsewhere, notice_reads}
-use Rattle.notice_readings.proofs.Telling.{IsRightAbout, IsRightNotice, AreRight, noticed, MayTell}
+use Rattle.notice_readings.proofs.Telling.{AreRight, noticed, MayTell}
+use Rattle.notice_readings.specs.Worlds.{IsRightAbout, IsRightNotice}
 
 abbrev pub AreHostEnds : List Port → Type 0
 AreHostEnds ports = AllByRecursion (λ (p : Port). IsHost p.desk.host) ports

@@ -35,18 +35,16 @@ use Rattle.node_world.specs.World.{NodeWorld, Site, Happening, node_at, memory_a
 use Rattle.node_world.specs.World.Happening.{Boots, IsCut, Gives, Inits, Takes, Loses, Ticks, Resets, Activates, Arms}
 use Rattle.node_world.specs.NodeFilters.{notice_in}
 use Rattle.kept_laws.specs.Hosts.{AreHosts}
-use Rattle.node_telling.specs.Telling.{IsOrderly}
 use Rattle.node_telling.proofs.Orderly.{new_orderly, step_orderly}
-use Rattle.node_readings.specs.Noticed.{NoticesAreUp}
 use Rattle.node_readings.proofs.NoticedWorlds.{event_up}
 use Rattle.node_readings.proofs.Sites.{lost_quiet}
-use Rattle.notice_readings.specs.Notices.{IsKept, notice_at, MayBoot}
+use Rattle.notice_readings.specs.Notices.{IsKept, notice_at}
 use Rattle.notice_readings.proofs.Reading.{notice_more}
-use Rattle.notice_readings.proofs.Telling.{IsRightNotice}
 use Rattle.notice_readings.proofs.Shut.{here_shut}
 use Rattle.notice_readings.proofs.Far.{quiet_far}
-use Rattle.notice_readings.proofs.Sites.{IfHostNode, AreGood, ControllerReads, IfReads, Reads, AreHushed, still_reads, far_hushed, good_map, good_with, far_shut, begins_reads, sending_own, beginning_own}
+use Rattle.notice_readings.proofs.Sites.{AreGood, Reads, AreHushed, still_reads, far_hushed, good_map, good_with, far_shut, begins_reads, sending_own, beginning_own}
 use Rattle.notice_readings.proofs.Near.{comes_reads, ticks_reads, activates_reads}
+use Rattle.notice_readings.specs.Worlds.{ControllerReads, IfHostNode, IfReads, IsRead, IsRightNotice, MayBoot}
 
 -- ## The tables of a memory
 
@@ -297,27 +295,26 @@ lost_reads t w e why a = by_side (cases_Bool e.at_host) where
 
 -- ## Events
 
--- an orderly world whose notices stand at ends that are up
-pub record IsRead (t : List Entry) (w : NodeWorld) : Type 0 where
-  pub orderly : IsOrderly w
-  pub up : NoticesAreUp w
-  pub so : Reads t w
+so_far : (t : List Entry) (w : NodeWorld) → IsRead t w → Reads t w
+so_far t w a = record { sites = a.sites; reads_so = a.controller }
 
 event_so : (t : List Entry) (w : NodeWorld) (c : Happening) → IsRead t w → MayBoot w c → Reads (t ++ (world_step w c).1) (world_step w c).0
-event_so t w (Boots n) a may = boots_reads t w n a.so may
-event_so t w (IsCut n) a may = cut_reads t w a.so n
-event_so t w (Gives e m) a may = begins_reads t w a.so e.link (sending e.link m) (sending_own e.link m)
-event_so t w (Inits e identity pipes) a may = begins_reads t w a.so e.link (beginning identity pipes) (beginning_own identity pipes)
-event_so t w (Takes e) a may = comes_reads t w a.orderly a.up a.so e NextFrame
-event_so t w (Loses e why) a may = lost_reads t w e why a.so
-event_so t w Ticks a may = ticks_reads t w a.orderly a.up a.so
-event_so t w (Resets e window) a may = comes_reads t w a.orderly a.up a.so e (AsksReset window)
-event_so t w (Activates h sync power) a may = activates_reads t w a.orderly a.up a.so h sync power
+event_so t w (Boots n) a may = boots_reads t w n (so_far t w a) may
+event_so t w (IsCut n) a may = cut_reads t w (so_far t w a) n
+event_so t w (Gives e m) a may = begins_reads t w (so_far t w a) e.link (sending e.link m) (sending_own e.link m)
+event_so t w (Inits e identity pipes) a may = begins_reads t w (so_far t w a) e.link (beginning identity pipes) (beginning_own identity pipes)
+event_so t w (Takes e) a may = comes_reads t w a.orderly a.up (so_far t w a) e NextFrame
+event_so t w (Loses e why) a may = lost_reads t w e why (so_far t w a)
+event_so t w Ticks a may = ticks_reads t w a.orderly a.up (so_far t w a)
+event_so t w (Resets e window) a may = comes_reads t w a.orderly a.up (so_far t w a) e (AsksReset window)
+event_so t w (Activates h sync power) a may = activates_reads t w a.orderly a.up (so_far t w a) h sync power
 event_so t w (Arms n plan) a may =
-    subst (λ l. Reads l (world_step w (Arms n plan)).0) (sym (append-nil t)) (memory_reads t w a.so n (record (memory_at w n) { plan = Some plan }))
+    subst (λ l. Reads l (world_step w (Arms n plan)).0) (sym (append-nil t)) (memory_reads t w (so_far t w a) n (record (memory_at w n) { plan = Some plan }))
 
 pub event_read : (t : List Entry) (w : NodeWorld) (c : Happening) → IsRead t w → MayBoot w c → IsRead (t ++ (world_step w c).1) (world_step w c).0
-event_read t w c a may = record { orderly = step_orderly w c a.orderly; up = event_up w c a.orderly a.up; so = event_so t w c a may }
+event_read t w c a may =
+    let so : Reads (t ++ (world_step w c).1) (world_step w c).0 = event_so t w c a may in
+    record { orderly = step_orderly w c a.orderly; up = event_up w c a.orderly a.up; sites = so.sites; controller = so.reads_so }
 
 -- ## The beginning
 
@@ -333,5 +330,6 @@ pub begins_read : (hosts : List ℕ) → AreHosts hosts → IsRead [] (new_world
 begins_read hosts are = record {
   orderly = new_orderly hosts are.different (numbers hosts are.all);
   up = tt;
-  so = record { sites = new_good (replicate 65536 255) hosts are.all; reads_so = λ x. refl };
+  sites = new_good (replicate 65536 255) hosts are.all;
+  controller = λ x. refl;
 }

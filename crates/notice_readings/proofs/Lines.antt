@@ -1,11 +1,8 @@
 -- What is read of the controller's notices over the lines of a schedule.
-use Rattle.std.proofs.Common.{◌≡◌, ◌⊎◌, inl, inr, ℕ, zero, suc, true, false, List, [], ◌∷◌, ◌++◌, sym, refl, ap, ◌∙◌, subst, append_assoc, append-nil}
+use Rattle.std.proofs.Common.{◌≡◌, ℕ, zero, suc, List, [], sym, refl, ap, subst}
 use Rattle.std.specs.Prelude.{Option, Some, None, is_some, replicate}
 use Rattle.std.specs.List.{flat_map}
-use Rattle.std.proofs.lemmas.Grind.{flat_map-append}
-use Rattle.std.proofs.lemmas.Bool.{cases_Bool}
 use Rattle.trace_model.specs.declared.entry.Entry.{Entry}
-use Rattle.trace_model.specs.declared.entry.NoCause.{NoCause}
 use Rattle.trace_model.specs.declared.entry.NoCause.TheVariants as cause
 use Rattle.trace_model.specs.declared.line.End.{End}
 use Rattle.trace_model.specs.declared.line.Header.{Header}
@@ -17,15 +14,14 @@ use Rattle.history.specs.Follows.{first_verdict, taken_of}
 use Rattle.node_machine.specs.Parts.{Running}
 use Rattle.node_world.specs.World.{NodeWorld, Happening, node_at, new_world, world_step}
 use Rattle.node_world.specs.World.Happening.{Takes, Ticks}
-use Rattle.node_world.specs.Lines.{if_true, frames_at, refusal_in, happens_by, happenings, Occurrence, can_happen, all_happen, LineOutcome, tables_told, goes_on, line_step}
-use Rattle.node_world.specs.Lines.LineOutcome.{WasRefused}
-use Rattle.node_world.specs.NodeHistories.{LineStep, NodeHistory, FollowsNodes, steps_from, occurrences_of, entries_in, node_entries, world_after}
+use Rattle.node_world.specs.Lines.{if_true, frames_at, refusal_in, happens_by, happenings}
+use Rattle.node_world.specs.NodeHistories.{LineStep, NodeHistory, FollowsNodes, occurrences_of, entries_in, node_entries, world_after}
 use Rattle.node_world.specs.NodeFilters.{notice_in}
 use Rattle.kept_laws.specs.Hosts.{AreHosts}
 use Rattle.node_telling.proofs.Lasting.{AllMay, AnyLine, all_lines, lines_last}
-use Rattle.notice_readings.specs.Notices.{IsKept, notice_of, NoticesAreRead, MayBoot}
-use Rattle.notice_readings.proofs.Sites.{IfReads}
-use Rattle.notice_readings.proofs.Events.{IsRead, event_read, begins_read}
+use Rattle.notice_readings.specs.Notices.{IsKept, notice_of, NoticesAreRead}
+use Rattle.notice_readings.proofs.Events.{event_read, begins_read}
+use Rattle.notice_readings.specs.Worlds.{IfReads, IsRead, MayBoot}
 
 -- ## What a line that isn't refused says
 
@@ -70,7 +66,7 @@ line_may w (line.Tables n) any none = tt
 
 -- the notices of a controller are those that are read
 pub notices_of : (t : List Entry) (w : NodeWorld) → IsRead t w → NoticesAreRead t w
-notices_of t w a = go w.controller a.so.reads_so where
+notices_of t w a = go w.controller a.controller where
   go : (o : Option Running) → IfReads t o → (h : ℕ) → IsKept (notice_in t h) (notice_of o h)
   go None none h = subst (λ m. IsKept m None) (sym (none h)) tt
   go (Some r) some h = some.kept h

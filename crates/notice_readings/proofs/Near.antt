@@ -37,12 +37,13 @@ use Rattle.node_readings.proofs.Silent.{IsQuiet, quiet-append}
 use Rattle.node_readings.proofs.Sites.{half_side, comes_outside}
 use Rattle.notice_readings.specs.Notices.{IsKept, notice_at}
 use Rattle.notice_readings.proofs.Reading.{notice_more}
-use Rattle.notice_readings.proofs.Telling.{IsRightNotice, AreRight, noticed}
+use Rattle.notice_readings.proofs.Telling.{AreRight, noticed}
 use Rattle.notice_readings.proofs.Doing.{AreHostEnds, IsOn, Stands}
-use Rattle.notice_readings.proofs.Shut.{IsShut, here_shut, ticks_shut}
+use Rattle.notice_readings.proofs.Shut.{here_shut, ticks_shut}
 use Rattle.notice_readings.proofs.Steps.{steps_stand}
 use Rattle.notice_readings.proofs.Far.{AreFar, far-append, far_flat, far_reads, quiet_far}
-use Rattle.notice_readings.proofs.Sites.{AreGood, ControllerReads, IfReads, Reads, still_reads, far_hushed, good_map, link_shut, frames_quiet, arrival_quiet, nothing, far_reads_so, all_tick}
+use Rattle.notice_readings.proofs.Sites.{AreGood, Reads, still_reads, far_hushed, good_map, link_shut, frames_quiet, arrival_quiet, nothing, far_reads_so, all_tick}
+use Rattle.notice_readings.specs.Worlds.{ControllerReads, IfReads, IsRightNotice, IsShut}
 
 -- ## Ends as a step begins
 

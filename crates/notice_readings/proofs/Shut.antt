@@ -21,9 +21,7 @@ use Rattle.message_link.proofs.Finishing.{tick_role}
 use Rattle.node_links.proofs.Ends.{here_is, tick_is}
 use Rattle.node_links.proofs.Noticing.{turn-phase}
 use Rattle.node_readings.proofs.Sites.{sent_phase}
-
-abbrev pub IsShut : LinkEnd → Type 0
-IsShut e = is_open e.role ≡ false → e.shdlc.phase ≡ Down
+use Rattle.notice_readings.specs.Worlds.{IsShut}
 
 -- an end becomes one with its role and its phase
 same_shut : (e f : LinkEnd) → f.role ≡ e.role → f.shdlc.phase ≡ e.shdlc.phase → IsShut e → IsShut f

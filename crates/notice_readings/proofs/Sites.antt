@@ -4,11 +4,8 @@ use Rattle.std.specs.Prelude.{Option, Some, None}
 use Rattle.std.specs.List.{AllByRecursion}
 use Rattle.std.specs.Option.{option_map_or}
 use Rattle.std.proofs.lemmas.Bool.{cases_Bool, cond_both, true≢false}
-use Rattle.trace_model.specs.Lines.{IsHost}
 use Rattle.trace_model.specs.declared.entry.Entry.{Entry}
 use Rattle.trace_model.specs.declared.line.End.{End}
-use Rattle.hci_tables.specs.Tables.{AreTables}
-use Rattle.tables_laws.specs.Changes.{JoinTwo}
 use Rattle.session_laws.specs.Sessions.{OnWire}
 use Rattle.link_machine.specs.Machine.{Message, LinkEnd, LinkInput, new_link_end}
 use Rattle.link_machine.specs.Machine.Role.{Bare}
@@ -21,7 +18,7 @@ use Rattle.link_entries.specs.Entries.{End as Side, ending_entries}
 use Rattle.link_entries.specs.Entries.End.{Host}
 use Rattle.history.specs.Steps.{entries_for}
 use Rattle.history.specs.Follows.{seen_from}
-use Rattle.node_machine.specs.Parts.{Desk, Running, Port, Work, Deed}
+use Rattle.node_machine.specs.Parts.{Running, Port, Work, Deed}
 use Rattle.node_machine.specs.Parts.Deed.{Sends, Orders}
 use Rattle.node_machine.specs.Controller.{is_command_message}
 use Rattle.node_machine.specs.Carrying.{changed_if, port_at}
@@ -33,36 +30,12 @@ use Rattle.node_links.proofs.Ends.{here_host, tick_host}
 use Rattle.node_readings.proofs.Sites.{ending_quiet}
 use Rattle.notice_readings.specs.Notices.{IsKept, notice_at}
 use Rattle.notice_readings.proofs.Reading.{reads, notice_more}
-use Rattle.notice_readings.proofs.Telling.{IsRightNotice}
-use Rattle.notice_readings.proofs.Shut.{IsShut}
 use Rattle.notice_readings.proofs.Own.{AreOwn}
 use Rattle.notice_readings.proofs.Far.{AreFar, far-append, far_reads, quiet_far, IsHostWork, all_do, steps_far}
-
--- a node that runs isn't the controller
-abbrev pub IfHostNode : Option Running → Type 0
-IfHostNode None = Unit {0}
-IfHostNode (Some r) = eqb r.core.node 0 ≡ false
-
--- a site is that of a host, and the controller's end of its link is Down unless it is active
-pub record IsGood (s : Site) : Type 0 where
-  pub host : IsHost s.host
-  pub node : IfHostNode s.node
-  pub shut : IsShut s.link.controller.side
+use Rattle.notice_readings.specs.Worlds.{IfHostNode, IfReads, IsGood, IsShut}
 
 abbrev pub AreGood : List Site → Type 0
 AreGood sites = AllByRecursion IsGood sites
-
--- a controller that runs keeps the notices that are read
-pub record ControllerReads (t : List Entry) (r : Running) : Type 0 where
-  pub sorted : AreTables r.core.tables
-  pub two : JoinTwo r.core.tables.rows
-  pub right : AllByRecursion (λ (d : Desk). IsRightNotice d.notice) r.desks
-  pub kept : (x : ℕ) → IsKept (notice_in t x) (notice_at r.desks x)
-
--- none is read while it doesn't run
-abbrev pub IfReads : List Entry → Option Running → Type 0
-IfReads t None = (x : ℕ) → notice_in t x ≡ None
-IfReads t (Some r) = ControllerReads t r
 
 pub record Reads (t : List Entry) (w : NodeWorld) : Type 0 where
   pub sites : AreGood w.sites

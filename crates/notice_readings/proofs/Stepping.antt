@@ -33,7 +33,8 @@ use Rattle.notice_readings.specs.Notices.{IsNoticeOf, IsAbout, IsKept}
 use Rattle.notice_readings.proofs.Reading.{reads, reads_append, told_reads}
 use Rattle.notice_readings.proofs.Deciding.{answer_other}
 use Rattle.notice_readings.proofs.Telling.{MayTell}
-use Rattle.notice_readings.proofs.Shut.{IsShut, input_shut}
+use Rattle.notice_readings.proofs.Shut.{input_shut}
+use Rattle.notice_readings.specs.Worlds.{IsShut}
 
 -- ## Quiet deeds
 

@@ -27,11 +27,11 @@ use Rattle.kept_laws.specs.Hosts.{AreDifferent}
 use Rattle.node_readings.specs.Orders.{IsFresh}
 use Rattle.notice_readings.specs.Notices.{IsKept}
 use Rattle.notice_readings.proofs.Reading.{reads, read_more}
-use Rattle.notice_readings.proofs.Telling.{IsRightNotice, AreRight, at_port}
+use Rattle.notice_readings.proofs.Telling.{AreRight, at_port}
 use Rattle.notice_readings.proofs.Doing.{AreHostEnds, all_map, controller_side, IsOn, Stands, then, turns, all_stand, read_in}
 use Rattle.notice_readings.proofs.Turning.{passes_stand}
-use Rattle.notice_readings.proofs.Shut.{IsShut}
 use Rattle.notice_readings.proofs.Stepping.{AreCalm, calm-append, calm_flat, calm_all, calm_may, owed_calm, synced_calm, flat_reads, told_elsewhere, told_here, late_elsewhere, IsCome, IsComeAt, kept_none, come_is, older_is, late_is, forgets_is, without_is}
+use Rattle.notice_readings.specs.Worlds.{IsRightNotice, IsShut}
 
 -- the hosts of ends that keep theirs
 hosts_map : (f : Port → Port) → ((p : Port) → (f p).desk.host ≡ p.desk.host) → (ports : List Port)

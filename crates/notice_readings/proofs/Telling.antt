@@ -37,21 +37,9 @@ use Rattle.kept_laws.specs.Hosts.{AreDifferent}
 use Rattle.kept_laws.proofs.Deciding.{decided_recordable}
 use Rattle.notice_readings.specs.Notices.{IsNoticeOf}
 use Rattle.notice_readings.proofs.Deciding.{IsOther, IsRemoval, IsAsking, AreTold, Says, answer_other, decided_says}
+use Rattle.notice_readings.specs.Worlds.{IsRight, IsRightAbout, IsRightNotice}
 
 -- ## Creations
-
--- the command of a creation may be recorded, and its answer is no notice
-abbrev pub IsRight : Creation → Type 0
-IsRight c = IsCommand c.command × IsOther c.answer
-
-abbrev pub IsRightAbout : About → Type 0
-IsRightAbout (Waits c) = IsRight c
-IsRightAbout Forgotten = Unit {0}
-IsRightAbout Removed = Unit {0}
-
-abbrev pub IsRightNotice : Option Notice → Type 0
-IsRightNotice None = Unit {0}
-IsRightNotice (Some n) = IsRightAbout n.about
 
 abbrev pub AreRight : List Port → Type 0
 AreRight ports = AllByRecursion (λ (p : Port). IsRightNotice p.desk.notice) ports

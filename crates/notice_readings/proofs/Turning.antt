@@ -25,9 +25,10 @@ use Rattle.node_links.proofs.Reaching.{controller_reach}
 use Rattle.node_readings.proofs.Noticed.{up_is}
 use Rattle.notice_readings.specs.Notices.{IsKept}
 use Rattle.notice_readings.proofs.Reading.{reads, same_near}
-use Rattle.notice_readings.proofs.Telling.{IsRightNotice, noticed, IsShort, MayTell, answers, Outcome, controller_outcome}
+use Rattle.notice_readings.proofs.Telling.{noticed, IsShort, MayTell, answers, Outcome, controller_outcome}
 use Rattle.notice_readings.proofs.Telling.Outcome.{Leaves, IsHeard}
 use Rattle.notice_readings.proofs.Doing.{AreHostEnds, Takes, all_map, controller_side, Holds, IsOn, Stands, then, notes, hushed, turns, desks, all_stand, read_in}
+use Rattle.notice_readings.specs.Worlds.{IsRightNotice}
 
 -- ## Room
 

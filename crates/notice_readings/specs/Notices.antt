@@ -11,8 +11,7 @@ use Rattle.node_machine.specs.Parts.{Creation, About, Notice, Desk, Running, Por
 use Rattle.node_machine.specs.Parts.About.{Waits, Forgotten, Removed}
 use Rattle.node_machine.specs.Parts.Deed.{Asks, Tells}
 use Rattle.node_machine.specs.Carrying.{port_at}
-use Rattle.node_world.specs.World.{NodeWorld, Happening, node_at}
-use Rattle.node_world.specs.World.Happening.{Boots}
+use Rattle.node_world.specs.World.{NodeWorld}
 use Rattle.node_world.specs.NodeFilters.{notice_in}
 
 -- a message is the notice of this creation: it names the two ends and the number of the pipe that its asker asked for
@@ -46,11 +45,6 @@ notice_of (Some r) h = notice_at r.desks h
 -- the unanswered notice to each host is the one that is read
 abbrev pub NoticesAreRead : List Entry → NodeWorld → Type 0
 NoticesAreRead t w = (h : ℕ) → IsKept (notice_in t h) (notice_of w.controller h)
-
--- a node that boots doesn't run
-abbrev pub MayBoot : NodeWorld → Happening → Type 0
-MayBoot w (Boots n) = node_at w n ≡ None
-MayBoot w _ = Unit {0}
 
 -- this host has a notice that isn't answered
 abbrev pub has_notice : List Port → ℕ → Bool

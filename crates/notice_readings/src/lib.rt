@@ -3,20 +3,32 @@
 
 ghost use Rattle.trace_model.specs.declared.line.Header.{Header};
 ghost use Rattle.trace_model.specs.declared.line.Line.{Line};
-ghost use Rattle.std.specs.Prelude.{ℕ, List};
+ghost use Rattle.std.specs.Prelude.{◌++◌, ℕ, List, []};
+ghost use Rattle.trace_model.specs.declared.entry.Entry.{Entry};
 ghost use Rattle.std.specs.List.{AllByRecursion};
 ghost use Rattle.link_machine.specs.Machine.{Message};
 ghost use Rattle.node_machine.specs.Parts.{Core, Port};
 ghost use Rattle.node_machine.specs.Controller.{controller_deeds};
-ghost use Rattle.node_world.specs.World.{new_world};
+ghost use Rattle.node_world.specs.World.{NodeWorld, Happening, new_world, world_step};
 ghost use Rattle.node_world.specs.NodeHistories.{NodeHistory, FollowsNodes, node_entries, world_after};
 ghost use Rattle.kept_laws.specs.Hosts.{AreHosts};
 ghost use Rattle.notice_readings.specs.Notices.{GoesToFree, NoticesAreRead};
+ghost use Rattle.notice_readings.specs.Worlds.{IsRead, MayBoot};
 
 /// Whatever message of a host a controller handles, it asks and tells by a notice only hosts that have no notice to answer: so no
 /// notice takes the place of another one.
 pub fn no_notice_takes_the_place_of_another()
     ensures { (core : Core) (ports : List Port) (h : ℕ) (m : Message) → AllByRecursion (GoesToFree ports) (controller_deeds core ports h m) }
+{}
+
+/// In a world that begins no notice is read. Whatever happens then, the unanswered notice of the controller to each host is the one that
+/// is read off the entries, and none is read of a controller that doesn't run: so it is at each moment between events. It asks for hosts
+/// from 01 to 07 that are all different, and a node that boots doesn't run.
+pub fn the_controller_keeps_the_notices_that_are_read()
+    ensures begin { (hosts : List ℕ) → AreHosts hosts → IsRead [] (new_world hosts) }
+    ensures event { (t : List Entry) (w : NodeWorld) (c : Happening) → IsRead t w → MayBoot w c →
+        IsRead (t ++ (world_step w c).1) (world_step w c).0 }
+    ensures read { (t : List Entry) (w : NodeWorld) → IsRead t w → NoticesAreRead t w }
 {}
 
 /// Behind any lines of a schedule the unanswered notice of the controller to each host is the one that is read off the entries, and it
