@@ -13,3 +13,4 @@ pub mod Connected
 pub mod Reaching
 pub mod Staying
 pub mod Noticing
+pub mod Blocks

@@ -26,7 +26,7 @@ all_obey : (P : Link → Type 0) → ((l : Link) → IsRun l → P l) → (sites
 all_obey P one [] a = tt
 all_obey P one (s ∷ sites) a = (one s.link a.0, all_obey P one sites a.1)
 
-obey : (P : Link → Type 0) → ((l : Link) → IsRun l → P l) → (hosts : List ℕ) (lines : List Line) → ArePlayable lines
+pub obey : (P : Link → Type 0) → ((l : Link) → IsRun l → P l) → (hosts : List ℕ) (lines : List Line) → ArePlayable lines
     → AllByRecursion (λ (s : Site). P s.link) (world_after (new_world hosts) lines).sites
 obey P one hosts lines p = all_obey P one (world_after (new_world hosts) lines).sites (links_run hosts lines p)
 

@@ -1,10 +1,11 @@
 -- The links of a world of nodes as runs of the law of one link.
-use Rattle.std.specs.Prelude.{◌≡◌, List}
+use Rattle.std.specs.Prelude.{◌≡◌, ◌+◌, List}
 use Rattle.std.specs.List.{AllByRecursion}
 use Rattle.swp_act.specs.Activation.{new_clf, new_uicc}
 use Rattle.trace_model.specs.declared.line.Line.{Line}
 use Rattle.trace_model.specs.declared.line.Line.TheVariants as line
 use Rattle.hcp_packet.specs.Packets.{IsSendable}
+use Rattle.link_machine.specs.Machine.{LinkEnd, in_use, spare}
 use Rattle.link_machine.specs.Machine.Role.{Clf, Uicc}
 use Rattle.message_link.specs.Links.{Link, LinkEvent, new_link, after, AllAllowed, IsWindow}
 
@@ -30,3 +31,7 @@ IsPlayable _ = Unit {0}
 
 abbrev pub ArePlayable : List Line → Type 0
 ArePlayable lines = AllByRecursion IsPlayable lines
+
+-- the blocks in use at an end, those set aside and those that are spare are 128
+abbrev pub SharesOut : LinkEnd → Type 0
+SharesOut e = in_use e + e.aside + spare e ≡ 128

@@ -20,7 +20,7 @@ ghost use Rattle.node_machine.specs.Controller.{controller_deeds};
 ghost use Rattle.node_machine.specs.Node.{NodeInput, steps};
 ghost use Rattle.node_world.specs.World.{Site, new_world};
 ghost use Rattle.node_links.specs.Notices.{AllReach, IsBegun, IsComing, IsNoticedUp, IsOutside, OnFirst};
-ghost use Rattle.node_links.specs.Runs.{ArePlayable, IsRun, IsRunOf, new_line};
+ghost use Rattle.node_links.specs.Runs.{ArePlayable, IsRun, IsRunOf, SharesOut, new_line};
 ghost use Rattle.node_world.specs.NodeHistories.{world_after};
 
 /// Whatever lines are played in a world of nodes, the link of each host is what some events of the law of one link make of a new
@@ -77,6 +77,14 @@ pub fn resets_bring_both_ends_up()
     ensures { (hosts : List ℕ) (lines : List Line) → ArePlayable lines →
         AllByRecursion (λ (s : Site). (events : List LinkEvent) → IsRunOf events s.link → IsSettled s.link (sure_of new_line events) →
         AreUpTogether s.link) (world_after (new_world hosts) lines).sites }
+{}
+
+/// The blocks in use at each end of a link of such a world, those set aside and those that are spare are 128.
+pub fn blocks_of_each_end_are_shared_out()
+    ensures controller { (hosts : List ℕ) (lines : List Line) → ArePlayable lines →
+        AllByRecursion (λ (s : Site). SharesOut s.link.controller.side) (world_after (new_world hosts) lines).sites }
+    ensures host { (hosts : List ℕ) (lines : List Line) → ArePlayable lines →
+        AllByRecursion (λ (s : Site). SharesOut s.link.host.side) (world_after (new_world hosts) lines).sites }
 {}
 
 /// Whatever message of a host a controller handles, it asks and tells by a notice only hosts whose links are up; and an end that
