@@ -179,18 +179,22 @@ line_aged l a = record { clf = a.clf; uicc = a.uicc; near = a.near; far = a.far 
 pub tick_allowed : (l : Link) (c h : Node) → AreNodes c h → IsLine l → IsEvent l (Ticks c [] h)
 tick_allowed l c h send a =
     let m : Link = ticks_here (aged l) c.turns c.ending in
-    let b : IsLine m = line_tick (aged l) c.turns c.ending (line_aged l a) in
-    ((send.controller, can_end l.controller.side.role c.ending (clf_line l.controller.side.role a.clf)), tt,
-    (send.host, can_end m.host.side.role h.ending (uicc_line m.host.side.role b.uicc)))
+    let b : IsLine m = line_tick (aged l) c.turns c.ending (line_aged l a) in (
+      (send.controller, can_end l.controller.side.role c.ending (clf_line l.controller.side.role a.clf)),
+      tt,
+      (send.host, can_end m.host.side.role h.ending (uicc_line m.host.side.role b.uicc)),
+    )
 
 pub reset_allowed : (l : Link) (c h : Node) → AreNodes c h → IsLine l → is_waiting l.controller.side.shdlc ≡ false
     → IsEvent l (TicksWithout (Step (AsksReset None) c.turns c.ending ∷ []) h)
 reset_allowed l c h send a q =
     let reset : EndEvent = Step (AsksReset None) c.turns c.ending in
     let m : Link = happens_here (aged l) reset in
-    let b : IsLine m = line_here (aged l) reset (line_aged l a) in
-    (q, (tt, (tt, (send.controller, can_end l.controller.side.role c.ending (clf_line l.controller.side.role a.clf))), tt),
-    (send.host, can_end m.host.side.role h.ending (uicc_line m.host.side.role b.uicc)))
+    let b : IsLine m = line_here (aged l) reset (line_aged l a) in (
+      q,
+      (tt, (tt, (send.controller, can_end l.controller.side.role c.ending (clf_line l.controller.side.role a.clf))), tt),
+      (send.host, can_end m.host.side.role h.ending (uicc_line m.host.side.role b.uicc)),
+    )
 
 pub ticks_fine : (l : Link) (late : Bool) (c h : Node) → AreNodes c h → IsFineLink l → IsFineLink (ticked l late c h)
 ticks_fine l late c h send a = go late (is_waiting l.controller.side.shdlc) refl

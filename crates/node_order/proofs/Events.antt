@@ -1,5 +1,5 @@
 -- Each event of a world but a tick leaves each link told.
-use Rattle.std.proofs.Common.{◌≡◌, ℕ, ◌==◌, Bool, true, false, cond, List, [], ◌∷◌, ◌++◌, length, Option, Some, None, map, refl, ap, sym, subst, ◌∙◌, append-nil, append_assoc, arith}
+use Rattle.std.proofs.Common.{◌≡◌, ℕ, ◌==◌, Bool, true, false, cond, List, [], ◌∷◌, ◌++◌, length, Option, Some, None, map, refl, ap, sym, subst, ◌∙◌, append-nil, append_assoc}
 use Rattle.std.specs.Prelude.{is_some, min, ◌+◌}
 use Rattle.std.specs.List.{AllByRecursion}
 use Rattle.std.proofs.lemmas.Bool.{eqb-true}
@@ -8,15 +8,14 @@ use Rattle.swp_act.specs.Activation.{new_clf, new_uicc}
 use Rattle.trace_model.specs.declared.entry.Entry.{Entry}
 use Rattle.trace_model.specs.declared.entry.Entry.TheVariants as entry
 use Rattle.trace_model.specs.declared.line.End.{End}
-use Rattle.hcp_packet.specs.Packets.{IsSendable}
 use Rattle.journal_laws.specs.Journal.{count_of}
 use Rattle.journal_laws.specs.Planned.{fails_within, after_planned}
-use Rattle.link_machine.specs.Machine.{LinkEnd, LinkInput, Message, Turn, new_link_end}
+use Rattle.link_machine.specs.Machine.{LinkEnd, LinkInput, new_link_end}
 use Rattle.link_machine.specs.Machine.LinkInput.{Start}
 use Rattle.link_machine.specs.Machine.Role.{Clf, Uicc}
-use Rattle.message_link.specs.Links.{Half, Link, Ending, Comes, Loss, EndEvent, LinkEvent, exchanged, happens_here, happens, IsClf, IsEvent}
-use Rattle.message_link.specs.Links.Ending.{GoesOut, CutOff}
-use Rattle.message_link.specs.Links.Comes.{NextFrame, AsksReset, Starts, Stops, NoInput}
+use Rattle.message_link.specs.Links.{Half, Link, Comes, Loss, EndEvent, LinkEvent, exchanged, happens_here, happens, IsClf, IsEvent}
+use Rattle.message_link.specs.Links.Ending.{CutOff}
+use Rattle.message_link.specs.Links.Comes.{Starts, NoInput}
 use Rattle.message_link.specs.Links.Loss.{OnDemand, Broken, Unread, TooOld, TooMany}
 use Rattle.message_link.specs.Links.EndEvent.{Step, Lose}
 use Rattle.message_link.specs.Links.LinkEvent.{AtController, AtHost}
@@ -28,7 +27,7 @@ use Rattle.node_machine.specs.Parts.{Desk, Running, Work, Deed}
 use Rattle.node_machine.specs.Carrying.{changed_if}
 use Rattle.node_machine.specs.Node.{steps, begins_with, found, boot_writes, with_error, new_desk}
 use Rattle.node_machine.specs.Node.NodeInput.{AtEnd}
-use Rattle.node_world.specs.World.{Site, NodeWorld, site_at, with_site, link_to, input_of, half_in, arrival, work_of, ending_of, turns_at, runs_on, comes_to, controller_work, link_after_controller, after_controller, controller_does, host_work, after_host, host_does, frames_noted, wires_for, controller_cut, host_cut, loses_power_at, memory_at, with_memory, with_node, links_of, boots, counts, frame_lost, sending, beginning, comes_at, end_c, end_h, activates}
+use Rattle.node_world.specs.World.{Site, NodeWorld, site_at, with_site, link_to, input_of, half_in, arrival, work_of, ending_of, turns_at, runs_on, comes_to, controller_work, link_after_controller, after_controller, controller_does, host_work, after_host, host_does, controller_cut, host_cut, loses_power_at, memory_at, with_memory, with_node, links_of, boots, counts, frame_lost, comes_at, end_c, end_h, activates}
 use Rattle.link_entries.proofs.Lasting.{same_number}
 use Rattle.node_links.proofs.Ends.{here_host}
 use Rattle.node_links.proofs.Works.{IsFineWork, all_done_fine, steps_fine}
@@ -94,9 +93,14 @@ module _ (w : NodeWorld) (t : List Entry) (a : IsWell w) (each : Each t w) (k : 
         let number : s.host ≡ h = site_host w.sites h s there in
         let P : ℕ → Type 0 = λ m. TellOf h s.link (AtController (Step (comes_to k comes m) (turns_at v m) (ending_of v))) u in
         record {
-          told = told_more h s.link e t u
-              (can_come s.link here (may_here k comes s.host may) fine.link.line.clf, (turns_fine v s.host done, can_end s.link.controller.side.role (ending_of v)
-              (clf_line s.link.controller.side.role fine.link.line.clf)))
+          told = told_more h s.link e t u (
+            can_come s.link here (may_here k comes s.host may) fine.link.line.clf,
+            (
+              turns_fine v s.host done,
+              can_end s.link.controller.side.role (ending_of v)
+                  (clf_line s.link.controller.side.role fine.link.line.clf),
+            ),
+          )
               (subst P (sym number) (controller_tells w r k comes h s a.orderly node there i q)) b.told;
           near = off v.cut refl fine.link.line.clf;
           far = let F : LinkEnd → Type 0 = IfOff s.node (new_link_end (Uicc new_uicc)) in
@@ -190,8 +194,14 @@ module _ (w : NodeWorld) (t : List Entry) (a : IsWell w) (each : Each t w) (k : 
         let told : HostDoes w k comes f s r = does s r there runs in
         let N : LinkEnd → Type 0 = IfOff w.controller (new_link_end (Clf new_clf)) in
         record {
-          told = told_more k s.link e t noted (can, (turns_fine worked s.host host_done, can_end s.link.host.side.role (ending_of worked)
-              (uicc_line s.link.host.side.role site_fine.link.line.uicc))) told.own b.told;
+          told = told_more k s.link e t noted (
+            can,
+            (
+              turns_fine worked s.host host_done,
+              can_end s.link.host.side.role (ending_of worked)
+                  (uicc_line s.link.host.side.role site_fine.link.line.uicc),
+            ),
+          ) told.own b.told;
           near = subst N (sym (far_side s.link (Step comes (turns_at worked s.host) (ending_of worked)))) b.near;
           far = off worked.cut refl;
           none = runs_none worked (plain _ (record { host = host; none = ports_none r.desks desks_none }));

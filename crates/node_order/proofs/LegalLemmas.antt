@@ -17,7 +17,7 @@ use Rattle.node_telling.specs.Telling.{world_behind}
 use Rattle.node_order.specs.Told.{HasDelivered}
 use Rattle.node_order.specs.Legal.{AtEachEvent, Complete, LegalNodes}
 use Rattle.node_order.proofs.Knowing.{Knows}
-use Rattle.node_order.proofs.Lines.{IsSo, history_so}
+use Rattle.node_order.proofs.Lines.{history_so}
 use Rattle.node_order.proofs.Ordered.{in_order, joined}
 use Rattle.node_order.proofs.Quiet.{delivered}
 

@@ -1,24 +1,18 @@
 -- Whatever lines are played, each link of the world is told.
-use Rattle.std.proofs.Common.{◌≡◌, ℕ, ◌==◌, Bool, true, false, List, [], ◌∷◌, ◌++◌, Option, Some, None, map, refl, ap, sym, subst, ◌∙◌, append-nil, append_assoc, arith}
+use Rattle.std.proofs.Common.{◌≡◌, ℕ, ◌==◌, Bool, true, false, List, [], ◌∷◌, ◌++◌, Some, None, map, refl, ap, sym, subst, ◌∙◌, append-nil, arith}
 use Rattle.std.specs.Prelude.{cond, is_some, replicate, unwrap_or}
-use Rattle.std.specs.List.{AllByRecursion, flat_map}
 use Rattle.trace_model.specs.declared.entry.Entry.{Entry}
-use Rattle.trace_model.specs.declared.entry.NoCause.{NoCause}
 use Rattle.trace_model.specs.declared.line.Header.{Header}
 use Rattle.trace_model.specs.declared.line.Line.{Line}
 use Rattle.trace_model.specs.declared.line.Line.TheVariants as line
 use Rattle.message_link.specs.Links.Comes.{NextFrame, AsksReset}
-use Rattle.message_link.specs.Links.Loss.{OnDemand}
 use Rattle.link_machine.specs.Machine.{Message}
 use Rattle.history.specs.Follows.{first_verdict, taken_of}
-use Rattle.node_machine.specs.Parts.{Running, Deed}
 use Rattle.node_machine.specs.Parts.Deed.{Sends, Orders}
-use Rattle.node_machine.specs.Controller.{is_command_message}
-use Rattle.node_world.specs.World.{Site, NodeWorld, Happening, new_site, new_world, site_at, memory_at, node_at, sending, beginning, world_step}
+use Rattle.node_world.specs.World.{Site, NodeWorld, Happening, new_site, new_world, site_at, memory_at, sending, beginning, world_step}
 use Rattle.node_world.specs.World.Happening.{Boots, IsCut, Gives, Inits, Takes, Loses, Ticks, Resets, Activates, Arms}
-use Rattle.node_world.specs.Lines.{refusal_in, if_off, happens_by, happenings, frames_at, Occurrence, can_happen, all_happen, LineOutcome, tables_told, goes_on, line_step}
-use Rattle.node_world.specs.Lines.LineOutcome.{WasRefused, Occurred}
-use Rattle.node_world.specs.NodeHistories.{LineStep, NodeHistory, FollowsNodes, steps_from, world_after, occurrences_of, occurrences_in, entries_in, node_entries}
+use Rattle.node_world.specs.Lines.{refusal_in, if_off, happenings, frames_at, Occurrence}
+use Rattle.node_world.specs.NodeHistories.{LineStep, NodeHistory, FollowsNodes, steps_from, world_after, occurrences_in, entries_in, node_entries}
 use Rattle.node_links.specs.Runs.{IsPlayable, ArePlayable}
 use Rattle.node_links.proofs.Playing.{MayHappen, AreLasting, plain_reach, sending_fine, step_fine, repeated, damaged, runs_then, world_fine}
 use Rattle.kept_laws.specs.Hosts.{AreHosts}

@@ -12,7 +12,6 @@ use Rattle.node_world.specs.NodeHistories.{FollowsNodes, NodeHistory, node_entri
 use Rattle.node_links.specs.Runs.{ArePlayable}
 use Rattle.kept_laws.specs.Hosts.{AreHosts}
 use Rattle.node_telling.specs.Telling.{of_link, hosts_in, world_behind}
-use Rattle.node_order.proofs.Knowing.{Knows}
 use Rattle.node_order.proofs.Strangers.{IsStrange}
 use Rattle.node_order.specs.Legal.{Prefix}
 use Rattle.node_order.proofs.Lines.{IsSo, all_so_behind}

@@ -1,12 +1,11 @@
 -- At each moment of a history messages are in order on each link.
-use Rattle.std.proofs.Common.{◌≡◌, ℕ, ◌≤◌, Bool, true, false, List, [], ◌∷◌, ◌++◌, Option, Some, None, refl, ap, sym, subst, ◌∙◌}
-use Rattle.std.specs.Prelude.{◌==◌, ◌&&◌, ◌||◌}
+use Rattle.std.proofs.Common.{◌≡◌, ℕ, Bool, true, false, List, [], ◌∷◌, ◌++◌, Option, Some, None, refl, ap, sym, subst, ◌∙◌}
+use Rattle.std.specs.Prelude.{◌==◌, ◌||◌}
 use Rattle.std.specs.List.{cons_option, filter, filter_map, flat_map, fold, list_any}
 use Rattle.trace_model.specs.declared.entry.Entry.{Entry}
 use Rattle.trace_model.specs.declared.entry.Entry.TheVariants as entry
 use Rattle.trace_model.specs.declared.line.End.{End}
 use Rattle.trace_model.specs.Ends.{other_end}
-use Rattle.hcp_packet.specs.Packets.{IsFrontOf}
 use Rattle.message_link.specs.Links.{Link}
 use Rattle.message_link.specs.Links.IsStart.{IsLine}
 use Rattle.link_entries.specs.Entries.{End as Side, Entry as Noted, entries}
@@ -14,8 +13,8 @@ use Rattle.link_entries.specs.Order.{InOrderIn}
 use Rattle.link_entries.proofs.Lasting.{same_number}
 use Rattle.link_entries.proofs.Running.{at_each_moment}
 use Rattle.link_entries.proofs.Chains.{no_chain_noted}
-use Rattle.history.specs.Filters.{Saying, same_end, said, at_end, said_of, sent_by, sent_in, got_by, got_in, acked_after, acked_in}
-use Rattle.history.specs.Legal.{IsInOrder, is_chain_fault}
+use Rattle.history.specs.Filters.{Saying, said, at_end, said_of, sent_by, sent_in, got_by, got_in, acked_after, acked_in}
+use Rattle.history.specs.Legal.{is_chain_fault}
 use Rattle.history.specs.Steps.{entry_of, entries_for}
 use Rattle.history_laws.proofs.Noted.{fault-all}
 use Rattle.history_laws.proofs.Ordered.{IsOneAtMost, front_given, one_entry, AtEnd, read_as, empty, order_at}

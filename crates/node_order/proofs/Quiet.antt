@@ -1,27 +1,24 @@
 -- What the ends of a link have of their sessions is read off a history, and so is that a quiet link has delivered all.
-use Rattle.std.proofs.Common.{◌≡◌, ℕ, ◌==◌, Bool, true, false, cond, List, length, refl, ap, sym, subst, ◌∙◌}
+use Rattle.std.proofs.Common.{◌≡◌, ℕ, cond, List, length, ap, sym, subst, ◌∙◌}
 use Rattle.trace_model.specs.declared.entry.Entry.{Entry}
 use Rattle.hcp_packet.specs.Packets.{good_of}
 use Rattle.shdlc_core.specs.declared.answers.LinkState.TheVariants.{Up}
-use Rattle.link_machine.specs.Machine.{Message, messages_got, whole_among}
-use Rattle.message_link.specs.Links.{Talk, Half, Link, LinkEvent, after, number_of, talk_now, talk_of, ended_talk}
+use Rattle.link_machine.specs.Machine.{Message}
+use Rattle.message_link.specs.Links.{Talk, Half, Link, number_of, talk_now, talk_of, ended_talk}
 use Rattle.message_link.specs.Links.IsStart.{IsLine}
-use Rattle.message_link.specs.Quiet.{AllDelivered, IsQuiet, losses_of}
+use Rattle.message_link.specs.Quiet.{AllDelivered}
 use Rattle.message_link.proofs.Whole.{one_number}
-use Rattle.link_entries.specs.Entries.{End as Side, Entry as Noted, entries, trace}
+use Rattle.link_entries.specs.Entries.{Entry as Noted, entries}
 use Rattle.link_entries.specs.Entries.End.{Controller, Host}
 use Rattle.link_entries.specs.Sessions.{IsRead}
 use Rattle.link_entries.proofs.Books.{up_talk}
 use Rattle.link_entries.proofs.Lasting.{same_number}
 use Rattle.link_entries.proofs.Running.{read_here, read_there}
-use Rattle.history.specs.Filters.{sent_in, got_in, acked_in}
-use Rattle.history.specs.Legal.{IsDelivered}
-use Rattle.history.specs.Steps.{end_of, entries_for}
+use Rattle.history.specs.Steps.{entries_for}
 use Rattle.history_laws.proofs.Noted.{sent-all, got-all, acked-all}
 use Rattle.node_world.specs.World.{end_c, end_h}
-use Rattle.node_links.specs.Runs.{IsRunOf, new_line}
+use Rattle.node_links.specs.Runs.{new_line}
 use Rattle.node_links.proofs.Obeying.{delivers_to_host, delivers_to_controller}
-use Rattle.node_telling.specs.Telling.{of_link}
 use Rattle.node_order.specs.Told.{IsTold, IsReadOff, AreReadOff, HasDelivered}
 use Rattle.node_order.proofs.Prefix.{sent_alike, got_alike, acked_alike}
 

@@ -1,14 +1,13 @@
 -- Nothing is told of a link with a host that isn't in the world, and no host comes to it.
 use Rattle.std.proofs.Common.{◌≡◌, ℕ, ◌==◌, Bool, true, false, cond, List, [], ◌∷◌, ◌++◌, length, Option, Some, None, map, refl, ap, sym, subst, ◌∙◌}
 use Rattle.std.specs.List.{AllByRecursion, flat_map}
-use Rattle.std.proofs.lemmas.Bool.{eqb-true, true≢false}
+use Rattle.std.proofs.lemmas.Bool.{eqb-true}
 use Rattle.swp_base.specs.InMemory.{Memory}
 use Rattle.trace_model.specs.declared.entry.Entry.{Entry}
 use Rattle.trace_model.specs.declared.entry.Entry.TheVariants as entry
 use Rattle.trace_model.specs.declared.line.End.{End}
 use Rattle.journal_laws.specs.Journal.{count_of}
 use Rattle.journal_laws.specs.Planned.{fails_within, after_planned}
-use Rattle.session_laws.specs.Sessions.{OnWire}
 use Rattle.link_machine.specs.Machine.{LinkInput}
 use Rattle.link_machine.specs.Machine.Role.{Bare}
 use Rattle.message_link.specs.Links.{Half, Link, Comes, Loss, new_link, exchanged, aged, ticks_here, happens}
@@ -23,18 +22,18 @@ use Rattle.history.specs.Follows.{seen_from}
 use Rattle.node_machine.specs.Parts.{Desk, Running, Work, Deed}
 use Rattle.node_machine.specs.Carrying.{port_at}
 use Rattle.node_machine.specs.Node.{steps, begins_with, found, boot_writes}
-use Rattle.node_machine.specs.Node.NodeInput.{AtEnd, TimePasses}
-use Rattle.node_world.specs.World.{Site, NodeWorld, Happening, site_at, with_site, link_to, input_of, half_in, arrival, work_of, ending_of, turns_at, runs_on, comes_to, controller_work, link_after_controller, after_controller, controller_does, host_work, after_host, host_does, frames_noted, wires_for, controller_cut, host_cut, loses_power_at, memory_at, with_memory, with_node, links_of, boots, counts, frame_lost, sending, beginning, comes_at, end_c, end_h, activates, all_aged, is_late_at, ticked_so, controller_ticks, host_ticks, hosts_tick, world_ticks, world_step}
+use Rattle.node_machine.specs.Node.NodeInput.{AtEnd}
+use Rattle.node_world.specs.World.{Site, NodeWorld, Happening, site_at, with_site, link_to, input_of, half_in, arrival, work_of, ending_of, turns_at, comes_to, controller_work, link_after_controller, after_controller, controller_does, host_work, after_host, host_does, frames_noted, wires_for, controller_cut, host_cut, loses_power_at, memory_at, with_memory, with_node, links_of, boots, counts, frame_lost, sending, beginning, comes_at, end_c, end_h, all_aged, is_late_at, ticked_so, controller_ticks, hosts_tick, world_ticks, world_step}
 use Rattle.node_world.specs.World.Happening.{Boots, IsCut, Gives, Inits, Takes, Loses, Ticks, Resets, Activates, Arms}
 use Rattle.kept_laws.proofs.Sites.{hosts_same, hosts_with}
-use Rattle.node_telling.specs.Telling.{of_link, HasEnds, IfItRuns, hosts_in, IsOrderly}
+use Rattle.node_telling.specs.Telling.{of_link, IfItRuns, hosts_in, IsOrderly}
 use Rattle.node_telling.proofs.Mute.{AreMute}
 use Rattle.node_telling.proofs.Accounts.{of-append, of_other}
 use Rattle.node_telling.proofs.Away.{Away}
 use Rattle.node_telling.proofs.Steps.{frames_of, away_steps}
 use Rattle.node_telling.proofs.Ticks.{away_tick}
-use Rattle.node_telling.proofs.Nodes.{ports_for, site_host, link_is}
-use Rattle.node_telling.proofs.Worlds.{node_is, HostDoes, host_does_step, host_does_begin}
+use Rattle.node_telling.proofs.Nodes.{ports_for, link_is}
+use Rattle.node_telling.proofs.Worlds.{HostDoes, host_does_step, host_does_begin}
 use Rattle.node_telling.proofs.Events.{sending_mute, comes_goes, orderly_map}
 use Rattle.node_telling.proofs.WorldTicks.{near_tick, near_orderly, other_hosts}
 use Rattle.node_telling.proofs.Orderly.{hosts_ticked}

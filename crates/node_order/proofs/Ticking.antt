@@ -1,40 +1,37 @@
 -- A tick of a world leaves each link told.
-use Rattle.std.proofs.Common.{◌≡◌, ℕ, ◌==◌, Bool, true, false, cond, List, [], ◌∷◌, ◌++◌, Option, Some, None, map, refl, ap, sym, subst, ◌∙◌, arith}
-use Rattle.std.specs.Prelude.{is_some, nat_le, ◌+◌, not, ◌&&◌}
-use Rattle.std.specs.List.{AllByRecursion, find, flat_map}
+use Rattle.std.proofs.Common.{◌≡◌, ℕ, ◌==◌, Bool, true, false, cond, List, [], ◌∷◌, ◌++◌, Option, Some, None, map, refl, ap, sym, subst, ◌∙◌}
+use Rattle.std.specs.Prelude.{is_some, not, ◌&&◌}
+use Rattle.std.specs.List.{AllByRecursion, find}
 use Rattle.std.proofs.lemmas.Bool.{eqb-true, true≢false}
 use Rattle.swp_act.specs.Activation.{new_clf, new_uicc}
 use Rattle.trace_model.specs.declared.entry.Entry.{Entry}
-use Rattle.shdlc_core.specs.declared.answers.LinkState.{LinkState}
 use Rattle.shdlc_core.specs.declared.answers.LinkState.TheVariants.{Up, Down}
 use Rattle.shdlc_core.specs.Machine.{is_waiting}
 use Rattle.journal_laws.specs.Planned.{after_planned}
-use Rattle.link_machine.specs.Machine.{LinkEnd, LinkInput, Turn, Role, is_open, new_link_end, renewed, turned, after_input, sent_all}
+use Rattle.link_machine.specs.Machine.{LinkEnd, Turn, is_open, new_link_end, turned, after_input, sent_all}
 use Rattle.link_machine.specs.Machine.LinkInput.{Tick, Reset}
 use Rattle.link_machine.specs.Machine.Role.{Clf, Uicc}
-use Rattle.message_link.specs.Links.{Half, Link, Ending, Node, LinkEvent, exchanged, aged, has_input, ticks_here, happens, after, AreSendableTurns, IsClf, IsUicc, IsEvent}
+use Rattle.message_link.specs.Links.{Half, Link, Ending, LinkEvent, exchanged, aged, has_input, ticks_here, AreSendableTurns, IsClf, IsUicc, IsEvent}
 use Rattle.message_link.specs.Links.Ending.{GoesOut, CutOff}
-use Rattle.message_link.specs.Links.Comes.{AsksReset, NoInput}
+use Rattle.message_link.specs.Links.Comes.{AsksReset}
 use Rattle.message_link.specs.Links.EndEvent.{Step}
 use Rattle.message_link.specs.Links.IsStart.{IsLine}
 use Rattle.message_link.proofs.Whole.{from_start}
-use Rattle.link_entries.specs.Entries.End.{Controller}
-use Rattle.node_machine.specs.Parts.{Notice, Desk, Running, Port, Work}
+use Rattle.node_machine.specs.Parts.{Notice, Desk, Running}
 use Rattle.node_machine.specs.Carrying.{port_at}
-use Rattle.node_machine.specs.Node.{steps}
 use Rattle.node_machine.specs.Node.NodeInput.{TimePasses}
-use Rattle.node_world.specs.World.{Site, NodeWorld, site_at, link_to, port_for, work_of, ending_of, turns_at, runs_on, frames_noted, all_aged, is_late_at, ticked_so, controller_ticks, host_ticks, hosts_tick, world_ticks}
+use Rattle.node_world.specs.World.{Site, NodeWorld, site_at, link_to, port_for, work_of, ending_of, turns_at, runs_on, all_aged, is_late_at, ticked_so, controller_ticks, host_ticks, hosts_tick, world_ticks}
 use Rattle.node_links.specs.Runs.{new_line}
 use Rattle.node_links.specs.Notices.{IsNoticedUp, OnFirst}
 use Rattle.node_links.proofs.Got.{Clean}
 use Rattle.node_links.proofs.Ends.{here_clf, tick_clf, tick_uicc}
-use Rattle.node_links.proofs.Works.{IsFineWork, steps_fine}
+use Rattle.node_links.proofs.Works.{steps_fine}
 use Rattle.node_links.proofs.Sites.{AreNodes, tick_allowed, reset_allowed}
 use Rattle.node_links.proofs.Worlds.{AreTrueDesks, IsFineNode, IsFineSite, AreFineSites, AreClean, near_clean, ports_fine, turns_fine}
-use Rattle.node_telling.specs.Telling.{of_link, HasEnds, IfItRuns, hosts_in, IsOrderly, is_due, NoneDue, IfOff, IfDue, IsTimely}
-use Rattle.node_telling.proofs.Nodes.{site_host, link_is, ports_for}
-use Rattle.node_telling.proofs.Worlds.{site_is, node_is}
-use Rattle.node_telling.proofs.WorldTicks.{host_tick, after_tick, host_is, tick_host, host_turns, between, between_far, near_tick, near_turns, tick_event, Ticking, ticking}
+use Rattle.node_telling.specs.Telling.{IfItRuns, is_due, NoneDue, IfOff, IfDue, IsTimely}
+use Rattle.node_telling.proofs.Nodes.{link_is, ports_for}
+use Rattle.node_telling.proofs.Worlds.{site_is}
+use Rattle.node_telling.proofs.WorldTicks.{host_tick, host_is, tick_host, host_turns, between, between_far, near_tick, near_turns, tick_event, Ticking, ticking}
 use Rattle.node_readings.specs.Noticed.{IfNoticedUp, NoticesAreUp}
 use Rattle.node_readings.proofs.NoticedWorlds.{host_tick_side}
 use Rattle.node_order.specs.Told.{IsTold}

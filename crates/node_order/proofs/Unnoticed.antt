@@ -20,13 +20,13 @@ use Rattle.gate_answers.specs.Answers.{body_in}
 use Rattle.gate_loopback.specs.Loopback.{posts_back}
 use Rattle.link_machine.specs.Machine.{Message, LinkInput, Turn, is_held, report}
 use Rattle.link_machine.specs.Machine.Turn.{Give, Hold, FetchMessage, Release}
-use Rattle.node_machine.specs.Parts.{Init, Creation, Notice, Desk, Core, Running, Port, Work, Deed}
+use Rattle.node_machine.specs.Parts.{Init, Creation, Desk, Core, Running, Port, Work, Deed}
 use Rattle.node_machine.specs.Parts.Deed.{Commits, Sends, SaysOk, Asks, Releases, Tells, IsAnswered, Drops, SetsErrors, Orders, Hears, GoesOn, Ends}
 use Rattle.node_machine.specs.Carrying.{end_of_node, noting, unless_cut, port_at, changed_if, with_port, with_desk, after_turn, turn_at, commit, done, all_done, needs, lack}
 use Rattle.node_machine.specs.Controller.{asked_at}
-use Rattle.node_machine.specs.HostReplies.{orders_of, is_same, learns, init_agreed, init_deeds, learned, response_deeds, ordered_deeds, is_gate, gate_of_pipe, host_deeds}
+use Rattle.node_machine.specs.HostReplies.{orders_of, is_same, learns, init_agreed, init_deeds, learned, response_deeds, is_gate, gate_of_pipe, host_deeds}
 use Rattle.node_machine.specs.Turns.{deeds_of, handles, holds_back, lets_go, have_turns, goes_through_ends, passes}
-use Rattle.node_machine.specs.Node.{NodeInput, input_at, has_come, all_come, with_older, is_late, reset_late, times_out, is_over, is_forgotten, forgotten, forgets, owed, all_owed, without_notice, after_sessions, synced, steps, begins_with}
+use Rattle.node_machine.specs.Node.{NodeInput, input_at, has_come, all_come, with_older, is_late, reset_late, times_out, is_over, is_forgotten, forgotten, forgets, owed, all_owed, without_notice, after_sessions, synced, steps}
 use Rattle.node_machine.specs.Node.NodeInput.{AtEnd, TimePasses}
 use Rattle.node_world.specs.World.{runs_on}
 use Rattle.node_readings.specs.Orders.{MayDo}
@@ -98,8 +98,11 @@ response_unnoticed core code value = go core.command refl
     go (Some order) q =
         let learns_it : AreUnnoticed (cond (eqb code 0) (learned core order value) []) =
         either (eqb code 0) (learned core order value) [] (first (learned core order value) (learned_then 0 Any core order value [] tt)) tt in
-        rw q (tt, unnoticed-append (cond (eqb code 0) (learned core order value) []) (init_deeds core code value core.init) learns_it
-        (init_unnoticed core code value core.init))
+        rw q (
+          tt,
+          unnoticed-append (cond (eqb code 0) (learned core order value) []) (init_deeds core code value core.init) learns_it
+              (init_unnoticed core code value core.init),
+        )
       where
         first : (ds : List Deed) → MayDo 0 Any (ds ++ []) → AreUnnoticed ds
         first ds may = front ds [] (may_unnoticed 0 Any (ds ++ []) may)

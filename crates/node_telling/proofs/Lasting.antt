@@ -166,9 +166,11 @@ module _ (Holds : List Entry → NodeWorld → Type 0) (May : NodeWorld → Happ
   hold-append [] ys t w a later = subst (λ x. AllHold x w ys) (append-nil t) (later (nothing t w a))
   hold-append (o ∷ xs) ys t w a later =
       let v : NodeWorld = (world_step w o.cause).0 in
-      let same : (t ++ o.entries) ++ entries_in xs ≡ t ++ (o.entries ++ entries_in xs) = append_assoc t o.entries (entries_in xs) in
-      (a.0, hold-append xs ys (t ++ o.entries) v a.1
-      (λ z. subst (λ x. AllHold x (world_behind v xs) ys) (sym same) (later (subst (λ x. Holds x (world_behind v xs)) same z))))
+      let same : (t ++ o.entries) ++ entries_in xs ≡ t ++ (o.entries ++ entries_in xs) = append_assoc t o.entries (entries_in xs) in (
+        a.0,
+        hold-append xs ys (t ++ o.entries) v a.1
+            (λ z. subst (λ x. AllHold x (world_behind v xs) ys) (sym same) (later (subst (λ x. Holds x (world_behind v xs)) same z))),
+      )
 
   -- ## Lines
 

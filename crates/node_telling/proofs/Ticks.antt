@@ -1,7 +1,7 @@
 -- What a node notes of a link in its tick.
 use Rattle.std.proofs.Common.{◌≡◌, ℕ, ◌==◌, Bool, true, false, List, [], ◌∷◌, ◌++◌, Option, Some, None, map, refl, ap, sym, subst, ◌∙◌, append-nil}
 use Rattle.std.specs.Prelude.{nat_le, ◌+◌, ◌&&◌, cond, is_some}
-use Rattle.std.specs.List.{AllByRecursion, flat_map}
+use Rattle.std.specs.List.{flat_map}
 use Rattle.std.proofs.lemmas.Bool.{eqb-true}
 use Rattle.trace_model.specs.declared.entry.Entry.{Entry}
 use Rattle.shdlc_core.specs.declared.answers.LinkState.TheVariants.{Up}
@@ -203,8 +203,12 @@ module _ (h : ℕ) (who : Side) (l : Link) where
     too_late q up =
         let late : IsLate p = late_parts p q in
         let side : LinkEnd = l.controller.side in
-        let lasting : IsLasting side = record { active = up.0; up = up.1; goes_on = let P : LinkEnd → Type 0 = λ z. is_some (ended_by z Tick) ≡ false in
-            subst P a.is late.goes_on } in
+        let lasting : IsLasting side = record {
+          active = up.0;
+          up = up.1;
+          goes_on = let P : LinkEnd → Type 0 = λ z. is_some (ended_by z Tick) ≡ false in
+              subst P a.is late.goes_on;
+        } in
         let e : LinkEnd = after_input side (Reset None) in
         let n : ℕ = number_of l.controller in
         let t : List Entry = of_link h (entries_for h (told_of who l.controller (Reset None))) in
