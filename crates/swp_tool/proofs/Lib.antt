@@ -4,3 +4,4 @@ pub mod Reading
 pub mod Ending
 pub mod Playing
 pub mod Recording
+pub mod Knowing

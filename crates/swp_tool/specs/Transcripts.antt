@@ -1,6 +1,6 @@
 -- The transcript of a history.
 use Rattle.std.specs.Prelude.{◌≡◌, ℕ, List, [], ◌∷◌, ◌++◌, Option, Some, None, codes}
-use Rattle.std.specs.List.{flat_map}
+use Rattle.std.specs.List.{flat_map, All}
 use Rattle.std.specs.Fmt.{decimal}
 use Rattle.trace_model.specs.declared.entry.Entry.{Entry}
 use Rattle.trace_model.specs.declared.entry.Entry.TheVariants as entry
@@ -10,6 +10,8 @@ use Rattle.schedule_text.specs.Entries.{entry_line}
 use Rattle.history.specs.Histories.{Step, History, noted}
 use Rattle.history.specs.Follows.{Follows}
 use Rattle.history.specs.Legal.{Legal}
+use Rattle.text_laws.specs.Ranges.{IsNumber, IsEntry}
+use Rattle.told_laws.specs.Told.{told_of}
 use Rattle.swp_tool.specs.Schedules.{Schedule}
 
 -- entries, each as a line
@@ -42,3 +44,23 @@ IsTextOf (Some header) lines text = IsTranscriptOf header lines text
 
 abbrev pub IsTranscript : Schedule → List ℕ → Type 0
 IsTranscript s text = IsTextOf s.header s.lines text
+
+-- the text of entries and the line that ends it, with this number of lines
+abbrev pub whole_text : List Entry → ℕ → List ℕ
+whole_text entries count = entry_lines entries ++ done_line count
+
+-- A text tells these entries: it is theirs, and no other entries, each in its range, have it.
+pub record Tells (text : List ℕ) (entries : List Entry) : Type 0 where
+  pub in_range : All IsEntry entries
+  pub count : ℕ
+  pub few : IsNumber count
+  pub text_is : text ≡ whole_text entries count
+  pub alone : (others : List Entry) (n : ℕ) → All IsEntry others → IsNumber n → text ≡ whole_text others n → others ≡ entries
+
+-- a text tells what became of the lines of a schedule: the entries of the history that follows them
+pub record TellsHistory (s : Schedule) (text : List ℕ) : Type 0 where
+  pub header : Header
+  pub header_is : s.header ≡ Some header
+  pub history : History
+  pub follows : Follows header s.lines history
+  pub told : Tells text (told_of history)

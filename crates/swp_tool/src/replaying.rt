@@ -1,7 +1,9 @@
 //! The command `replay`: a schedule in, its transcript out.
 ghost use Rattle.std.specs.Prelude.{◌≡◌, ◌≢◌, ◌≤◌, ◌++◌, [], List, ℕ, take, false, IsTrue, OnOk, OnErr};
 ghost use Rattle.swp_base.specs.Outside.{Rose};
-ghost use Rattle.swp_tool.specs.Runs.{status_of, Replayed, IsOfReplay};
+ghost use Rattle.swp_tool.specs.Runs.{status_of, Appends, Replayed, IsOfReplay};
+ghost use Rattle.swp_tool.specs.Schedules.{schedule_of};
+ghost use Rattle.swp_tool.specs.Transcripts.{TellsHistory};
 ghost use Rattle.swp_tool.specs.Pieces.{HasRead, IsReading, IsReadAhead, bytes_left};
 
 use crate::driver::{Job, drive};
@@ -105,6 +107,8 @@ pub fn replay<S: Source, K: Sink>(alloc: Global, source: &mut S, sink: &mut K) -
     ensures write_fault { result ≡ Status.WriteFault → Rose (K.faults sink.old) (K.faults sink.new) }
     ensures replayed { IsTrue S.tells →
         Replayed K.tells result (S.left source.old) (S.left source.new) (K.written sink.old) (K.written sink.new) }
+    ensures known { IsTrue S.tells → result ≡ Status.Done →
+        Appends K.tells (TellsHistory (schedule_of (S.left source.old))) (K.written sink.old) (K.written sink.new) }
     ensures ahead { IsTrue S.tells → IsReadAhead 4096 (S.left source.old) (S.left source.new) }
     ensures late { (S.end source.old).ended ≡ false → (S.end source.new).late ≡ (S.end source.old).late }
     ensures words { result ≢ Status.BadWords }

@@ -2,7 +2,8 @@
 ghost use Rattle.std.specs.Prelude.{◌≡◌, ◌≢◌, ◌≤◌, ◌<◌, ◌+◌, ◌++◌, ◌∷◌, ◌↔◌, ◌⊎◌, [], List, ℕ, length, map, string_bytes, codes, Some, None, IsTrue, OnOk, OnErr, IfErr, Ok, Err, take, true, false};
 ghost use Rattle.swp_base.specs.Outside.{Rose};
 ghost use Rattle.swp_tool.specs.Schedules.{Stop, schedule_of};
-ghost use Rattle.swp_tool.specs.Runs.{status_of, status_at, Replayed, IsUnderWay, IsReplay, IsDecode, IsTables, IsCommand, IsOfReplay, IsOfDecode};
+ghost use Rattle.swp_tool.specs.Runs.{status_of, status_at, Appends, Replayed, IsUnderWay, IsReplay, IsDecode, IsTables, IsCommand, IsOfReplay, IsOfDecode};
+ghost use Rattle.swp_tool.specs.Transcripts.{TellsHistory};
 ghost use Rattle.swp_tool.specs.Images.{Told, IsOfTables};
 ghost use Rattle.hci_store.specs.Image.{image_fault};
 ghost use Rattle.nv_journal.specs.declared.JournalFault.{JournalFault as Bad};
@@ -41,6 +42,10 @@ pub fn run<S: Source, K: Sink, N: Nv + Drop>(
     // bytes written asks for a sink that tells what it holds.
     ensures replayed { IsReplay (map string_bytes words.now) → IsTrue S.tells →
         Replayed K.tells result.status (S.left source.old) (S.left source.new) (K.written sink.old) (K.written sink.new) }
+
+    // The text of a replay that is done tells what became of its schedule: from the text its entries are known.
+    ensures known { IsReplay (map string_bytes words.now) → IsTrue S.tells → result.status ≡ Status.Done →
+        Appends K.tells (TellsHistory (schedule_of (S.left source.old))) (K.written sink.old) (K.written sink.new) }
 
     ensures decoded { IsDecode (map string_bytes words.now) → IsTrue S.tells →
         DecodedBy K.tells result.status (S.left source.old) (S.left source.new) (K.written sink.old) (K.written sink.new) }

@@ -84,7 +84,7 @@ digits_inside : (ds : List ℕ) → all_ascii_digits ds ≡ true → list_all is
 digits_inside [] h = refl
 digits_inside (c ∷ cs) h = digit_inside c cs (is_ascii_digit c) refl h (digits_inside cs)
 
-number_clean : (n : ℕ) → IsNumber n → IsClean (decimal n)
+pub number_clean : (n : ℕ) → IsNumber n → IsClean (decimal n)
 number_clean n h = (number_word n (omega arith), digits_inside (decimal n) (digits_decimal own n (omega arith)))
 
 letters : (word : List ℕ) → 0 < length word → list_all (λ b. not (b == 32)) word ≡ true → list_all is_inside word ≡ true → IsClean word

@@ -10,6 +10,7 @@ use Rattle.schedule_text.proofs.AgainLemmas.{IsWord, words-spaced}
 use Rattle.text_laws.specs.Ranges.{IsEntry}
 use Rattle.std.proofs.lemmas.Grind.{flat_map-append}
 use Rattle.text_laws.proofs.SameLemmas.{other_words}
+use Rattle.std.proofs.lemmas.List.{append-nil}
 use Rattle.text_laws.proofs.RowLemmas.{told_line, rows_told, cut_at, same_counts, rows_length}
 use Rattle.text_laws.proofs.CleanLemmas.{is_inside, IsClean, IsCleanLine, entry_clean, rows_clean}
 use Rattle.text_laws.proofs.EntryLemmas.{words_behind, same_entry}
@@ -126,3 +127,22 @@ pub same_transcript : (xs ys : List Entry) → All IsEntry xs → All IsEntry ys
 same_transcript xs ys ra rb h =
     same_said_lines xs ys ra rb
     (same_lines (flat_map entry_lines xs) (flat_map entry_lines ys) (all_clean xs ra) (all_clean ys rb) (sym (all_told xs) ∙ h ∙ all_told ys))
+
+-- the same where a line that no entry has stands behind each
+pub same_ended : (xs ys : List Entry) (v w : List (List ℕ)) → IsCleanLine v → IsCleanLine w → All IsEntry xs → All IsEntry ys
+    → flat_map entry_line xs ++ told_line v ≡ flat_map entry_line ys ++ told_line w → xs ≡ ys
+same_ended xs ys v w rv rz ra rb h =
+    let lines = same_lines (flat_map entry_lines xs ++ v ∷ []) (flat_map entry_lines ys ++ w ∷ [])
+    (joined_lines (flat_map entry_lines xs) (v ∷ []) (all_clean xs ra) (rv, tt))
+    (joined_lines (flat_map entry_lines ys) (w ∷ []) (all_clean ys rb) (rz, tt))
+    (sym (with_last xs v) ∙ h ∙ with_last ys w) in
+    let long = length-append (flat_map entry_lines xs) (v ∷ []) in
+    let other = length-append (flat_map entry_lines ys) (w ∷ []) in
+    let same = ap length lines in
+    same_said_lines xs ys ra rb
+    (cut_at (flat_map entry_lines xs) (flat_map entry_lines ys) (v ∷ []) (w ∷ []) (omega (arith, long, other, same)) lines).0
+  where
+    with_last : (xs : List Entry) (v : List (List ℕ)) → flat_map entry_line xs ++ told_line v ≡ flat_map told_line (flat_map entry_lines xs ++ v ∷ [])
+    with_last xs v =
+        ap (λ text. text ++ told_line v) (all_told xs) ∙ ap (λ text. flat_map told_line (flat_map entry_lines xs) ++ text) (sym (append-nil (told_line v)))
+        ∙ sym (flat_map-append told_line (flat_map entry_lines xs) (v ∷ []))

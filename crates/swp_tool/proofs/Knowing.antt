@@ -1,0 +1,188 @@
+-- The text of a replay that is done tells the history of its schedule.
+use Rattle.std.proofs.Common.{◌≡◌, ◌==◌, ℕ, ◌+◌, ◌≤◌, ◌<◌, Bool, true, false, cond, List, [], ◌∷◌, ◌++◌, length, refl, sym, ap, ◌∙◌, append_assoc, length-append, arith, subst, codes, All}
+use Rattle.std.specs.Prelude.{Option, Some, None, Result, Ok, Err}
+use Rattle.std.specs.List.{flat_map, AllByRecursion}
+use Rattle.std.specs.Fmt.{decimal}
+use Rattle.std.specs.Str.Lines.{lines}
+use Rattle.std.proofs.lemmas.Grind.{common_steps}
+use Rattle.std.proofs.lemmas.List.Concat.{flat_map-append}
+use Rattle.block_pool.proofs.HoldingLemmas.{all_pushed}
+use Rattle.trace_model.specs.declared.entry.Entry.{Entry}
+use Rattle.trace_model.specs.declared.entry.Entry.TheVariants as entry
+use Rattle.trace_model.specs.declared.line.Header.{Header}
+use Rattle.trace_model.specs.declared.line.Line.{Line}
+use Rattle.trace_model.specs.Lines.{IsHeader, IsLineOf}
+use Rattle.schedule_text.specs.declared.fault.LineFault.{LineFault}
+use Rattle.schedule_text.specs.declared.read.Read.{Read}
+use Rattle.schedule_text.specs.declared.read.Read.TheVariants as read
+use Rattle.schedule_text.specs.Answers.{IsInGrammar}
+use Rattle.schedule_text.specs.Entries.{entry_line}
+use Rattle.schedule_text.specs.Lines.{line_of}
+use Rattle.schedule_text.proofs.LinesLemmas.{line_fits}
+use Rattle.history.specs.Histories.{Step, History}
+use Rattle.text_laws.specs.Ranges.{IsNumber, IsEntry}
+use Rattle.text_laws.proofs.RowLemmas.{told_line}
+use Rattle.text_laws.proofs.CleanLemmas.{IsCleanLine, number_clean}
+use Rattle.text_laws.proofs.ShownLemmas.{same_ended}
+use Rattle.told_laws.specs.Told.{step_told, told_of}
+use Rattle.told_laws.proofs.Coming.{told_in}
+use Rattle.swp_tool.specs.declared.status.Status.{Status}
+use Rattle.swp_tool.specs.declared.status.Status.TheVariants as status
+use Rattle.swp_tool.specs.Schedules.{Stop, Too_many, Schedule, nothing_read, misread_behind, with_played, with_said, with_line, with_lines, ended, schedule_of}
+use Rattle.swp_tool.specs.Transcripts.{entry_lines, step_text, text_of, done_line, whole_text, IsTranscriptOf, IsTextOf, Tells, TellsHistory}
+use Rattle.swp_tool.specs.Pieces.{IsCompleteTranscript, schedule_read}
+use Rattle.swp_tool.specs.Runs.{Appends, Replayed}
+
+-- ## The text of a history
+
+steps_told : (steps : List Step) → flat_map entry_line (flat_map step_told steps) ≡ flat_map step_text steps
+steps_told [] = refl
+steps_told (step ∷ steps) =
+    flat_map-append entry_line (step_told step) (flat_map step_told steps) ∙ ap (λ text. step_text step ++ text) (steps_told steps)
+
+-- it is that of the entries that are told of it
+text_told : (t : History) → text_of t ≡ entry_lines (told_of t)
+text_told t =
+    append_assoc (entry_line (entry.Head t.header)) (entry_lines t.opening) (flat_map step_text t.steps)
+    ∙ ap (λ text. entry_line (entry.Head t.header) ++ text)
+    (ap (λ text. entry_lines t.opening ++ text) (sym (steps_told t.steps)) ∙ sym (flat_map-append entry_line t.opening (flat_map step_told t.steps)))
+
+-- ## The lines of a schedule
+
+-- lines below a header of their world, and none before a header
+abbrev AreLines : Option Header → List Line → Type 0
+AreLines None lines = lines ≡ []
+AreLines (Some header) lines = IsHeader header × AllByRecursion (IsLineOf header) lines
+
+record Fits (s : Schedule) : Type 0 where
+  lines_are : AreLines s.header s.lines
+  few : length s.lines ≤ s.count
+  most : s.stop ≡ None → s.count ≤ 20000
+
+fits_began : (o : Option Header) (lines : List Line) (header : Header) → AreLines o lines → IsInGrammar o (read.Header header) → AreLines (Some header) lines
+fits_began None lines header none is = (is, subst (AllByRecursion (IsLineOf header)) (sym none) tt)
+fits_began (Some other) lines header all is = absurd is
+
+fits_went : (o : Option Header) (lines : List Line) (line : Line) → AreLines o lines → IsInGrammar o (read.Line line) → AreLines o (lines ++ line ∷ [])
+fits_went None lines line none is = absurd is
+fits_went (Some header) lines line all is = (all.0, all_pushed Line (IsLineOf header) lines line all.1 is)
+
+fits_played : (s : Schedule) (line : Line) (other : Option (List ℕ)) → IsInGrammar s.header (read.Line line) → s.count < 20000 → Fits s
+    → Fits (with_played s line other)
+fits_played s line None is more h =
+    let few = h.few in
+    let long = length-append s.lines (line ∷ []) in
+    record { lines_are = fits_went s.header s.lines line h.lines_are is; few = omega (arith, few, long); most = λ _. omega (arith, more) }
+fits_played s line (Some other) is more h =
+    let few = h.few in record { lines_are = h.lines_are; few = omega (arith, few); most = λ running. absurd (cc) }
+
+fits_said : (s : Schedule) (bytes : List ℕ) (r : Result Read LineFault) → line_of s.header bytes ≡ r → s.count < 20000 → Fits s → Fits (with_said s r)
+fits_said s bytes (Err f) is more h =
+    let few = h.few in record { lines_are = h.lines_are; few = omega (arith, few); most = λ running. absurd (cc) }
+fits_said s bytes (Ok read.Skip) is more h =
+    let few = h.few in record { lines_are = h.lines_are; few = omega (arith, few); most = λ _. omega (arith, more) }
+fits_said s bytes (Ok (read.Header header)) is more h =
+    let few = h.few in
+    record {
+      lines_are = fits_began s.header s.lines header h.lines_are (line_fits s.header bytes (read.Header header) is);
+      few = omega (arith, few);
+      most = λ _. omega (arith, more);
+    }
+fits_said s bytes (Ok (read.Line line)) is more h =
+    fits_played s line (misread_behind s.header s.lines line) (line_fits s.header bytes (read.Line line) is) more h
+fits_said s bytes (Ok read.NoMemory) is more h = h
+
+below : (count : ℕ) → count ≤ 20000 → (count == 20000) ≡ false → count < 20000
+below count few is = grind (arith, common_steps)
+
+fits_line : (s : Schedule) (bytes : List ℕ) → Fits s → Fits (with_line s bytes)
+fits_line s bytes h = go s.stop h
+  where
+    run : Schedule
+    run = record s { stop = None }
+
+    next : (b : Bool) → (s.count == 20000) ≡ b → Fits run
+        → Fits (cond b (record s { count = s.count + 1; stop = Some Too_many }) (with_said run (line_of s.header bytes)))
+    next true is k =
+        let few = k.few in record { lines_are = k.lines_are; few = omega (arith, few); most = λ running. absurd (cc) }
+    next false is k = fits_said run bytes (line_of s.header bytes) refl (below s.count (k.most refl) is) k
+
+    go : (o : Option Stop) → Fits (record s { stop = o }) → Fits (with_line (record s { stop = o }) bytes)
+    go (Some why) k = k
+    go None k = next (s.count == 20000) refl k
+
+fits_lines : (ls : List (List ℕ)) (s : Schedule) → Fits s → Fits (with_lines s ls)
+fits_lines [] s h = h
+fits_lines (l ∷ ls) s h = fits_lines ls (with_line s l) (fits_line s l h)
+
+fits_ended : (s : Schedule) → Fits s → Fits (ended s)
+fits_ended s h = go s.stop s.header h
+  where
+    go : (o : Option Stop) (header : Option Header) → Fits (record s { stop = o; header = header }) → Fits (ended (record s { stop = o; header = header }))
+    go None None k = let few = k.few in record { lines_are = k.lines_are; few = omega (arith, few); most = λ running. absurd (cc) }
+    go None (Some header) k = k
+    go (Some why) header k = k
+
+-- a schedule that doesn't stop has a header
+has_header : (s : Schedule) → (ended s).stop ≡ None → (header : Header) × ((ended s).header ≡ Some header)
+has_header s running = go s.stop s.header running
+  where
+    go : (o : Option Stop) (h : Option Header) → (ended (record s { stop = o; header = h })).stop ≡ None
+        → (header : Header) × ((ended (record s { stop = o; header = h })).header ≡ Some header)
+    go None None is = absurd (cc)
+    go None (Some header) is = (header, refl)
+    go (Some why) h is = absurd (cc)
+
+fits_whole : (input : List ℕ) → Fits (schedule_of input)
+fits_whole input =
+    fits_ended (schedule_read input) (fits_lines (lines input) nothing_read (record { lines_are = refl; few = omega arith; most = λ _. omega arith }))
+
+-- ## What a text tells
+
+done_clean : (n : ℕ) → IsNumber n → IsCleanLine (codes "done" ∷ decimal n ∷ [])
+done_clean n is = (((omega arith, refl), refl), (number_clean n is, tt))
+
+-- the whole text of entries in their ranges tells them
+tells_all : (entries : List Entry) (count : ℕ) → All IsEntry entries → IsNumber count → Tells (whole_text entries count) entries
+tells_all entries count in_range few =
+    record {
+      in_range = in_range;
+      count = count;
+      few = few;
+      text_is = refl;
+      alone = λ others n are is same.
+          same_ended others entries (codes "done" ∷ decimal n ∷ []) (codes "done" ∷ decimal count ∷ []) (done_clean n is) (done_clean count few) are in_range
+          (sym same);
+    }
+
+-- the complete transcript of an input tells the history of its schedule
+tells_complete : (input text : List ℕ) → IsCompleteTranscript input text → TellsHistory (schedule_of input) text
+tells_complete input text h =
+    let s = schedule_of input in
+    let fits : Fits s = fits_whole input in
+    let header = has_header (schedule_read input) h.running in
+    let valid : AreLines (Some header.0) s.lines = subst (λ o. AreLines o s.lines) header.1 fits.lines_are in
+    let played : IsTranscriptOf header.0 s.lines h.lines_text = subst (λ o. IsTextOf o s.lines h.lines_text) header.1 h.transcript in
+    let most = fits.most h.running in
+    let few = fits.few in
+    let in_range : All IsEntry (told_of played.history) =
+    told_in header.0 s.lines played.history valid.1 valid.0 played.follows (omega (arith, few, most)) in
+    let text_is : text ≡ whole_text (told_of played.history) s.count =
+    h.text_is ∙ ap (λ t. t ++ done_line s.count) (played.text_is ∙ text_told played.history) in
+    record {
+      header = header.0;
+      header_is = header.1;
+      history = played.history;
+      follows = played.follows;
+      told = subst (λ t. Tells t (told_of played.history)) (sym text_is) (tells_all (told_of played.history) s.count in_range (omega (arith, most)));
+    }
+
+done_replayed : (tells : Bool) (input left before after : List ℕ) → Replayed tells status.Done input left before after
+    → Appends tells (TellsHistory (schedule_of input)) before after
+done_replayed tells input left before after h = (h.1.0, tells_complete input h.1.0 h.1.1, h.1.2)
+
+-- so does what a replay has written that is done
+pub known : (tells : Bool) (s : Status) (input left before after : List ℕ) → s ≡ status.Done → Replayed tells s input left before after
+    → Appends tells (TellsHistory (schedule_of input)) before after
+known tells s input left before after is h =
+    done_replayed tells input left before after (subst (λ x. Replayed tells x input left before after) is h)
