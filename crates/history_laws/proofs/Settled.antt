@@ -24,7 +24,7 @@ use Rattle.message_link.specs.Links.{Link, LinkEvent, happens, after, number_of,
 use Rattle.message_link.specs.Projection.{core_of, core_event}
 use Rattle.message_link.proofs.Runs.{Good, Reached, reached_more, event_step}
 use Rattle.link_entries.specs.Entries.{Entry as Noted, event_entries, entries, first_entries}
-use Rattle.link_entries.specs.Settled.{IsReset, withholds}
+use Rattle.link_entries.specs.Settled.{IsReset, rest_of, withholds}
 use Rattle.link_entries.proofs.Running.{Noted as IsNoted, note_event, start_noted}
 use Rattle.link_entries.proofs.Sparing.{Spared, Stands, or_none, none_withheld}
 use Rattle.link_entries.proofs.Together.{AreActive, event_goes, together}
@@ -82,6 +82,14 @@ reset_ready l e window r n o = go e.at_host r n
     go false r n = record { granted = r; active = o.host; free = n }
     go true r n = record { granted = r; active = o.controller; free = n }
 
+-- nothing is noted behind it in its event
+reset_alone : (l : Link) (e : End) (window : Option ℕ) → rest_of l (event_of (WasReset e window)) ≡ []
+reset_alone l e window = go e.at_host
+  where
+    go : (side : Bool) → rest_of l (at (record { link = e.link; at_host = side }) (EndStep (AsksReset window) [] GoesOut)) ≡ []
+    go false = refl
+    go true = refl
+
 -- ## Runs
 
 after_causes : (cs : List Cause) (l : Link) → after l (map event_of cs) ≡ link_after_all l cs
@@ -95,10 +103,11 @@ events-append (x ∷ xs) ys = ap (λ (es : List LinkEvent). event_of x.cause ∷
 -- the law of the link
 run_together : (before : List Event) (reset : Event) (behind : List Event) → AllAllowed bare_link (link_events (before ++ reset ∷ behind))
     → IsReset (link_after_all bare_link (causes_of before)) (event_of reset.cause)
+    → rest_of (link_after_all bare_link (causes_of before)) (event_of reset.cause) ≡ []
     → list_any withholds (entries (link_after (link_after_all bare_link (causes_of before)) reset.cause) (link_events behind)) ≡ false
     → (link_now (before ++ reset ∷ behind)).to_controller ≡ [] → (link_now (before ++ reset ∷ behind)).to_host ≡ []
     → LinkTogether (link_now (before ++ reset ∷ behind))
-run_together before reset behind a asked undisturbed near there =
+run_together before reset behind a asked alone undisturbed near there =
     let es : List LinkEvent = link_events before in
     let fs : List LinkEvent = link_events behind in
     let e : LinkEvent = event_of reset.cause in
@@ -106,9 +115,11 @@ run_together before reset behind a asked undisturbed near there =
     let same = after_causes (causes_of before) bare_link in
     let P : List LinkEvent → Type 0 = λ z. AllAllowed bare_link z → (after bare_link z).to_controller ≡ [] → (after bare_link z).to_host ≡ [] → LinkTogether (after bare_link z) in
     let R : Link → Type 0 = λ z. IsReset z e in
-    let W : Link → Type 0 = λ z. list_any withholds (entries (happens z e) fs) ≡ false in
+    let W : Link → Type 0 = λ z. list_any withholds (rest_of z e ++ entries (happens z e) fs) ≡ false in
+    let m : Link = link_after_all bare_link (causes_of before) in
+    let V : List Noted → Type 0 = λ z. list_any withholds (z ++ entries (happens m e) fs) ≡ false in
     let law : P (es ++ e ∷ fs) =
-    λ b c d. together bare_link IsBare es e fs b (subst R (sym same) asked) (subst W (sym same) undisturbed) c d in
+    λ b c d. together bare_link IsBare es e fs b (subst R (sym same) asked) (subst W (sym same) (subst V (sym alone) undisturbed)) c d in
     subst P (sym is) law a near there
 
 -- ## Entries
@@ -204,9 +215,11 @@ settled_of h t run asked before reset behind back e window q z =
     spared_of h (entries m (link_events behind)) (sym (ap (has_lost h) read) ∙ lossless) (sym (ap (has_rset h) read) ∙ alone) in
     let can = of_can h bare_link before (of_front h bare_link before (reset ∷ behind) a) in
     let R : Cause → Type 0 = λ c. IsReset l (event_of c) in
+    let Alone : Cause → Type 0 = λ c. rest_of l (event_of c) ≡ [] in
     let law : (link_now xs).to_controller ≡ [] → (link_now xs).to_host ≡ [] → LinkTogether (link_now xs) =
     run_together before reset behind (of_allowed h bare_link xs a)
     (subst R (sym z.cause) (reset_ready l e window mine.1 z.other (always_active (causes_of before) can)))
+    (subst Alone (sym z.cause) (reset_alone l e window))
     (none_withheld (entries m (link_events behind)) spared (plain_stands (entries m (link_events behind)) (plain_entries (causes_of behind) m))) in
     let is : t.opening ++ entries_of xs ≡ entries_for h (notes_of xs) = run_entries h t.opening xs run.opening a in
     let P : List Entry → Type 0 = λ y. AreUpTogether y e in

@@ -3,6 +3,7 @@ use Rattle.std.proofs.Common.{◌≡◌, ℕ, Bool, true, false, List, [], ◌�
 use Rattle.std.specs.Prelude.{is_some, nat_lt}
 use Rattle.std.specs.List.{list_any}
 use Rattle.std.proofs.lemmas.Bool.{true≢false}
+use Rattle.shdlc_core.specs.Machine.{is_waiting}
 use Rattle.session_laws.specs.Sessions.{OnWire, Link as CoreLink, Turn as CoreTurn, EndEvent as CoreEndEvent, LinkEvent as CoreLinkEvent, exchanged as core_exchanged, aged as core_aged, happens as core_happens, happens_here as core_happens_here, all_here as core_all_here, after as core_after, ticks_or_cut as core_ticks_or_cut, ticks_if_waiting as core_ticks_if_waiting}
 use Rattle.session_laws.specs.Sessions.LinkEvent.{AtController as CoreAtController, AtHost as CoreAtHost, Tick as CoreTick, TickWithout as CoreTickWithout}
 use Rattle.session_laws.specs.Losses.{is_act, sans, loses_aged}
@@ -25,7 +26,7 @@ use Rattle.message_link.proofs.Runs.{Good, Reached, safe_reached, rests_of, reac
 use Rattle.message_link.proofs.Whole.{start_good, start_reached}
 use Rattle.link_entries.specs.Entries.{End, Entry, told_of, rest_entries, here_entries, all_entries, aged_entries, tick_entries, event_entries, entries, first_entries}
 use Rattle.link_entries.specs.Entries.End.{Controller, Host}
-use Rattle.link_entries.specs.Settled.{withholds, FindsReady, IsReset}
+use Rattle.link_entries.specs.Settled.{withholds, FindsReady, IsReset, rest_of}
 use Rattle.link_entries.proofs.Running.{before_here, before_there, host_here, Noted, note_event, start_noted}
 use Rattle.link_entries.proofs.Noting.{reset_role}
 use Rattle.link_entries.proofs.Stepping.{host_finished}
@@ -317,33 +318,95 @@ asked_here s l window ts a f = (
   ap is_open (turned_role (after_input l.controller.side (Reset window)) ts ∙ reset_role l.controller.side window) ∙ (reset_tells l.controller.side f.granted).0,
 )
 
+-- such a reset in place of the tick of the controller's end
+asked_in_tick : (s : Bool) (l : Link) (window : Option ℕ) (ts : List Turn) (es : List EndEvent) (h : Node)
+    → IsEvent l (TicksWithout (Step (AsksReset window) ts GoesOut ∷ es) h) → Good l → Reached (core_of l) → FindsReady l
+    → Spared (rest_of l (TicksWithout (Step (AsksReset window) ts GoesOut ∷ es) h)) → Stands (rest_of l (TicksWithout (Step (AsksReset window) ts GoesOut ∷ es) h))
+    → (sure_after s (core_of l) (core_event l (TicksWithout (Step (AsksReset window) ts GoesOut ∷ es) h)) ≡ true)
+    × AreActive (happens l (TicksWithout (Step (AsksReset window) ts GoesOut ∷ es) h))
+asked_in_tick s l window ts es h a g r f sp st =
+    let near : Link = aged l in
+    let first : CoreLink = core_ticks_if_waiting (core_aged (core_of l)) in
+    let kept : first ≡ core_of near = rw a.0 refl in
+    let P : CoreLink → Type 0 = λ d. SafeLink 0 1 d in
+    let near_safe : SafeLink 0 1 (core_of near) =
+    subst P kept (tick_if_waiting 1 (core_aged (core_of l)) (safe_aged (core_of l) (safe_reached (core_of l) r))) in
+    let x : EndEvent = Step (AsksReset window) ts GoesOut in
+    let rests = rests_of 0 1 (core_of near) near_safe in
+    let one = own_here near x tt a.1.1 g.controller rests in
+    let m : Link = happens_here near x in
+    let m_safe : SafeLink 0 1 (core_of m) = subst P (sym one.core) (safe_turns 1 (core_here near x) (core_of near) (own_turns near x rests tt a.1.1) near_safe) in
+    let all = all_step 1 near (x ∷ es) a.1 g.controller near_safe in
+    let turns : List CoreEndEvent = core_all near (x ∷ es) in
+    let last : Link = all_here m es in
+    let ds : List Entry = all_entries Controller m es in
+    let fs : List Entry = tick_entries Host (exchanged last) h in
+    let p = spared_parts ds fs sp in
+    let q = stands_parts ds fs st in
+    let n1 : Bool = sure_aged s (core_of l) in
+    let n2 : Bool = sure_turns n1 (core_of near) (core_here near x) in
+    let asked = asked_here n1 near window ts a.1.1 (record { granted = f.granted; active = f.active; free = f.free }) in
+    let n3 : Bool = sure_turns n2 (core_of m) (core_all m es) in
+    let k3 = all_spares 1 es n2 m a.1.2 one.tells m_safe asked.1 q.0 in
+    let host_is : last.host ≡ l.host = all.step.host in
+    let n4 : Bool = tick_flag n3 (exchanged last) h in
+    let k4 = tick_spares n3 Host (exchanged last) h a.2 (tells_same last.host l.host host_is g.host) (open_as last.host l.host host_is f.active) q.1 in
+    let y : Bool = sure_turns (sure_if_waiting n1 (core_aged (core_of l))) first turns in
+    let y_is : y ≡ n3 =
+    waits_not n1 turns a.0
+    ∙ (turns-append n1 (core_of near) (core_here near x) (core_all m es) ∙ ap (λ z. sure_turns n2 z (core_all m es)) (sym one.core)) in
+    let d_is : core_all_here first turns ≡ core_of last = ap (λ z. core_all_here z turns) kept ∙ sym all.step.core in
+    let core : CoreLinkEvent = CoreTickWithout turns (core_tick l.host.side h.turns h.ending) in
+    let flag : sure_after s (core_of l) (core_event l (TicksWithout (x ∷ es) h)) ≡ n4 =
+    sure_there (sure_event s (core_of l) core) (core_happens (core_of l) core) (core_tick_rest l.host.side h.turns h.ending)
+    ∙ (ap (λ z. flags z (core_all_here first turns) l.host) y_is ∙ (ap (λ z. flags n3 z l.host) d_is ∙ ap (flags n3 (core_of last)) (sym host_is))) in (
+      flag ∙ k4.0 (k3.0 asked.0 p.0) p.1,
+      record {
+        controller = open_as (ticks_here (exchanged last) h.turns h.ending).host last.controller (ticks_host (exchanged last) h.turns h.ending) k3.1;
+        host = k4.1;
+      },
+    )
+  where
+    flags : Bool → CoreLink → Half → Bool
+    flags n d z =
+        let t : Option (List CoreTurn) = core_tick z.side h.turns h.ending in
+        sure_turns (sure_tick n t (core_exchanged d)) (core_ticks_or_cut t (core_exchanged d)) (core_tick_rest z.side h.turns h.ending)
+
+    waits_not : (n : Bool) (turns : List CoreEndEvent) → is_waiting l.controller.side.shdlc ≡ false
+        → sure_turns (sure_if_waiting n (core_aged (core_of l))) (core_ticks_if_waiting (core_aged (core_of l))) turns ≡ sure_turns n (core_of (aged l)) turns
+    waits_not n turns q = rw q refl
+
 asked_goes : (s : Bool) (l : Link) (e : LinkEvent) → IsEvent l e → Good l → Reached (core_of l) → IsReset l e
-    → (sure_after s (core_of l) (core_event l e) ≡ true) × AreActive (happens l e)
-asked_goes s l (AtController (Step (AsksReset window) ts GoesOut)) a g r f =
+    → Spared (rest_of l e) → Stands (rest_of l e) → (sure_after s (core_of l) (core_event l e) ≡ true) × AreActive (happens l e)
+asked_goes s l (AtController (Step (AsksReset window) ts GoesOut)) a g r f sp st =
     let x : EndEvent = Step (AsksReset window) ts GoesOut in
     let k = asked_here s l window ts a f in
     (sure_near s (core_of l) (core_here l x) ∙ k.0, record { controller = k.1; host = open_as (happens_here l x).host l.host (host_here l x a g r) f.active })
-asked_goes s l (AtHost (Step (AsksReset window) ts GoesOut)) a g r f =
+asked_goes s l (AtHost (Step (AsksReset window) ts GoesOut)) a g r f sp st =
     let x : EndEvent = Step (AsksReset window) ts GoesOut in
     let m : Link = exchanged l in
     let k = asked_here s m window ts a f in
     let safe = safe_exchanged 0 0 (core_of l) (safe_reached (core_of l) r) in
     let host : (happens_here m x).host ≡ m.host = (own_here m x tt a g.host (rests_of 0 0 (core_of m) safe)).host in
     (sure_there s (core_of l) (core_here m x) ∙ k.0, record { controller = open_as (happens_here m x).host m.host host f.active; host = k.1 })
-asked_goes s l (_) a g r f = absurd f
+asked_goes s l (TicksWithout (Step (AsksReset window) ts GoesOut ∷ es) h) a g r f sp st = asked_in_tick s l window ts es h a g r f sp st
+asked_goes s l (_) a g r f sp st = absurd f
 
 run_sure : (before : List LinkEvent) (reset : LinkEvent) (behind : List LinkEvent) (t : List Entry) (s : Bool) (l : Link)
     → AllAllowed l (before ++ reset ∷ behind) → Good l → Reached (core_of l) → Noted t l → IsReset (after l before) reset
-    → Spared (entries (happens (after l before) reset) behind) → Stands (entries (happens (after l before) reset) behind)
+    → Spared (rest_of (after l before) reset ++ entries (happens (after l before) reset) behind)
+    → Stands (rest_of (after l before) reset ++ entries (happens (after l before) reset) behind)
     → sure_after s (core_of l) (core_events l (before ++ reset ∷ behind)) ≡ true
 run_sure [] e behind t s l a g r n is sp st =
     let ev = event_step l e a.0 g r in
     let m : Link = happens l e in
     let next : Reached (core_of m) = subst Reached (sym ev.core) (reached_more (core_of l) (core_event l e) ev.allowed r) in
-    let one = asked_goes s l e a.0 g r is in
+    let x = spared_parts (rest_of l e) (entries m behind) sp in
+    let y = stands_parts (rest_of l e) (entries m behind) st in
+    let one = asked_goes s l e a.0 g r is x.0 y.0 in
     sure_first s l e behind ev.core
     ∙ behind_sure behind (t ++ event_entries l e) (sure_after s (core_of l) (core_event l e)) m a.1 ev.good next (note_event t l e a.0 g r n).noted one.1
-    one.0 sp st
+    one.0 x.1 y.1
 run_sure (x ∷ before) e behind t s l a g r n is sp st =
     let ev = event_step l x a.0 g r in
     let m : Link = happens l x in
@@ -353,11 +416,11 @@ run_sure (x ∷ before) e behind t s l a g r n is sp st =
 
 -- where nothing withheld the answer to a reset, and both wires are empty now
 pub together : (l : Link) → IsStart l → (before : List LinkEvent) (reset : LinkEvent) (behind : List LinkEvent) → AllAllowed l (before ++ reset ∷ behind)
-    → IsReset (after l before) reset → list_any withholds (entries (happens (after l before) reset) behind) ≡ false
+    → IsReset (after l before) reset → list_any withholds (rest_of (after l before) reset ++ entries (happens (after l before) reset) behind) ≡ false
     → (after l (before ++ reset ∷ behind)).to_controller ≡ [] → (after l (before ++ reset ∷ behind)).to_host ≡ []
     → LinkTogether (after l (before ++ reset ∷ behind))
 together l s before reset behind a asked undisturbed near there =
-    let none = none_withholds (entries (happens (after l before) reset) behind) undisturbed in
+    let none = none_withholds (rest_of (after l before) reset ++ entries (happens (after l before) reset) behind) undisturbed in
     up_together l s (before ++ reset ∷ behind) a
     (record {
       undisturbed = run_sure before reset behind (first_entries l.controller.side.role) false l a (start_good l s) (start_reached l s) (start_noted l s) asked none.0

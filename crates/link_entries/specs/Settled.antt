@@ -1,15 +1,15 @@
 -- Where nothing kept the answer to a reset back, and nothing is on its way, both ends are up together.
-use Rattle.std.specs.Prelude.{◌≡◌, ℕ, Bool, true, false, List, [], Some, None}
+use Rattle.std.specs.Prelude.{◌≡◌, ℕ, Bool, true, false, List, [], ◌∷◌, ◌++◌, Some, None}
 use Rattle.std.specs.List.{list_any}
 use Rattle.shdlc_core.specs.Machine.{is_waiting}
 use Rattle.link_machine.specs.Machine.{is_open, reset_refusal}
 use Rattle.session_laws.specs.Sessions.{is_rset}
-use Rattle.message_link.specs.Links.{Link, LinkEvent, exchanged, happens}
+use Rattle.message_link.specs.Links.{Link, LinkEvent, exchanged, aged, all_here, happens_here, happens}
 use Rattle.message_link.specs.Links.Ending.{GoesOut}
 use Rattle.message_link.specs.Links.Comes.{AsksReset}
 use Rattle.message_link.specs.Links.EndEvent.{Step}
-use Rattle.message_link.specs.Links.LinkEvent.{AtController, AtHost}
-use Rattle.link_entries.specs.Entries.{Entry, entries}
+use Rattle.message_link.specs.Links.LinkEvent.{AtController, AtHost, TicksWithout}
+use Rattle.link_entries.specs.Entries.{Entry, all_entries, tick_entries, entries}
 use Rattle.link_entries.specs.Entries.End.{Controller, Host}
 use Rattle.link_entries.specs.Reading.{nothing_seen, see_all}
 use Rattle.link_entries.specs.Sessions.{session_in}
@@ -29,17 +29,25 @@ pub record FindsReady (l : Link) : Type 0 where
   pub active : is_open l.host.side.role ≡ true
   pub free : is_waiting l.host.side.shdlc ≡ false
 
--- such a reset is asked for at an end
+-- such a reset is asked for at an end, or at the controller's in place of its tick
 abbrev pub IsReset : Link → LinkEvent → Type 0
 IsReset l (AtController (Step (AsksReset window) turns GoesOut)) = FindsReady l
 IsReset l (AtHost (Step (AsksReset window) turns GoesOut)) = FindsReady (exchanged l)
+IsReset l (TicksWithout (Step (AsksReset window) turns GoesOut ∷ events) node) = FindsReady l
 IsReset l _ = ⊥
 
--- t is all that is noted of a link up to now. Where l is the link before a reset, which was such a one, nothing that was noted in the
--- events behind it withholds its answer, and now both wires are empty.
+-- what is noted behind it in its event
+abbrev pub rest_of : Link → LinkEvent → List Entry
+rest_of l (TicksWithout (reset ∷ events) node) =
+    let m : Link = happens_here (aged l) reset in
+    all_entries Controller m events ++ tick_entries Host (exchanged (all_here m events)) node
+rest_of l _ = []
+
+-- t is all that is noted of a link up to now. Where l is the link before a reset, which was such a one, nothing that was noted behind
+-- it withholds its answer, and now both wires are empty.
 pub record IsSettledSince (t : List Entry) (l : Link) (reset : LinkEvent) (behind : List LinkEvent) : Type 0 where
   pub asked : IsReset l reset
-  pub undisturbed : list_any withholds (entries (happens l reset) behind) ≡ false
+  pub undisturbed : list_any withholds (rest_of l reset ++ entries (happens l reset) behind) ≡ false
   pub to_controller : (see_all nothing_seen t).to_controller ≡ []
   pub to_host : (see_all nothing_seen t).to_host ≡ []
 
