@@ -20,7 +20,7 @@ use Rattle.session_laws.proofs.Wire.{IsData, Young, young_later, young_older}
 use Rattle.session_laws.proofs.Steps.{not_rset, took_other}
 use Rattle.session_laws.proofs.Ties.{data_due, sends_noted, offer_up, few_turns, none_due}
 use Rattle.session_laws.proofs.Quiet.{began_data, few_room}
-use Rattle.lifetime_laws.specs.Lifetime.{IsAnew, BeginsAnew, AreTurns, IsPlainHere, IsPlain, AllPlain, LosesNone, GoesOn}
+use Rattle.lifetime_laws.specs.Lifetime.{IsAnew, BeginsAnew, OnlyTurns, IsPlainHere, IsPlain, AllPlain, LosesNone, GoesOn}
 use Rattle.lifetime_laws.proofs.Timely.{Timely}
 use Rattle.lifetime_laws.proofs.Lasts.{Lasts, lasts_exchanged, lasts_put, lasts_ready, lasts_ticked, lasts_older, lasts_taken, lasts_fetched, no_probe, ticked-due}
 
@@ -248,13 +248,13 @@ alive_ticks kf c h n l ts a v =
     by true p g = absurd (true≢false p)
     by false p g = g
 
-turns_lost : (es : List EndEvent) (n : Losses) (l : Link) → AreTurns es → (noted_turns n l es).lost ≡ false → n.lost ≡ false
+turns_lost : (es : List EndEvent) (n : Losses) (l : Link) → OnlyTurns es → (noted_turns n l es).lost ≡ false → n.lost ≡ false
 turns_lost [] n l a v = v
 turns_lost (Turns ts ∷ es) n l a v =
     out_lost (frames_of most_frames (turned l.controller.side ts)) n l (turns_lost es (noted_here n l (Turns ts)) (happens_here l (Turns ts)) a v)
 turns_lost (_ ∷ es) n l a v = absurd a
 
-alive_all : (es : List EndEvent) (kf : ℕ) (c h : Half) (n : Losses) (l : Link) → AreTurns es → IsAlive 0 kf c h l → (noted_turns n l es).lost ≡ false
+alive_all : (es : List EndEvent) (kf : ℕ) (c h : Half) (n : Losses) (l : Link) → OnlyTurns es → IsAlive 0 kf c h l → (noted_turns n l es).lost ≡ false
     → IsAlive 0 kf c h (all_here l es)
 alive_all [] kf c h n l a k v = k
 alive_all (Turns ts ∷ es) kf c h n l a k v =
@@ -262,7 +262,7 @@ alive_all (Turns ts ∷ es) kf c h n l a k v =
     (alive_turns kf c h n l ts k (turns_lost es (noted_here n l (Turns ts)) (happens_here l (Turns ts)) a v)) v
 alive_all (_ ∷ es) kf c h n l a k v = absurd a
 
-alive_tick : (c h : Half) (n : Losses) (l : Link) (ts : List Turn) (es : List EndEvent) (us : List Turn) → AreTurns es → IsAlive 0 0 c h l
+alive_tick : (c h : Half) (n : Losses) (l : Link) (ts : List Turn) (es : List EndEvent) (us : List Turn) → OnlyTurns es → IsAlive 0 0 c h l
     → (noted_event n l (Tick (Some ts) es (Some us))).lost ≡ false → IsAlive 0 0 c h (happens l (Tick (Some ts) es (Some us)))
 alive_tick c h n l ts es us a k v =
     let one : Link = aged l in

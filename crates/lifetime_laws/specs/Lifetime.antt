@@ -25,11 +25,11 @@ pub record BeginsAnew (l : Link) : Type 0 where
   pub to_controller : l.to_controller ≡ []
   pub to_host : l.to_host ≡ []
 
--- its node has turns
-abbrev pub AreTurns : List EndEvent → Type 0
-AreTurns [] = Unit {0}
-AreTurns (Turns ts ∷ es) = AreTurns es
-AreTurns (_ ∷ es) = ⊥
+-- the node of an end has turns, and nothing else happens there
+abbrev pub OnlyTurns : List EndEvent → Type 0
+OnlyTurns [] = Unit {0}
+OnlyTurns (Turns ts ∷ es) = OnlyTurns es
+OnlyTurns (_ ∷ es) = ⊥
 
 -- an end takes a frame, or its node has turns; where time passes each end has its tick, the controller's with turns behind it
 abbrev pub IsPlainHere : EndEvent → Type 0
@@ -40,14 +40,14 @@ IsPlainHere _ = ⊥
 abbrev pub IsPlain : LinkEvent → Type 0
 IsPlain (AtController e) = IsPlainHere e
 IsPlain (AtHost e) = IsPlainHere e
-IsPlain (Tick (Some ts) turns (Some us)) = AreTurns turns
+IsPlain (Tick (Some ts) turns (Some us)) = OnlyTurns turns
 IsPlain _ = ⊥
 
 abbrev pub AllPlain : List LinkEvent → Type 0
 AllPlain [] = Unit {0}
 AllPlain (e ∷ es) = IsPlain e × AllPlain es
 
--- at no moment of these events a frame was lost
+-- At no moment of these events a frame was lost. It is asked at each, since what was lost in a session doesn't count in the next one.
 abbrev pub LosesNone : Link → List LinkEvent → Type 0
 LosesNone l events = (front : List LinkEvent) → IsPrefix front events → (losses_after no_losses l front).lost ≡ false
 
