@@ -13,3 +13,4 @@ pub mod Near
 pub mod Events
 pub mod Lines
 pub mod Freeing
+pub mod Knowing

@@ -55,3 +55,7 @@ abbrev pub GoesToFree : List Port → Deed → Type 0
 GoesToFree ports (Asks to message creation) = has_notice ports to ≡ false
 GoesToFree ports (Tells to message) = has_notice ports to ≡ false
 GoesToFree ports _ = Unit {0}
+
+-- a message that is read is the notice of a creation
+abbrev pub is_of_creation : Option (List ℕ) → Bool
+is_of_creation message = option_map_or (λ (m : List ℕ). instruction_in m == 18) message false

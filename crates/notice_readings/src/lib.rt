@@ -3,16 +3,16 @@
 
 ghost use Rattle.trace_model.specs.declared.line.Header.{Header};
 ghost use Rattle.trace_model.specs.declared.line.Line.{Line};
-ghost use Rattle.std.specs.Prelude.{◌++◌, ℕ, List, []};
+ghost use Rattle.std.specs.Prelude.{◌≡◌, ◌++◌, ℕ, List, [], Option, is_some};
 ghost use Rattle.trace_model.specs.declared.entry.Entry.{Entry};
 ghost use Rattle.std.specs.List.{AllByRecursion};
 ghost use Rattle.link_machine.specs.Machine.{Message};
 ghost use Rattle.node_machine.specs.Parts.{Core, Port};
-ghost use Rattle.node_machine.specs.Controller.{controller_deeds};
+ghost use Rattle.node_machine.specs.Controller.{controller_deeds, is_asked_at};
 ghost use Rattle.node_world.specs.World.{NodeWorld, Happening, new_world, world_step};
 ghost use Rattle.node_world.specs.NodeHistories.{NodeHistory, FollowsNodes, node_entries, world_after};
 ghost use Rattle.kept_laws.specs.Hosts.{AreHosts};
-ghost use Rattle.notice_readings.specs.Notices.{GoesToFree, NoticesAreRead};
+ghost use Rattle.notice_readings.specs.Notices.{GoesToFree, IsKept, NoticesAreRead, is_of_creation};
 ghost use Rattle.notice_readings.specs.Worlds.{IsRead, MayBoot};
 
 /// Whatever message of a host a controller handles, it asks and tells by a notice only hosts that have no notice to answer: so no
@@ -29,6 +29,13 @@ pub fn the_controller_keeps_the_notices_that_are_read()
     ensures event { (t : List Entry) (w : NodeWorld) (c : Happening) → IsRead t w → MayBoot w c →
         IsRead (t ++ (world_step w c).1) (world_step w c).0 }
     ensures read { (t : List Entry) (w : NodeWorld) → IsRead t w → NoticesAreRead t w }
+{}
+
+/// So what a controller knows of the host of an end is what is read, where the notice that it keeps is: that it has a notice to answer,
+/// and that it has that of a creation, also of one that was forgotten.
+pub fn noticed_and_asked_hosts_are_read()
+    ensures noticed { (message : Option (List ℕ)) (p : Port) → IsKept message p.desk.notice → is_some p.desk.notice ≡ is_some message }
+    ensures asked { (message : Option (List ℕ)) (p : Port) → IsKept message p.desk.notice → is_asked_at p ≡ is_of_creation message }
 {}
 
 /// Behind any lines of a schedule the unanswered notice of the controller to each host is the one that is read off the entries, and it
