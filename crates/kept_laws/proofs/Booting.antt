@@ -46,7 +46,7 @@ use Rattle.kept_laws.proofs.Books.{book_more, closed_book, finds_all}
 
 -- ## The tables of a memory
 
-command_read : (o : Option Command) (c : Command) → if_command o ≡ Some c → IsCommand c
+pub command_read : (o : Option Command) (c : Command) → if_command o ≡ Some c → IsCommand c
 command_read None c e = absurd (cc e)
 command_read (Some d) c e = by_test (cases_Bool (is_command d)) where
   by_test : (is_command d ≡ true) ⊎ (is_command d ≡ false) → IsCommand c

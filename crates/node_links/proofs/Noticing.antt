@@ -379,7 +379,8 @@ without_host p = go (is_over p) refl
 
 -- ## Steps
 
-outside : (input : NodeInput) → IsOutside input → (p : Port) (i : LinkInput) → input_at input p ≡ Some i → IsComing i
+-- what comes in a step comes from outside
+pub outside : (input : NodeInput) → IsOutside input → (p : Port) (i : LinkInput) → input_at input p ≡ Some i → IsComing i
 outside (AtEnd h j) k p i q = go (p.desk.host == h) refl
   where
     go : (c : Bool) → (p.desk.host == h) ≡ c → IsComing i
@@ -405,7 +406,7 @@ came_node : (input : NodeInput) (w : Work) → (times_out input (all_come input 
 came_node (AtEnd h i) w = refl
 came_node TimePasses w = refl
 
-sessions_node : (core : Core) (ports : List Port) → (after_sessions core ports).node ≡ core.node
+pub sessions_node : (core : Core) (ports : List Port) → (after_sessions core ports).node ≡ core.node
 sessions_node core ports = go (list_any is_over ports) refl
   where
     go : (b : Bool) → list_any is_over ports ≡ b → (after_sessions core ports).node ≡ core.node

@@ -1,6 +1,6 @@
 -- A step of another node tells nothing of the unanswered command of a host.
 use Rattle.std.proofs.Common.{◌≡◌, ℕ, ◌&&◌, Bool, true, false, cond, eqb, List, [], ◌∷◌, ◌++◌, length, map, sym, refl, ap, ◌∙◌, subst}
-use Rattle.std.specs.Prelude.{Option, Some, None, option_to_list, nat_lt}
+use Rattle.std.specs.Prelude.{Option, Some, None, option_to_list}
 use Rattle.std.specs.List.{AllByRecursion, flat_map, filter}
 use Rattle.std.specs.Option.{option_map_or}
 use Rattle.std.proofs.lemmas.Bool.{cond_both}
@@ -32,7 +32,7 @@ use Rattle.node_machine.specs.Node.NodeInput.{AtEnd, TimePasses}
 use Rattle.node_world.specs.World.{end_h}
 use Rattle.node_world.specs.NodeFilters.{is_response}
 use Rattle.node_readings.specs.Orders.{IsSilent}
-use Rattle.node_readings.proofs.Silent.{IsQuiet, quiet-append}
+use Rattle.node_readings.proofs.Silent.{IsQuiet, told_rest, rest_quiet}
 use Rattle.node_readings.proofs.Hushed.{IsHushed, AreHushed, hushed-append, deeds_hushed}
 
 abbrev pub AreSilent : ℕ → List Entry → Type 0
@@ -64,18 +64,6 @@ quiet_silent k h (Tick ∷ notes) all = quiet_silent k h notes all.1
 quiet_silent k h (Restarted who ∷ notes) all = quiet_silent k h notes all.1
 quiet_silent k h (Cut who ∷ notes) all = quiet_silent k h notes all.1
 
-so_quiet : (b : Bool) (e : Noted) → IsQuiet e → AllByRecursion IsQuiet (if_so b e)
-so_quiet true e q = (q, tt)
-so_quiet false e q = tt
-
-got_quiet : (who : Side) (n : ℕ) (ms : List Message) → AllByRecursion IsQuiet (map (Got who n) ms)
-got_quiet who n [] = tt
-got_quiet who n (m ∷ ms) = (tt, got_quiet who n ms)
-
-tries_quiet : (who : Side) (o : Option ℕ) → AllByRecursion IsQuiet (map (GaveUp who) (option_to_list o))
-tries_quiet who None = tt
-tries_quiet who (Some n) = (tt, tt)
-
 module _ (k : ℕ) where
   abbrev pub Away : Side → ℕ → Type 0
   Away who h = same_end (end_of h who) (end_h k) ≡ false
@@ -89,16 +77,10 @@ module _ (k : ℕ) where
   told_silent : (who : Side) (h n acked : ℕ) (r : Report) → Away who h → AreSilent k (entries_for h (told who n r acked))
   told_silent who h n acked r away = go r.ended where
     rest : List Noted
-    rest =
-        if_so r.began (Up who n) ++ (if_so r.became_active (Active who) ++ (map (GaveUp who) (option_to_list r.gave_up)
-        ++ (if_so (nat_lt 0 r.acked) (Acked who n acked) ++ map (Got who n) r.got)))
+    rest = told_rest who n acked r
 
     quiet : AllByRecursion IsQuiet rest
-    quiet =
-        quiet-append (if_so r.began (Up who n)) _ (so_quiet r.began (Up who n) tt)
-        (quiet-append (if_so r.became_active (Active who)) _ (so_quiet r.became_active (Active who) tt)
-        (quiet-append (map (GaveUp who) (option_to_list r.gave_up)) _ (tries_quiet who r.gave_up)
-        (quiet-append (if_so (nat_lt 0 r.acked) (Acked who n acked)) _ (so_quiet (nat_lt 0 r.acked) (Acked who n acked) tt) (got_quiet who n r.got))))
+    quiet = rest_quiet who n acked r
 
     go : (o : Option Cause) → AreSilent k (entries_for h (map (Down who) (option_to_list o) ++ rest))
     go None = quiet_silent k h rest quiet

@@ -1,6 +1,6 @@
 -- What tells nothing of the unanswered command of a host.
 use Rattle.std.proofs.Common.{◌≡◌, ℕ, ◌&&◌, Bool, true, false, cond, eqb, List, [], ◌∷◌, ◌++◌, map, refl, ap, ◌∙◌, arith}
-use Rattle.std.specs.Prelude.{Option, Some, None, is_some, option_to_list}
+use Rattle.std.specs.Prelude.{Option, Some, None, is_some, nat_lt, option_to_list}
 use Rattle.std.specs.List.{AllByRecursion, fold}
 use Rattle.std.proofs.lemmas.Bool.{eq-eqb, ne_eqb}
 use Rattle.std.proofs.lemmas.List.Sums.{fold-append}
@@ -76,26 +76,29 @@ tries_quiet : (who : Side) (o : Option ℕ) → AllByRecursion IsQuiet (map (Gav
 tries_quiet who None = tt
 tries_quiet who (Some n) = (tt, tt)
 
+-- what is told of an input behind the end of a session
+abbrev pub told_rest : Side → ℕ → ℕ → Report → List Noted
+told_rest who n acked r =
+    if_so r.began (Up who n) ++ (if_so r.became_active (Active who) ++ (map (GaveUp who) (option_to_list r.gave_up)
+    ++ (if_so (nat_lt 0 r.acked) (Acked who n acked) ++ map (Got who n) r.got)))
+
+pub rest_quiet : (who : Side) (n acked : ℕ) (r : Report) → AllByRecursion IsQuiet (told_rest who n acked r)
+rest_quiet who n acked r =
+    quiet-append (if_so r.began (Up who n)) _ (so_quiet r.began (Up who n) tt)
+    (quiet-append (if_so r.became_active (Active who)) _ (so_quiet r.became_active (Active who) tt)
+    (quiet-append (map (GaveUp who) (option_to_list r.gave_up)) _ (tries_quiet who r.gave_up)
+    (quiet-append (if_so (nat_lt 0 r.acked) (Acked who n acked)) _ (so_quiet (nat_lt 0 r.acked) (Acked who n acked) tt) (got_quiet who n r.got))))
+
 -- what is told of an input reads as nothing but for the end of a session
 pub told_reads : (h : ℕ) (core : Core) (p : Port) (i : LinkInput) (c : Option (List ℕ)) → own_side core ≡ Host → p.desk.host ≡ h
     → reads h (told_at core p (Some i)) c ≡ cond (is_some (ended_by p.side i)) None c
 told_reads h core p i c side at = rw side (go (ended_by p.side i))
   where
-    r : Report
-    r = report p.side i
-
     rest : List Noted
-    rest =
-        if_so r.began (Up Host p.session) ++ (if_so r.became_active (Active Host) ++ (map (GaveUp Host) (option_to_list r.gave_up)
-        ++ (if_so (Rattle.std.specs.Prelude.nat_lt 0 r.acked) (Acked Host p.session (whole_acked (after_input p.side i))) ++ map (Got Host p.session) r.got)))
+    rest = told_rest Host p.session (whole_acked (after_input p.side i)) (report p.side i)
 
     quiet : AllByRecursion IsQuiet rest
-    quiet =
-        quiet-append (if_so r.began (Up Host p.session)) _ (so_quiet r.began (Up Host p.session) tt)
-        (quiet-append (if_so r.became_active (Active Host)) _ (so_quiet r.became_active (Active Host) tt)
-        (quiet-append (map (GaveUp Host) (option_to_list r.gave_up)) _ (tries_quiet Host r.gave_up)
-        (quiet-append (if_so _ (Acked Host p.session (whole_acked (after_input p.side i)))) _ (so_quiet _ (Acked Host p.session (whole_acked
-        (after_input p.side i))) tt) (got_quiet Host p.session r.got))))
+    quiet = rest_quiet Host p.session (whole_acked (after_input p.side i)) (report p.side i)
 
     go : (o : Option Cause) → reads h (entries_for p.desk.host (map (Down Host) (option_to_list o) ++ rest)) c ≡ cond (is_some o) None c
     go None = quiet_reads h p.desk.host rest c quiet

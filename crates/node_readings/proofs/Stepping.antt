@@ -1,5 +1,5 @@
 -- A step of a host: its unanswered command stays the one that is read.
-use Rattle.std.proofs.Common.{◌≡◌, ◌⊎◌, inl, inr, ℕ, ◌||◌, Bool, true, false, cond, eqb, List, [], ◌∷◌, ◌++◌, map, sym, refl, ap, ◌∙◌, subst, append-nil}
+use Rattle.std.proofs.Common.{◌≡◌, ◌⊎◌, inl, inr, ℕ, ◌||◌, Bool, true, false, cond, List, [], ◌∷◌, ◌++◌, map, sym, refl, ap, ◌∙◌, subst, append-nil}
 use Rattle.std.specs.Prelude.{Option, Some, None, is_some}
 use Rattle.std.specs.List.{AllByRecursion, flat_map}
 use Rattle.std.proofs.lemmas.Bool.{cases_Bool, true≢false}
@@ -9,7 +9,6 @@ use Rattle.hci_tables.specs.declared.command.Command.TheVariants.{Sync}
 use Rattle.shdlc_core.specs.declared.answers.LinkState.{LinkState}
 use Rattle.shdlc_core.specs.declared.answers.LinkState.TheVariants.{Up}
 use Rattle.link_machine.specs.Machine.{LinkInput, report}
-use Rattle.link_machine.specs.Machine.LinkInput.{Tick}
 use Rattle.node_machine.specs.Parts.{Core, Port, Work, Deed}
 use Rattle.node_machine.specs.Parts.Deed.{Commits}
 use Rattle.node_machine.specs.Carrying.{noting, unless_cut, all_done}
@@ -22,6 +21,7 @@ use Rattle.node_readings.specs.Orders.{IsItsEnd, KeepsOrder, IsFresh, Fits, MayD
 use Rattle.node_readings.proofs.Silent.{reads, host_side, told_reads}
 use Rattle.node_readings.proofs.Doing.{Runs, Stands, stands_keep, keeps_stand, then, read_more, all_stand}
 use Rattle.node_readings.proofs.Turning.{passes_stand}
+use Rattle.node_links.proofs.Noticing.{outside}
 
 -- ## An end without a notice
 
@@ -98,16 +98,6 @@ module _ (h : ℕ) (host : IsHost h) (before : List Entry) where
     told = λ c. told_reads h w.core p i c (host_side w.core h host node) its.host;
     up = λ some ended. stays_up p.side i (coming i refl) (its.up some) ended;
   }
-
-  outside : (input : NodeInput) → IsOutside input → (p : Port) (i : LinkInput) → input_at input p ≡ Some i → IsComing i
-  outside (AtEnd k j) out p i q = go (eqb p.desk.host k) refl where
-    go : (c : Bool) → eqb p.desk.host k ≡ c → IsComing i
-    go true z =
-        let same : Some j ≡ Some i = rw z at q in
-        let is : j ≡ i = cc in
-        subst IsComing is out
-    go false z = let none : None ≡ Some i = rw z at q in cc
-  outside TimePasses out p i q = let is : Tick ≡ i = cc in subst IsComing is tt
 
   -- time passes at an end without a notice, and nothing more comes of it
   times_same : (input : NodeInput) (w : Work) (q : Port) → w.ports ≡ q ∷ [] → q.desk.notice ≡ None → times_out input w ≡ w

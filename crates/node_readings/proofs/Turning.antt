@@ -39,7 +39,7 @@ NotLong order = length order ≤ 4096
 abbrev pub HasRoom : List Port → ℕ → List ℕ → Type 0
 HasRoom ports k order = nat_lt (option_map_or (λ (p : Port). spare p.side) (port_at ports k) 0) (need order) ≡ false
 
-lack_parts : (ports : List Port) (k n : ℕ) (later : List (ℕ × ℕ)) → lack ports ((k, n) ∷ later) ≡ None
+pub lack_parts : (ports : List Port) (k n : ℕ) (later : List (ℕ × ℕ)) → lack ports ((k, n) ∷ later) ≡ None
     → (nat_lt (option_map_or (λ (p : Port). spare p.side) (port_at ports k) 0) n ≡ false) × (lack ports later ≡ None)
 lack_parts ports k n later none = go (nat_lt (option_map_or (λ (p : Port). spare p.side) (port_at ports k) 0) n) refl none where
   there : ℕ

@@ -1,9 +1,9 @@
 -- What is read of the controller's notices over whatever happens.
-use Rattle.std.proofs.Common.{◌≡◌, ◌⊎◌, inl, inr, ℕ, ◌+◌, Bool, true, false, cond, eqb, List, [], ◌∷◌, ◌++◌, length, map, min, sym, refl, ap, ◌∙◌, subst, append-nil, arith}
+use Rattle.std.proofs.Common.{◌≡◌, ◌⊎◌, inl, inr, ℕ, ◌+◌, Bool, true, false, eqb, List, [], ◌∷◌, ◌++◌, length, map, min, sym, refl, ap, ◌∙◌, subst, append-nil}
 use Rattle.std.specs.Prelude.{Option, Some, None, replicate}
 use Rattle.std.specs.List.{AllByRecursion, fold}
 use Rattle.std.specs.Option.{option_map_or}
-use Rattle.std.proofs.lemmas.Bool.{cases_Bool, eqb-true, ne_eqb}
+use Rattle.std.proofs.lemmas.Bool.{cases_Bool, eqb-true}
 use Rattle.swp_base.specs.InMemory.{Memory}
 use Rattle.journal_laws.specs.Journal.{count_of, records}
 use Rattle.journal_laws.specs.Planned.{fails_within, after_planned}
@@ -12,8 +12,8 @@ use Rattle.trace_model.specs.declared.entry.Entry.{Entry}
 use Rattle.trace_model.specs.declared.entry.Entry.TheVariants as entry
 use Rattle.trace_model.specs.declared.line.End.{End}
 use Rattle.hci_tables.specs.declared.command.Command.{Command}
-use Rattle.hci_tables.specs.Commands.{is_command, IsCommand}
-use Rattle.hci_tables.specs.Bodies.{spelled_by, if_command, command_of}
+use Rattle.hci_tables.specs.Commands.{IsCommand}
+use Rattle.hci_tables.specs.Bodies.{spelled_by, command_of}
 use Rattle.hci_tables.specs.Tables.{HciTables, AreTables, no_tables, apply, close}
 use Rattle.tables_laws.specs.Changes.{JoinTwo}
 use Rattle.tables_laws.proofs.SortedTables.{AreTables-apply, AreTables-close, AreTables-none}
@@ -36,7 +36,7 @@ use Rattle.node_world.specs.World.Happening.{Boots, IsCut, Gives, Inits, Takes, 
 use Rattle.node_world.specs.NodeFilters.{notice_in}
 use Rattle.kept_laws.specs.Hosts.{AreHosts}
 use Rattle.node_telling.proofs.Orderly.{new_orderly, step_orderly}
-use Rattle.node_readings.proofs.NoticedWorlds.{event_up}
+use Rattle.node_readings.proofs.NoticedWorlds.{event_up, numbers}
 use Rattle.node_readings.proofs.Sites.{lost_quiet}
 use Rattle.notice_readings.specs.Notices.{IsKept, notice_at}
 use Rattle.notice_readings.proofs.Reading.{notice_more}
@@ -45,15 +45,9 @@ use Rattle.notice_readings.proofs.Far.{quiet_far}
 use Rattle.notice_readings.proofs.Sites.{AreGood, Reads, AreHushed, still_reads, far_hushed, good_map, good_with, far_shut, begins_reads, sending_own, beginning_own}
 use Rattle.notice_readings.proofs.Near.{comes_reads, ticks_reads, activates_reads}
 use Rattle.notice_readings.specs.Worlds.{ControllerReads, IfHostNode, IfReads, IsRead, IsRightNotice, MayBoot}
+use Rattle.kept_laws.proofs.Booting.{command_read}
 
 -- ## The tables of a memory
-
-command_read : (o : Option Command) (c : Command) → if_command o ≡ Some c → IsCommand c
-command_read None c e = absurd (cc e)
-command_read (Some d) c e = by_test (cases_Bool (is_command d)) where
-  by_test : (is_command d ≡ true) ⊎ (is_command d ≡ false) → IsCommand c
-  by_test (inl may) = let e2 : Some d ≡ Some c = sym (ap (λ b. cond b (Some d) None) may) ∙ e in let same : d ≡ c = cc in subst IsCommand same may
-  by_test (inr not) = let e2 : None ≡ Some c = sym (ap (λ b. cond b (Some d) None) not) ∙ e in absurd (cc e2)
 
 -- tables are sorted, and each pipe joins two hosts
 abbrev AreFine : HciTables → Type 0
@@ -317,10 +311,6 @@ event_read t w c a may =
     record { orderly = step_orderly w c a.orderly; up = event_up w c a.orderly a.up; sites = so.sites; controller = so.reads_so }
 
 -- ## The beginning
-
-numbers : (hosts : List ℕ) → AllByRecursion IsHost hosts → AllByRecursion (λ h. eqb h 0 ≡ false) hosts
-numbers [] a = tt
-numbers (h ∷ hosts) a = (ne_eqb h 0 (λ z. omega (arith, z, a.0.0)), numbers hosts a.1)
 
 new_good : (content : List ℕ) (hosts : List ℕ) → AllByRecursion IsHost hosts → AreGood (map (new_site content) hosts)
 new_good content [] a = tt

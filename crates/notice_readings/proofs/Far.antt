@@ -1,7 +1,7 @@
 -- What a host notes tells nothing of the notices of a controller.
 use Rattle.std.proofs.Common.{◌≡◌, ℕ, ◌&&◌, Bool, true, false, cond, eqb, List, [], ◌∷◌, ◌++◌, length, map, sym, refl, ap, ◌∙◌, subst}
-use Rattle.std.specs.Prelude.{Option, Some, None, option_to_list, nat_lt}
-use Rattle.std.specs.List.{AllByRecursion, flat_map, list_any}
+use Rattle.std.specs.Prelude.{Option, Some, None, option_to_list}
+use Rattle.std.specs.List.{AllByRecursion, flat_map}
 use Rattle.std.specs.Option.{option_map_or}
 use Rattle.trace_model.specs.declared.entry.Entry.{Entry}
 use Rattle.trace_model.specs.declared.entry.Entry.TheVariants as entry
@@ -14,7 +14,7 @@ use Rattle.hci_store.specs.Committing.{commit_writes}
 use Rattle.link_machine.specs.Machine.{Message, LinkInput, Refused, Turn, Report, give_refusal, report, whole_acked, after_input, is_held}
 use Rattle.link_machine.specs.Machine.LinkInput.{Reset}
 use Rattle.link_machine.specs.Machine.Turn.{Give, Hold, FetchMessage, SetAside, Release}
-use Rattle.link_entries.specs.Entries.{Entry as Noted, if_so, told, sent_unless}
+use Rattle.link_entries.specs.Entries.{Entry as Noted, told, sent_unless}
 use Rattle.link_entries.specs.Entries.End.{Host}
 use Rattle.link_entries.specs.Entries.Entry.{Up, Down, Active, GaveUp, Acked, Got, Sent, Emit, Took, Lost, Tick, Restarted, Cut}
 use Rattle.history.specs.Filters.{same_end, same_side}
@@ -29,9 +29,10 @@ use Rattle.node_machine.specs.Node.{NodeInput, input_at, told_at, all_come, with
 use Rattle.node_machine.specs.Node.NodeInput.{AtEnd, TimePasses}
 use Rattle.node_world.specs.World.{end_c}
 use Rattle.node_world.specs.NodeFilters.{is_response, is_notice}
-use Rattle.node_readings.proofs.Silent.{IsQuiet, quiet-append}
+use Rattle.node_readings.proofs.Silent.{IsQuiet, told_rest, rest_quiet}
 use Rattle.notice_readings.proofs.Reading.{reads}
 use Rattle.notice_readings.proofs.Own.{IsFar, IsOwn, AreOwn, host_own, forgotten_own, all_owed_own, all_synced_own}
+use Rattle.node_links.proofs.Noticing.{sessions_node}
 
 abbrev pub AreFar : List Entry → Type 0
 AreFar es = AllByRecursion IsFar es
@@ -109,31 +110,13 @@ quiet_far h (Tick ∷ notes) all = quiet_far h notes all.1
 quiet_far h (Restarted who ∷ notes) all = quiet_far h notes all.1
 quiet_far h (Cut who ∷ notes) all = quiet_far h notes all.1
 
-so_quiet : (b : Bool) (e : Noted) → IsQuiet e → AllByRecursion IsQuiet (if_so b e)
-so_quiet true e q = (q, tt)
-so_quiet false e q = tt
-
-got_quiet : (n : ℕ) (ms : List Message) → AllByRecursion IsQuiet (map (Got Host n) ms)
-got_quiet n [] = tt
-got_quiet n (m ∷ ms) = (tt, got_quiet n ms)
-
-tries_quiet : (o : Option ℕ) → AllByRecursion IsQuiet (map (GaveUp Host) (option_to_list o))
-tries_quiet None = tt
-tries_quiet (Some n) = (tt, tt)
-
 told_far : (h n acked : ℕ) (r : Report) → AreFar (entries_for h (told Host n r acked))
 told_far h n acked r = go r.ended where
   rest : List Noted
-  rest =
-      if_so r.began (Up Host n) ++ (if_so r.became_active (Active Host) ++ (map (GaveUp Host) (option_to_list r.gave_up)
-      ++ (if_so (nat_lt 0 r.acked) (Acked Host n acked) ++ map (Got Host n) r.got)))
+  rest = told_rest Host n acked r
 
   quiet : AllByRecursion IsQuiet rest
-  quiet =
-      quiet-append (if_so r.began (Up Host n)) _ (so_quiet r.began (Up Host n) tt)
-      (quiet-append (if_so r.became_active (Active Host)) _ (so_quiet r.became_active (Active Host) tt)
-      (quiet-append (map (GaveUp Host) (option_to_list r.gave_up)) _ (tries_quiet r.gave_up)
-      (quiet-append (if_so (nat_lt 0 r.acked) (Acked Host n acked)) _ (so_quiet (nat_lt 0 r.acked) (Acked Host n acked) tt) (got_quiet n r.got))))
+  quiet = rest_quiet Host n acked r
 
   go : (o : Option Cause) → AreFar (entries_for h (map (Down Host) (option_to_list o) ++ rest))
   go None = quiet_far h rest quiet
@@ -314,12 +297,6 @@ times_far TimePasses w a = record {
   number = a.number;
   far = far-append w.entries _ a.far (far_flat (told_late w.core) (λ p. late_far w.core p (host_side w a)) (map with_older w.ports));
 }
-
-sessions_node : (core : Core) (ports : List Port) → (after_sessions core ports).node ≡ core.node
-sessions_node core ports = go (list_any is_over ports) refl where
-  go : (b : Bool) → list_any is_over ports ≡ b → (after_sessions core ports).node ≡ core.node
-  go true q = rw q refl
-  go false q = rw q refl
 
 pub steps_far : (input : NodeInput) (w : Work) → IsHostWork w → IsHostWork (steps input w)
 steps_far input w a =

@@ -1,13 +1,13 @@
 -- What is read of the unanswered notice to a host.
 use Rattle.std.proofs.Common.{◌≡◌, ℕ, ◌&&◌, Bool, true, false, cond, eqb, List, [], ◌∷◌, ◌++◌, map, refl, ap, ◌∙◌, append_assoc, sym}
-use Rattle.std.specs.Prelude.{Option, Some, None, is_some, option_to_list, nat_lt}
+use Rattle.std.specs.Prelude.{Option, Some, None, is_some, option_to_list}
 use Rattle.std.specs.List.{AllByRecursion, fold}
 use Rattle.std.proofs.Math.Bool.{and-true}
 use Rattle.std.proofs.lemmas.List.Sums.{fold-append}
 use Rattle.trace_model.specs.declared.entry.Entry.{Entry}
 use Rattle.swp_base.specs.declared.link_terms.Cause.{Cause}
-use Rattle.link_machine.specs.Machine.{Message, LinkInput, Refused, Report, ended_by, report, whole_acked, after_input}
-use Rattle.link_entries.specs.Entries.{End as Side, Entry as Noted, if_so, sent_unless}
+use Rattle.link_machine.specs.Machine.{Message, LinkInput, Refused, ended_by, report, whole_acked, after_input}
+use Rattle.link_entries.specs.Entries.{End as Side, Entry as Noted, sent_unless}
 use Rattle.link_entries.specs.Entries.End.{Controller}
 use Rattle.link_entries.specs.Entries.Entry.{Up, Down, Active, GaveUp, Acked, Got, Sent, Emit, Took, Lost, Tick, Restarted, Cut}
 use Rattle.history.specs.Filters.{same_end}
@@ -17,7 +17,7 @@ use Rattle.node_machine.specs.Carrying.{own_side}
 use Rattle.node_machine.specs.Node.{told_at}
 use Rattle.node_world.specs.World.{end_c}
 use Rattle.node_world.specs.NodeFilters.{is_notice, awaited_after, notice_in}
-use Rattle.node_readings.proofs.Silent.{IsQuiet, quiet-append}
+use Rattle.node_readings.proofs.Silent.{IsQuiet, told_rest, rest_quiet}
 
 -- the end of this link is the one with that host
 pub same_near : (k x : ℕ) → same_end (end_of k Controller) (end_c x) ≡ eqb k x
@@ -58,41 +58,16 @@ module _ (x : ℕ) where
   quiet_reads k (Restarted who ∷ notes) c all = quiet_reads k notes c all.1
   quiet_reads k (Cut who ∷ notes) c all = quiet_reads k notes c all.1
 
-  so_quiet : (b : Bool) (e : Noted) → IsQuiet e → AllByRecursion IsQuiet (if_so b e)
-  so_quiet true e q = (q, tt)
-  so_quiet false e q = tt
-
-  got_quiet : (n : ℕ) (ms : List Message) → AllByRecursion IsQuiet (map (Got Controller n) ms)
-  got_quiet n [] = tt
-  got_quiet n (m ∷ ms) = (tt, got_quiet n ms)
-
-  tries_quiet : (o : Option ℕ) → AllByRecursion IsQuiet (map (GaveUp Controller) (option_to_list o))
-  tries_quiet None = tt
-  tries_quiet (Some n) = (tt, tt)
-
-  none_then : (k : ℕ) (c : Option (List ℕ)) → cond (same_end (end_of k Controller) (end_c x)) None c ≡ cond (eqb k x && true) None c
-  none_then k c = refl
-
   -- with the session of its link a notice is read no more
   pub told_reads : (core : Core) (p : Port) (i : LinkInput) (c : Option (List ℕ)) → own_side core ≡ Controller
       → reads (told_at core p (Some i)) c ≡ cond (eqb p.desk.host x && is_some (ended_by p.side i)) None c
   told_reads core p i c side = rw side (go (ended_by p.side i))
     where
-      r : Report
-      r = report p.side i
-
       rest : List Noted
-      rest =
-          if_so r.began (Up Controller p.session) ++ (if_so r.became_active (Active Controller) ++ (map (GaveUp Controller) (option_to_list r.gave_up)
-          ++ (if_so (nat_lt 0 r.acked) (Acked Controller p.session (whole_acked (after_input p.side i))) ++ map (Got Controller p.session) r.got)))
+      rest = told_rest Controller p.session (whole_acked (after_input p.side i)) (report p.side i)
 
       quiet : AllByRecursion IsQuiet rest
-      quiet =
-          quiet-append (if_so r.began (Up Controller p.session)) _ (so_quiet r.began (Up Controller p.session) tt)
-          (quiet-append (if_so r.became_active (Active Controller)) _ (so_quiet r.became_active (Active Controller) tt)
-          (quiet-append (map (GaveUp Controller) (option_to_list r.gave_up)) _ (tries_quiet r.gave_up)
-          (quiet-append (if_so _ (Acked Controller p.session (whole_acked (after_input p.side i)))) _ (so_quiet _ (Acked Controller p.session
-          (whole_acked (after_input p.side i))) tt) (got_quiet p.session r.got))))
+      quiet = rest_quiet Controller p.session (whole_acked (after_input p.side i)) (report p.side i)
 
       off : (b : Bool) → (b && false) ≡ false
       off true = refl

@@ -151,10 +151,6 @@ abbrev pub IsComeAt : Option (List ℕ) → Option Port → Type 0
 IsComeAt r None = r ≡ None
 IsComeAt r (Some q) = IsCome r q
 
-pub kept_none : (r : Option (List ℕ)) → IsKept r None → r ≡ None
-kept_none None k = refl
-kept_none (Some m) k = absurd k
-
 module _ (p : Port) (fresh : IsFresh p) (up : UpAt (Some p)) (shut : IsShut p.side) where
   pub come_is : (r : Option (List ℕ)) (o : Option LinkInput) → ((i : LinkInput) → o ≡ Some i → IsComing i) → IsKept r p.desk.notice
       → IsCome (option_map_or (λ i. cond (is_some (ended_by p.side i)) None r) o r) (has_come p o)

@@ -1,5 +1,5 @@
 -- A whole step of a controller: its unanswered notice to a host stays the one that is read.
-use Rattle.std.proofs.Common.{◌≡◌, ℕ, Bool, true, false, cond, eqb, List, [], ◌∷◌, ◌++◌, map, sym, refl, ap, ◌∙◌, subst}
+use Rattle.std.proofs.Common.{◌≡◌, ℕ, Bool, true, false, cond, List, [], ◌∷◌, ◌++◌, map, sym, refl, ap, ◌∙◌, subst}
 use Rattle.std.specs.Prelude.{Option, Some, None, is_some}
 use Rattle.std.specs.List.{AllByRecursion, flat_map, filter, filter_map, list_any}
 use Rattle.std.specs.Option.{option_map, option_map_or, option_and_then}
@@ -20,7 +20,7 @@ use Rattle.node_machine.specs.Turns.{passes}
 use Rattle.node_machine.specs.Node.{NodeInput, input_at, has_come, told_at, all_come, older_notice, with_older, is_late, reset_late, told_late, times_out, is_over, is_forgotten, forgets, forgotten, owed, all_owed, without_notice, after_sessions, synced, answers_and_passes, steps}
 use Rattle.node_machine.specs.Node.NodeInput.{AtEnd, TimePasses}
 use Rattle.node_links.specs.Notices.{IsComing, IsOutside}
-use Rattle.node_links.proofs.Noticing.{UpAt, at_all, at_host}
+use Rattle.node_links.proofs.Noticing.{UpAt, at_all, at_host, sessions_node, outside as from_outside}
 use Rattle.node_telling.proofs.Steps.{without_host, forgets_host, come_host}
 use Rattle.node_telling.proofs.Ticks.{reset_host}
 use Rattle.kept_laws.specs.Hosts.{AreDifferent}
@@ -29,8 +29,8 @@ use Rattle.notice_readings.specs.Notices.{IsKept}
 use Rattle.notice_readings.proofs.Reading.{reads, read_more}
 use Rattle.notice_readings.proofs.Telling.{AreRight, at_port}
 use Rattle.notice_readings.proofs.Doing.{AreHostEnds, all_map, controller_side, IsOn, Stands, then, turns, all_stand, read_in}
-use Rattle.notice_readings.proofs.Turning.{passes_stand}
-use Rattle.notice_readings.proofs.Stepping.{AreCalm, calm-append, calm_flat, calm_all, calm_may, owed_calm, synced_calm, flat_reads, told_elsewhere, told_here, late_elsewhere, IsCome, IsComeAt, kept_none, come_is, older_is, late_is, forgets_is, without_is}
+use Rattle.notice_readings.proofs.Turning.{passes_stand, kept_none}
+use Rattle.notice_readings.proofs.Stepping.{AreCalm, calm-append, calm_flat, calm_all, calm_may, owed_calm, synced_calm, flat_reads, told_elsewhere, told_here, late_elsewhere, IsCome, IsComeAt, come_is, older_is, late_is, forgets_is, without_is}
 use Rattle.notice_readings.specs.Worlds.{IsRightNotice, IsShut}
 
 -- the hosts of ends that keep theirs
@@ -39,17 +39,6 @@ hosts_map : (f : Port → Port) → ((p : Port) → (f p).desk.host ≡ p.desk.h
 hosts_map f host [] = refl
 hosts_map f host (p ∷ ports) =
     ap (λ h. h ∷ map (λ (q : Port). q.desk.host) (map f ports)) (host p) ∙ ap (λ l. p.desk.host ∷ l) (hosts_map f host ports)
-
--- this comes from outside
-coming : (input : NodeInput) → IsOutside input → (p : Port) (i : LinkInput) → input_at input p ≡ Some i → IsComing i
-coming (AtEnd k j) out p i q = go (eqb p.desk.host k) refl where
-  go : (c : Bool) → eqb p.desk.host k ≡ c → IsComing i
-  go true z =
-      let same : Some j ≡ Some i = rw z at q in
-      let is : j ≡ i = cc in
-      subst IsComing is out
-  go false z = let none : None ≡ Some i = rw z at q in cc
-coming TimePasses out p i q = let is : Tick ≡ i = cc in subst IsComing is tt
 
 come_right : (p : Port) (o : Option LinkInput) → IsRightNotice p.desk.notice → IsRightNotice (has_come p o).desk.notice
 come_right p None a = a
@@ -87,13 +76,7 @@ without_right p a = go (is_over p) refl where
   go true e = rw e tt
   go false e = rw e a
 
--- with sessions a controller forgets neither its number nor its tables
-sessions_node : (core : Core) (ports : List Port) → (after_sessions core ports).node ≡ core.node
-sessions_node core ports = go (list_any is_over ports) refl where
-  go : (b : Bool) → list_any is_over ports ≡ b → (after_sessions core ports).node ≡ core.node
-  go true q = rw q refl
-  go false q = rw q refl
-
+-- with sessions a controller doesn't forget its tables
 sessions_tables : (core : Core) (ports : List Port) → (after_sessions core ports).tables ≡ core.tables
 sessions_tables core ports = go (list_any is_over ports) refl where
   go : (b : Bool) → list_any is_over ports ≡ b → (after_sessions core ports).tables ≡ core.tables
@@ -207,11 +190,11 @@ module _ (x : ℕ) (before : List Entry) (w : Work) (a : IsOn x before w) where
         go : (o : Option Port) → port_at w.ports x ≡ o → IsKept (read_in x before w) (option_and_then (λ (p : Port). p.desk.notice) o) → UpAt o
             → IsComeAt (option_map_or (λ (p : Port). reads x (told_at w.core p (input_at input p)) (read_in x before w)) o (read_in x before w))
             (option_map come o)
-        go None e kept up = kept_none (read_in x before w) kept
+        go None e kept up = kept_none (read_in x before w) None refl kept
         go (Some p) e kept up =
             subst (λ r. IsCome r (come p)) (sym (told_is p (input_at input p) (at_host w.ports x p e)))
             (come_is p (at_port IsFresh w.ports x p fresh e) up (at_port (λ (q : Port). IsShut q.side) w.ports x p shut e) (read_in x before w)
-            (input_at input p) (λ i q. coming input outside p i q) kept)
+            (input_at input p) (λ i q. from_outside input outside p i q) kept)
 
     come_hosts : AreHostEnds (map come w.ports)
     come_hosts =

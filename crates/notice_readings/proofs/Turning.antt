@@ -29,18 +29,10 @@ use Rattle.notice_readings.proofs.Telling.{noticed, IsShort, MayTell, answers, O
 use Rattle.notice_readings.proofs.Telling.Outcome.{Leaves, IsHeard}
 use Rattle.notice_readings.proofs.Doing.{AreHostEnds, Takes, all_map, controller_side, Holds, IsOn, Stands, then, notes, hushed, turns, desks, all_stand, read_in}
 use Rattle.notice_readings.specs.Worlds.{IsRightNotice}
+use Rattle.node_readings.proofs.Turning.{lack_parts}
+use Rattle.node_telling.proofs.Accounts.{changed_host}
 
 -- ## Room
-
-lack_parts : (ports : List Port) (k n : ℕ) (later : List (ℕ × ℕ)) → lack ports ((k, n) ∷ later) ≡ None
-    → (nat_lt (option_map_or (λ (p : Port). spare p.side) (port_at ports k) 0) n ≡ false) × (lack ports later ≡ None)
-lack_parts ports k n later none = go (nat_lt (option_map_or (λ (p : Port). spare p.side) (port_at ports k) 0) n) refl none where
-  there : ℕ
-  there = option_map_or (λ (p : Port). spare p.side) (port_at ports k) 0
-
-  go : (b : Bool) → nat_lt there n ≡ b → cond b (Some (n, there)) (lack ports later) ≡ None → (nat_lt there n ≡ false) × (lack ports later ≡ None)
-  go true e z = absurd (cc z)
-  go false e z = (e, z)
 
 -- there is room for a notice at the end of the link with this host, which is up
 pub record HasRoom (ports : List Port) (k : ℕ) (message : List ℕ) : Type 0 where
@@ -97,10 +89,6 @@ changed_takes : (b : Bool) (g : Port → Port) (p : Port) (m : List ℕ) → ((q
 changed_takes true g p m same = same p
 changed_takes false g p m same = refl
 
-changed_host : (b : Bool) (g : Port → Port) (p : Port) → ((q : Port) → (g q).desk.host ≡ q.desk.host) → (changed_if b g p).desk.host ≡ p.desk.host
-changed_host true g p same = same p
-changed_host false g p same = refl
-
 -- an end takes what it took before it was changed so
 takes_with : (k x : ℕ) (g : Port → Port) (ports : List Port) (m : List ℕ) → ((q : Port) → (g q).desk.host ≡ q.desk.host)
     → ((q : Port) → give_refusal (g q).side (1, m) ≡ give_refusal q.side (1, m)) → Takes (port_at ports x) m → Takes (port_at (with_port k g ports) x) m
@@ -112,7 +100,7 @@ takes_with k x g ports m host same takes =
     go None t = tt
     go (Some p) t = changed_takes (eqb p.desk.host k) g p m same ∙ t
 
-kept_none : (r : Option (List ℕ)) (n : Option Notice) → n ≡ None → IsKept r n → r ≡ None
+pub kept_none : (r : Option (List ℕ)) (n : Option Notice) → n ≡ None → IsKept r n → r ≡ None
 kept_none None n e k = refl
 kept_none (Some m) None e k = absurd k
 kept_none (Some m) (Some n) e k = absurd (cc e)
