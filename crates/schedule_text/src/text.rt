@@ -103,23 +103,18 @@ impl Text {
         }
     }
 
-    /// The vector with all that was appended, and whether memory has run out before.
+    /// Appends what waits to the vector, behind which nothing more comes.
     #[inline(always)]
-    pub(crate) fn finish(self) -> (Vec<u8>, bool)
-        ensures all { result.1 ≡ false → (start text : List ℕ) → Holds start text self → result.0.items ≡ start ++ text }
-        ensures front { result.1 ≡ true → (start text : List ℕ) → Holds start text self → IsFront start text result.0.items }
+    pub(crate) fn finish(&mut self)
+        ensures all { self.new.short ≡ false → (start text : List ℕ) → Holds start text self.old → self.new.bytes.items ≡ start ++ text }
+        ensures front { self.new.short ≡ true → (start text : List ℕ) → Holds start text self.old → IsFront start text self.new.bytes.items }
     {
-        let Text {
-            mut bytes,
-            waiting,
-            short,
-        } = self;
-        if short {
-            return (bytes, true);
+        if self.short {
+            return;
         }
-        match bytes.extend_from_slice(waiting.as_slice()) {
-            Ok(()) => (bytes, false),
-            Err(_) => (bytes, true),
+        match self.bytes.extend_from_slice(self.waiting.as_slice()) {
+            Ok(()) => {}
+            Err(_) => self.short = true,
         }
     }
 

@@ -33,7 +33,8 @@ pub fn write_entry(alloc: Global, entry: &Entry, out: &mut Vec<u8>) -> Result<()
     write_words(&mut text, entry);
     text.push(b"\n");
     text.lines(behind.as_slice());
-    let (bytes, short) = text.finish();
+    text.finish();
+    let Text { bytes, short, .. } = text;
     *out = bytes;
     if short { Err(NoMemory) } else { Ok(()) }
 }

@@ -10,7 +10,7 @@ returns-then-short-clause-err c =
     let text = spaced (entry_words c.args.entry.now) in
     let behind : c.as_slice.result.now ≡ lines_behind c.args.entry.now = cc (c.in_ok-behind.ensures) in
     let empty = holds_nothing start _ (let is = c.replace.ensures.value in cc) c.new-2.ensures (cc) in
-    c.finish-bytes.ensures.front c.if-short.true start _
+    c.finish.ensures.front c.if-short.true start _
     (holds_line start text c.as_slice.result.now (lines_behind c.args.entry.now) _ behind
     (c.lines.ensures start (text ++ (10 ∷ [])) (c.push.ensures start text (c.write_words.ensures start empty))))
 
@@ -20,6 +20,6 @@ returns-clause-ok c =
     let text = spaced (entry_words c.args.entry.now) in
     let behind : c.as_slice.result.now ≡ lines_behind c.args.entry.now = cc (c.in_ok-behind.ensures) in
     let empty = holds_nothing start _ (let is = c.replace.ensures.value in cc) c.new-2.ensures (cc) in
-    c.finish-bytes.ensures.all c.if-short.false start _
+    c.finish.ensures.all c.if-short.false start _
     (holds_line start text c.as_slice.result.now (lines_behind c.args.entry.now) _ behind
     (c.lines.ensures start (text ++ (10 ∷ [])) (c.push.ensures start text (c.write_words.ensures start empty))))
