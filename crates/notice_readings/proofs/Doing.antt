@@ -1,5 +1,5 @@
 -- A controller does the deeds of a message: its unanswered notice to a host stays the one that is read.
-use Rattle.std.proofs.Common.{◌≡◌, ◌⊎◌, inl, inr, ℕ, ◌&&◌, Bool, true, false, eqb, List, [], ◌∷◌, ◌++◌, length, map, sym, refl, ap, ◌∙◌, subst}
+use Rattle.std.proofs.Common.{append_assoc, ◌≡◌, ◌⊎◌, inl, inr, ℕ, ◌&&◌, Bool, true, false, eqb, List, [], ◌∷◌, ◌++◌, length, map, sym, refl, ap, ◌∙◌, subst}
 use Rattle.std.specs.Prelude.{Option, Some, None, is_some}
 use Rattle.std.specs.List.{AllByRecursion}
 use Rattle.std.specs.Option.{option_map, option_map_or, option_and_then}
@@ -84,10 +84,11 @@ module _ (x : ℕ) (before : List Entry) where
     pub up : UpAt (port_at w.ports x)
     pub kept : K (read_in w) (noticed w.ports x)
 
-  -- its power is cut, and nothing is read
+  -- its power is cut, which was noted last
   pub record IsOff (w : Work) : Type 0 where
     pub off : w.cut ≡ true
-    pub none : read_in w ≡ None
+    pub front : List Entry
+    pub ends : before ++ w.entries ≡ front ++ entry.Cut 0 ∷ []
 
   abbrev pub IsOn : Work → Type 0
   IsOn w = Holds IsKept w
@@ -343,8 +344,9 @@ module _ (x : ℕ) (before : List Entry) where
     by_plan : (fails_within (length writes) w.plan ≡ true) ⊎ (fails_within (length writes) w.plan ≡ false) → Stands (commit c w)
     by_plan (inl e) = subst Stands (sym (lost_is e)) (inr record {
       off = refl;
-      none = read_more x before noted.entries (entry.Cut w.core.node ∷ []) (read_in noted) None refl
-          (cond-true (eqb w.core.node 0) None (read_in noted) (eq-eqb w.core.node 0 a.node));
+      front = before ++ noted.entries;
+      ends = sym (append_assoc before noted.entries (entry.Cut w.core.node ∷ []))
+          ∙ ap (λ n. (before ++ noted.entries) ++ entry.Cut n ∷ []) a.node;
     })
     by_plan (inr e) =
         subst Stands (sym (kept_is e)) (inl (beside noted (keeps c writes noted) refl refl (AreTables-apply w.core.tables c may a.sorted)

@@ -41,7 +41,7 @@ use Rattle.node_readings.proofs.Sites.{lost_quiet}
 use Rattle.notice_readings.specs.Notices.{IsKept, notice_at}
 use Rattle.notice_readings.proofs.Reading.{notice_more}
 use Rattle.notice_readings.proofs.Shut.{here_shut}
-use Rattle.notice_readings.proofs.Far.{quiet_far}
+use Rattle.notice_readings.proofs.Far.{quiet_far, asking_more}
 use Rattle.notice_readings.proofs.Sites.{AreGood, Reads, AreHushed, still_reads, far_hushed, good_map, good_with, far_shut, begins_reads, sending_own, beginning_own}
 use Rattle.notice_readings.proofs.Near.{comes_reads, ticks_reads, activates_reads}
 use Rattle.notice_readings.specs.Worlds.{ControllerReads, IfHostNode, IfReads, IsRead, IsRightNotice, MayBoot}
@@ -84,7 +84,7 @@ found_reads t hosts content none = record {
   sorted = (fine_found content).0;
   two = (fine_found content).1;
   right = none_right hosts;
-  kept = λ x. subst (λ m. IsKept m (notice_at (map new_desk hosts) x)) (sym (none x)) (subst (IsKept None) (sym (none_noticed hosts x)) tt);
+  kept = λ x. subst (λ m. IsKept m (notice_at (map new_desk hosts) x)) (sym (none x).0) (subst (IsKept None) (sym (none_noticed hosts x)) tt);
 }
 
 module _ (t : List Entry) (w : NodeWorld) (a : Reads t w) where
@@ -111,7 +111,7 @@ module _ (t : List Entry) (w : NodeWorld) (a : Reads t w) where
   near_cut = record {
     sites = good_map (λ (s : Site). record s { link = happens s.link (AtController (Step NoInput [] CutOff)) })
         (λ s b. record { host = b.host; node = b.node; shut = here_shut s.link (Step NoInput [] CutOff) b.shut }) w.sites a.sites;
-    reads_so = λ x. notice_more x t (entry.Cut 0 ∷ []);
+    reads_so = λ x. (notice_more x t (entry.Cut 0 ∷ []), asking_more x t (entry.Cut 0 ∷ []));
   }
 
   cut_hushed : (n : ℕ) → eqb n 0 ≡ false → AreHushed (entry.Cut n ∷ [])
@@ -138,7 +138,7 @@ module _ (t : List Entry) (w : NodeWorld) (a : Reads t w) where
     by_number (inr e) = subst (Reads (t ++ entry.Cut n ∷ [])) (sym (far_is e)) (far_cut n e)
 
 booted_hushed : (n k : ℕ) → AreHushed (entry.Booted n k ∷ [])
-booted_hushed n k x r = refl
+booted_hushed n k x r = (refl, refl)
 
 -- a node that doesn't run boots
 runs_reads : (t : List Entry) (w : NodeWorld) (n k : ℕ) (hosts content : List ℕ) → Reads t w → (eqb n 0 ≡ true → w.controller ≡ None)
@@ -321,5 +321,5 @@ begins_read hosts are = record {
   orderly = new_orderly hosts are.different (numbers hosts are.all);
   up = tt;
   sites = new_good (replicate 65536 255) hosts are.all;
-  controller = λ x. refl;
+  controller = λ x. (refl, refl);
 }

@@ -1,7 +1,8 @@
 -- What a host notes tells nothing of the notices of a controller.
 use Rattle.std.proofs.Common.{◌≡◌, ℕ, ◌&&◌, Bool, true, false, cond, eqb, List, [], ◌∷◌, ◌++◌, length, map, sym, refl, ap, ◌∙◌, subst}
 use Rattle.std.specs.Prelude.{Option, Some, None, option_to_list}
-use Rattle.std.specs.List.{AllByRecursion, flat_map}
+use Rattle.std.specs.List.{AllByRecursion, flat_map, fold}
+use Rattle.std.proofs.lemmas.List.Sums.{fold-append}
 use Rattle.std.specs.Option.{option_map_or}
 use Rattle.trace_model.specs.declared.entry.Entry.{Entry}
 use Rattle.trace_model.specs.declared.entry.Entry.TheVariants as entry
@@ -28,7 +29,7 @@ use Rattle.node_machine.specs.Turns.{deeds_of, handles, holds_back, lets_go, hav
 use Rattle.node_machine.specs.Node.{NodeInput, input_at, told_at, all_come, with_older, is_late, told_late, times_out, is_over, forgotten, forgets, all_owed, after_sessions, synced, steps}
 use Rattle.node_machine.specs.Node.NodeInput.{AtEnd, TimePasses}
 use Rattle.node_world.specs.World.{end_c}
-use Rattle.node_world.specs.NodeFilters.{is_response, is_notice}
+use Rattle.node_world.specs.NodeFilters.{is_response, is_notice, asking_after, asking_in}
 use Rattle.node_readings.proofs.Silent.{IsQuiet, told_rest, rest_quiet}
 use Rattle.notice_readings.proofs.Reading.{reads}
 use Rattle.notice_readings.proofs.Own.{IsFar, IsOwn, AreOwn, host_own, forgotten_own, all_owed_own, all_synced_own}
@@ -91,6 +92,45 @@ module _ (x : ℕ) where
   pub far_reads : (es : List Entry) → AreFar es → (r : Option (List ℕ)) → reads x es r ≡ r
   far_reads [] a r = refl
   far_reads (e ∷ es) a r = ap (reads x es) (one_far e a.0 r) ∙ far_reads es a.1 r
+
+  -- ## Creations
+
+  abbrev pub asks : List Entry → Option (List ℕ) → Option (List ℕ)
+  asks es r = fold (asking_after x) r es
+
+  pub asking_more : (t es : List Entry) → asking_in (t ++ es) x ≡ asks es (asking_in t x)
+  asking_more t es = fold-append (asking_after x) None t es
+
+  one_asks : (e : Entry) → IsFar e → (r : Option (List ℕ)) → asks (e ∷ []) r ≡ r
+  one_asks (entry.Head header) a r = refl
+  one_asks (entry.Echo line) a r = refl
+  one_asks (entry.Up e n) a r = refl
+  one_asks (entry.Down e cause) a r = off_one (same_end e (end_c x)) None r (not_near e x a)
+  one_asks (entry.Active e) a r = refl
+  one_asks (entry.GaveUp e tries) a r = refl
+  one_asks (entry.Sent e n pid message) a r = off_all (same_end e (end_c x)) (eqb pid 1) (is_response message) None r (not_near e x a)
+  one_asks (entry.Got e n pid message) a r = refl
+  one_asks (entry.Acked e n count) a r = refl
+  one_asks (entry.Emit e lpdu) a r = refl
+  one_asks (entry.Took e lpdu) a r = refl
+  one_asks (entry.Lost e lpdu cause) a r = refl
+  one_asks (entry.Turn e pid message) a r = refl
+  one_asks (entry.Held e need spare) a r = refl
+  one_asks (entry.Ask h message) a r = absurd a
+  one_asks (entry.Dropped e pid) a r = refl
+  one_asks (entry.Command n c) a r = refl
+  one_asks (entry.AnyOk n k) a r = refl
+  one_asks (entry.InitSame e) a r = refl
+  one_asks (entry.InitMade e count) a r = refl
+  one_asks (entry.InitFailed e code) a r = refl
+  one_asks (entry.Cut n) a r = off_one (eqb n 0) None r a
+  one_asks (entry.Booted n k) a r = refl
+  one_asks (entry.Tables n tables) a r = refl
+  one_asks (entry.No cause) a r = refl
+
+  pub far_asks : (es : List Entry) → AreFar es → (r : Option (List ℕ)) → asks es r ≡ r
+  far_asks [] a r = refl
+  far_asks (e ∷ es) a r = ap (asks es) (one_asks e a.0 r) ∙ far_asks es a.1 r
 
 -- ## Notes
 

@@ -7,6 +7,7 @@ use Rattle.std.proofs.lemmas.Bool.{cases_Bool, cond_both, true≢false}
 use Rattle.swp_base.specs.InMemory.{Plan}
 use Rattle.trace_model.specs.Lines.{IsHost}
 use Rattle.trace_model.specs.declared.entry.Entry.{Entry}
+use Rattle.trace_model.specs.declared.entry.Entry.TheVariants as entry
 use Rattle.trace_model.specs.declared.line.End.{End}
 use Rattle.journal_laws.specs.Planned.{after_planned}
 use Rattle.session_laws.specs.Sessions.{OnWire, is_up}
@@ -26,7 +27,7 @@ use Rattle.node_machine.specs.Carrying.{port_at}
 use Rattle.node_machine.specs.Node.{NodeInput, steps}
 use Rattle.node_machine.specs.Node.NodeInput.{AtEnd, TimePasses}
 use Rattle.node_world.specs.World.{NodeWorld, Site, link_to, ending_of, runs_on, turns_at, input_of, half_in, arrival, wires_for, port_for, work_of, frames_noted, comes_to, controller_work, link_after_controller, after_controller, controller_does, all_aged, is_late_at, ticked_so, controller_ticks, hosts_tick, world_ticks, comes_at, activates, end_c, end_h}
-use Rattle.node_world.specs.NodeFilters.{notice_in}
+use Rattle.node_world.specs.NodeFilters.{notice_in, asking_in}
 use Rattle.node_links.specs.Notices.{IsOutside, IsNoticedUp, OnFirst}
 use Rattle.node_links.proofs.Noticing.{UpAt}
 use Rattle.kept_laws.specs.Hosts.{AreDifferent}
@@ -41,7 +42,7 @@ use Rattle.notice_readings.proofs.Telling.{AreRight, noticed}
 use Rattle.notice_readings.proofs.Doing.{AreHostEnds, IsOn, Stands}
 use Rattle.notice_readings.proofs.Shut.{here_shut, ticks_shut}
 use Rattle.notice_readings.proofs.Steps.{steps_stand}
-use Rattle.notice_readings.proofs.Far.{AreFar, far-append, far_flat, far_reads, quiet_far}
+use Rattle.notice_readings.proofs.Far.{AreFar, far-append, far_flat, far_reads, far_asks, asking_more, quiet_far}
 use Rattle.notice_readings.proofs.Sites.{AreGood, Reads, still_reads, far_hushed, good_map, link_shut, frames_quiet, arrival_quiet, nothing, far_reads_so, all_tick}
 use Rattle.notice_readings.specs.Worlds.{ControllerReads, IfReads, IsRightNotice, IsShut}
 
@@ -153,9 +154,18 @@ module _ (t : List Entry) (w : NodeWorld) (r : Running) (has : HasEnds 0 (hosts_
     on_is : after_it.cut ≡ false → runs_on after_it ≡ Some (record { core = after_it.core; desks = map (λ (p : Port). p.desk) after_it.ports })
     on_is e = rw e refl
 
-    none : after_it.cut ≡ true → (x : ℕ) → Stands x t after_it → notice_in (t ++ after_it.entries) x ≡ None
+    parts_asking : (x : ℕ) → asking_in (t ++ (after_it.entries ++ frames)) x ≡ asking_in (t ++ after_it.entries) x
+    parts_asking x =
+        ap (λ l. asking_in l x) (sym (append_assoc t after_it.entries frames))
+        ∙ (asking_more x (t ++ after_it.entries) frames ∙ far_asks x frames far (asking_in (t ++ after_it.entries) x))
+
+    none : after_it.cut ≡ true → (x : ℕ) → Stands x t after_it
+        → (notice_in (t ++ after_it.entries) x ≡ None) × (asking_in (t ++ after_it.entries) x ≡ None)
     none e x (inl a) = absurd (true≢false (sym e ∙ a.on))
-    none e x (inr a) = a.none
+    none e x (inr a) = (
+      ap (λ l. notice_in l x) a.ends ∙ notice_more x a.front (entry.Cut 0 ∷ []),
+      ap (λ l. asking_in l x) a.ends ∙ asking_more x a.front (entry.Cut 0 ∷ []),
+    )
 
     on : after_it.cut ≡ false → (x : ℕ) → Stands x t after_it → IsOn x t after_it
     on e x (inl a) = a
@@ -163,7 +173,7 @@ module _ (t : List Entry) (w : NodeWorld) (r : Running) (has : HasEnds 0 (hosts_
 
     go : (after_it.cut ≡ true) ⊎ (after_it.cut ≡ false) → IfReads (t ++ (after_it.entries ++ frames)) (runs_on after_it)
     go (inl e) =
-        subst (IfReads (t ++ (after_it.entries ++ frames))) (sym (off_is e)) (λ x. parts x ∙ none e x (stands x))
+        subst (IfReads (t ++ (after_it.entries ++ frames))) (sym (off_is e)) (λ x. let gone = none e x (stands x) in (parts x ∙ gone.0, parts_asking x ∙ gone.1))
     go (inr e) = subst (IfReads (t ++ (after_it.entries ++ frames))) (sym (on_is e)) (record {
       sorted = (on e 0 (stands 0)).sorted;
       two = (on e 0 (stands 0)).two;

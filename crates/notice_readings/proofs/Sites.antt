@@ -25,13 +25,13 @@ use Rattle.node_machine.specs.Carrying.{changed_if, port_at}
 use Rattle.node_machine.specs.Node.{steps, begins_with}
 use Rattle.node_machine.specs.Node.NodeInput.{AtEnd, TimePasses}
 use Rattle.node_world.specs.World.{NodeWorld, Site, site_at, with_site, link_to, ending_of, runs_on, turns_at, input_of, half_in, arrival, wires_for, work_of, frames_noted, host_work, after_host, host_does, host_ticks, hosts_tick, comes_at, sending, beginning}
-use Rattle.node_world.specs.NodeFilters.{notice_in}
+use Rattle.node_world.specs.NodeFilters.{notice_in, asking_in}
 use Rattle.node_links.proofs.Ends.{here_host, tick_host}
 use Rattle.node_readings.proofs.Sites.{ending_quiet}
 use Rattle.notice_readings.specs.Notices.{IsKept, notice_at}
 use Rattle.notice_readings.proofs.Reading.{reads, notice_more}
 use Rattle.notice_readings.proofs.Own.{AreOwn}
-use Rattle.notice_readings.proofs.Far.{AreFar, far-append, far_reads, quiet_far, IsHostWork, all_do, steps_far}
+use Rattle.notice_readings.proofs.Far.{AreFar, far-append, far_reads, far_asks, asks, asking_more, quiet_far, IsHostWork, all_do, steps_far}
 use Rattle.notice_readings.specs.Worlds.{IfHostNode, IfReads, IsGood, IsShut}
 
 abbrev pub AreGood : List Site → Type 0
@@ -41,15 +41,18 @@ pub record Reads (t : List Entry) (w : NodeWorld) : Type 0 where
   pub sites : AreGood w.sites
   pub reads_so : IfReads t w.controller
 
--- entries tell nothing of any notice
+-- entries tell nothing of any notice, nor of any creation
 abbrev pub AreHushed : List Entry → Type 0
-AreHushed es = (x : ℕ) (r : Option (List ℕ)) → reads x es r ≡ r
+AreHushed es = (x : ℕ) (r : Option (List ℕ)) → (reads x es r ≡ r) × (asks x es r ≡ r)
 
 same_in : (t es : List Entry) (x : ℕ) → AreHushed es → notice_in (t ++ es) x ≡ notice_in t x
-same_in t es x hushed = notice_more x t es ∙ hushed x (notice_in t x)
+same_in t es x hushed = notice_more x t es ∙ (hushed x (notice_in t x)).0
+
+same_asking : (t es : List Entry) (x : ℕ) → AreHushed es → asking_in (t ++ es) x ≡ asking_in t x
+same_asking t es x hushed = asking_more x t es ∙ (hushed x (asking_in t x)).1
 
 pub still_reads : (t es : List Entry) (o : Option Running) → AreHushed es → IfReads t o → IfReads (t ++ es) o
-still_reads t es None hushed a = λ x. same_in t es x hushed ∙ a x
+still_reads t es None hushed a = λ x. (same_in t es x hushed ∙ (a x).0, same_asking t es x hushed ∙ (a x).1)
 still_reads t es (Some r) hushed a = record {
   sorted = a.sorted;
   two = a.two;
@@ -58,7 +61,7 @@ still_reads t es (Some r) hushed a = record {
 }
 
 pub far_hushed : (es : List Entry) → AreFar es → AreHushed es
-far_hushed es far x r = far_reads x es far r
+far_hushed es far x r = (far_reads x es far r, far_asks x es far r)
 
 -- ## Sites
 

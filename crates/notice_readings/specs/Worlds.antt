@@ -12,7 +12,7 @@ use Rattle.node_machine.specs.Parts.{Creation, About, Notice, Desk, Running}
 use Rattle.node_machine.specs.Parts.About.{Waits, Forgotten, Removed}
 use Rattle.node_world.specs.World.{NodeWorld, Site, Happening, node_at}
 use Rattle.node_world.specs.World.Happening.{Boots}
-use Rattle.node_world.specs.NodeFilters.{is_notice, notice_in}
+use Rattle.node_world.specs.NodeFilters.{is_notice, notice_in, asking_in}
 use Rattle.node_telling.specs.Telling.{IsOrderly}
 use Rattle.node_readings.specs.Noticed.{NoticesAreUp}
 use Rattle.notice_readings.specs.Notices.{IsKept, notice_at}
@@ -37,9 +37,9 @@ pub record ControllerReads (t : List Entry) (r : Running) : Type 0 where
   pub right : AllByRecursion (λ (d : Desk). IsRightNotice d.notice) r.desks
   pub kept : (h : ℕ) → IsKept (notice_in t h) (notice_at r.desks h)
 
--- none is read while it doesn't run
+-- none is read while it doesn't run, nor that a creation waits
 abbrev pub IfReads : List Entry → Option Running → Type 0
-IfReads t None = (h : ℕ) → notice_in t h ≡ None
+IfReads t None = (h : ℕ) → (notice_in t h ≡ None) × (asking_in t h ≡ None)
 IfReads t (Some r) = ControllerReads t r
 
 -- an end that isn't active is Down

@@ -1,15 +1,17 @@
-//! The unanswered notices of a controller are those that are read off the entries of its world. Nothing here runs.
+//! The unanswered notices of a controller are those that are read off the entries of its world, and nothing is read of a creation
+//! that waits while it doesn't run. Nothing here runs.
 #![tactic(auto)]
 
 ghost use Rattle.trace_model.specs.declared.line.Header.{Header};
 ghost use Rattle.trace_model.specs.declared.line.Line.{Line};
-ghost use Rattle.std.specs.Prelude.{◌≡◌, ◌++◌, ℕ, List, [], Option, is_some};
+ghost use Rattle.std.specs.Prelude.{◌≡◌, ◌++◌, ℕ, List, [], Option, None, is_some};
 ghost use Rattle.trace_model.specs.declared.entry.Entry.{Entry};
 ghost use Rattle.std.specs.List.{AllByRecursion};
 ghost use Rattle.link_machine.specs.Machine.{Message};
 ghost use Rattle.node_machine.specs.Parts.{Core, Port};
 ghost use Rattle.node_machine.specs.Controller.{controller_deeds, is_asked_at};
 ghost use Rattle.node_world.specs.World.{NodeWorld, Happening, new_world, world_step};
+ghost use Rattle.node_world.specs.NodeFilters.{asking_in};
 ghost use Rattle.node_world.specs.NodeHistories.{NodeHistory, FollowsNodes, node_entries, world_after};
 ghost use Rattle.kept_laws.specs.Hosts.{AreHosts};
 ghost use Rattle.notice_readings.specs.Notices.{GoesToFree, IsKept, NoticesAreRead, is_of_creation};
@@ -45,4 +47,12 @@ pub fn noticed_and_asked_hosts_are_read()
 pub fn unanswered_notices_are_read_off_histories()
     ensures { (header : Header) (lines : List Line) (t : NodeHistory) → FollowsNodes header lines t → AreHosts header.hosts.items →
         NoticesAreRead (node_entries t) (world_after (new_world header.hosts.items) lines) }
+{}
+
+/// Nothing is read of a creation that waits while the controller doesn't run: at each moment, and behind any lines of a schedule with
+/// hosts from 01 to 07 that are all different.
+pub fn no_creation_is_read_while_the_controller_is_off()
+    ensures moment { (t : List Entry) (w : NodeWorld) → IsRead t w → w.controller ≡ None → (h : ℕ) → asking_in t h ≡ None }
+    ensures histories { (header : Header) (lines : List Line) (t : NodeHistory) → FollowsNodes header lines t → AreHosts header.hosts.items →
+        (world_after (new_world header.hosts.items) lines).controller ≡ None → (h : ℕ) → asking_in (node_entries t) h ≡ None }
 {}
