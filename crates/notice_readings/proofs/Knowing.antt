@@ -1,5 +1,5 @@
 -- What a controller knows of hosts by its notices is what is read.
-use Rattle.std.proofs.Common.{◌≡◌, ◌⊎◌, inl, inr, ℕ, Bool, true, false, eqb, List, ◌∷◌, refl, ap, sym, ◌∙◌, subst}
+use Rattle.std.proofs.Common.{◌≡◌, inl, inr, ℕ, Bool, true, false, eqb, List, refl, ap, sym, ◌∙◌}
 use Rattle.std.specs.Prelude.{Option, Some, None, is_some}
 use Rattle.gate_answers.specs.Answers.{instruction_in}
 use Rattle.node_machine.specs.Parts.{About, Notice, Port}

@@ -14,3 +14,4 @@ pub mod Events
 pub mod Lines
 pub mod Freeing
 pub mod Knowing
+pub mod Sparing

@@ -7,11 +7,14 @@ ghost use Rattle.trace_model.specs.declared.line.Line.{Line};
 ghost use Rattle.std.specs.Prelude.{◌≡◌, ◌++◌, ℕ, List, [], Option, None, is_some};
 ghost use Rattle.trace_model.specs.declared.entry.Entry.{Entry};
 ghost use Rattle.std.specs.List.{AllByRecursion};
-ghost use Rattle.link_machine.specs.Machine.{Message};
+ghost use Rattle.link_machine.specs.Machine.{Message, spare};
 ghost use Rattle.node_machine.specs.Parts.{Core, Port};
 ghost use Rattle.node_machine.specs.Controller.{controller_deeds, is_asked_at};
 ghost use Rattle.node_world.specs.World.{NodeWorld, Happening, new_world, world_step};
-ghost use Rattle.node_world.specs.NodeFilters.{asking_in};
+ghost use Rattle.node_world.specs.NodeFilters.{asking_in, spare_at};
+ghost use Rattle.trace_model.specs.declared.line.End.{End};
+ghost use Rattle.message_link.specs.Links.{Half};
+ghost use Rattle.notice_readings.specs.Spares.{IsEndRead};
 ghost use Rattle.node_world.specs.NodeHistories.{NodeHistory, FollowsNodes, node_entries, world_after};
 ghost use Rattle.kept_laws.specs.Hosts.{AreHosts};
 ghost use Rattle.notice_readings.specs.Notices.{GoesToFree, IsKept, NoticesAreRead, is_of_creation};
@@ -55,4 +58,10 @@ pub fn no_creation_is_read_while_the_controller_is_off()
     ensures moment { (t : List Entry) (w : NodeWorld) → IsRead t w → w.controller ≡ None → (h : ℕ) → asking_in t h ≡ None }
     ensures histories { (header : Header) (lines : List Line) (t : NodeHistory) → FollowsNodes header lines t → AreHosts header.hosts.items →
         (world_after (new_world header.hosts.items) lines).controller ≡ None → (h : ℕ) → asking_in (node_entries t) h ≡ None }
+{}
+
+/// Where the session of an end, its messages and the block that is set aside are what is read off the entries, the blocks that it has
+/// to spare are those that are read.
+pub fn blocks_to_spare_are_read_where_the_end_is()
+    ensures { (t : List Entry) (e : End) (half : Half) → IsEndRead t e half → spare_at t e ≡ spare half.side }
 {}
