@@ -88,11 +88,11 @@ Clean e = AreSendable e.got
 got_same : (e f : LinkEnd) → f.got ≡ e.got → Clean e → Clean f
 got_same e f q c = let P : List Message → Type 0 = λ ms. AreSendable ms in subst P (sym q) c
 
-moved_got : (e : LinkEnd) (b : Bool) (s : EndState) → (moved e b s).got ≡ e.got
+pub moved_got : (e : LinkEnd) (b : Bool) (s : EndState) → (moved e b s).got ≡ e.got
 moved_got e true s = refl
 moved_got e false s = refl
 
-down_got : (e : LinkEnd) (b : Bool) → (put_down b e).got ≡ e.got
+pub down_got : (e : LinkEnd) (b : Bool) → (put_down b e).got ≡ e.got
 down_got e false = refl
 down_got e true = go e.shdlc.phase refl
   where
@@ -105,7 +105,7 @@ act_got : (o : Option Act) (e : LinkEnd) → (with_act o e).got ≡ e.got
 act_got None e = refl
 act_got (Some act) e = refl
 
-activated_got : (e : LinkEnd) (event : ActEvent) → (activated e event).got ≡ e.got
+pub activated_got : (e : LinkEnd) (event : ActEvent) → (activated e event).got ≡ e.got
 activated_got e event =
     act_got (act_answer e.role event).send (record (put_down (act_answer e.role event).ended_link e) { role = role_after e.role event })
     ∙ down_got e (act_answer e.role event).ended_link

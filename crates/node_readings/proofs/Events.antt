@@ -1,12 +1,11 @@
 -- What is read of all hosts of a world as one of them acts, and over a tick.
 use Rattle.std.proofs.Common.{◌≡◌, ℕ, ◌&&◌, Bool, false, not, eqb, List, [], ◌∷◌, ◌++◌, map, sym, refl, ap, ap₂, ◌∙◌, subst, arith, append-nil, append_assoc}
-use Rattle.std.specs.Prelude.{Option, Some, None, nat_lt, replicate}
+use Rattle.std.specs.Prelude.{Option, Some, None, replicate}
 use Rattle.std.specs.List.{AllByRecursion, flat_map}
 use Rattle.std.proofs.lemmas.Bool.{cond_both, eqb-false, ne_eqb}
 use Rattle.journal_laws.specs.Planned.{after_planned}
 use Rattle.trace_model.specs.Lines.{IsHost}
 use Rattle.trace_model.specs.declared.entry.Entry.{Entry}
-use Rattle.session_laws.specs.Sessions.{OnWire}
 use Rattle.shdlc_core.specs.Machine.{is_waiting}
 use Rattle.link_machine.specs.Machine.{Message, Turn, give_refusal}
 use Rattle.message_link.specs.Links.{Link, Half, Ending, exchanged, aged, ticks_here, has_input}
@@ -14,7 +13,7 @@ use Rattle.message_link.specs.Links.Ending.{GoesOut}
 use Rattle.message_link.specs.Links.Comes.{NoInput, AsksReset}
 use Rattle.message_link.specs.Links.EndEvent.{Step}
 use Rattle.link_machine.specs.Machine.LinkInput.{Reset}
-use Rattle.link_entries.specs.Entries.{End as Side, aged_entries}
+use Rattle.link_entries.specs.Entries.{aged_entries}
 use Rattle.link_entries.specs.Entries.End.{Controller, Host}
 use Rattle.history.specs.Steps.{entries_for}
 use Rattle.node_machine.specs.Parts.{Running, Work, Deed}
@@ -28,7 +27,8 @@ use Rattle.kept_laws.specs.Hosts.{AreDifferent, AreHosts}
 use Rattle.kept_laws.proofs.Sites.{site_found, hosts_same, hosts_with}
 use Rattle.node_readings.specs.Orders.{AreInitsShort, MayDo}
 use Rattle.node_readings.specs.Worlds.{IfHostRuns, SiteReads, IfZero, AllRead, init_of}
-use Rattle.node_readings.proofs.Silent.{IsQuiet, quiet-append}
+use Rattle.node_telling.proofs.Frames.{wires_all}
+use Rattle.node_readings.proofs.Silent.{IsQuiet}
 use Rattle.node_readings.proofs.Sites.{acts_reads, sending_may, beginning_may, ticks_read, others_read}
 use Rattle.node_readings.proofs.Hushed.{AreHushed}
 use Rattle.node_readings.proofs.Elsewhere.{AreSilent, silent-append, silent_flat, quiet_silent, IsAway, all_do, steps_away}
@@ -133,19 +133,14 @@ module _ (hosts : List ℕ) (are : AreHosts hosts) where
 
   -- ## Ticks
 
-  aged_quiet : (who : Side) (xs : List OnWire) → AllByRecursion IsQuiet (aged_entries who xs)
-  aged_quiet who [] = tt
-  aged_quiet who (x ∷ xs) =
-      let later = aged_quiet who xs in cond_both (nat_lt x.age 4) (aged_entries who xs) _ (AllByRecursion IsQuiet) (λ _. later) (λ _. (tt, later))
-
   aged_read : (t : List Entry) (w : NodeWorld) → AllRead hosts t w → AllRead hosts (t ++ (all_aged w).1) (all_aged w).0
   aged_read t w all = record {
     controller = all.controller;
     hosts_are = hosts_same (λ (s : Site). record s { link = aged s.link }) (λ s. refl) w.sites ∙ all.hosts_are;
     sites = map_reads t (all_aged w).1 (λ (s : Site). record s { link = aged s.link }) (λ s. refl) (λ s. refl) (λ s. refl)
         (λ k host. silent_flat k (λ (s : Site). entries_for s.host (aged_entries Controller s.link.to_controller ++ aged_entries Host s.link.to_host))
-        (λ s. quiet_silent k s.host _ (quiet-append (aged_entries Controller s.link.to_controller) (aged_entries Host s.link.to_host) (aged_quiet Controller
-        s.link.to_controller) (aged_quiet Host s.link.to_host))) w.sites) w.sites (subst (AllByRecursion IsHost) (sym all.hosts_are) are.all) all.sites;
+        (λ s. quiet_silent k s.host _ (wires_all IsQuiet (λ w c. tt) (λ w c. tt) (λ w c why. tt) (λ w. tt) Controller Host s.link.to_controller
+        s.link.to_host)) w.sites) w.sites (subst (AllByRecursion IsHost) (sym all.hosts_are) are.all) all.sites;
   }
 
   ticked_host : (l : Link) (late : Bool) (ts : List Turn) (ending : Ending) → (ticked_so l late ts ending).host ≡ l.host

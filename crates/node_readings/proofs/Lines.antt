@@ -1,6 +1,6 @@
 -- What is read of all hosts over the lines of a schedule.
-use Rattle.std.proofs.Common.{◌≡◌, ℕ, zero, suc, Bool, true, false, eqb, ◌&&◌, List, [], ◌∷◌, ◌++◌, sym, refl, ap, ◌∙◌, subst}
-use Rattle.std.specs.Prelude.{Option, Some, None, is_some, replicate, IsTrue}
+use Rattle.std.proofs.Common.{◌≡◌, ℕ, Bool, true, false, eqb, ◌&&◌, List, [], ◌∷◌, ◌++◌, sym, refl, ap, ◌∙◌, subst}
+use Rattle.std.specs.Prelude.{Option, Some, None, is_some, unwrap_or, IsTrue}
 use Rattle.std.specs.List.{AllByRecursion}
 use Rattle.trace_model.specs.declared.entry.Entry.{Entry}
 use Rattle.trace_model.specs.declared.entry.NoCause.{NoCause}
@@ -9,8 +9,6 @@ use Rattle.trace_model.specs.declared.line.End.{End}
 use Rattle.trace_model.specs.declared.line.Header.{Header}
 use Rattle.trace_model.specs.declared.line.Line.{Line}
 use Rattle.trace_model.specs.declared.line.Line.TheVariants as line
-use Rattle.history.specs.Damage.{Verdict}
-use Rattle.history.specs.Damage.Verdict.{Same, LostFor, Undetected}
 use Rattle.history.specs.Follows.{first_verdict, taken_of}
 use Rattle.link_machine.specs.Machine.{Message, Refused, give_refusal}
 use Rattle.link_machine.specs.Machine.Refused.{NotUp}
@@ -19,10 +17,10 @@ use Rattle.node_machine.specs.Parts.{Running}
 use Rattle.node_machine.specs.Controller.{is_command_message}
 use Rattle.node_world.specs.World.{NodeWorld, Happening, node_at, node_of, link_to, memory_at, new_world, world_step}
 use Rattle.node_world.specs.World.Happening.{Boots, IsCut, Gives, Inits, Takes, Loses, Ticks, Resets, Activates, Arms}
-use Rattle.node_world.specs.Lines.{first_cause, if_off, if_true, machine_in, frames_at, has_order, if_waiting, if_not_sent, refusal_in, happens_by, happenings}
+use Rattle.node_world.specs.Lines.{first_cause, if_off, if_true, machine_in, frames_at, has_order, if_waiting, if_not_sent, refusal_in, happenings}
 use Rattle.node_world.specs.NodeHistories.{NodeHistory, FollowsNodes, node_entries, world_after}
 use Rattle.kept_laws.specs.Hosts.{AreHosts, IsSentByHost}
-use Rattle.node_telling.proofs.Lasting.{AllMay, entries_of_steps, lines_last}
+use Rattle.node_telling.proofs.Lasting.{AllMay, repeated_may, damaged_may, entries_of_steps, lines_last}
 use Rattle.node_readings.specs.Worlds.{AllRead, MayBeRead, IsInitOfHost}
 use Rattle.node_readings.proofs.Worlds.{comes_read, activates_read}
 use Rattle.node_readings.proofs.Events.{all_begin, gives_read, inits_read, ticks_read_all}
@@ -30,20 +28,6 @@ use Rattle.node_readings.proofs.Powers.{cut_read, boots_read, memory_read}
 use Rattle.node_readings.proofs.Losses.{lost_read}
 
 -- ## What a line that isn't refused says
-
-takes_may : (e : End) (n : ℕ) (w : NodeWorld) → AllMay MayBeRead w (replicate n (Takes e))
-takes_may e zero w = tt
-takes_may e (suc n) w = (tt, takes_may e n (world_step w (Takes e)).0)
-
-ticks_may : (n : ℕ) (w : NodeWorld) → AllMay MayBeRead w (replicate n Ticks)
-ticks_may zero w = tt
-ticks_may (suc n) w = (tt, ticks_may n (world_step w Ticks).0)
-
-damage_may : (w : NodeWorld) (e : End) (o : Option Verdict) → AllMay MayBeRead w (happens_by e o)
-damage_may w e None = tt
-damage_may w e (Some Same) = (tt, tt)
-damage_may w e (Some (LostFor why)) = (tt, tt)
-damage_may w e (Some (Undetected read)) = tt
 
 -- the second of two causes doesn't apply where none does
 second_none : (a b : Option NoCause) → first_cause a b ≡ None → b ≡ None
@@ -57,7 +41,7 @@ taken_none false (Some why) e = absurd (cc e)
 taken_none true (Some NotUp) e = absurd (cc e)
 taken_none true _ e = absurd (cc e)
 
-stands_none : (o : Option Running) → if_true (is_some o) cause.Running ≡ None → o ≡ None
+pub stands_none : (o : Option Running) → if_true (is_some o) cause.Running ≡ None → o ≡ None
 stands_none None e = refl
 stands_none (Some r) e = absurd (cc e)
 
@@ -74,10 +58,10 @@ is_taken w e m side none =
 
 line_may : (w : NodeWorld) (l : Line) → IsSentByHost l → IsInitOfHost l → refusal_in w l ≡ None → AllMay MayBeRead w (happenings w l)
 line_may w (line.Send e pid message) side init none = (is_taken w e (pid, message) side none, tt)
-line_may w (line.Deliver e count) side init none = takes_may e (taken_of count (frames_at w e)) w
+line_may w (line.Deliver e count) side init none = repeated_may MayBeRead (Takes e) (λ v. tt) (taken_of count (frames_at w e)) w
 line_may w (line.Lose e) side init none = (tt, tt)
-line_may w (line.Damage e places) side init none = damage_may w e (first_verdict (frames_at w e) places.items)
-line_may w (line.Tick times) side init none = ticks_may _ w
+line_may w (line.Damage e places) side init none = damaged_may MayBeRead w e tt (λ why. tt) (first_verdict (frames_at w e) places.items)
+line_may w (line.Tick times) side init none = repeated_may MayBeRead Ticks (λ v. tt) (unwrap_or times 1) w
 line_may w (line.Reset e window) side init none = (tt, tt)
 line_may w (line.Busy e) side init none = tt
 line_may w (line.Ready e) side init none = tt

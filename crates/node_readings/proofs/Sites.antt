@@ -1,24 +1,22 @@
 -- A host with its link over what happens to it: its unanswered command stays the one that is read.
-use Rattle.std.proofs.Common.{◌≡◌, inl, inr, ℕ, ◌&&◌, Bool, true, false, cond, eqb, List, [], ◌∷◌, ◌++◌, map, length, sym, refl, ap, ◌∙◌, subst, append-nil, append_assoc}
-use Rattle.std.specs.Prelude.{Option, Some, None, is_some, nat_lt}
+use Rattle.std.proofs.Common.{◌≡◌, inl, inr, ℕ, ◌&&◌, Bool, true, false, cond, eqb, List, [], ◌∷◌, ◌++◌, map, sym, refl, ap, ◌∙◌, subst, append-nil, append_assoc}
+use Rattle.std.specs.Prelude.{Option, Some, None, is_some}
 use Rattle.std.specs.List.{AllByRecursion}
 use Rattle.std.specs.Option.{option_map_or}
 use Rattle.std.proofs.lemmas.Bool.{eq-eqb, eqb-true, true≢false, cond-true}
 use Rattle.trace_model.specs.Lines.{IsHost}
 use Rattle.trace_model.specs.declared.entry.Entry.{Entry}
-use Rattle.swp_base.specs.declared.control_frames.Control.{Control}
 use Rattle.session_laws.specs.Sessions.{OnWire}
 use Rattle.shdlc_core.specs.Machine.{most_frames}
 use Rattle.session_laws.proofs.Ties.{after_frames-phase}
 use Rattle.shdlc_core.specs.declared.answers.LinkState.{LinkState}
-use Rattle.link_machine.specs.Machine.{Message, give_refusal, LinkEnd, LinkInput, Turn, turn, turned, after_input, frames_out, sent_all, ended_by}
+use Rattle.link_machine.specs.Machine.{Message, give_refusal, LinkEnd, LinkInput, Turn, turn, turned, after_input, sent_all, ended_by}
 use Rattle.link_machine.specs.Machine.LinkInput.{Take, Tick, Reset, Start, Stop}
-use Rattle.message_link.specs.Links.{Link, Half, Ending, Comes, Loss, exchanged, put, with_ended, finished, ticks_here, steps_here}
+use Rattle.message_link.specs.Links.{Link, Half, Ending, Comes, Loss, exchanged, with_ended, finished, ticks_here, steps_here}
 use Rattle.message_link.specs.Links.Ending.{GoesOut, CutOff}
 use Rattle.message_link.specs.Links.Comes.{NextFrame, AsksReset, Starts, Stops, NoInput}
-use Rattle.message_link.specs.Links.Loss.{TooMany}
-use Rattle.link_entries.specs.Entries.{End as Side, Entry as Noted, first_lost, pushed_out, wire_with, put_entries, puts_entries, ending_entries, far}
-use Rattle.link_entries.specs.Entries.End.{Controller, Host}
+use Rattle.link_entries.specs.Entries.{End as Side, first_lost, ending_entries}
+use Rattle.link_entries.specs.Entries.End.{Host}
 use Rattle.history.specs.Steps.{entries_for}
 use Rattle.swp_base.specs.InMemory.{Memory}
 use Rattle.journal_laws.specs.Planned.{after_planned}
@@ -33,32 +31,23 @@ use Rattle.node_world.specs.World.{Site, ending_of, runs_on, sending, beginning,
 use Rattle.node_world.specs.NodeFilters.{order_in}
 use Rattle.node_links.specs.Notices.{IsComing}
 use Rattle.node_links.proofs.Noticing.{turn-phase}
+use Rattle.node_telling.proofs.Frames.{lost_all, ending_all, arrival_all}
 use Rattle.node_readings.specs.Orders.{order_of, AreInitsShort, IsSilent, Fits, MayDo}
 use Rattle.node_readings.specs.Worlds.{HostRuns, IfHostRuns, SiteReads}
-use Rattle.node_readings.proofs.Silent.{IsQuiet, reads, order_more, quiet_reads, quiet-append}
+use Rattle.node_readings.proofs.Silent.{IsQuiet, reads, order_more, quiet_reads}
 use Rattle.node_readings.proofs.Doing.{Runs, Stands, all_stand}
 use Rattle.node_readings.proofs.Stepping.{steps_stand}
 
 -- ## Frames
 
 pub lost_quiet : (who : Side) (why : Loss) (xs : List OnWire) → AllByRecursion IsQuiet (first_lost who why xs)
-lost_quiet who why [] = tt
-lost_quiet who why (x ∷ xs) = (tt, tt)
-
-pushed_quiet : (who : Side) (wire : List OnWire) → AllByRecursion IsQuiet (pushed_out who wire)
-pushed_quiet who wire = go (nat_lt 64 (length wire)) where
-  go : (b : Bool) → AllByRecursion IsQuiet (cond b (first_lost who TooMany wire) [])
-  go true = lost_quiet who TooMany wire
-  go false = tt
-
-puts_quiet : (who : Side) (l : Link) (cs : List Control) → AllByRecursion IsQuiet (puts_entries who l cs)
-puts_quiet who l [] = tt
-puts_quiet who l (c ∷ cs) =
-    quiet-append (put_entries who l c) (puts_entries who (put l c) cs) (tt, pushed_quiet (far who) (wire_with l c)) (puts_quiet who (put l c) cs)
+lost_quiet = lost_all IsQuiet (λ w c. tt) (λ w c. tt) (λ w c why. tt) (λ w. tt)
 
 pub ending_quiet : (who : Side) (l : Link) (e : LinkEnd) (ending : Ending) → AllByRecursion IsQuiet (ending_entries who l e ending)
-ending_quiet who l e GoesOut = puts_quiet who l (frames_out e)
-ending_quiet who l e CutOff = (tt, tt)
+ending_quiet = ending_all IsQuiet (λ w c. tt) (λ w c. tt) (λ w c why. tt) (λ w. tt)
+
+pub arrival_quiet : (who : Side) (l : Link) (comes : Comes) → AllByRecursion IsQuiet (arrival who l comes)
+arrival_quiet = arrival_all IsQuiet (λ w c. tt) (λ w c. tt) (λ w c why. tt) (λ w. tt)
 
 pub frames_read : (h : ℕ) (who : Side) (k : ℕ) (l : Link) (w : Work) (c : Option (List ℕ)) → reads h (frames_noted who k l w) c ≡ c
 frames_read h who k l w c = go (port_at w.ports k) where
@@ -67,18 +56,7 @@ frames_read h who k l w c = go (port_at w.ports k) where
   go (Some p) = quiet_reads h k (ending_entries who l p.side (ending_of w)) c (ending_quiet who l p.side (ending_of w))
 
 pub arrival_read : (h : ℕ) (who : Side) (k : ℕ) (l : Link) (comes : Comes) (c : Option (List ℕ)) → reads h (entries_for k (arrival who l comes)) c ≡ c
-arrival_read h who k l NextFrame c = go l.to_controller where
-  first : List OnWire → List Noted
-  first [] = []
-  first (x ∷ xs) = Rattle.link_entries.specs.Entries.Entry.Took who x.frame ∷ []
-
-  go : (xs : List OnWire) → reads h (entries_for k (first xs)) c ≡ c
-  go [] = refl
-  go (x ∷ xs) = refl
-arrival_read h who k l (AsksReset window) c = refl
-arrival_read h who k l (Starts value) c = refl
-arrival_read h who k l Stops c = refl
-arrival_read h who k l NoInput c = refl
+arrival_read h who k l comes c = quiet_reads h k (arrival who l comes) c (arrival_quiet who l comes)
 
 -- ## The phase of an end
 

@@ -10,7 +10,7 @@ use Rattle.trace_model.specs.declared.entry.Entry.{Entry}
 use Rattle.trace_model.specs.declared.line.End.{End}
 use Rattle.link_machine.specs.Machine.{LinkInput}
 use Rattle.message_link.specs.Links.{Link, Half, Comes, exchanged}
-use Rattle.message_link.specs.Links.Comes.{NextFrame, AsksReset, Starts, Stops, NoInput}
+use Rattle.message_link.specs.Links.Comes.{Starts}
 use Rattle.message_link.specs.Links.EndEvent.{Step}
 use Rattle.link_entries.specs.Entries.{End as Side}
 use Rattle.link_entries.specs.Entries.End.{Controller, Host}
@@ -25,7 +25,7 @@ use Rattle.node_links.proofs.Ends.{here_host}
 use Rattle.kept_laws.specs.Hosts.{AreDifferent, AreHosts}
 use Rattle.kept_laws.proofs.Sites.{site_found, hosts_same, hosts_with}
 use Rattle.node_readings.specs.Worlds.{HostRuns, IfHostRuns, SiteReads, IfZero, AllRead}
-use Rattle.node_readings.proofs.Sites.{ending_quiet, comes_reads, others_read}
+use Rattle.node_readings.proofs.Sites.{ending_quiet, arrival_quiet, comes_reads, others_read}
 use Rattle.node_readings.proofs.Elsewhere.{AreSilent, silent-append, silent_flat, quiet_silent, Away, IsAway, steps_away}
 
 -- the hosts
@@ -59,18 +59,7 @@ frames_silent k who h l w = go (port_at w.ports h) where
   go (Some p) = quiet_silent k h _ (ending_quiet who l p.side (ending_of w))
 
 arrival_silent : (k : ℕ) (who : Side) (h : ℕ) (l : Link) (comes : Comes) → AreSilent k (entries_for h (arrival who l comes))
-arrival_silent k who h l NextFrame = go l.to_controller where
-  first : List Rattle.session_laws.specs.Sessions.OnWire → List Rattle.link_entries.specs.Entries.Entry
-  first [] = []
-  first (x ∷ xs) = Rattle.link_entries.specs.Entries.Entry.Took who x.frame ∷ []
-
-  go : (xs : List Rattle.session_laws.specs.Sessions.OnWire) → AreSilent k (entries_for h (first xs))
-  go [] = tt
-  go (x ∷ xs) = ((λ c. refl), tt)
-arrival_silent k who h l (AsksReset window) = tt
-arrival_silent k who h l (Starts value) = tt
-arrival_silent k who h l Stops = tt
-arrival_silent k who h l NoInput = tt
+arrival_silent k who h l comes = quiet_silent k h (arrival who l comes) (arrival_quiet who l comes)
 
 pub none_zero : (k : ℕ) → IsHost k → eqb 0 k ≡ false
 none_zero k host = ne_eqb 0 k (λ e. omega (arith, e, host.0))

@@ -1,14 +1,19 @@
 -- What lasts over each event of a world of nodes, with the entries noted so far, lasts over all events of a schedule.
-use Rattle.std.proofs.Common.{◌≡◌, ℕ, Bool, true, false, List, [], ◌∷◌, ◌++◌, sym, refl, ap, ◌∙◌, subst, append_assoc, append-nil}
-use Rattle.std.specs.Prelude.{Option, Some, None}
+use Rattle.std.proofs.Common.{◌≡◌, ℕ, zero, suc, Bool, true, false, List, [], ◌∷◌, ◌++◌, sym, refl, ap, ◌∙◌, subst, append_assoc, append-nil}
+use Rattle.std.specs.Prelude.{Option, Some, None, replicate}
 use Rattle.std.specs.List.{AllByRecursion, flat_map}
 use Rattle.trace_model.specs.declared.entry.Entry.{Entry}
 use Rattle.trace_model.specs.declared.entry.NoCause.{NoCause}
+use Rattle.trace_model.specs.declared.line.End.{End}
 use Rattle.trace_model.specs.declared.line.Line.{Line}
 use Rattle.trace_model.specs.declared.line.Line.TheVariants as line
+use Rattle.message_link.specs.Links.{Loss}
+use Rattle.history.specs.Damage.{Verdict}
+use Rattle.history.specs.Damage.Verdict.{Same, LostFor, Undetected}
 use Rattle.node_machine.specs.Parts.{Running}
 use Rattle.node_world.specs.World.{NodeWorld, Happening, node_at, world_step}
-use Rattle.node_world.specs.Lines.{refusal_in, happenings, Occurrence, can_happen, all_happen, LineOutcome, tables_told, goes_on, line_step}
+use Rattle.node_world.specs.World.Happening.{Takes, Loses}
+use Rattle.node_world.specs.Lines.{refusal_in, happens_by, happenings, Occurrence, can_happen, all_happen, LineOutcome, tables_told, goes_on, line_step}
 use Rattle.node_world.specs.Lines.LineOutcome.{WasRefused}
 use Rattle.node_world.specs.NodeHistories.{LineStep, steps_from, occurrences_of, entries_in, world_after}
 use Rattle.node_telling.specs.Telling.{world_behind}
@@ -17,6 +22,20 @@ use Rattle.node_telling.specs.Telling.{world_behind}
 abbrev pub AllMay : (NodeWorld → Happening → Type 0) → NodeWorld → List Happening → Type 0
 AllMay May w [] = Unit {0}
 AllMay May w (c ∷ causes) = May w c × AllMay May (world_step w c).0 causes
+
+-- what may happen in any world may happen again and again
+pub repeated_may : (May : NodeWorld → Happening → Type 0) (c : Happening) → ((w : NodeWorld) → May w c) → (n : ℕ) (w : NodeWorld)
+    → AllMay May w (replicate n c)
+repeated_may May c one zero w = tt
+repeated_may May c one (suc n) w = (one w, repeated_may May c one n (world_step w c).0)
+
+-- a damaged frame is taken or lost
+pub damaged_may : (May : NodeWorld → Happening → Type 0) (w : NodeWorld) (e : End) → May w (Takes e) → ((why : Loss) → May w (Loses e why))
+    → (o : Option Verdict) → AllMay May w (happens_by e o)
+damaged_may May w e takes loses None = tt
+damaged_may May w e takes loses (Some Same) = (takes, tt)
+damaged_may May w e takes loses (Some (LostFor why)) = (loses why, tt)
+damaged_may May w e takes loses (Some (Undetected read)) = tt
 
 -- any event, and any line
 abbrev pub Any : NodeWorld → Happening → Type 0

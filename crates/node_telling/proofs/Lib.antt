@@ -11,6 +11,7 @@ pub mod Nodes
 pub mod Worlds
 pub mod Events
 pub mod WorldTicks
+pub mod Frames
 pub mod Lasting
 pub mod Orderly
 pub mod Histories

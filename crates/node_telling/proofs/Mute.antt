@@ -2,6 +2,8 @@
 use Rattle.std.proofs.Common.{◌≡◌, ℕ, ◌==◌, Bool, true, false, cond, eqb, ◌&&◌, List, [], ◌∷◌, ◌++◌, refl, length}
 use Rattle.std.specs.Prelude.{Option, Some, None, Result, Ok, Err, map, is_some, slice_get, ◌+◌}
 use Rattle.std.specs.List.{AllByRecursion, flat_map, filter}
+use Rattle.trace_model.specs.declared.entry.Entry.{Entry}
+use Rattle.trace_model.specs.declared.entry.Entry.TheVariants as entry
 use Rattle.trace_model.specs.declared.entry.Entry.TheVariants.{InitMade, InitFailed}
 use Rattle.session_laws.specs.Sessions.{is_up}
 use Rattle.hcp_packet.specs.declared.MessageKind.{MessageKind}
@@ -34,9 +36,35 @@ use Rattle.node_machine.specs.HostReplies.{replies, accepts, is_welcome, pipe_na
 use Rattle.node_machine.specs.Turns.{deeds_of}
 use Rattle.node_machine.specs.Node.{NodeInput, input_at, forgotten, owed, all_owed, synced}
 
--- what is noted as an init ends tells of no link
+-- what a node notes beside its links, its turns and its boots
+abbrev pub IsPlain : Entry → Type 0
+IsPlain (entry.Held e need spare) = Unit {0}
+IsPlain (entry.Ask host message) = Unit {0}
+IsPlain (entry.Dropped e pid) = Unit {0}
+IsPlain (entry.Command node command) = Unit {0}
+IsPlain (entry.AnyOk node count) = Unit {0}
+IsPlain (entry.InitSame e) = Unit {0}
+IsPlain (entry.InitMade e count) = Unit {0}
+IsPlain (entry.InitFailed e code) = Unit {0}
+IsPlain (entry.Cut node) = Unit {0}
+IsPlain _ = ⊥
+
+-- it tells of no link
+pub plain_said : (x : Entry) → IsPlain x → said x ≡ None
+plain_said (entry.Held e need spare) p = refl
+plain_said (entry.Ask host message) p = refl
+plain_said (entry.Dropped e pid) p = refl
+plain_said (entry.Command node command) p = refl
+plain_said (entry.AnyOk node count) p = refl
+plain_said (entry.InitSame e) p = refl
+plain_said (entry.InitMade e count) p = refl
+plain_said (entry.InitFailed e code) p = refl
+plain_said (entry.Cut node) p = refl
+plain_said x p = absurd p
+
+-- what is noted as an init ends is so
 abbrev pub IsMute : Deed → Type 0
-IsMute (Ends x) = said x ≡ None
+IsMute (Ends x) = IsPlain x
 IsMute _ = Unit {0}
 
 abbrev pub AreMute : List Deed → Type 0
@@ -182,17 +210,17 @@ agrees_mute core i value = go (is_same core i value) refl
     c = Set core.node 0 1 (record { items = i.identity })
 
     by : (o : Option (List ℕ)) → slice_get (orders_of i) (i.answered + 1) ≡ o → is_same core i value ≡ false → AreMute (init_agreed core i value)
-    by None q e = rw (e, q) (mute-append (learns core c) (Ends (InitMade (end_of_node core core.node) (length i.pipes)) ∷ []) (learns_mute core c) (refl, tt))
+    by None q e = rw (e, q) (mute-append (learns core c) (Ends (InitMade (end_of_node core core.node) (length i.pipes)) ∷ []) (learns_mute core c) (tt, tt))
     by (Some order) q e = rw (e, q) (tt, (tt, tt))
 
     go : (b : Bool) → is_same core i value ≡ b → AreMute (init_agreed core i value)
-    go true e = rw e (refl, tt)
+    go true e = rw e (tt, tt)
     go false e = by (slice_get (orders_of i) (i.answered + 1)) refl e
 
 init_mute : (core : Core) (code : ℕ) (value : List ℕ) (o : Option Init) → AreMute (init_deeds core code value o)
 init_mute core code value None = tt
 init_mute core code value (Some i) =
-    either (eqb code 0) (init_agreed core i value) (Ends (InitFailed (end_of_node core core.node) code) ∷ []) (agrees_mute core i value) (refl, tt)
+    either (eqb code 0) (init_agreed core i value) (Ends (InitFailed (end_of_node core core.node) code) ∷ []) (agrees_mute core i value) (tt, tt)
 
 deleted_by_mute : (core : Core) (body : List ℕ) → AreMute (deleted_by core body)
 deleted_by_mute core [] = tt

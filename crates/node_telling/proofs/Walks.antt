@@ -20,30 +20,44 @@ use Rattle.node_machine.specs.Parts.Deed.{Commits, Sends, SaysOk, Asks, Releases
 use Rattle.node_machine.specs.Carrying.{end_of_node, noting, unless_cut, port_at, with_desk, turn_at, notified, loses_power, keeps, commit, done, all_done, needs, lack}
 use Rattle.node_machine.specs.Turns.{deeds_of, handles, holds_back, lets_go, have_turns, goes_through_ends, passes}
 use Rattle.node_machine.specs.Node.{answers_and_passes}
-use Rattle.node_telling.proofs.Mute.{IsMute, AreMute, deeds_mute}
+use Rattle.node_telling.proofs.Mute.{IsPlain, plain_said, IsMute, AreMute, deeds_mute}
 
 -- they tell of no link
 abbrev pub AreSilent : List Entry → Type 0
 AreSilent t = AllByRecursion (λ (x : Entry). said x ≡ None) t
 
+-- they are noted beside links, turns and boots
+abbrev pub ArePlain : List Entry → Type 0
+ArePlain t = AllByRecursion IsPlain t
+
+plain_silent : (t : List Entry) → ArePlain t → AreSilent t
+plain_silent [] a = tt
+plain_silent (x ∷ t) a = (plain_said x a.0, plain_silent t a.1)
+
+-- a turn of a node that fetches no message
+abbrev pub IsNoFetch : Turn → Type 0
+IsNoFetch FetchMessage = ⊥
+IsNoFetch _ = Unit {0}
+
+pub unless : (Of : Work → Type 0) (f : Work → Work) (w : Work) → ((v : Work) → Of v → Of (f v)) → Of w → Of (unless_cut f w)
+unless Of f w one a = go w.cut
+  where
+    by : Bool → Work
+    by true = w
+    by false = f w
+
+    go : (b : Bool) → Of (by b)
+    go true = a
+    go false = one w a
+
+-- ## Deeds
+
+-- what lasts over deeds, and as a message is held or none is any more
 module _ (Of : Work → Type 0)
-    (note : (es : List Entry) (w : Work) → AreSilent es → Of w → Of (noting es w))
+    (note : (es : List Entry) (w : Work) → ArePlain es → Of w → Of (noting es w))
     (desk : (k : ℕ) (f : Desk → Desk) (w : Work) → ((d : Desk) → (f d).host ≡ d.host) → Of w → Of (with_desk k f w))
-    (turns : (k : ℕ) (t : Turn) (w : Work) → Of w → Of (turn_at k t w))
+    (turns : (k : ℕ) (t : Turn) (w : Work) → IsNoFetch t → Of w → Of (turn_at k t w))
     (beside : (w v : Work) → v.core.node ≡ w.core.node → v.ports ≡ w.ports → v.entries ≡ w.entries → Of w → Of v) where
-  -- ## Deeds
-
-  unless : (f : Work → Work) (w : Work) → ((v : Work) → Of v → Of (f v)) → Of w → Of (unless_cut f w)
-  unless f w one a = go w.cut
-    where
-      by : Bool → Work
-      by true = w
-      by false = f w
-
-      go : (b : Bool) → Of (by b)
-      go true = a
-      go false = one w a
-
   commits : (c : Command) (w : Work) → Of w → Of (commit c w)
   commits c w a = go (fails_within (length writes) w.plan)
     where
@@ -54,7 +68,7 @@ module _ (Of : Work → Type 0)
       begun = noting (entry.Command w.core.node c ∷ []) w
 
       noted : Of begun
-      noted = note (entry.Command w.core.node c ∷ []) w (refl, tt) a
+      noted = note (entry.Command w.core.node c ∷ []) w (tt, tt) a
 
       by : Bool → Work
       by true = loses_power writes begun
@@ -63,50 +77,40 @@ module _ (Of : Work → Type 0)
       go : (b : Bool) → Of (by b)
       go true =
           let v : Work = record begun { writes = begun.writes ++ writes; plan = None; cut = true } in
-          note (entry.Cut w.core.node ∷ []) v (refl, tt) (beside begun v refl refl refl noted)
+          note (entry.Cut w.core.node ∷ []) v (tt, tt) (beside begun v refl refl refl noted)
       go false = beside begun (keeps c writes begun) refl refl refl noted
 
   tells : (k : ℕ) (about : About) (message : List ℕ) (w : Work) → Of w → Of (notified k about message w)
   tells k about message w a =
       desk k (λ d. record d { notice = Some (record { about = about; age = 0 }) }) (turn_at k (Give (1, message)) w) (λ d. refl)
-      (turns k (Give (1, message)) w a)
+      (turns k (Give (1, message)) w tt a)
 
   does : (k : ℕ) (d : Deed) (w : Work) → IsMute d → Of w → Of (done k d w)
   does k (Commits c) w i a = commits c w a
-  does k (Sends to m) w i a = turns to (Give m) w a
-  does k SaysOk w i a = note (entry.AnyOk w.core.node (count_of w.core.journal) ∷ []) w (refl, tt) a
+  does k (Sends to m) w i a = turns to (Give m) w tt a
+  does k SaysOk w i a = note (entry.AnyOk w.core.node (count_of w.core.journal) ∷ []) w (tt, tt) a
   does k (Asks to message c) w i a =
       tells to (Waits c) message (noting (entry.Ask to message ∷ []) (turn_at c.asker SetAside w))
-      (note (entry.Ask to message ∷ []) (turn_at c.asker SetAside w) (refl, tt) (turns c.asker SetAside w a))
-  does k (Releases asker) w i a = turns asker Release w a
+      (note (entry.Ask to message ∷ []) (turn_at c.asker SetAside w) (tt, tt) (turns c.asker SetAside w tt a))
+  does k (Releases asker) w i a = turns asker Release w tt a
   does k (Tells to message) w i a = tells to Removed message w a
   does k IsAnswered w i a = desk k (λ d. record d { notice = None }) w (λ d. refl) a
-  does k (Drops pid) w i a = note (entry.Dropped (end_of_node w.core k) pid ∷ []) w (refl, tt) a
+  does k (Drops pid) w i a = note (entry.Dropped (end_of_node w.core k) pid ∷ []) w (tt, tt) a
   does k (SetsErrors errors) w i a = desk k (λ d. record d { errors = errors }) w (λ d. refl) a
   does k (Orders message) w i a =
       let v : Work = record w { core = record w.core { command = Some message } } in
-      turns k (Give (1, message)) v (beside w v refl refl refl a)
+      turns k (Give (1, message)) v tt (beside w v refl refl refl a)
   does k Hears w i a = beside w (record w { core = record w.core { command = None } }) refl refl refl a
   does k (GoesOn x) w i a = beside w (record w { core = record w.core { init = Some x } }) refl refl refl a
   does k (Ends x) w i a =
       let v : Work = record w { core = record w.core { init = None } } in
       note (x ∷ []) v (i, tt) (beside w v refl refl refl a)
 
-  pub all_do : (k : ℕ) (deeds : List Deed) (w : Work) → AreMute deeds → Of w → Of (all_done k deeds w)
-  all_do k [] w i a = a
-  all_do k (d ∷ deeds) w i a = unless (all_done k deeds) (done k d w) (λ v b. all_do k deeds v i.1 b) (does k d w i.0 a)
+  pub every_do : (k : ℕ) (deeds : List Deed) (w : Work) → AreMute deeds → Of w → Of (all_done k deeds w)
+  every_do k [] w i a = a
+  every_do k (d ∷ deeds) w i a = unless Of (all_done k deeds) (done k d w) (λ v b. every_do k deeds v i.1 b) (does k d w i.0 a)
 
-  -- ## The pass over its ends
-
-  handling : (k : ℕ) (m : Message) (deeds : List Deed) (w : Work) → AreMute deeds → Of w → Of (handles k m deeds w)
-  handling k m deeds w f a =
-      let told : Work = noting (entry.Turn (end_of_node w.core k) m.0 m.1 ∷ []) w in
-      let fetched : Work = turn_at k FetchMessage told in
-      all_do k deeds (with_desk k (λ d. record d { holds = false }) fetched) f
-      (desk k (λ d. record d { holds = false }) fetched (λ d. refl)
-      (turns k FetchMessage told (note (entry.Turn (end_of_node w.core k) m.0 m.1 ∷ []) w (refl, tt) a)))
-
-  holds : (k : ℕ) (short : ℕ × ℕ) (w : Work) → Of w → Of (holds_back k short w)
+  pub holds : (k : ℕ) (short : ℕ × ℕ) (w : Work) → Of w → Of (holds_back k short w)
   holds k short w a = go (option_map_or (λ (p : Port). p.desk.holds) (port_at w.ports k) false)
     where
       told : Work
@@ -117,12 +121,12 @@ module _ (Of : Work → Type 0)
       by false = turn_at k (Hold true) (with_desk k (λ d. record d { holds = true }) told)
 
       go : (b : Bool) → Of (by b)
-      go true = turns k (Hold true) w a
+      go true = turns k (Hold true) w tt a
       go false =
-          turns k (Hold true) (with_desk k (λ d. record d { holds = true }) told)
-          (desk k (λ d. record d { holds = true }) told (λ d. refl) (note (entry.Held (end_of_node w.core k) short.0 short.1 ∷ []) w (refl, tt) a))
+          turns k (Hold true) (with_desk k (λ d. record d { holds = true }) told) tt
+          (desk k (λ d. record d { holds = true }) told (λ d. refl) (note (entry.Held (end_of_node w.core k) short.0 short.1 ∷ []) w (tt, tt) a))
 
-  lets : (k : ℕ) (w : Work) → Of w → Of (lets_go k w)
+  pub lets : (k : ℕ) (w : Work) → Of w → Of (lets_go k w)
   lets k w a = go (option_map_or (λ (p : Port). is_held p.side) (port_at w.ports k) false)
     where
       by : Bool → Work
@@ -130,11 +134,49 @@ module _ (Of : Work → Type 0)
       by false = w
 
       go : (b : Bool) → Of (by b)
-      go true = turns k (Hold false) w a
+      go true = turns k (Hold false) w tt a
       go false = a
 
+-- ## Steps
+
+-- what lasts over deeds and over the turns of each end
+module _ (Of : Work → Type 0)
+    (all : (k : ℕ) (deeds : List Deed) (w : Work) → AreMute deeds → Of w → Of (all_done k deeds w))
+    (having : (k : ℕ) (w : Work) → Of w → Of (have_turns k (option_map_or (λ (p : Port). p.side.got) (port_at w.ports k) []) w)) where
+  going : (hosts : List ℕ) (w : Work) → Of w → Of (goes_through_ends hosts w)
+  going [] w a = a
+  going (k ∷ hosts) w a =
+      unless Of (goes_through_ends hosts) (have_turns k (option_map_or (λ (p : Port). p.side.got) (port_at w.ports k) []) w)
+      (λ v b. going hosts v b)
+      (having k w a)
+
+  -- what is left to do in a step once something has come: blocks are freed, identifiers kept, answers given, and messages have turns
+  pub rest_of : (freed syncs owing : List Deed) (w : Work) → AreMute freed → AreMute syncs → AreMute owing → Of w
+      → Of (answers_and_passes freed syncs owing w)
+  rest_of freed syncs owing w f s o a =
+      let one : Of (all_done 0 syncs (all_done 0 freed w)) = all 0 syncs (all_done 0 freed w) s (all 0 freed w f a) in
+      unless Of passes (unless_cut (all_done 0 owing) (all_done 0 syncs (all_done 0 freed w))) (λ v b. going _ v b)
+      (unless Of (all_done 0 owing) (all_done 0 syncs (all_done 0 freed w)) (λ v b. all 0 owing v o b) one)
+
+-- what lasts over all that is noted of no link, and over all turns
+module _ (Of : Work → Type 0)
+    (note : (es : List Entry) (w : Work) → AreSilent es → Of w → Of (noting es w))
+    (desk : (k : ℕ) (f : Desk → Desk) (w : Work) → ((d : Desk) → (f d).host ≡ d.host) → Of w → Of (with_desk k f w))
+    (turns : (k : ℕ) (t : Turn) (w : Work) → Of w → Of (turn_at k t w))
+    (beside : (w v : Work) → v.core.node ≡ w.core.node → v.ports ≡ w.ports → v.entries ≡ w.entries → Of w → Of v) where
+  pub all_do : (k : ℕ) (deeds : List Deed) (w : Work) → AreMute deeds → Of w → Of (all_done k deeds w)
+  all_do k deeds w i a = every_do Of (λ es v p b. note es v (plain_silent es p) b) desk (λ j t v n b. turns j t v b) beside k deeds w i a
+
+  handling : (k : ℕ) (m : Message) (deeds : List Deed) (w : Work) → AreMute deeds → Of w → Of (handles k m deeds w)
+  handling k m deeds w f a =
+      let told : Work = noting (entry.Turn (end_of_node w.core k) m.0 m.1 ∷ []) w in
+      let fetched : Work = turn_at k FetchMessage told in
+      all_do k deeds (with_desk k (λ d. record d { holds = false }) fetched) f
+      (desk k (λ d. record d { holds = false }) fetched (λ d. refl)
+      (turns k FetchMessage told (note (entry.Turn (end_of_node w.core k) m.0 m.1 ∷ []) w (refl, tt) a)))
+
   having : (k : ℕ) (messages : List Message) (w : Work) → Of w → Of (have_turns k messages w)
-  having k [] w a = lets k w a
+  having k [] w a = lets Of (λ es v p b. note es v (plain_silent es p) b) desk (λ j t v n b. turns j t v b) beside k w a
   having k (m ∷ messages) w a = go (lack w.ports (needs k deeds)) (λ v b. having k messages v b)
     where
       deeds : List Deed
@@ -145,20 +187,9 @@ module _ (Of : Work → Type 0)
       by (Some short) = holds_back k short w
 
       go : (o : Option (ℕ × ℕ)) → ((v : Work) → Of v → Of (have_turns k messages v)) → Of (by o)
-      go None later = unless (have_turns k messages) (handles k m deeds w) later (handling k m deeds w (deeds_mute w.core w.ports k m) a)
-      go (Some short) later = holds k short w a
+      go None later = unless Of (have_turns k messages) (handles k m deeds w) later (handling k m deeds w (deeds_mute w.core w.ports k m) a)
+      go (Some short) later = holds Of (λ es v p b. note es v (plain_silent es p) b) desk (λ j t v n b. turns j t v b) beside k short w a
 
-  going : (hosts : List ℕ) (w : Work) → Of w → Of (goes_through_ends hosts w)
-  going [] w a = a
-  going (k ∷ hosts) w a =
-      unless (goes_through_ends hosts) (have_turns k (option_map_or (λ (p : Port). p.side.got) (port_at w.ports k) []) w)
-      (λ v b. going hosts v b)
-      (having k (option_map_or (λ (p : Port). p.side.got) (port_at w.ports k) []) w a)
-
-  -- what is left to do in a step once something has come: blocks are freed, identifiers kept, answers given, and messages have turns
   pub rest : (freed syncs owing : List Deed) (w : Work) → AreMute freed → AreMute syncs → AreMute owing → Of w
       → Of (answers_and_passes freed syncs owing w)
-  rest freed syncs owing w f s o a =
-      let one : Of (all_done 0 syncs (all_done 0 freed w)) = all_do 0 syncs (all_done 0 freed w) s (all_do 0 freed w f a) in
-      unless passes (unless_cut (all_done 0 owing) (all_done 0 syncs (all_done 0 freed w))) (λ v b. going _ v b)
-      (unless (all_done 0 owing) (all_done 0 syncs (all_done 0 freed w)) (λ v b. all_do 0 owing v o b) one)
+  rest freed syncs owing w f s o a = rest_of Of all_do (λ k v b. having k _ v b) freed syncs owing w f s o a
