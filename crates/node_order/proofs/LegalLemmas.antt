@@ -1,4 +1,4 @@
--- Every history of a world of nodes is legal, but for answers.
+-- Every history of a world of nodes is legal.
 use Rattle.std.proofs.Common.{◌≡◌, ℕ, List, ◌++◌, Some, sym, subst}
 use Rattle.std.specs.List.{AllByRecursion}
 use Rattle.trace_model.specs.declared.entry.Entry.{Entry}
@@ -14,6 +14,8 @@ use Rattle.node_links.proofs.Obeying.{settles}
 use Rattle.kept_laws.specs.Hosts.{AreHosts, IsFew, IsSentByHost}
 use Rattle.kept_laws.proofs.Kept.{are_kept, are_allowed}
 use Rattle.node_telling.specs.Telling.{world_behind}
+use Rattle.node_readings.proofs.NoticedWorlds.{numbers}
+use Rattle.turn_laws.proofs.Lines.{in_turn}
 use Rattle.node_order.specs.Told.{HasDelivered}
 use Rattle.node_order.specs.Legal.{AtEachEvent, Complete, LegalNodes}
 use Rattle.node_order.proofs.Knowing.{Knows}
@@ -50,4 +52,5 @@ legal header lines t follows are playable sent few =
       complete = complete header lines t follows are playable;
       allowed = are_allowed header lines t follows are sent few;
       kept = are_kept header lines t follows are sent few;
+      in_turn = in_turn header lines t follows are.different (numbers header.hosts.items are.all);
     }

@@ -8,7 +8,7 @@ use Rattle.history.specs.Legal.{IsInOrder, is_chain_fault}
 use Rattle.node_world.specs.World.{Site, new_world, site_at}
 use Rattle.node_world.specs.Lines.{Occurrence}
 use Rattle.node_world.specs.NodeHistories.{NodeHistory, entries_in, node_entries, occurrences_in}
-use Rattle.node_world.specs.NodeLegal.{Allowed, Kept}
+use Rattle.node_world.specs.NodeLegal.{Allowed, AreInTurn, Kept}
 use Rattle.node_links.specs.Runs.{IsRunOf, new_line}
 use Rattle.node_telling.specs.Telling.{world_behind}
 use Rattle.node_order.specs.Told.{HasDelivered}
@@ -30,9 +30,10 @@ pub record Complete (t : NodeHistory) : Type 0 where
   pub settled : AtEachEvent t (λ entries h s. (events : List LinkEvent) → IsRunOf events s.link → IsSettled s.link (sure_of new_line events) → AreUpTogether s.link)
   pub joined : list_any is_chain_fault (node_entries t) ≡ false
 
--- a legal history of nodes, but for answers
+-- A legal history of nodes. Of the answers it says that messages have their turns in the order in which they came.
 pub record LegalNodes (t : NodeHistory) : Type 0 where
   pub in_order : Prefix t
   pub complete : Complete t
   pub allowed : Allowed (node_entries t)
   pub kept : Kept t
+  pub in_turn : AreInTurn (node_entries t)
