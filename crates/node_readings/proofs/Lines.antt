@@ -1,10 +1,9 @@
 -- What is read of all hosts over the lines of a schedule.
 use Rattle.std.proofs.Common.{◌≡◌, ℕ, Bool, true, false, eqb, ◌&&◌, List, [], ◌∷◌, ◌++◌, sym, refl, ap, ◌∙◌, subst}
-use Rattle.std.specs.Prelude.{Option, Some, None, is_some, unwrap_or, IsTrue}
+use Rattle.std.specs.Prelude.{Option, Some, None, unwrap_or, IsTrue}
 use Rattle.std.specs.List.{AllByRecursion}
 use Rattle.trace_model.specs.declared.entry.Entry.{Entry}
 use Rattle.trace_model.specs.declared.entry.NoCause.{NoCause}
-use Rattle.trace_model.specs.declared.entry.NoCause.TheVariants as cause
 use Rattle.trace_model.specs.declared.line.End.{End}
 use Rattle.trace_model.specs.declared.line.Header.{Header}
 use Rattle.trace_model.specs.declared.line.Line.{Line}
@@ -13,14 +12,13 @@ use Rattle.history.specs.Follows.{first_verdict, taken_of}
 use Rattle.link_machine.specs.Machine.{Message, Refused, give_refusal}
 use Rattle.link_machine.specs.Machine.Refused.{NotUp}
 use Rattle.message_link.specs.Links.Comes.{NextFrame, AsksReset}
-use Rattle.node_machine.specs.Parts.{Running}
 use Rattle.node_machine.specs.Controller.{is_command_message}
 use Rattle.node_world.specs.World.{NodeWorld, Happening, node_at, node_of, link_to, memory_at, new_world, world_step}
 use Rattle.node_world.specs.World.Happening.{Boots, IsCut, Gives, Inits, Takes, Loses, Ticks, Resets, Activates, Arms}
-use Rattle.node_world.specs.Lines.{first_cause, if_off, if_true, machine_in, frames_at, has_order, if_waiting, if_not_sent, refusal_in, happenings}
+use Rattle.node_world.specs.Lines.{first_cause, if_off, machine_in, frames_at, has_order, if_waiting, if_not_sent, refusal_in, happenings}
 use Rattle.node_world.specs.NodeHistories.{NodeHistory, FollowsNodes, node_entries, world_after}
 use Rattle.kept_laws.specs.Hosts.{AreHosts, IsSentByHost}
-use Rattle.node_telling.proofs.Lasting.{AllMay, repeated_may, damaged_may, entries_of_steps, lines_last}
+use Rattle.node_telling.proofs.Lasting.{AllMay, repeated_may, damaged_may, stands_none, entries_of_steps, lines_last}
 use Rattle.node_readings.specs.Worlds.{AllRead, MayBeRead, IsInitOfHost}
 use Rattle.node_readings.proofs.Worlds.{comes_read, activates_read}
 use Rattle.node_readings.proofs.Events.{all_begin, gives_read, inits_read, ticks_read_all}
@@ -40,10 +38,6 @@ taken_none false (Some NotUp) e = absurd (cc e)
 taken_none false (Some why) e = absurd (cc e)
 taken_none true (Some NotUp) e = absurd (cc e)
 taken_none true _ e = absurd (cc e)
-
-pub stands_none : (o : Option Running) → if_true (is_some o) cause.Running ≡ None → o ≡ None
-stands_none None e = refl
-stands_none (Some r) e = absurd (cc e)
 
 -- the machine of a host's end
 host_end : (w : NodeWorld) (e : End) → IsTrue e.at_host → machine_in w e ≡ (link_to w.sites e.link).host.side

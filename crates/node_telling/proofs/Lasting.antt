@@ -1,22 +1,24 @@
 -- What lasts over each event of a world of nodes, with the entries noted so far, lasts over all events of a schedule.
 use Rattle.std.proofs.Common.{◌≡◌, ℕ, zero, suc, Bool, true, false, List, [], ◌∷◌, ◌++◌, sym, refl, ap, ◌∙◌, subst, append_assoc, append-nil}
-use Rattle.std.specs.Prelude.{Option, Some, None, replicate}
+use Rattle.std.specs.Prelude.{Option, Some, None, is_some, replicate, unwrap_or}
 use Rattle.std.specs.List.{AllByRecursion, flat_map}
 use Rattle.trace_model.specs.declared.entry.Entry.{Entry}
 use Rattle.trace_model.specs.declared.entry.NoCause.{NoCause}
+use Rattle.trace_model.specs.declared.entry.NoCause.TheVariants as cause
 use Rattle.trace_model.specs.declared.line.End.{End}
 use Rattle.trace_model.specs.declared.line.Line.{Line}
 use Rattle.trace_model.specs.declared.line.Line.TheVariants as line
 use Rattle.message_link.specs.Links.{Loss}
 use Rattle.history.specs.Damage.{Verdict}
 use Rattle.history.specs.Damage.Verdict.{Same, LostFor, Undetected}
+use Rattle.history.specs.Follows.{first_verdict, taken_of}
 use Rattle.node_machine.specs.Parts.{Running}
 use Rattle.node_world.specs.World.{NodeWorld, Happening, node_at, world_step}
-use Rattle.node_world.specs.World.Happening.{Takes, Loses}
-use Rattle.node_world.specs.Lines.{refusal_in, happens_by, happenings, Occurrence, can_happen, all_happen, LineOutcome, tables_told, goes_on, line_step}
+use Rattle.node_world.specs.World.Happening.{Takes, Loses, Ticks}
+use Rattle.node_world.specs.Lines.{if_true, frames_at, refusal_in, happens_by, happenings, Occurrence, can_happen, all_happen, LineOutcome, tables_told, goes_on, line_step}
 use Rattle.node_world.specs.Lines.LineOutcome.{WasRefused}
 use Rattle.node_world.specs.NodeHistories.{LineStep, steps_from, occurrences_of, entries_in, world_after}
-use Rattle.node_telling.specs.Telling.{world_behind}
+use Rattle.node_telling.specs.Telling.{world_behind, MayBoot}
 
 -- events that may happen one after another
 abbrev pub AllMay : (NodeWorld → Happening → Type 0) → NodeWorld → List Happening → Type 0
@@ -51,6 +53,27 @@ all_any w (c ∷ causes) = (tt, all_any (world_step w c).0 causes)
 pub all_lines : (lines : List Line) → AllByRecursion AnyLine lines
 all_lines [] = tt
 all_lines (l ∷ lines) = (tt, all_lines lines)
+
+pub stands_none : (o : Option Running) → if_true (is_some o) cause.Running ≡ None → o ≡ None
+stands_none None e = refl
+stands_none (Some r) e = absurd (cc e)
+
+-- a line that isn't refused boots a node only while it doesn't run
+pub boots_may : (w : NodeWorld) (l : Line) → AnyLine l → refusal_in w l ≡ None → AllMay MayBoot w (happenings w l)
+boots_may w (line.Send e pid message) any none = (tt, tt)
+boots_may w (line.Deliver e count) any none = repeated_may MayBoot (Takes e) (λ v. tt) (taken_of count (frames_at w e)) w
+boots_may w (line.Lose e) any none = (tt, tt)
+boots_may w (line.Damage e places) any none = damaged_may MayBoot w e tt (λ why. tt) (first_verdict (frames_at w e) places.items)
+boots_may w (line.Tick times) any none = repeated_may MayBoot Ticks (λ v. tt) (unwrap_or times 1) w
+boots_may w (line.Reset e window) any none = (tt, tt)
+boots_may w (line.Busy e) any none = tt
+boots_may w (line.Ready e) any none = tt
+boots_may w (line.Boot n) any none = (stands_none (node_at w n) none, tt)
+boots_may w (line.Cut n) any none = (tt, tt)
+boots_may w (line.Activate host sync power) any none = (tt, tt)
+boots_may w (line.Arm n nth fill) any none = (tt, tt)
+boots_may w (line.Init e identity pipes) any none = (tt, tt)
+boots_may w (line.Tables n) any none = tt
 
 -- the events of the steps of a history, and their entries
 abbrev pub events_of_steps : List LineStep → List Occurrence

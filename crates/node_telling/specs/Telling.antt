@@ -15,9 +15,9 @@ use Rattle.link_entries.specs.Entries.{event_entries, entries}
 use Rattle.history.specs.Filters.{Saying, said}
 use Rattle.history.specs.Steps.{entries_for}
 use Rattle.node_machine.specs.Parts.{Notice, Desk, Running}
-use Rattle.node_world.specs.World.{Site, NodeWorld, Happening, site_at, world_step}
+use Rattle.node_world.specs.World.{Site, NodeWorld, Happening, node_at, site_at, world_step}
 use Rattle.node_world.specs.Lines.{Occurrence}
-use Rattle.node_world.specs.World.Happening.{Ticks}
+use Rattle.node_world.specs.World.Happening.{Boots, Ticks}
 use Rattle.kept_laws.specs.Hosts.{AreDifferent}
 
 -- what is said is said of the link with this host
@@ -113,3 +113,8 @@ pub record IsTimely (w : NodeWorld) (h : ℕ) (s : Site) : Type 0 where
 abbrev pub world_behind : NodeWorld → List Occurrence → NodeWorld
 world_behind w [] = w
 world_behind w (o ∷ events) = world_behind (world_step w o.cause).0 events
+
+-- a node that boots doesn't run
+abbrev pub MayBoot : NodeWorld → Happening → Type 0
+MayBoot w (Boots n) = node_at w n ≡ None
+MayBoot w _ = Unit {0}

@@ -44,7 +44,8 @@ use Rattle.notice_readings.proofs.Shut.{here_shut}
 use Rattle.notice_readings.proofs.Far.{quiet_far, asking_more}
 use Rattle.notice_readings.proofs.Sites.{AreGood, Reads, AreHushed, still_reads, far_hushed, good_map, good_with, far_shut, begins_reads, sending_own, beginning_own}
 use Rattle.notice_readings.proofs.Near.{comes_reads, ticks_reads, activates_reads}
-use Rattle.notice_readings.specs.Worlds.{ControllerReads, IfHostNode, IfReads, IsRead, IsRightNotice, MayBoot}
+use Rattle.node_telling.specs.Telling.{MayBoot}
+use Rattle.notice_readings.specs.Worlds.{ControllerReads, IfHostNode, IfReads, IsRead, IsRightNotice}
 use Rattle.kept_laws.proofs.Booting.{command_read}
 
 -- ## The tables of a memory

@@ -1,8 +1,7 @@
 -- What is read of the controller's notices as the controller has a step.
 use Rattle.std.proofs.Common.{◌≡◌, ◌⊎◌, inl, inr, ℕ, ◌&&◌, Bool, true, false, not, eqb, List, [], ◌∷◌, ◌++◌, map, sym, refl, ap, ◌∙◌, subst, append_assoc}
-use Rattle.std.specs.Prelude.{Option, Some, None, is_some}
-use Rattle.std.specs.List.{AllByRecursion, flat_map, find}
-use Rattle.std.specs.Option.{option_map_or, option_and_then}
+use Rattle.std.specs.Prelude.{Option, Some, None}
+use Rattle.std.specs.List.{AllByRecursion, flat_map}
 use Rattle.std.proofs.lemmas.Bool.{cases_Bool, cond_both, true≢false}
 use Rattle.swp_base.specs.InMemory.{Plan}
 use Rattle.trace_model.specs.Lines.{IsHost}
@@ -10,7 +9,7 @@ use Rattle.trace_model.specs.declared.entry.Entry.{Entry}
 use Rattle.trace_model.specs.declared.entry.Entry.TheVariants as entry
 use Rattle.trace_model.specs.declared.line.End.{End}
 use Rattle.journal_laws.specs.Planned.{after_planned}
-use Rattle.session_laws.specs.Sessions.{OnWire, is_up}
+use Rattle.session_laws.specs.Sessions.{is_up}
 use Rattle.shdlc_core.specs.Machine.{is_waiting}
 use Rattle.link_machine.specs.Machine.{LinkEnd, LinkInput, Turn}
 use Rattle.link_machine.specs.Machine.LinkInput.{Reset}
@@ -34,7 +33,8 @@ use Rattle.kept_laws.specs.Hosts.{AreDifferent}
 use Rattle.node_telling.specs.Telling.{HasEnds, IfItRuns, hosts_in, IsOrderly}
 use Rattle.node_readings.specs.Orders.{IsFresh}
 use Rattle.node_readings.specs.Noticed.{IfNoticedUp, NoticesAreUp}
-use Rattle.node_readings.proofs.Silent.{IsQuiet, quiet-append}
+use Rattle.node_telling.proofs.Frames.{wires_all}
+use Rattle.node_readings.proofs.Silent.{IsQuiet}
 use Rattle.node_readings.proofs.Sites.{half_side, comes_outside}
 use Rattle.notice_readings.specs.Notices.{IsKept, notice_at}
 use Rattle.notice_readings.proofs.Reading.{notice_more}
@@ -243,24 +243,10 @@ module _ (t : List Entry) (w : NodeWorld) (orderly : IsOrderly w) (ups : Notices
 
   -- ## Time
 
-  aged_quiet : (xs ys : List OnWire) → AllByRecursion IsQuiet (aged_entries Controller xs ++ aged_entries Host ys)
-  aged_quiet xs ys = quiet-append (aged_entries Controller xs) (aged_entries Host ys) (near xs) (far ys) where
-    near : (xs : List OnWire) → AllByRecursion IsQuiet (aged_entries Controller xs)
-    near [] = tt
-    near (x ∷ xs) =
-        let later = near xs in
-        cond_both (Rattle.std.specs.Prelude.nat_lt x.age 4) (aged_entries Controller xs) _ (AllByRecursion IsQuiet) (λ _. later) (λ _. (tt, later))
-
-    far : (xs : List OnWire) → AllByRecursion IsQuiet (aged_entries Host xs)
-    far [] = tt
-    far (x ∷ xs) =
-        let later = far xs in
-        cond_both (Rattle.std.specs.Prelude.nat_lt x.age 4) (aged_entries Host xs) _ (AllByRecursion IsQuiet) (λ _. later) (λ _. (tt, later))
-
   aged_far : AreFar (all_aged w).1
   aged_far = far_flat (λ (s : Site). entries_for s.host (aged_entries Controller s.link.to_controller ++ aged_entries Host s.link.to_host))
       (λ s. quiet_far s.host (aged_entries Controller s.link.to_controller ++ aged_entries Host s.link.to_host)
-      (aged_quiet s.link.to_controller s.link.to_host)) w.sites
+      (wires_all IsQuiet (λ w c. tt) (λ w c. tt) (λ w c why. tt) (λ w. tt) Controller Host s.link.to_controller s.link.to_host)) w.sites
 
   aged_good : AreGood (all_aged w).0.sites
   aged_good = good_map (λ (s : Site). record s { link = aged s.link }) (λ s b. record { host = b.host; node = b.node; shut = b.shut }) w.sites a.sites

@@ -10,8 +10,7 @@ use Rattle.tables_laws.specs.Changes.{JoinTwo}
 use Rattle.link_machine.specs.Machine.{LinkEnd, is_open}
 use Rattle.node_machine.specs.Parts.{Creation, About, Notice, Desk, Running}
 use Rattle.node_machine.specs.Parts.About.{Waits, Forgotten, Removed}
-use Rattle.node_world.specs.World.{NodeWorld, Site, Happening, node_at}
-use Rattle.node_world.specs.World.Happening.{Boots}
+use Rattle.node_world.specs.World.{NodeWorld, Site}
 use Rattle.node_world.specs.NodeFilters.{is_notice, notice_in, asking_in}
 use Rattle.node_telling.specs.Telling.{IsOrderly}
 use Rattle.node_readings.specs.Noticed.{NoticesAreUp}
@@ -63,8 +62,3 @@ pub record IsRead (t : List Entry) (w : NodeWorld) : Type 0 where
   pub up : NoticesAreUp w
   pub sites : AllByRecursion IsGood w.sites
   pub controller : IfReads t w.controller
-
--- a node that boots doesn't run
-abbrev pub MayBoot : NodeWorld → Happening → Type 0
-MayBoot w (Boots n) = node_at w n ≡ None
-MayBoot w _ = Unit {0}

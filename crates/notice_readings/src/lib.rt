@@ -18,7 +18,8 @@ ghost use Rattle.notice_readings.specs.Spares.{IsEndRead};
 ghost use Rattle.node_world.specs.NodeHistories.{NodeHistory, FollowsNodes, node_entries, world_after};
 ghost use Rattle.kept_laws.specs.Hosts.{AreHosts};
 ghost use Rattle.notice_readings.specs.Notices.{GoesToFree, IsKept, NoticesAreRead, is_of_creation};
-ghost use Rattle.notice_readings.specs.Worlds.{IsRead, MayBoot};
+ghost use Rattle.node_telling.specs.Telling.{MayBoot};
+ghost use Rattle.notice_readings.specs.Worlds.{IsRead};
 
 /// Whatever message of a host a controller handles, it asks and tells by a notice only hosts that have no notice to answer: so no
 /// notice takes the place of another one.

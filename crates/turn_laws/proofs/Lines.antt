@@ -1,48 +1,24 @@
 -- What waits at each end of a world behind any lines of a schedule, and that messages have their turns in order.
 use Rattle.std.proofs.Common.{◌≡◌, ℕ, ◌==◌, Bool, true, false, List, [], ◌∷◌, ◌++◌, Option, Some, None, map, refl, ap, sym, subst}
-use Rattle.std.specs.Prelude.{is_some, replicate, unwrap_or}
+use Rattle.std.specs.Prelude.{is_some, replicate}
 use Rattle.std.specs.List.{AllByRecursion}
 use Rattle.trace_model.specs.declared.entry.Entry.{Entry}
 use Rattle.trace_model.specs.declared.line.Header.{Header}
 use Rattle.trace_model.specs.declared.line.Line.{Line}
-use Rattle.trace_model.specs.declared.line.Line.TheVariants as line
 use Rattle.link_machine.specs.Machine.{Message}
-use Rattle.history.specs.Follows.{first_verdict, taken_of}
 use Rattle.node_machine.specs.Parts.{Running}
-use Rattle.node_world.specs.World.{Site, NodeWorld, Happening, node_at, site_at, new_site, new_world, end_c, end_h, world_step}
-use Rattle.node_world.specs.World.Happening.{Takes, Ticks}
-use Rattle.node_world.specs.Lines.{refusal_in, frames_at, happenings}
+use Rattle.node_world.specs.World.{Site, NodeWorld, Happening, site_at, new_site, new_world, end_c, end_h, world_step}
 use Rattle.node_world.specs.NodeHistories.{NodeHistory, FollowsNodes, node_entries, world_after}
 use Rattle.node_world.specs.NodeLegal.{AreInTurn}
 use Rattle.kept_laws.specs.Hosts.{AreDifferent}
-use Rattle.node_telling.specs.Telling.{IsOrderly}
-use Rattle.node_telling.proofs.Lasting.{AllMay, repeated_may, damaged_may, AnyLine, all_lines, entries_of_steps, lines_last}
+use Rattle.node_telling.specs.Telling.{IsOrderly, MayBoot}
+use Rattle.node_telling.proofs.Lasting.{AnyLine, boots_may, all_lines, entries_of_steps, lines_last}
 use Rattle.node_telling.proofs.Orderly.{step_orderly, new_orderly}
 use Rattle.node_telling.proofs.Worlds.{site_is}
-use Rattle.node_readings.proofs.Lines.{stands_none}
 use Rattle.turn_laws.specs.Turns.{AreLeft}
 use Rattle.turn_laws.proofs.Queues.{Goes, goes-append, Front, front_goes, all_left}
 use Rattle.turn_laws.proofs.Works.{NearWaits, FarWaits, ByPower, Waits, end_at, Moves}
-use Rattle.turn_laws.proofs.Worlds.{MayBe, events_move}
-
--- ## Lines
-
--- a line that isn't refused boots a node only while it doesn't run
-line_may : (w : NodeWorld) (l : Line) → AnyLine l → refusal_in w l ≡ None → AllMay MayBe w (happenings w l)
-line_may w (line.Send e pid message) a q = (tt, tt)
-line_may w (line.Deliver e count) a q = repeated_may MayBe (Takes e) (λ v. tt) (taken_of count (frames_at w e)) w
-line_may w (line.Lose e) a q = (tt, tt)
-line_may w (line.Damage e places) a q = damaged_may MayBe w e tt (λ why. tt) (first_verdict (frames_at w e) places.items)
-line_may w (line.Tick times) a q = repeated_may MayBe Ticks (λ v. tt) (unwrap_or times 1) w
-line_may w (line.Reset e window) a q = (tt, tt)
-line_may w (line.Busy e) a q = tt
-line_may w (line.Ready e) a q = tt
-line_may w (line.Boot node) a q = (stands_none (node_at w node) q, tt)
-line_may w (line.Cut node) a q = (tt, tt)
-line_may w (line.Activate host sync power) a q = (tt, tt)
-line_may w (line.Arm node nth fill) a q = (tt, tt)
-line_may w (line.Init e identity pipes) a q = (tt, tt)
-line_may w (line.Tables node) a q = tt
+use Rattle.turn_laws.proofs.Worlds.{events_move}
 
 -- ## Schedules
 
@@ -57,7 +33,7 @@ pub record AllWait (t : List Entry) (w : NodeWorld) : Type 0 where
   pub orderly : IsOrderly w
   pub waiting : (b : Bool) (h : ℕ) → Waiting t w b h
 
-waiting_lasts : (t : List Entry) (w : NodeWorld) (c : Happening) → AllWait t w → MayBe w c → AllWait (t ++ (world_step w c).1) (world_step w c).0
+waiting_lasts : (t : List Entry) (w : NodeWorld) (c : Happening) → AllWait t w → MayBoot w c → AllWait (t ++ (world_step w c).1) (world_step w c).0
 waiting_lasts t w c a may =
     record {
       orderly = step_orderly w c a.orderly;
@@ -105,7 +81,7 @@ module _ (header : Header) (lines : List Line) (t : NodeHistory) (follows : Foll
   all_wait =
       let hosts : List ℕ = header.hosts.items in
       subst (λ l. AllWait l last) (ap entries_of_steps (sym follows.steps_are))
-      (lines_last AllWait MayBe AnyLine waiting_lasts line_may lines [] (new_world hosts)
+      (lines_last AllWait MayBoot AnyLine waiting_lasts boots_may lines [] (new_world hosts)
       (record {
         orderly = new_orderly hosts different numbers;
         waiting = λ b h. record { messages = []; goes = refl; waits = none_wait hosts b h };

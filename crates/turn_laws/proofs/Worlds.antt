@@ -30,7 +30,7 @@ use Rattle.node_world.specs.World.Happening.{Boots, IsCut, Gives, Inits, Takes, 
 use Rattle.node_world.specs.NodeLegal.{node_number}
 use Rattle.kept_laws.proofs.Sites.{with_site_twice}
 use Rattle.node_links.proofs.Ends.{here_host, tick_host}
-use Rattle.node_telling.specs.Telling.{HasEnds, IfItRuns, hosts_in, IsOrderly}
+use Rattle.node_telling.specs.Telling.{HasEnds, IfItRuns, hosts_in, IsOrderly, MayBoot}
 use Rattle.node_telling.proofs.Mute.{AreMute}
 use Rattle.node_telling.proofs.Nodes.{site_host, link_is}
 use Rattle.node_telling.proofs.Worlds.{site_is, node_is}
@@ -572,12 +572,7 @@ ticks_move w a =
 
 -- ## Events
 
--- a node boots only while it doesn't run
-abbrev pub MayBe : NodeWorld → Happening → Type 0
-MayBe w (Boots n) = node_at w n ≡ None
-MayBe w _ = Unit {0}
-
-pub events_move : (w : NodeWorld) (c : Happening) → IsOrderly w → MayBe w c → AllMove w (world_step w c).0 (world_step w c).1
+pub events_move : (w : NodeWorld) (c : Happening) → IsOrderly w → MayBoot w c → AllMove w (world_step w c).0 (world_step w c).1
 events_move w (Boots n) a may = boots_move w n a may
 events_move w (IsCut n) a may = power_moves n w
 events_move w (Gives e m) a may = begins_move w e.link (sending e.link m) (sending_mute e.link m) a
