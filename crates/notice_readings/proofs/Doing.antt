@@ -30,7 +30,7 @@ use Rattle.node_machine.specs.Parts.Deed.{Commits, Sends, SaysOk, Asks, Releases
 use Rattle.node_machine.specs.Carrying.{own_side, noting, unless_cut, port_at, changed_if, with_port, with_desk, after_turn, noted_of, turn_at, notified, loses_power, keeps, commit, done, all_done}
 use Rattle.node_world.specs.NodeFilters.{is_notice, notice_in}
 use Rattle.node_links.proofs.Noticing.{turn-phase, UpAt, at_all, at_host}
-use Rattle.notice_readings.specs.Notices.{IsAbout, IsKept}
+use Rattle.notice_readings.specs.Notices.{IsAbout, IsKeptNotice}
 use Rattle.notice_readings.proofs.Reading.{reads, read_more, sent_reads, sent_elsewhere, notice_reads}
 use Rattle.notice_readings.proofs.Telling.{AreRight, noticed, MayTell}
 use Rattle.notice_readings.specs.Worlds.{IsRightAbout, IsRightNotice}
@@ -91,7 +91,7 @@ module _ (x : ℕ) (before : List Entry) where
     pub ends : before ++ w.entries ≡ front ++ entry.Cut 0 ∷ []
 
   abbrev pub IsOn : Work → Type 0
-  IsOn w = Holds IsKept w
+  IsOn w = Holds IsKeptNotice w
 
   abbrev pub Stands : Work → Type 0
   Stands w = IsOn w ⊎ IsOff w
@@ -176,7 +176,7 @@ module _ (x : ℕ) (before : List Entry) where
   -- a message that is no notice is given
   gives : (k : ℕ) (m : Message) (w : Work) → (eqb m.0 1 && is_notice m.1) ≡ false → IsOn w → IsOn (turn_at k (Give m) w)
   gives k m w other a =
-      turns IsKept k (Give m) w (λ p r. sent_reads x p.desk.host (own_side w.core) p.session m (give_refusal p.side m) r other) a
+      turns IsKeptNotice k (Give m) w (λ p r. sent_reads x p.desk.host (own_side w.core) p.session m (give_refusal p.side m) r other) a
 
   pub desks : (K : Option (List ℕ) → Option Notice → Type 0) (k : ℕ) (f : Desk → Desk) (w : Work) → ((d : Desk) → (f d).host ≡ d.host)
       → ((d : Desk) → (f d).notice ≡ d.notice) → Holds K w → Holds K (with_desk k f w)
@@ -227,10 +227,10 @@ module _ (x : ℕ) (before : List Entry) where
           (map given w.ports) (all_map (λ (p : Port). IsRightNotice p.desk.notice) (λ (p : Port). IsRightNotice p.desk.notice) given given_right w.ports
           a.right);
       up = subst UpAt (sym same) a.up;
-      kept = subst (λ r. IsKept r (noticed (notified k about message w).ports x))
+      kept = subst (λ r. IsKeptNotice r (noticed (notified k about message w).ports x))
           (sym (read_more x before w.entries (option_map_or (noted_of w.core (Give (1, message))) (port_at w.ports k) []) (read_in w) (read_in w) refl
           (silent (port_at w.ports k) refl (read_in w))))
-          (subst (λ o. IsKept (read_in w) (option_and_then (λ (p : Port). p.desk.notice) o)) (sym same) a.kept);
+          (subst (λ o. IsKeptNotice (read_in w) (option_and_then (λ (p : Port). p.desk.notice) o)) (sym same) a.kept);
     } where
       same : port_at (notified k about message w).ports x ≡ port_at w.ports x
       same =
@@ -260,12 +260,12 @@ module _ (x : ℕ) (before : List Entry) where
           (map given w.ports) (all_map (λ (p : Port). IsRightNotice p.desk.notice) (λ (p : Port). IsRightNotice p.desk.notice) given given_right w.ports
           a.right);
       up = subst UpAt (sym (at_told w.ports)) (ups (port_at w.ports x) refl takes a.up);
-      kept = subst (λ r. IsKept r (noticed (notified k about message w).ports x))
+      kept = subst (λ r. IsKeptNotice r (noticed (notified k about message w).ports x))
           (sym (read_more x before w.entries (option_map_or (noted_of w.core (Give (1, message))) (port_at w.ports k) []) (read_in w)
           (reads x (option_map_or (noted_of w.core (Give (1, message))) (port_at w.ports k) []) (read_in w)) refl refl))
-          (subst (λ o. IsKept (reads x (option_map_or (noted_of w.core (Give (1, message))) (port_at w.ports k) []) (read_in w))
+          (subst (λ o. IsKeptNotice (reads x (option_map_or (noted_of w.core (Give (1, message))) (port_at w.ports k) []) (read_in w))
           (option_and_then (λ (p : Port). p.desk.notice) o)) (sym (at_told w.ports))
-          (subst (λ n. IsKept (reads x (option_map_or (noted_of w.core (Give (1, message))) (port_at w.ports n) []) (read_in w))
+          (subst (λ n. IsKeptNotice (reads x (option_map_or (noted_of w.core (Give (1, message))) (port_at w.ports n) []) (read_in w))
           (option_and_then (λ (p : Port). p.desk.notice) (option_map told (option_map given (port_at w.ports x))))) (sym (eqb-true k x here))
           (keeps_it (port_at w.ports x) refl takes a.kept)));
     } where
@@ -281,8 +281,8 @@ module _ (x : ℕ) (before : List Entry) where
           subst (λ (q : Port). UpAt (Some q)) (sym (is_told p e))
           (λ n. ap is_up (turn-phase p.side (Give (1, message)) ∙ (give_tells p.side (1, message) t).0))
 
-      keeps_it : (o : Option Port) → port_at w.ports x ≡ o → Takes o message → IsKept (read_in w) (option_and_then (λ (p : Port). p.desk.notice) o)
-          → IsKept (reads x (option_map_or (noted_of w.core (Give (1, message))) o []) (read_in w))
+      keeps_it : (o : Option Port) → port_at w.ports x ≡ o → Takes o message → IsKeptNotice (read_in w) (option_and_then (λ (p : Port). p.desk.notice) o)
+          → IsKeptNotice (reads x (option_map_or (noted_of w.core (Give (1, message))) o []) (read_in w))
           (option_and_then (λ (p : Port). p.desk.notice) (option_map told (option_map given o)))
       keeps_it None e t b = b
       keeps_it (Some p) e t b =
@@ -292,8 +292,8 @@ module _ (x : ℕ) (before : List Entry) where
           let read : reads x (noted_of w.core (Give (1, message)) p) (read_in w) ≡ Some message =
           ap (λ es. reads x es (read_in w)) sent
           ∙ notice_reads x p.desk.host p.session message (read_in w) (eq-eqb p.desk.host x (at_host w.ports x p e)) is in
-          subst (λ r. IsKept r (told (given p)).desk.notice) (sym read)
-          (subst (λ (q : Port). IsKept (Some message) q.desk.notice) (sym (is_told p e)) says)
+          subst (λ r. IsKeptNotice r (told (given p)).desk.notice) (sym read)
+          (subst (λ (q : Port). IsKeptNotice (Some message) q.desk.notice) (sym (is_told p e)) says)
 
     pub tells : (w : Work) → (eqb k x ≡ true → Takes (port_at w.ports x) message) → is_notice message ≡ true → IsAbout about message
         → IsRightAbout about → IsOn w → IsOn (notified k about message w)
@@ -314,8 +314,8 @@ module _ (x : ℕ) (before : List Entry) where
     hosts = subst AreHostEnds (sym ports) a.hosts;
     right = subst AreRight (sym ports) a.right;
     up = subst (λ ps. UpAt (port_at ps x)) (sym ports) a.up;
-    kept = subst (λ es. IsKept (notice_in (before ++ es) x) (noticed v.ports x)) (sym entries)
-        (subst (λ ps. IsKept (read_in w) (noticed ps x)) (sym ports) a.kept);
+    kept = subst (λ es. IsKeptNotice (notice_in (before ++ es) x) (noticed v.ports x)) (sym entries)
+        (subst (λ ps. IsKeptNotice (read_in w) (noticed ps x)) (sym ports) a.kept);
   }
 
   pub commit_ports : (c : Command) (w : Work) → (commit c w).ports ≡ w.ports
@@ -333,7 +333,7 @@ module _ (x : ℕ) (before : List Entry) where
     noted = noting (entry.Command w.core.node c ∷ []) w
 
     begun : IsOn noted
-    begun = hushed IsKept (entry.Command w.core.node c ∷ []) w (λ r. refl) a
+    begun = hushed IsKeptNotice (entry.Command w.core.node c ∷ []) w (λ r. refl) a
 
     lost_is : fails_within (length writes) w.plan ≡ true → commit c w ≡ loses_power writes noted
     lost_is e = rw e refl
@@ -369,17 +369,17 @@ module _ (x : ℕ) (before : List Entry) where
       (turn_at to (Give m) w)
       (λ n f. still_takes to (after_turn (Give m)) w.ports (λ q. refl) n f.0 (fits n f.1)) may.1)
   all_stand k F (SaysOk ∷ deeds) w fits may a =
-      then (all_done k deeds) (done k SaysOk w) (inl (hushed IsKept _ w (λ r. refl) a)) (all_stand k F deeds (done k SaysOk w) fits may)
+      then (all_done k deeds) (done k SaysOk w) (inl (hushed IsKeptNotice _ w (λ r. refl) a)) (all_stand k F deeds (done k SaysOk w) fits may)
   all_stand k F (Asks to message c ∷ deeds) w fits may a =
       let aside : Work = turn_at c.asker SetAside w in
       let asked : Work = noting (entry.Ask to message ∷ []) aside in
-      let b : IsOn asked = hushed IsKept (entry.Ask to message ∷ []) aside (λ r. refl) (turns IsKept c.asker SetAside w (λ p r. refl) a) in
+      let b : IsOn asked = hushed IsKeptNotice (entry.Ask to message ∷ []) aside (λ r. refl) (turns IsKeptNotice c.asker SetAside w (λ p r. refl) a) in
       then (all_done k deeds) (done k (Asks to message c) w) (inl (tells to (Waits c) message asked
       (λ e. still_takes c.asker (after_turn SetAside) w.ports (λ q. refl) message (ap (λ n. eqb c.asker n) (sym (eqb-true to x e)) ∙ may.1.else)
       (fits message (may.0 e)))
       may.1.test may.1.notice may.1.right b)) (all_stand k (λ n. ⊥) deeds (done k (Asks to message c) w) (λ n f. absurd f) may.2)
   all_stand k F (Releases asker ∷ deeds) w fits may a =
-      then (all_done k deeds) (turn_at asker Release w) (inl (turns IsKept asker Release w (λ p r. refl) a)) (all_stand k (λ n. ⊥) deeds
+      then (all_done k deeds) (turn_at asker Release w) (inl (turns IsKeptNotice asker Release w (λ p r. refl) a)) (all_stand k (λ n. ⊥) deeds
       (turn_at asker Release w) (λ n f. absurd f) may)
   all_stand k F (Tells to message ∷ deeds) w fits may a =
       then (all_done k deeds) (notified to Removed message w) (inl (tells to Removed message w (λ e. fits message (may.0 e)) may.1.test may.1.about tt a))
@@ -389,9 +389,9 @@ module _ (x : ℕ) (before : List Entry) where
       (still_takes to (after_turn (Give (1, message))) w.ports (λ q. refl) n f.0 (fits n f.1))) may.2)
   all_stand k F (IsAnswered ∷ deeds) w fits may a = absurd may
   all_stand k F (Drops pid ∷ deeds) w fits may a =
-      then (all_done k deeds) (done k (Drops pid) w) (inl (hushed IsKept _ w (λ r. refl) a)) (all_stand k F deeds (done k (Drops pid) w) fits may)
+      then (all_done k deeds) (done k (Drops pid) w) (inl (hushed IsKeptNotice _ w (λ r. refl) a)) (all_stand k F deeds (done k (Drops pid) w) fits may)
   all_stand k F (SetsErrors errors ∷ deeds) w fits may a =
-      then (all_done k deeds) (done k (SetsErrors errors) w) (inl (desks IsKept k (λ d. record d { errors = errors }) w (λ d. refl) (λ d. refl) a))
+      then (all_done k deeds) (done k (SetsErrors errors) w) (inl (desks IsKeptNotice k (λ d. record d { errors = errors }) w (λ d. refl) (λ d. refl) a))
       (all_stand k F deeds (done k (SetsErrors errors) w) (set_takes fits) may) where
         set_takes : ((m : List ℕ) → F m → Takes (port_at w.ports x) m) → (m : List ℕ) → F m → Takes (port_at (done k (SetsErrors errors) w).ports x) m
         set_takes fits m f =

@@ -38,14 +38,14 @@ use Rattle.kept_laws.specs.Hosts.{AreHosts}
 use Rattle.node_telling.proofs.Orderly.{new_orderly, step_orderly}
 use Rattle.node_readings.proofs.NoticedWorlds.{event_up, numbers}
 use Rattle.node_readings.proofs.Sites.{lost_quiet}
-use Rattle.notice_readings.specs.Notices.{IsKept, notice_at}
+use Rattle.notice_readings.specs.Notices.{IsKeptNotice, notice_at}
 use Rattle.notice_readings.proofs.Reading.{notice_more}
 use Rattle.notice_readings.proofs.Shut.{here_shut}
 use Rattle.notice_readings.proofs.Far.{quiet_far, asking_more}
 use Rattle.notice_readings.proofs.Sites.{AreGood, Reads, AreHushed, still_reads, far_hushed, good_map, good_with, far_shut, begins_reads, sending_own, beginning_own}
 use Rattle.notice_readings.proofs.Near.{comes_reads, ticks_reads, activates_reads}
 use Rattle.node_telling.specs.Telling.{MayBoot}
-use Rattle.notice_readings.specs.Worlds.{ControllerReads, IfHostNode, IfReads, IsRead, IsRightNotice}
+use Rattle.notice_readings.specs.Worlds.{ControllerReads, IfHostNode, IfReads, KeepsNotices, IsRightNotice}
 use Rattle.kept_laws.proofs.Booting.{command_read}
 
 -- ## The tables of a memory
@@ -85,7 +85,7 @@ found_reads t hosts content none = record {
   sorted = (fine_found content).0;
   two = (fine_found content).1;
   right = none_right hosts;
-  kept = λ x. subst (λ m. IsKept m (notice_at (map new_desk hosts) x)) (sym (none x).0) (subst (IsKept None) (sym (none_noticed hosts x)) tt);
+  kept = λ x. subst (λ m. IsKeptNotice m (notice_at (map new_desk hosts) x)) (sym (none x).0) (subst (IsKeptNotice None) (sym (none_noticed hosts x)) tt);
 }
 
 module _ (t : List Entry) (w : NodeWorld) (a : Reads t w) where
@@ -230,7 +230,7 @@ counted_reads t (Broken fault) h (Some r) a = record {
   sorted = a.sorted;
   two = a.two;
   right = right_counted h r.desks a.right;
-  kept = λ x. subst (IsKept (notice_in t x)) (sym (noticed_counted h r.desks x)) (a.kept x);
+  kept = λ x. subst (IsKeptNotice (notice_in t x)) (sym (noticed_counted h r.desks x)) (a.kept x);
 }
 counted_reads t OnDemand h o a = a
 counted_reads t Unread h o a = a
@@ -290,10 +290,10 @@ lost_reads t w e why a = by_side (cases_Bool e.at_host) where
 
 -- ## Events
 
-so_far : (t : List Entry) (w : NodeWorld) → IsRead t w → Reads t w
+so_far : (t : List Entry) (w : NodeWorld) → KeepsNotices t w → Reads t w
 so_far t w a = record { sites = a.sites; reads_so = a.controller }
 
-event_so : (t : List Entry) (w : NodeWorld) (c : Happening) → IsRead t w → MayBoot w c → Reads (t ++ (world_step w c).1) (world_step w c).0
+event_so : (t : List Entry) (w : NodeWorld) (c : Happening) → KeepsNotices t w → MayBoot w c → Reads (t ++ (world_step w c).1) (world_step w c).0
 event_so t w (Boots n) a may = boots_reads t w n (so_far t w a) may
 event_so t w (IsCut n) a may = cut_reads t w (so_far t w a) n
 event_so t w (Gives e m) a may = begins_reads t w (so_far t w a) e.link (sending e.link m) (sending_own e.link m)
@@ -306,7 +306,7 @@ event_so t w (Activates h sync power) a may = activates_reads t w a.orderly a.up
 event_so t w (Arms n plan) a may =
     subst (λ l. Reads l (world_step w (Arms n plan)).0) (sym (append-nil t)) (memory_reads t w (so_far t w a) n (record (memory_at w n) { plan = Some plan }))
 
-pub event_read : (t : List Entry) (w : NodeWorld) (c : Happening) → IsRead t w → MayBoot w c → IsRead (t ++ (world_step w c).1) (world_step w c).0
+pub event_read : (t : List Entry) (w : NodeWorld) (c : Happening) → KeepsNotices t w → MayBoot w c → KeepsNotices (t ++ (world_step w c).1) (world_step w c).0
 event_read t w c a may =
     let so : Reads (t ++ (world_step w c).1) (world_step w c).0 = event_so t w c a may in
     record { orderly = step_orderly w c a.orderly; up = event_up w c a.orderly a.up; sites = so.sites; controller = so.reads_so }
@@ -317,7 +317,7 @@ new_good : (content : List ℕ) (hosts : List ℕ) → AllByRecursion IsHost hos
 new_good content [] a = tt
 new_good content (h ∷ hosts) a = (record { host = a.0; node = tt; shut = λ q. refl }, new_good content hosts a.1)
 
-pub begins_read : (hosts : List ℕ) → AreHosts hosts → IsRead [] (new_world hosts)
+pub begins_read : (hosts : List ℕ) → AreHosts hosts → KeepsNotices [] (new_world hosts)
 begins_read hosts are = record {
   orderly = new_orderly hosts are.different (numbers hosts are.all);
   up = tt;

@@ -5,17 +5,17 @@ use Rattle.gate_answers.specs.Answers.{instruction_in}
 use Rattle.node_machine.specs.Parts.{About, Notice, Port}
 use Rattle.node_machine.specs.Parts.About.{Waits, Forgotten, Removed}
 use Rattle.node_machine.specs.Controller.{is_asked_at}
-use Rattle.notice_readings.specs.Notices.{IsAbout, IsKept, is_of_creation}
+use Rattle.notice_readings.specs.Notices.{IsAbout, IsKeptNotice, is_of_creation}
 
-pub noticed_is : (message : Option (List ℕ)) (p : Port) → IsKept message p.desk.notice → is_some p.desk.notice ≡ is_some message
+pub noticed_is : (message : Option (List ℕ)) (p : Port) → IsKeptNotice message p.desk.notice → is_some p.desk.notice ≡ is_some message
 noticed_is message p kept = go message p.desk.notice kept where
-  go : (r : Option (List ℕ)) (n : Option Notice) → IsKept r n → is_some n ≡ is_some r
+  go : (r : Option (List ℕ)) (n : Option Notice) → IsKeptNotice r n → is_some n ≡ is_some r
   go None None k = refl
   go (Some m) (Some n) k = refl
   go None (Some n) k = absurd k
   go (Some m) None k = absurd k
 
-pub asked_is : (message : Option (List ℕ)) (p : Port) → IsKept message p.desk.notice → is_asked_at p ≡ is_of_creation message
+pub asked_is : (message : Option (List ℕ)) (p : Port) → IsKeptNotice message p.desk.notice → is_asked_at p ≡ is_of_creation message
 asked_is message p kept = go message p.desk.notice refl kept where
   is : (m : List ℕ) (k : ℕ) (b : Bool) → instruction_in m ≡ k → eqb k 18 ≡ b → b ≡ eqb (instruction_in m) 18
   is m k b e q = sym q ∙ ap (λ n. eqb n 18) (sym e)
@@ -27,7 +27,7 @@ asked_is message p kept = go message p.desk.notice refl kept where
   asks n e Removed r m (inl k) = rw (e, r) (is m 19 false k refl)
   asks n e Removed r m (inr k) = rw (e, r) (is m 21 false k refl)
 
-  go : (r : Option (List ℕ)) (n : Option Notice) → p.desk.notice ≡ n → IsKept r n → is_asked_at p ≡ is_of_creation r
+  go : (r : Option (List ℕ)) (n : Option Notice) → p.desk.notice ≡ n → IsKeptNotice r n → is_asked_at p ≡ is_of_creation r
   go None None e k = rw e refl
   go (Some m) (Some n) e k = asks n e n.about refl m k
   go None (Some n) e k = absurd k

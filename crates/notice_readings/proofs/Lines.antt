@@ -12,25 +12,25 @@ use Rattle.node_world.specs.NodeFilters.{notice_in, asking_in}
 use Rattle.kept_laws.specs.Hosts.{AreHosts}
 use Rattle.node_telling.specs.Telling.{MayBoot}
 use Rattle.node_telling.proofs.Lasting.{AnyLine, boots_may, all_lines, lines_last}
-use Rattle.notice_readings.specs.Notices.{IsKept, notice_of, NoticesAreRead}
+use Rattle.notice_readings.specs.Notices.{IsKeptNotice, notice_of, NoticesAreRead}
 use Rattle.notice_readings.proofs.Events.{event_read, begins_read}
-use Rattle.notice_readings.specs.Worlds.{IfReads, IsRead}
+use Rattle.notice_readings.specs.Worlds.{IfReads, KeepsNotices}
 
 -- ## Schedules
 
 -- the notices of a controller are those that are read
-pub notices_of : (t : List Entry) (w : NodeWorld) → IsRead t w → NoticesAreRead t w
+pub notices_of : (t : List Entry) (w : NodeWorld) → KeepsNotices t w → NoticesAreRead t w
 notices_of t w a = go w.controller a.controller where
-  go : (o : Option Running) → IfReads t o → (h : ℕ) → IsKept (notice_in t h) (notice_of o h)
-  go None none h = subst (λ m. IsKept m None) (sym (none h).0) tt
+  go : (o : Option Running) → IfReads t o → (h : ℕ) → IsKeptNotice (notice_in t h) (notice_of o h)
+  go None none h = subst (λ m. IsKeptNotice m None) (sym (none h).0) tt
   go (Some r) some h = some.kept h
 
 schedule_is : (header : Header) (lines : List Line) (t : NodeHistory) → FollowsNodes header lines t → AreHosts header.hosts.items
-    → IsRead (node_entries t) (world_after (new_world header.hosts.items) lines)
+    → KeepsNotices (node_entries t) (world_after (new_world header.hosts.items) lines)
 schedule_is header lines t follows are =
-    subst (λ l. IsRead l (world_after (new_world header.hosts.items) lines))
+    subst (λ l. KeepsNotices l (world_after (new_world header.hosts.items) lines))
     (ap (λ (steps : List LineStep). entries_in (flat_map (λ (s : LineStep). occurrences_of s.outcome) steps)) (sym follows.steps_are))
-    (lines_last IsRead MayBoot AnyLine event_read boots_may lines [] (new_world header.hosts.items) (begins_read header.hosts.items are) (all_lines lines))
+    (lines_last KeepsNotices MayBoot AnyLine event_read boots_may lines [] (new_world header.hosts.items) (begins_read header.hosts.items are) (all_lines lines))
 
 pub schedule_read : (header : Header) (lines : List Line) (t : NodeHistory) → FollowsNodes header lines t → AreHosts header.hosts.items
     → NoticesAreRead (node_entries t) (world_after (new_world header.hosts.items) lines)
@@ -38,7 +38,7 @@ schedule_read header lines t follows are =
     notices_of (node_entries t) (world_after (new_world header.hosts.items) lines) (schedule_is header lines t follows are)
 
 -- no creation is read to wait while the controller doesn't run
-pub none_waits : (t : List Entry) (w : NodeWorld) → IsRead t w → w.controller ≡ None → (h : ℕ) → asking_in t h ≡ None
+pub none_waits : (t : List Entry) (w : NodeWorld) → KeepsNotices t w → w.controller ≡ None → (h : ℕ) → asking_in t h ≡ None
 none_waits t w a off h = let none : IfReads t None = subst (IfReads t) off a.controller in (none h).1
 
 pub schedule_waits : (header : Header) (lines : List Line) (t : NodeHistory) → FollowsNodes header lines t → AreHosts header.hosts.items

@@ -36,7 +36,7 @@ use Rattle.node_readings.specs.Noticed.{IfNoticedUp, NoticesAreUp}
 use Rattle.node_telling.proofs.Frames.{wires_all}
 use Rattle.node_readings.proofs.Silent.{IsQuiet}
 use Rattle.node_readings.proofs.Sites.{half_side, comes_outside}
-use Rattle.notice_readings.specs.Notices.{IsKept, notice_at}
+use Rattle.notice_readings.specs.Notices.{IsKeptNotice, notice_at}
 use Rattle.notice_readings.proofs.Reading.{notice_more}
 use Rattle.notice_readings.proofs.Telling.{AreRight, noticed}
 use Rattle.notice_readings.proofs.Doing.{AreHostEnds, IsOn, Stands}
@@ -129,8 +129,8 @@ module _ (t : List Entry) (w : NodeWorld) (r : Running) (has : HasEnds 0 (hosts_
     hosts = host_ports halves r.desks (subst (AllByRecursion IsHost) (sym has.ends) (good_hosts w.sites sites));
     right = right_ports halves r.desks old.right;
     up = up_ports (λ n. (link_to w.sites n).controller) halves same r.desks x (ups x);
-    kept = subst (λ m. IsKept m (noticed (ports_of halves r.desks) x)) (sym (notice_more x t es ∙ far_reads x es quiet (notice_in t x)))
-        (subst (IsKept (notice_in t x)) (sym (noticed_ports halves r.desks x)) (old.kept x));
+    kept = subst (λ m. IsKeptNotice m (noticed (ports_of halves r.desks) x)) (sym (notice_more x t es ∙ far_reads x es quiet (notice_in t x)))
+        (subst (IsKeptNotice (notice_in t x)) (sym (noticed_ports halves r.desks x)) (old.kept x));
   }
 
   stands : (x : ℕ) → Stands x t after_it
@@ -178,8 +178,8 @@ module _ (t : List Entry) (w : NodeWorld) (r : Running) (has : HasEnds 0 (hosts_
       sorted = (on e 0 (stands 0)).sorted;
       two = (on e 0 (stands 0)).two;
       right = right_desks after_it.ports (on e 0 (stands 0)).right;
-      kept = λ x. subst (λ m. IsKept m (notice_at (map (λ (p : Port). p.desk) after_it.ports) x)) (sym (parts x))
-          (subst (IsKept (notice_in (t ++ after_it.entries) x)) (noticed_desks after_it.ports x) (on e x (stands x)).kept);
+      kept = λ x. subst (λ m. IsKeptNotice m (notice_at (map (λ (p : Port). p.desk) after_it.ports) x)) (sym (parts x))
+          (subst (IsKeptNotice (notice_in (t ++ after_it.entries) x)) (noticed_desks after_it.ports x) (on e x (stands x)).kept);
     })
 
 -- ## What comes

@@ -28,14 +28,14 @@ use Rattle.node_world.specs.World.{NodeWorld, Site, site_at, with_site, link_to,
 use Rattle.node_world.specs.NodeFilters.{notice_in, asking_in}
 use Rattle.node_links.proofs.Ends.{here_host, tick_host}
 use Rattle.node_readings.proofs.Sites.{ending_quiet}
-use Rattle.notice_readings.specs.Notices.{IsKept, notice_at}
+use Rattle.notice_readings.specs.Notices.{IsKeptNotice, notice_at}
 use Rattle.notice_readings.proofs.Reading.{reads, notice_more}
 use Rattle.notice_readings.proofs.Own.{AreOwn}
 use Rattle.notice_readings.proofs.Far.{AreFar, far-append, far_reads, far_asks, asks, asking_more, quiet_far, IsHostWork, all_do, steps_far}
-use Rattle.notice_readings.specs.Worlds.{IfHostNode, IfReads, IsGood, IsShut}
+use Rattle.notice_readings.specs.Worlds.{IfHostNode, IfReads, IsGoodSite, IsShut}
 
 abbrev pub AreGood : List Site → Type 0
-AreGood sites = AllByRecursion IsGood sites
+AreGood sites = AllByRecursion IsGoodSite sites
 
 pub record Reads (t : List Entry) (w : NodeWorld) : Type 0 where
   pub sites : AreGood w.sites
@@ -57,7 +57,7 @@ still_reads t es (Some r) hushed a = record {
   sorted = a.sorted;
   two = a.two;
   right = a.right;
-  kept = λ x. subst (λ m. IsKept m (notice_at r.desks x)) (sym (same_in t es x hushed)) (a.kept x);
+  kept = λ x. subst (λ m. IsKeptNotice m (notice_at r.desks x)) (sym (same_in t es x hushed)) (a.kept x);
 }
 
 pub far_hushed : (es : List Entry) → AreFar es → AreHushed es
@@ -65,21 +65,21 @@ far_hushed es far x r = (far_reads x es far r, far_asks x es far r)
 
 -- ## Sites
 
-pub good_map : (f : Site → Site) → ((s : Site) → IsGood s → IsGood (f s)) → (sites : List Site) → AreGood sites → AreGood (map f sites)
+pub good_map : (f : Site → Site) → ((s : Site) → IsGoodSite s → IsGoodSite (f s)) → (sites : List Site) → AreGood sites → AreGood (map f sites)
 good_map f one [] a = tt
 good_map f one (s ∷ sites) a = (one s a.0, good_map f one sites a.1)
 
-pub good_with : (h : ℕ) (f : Site → Site) → ((s : Site) → IsGood s → IsGood (f s)) → (sites : List Site) → AreGood sites → AreGood (with_site h f sites)
+pub good_with : (h : ℕ) (f : Site → Site) → ((s : Site) → IsGoodSite s → IsGoodSite (f s)) → (sites : List Site) → AreGood sites → AreGood (with_site h f sites)
 good_with h f one sites a = good_map (λ (s : Site). changed_if (eqb s.host h) f s) (λ s b. go (eqb s.host h) s b) sites a where
-  go : (c : Bool) (s : Site) → IsGood s → IsGood (changed_if c f s)
+  go : (c : Bool) (s : Site) → IsGoodSite s → IsGoodSite (changed_if c f s)
   go true s b = one s b
   go false s b = b
 
-pub good_at : (sites : List Site) (h : ℕ) (s : Site) → AreGood sites → site_at sites h ≡ Some s → IsGood s
+pub good_at : (sites : List Site) (h : ℕ) (s : Site) → AreGood sites → site_at sites h ≡ Some s → IsGoodSite s
 good_at [] h s a e = absurd (cc e)
 good_at (z ∷ sites) h s a e =
-    cond_both (eqb z.host h) (Some z) (site_at sites h) (λ o. o ≡ Some s → IsGood s)
-    (λ is f. let same : z ≡ s = cc in subst IsGood same a.0) (λ off f. good_at sites h s a.1 f) e
+    cond_both (eqb z.host h) (Some z) (site_at sites h) (λ o. o ≡ Some s → IsGoodSite s)
+    (λ is f. let same : z ≡ s = cc in subst IsGoodSite same a.0) (λ off f. good_at sites h s a.1 f) e
 
 pub link_shut : (sites : List Site) (n : ℕ) → AreGood sites → IsShut (link_to sites n).controller.side
 link_shut sites n a = go (site_at sites n) refl where
@@ -155,7 +155,7 @@ module _ (t : List Entry) (w : NodeWorld) (a : Reads t w) where
         )
     on_is s r here e = rw here (rw e refl)
 
-    by_node : (s : Site) → site_at w.sites h ≡ Some s → IsGood s → (o : Option Running) → s.node ≡ o → Fine (host_does w h comes f)
+    by_node : (s : Site) → site_at w.sites h ≡ Some s → IsGoodSite s → (o : Option Running) → s.node ≡ o → Fine (host_does w h comes f)
     by_node s here good None e = subst Fine (sym (off_is s here e)) nothing
     by_node s here good (Some r) e = subst Fine (sym (on_is s r here e)) (record {
       sites = good_with h (after_host comes k)
@@ -209,7 +209,7 @@ beginning_own identity pipes = (tt, (tt, tt))
 
 -- ## Hosts have their ticks
 
-one_tick : (s : Site) → IsGood s → IsGood (host_ticks s).0 × AreFar (host_ticks s).1
+one_tick : (s : Site) → IsGoodSite s → IsGoodSite (host_ticks s).0 × AreFar (host_ticks s).1
 one_tick s good = by_node s.node refl good.node where
   k : Running → Work
   k r = steps TimePasses (work_of r s.memory.plan (λ h. s.link.host) [])
@@ -228,13 +228,13 @@ one_tick s good = by_node s.node refl good.node where
       )
   on_is r e = rw e refl
 
-  by_node : (o : Option Running) → s.node ≡ o → IfHostNode o → IsGood (host_ticks s).0 × AreFar (host_ticks s).1
+  by_node : (o : Option Running) → s.node ≡ o → IfHostNode o → IsGoodSite (host_ticks s).0 × AreFar (host_ticks s).1
   by_node None e node =
-      subst (λ (p : Site × List Entry). IsGood p.0 × AreFar p.1) (sym (off_is e))
+      subst (λ (p : Site × List Entry). IsGoodSite p.0 × AreFar p.1) (sym (off_is e))
       (record { host = good.host; node = subst IfHostNode (sym e) tt; shut = far_tick_shut s.link [] GoesOut good.shut }, tt)
   by_node (Some r) e node =
       let far : IsHostWork (k r) = steps_far TimePasses (work_of r s.memory.plan (λ h. s.link.host) []) (record { number = node; far = tt }) in
-      subst (λ (p : Site × List Entry). IsGood p.0 × AreFar p.1) (sym (on_is r e)) (
+      subst (λ (p : Site × List Entry). IsGoodSite p.0 × AreFar p.1) (sym (on_is r e)) (
         record {
           host = good.host;
           node = runs_far (k r) far;

@@ -9,7 +9,8 @@ use Rattle.link_machine.specs.Machine.{Message, whole_among, need_of_all, in_use
 use Rattle.message_link.specs.Links.{Half, number_of}
 use Rattle.node_world.specs.World.{node_of}
 use Rattle.node_world.specs.NodeFilters.{session_now, unacknowledged_in, spare_at}
-use Rattle.notice_readings.specs.Spares.{session_of, IsEndRead}
+use Rattle.link_entries.specs.Sessions.{session_now as own_session}
+use Rattle.notice_readings.specs.Spares.{IsEndRead}
 
 in_use_is : (t : List Entry) (e : End) (half : Half) → IsEndRead t e half
     → need_of_all (unacknowledged_in t e (session_now t e (node_of e))) ≡ in_use half.side
@@ -17,15 +18,15 @@ in_use_is t e half a = ap (λ o. need_of_all (unacknowledged_in t e o)) a.sessio
   nothing : (half.side.shdlc.phase ≡ Up → ⊥) → in_use half.side ≡ 0
   nothing down = ap (λ (ms : List Message). need_of_all (drop (whole_among ms half.side.shdlc.session.acked) ms)) (a.none down)
 
-  go : (p : LinkState) → half.side.shdlc.phase ≡ p → need_of_all (unacknowledged_in t e (session_of half)) ≡ in_use half.side
+  go : (p : LinkState) → half.side.shdlc.phase ≡ p → need_of_all (unacknowledged_in t e (own_session half)) ≡ in_use half.side
   go Up q =
-      let is : session_of half ≡ Some (number_of half) = rw q refl in
+      let is : own_session half ≡ Some (number_of half) = rw q refl in
       ap (λ o. need_of_all (unacknowledged_in t e o)) is ∙ ap₂ (λ n (ms : List Message). need_of_all (drop n ms)) (a.acked q) (a.sent q)
   go Waiting q =
-      let is : session_of half ≡ None = rw q refl in
+      let is : own_session half ≡ None = rw q refl in
       ap (λ o. need_of_all (unacknowledged_in t e o)) is ∙ sym (nothing (λ up. let z : Waiting ≡ Up = sym q ∙ up in cc))
   go Down q =
-      let is : session_of half ≡ None = rw q refl in
+      let is : own_session half ≡ None = rw q refl in
       ap (λ o. need_of_all (unacknowledged_in t e o)) is ∙ sym (nothing (λ up. let z : Down ≡ Up = sym q ∙ up in cc))
 
 pub spare_is : (t : List Entry) (e : End) (half : Half) → IsEndRead t e half → spare_at t e ≡ spare half.side

@@ -29,7 +29,7 @@ use Rattle.node_links.proofs.Noticing.{UpAt}
 use Rattle.kept_laws.specs.Hosts.{AreDifferent}
 use Rattle.node_readings.specs.Orders.{IsFresh}
 use Rattle.node_readings.proofs.Noticed.{up_is}
-use Rattle.notice_readings.specs.Notices.{IsNoticeOf, IsAbout, IsKept}
+use Rattle.notice_readings.specs.Notices.{IsNoticeOf, IsAbout, IsKeptNotice}
 use Rattle.notice_readings.proofs.Reading.{reads, reads_append, told_reads}
 use Rattle.notice_readings.proofs.Deciding.{answer_other}
 use Rattle.notice_readings.proofs.Telling.{MayTell}
@@ -142,7 +142,7 @@ module _ (x : ℕ) where
 
 -- what is read and kept of it: nothing is read where its session ended
 pub record IsCome (r : Option (List ℕ)) (q : Port) : Type 0 where
-  pub kept : is_over q ≡ false → IsKept r q.desk.notice
+  pub kept : is_over q ≡ false → IsKeptNotice r q.desk.notice
   pub gone : is_over q ≡ true → r ≡ None
   pub up : is_over q ≡ false → is_some q.desk.notice ≡ true → q.side.shdlc.phase ≡ Up
   pub shut : IsShut q.side
@@ -152,7 +152,7 @@ IsComeAt r None = r ≡ None
 IsComeAt r (Some q) = IsCome r q
 
 module _ (p : Port) (fresh : IsFresh p) (up : UpAt (Some p)) (shut : IsShut p.side) where
-  pub come_is : (r : Option (List ℕ)) (o : Option LinkInput) → ((i : LinkInput) → o ≡ Some i → IsComing i) → IsKept r p.desk.notice
+  pub come_is : (r : Option (List ℕ)) (o : Option LinkInput) → ((i : LinkInput) → o ≡ Some i → IsComing i) → IsKeptNotice r p.desk.notice
       → IsCome (option_map_or (λ i. cond (is_some (ended_by p.side i)) None r) o r) (has_come p o)
   come_is r None coming kept =
       let not_over : is_over p ≡ false = rw (fresh.0, fresh.1) refl in
@@ -189,11 +189,11 @@ older_is r q a = record { kept = λ n. kept q.desk.notice (a.kept n); gone = a.g
   by None = None
   by (Some n) = Some (older_notice n)
 
-  kept_of : (r : Option (List ℕ)) (n : Notice) → IsKept r (Some n) → IsKept r (Some (older_notice n))
+  kept_of : (r : Option (List ℕ)) (n : Notice) → IsKeptNotice r (Some n) → IsKeptNotice r (Some (older_notice n))
   kept_of None n k = k
   kept_of (Some m) n k = k
 
-  kept : (o : Option Notice) → IsKept r o → IsKept r (by o)
+  kept : (o : Option Notice) → IsKeptNotice r o → IsKeptNotice r (by o)
   kept None k = k
   kept (Some n) k = kept_of r n k
 
@@ -251,8 +251,8 @@ forgets_is ports r q a = go (is_forgotten ports (asked_at q)) refl where
   named : (c : Creation) (m : List ℕ) → IsNoticeOf c m → instruction_in m ≡ 18
   named c m is = ap instruction_in is.message_is
 
-  about : (r : Option (List ℕ)) (n : Notice) (c : Creation) → creation_in (Some n) ≡ Some c → IsKept r (Some n)
-      → IsKept r (Some (record n { about = Forgotten }))
+  about : (r : Option (List ℕ)) (n : Notice) (c : Creation) → creation_in (Some n) ≡ Some c → IsKeptNotice r (Some n)
+      → IsKeptNotice r (Some (record n { about = Forgotten }))
   about None n c e k = k
   about (Some m) n c e k = by n.about refl k where
     by : (b : About) → n.about ≡ b → IsAbout n.about m → instruction_in m ≡ 18
@@ -277,7 +277,7 @@ forgets_is ports r q a = go (is_forgotten ports (asked_at q)) refl where
           let none : asked_at q ≡ None = ap creation_in is ∙ c in
           let z : false ≡ true = ap (is_forgotten ports) (sym none) ∙ e in absurd (true≢false (sym z))
       by_creation (Some c) z = subst (IsCome r) (sym same) (record {
-        kept = λ k. about r n c z (subst (IsKept r) is (a.kept k));
+        kept = λ k. about r n c z (subst (IsKeptNotice r) is (a.kept k));
         gone = a.gone;
         up = λ k some. a.up k (ap (λ (o : Option Notice). is_some o) is);
         shut = a.shut;
@@ -285,11 +285,11 @@ forgets_is ports r q a = go (is_forgotten ports (asked_at q)) refl where
 
 -- an end as the node's turns begin
 pub record IsReady (r : Option (List ℕ)) (q : Port) : Type 0 where
-  pub kept : IsKept r q.desk.notice
+  pub kept : IsKeptNotice r q.desk.notice
   pub up : UpAt (Some q)
 
 pub without_is : (r : Option (List ℕ)) (q : Port) → IsCome r q → IsReady r (without_notice q)
 without_is r q a = go (is_over q) refl where
   go : (b : Bool) → is_over q ≡ b → IsReady r (without_notice q)
-  go true e = rw e (record { kept = subst (λ z. IsKept z None) (sym (a.gone e)) tt; up = λ n. absurd (true≢false (sym n)) })
+  go true e = rw e (record { kept = subst (λ z. IsKeptNotice z None) (sym (a.gone e)) tt; up = λ n. absurd (true≢false (sym n)) })
   go false e = rw e (record { kept = a.kept e; up = λ n. ap is_up (a.up e n) })

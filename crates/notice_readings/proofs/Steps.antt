@@ -25,7 +25,7 @@ use Rattle.node_telling.proofs.Steps.{without_host, forgets_host, come_host}
 use Rattle.node_telling.proofs.Ticks.{reset_host}
 use Rattle.kept_laws.specs.Hosts.{AreDifferent}
 use Rattle.node_readings.specs.Orders.{IsFresh}
-use Rattle.notice_readings.specs.Notices.{IsKept}
+use Rattle.notice_readings.specs.Notices.{IsKeptNotice}
 use Rattle.notice_readings.proofs.Reading.{reads, read_more}
 use Rattle.notice_readings.proofs.Telling.{AreRight, at_port}
 use Rattle.notice_readings.proofs.Doing.{AreHostEnds, all_map, controller_side, IsOn, Stands, then, turns, all_stand, read_in}
@@ -106,7 +106,7 @@ module _ (x : ℕ) (before : List Entry) (w : Work) (a : IsOn x before w) where
         (map (forgets v.ports) v.ports) (all_map (λ (p : Port). IsRightNotice p.desk.notice) (λ (p : Port). IsRightNotice p.desk.notice) (forgets v.ports)
         (forgets_right v.ports) v.ports c.right);
     up = subst UpAt (sym same) (ups (port_at v.ports x) c.at);
-    kept = subst (λ o. IsKept (read_in x before v) (option_and_then (λ (p : Port). p.desk.notice) o)) (sym same) (keeps (port_at v.ports x) c.at);
+    kept = subst (λ o. IsKeptNotice (read_in x before v) (option_and_then (λ (p : Port). p.desk.notice) o)) (sym same) (keeps (port_at v.ports x) c.at);
   } where
     tables : (after_sessions v.core v.ports).tables ≡ w.core.tables
     tables = sessions_tables v.core v.ports ∙ ap (λ (k : Core). k.tables) c.core
@@ -123,8 +123,8 @@ module _ (x : ℕ) (before : List Entry) (w : Work) (a : IsOn x before w) where
     ups (Some q) b = (without_is (read_in x before v) (forgets v.ports q) (forgets_is v.ports (read_in x before v) q b)).up
 
     keeps : (o : Option Port) → IsComeAt (read_in x before v) o
-        → IsKept (read_in x before v) (option_and_then (λ (p : Port). p.desk.notice) (option_map without_notice (option_map (forgets v.ports) o)))
-    keeps None b = subst (λ r. IsKept r None) (sym b) tt
+        → IsKeptNotice (read_in x before v) (option_and_then (λ (p : Port). p.desk.notice) (option_map without_notice (option_map (forgets v.ports) o)))
+    keeps None b = subst (λ r. IsKeptNotice r None) (sym b) tt
     keeps (Some q) b = (without_is (read_in x before v) (forgets v.ports q) (forgets_is v.ports (read_in x before v) q b)).kept
 
   -- ## And what it does then
@@ -133,7 +133,7 @@ module _ (x : ℕ) (before : List Entry) (w : Work) (a : IsOn x before w) where
   frees [] v b = b
   frees (c ∷ cs) v b =
       let u : Work = turn_at c.asker Release v in
-      let freed : IsOn x before u = turns x before IsKept c.asker Release v (λ p r. refl) b in
+      let freed : IsOn x before u = turns x before IsKeptNotice c.asker Release v (λ p r. refl) b in
       let on : unless_cut (all_done 0 (map (λ (c : Creation). Releases c.asker) cs)) u ≡ all_done 0 (map (λ (c : Creation). Releases c.asker) cs) u =
       not_cut (all_done 0 (map (λ (c : Creation). Releases c.asker) cs)) u freed.on in
       subst (IsOn x before) (sym on) (frees cs u freed)
@@ -187,7 +187,7 @@ module _ (x : ℕ) (before : List Entry) (w : Work) (a : IsOn x before w) where
         told_is p None e = refl
         told_is p (Some i) e = told_here x w.core side p i (read_in x before w) e
 
-        go : (o : Option Port) → port_at w.ports x ≡ o → IsKept (read_in x before w) (option_and_then (λ (p : Port). p.desk.notice) o) → UpAt o
+        go : (o : Option Port) → port_at w.ports x ≡ o → IsKeptNotice (read_in x before w) (option_and_then (λ (p : Port). p.desk.notice) o) → UpAt o
             → IsComeAt (option_map_or (λ (p : Port). reads x (told_at w.core p (input_at input p)) (read_in x before w)) o (read_in x before w))
             (option_map come o)
         go None e kept up = kept_none (read_in x before w) None refl kept

@@ -23,7 +23,7 @@ use Rattle.node_links.specs.Notices.{AllReach}
 use Rattle.node_links.proofs.Noticing.{UpAt, at_all, at_host}
 use Rattle.node_links.proofs.Reaching.{controller_reach}
 use Rattle.node_readings.proofs.Noticed.{up_is}
-use Rattle.notice_readings.specs.Notices.{IsKept}
+use Rattle.notice_readings.specs.Notices.{IsKeptNotice}
 use Rattle.notice_readings.proofs.Reading.{reads, same_near}
 use Rattle.notice_readings.proofs.Telling.{noticed, IsShort, MayTell, answers, Outcome, controller_outcome}
 use Rattle.notice_readings.proofs.Telling.Outcome.{Leaves, IsHeard}
@@ -100,7 +100,7 @@ takes_with k x g ports m host same takes =
     go None t = tt
     go (Some p) t = changed_takes (eqb p.desk.host k) g p m same ∙ t
 
-pub kept_none : (r : Option (List ℕ)) (n : Option Notice) → n ≡ None → IsKept r n → r ≡ None
+pub kept_none : (r : Option (List ℕ)) (n : Option Notice) → n ≡ None → IsKeptNotice r n → r ≡ None
 kept_none None n e k = refl
 kept_none (Some m) None e k = absurd k
 kept_none (Some m) (Some n) e k = absurd (cc e)
@@ -122,7 +122,7 @@ module _ (x : ℕ) (before : List Entry) (k : ℕ) where
 
   -- what is left of a notice to x as an answer of k has its turn
   abbrev pending : Message → Option (List ℕ) → Option Notice → Type 0
-  pending m r n = ((eqb k x && answers x k m) ≡ true → r ≡ None) × ((eqb k x && answers x k m) ≡ false → IsKept r n)
+  pending m r n = ((eqb k x && answers x k m) ≡ true → r ≡ None) × ((eqb k x && answers x k m) ≡ false → IsKeptNotice r n)
 
   turn_read : (w : Work) (m : Message) → w.core.node ≡ 0 → (r : Option (List ℕ))
       → reads x (entry.Turn (end_of_node w.core k) m.0 m.1 ∷ []) r ≡ cond (eqb k x && answers x k m) None r
@@ -131,13 +131,13 @@ module _ (x : ℕ) (before : List Entry) (k : ℕ) where
       ∙ ap (λ b. cond (b && eqb m.0 1 && is_response m.1) None r) (same_near k x) ∙ three (eqb k x) (eqb m.0 1) (is_response m.1) None r
 
   fetched_holds : (K : Option (List ℕ) → Option Notice → Type 0) (m : Message) (w : Work)
-      → ((r : Option (List ℕ)) (n : Option Notice) → IsKept r n → K (cond (eqb k x && answers x k m) None r) n) → On w
+      → ((r : Option (List ℕ)) (n : Option Notice) → IsKeptNotice r n → K (cond (eqb k x && answers x k m) None r) n) → On w
       → Holds x before K (fetched m w)
   fetched_holds K m w one a =
       let noted : Work = noting (entry.Turn (end_of_node w.core k) m.0 m.1 ∷ []) w in
       desks x before K k (λ d. record d { holds = false }) (turn_at k FetchMessage noted) (λ d. refl) (λ d. refl)
       (turns x before K k FetchMessage noted (λ p r. refl)
-      (notes x before IsKept K (entry.Turn (end_of_node w.core k) m.0 m.1 ∷ []) w
+      (notes x before IsKeptNotice K (entry.Turn (end_of_node w.core k) m.0 m.1 ∷ []) w
       (λ r n b. subst (λ z. K z n) (sym (turn_read w m a.node r)) (one r n b)) a))
 
   fetched_takes : (m : Message) (w : Work) (message : List ℕ) → Takes (port_at w.ports x) message → Takes (port_at (fetched m w).ports x) message
@@ -155,7 +155,7 @@ module _ (x : ℕ) (before : List Entry) (k : ℕ) where
     hosts = all_map (λ (p : Port). IsHost p.desk.host) (λ (p : Port). IsHost p.desk.host) f (λ p b. subst IsHost (sym (host p)) b) w.ports a.hosts;
     right = all_map (λ (p : Port). IsRightNotice p.desk.notice) (λ (p : Port). IsRightNotice p.desk.notice) f right w.ports a.right;
     up = subst UpAt (sym (at_all w.ports x f host)) (ups (port_at w.ports x) a.up);
-    kept = subst (λ o. IsKept (read_in x before w) (option_and_then (λ (p : Port). p.desk.notice) o)) (sym (at_all w.ports x f host))
+    kept = subst (λ o. IsKeptNotice (read_in x before w) (option_and_then (λ (p : Port). p.desk.notice) o)) (sym (at_all w.ports x f host))
         (go (cases_Bool (eqb k x)) (port_at w.ports x) refl a.kept);
   } where
     none : Port → Port
@@ -182,21 +182,21 @@ module _ (x : ℕ) (before : List Entry) (k : ℕ) where
 
     go : (eqb k x ≡ true) ⊎ (eqb k x ≡ false) → (o : Option Port) → port_at w.ports x ≡ o
         → pending m (read_in x before w) (option_and_then (λ (p : Port). p.desk.notice) o)
-        → IsKept (read_in x before w) (option_and_then (λ (p : Port). p.desk.notice) (option_map f o))
+        → IsKeptNotice (read_in x before w) (option_and_then (λ (p : Port). p.desk.notice) (option_map f o))
     go (inl e) o q b = by o q where
       gone : read_in x before w ≡ None
       gone = b.0 (rw (e, is) refl)
 
       by : (o : Option Port) → port_at w.ports x ≡ o
-          → IsKept (read_in x before w) (option_and_then (λ (p : Port). p.desk.notice) (option_map f o))
-      by None q = subst (λ r. IsKept r None) (sym gone) tt
+          → IsKeptNotice (read_in x before w) (option_and_then (λ (p : Port). p.desk.notice) (option_map f o))
+      by None q = subst (λ r. IsKeptNotice r None) (sym gone) tt
       by (Some p) q =
           let there : eqb p.desk.host k ≡ true = eq-eqb p.desk.host k (at_host w.ports x p q ∙ sym (eqb-true k x e)) in
-          subst (λ r. IsKept r (f p).desk.notice) (sym gone) (subst (λ c. IsKept None (changed_if c none p).desk.notice) (sym there) tt)
+          subst (λ r. IsKeptNotice r (f p).desk.notice) (sym gone) (subst (λ c. IsKeptNotice None (changed_if c none p).desk.notice) (sym there) tt)
     go (inr e) None q b = b.1 (rw e refl)
     go (inr e) (Some p) q b =
         let other : eqb p.desk.host k ≡ false = ne_eqb p.desk.host k (λ s. eqb-false k x e (sym s ∙ at_host w.ports x p q)) in
-        subst (λ c. IsKept (read_in x before w) (changed_if c none p).desk.notice) (sym other) (b.1 (rw e refl))
+        subst (λ c. IsKeptNotice (read_in x before w) (changed_if c none p).desk.notice) (sym other) (b.1 (rw e refl))
 
   -- ## Messages
 
@@ -208,20 +208,20 @@ module _ (x : ℕ) (before : List Entry) (k : ℕ) where
       (ready x k IsShort (λ n. Takes (port_at w.ports x) n) w.ports (λ n short has. takes_it w.ports x n short has) deeds may reach room)
       still
     where
-      begun : Holds x before IsKept (fetched m w)
+      begun : Holds x before IsKeptNotice (fetched m w)
       begun = by (eqb k x && answers x k m) refl where
         by : (b : Bool) → (eqb k x && answers x k m) ≡ b → On (fetched m w)
-        by false e = fetched_holds IsKept m w (λ r n kept. subst (λ c. IsKept (cond c None r) n) (sym e) kept) a
+        by false e = fetched_holds IsKeptNotice m w (λ r n kept. subst (λ c. IsKeptNotice (cond c None r) n) (sym e) kept) a
         by true e =
             let nothing : noticed w.ports x ≡ None = leaves e in
             let gone : read_in x before w ≡ None = kept_none (read_in x before w) (noticed w.ports x) nothing a.kept in
             let K : Option (List ℕ) → Option Notice → Type 0 = λ r n. (r ≡ None) × (n ≡ None) in
-            let none_kept : (r : Option (List ℕ)) (n : Option Notice) → (r ≡ None) × (n ≡ None) → IsKept r n =
-            λ r n b. subst (λ z. IsKept z n) (sym b.0) (subst (λ z. IsKept None z) (sym b.1) tt) in
+            let none_kept : (r : Option (List ℕ)) (n : Option Notice) → (r ≡ None) × (n ≡ None) → IsKeptNotice r n =
+            λ r n b. subst (λ z. IsKeptNotice z n) (sym b.0) (subst (λ z. IsKeptNotice None z) (sym b.1) tt) in
             let noted : Work = noting (entry.Turn (end_of_node w.core k) m.0 m.1 ∷ []) w in
-            desks x before IsKept k (λ d. record d { holds = false }) (turn_at k FetchMessage noted) (λ d. refl) (λ d. refl)
-            (turns x before IsKept k FetchMessage noted (λ p r. refl)
-            (notes x before K IsKept (entry.Turn (end_of_node w.core k) m.0 m.1 ∷ []) w
+            desks x before IsKeptNotice k (λ d. record d { holds = false }) (turn_at k FetchMessage noted) (λ d. refl) (λ d. refl)
+            (turns x before IsKeptNotice k FetchMessage noted (λ p r. refl)
+            (notes x before K IsKeptNotice (entry.Turn (end_of_node w.core k) m.0 m.1 ∷ []) w
             (λ r n b. none_kept (reads x (entry.Turn (end_of_node w.core k) m.0 m.1 ∷ []) r) n
             (turn_read w m a.node r ∙ (ap (λ c. cond c None r) e), b.1))
             (record {
@@ -246,7 +246,7 @@ module _ (x : ℕ) (before : List Entry) (k : ℕ) where
       (λ n t. takes_with k x (λ p. record p { desk = record p.desk { notice = None } }) (fetched m w).ports n (λ q. refl) (λ q. refl) (fetched_takes m w n t))
       (ready x k IsShort (λ n. Takes (port_at w.ports x) n) w.ports (λ n short has. takes_it w.ports x n short has) deeds may reach room) b)
     where
-      one : (r : Option (List ℕ)) (n : Option Notice) → IsKept r n → pending m (cond (eqb k x && answers x k m) None r) n
+      one : (r : Option (List ℕ)) (n : Option Notice) → IsKeptNotice r n → pending m (cond (eqb k x && answers x k m) None r) n
       one r n b = by (eqb k x && answers x k m) refl where
         by : (c : Bool) → (eqb k x && answers x k m) ≡ c → pending m (cond c None r) n
         by true e = ((λ q. refl), (λ q. absurd (true≢false (sym e ∙ q))))
@@ -277,11 +277,11 @@ module _ (x : ℕ) (before : List Entry) (k : ℕ) where
     by false = turn_at k (Hold true) (with_desk k (λ d. record d { holds = true }) told)
 
     go : (b : Bool) → On (by b)
-    go true = turns x before IsKept k (Hold true) w (λ p r. refl) a
+    go true = turns x before IsKeptNotice k (Hold true) w (λ p r. refl) a
     go false =
-        turns x before IsKept k (Hold true) (with_desk k (λ d. record d { holds = true }) told) (λ p r. refl)
-        (desks x before IsKept k (λ d. record d { holds = true }) told (λ d. refl) (λ d. refl)
-        (hushed x before IsKept (entry.Held (end_of_node w.core k) short.0 short.1 ∷ []) w (λ r. refl) a))
+        turns x before IsKeptNotice k (Hold true) (with_desk k (λ d. record d { holds = true }) told) (λ p r. refl)
+        (desks x before IsKeptNotice k (λ d. record d { holds = true }) told (λ d. refl) (λ d. refl)
+        (hushed x before IsKeptNotice (entry.Held (end_of_node w.core k) short.0 short.1 ∷ []) w (λ r. refl) a))
 
   lets_stand : (w : Work) → On w → On (lets_go k w)
   lets_stand w a = go (option_map_or (λ (p : Port). is_held p.side) (port_at w.ports k) false) where
@@ -290,7 +290,7 @@ module _ (x : ℕ) (before : List Entry) (k : ℕ) where
     by false = w
 
     go : (b : Bool) → On (by b)
-    go true = turns x before IsKept k (Hold false) w (λ p r. refl) a
+    go true = turns x before IsKeptNotice k (Hold false) w (λ p r. refl) a
     go false = a
 
   pub have_stand : (messages : List Message) (w : Work) → IsHost k → On w → Fine (have_turns k messages w)

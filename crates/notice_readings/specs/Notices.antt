@@ -28,10 +28,10 @@ IsAbout Forgotten message = instruction_in message ≡ 18
 IsAbout Removed message = (instruction_in message ≡ 19) ⊎ (instruction_in message ≡ 21)
 
 -- the message that is read is the notice that is kept, or there is neither
-abbrev pub IsKept : Option (List ℕ) → Option Notice → Type 0
-IsKept None None = Unit {0}
-IsKept (Some message) (Some n) = IsAbout n.about message
-IsKept _ _ = ⊥
+abbrev pub IsKeptNotice : Option (List ℕ) → Option Notice → Type 0
+IsKeptNotice None None = Unit {0}
+IsKeptNotice (Some message) (Some n) = IsAbout n.about message
+IsKeptNotice _ _ = ⊥
 
 -- the notice to this host that isn't answered
 abbrev pub notice_at : List Desk → ℕ → Option Notice
@@ -44,7 +44,7 @@ notice_of (Some r) h = notice_at r.desks h
 
 -- the unanswered notice to each host is the one that is read
 abbrev pub NoticesAreRead : List Entry → NodeWorld → Type 0
-NoticesAreRead t w = (h : ℕ) → IsKept (notice_in t h) (notice_of w.controller h)
+NoticesAreRead t w = (h : ℕ) → IsKeptNotice (notice_in t h) (notice_of w.controller h)
 
 -- this host has a notice that isn't answered
 abbrev pub has_notice : List Port → ℕ → Bool

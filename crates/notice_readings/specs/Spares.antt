@@ -1,23 +1,19 @@
 -- What an end has, as it is read off entries, and the blocks that it has to spare.
-use Rattle.std.specs.Prelude.{◌≡◌, ℕ, if◌then◌else◌, List, [], Option, Some, None}
+use Rattle.std.specs.Prelude.{◌≡◌, List, []}
 use Rattle.trace_model.specs.declared.entry.Entry.{Entry}
 use Rattle.trace_model.specs.declared.line.End.{End}
 use Rattle.shdlc_core.specs.declared.answers.LinkState.TheVariants.{Up}
-use Rattle.session_laws.specs.Sessions.{is_up}
 use Rattle.link_machine.specs.Machine.{whole_acked}
 use Rattle.message_link.specs.Links.{Half, number_of}
+use Rattle.link_entries.specs.Sessions.{session_now as own_session}
 use Rattle.history.specs.Filters.{sent_in, acked_in}
 use Rattle.node_world.specs.World.{node_of}
 use Rattle.node_world.specs.NodeFilters.{session_now, aside_in}
 
--- the number of the session of an end, while it is up
-abbrev pub session_of : Half → Option ℕ
-session_of half = if is_up half.side.shdlc.phase then Some (number_of half) else None
-
 -- What is read of an end is what it has: its session, and in it the messages that it sent and how many of them are acknowledged whole;
 -- none in no session; and the block that is set aside.
 pub record IsEndRead (t : List Entry) (e : End) (half : Half) : Type 0 where
-  pub session : session_now t e (node_of e) ≡ session_of half
+  pub session : session_now t e (node_of e) ≡ own_session half
   pub sent : half.side.shdlc.phase ≡ Up → sent_in t e (number_of half) ≡ half.side.sent
   pub acked : half.side.shdlc.phase ≡ Up → acked_in t e (number_of half) ≡ whole_acked half.side
   pub none : (half.side.shdlc.phase ≡ Up → ⊥) → half.side.sent ≡ []

@@ -14,7 +14,7 @@ use Rattle.node_world.specs.World.{NodeWorld, Site}
 use Rattle.node_world.specs.NodeFilters.{is_notice, notice_in, asking_in}
 use Rattle.node_telling.specs.Telling.{IsOrderly}
 use Rattle.node_readings.specs.Noticed.{NoticesAreUp}
-use Rattle.notice_readings.specs.Notices.{IsKept, notice_at}
+use Rattle.notice_readings.specs.Notices.{IsKeptNotice, notice_at}
 
 -- a creation that waits is a command that may be recorded, and the answer that its asker gets is no notice
 abbrev pub IsRight : Creation → Type 0
@@ -34,7 +34,7 @@ pub record ControllerReads (t : List Entry) (r : Running) : Type 0 where
   pub sorted : AreTables r.core.tables
   pub two : JoinTwo r.core.tables.rows
   pub right : AllByRecursion (λ (d : Desk). IsRightNotice d.notice) r.desks
-  pub kept : (h : ℕ) → IsKept (notice_in t h) (notice_at r.desks h)
+  pub kept : (h : ℕ) → IsKeptNotice (notice_in t h) (notice_at r.desks h)
 
 -- none is read while it doesn't run, nor that a creation waits
 abbrev pub IfReads : List Entry → Option Running → Type 0
@@ -51,14 +51,14 @@ IfHostNode None = Unit {0}
 IfHostNode (Some r) = (r.core.node == 0) ≡ false
 
 -- a site is that of a host from 01 to 07, and the controller's end of its link is Down unless it is active
-pub record IsGood (s : Site) : Type 0 where
+pub record IsGoodSite (s : Site) : Type 0 where
   pub host : IsHost s.host
   pub node : IfHostNode s.node
   pub shut : IsShut s.link.controller.side
 
 -- so it is in a world, which is orderly, and whose notices stand at ends that are up
-pub record IsRead (t : List Entry) (w : NodeWorld) : Type 0 where
+pub record KeepsNotices (t : List Entry) (w : NodeWorld) : Type 0 where
   pub orderly : IsOrderly w
   pub up : NoticesAreUp w
-  pub sites : AllByRecursion IsGood w.sites
+  pub sites : AllByRecursion IsGoodSite w.sites
   pub controller : IfReads t w.controller

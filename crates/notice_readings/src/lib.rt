@@ -17,9 +17,9 @@ ghost use Rattle.message_link.specs.Links.{Half};
 ghost use Rattle.notice_readings.specs.Spares.{IsEndRead};
 ghost use Rattle.node_world.specs.NodeHistories.{NodeHistory, FollowsNodes, node_entries, world_after};
 ghost use Rattle.kept_laws.specs.Hosts.{AreHosts};
-ghost use Rattle.notice_readings.specs.Notices.{GoesToFree, IsKept, NoticesAreRead, is_of_creation};
+ghost use Rattle.notice_readings.specs.Notices.{GoesToFree, IsKeptNotice, NoticesAreRead, is_of_creation};
 ghost use Rattle.node_telling.specs.Telling.{MayBoot};
-ghost use Rattle.notice_readings.specs.Worlds.{IsRead};
+ghost use Rattle.notice_readings.specs.Worlds.{KeepsNotices};
 
 /// Whatever message of a host a controller handles, it asks and tells by a notice only hosts that have no notice to answer: so no
 /// notice takes the place of another one.
@@ -31,17 +31,17 @@ pub fn no_notice_takes_the_place_of_another()
 /// is read off the entries, and none is read of a controller that doesn't run: so it is at each moment between events. It asks for hosts
 /// from 01 to 07 that are all different, and a node that boots doesn't run.
 pub fn the_controller_keeps_the_notices_that_are_read()
-    ensures begin { (hosts : List ℕ) → AreHosts hosts → IsRead [] (new_world hosts) }
-    ensures event { (t : List Entry) (w : NodeWorld) (c : Happening) → IsRead t w → MayBoot w c →
-        IsRead (t ++ (world_step w c).1) (world_step w c).0 }
-    ensures read { (t : List Entry) (w : NodeWorld) → IsRead t w → NoticesAreRead t w }
+    ensures begin { (hosts : List ℕ) → AreHosts hosts → KeepsNotices [] (new_world hosts) }
+    ensures event { (t : List Entry) (w : NodeWorld) (c : Happening) → KeepsNotices t w → MayBoot w c →
+        KeepsNotices (t ++ (world_step w c).1) (world_step w c).0 }
+    ensures read { (t : List Entry) (w : NodeWorld) → KeepsNotices t w → NoticesAreRead t w }
 {}
 
 /// So what a controller knows of the host of an end is what is read, where the notice that it keeps is: that it has a notice to answer,
 /// and that it has that of a creation, also of one that was forgotten.
 pub fn noticed_and_asked_hosts_are_read()
-    ensures noticed { (message : Option (List ℕ)) (p : Port) → IsKept message p.desk.notice → is_some p.desk.notice ≡ is_some message }
-    ensures asked { (message : Option (List ℕ)) (p : Port) → IsKept message p.desk.notice → is_asked_at p ≡ is_of_creation message }
+    ensures noticed { (message : Option (List ℕ)) (p : Port) → IsKeptNotice message p.desk.notice → is_some p.desk.notice ≡ is_some message }
+    ensures asked { (message : Option (List ℕ)) (p : Port) → IsKeptNotice message p.desk.notice → is_asked_at p ≡ is_of_creation message }
 {}
 
 /// Behind any lines of a schedule the unanswered notice of the controller to each host is the one that is read off the entries, and it
@@ -56,7 +56,7 @@ pub fn unanswered_notices_are_read_off_histories()
 /// Nothing is read of a creation that waits while the controller doesn't run: at each moment, and behind any lines of a schedule with
 /// hosts from 01 to 07 that are all different.
 pub fn no_creation_is_read_while_the_controller_is_off()
-    ensures moment { (t : List Entry) (w : NodeWorld) → IsRead t w → w.controller ≡ None → (h : ℕ) → asking_in t h ≡ None }
+    ensures moment { (t : List Entry) (w : NodeWorld) → KeepsNotices t w → w.controller ≡ None → (h : ℕ) → asking_in t h ≡ None }
     ensures histories { (header : Header) (lines : List Line) (t : NodeHistory) → FollowsNodes header lines t → AreHosts header.hosts.items →
         (world_after (new_world header.hosts.items) lines).controller ≡ None → (h : ℕ) → asking_in (node_entries t) h ≡ None }
 {}
