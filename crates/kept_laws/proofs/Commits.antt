@@ -120,7 +120,7 @@ module _ (content : List ℕ) (s : State) (t : HciTables) (k : Knows content s t
   enough_of = subst (λ (x : State). x.snapshot ≤ x.base + x.many) k.state_is k.finds.enough
 
   module _ (c : Command) (may : IsCommand c) (room : length (body_of c) + 5 ≤ left s) where
-    has_room : HasRoom s (body_of c)
+    pub has_room : HasRoom s (body_of c)
     has_room = record { in_use = k.in_use; version = version_of; short = is_body c may; room = room }
 
     append_knows : Knows (after (append_writes s (body_of c)) content) (appended s (body_of c)) (apply t c)
@@ -142,7 +142,7 @@ module _ (content : List ℕ) (s : State) (t : HciTables) (k : Knows content s t
         (used_of content s t k) (used_of (after (append_writes s (body_of c)) content) (appended s (body_of c)) (apply t c) append_knows)
 
   module _ (are : AreTables t) (may : IsRecordable t) (next : s.generation < 4294967295) where
-    can : CanCompact s (snapshot_bodies t)
+    pub can : CanCompact s (snapshot_bodies t)
     can = record {
       in_use = k.in_use;
       generation = omega (arith, next);
@@ -181,10 +181,10 @@ module _ (content : List ℕ) (s : State) (t : HciTables) (c : Command) (k : Kno
   abbrev roomy : Bool → State
   roomy b = cond b s (compacted s (snapshot_bodies t))
 
-  next_of : fits s (body_of c) ≡ false → s.generation < 4294967295
+  pub next_of : fits s (body_of c) ≡ false → s.generation < 4294967295
   next_of full = ltb-true s.generation 4294967295 (sym (ap (λ b. cond b true (nat_lt s.generation 4294967295)) full) ∙ room)
 
-  room_knows : (b : Bool) → fits s (body_of c) ≡ b → Knows (made_room b) (roomy b) t × (length (body_of c) + 5 ≤ left (roomy b))
+  pub room_knows : (b : Bool) → fits s (body_of c) ≡ b → Knows (made_room b) (roomy b) t × (length (body_of c) + 5 ≤ left (roomy b))
   room_knows true is = (k, leb-true (length (body_of c) + 5) (left s) is)
   room_knows false is = (compact_knows content s t k are may (next_of is), omega (arith, snapshot_fits t may are, (is_body c command).1))
 
@@ -204,7 +204,7 @@ module _ (content : List ℕ) (s : State) (t : HciTables) (c : Command) (k : Kno
       append_count (with_room s t (body_of c)) (body_of c) (enough_of between (with_room s t (body_of c)) t r.0)
       ∙ ap (λ n. min (n + 1) (2 ^ 32 - 1)) (room_count s t (body_of c))
 
-  room_left : (b : Bool) → fits s (body_of c) ≡ b → (j : ℕ) (left : List ℕ) → IsCut j (cond b [] (compact_writes s (snapshot_bodies t))) content left
+  pub room_left : (b : Bool) → fits s (body_of c) ≡ b → (j : ℕ) (left : List ℕ) → IsCut j (cond b [] (compact_writes s (snapshot_bodies t))) content left
       → BootFinds left t (count_of s)
   room_left true is j left cut = absurd cut
   room_left false is j left cut = compact_left content s t k are may (next_of is) j left cut

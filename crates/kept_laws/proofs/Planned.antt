@@ -11,18 +11,18 @@ use Rattle.journal_laws.proofs.Made.{made_whole, made_in_part}
 use Rattle.journal_laws.proofs.Planned.{planned_answer}
 use Rattle.node_machine.specs.Carrying.{plan_behind}
 
-content_on : (m : Memory) (at : ℕ) (bytes : List ℕ) → is_next m.plan ≡ false → (memory_after m at bytes).content ≡ overwritten m.content at bytes
+pub content_on : (m : Memory) (at : ℕ) (bytes : List ℕ) → is_next m.plan ≡ false → (memory_after m at bytes).content ≡ overwritten m.content at bytes
 content_on m at bytes later =
     ap (λ b. (cond b (record m { content = overwritten m.content at (torn_bytes m.plan (length bytes)); plan = None; faults = one_more m.faults })
     (record m { content = overwritten m.content at bytes; plan = plan_after m.plan })).content) later
 
-content_torn : (m : Memory) (at : ℕ) (bytes : List ℕ) → is_next m.plan ≡ true
+pub content_torn : (m : Memory) (at : ℕ) (bytes : List ℕ) → is_next m.plan ≡ true
     → (memory_after m at bytes).content ≡ overwritten m.content at (torn_bytes m.plan (length bytes))
 content_torn m at bytes next =
     ap (λ b. (cond b (record m { content = overwritten m.content at (torn_bytes m.plan (length bytes)); plan = None; faults = one_more m.faults })
     (record m { content = overwritten m.content at bytes; plan = plan_after m.plan })).content) next
 
-plan_on : (m : Memory) (at : ℕ) (bytes : List ℕ) → is_next m.plan ≡ false → (memory_after m at bytes).plan ≡ plan_after m.plan
+pub plan_on : (m : Memory) (at : ℕ) (bytes : List ℕ) → is_next m.plan ≡ false → (memory_after m at bytes).plan ≡ plan_after m.plan
 plan_on m at bytes later =
     ap (λ b. (cond b (record m { content = overwritten m.content at (torn_bytes m.plan (length bytes)); plan = None; faults = one_more m.faults })
     (record m { content = overwritten m.content at bytes; plan = plan_after m.plan })).plan) later

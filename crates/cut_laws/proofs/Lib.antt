@@ -1,0 +1,4 @@
+pub mod Filled
+pub mod Gates
+pub mod Commits
+pub mod Banks

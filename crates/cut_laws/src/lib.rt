@@ -1,0 +1,52 @@
+//! Which commit a boot finds where the power went in its writes: the law of a commit that was cut, over a memory whose failing write
+//! is planned. Nothing here runs.
+#![tactic(auto)]
+
+ghost use Rattle.std.specs.Prelude.{◌≡◌, ◌⊎◌, ◌-◌, ◌^◌, ◌<◌, length, true, false};
+ghost use Rattle.swp_base.specs.InMemory.{Memory};
+ghost use Rattle.journal_laws.specs.declared.state.State.{State};
+ghost use Rattle.journal_laws.specs.Banks.{current};
+ghost use Rattle.journal_laws.specs.Journal.{count_of};
+ghost use Rattle.journal_laws.specs.Planned.{fails_within, after_planned};
+ghost use Rattle.hci_tables.specs.declared.command.Command.{Command};
+ghost use Rattle.hci_tables.specs.Commands.{IsCommand};
+ghost use Rattle.hci_tables.specs.Bodies.{body_of};
+ghost use Rattle.hci_tables.specs.Tables.{HciTables, AreTables, apply};
+ghost use Rattle.hci_store.specs.Recordable.{IsRecordable};
+ghost use Rattle.hci_store.specs.Committing.{room_writes, with_room, commit_writes, committed};
+ghost use Rattle.kept_laws.specs.Finds.{BootFinds, Knows, FindsRoom};
+ghost use Rattle.cut_laws.specs.Gates.{opens_gate};
+
+/// A node commits a command that may be recorded and finds room, and one of its writes fails. The last of them is that of the record's
+/// gate, also where a snapshot is written first. A boot finds the command exactly where that one failed and left 5A; wherever else the
+/// power went, in the record's body, in any write of a snapshot, or in the gate with another byte, a boot finds the tables and the
+/// count from before. A count that stands at its last value, 4,294,967,295, doesn't tell the two apart: `only` asks for a lower one.
+pub fn a_cut_commit_is_found_exactly_where_its_gate_was_opened()
+    ensures opened { (m : Memory) (s : State) (t : HciTables) (c : Command) → Knows m.content s t → AreTables t → IsRecordable t → IsCommand c
+        → FindsRoom s c → fails_within (length (commit_writes s t (body_of c))) m.plan ≡ true
+        → opens_gate (length (commit_writes s t (body_of c))) m.plan ≡ true
+        → BootFinds (after_planned (commit_writes s t (body_of c)) m).content (apply t c) (count_of (committed s t (body_of c))) }
+    ensures closed { (m : Memory) (s : State) (t : HciTables) (c : Command) → Knows m.content s t → AreTables t → IsRecordable t → IsCommand c
+        → FindsRoom s c → fails_within (length (commit_writes s t (body_of c))) m.plan ≡ true
+        → opens_gate (length (commit_writes s t (body_of c))) m.plan ≡ false
+        → BootFinds (after_planned (commit_writes s t (body_of c)) m).content t (count_of s) }
+    ensures only { (m : Memory) (s : State) (t : HciTables) (c : Command) → Knows m.content s t → AreTables t → IsRecordable t → IsCommand c
+        → FindsRoom s c → fails_within (length (commit_writes s t (body_of c))) m.plan ≡ true → count_of s < 2 ^ 32 - 1
+        → BootFinds (after_planned (commit_writes s t (body_of c)) m).content (apply t c) (count_of (committed s t (body_of c)))
+        → opens_gate (length (commit_writes s t (body_of c))) m.plan ≡ true }
+{}
+
+/// Where the record doesn't fit, the snapshot goes to the other bank, and that one is in use exactly from the snapshot's own gate on:
+/// where this gate's write failed and left 5A, or the power went later. Either way the tables and the count are those from before, but
+/// where the record's gate was opened too. If the power went earlier, or the gate holds another byte, the bank from before is in use.
+/// Where the record fits, there is no snapshot, and the two banks are the same.
+pub fn a_cut_commit_changes_banks_exactly_where_its_snapshot_was_opened()
+    ensures stayed { (m : Memory) (s : State) (t : HciTables) (c : Command) → Knows m.content s t → AreTables t → IsRecordable t → IsCommand c
+        → FindsRoom s c → fails_within (length (commit_writes s t (body_of c))) m.plan ≡ true
+        → fails_within (length (room_writes s t (body_of c))) m.plan ≡ true → opens_gate (length (room_writes s t (body_of c))) m.plan ≡ false
+        → current (after_planned (commit_writes s t (body_of c)) m).content ≡ s.in_use }
+    ensures moved { (m : Memory) (s : State) (t : HciTables) (c : Command) → Knows m.content s t → AreTables t → IsRecordable t → IsCommand c
+        → FindsRoom s c → fails_within (length (commit_writes s t (body_of c))) m.plan ≡ true
+        → (fails_within (length (room_writes s t (body_of c))) m.plan ≡ false) ⊎ (opens_gate (length (room_writes s t (body_of c))) m.plan ≡ true)
+        → current (after_planned (commit_writes s t (body_of c)) m).content ≡ (with_room s t (body_of c)).in_use }
+{}
