@@ -2,7 +2,7 @@
 //! is planned. Nothing here runs.
 #![tactic(auto)]
 
-ghost use Rattle.std.specs.Prelude.{◌≡◌, ◌⊎◌, ◌-◌, ◌^◌, ◌<◌, length, true, false};
+ghost use Rattle.std.specs.Prelude.{◌≡◌, ◌⊎◌, ℕ, ◌-◌, ◌^◌, ◌<◌, ◌++◌, List, length, min, true, false};
 ghost use Rattle.swp_base.specs.InMemory.{Memory};
 ghost use Rattle.journal_laws.specs.declared.state.State.{State};
 ghost use Rattle.journal_laws.specs.Banks.{current};
@@ -11,9 +11,14 @@ ghost use Rattle.journal_laws.specs.Planned.{fails_within, after_planned};
 ghost use Rattle.hci_tables.specs.declared.command.Command.{Command};
 ghost use Rattle.hci_tables.specs.Commands.{IsCommand};
 ghost use Rattle.hci_tables.specs.Bodies.{body_of};
-ghost use Rattle.hci_tables.specs.Tables.{HciTables, AreTables, apply};
+ghost use Rattle.hci_tables.specs.Tables.{HciTables, AreTables, no_tables, apply, after};
 ghost use Rattle.hci_store.specs.Recordable.{IsRecordable};
 ghost use Rattle.hci_store.specs.Committing.{room_writes, with_room, commit_writes, committed};
+ghost use Rattle.trace_model.specs.declared.entry.Entry.{Entry};
+ghost use Rattle.node_machine.specs.Parts.{Work};
+ghost use Rattle.node_machine.specs.Carrying.{commit};
+ghost use Rattle.node_world.specs.NodeFilters.{commands_in};
+ghost use Rattle.kept_laws.specs.Books.{StillRuns};
 ghost use Rattle.kept_laws.specs.Finds.{BootFinds, Knows, FindsRoom};
 ghost use Rattle.cut_laws.specs.Gates.{opens_gate};
 
@@ -49,4 +54,18 @@ pub fn a_cut_commit_changes_banks_exactly_where_its_snapshot_was_opened()
         → FindsRoom s c → fails_within (length (commit_writes s t (body_of c))) m.plan ≡ true
         → (fails_within (length (room_writes s t (body_of c))) m.plan ≡ false) ⊎ (opens_gate (length (room_writes s t (body_of c))) m.plan ≡ true)
         → current (after_planned (commit_writes s t (body_of c)) m).content ≡ (with_room s t (body_of c)).in_use }
+{}
+
+/// A node in a step commits a command that may be recorded and finds room, and loses its power in that. Over the memory that it had as
+/// the step began: a boot finds all commands that were noted, this one too, exactly where the write that fails is the last one of the
+/// step, that of the record's gate, and leaves 5A; else it finds all that were noted before this one.
+pub fn a_cut_step_is_found_exactly_where_its_last_gate_was_opened()
+    ensures opened { (n : ℕ) (hosts : List ℕ) (old : Memory) (before : List Entry) (c : Command) (w : Work) → StillRuns n hosts old before w
+        → IsCommand c → FindsRoom w.core.journal c → (commit c w).cut ≡ true → opens_gate (length (commit c w).writes) old.plan ≡ true
+        → BootFinds (after_planned (commit c w).writes old).content (after no_tables (commands_in (before ++ (commit c w).entries) n))
+        (min (length (commands_in (before ++ (commit c w).entries) n)) (2 ^ 32 - 1)) }
+    ensures closed { (n : ℕ) (hosts : List ℕ) (old : Memory) (before : List Entry) (c : Command) (w : Work) → StillRuns n hosts old before w
+        → IsCommand c → FindsRoom w.core.journal c → (commit c w).cut ≡ true → opens_gate (length (commit c w).writes) old.plan ≡ false
+        → BootFinds (after_planned (commit c w).writes old).content (after no_tables (commands_in (before ++ w.entries) n))
+        (min (length (commands_in (before ++ w.entries) n)) (2 ^ 32 - 1)) }
 {}
