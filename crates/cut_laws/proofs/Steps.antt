@@ -44,7 +44,8 @@ one_before (Some q) p n low later is =
     let same : record q { nth = q.nth - 1 } ≡ record { nth = p.nth + n; fill = p.fill } = cc in
     let number : q.nth - 1 ≡ p.nth + n = ap (λ (x : Plan). x.nth) same in
     let filling : q.fill ≡ p.fill = ap (λ (x : Plan). x.fill) same in
-    ap (λ f. Some (record { nth = q.nth; fill = f })) filling ∙ ap (λ k. Some (record { nth = k; fill = p.fill })) (omega (arith, number, low))
+    let filled : Some q ≡ Some (record { nth = q.nth; fill = p.fill }) = ap (λ f. Some (record { nth = q.nth; fill = f })) filling in
+    filled ∙ ap (λ k. Some (record { nth = k; fill = p.fill })) (omega (arith, number, low))
 
 -- a plan that is left behind writes was planned before them
 plan_before : (writes : List Write) (m : Memory) (p : Plan) → 1 ≤ p.nth → (after_planned writes m).plan ≡ Some p → m.plan ≡ farther (length writes) p

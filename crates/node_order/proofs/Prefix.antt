@@ -25,7 +25,7 @@ use Rattle.node_order.specs.Told.{IsTold}
 
 -- ## What is said of an end is said of its link
 
-unheard : (h : ℕ) (e : End) (x : Option (End × Saying)) → e.link ≡ h → is_of h x ≡ false → at_end e x ≡ None
+pub unheard : (h : ℕ) (e : End) (x : Option (End × Saying)) → e.link ≡ h → is_of h x ≡ false → at_end e x ≡ None
 unheard h e None q r = refl
 unheard h e (Some (f, saying)) q r =
     let off : (f.link == e.link) ≡ false = ap (λ n. f.link == n) q ∙ r in
