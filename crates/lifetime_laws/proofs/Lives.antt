@@ -20,7 +20,7 @@ use Rattle.session_laws.proofs.Wire.{IsData, Young, young_later, young_older}
 use Rattle.session_laws.proofs.Steps.{not_rset, took_other}
 use Rattle.session_laws.proofs.Ties.{data_due, sends_noted, offer_up, few_turns, none_due}
 use Rattle.session_laws.proofs.Quiet.{began_data, few_room}
-use Rattle.lifetime_laws.specs.Lifetime.{IsAnew, BeginsAnew, OnlyTurns, IsPlainHere, IsPlain, AllPlain, LosesNone, GoesOn}
+use Rattle.lifetime_laws.specs.Lifetime.{IsAnew, BeginsAnew, OnlyTurns, IsPlainHere, IsPlainEvent, AllPlain, LosesNone, GoesOn}
 use Rattle.lifetime_laws.proofs.Timely.{Timely}
 use Rattle.lifetime_laws.proofs.Lasts.{Lasts, lasts_exchanged, lasts_put, lasts_ready, lasts_ticked, lasts_older, lasts_taken, lasts_fetched, no_probe, ticked-due}
 
@@ -289,7 +289,7 @@ alive_here c h n l (Turns ts) p a v = alive_turns 0 c h n l ts a v
 alive_here c h n l (Deliver ts) p a v = alive_takes c h n l ts a v
 alive_here c h n l (_) p a v = absurd p
 
-alive_event : (c h : Half) (n : Losses) (l : Link) (e : LinkEvent) → IsPlain e → IsAlive 0 0 c h l → (noted_event n l e).lost ≡ false
+alive_event : (c h : Half) (n : Losses) (l : Link) (e : LinkEvent) → IsPlainEvent e → IsAlive 0 0 c h l → (noted_event n l e).lost ≡ false
     → IsAlive 0 0 c h (happens l e)
 alive_event c h n l (AtController e) p a v = alive_here c h n l e p a v
 alive_event c h n l (AtHost e) p a v =

@@ -37,15 +37,15 @@ IsPlainHere (Turns ts) = Unit {0}
 IsPlainHere (Deliver ts) = Unit {0}
 IsPlainHere _ = ⊥
 
-abbrev pub IsPlain : LinkEvent → Type 0
-IsPlain (AtController e) = IsPlainHere e
-IsPlain (AtHost e) = IsPlainHere e
-IsPlain (Tick (Some ts) turns (Some us)) = OnlyTurns turns
-IsPlain _ = ⊥
+abbrev pub IsPlainEvent : LinkEvent → Type 0
+IsPlainEvent (AtController e) = IsPlainHere e
+IsPlainEvent (AtHost e) = IsPlainHere e
+IsPlainEvent (Tick (Some ts) turns (Some us)) = OnlyTurns turns
+IsPlainEvent _ = ⊥
 
 abbrev pub AllPlain : List LinkEvent → Type 0
 AllPlain [] = Unit {0}
-AllPlain (e ∷ es) = IsPlain e × AllPlain es
+AllPlain (e ∷ es) = IsPlainEvent e × AllPlain es
 
 -- At no moment of these events a frame was lost. It is asked at each, since what was lost in a session doesn't count in the next one.
 abbrev pub LosesNone : Link → List LinkEvent → Type 0

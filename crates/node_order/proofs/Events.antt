@@ -43,7 +43,7 @@ use Rattle.node_telling.proofs.Nodes.{site_host, link_is, ports_for, is_step, co
 use Rattle.node_telling.proofs.Worlds.{site_is, node_is, HostDoes, host_does_step, host_does_begin}
 use Rattle.node_telling.proofs.Events.{memory_goes, comes_goes}
 use Rattle.node_readings.proofs.NoticedWorlds.{far_side}
-use Rattle.node_order.specs.Told.{IsTold}
+use Rattle.node_order.specs.Told.{IsLinkTold}
 use Rattle.node_order.proofs.Unnoticed.{IfNone, IsHostWork, AreUnnoticed, all_done_none, steps_none, runs_none}
 use Rattle.node_order.proofs.Knowing.{told_more, told_same, cut_clf, cut_uicc, Knows, Each, each_empty, each_map, each_site}
 
@@ -322,7 +322,7 @@ pub each_beside : (w : NodeWorld) (memory : Memory) (t u : List Entry) (k : ℕ)
 each_beside w memory t u k g keeps links far none q each =
     each_site w memory w.controller t u k g keeps (λ h s b. b)
     (λ s found b.
-    let T : Link → Type 0 = λ l. IsTold k l (t ++ u) in
+    let T : Link → Type 0 = λ l. IsLinkTold k l (t ++ u) in
     let N : Link → Type 0 = λ l. IfOff w.controller (new_link_end (Clf new_clf)) l.controller.side in
     let F : Link → Type 0 = λ l. IfOff (g s).node (new_link_end (Uicc new_uicc)) l.host.side in
     record {
@@ -499,7 +499,7 @@ lost_each w t e why each = go e.at_host refl
         each_site w w.memory (counts why e.link w.controller) t u e.link lost (λ s. refl)
         (λ h s b. counts_off why e.link w.controller new_near s.link.controller.side b)
         (λ s there b.
-        let T : Bool → Type 0 = λ c. IsTold e.link (happens s.link (event c)) (t ++ u) in
+        let T : Bool → Type 0 = λ c. IsLinkTold e.link (happens s.link (event c)) (t ++ u) in
         let told : TellOf e.link s.link (AtController (Lose why)) u =
         ap (λ (l : Link). of_link e.link (entries_for e.link (first_lost Controller why l.to_controller))) (link_is w.sites e.link s there) in
         let N : LinkEnd → Type 0 = IfOff (counts why e.link w.controller) new_near in
@@ -515,7 +515,7 @@ lost_each w t e why each = go e.at_host refl
         let u : List Entry = (by true).1 in
         each_site w w.memory w.controller t u e.link (λ s. record (lost s) { node = counts why e.link s.node }) (λ s. refl) (λ h s b. b)
         (λ s there b.
-        let T : Bool → Type 0 = λ c. IsTold e.link (happens s.link (event c)) (t ++ u) in
+        let T : Bool → Type 0 = λ c. IsLinkTold e.link (happens s.link (event c)) (t ++ u) in
         let told : TellOf e.link s.link (AtHost (Lose why)) u =
         ap (λ (l : Link). of_link e.link (entries_for e.link (first_lost Host why l.to_host))) (link_is w.sites e.link s there) in
         let N : LinkEnd → Type 0 = IfOff w.controller new_near in

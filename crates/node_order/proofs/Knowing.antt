@@ -26,13 +26,13 @@ use Rattle.node_telling.proofs.Parts.{IsStep}
 use Rattle.node_telling.proofs.Steps.{notes-append}
 use Rattle.node_telling.proofs.Nodes.{site_host, swapped}
 use Rattle.node_telling.proofs.Events.{site_map, entries-append}
-use Rattle.node_order.specs.Told.{IsTold}
+use Rattle.node_order.specs.Told.{IsLinkTold}
 use Rattle.node_order.proofs.Unnoticed.{IfNone}
 
 -- ## One link
 
 -- one event more
-pub told_more : (h : ℕ) (l : Link) (e : LinkEvent) (t u : List Entry) → IsEvent l e → TellOf h l e u → IsTold h l t → IsTold h (happens l e) (t ++ u)
+pub told_more : (h : ℕ) (l : Link) (e : LinkEvent) (t u : List Entry) → IsEvent l e → TellOf h l e u → IsLinkTold h l t → IsLinkTold h (happens l e) (t ++ u)
 told_more h l e t u can tells a =
     let O : List Entry → List Entry = of_link h in
     let es : List LinkEvent = a.events in
@@ -49,7 +49,7 @@ told_more h l e t u can tells a =
           ∙ notes-append h (entries new_line es) (entries (after new_line es) (e ∷ [])))));
     }
 
-pub told_same : (h : ℕ) (l : Link) (t u : List Entry) → of_link h u ≡ [] → IsTold h l t → IsTold h l (t ++ u)
+pub told_same : (h : ℕ) (l : Link) (t u : List Entry) → of_link h u ≡ [] → IsLinkTold h l t → IsLinkTold h l (t ++ u)
 told_same h l t u q a =
     record {
       events = a.events;
@@ -107,7 +107,7 @@ cut_uicc l comes ts o q c a =
 
 -- the link with a host is told, its ends are new while their nodes don't run, and its host has no notice of a controller
 pub record Knows (t : List Entry) (o : Option Running) (h : ℕ) (s : Site) : Type 0 where
-  pub told : IsTold h s.link t
+  pub told : IsLinkTold h s.link t
   pub near : IfOff o (new_link_end (Clf new_clf)) s.link.controller.side
   pub far : IfOff s.node (new_link_end (Uicc new_uicc)) s.link.host.side
   pub none : IfNone s.node

@@ -17,7 +17,7 @@ use Rattle.node_telling.specs.Telling.{world_behind}
 use Rattle.node_readings.proofs.NoticedWorlds.{numbers}
 use Rattle.turn_laws.proofs.Lines.{in_turn}
 use Rattle.node_order.specs.Told.{HasDelivered}
-use Rattle.node_order.specs.Legal.{AtEachEvent, Complete, LegalNodes}
+use Rattle.node_order.specs.Legal.{AtEachEvent, CompleteNodes, LegalNodes}
 use Rattle.node_order.proofs.Knowing.{Knows}
 use Rattle.node_order.proofs.Lines.{history_so}
 use Rattle.node_order.proofs.Ordered.{in_order, joined}
@@ -35,7 +35,7 @@ module _ (header : Header) (lines : List Line) (t : NodeHistory) (follows : Foll
       → site_at (world_behind (new_world x.hosts.items) front).sites h ≡ Some s → P (entries_in front) h s in
       subst Q (sym follows.header_is) (λ front back q h s found. one front h s ((history_so header lines t follows are playable front back q).each h s found))
 
-  pub complete : Complete t
+  pub complete : CompleteNodes t
   complete = record {
     delivered = each_event (λ entries h s. HasDelivered entries h s.link) (λ front h s a. delivered h s.link (entries_in front) a.told);
     settled = each_event

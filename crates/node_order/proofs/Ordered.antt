@@ -13,7 +13,7 @@ use Rattle.node_links.specs.Runs.{ArePlayable}
 use Rattle.kept_laws.specs.Hosts.{AreHosts}
 use Rattle.node_telling.specs.Telling.{of_link, hosts_in, world_behind}
 use Rattle.node_order.proofs.Strangers.{IsStrange}
-use Rattle.node_order.specs.Legal.{Prefix}
+use Rattle.node_order.specs.Legal.{PrefixNodes}
 use Rattle.node_order.proofs.Lines.{IsSo, all_so_behind}
 use Rattle.node_order.proofs.Prefix.{at_moment, at_none, told_chains, no_faults}
 
@@ -62,7 +62,7 @@ module _ (hosts : List ℕ) (t : List Entry) (w : NodeWorld) (a : IsSo hosts t w
       go h (IsNone strange) = ap (list_any is_chain_fault) (a.strange h (subst (IsStrange h) a.hosts_are strange))
 
 pub in_order : (header : Header) (lines : List Line) (t : NodeHistory) → FollowsNodes header lines t → AreHosts header.hosts.items → ArePlayable lines
-    → Prefix t
+    → PrefixNodes t
 in_order header lines t follows are p front back q =
     in_order_so header.hosts.items (node_entries t) (world_behind (new_world header.hosts.items) (occurrences_in t))
     (all_so_behind header lines t follows are p) front back q

@@ -21,7 +21,7 @@ use Rattle.history_laws.proofs.Ordered.{IsOneAtMost, front_given, one_entry, AtE
 use Rattle.node_links.specs.Runs.{new_line}
 use Rattle.node_telling.specs.Telling.{is_of, of_link}
 use Rattle.node_telling.proofs.Accounts.{of-append}
-use Rattle.node_order.specs.Told.{IsTold}
+use Rattle.node_order.specs.Told.{IsLinkTold}
 
 -- ## What is said of an end is said of its link
 
@@ -96,7 +96,7 @@ of_flat h [] = refl
 of_flat h (x ∷ notes) = of-append h (entry_of h x) (entries_for h notes) ∙ ap (λ z. of_link h (entry_of h x) ++ z) (of_flat h notes)
 
 -- a moment of a link that is told
-pub at_moment : (h : ℕ) (l : Link) (t front back : List Entry) → IsTold h l t → t ≡ front ++ back → (e : End) (n : ℕ) → e.link ≡ h → AtEnd front e n
+pub at_moment : (h : ℕ) (l : Link) (t front back : List Entry) → IsLinkTold h l t → t ≡ front ++ back → (e : End) (n : ℕ) → e.link ≡ h → AtEnd front e n
 at_moment h l t front back a q e n is =
     let notes : List Noted = entries new_line a.events in
     let parts = front_given (λ x. of_link h (entry_of h x)) (λ x. one_filtered (λ y. is_of h (said y)) (entry_of h x) (one_entry h x)) notes
@@ -135,7 +135,7 @@ none_filtered p q (x ∷ xs) a = go (q x) refl (none_filtered p q xs (or_right (
         both false e z = z
     go false r later = rw r later
 
-pub told_chains : (h : ℕ) (l : Link) (t : List Entry) → IsTold h l t → list_any is_chain_fault (of_link h t) ≡ false
+pub told_chains : (h : ℕ) (l : Link) (t : List Entry) → IsLinkTold h l t → list_any is_chain_fault (of_link h t) ≡ false
 told_chains h l t a =
     let notes : List Noted = entries new_line a.events in
     ap (list_any is_chain_fault) a.told

@@ -19,10 +19,10 @@ use Rattle.history_laws.proofs.Noted.{sent-all, got-all, acked-all}
 use Rattle.node_world.specs.World.{end_c, end_h}
 use Rattle.node_links.specs.Runs.{new_line}
 use Rattle.node_links.proofs.Obeying.{delivers_to_host, delivers_to_controller}
-use Rattle.node_order.specs.Told.{IsTold, IsReadOff, AreReadOff, HasDelivered}
+use Rattle.node_order.specs.Told.{IsLinkTold, IsReadOff, AreReadOff, HasDelivered}
 use Rattle.node_order.proofs.Prefix.{sent_alike, got_alike, acked_alike}
 
-module _ (h : ℕ) (l : Link) (t : List Entry) (a : IsTold h l t) where
+module _ (h : ℕ) (l : Link) (t : List Entry) (a : IsLinkTold h l t) where
   abbrev notes : List Noted
   notes = entries new_line a.events
 

@@ -34,7 +34,7 @@ use Rattle.node_telling.proofs.Worlds.{site_is}
 use Rattle.node_telling.proofs.WorldTicks.{host_tick, host_is, tick_host, host_turns, between, between_far, near_tick, near_turns, tick_event, Ticking, ticking}
 use Rattle.node_readings.specs.Noticed.{IfNoticedUp, NoticesAreUp}
 use Rattle.node_readings.proofs.NoticedWorlds.{host_tick_side}
-use Rattle.node_order.specs.Told.{IsTold}
+use Rattle.node_order.specs.Told.{IsLinkTold}
 use Rattle.node_order.proofs.Unnoticed.{IfNone, steps_none, runs_none}
 use Rattle.node_order.proofs.Knowing.{told_more, renewed_clf, renewed_uicc, Knows, Each, site_none, WasThere, was_there}
 use Rattle.node_order.proofs.Events.{IsWell}
@@ -64,7 +64,7 @@ end_found halves (x ∷ desks) h d q = go (x.host == h) refl (end_found halves d
     go false e later = rw e (later (rw e at q))
 
 -- an end of such a link that is up is active
-up_open : (h : ℕ) (l : Link) (t : List Entry) → IsTold h l t → l.controller.side.shdlc.phase ≡ Up → is_open l.controller.side.role ≡ true
+up_open : (h : ℕ) (l : Link) (t : List Entry) → IsLinkTold h l t → l.controller.side.shdlc.phase ≡ Up → is_open l.controller.side.role ≡ true
 up_open h l t a up = go (is_open l.controller.side.role) refl
   where
     P : Link → Type 0
@@ -313,7 +313,7 @@ ticks_each w t a up each h v q = go (site_at w.sites h) refl
 
     some : (s : Site) → site_at w.sites h ≡ Some s → Knows (t ++ u) (world_ticks w).0.controller h v
     some s found = subst K one (record {
-      told = let T : Link → Type 0 = λ l. IsTold h l (t ++ u) in subst T c.is (told_more h s.link event t u can c.told b.told);
+      told = let T : Link → Type 0 = λ l. IsLinkTold h l (t ++ u) in subst T c.is (told_more h s.link event t u can c.told b.told);
       near = let N : LinkEnd → Type 0 = IfOff (controller_ticks old).0.controller (new_link_end (Clf new_clf)) in
           subst N (sym (host_tick_side x)) (near_after old old_clf old_off h x c.near_there);
       far = after_it.off;

@@ -14,8 +14,8 @@ use Rattle.node_telling.specs.Telling.{world_behind}
 use Rattle.node_order.specs.Told.{HasDelivered}
 
 -- At each moment messages are in order.
-abbrev pub Prefix : NodeHistory → Type 0
-Prefix t = (front back : List Entry) → node_entries t ≡ front ++ back → IsInOrder front
+abbrev pub PrefixNodes : NodeHistory → Type 0
+PrefixNodes t = (front back : List Entry) → node_entries t ≡ front ++ back → IsInOrder front
 
 -- So it is with the link of each host at the end of each event.
 abbrev pub AtEachEvent : NodeHistory → (List Entry → ℕ → Site → Type 0) → Type 0
@@ -25,15 +25,15 @@ AtEachEvent t P =
 
 -- At the end of each event a quiet link has delivered all, a reset whose answer nothing kept back has brought both ends up, and no session
 -- ends by packets that can't be joined.
-pub record Complete (t : NodeHistory) : Type 0 where
+pub record CompleteNodes (t : NodeHistory) : Type 0 where
   pub delivered : AtEachEvent t (λ entries h s. HasDelivered entries h s.link)
   pub settled : AtEachEvent t (λ entries h s. (events : List LinkEvent) → IsRunOf events s.link → IsSettled s.link (sure_of new_line events) → AreUpTogether s.link)
   pub joined : list_any is_chain_fault (node_entries t) ≡ false
 
 -- A legal history of nodes. Of the answers it says that messages have their turns in the order in which they came.
 pub record LegalNodes (t : NodeHistory) : Type 0 where
-  pub in_order : Prefix t
-  pub complete : Complete t
+  pub in_order : PrefixNodes t
+  pub complete : CompleteNodes t
   pub allowed : Allowed (node_entries t)
   pub kept : Kept t
   pub in_turn : AreInTurn (node_entries t)

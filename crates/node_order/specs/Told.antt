@@ -15,7 +15,7 @@ use Rattle.node_telling.specs.Telling.{of_link}
 
 -- Some events of the law of one link, each of which may happen, make the link with this host of a new one, and what these entries tell
 -- of it is what that law notes of them.
-pub record IsTold (h : ℕ) (l : Link) (t : List Entry) : Type 0 where
+pub record IsLinkTold (h : ℕ) (l : Link) (t : List Entry) : Type 0 where
   pub events : List LinkEvent
   pub run : IsRunOf events l
   pub told : of_link h t ≡ of_link h (entries_for h (entries new_line events))

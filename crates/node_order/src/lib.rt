@@ -13,8 +13,8 @@ ghost use Rattle.node_world.specs.NodeHistories.{FollowsNodes, NodeHistory, entr
 ghost use Rattle.node_links.specs.Runs.{ArePlayable};
 ghost use Rattle.kept_laws.specs.Hosts.{AreHosts, IsFew, IsSentByHost};
 ghost use Rattle.node_telling.specs.Telling.{IsTimely, world_behind};
-ghost use Rattle.node_order.specs.Legal.{LegalNodes, Prefix};
-ghost use Rattle.node_order.specs.Told.{AreReadOff, HasDelivered, IsTold};
+ghost use Rattle.node_order.specs.Legal.{LegalNodes, PrefixNodes};
+ghost use Rattle.node_order.specs.Told.{AreReadOff, HasDelivered, IsLinkTold};
 
 /// At the end of each event of a history of hosts from 01 to 07 that are all different, each end is new while its node doesn't run, a
 /// notice comes to its hundredth tick only at an end that is active and up, and none does at a host: so what is said of ticks of such
@@ -33,7 +33,7 @@ pub fn worlds_stay_timely()
 pub fn histories_tell_of_each_link()
     ensures told { (header : Header) (lines : List Line) (t : NodeHistory) → FollowsNodes header lines t → AreHosts header.hosts.items →
         ArePlayable lines → (front back : List Occurrence) → occurrences_in t ≡ front ++ back → (h : ℕ) (s : Site) →
-        site_at (world_behind (new_world header.hosts.items) front).sites h ≡ Some s → IsTold h s.link (entries_in front) }
+        site_at (world_behind (new_world header.hosts.items) front).sites h ≡ Some s → IsLinkTold h s.link (entries_in front) }
     ensures read { (header : Header) (lines : List Line) (t : NodeHistory) → FollowsNodes header lines t → AreHosts header.hosts.items →
         ArePlayable lines → (front back : List Occurrence) → occurrences_in t ≡ front ++ back → (h : ℕ) (s : Site) →
         site_at (world_behind (new_world header.hosts.items) front).sites h ≡ Some s → AreReadOff (entries_in front) h s.link }
@@ -44,7 +44,7 @@ pub fn histories_tell_of_each_link()
 /// more count than were sent. And no session ends by packets that can't be joined.
 pub fn messages_are_in_order_in_each_history()
     ensures in_order { (header : Header) (lines : List Line) (t : NodeHistory) → FollowsNodes header lines t → AreHosts header.hosts.items →
-        ArePlayable lines → Prefix t }
+        ArePlayable lines → PrefixNodes t }
     ensures joined { (header : Header) (lines : List Line) (t : NodeHistory) → FollowsNodes header lines t → AreHosts header.hosts.items →
         ArePlayable lines → list_any is_chain_fault (node_entries t) ≡ false }
 {}

@@ -22,7 +22,7 @@ use Rattle.history_laws.proofs.Noted.{same_as, if_said}
 use Rattle.node_world.specs.NodeFilters.{session_now}
 use Rattle.node_links.specs.Runs.{new_line}
 use Rattle.node_telling.specs.Telling.{is_of, of_link}
-use Rattle.node_order.specs.Told.{IsTold}
+use Rattle.node_order.specs.Told.{IsLinkTold}
 use Rattle.node_order.proofs.Prefix.{unheard}
 use Rattle.session_readings.specs.Numbers.{after_saying, session_noted, is_cut, IsNumbered, AreNumbered}
 
@@ -161,7 +161,7 @@ module _ (e : End) (node : ℕ) where
 
 -- ## A link that is told
 
-module _ (h : ℕ) (l : Link) (t : List Entry) (a : IsTold h l t) where
+module _ (h : ℕ) (l : Link) (t : List Entry) (a : IsLinkTold h l t) where
   abbrev notes : List Noted
   notes = entries new_line a.events
 
