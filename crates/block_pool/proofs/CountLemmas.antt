@@ -7,8 +7,8 @@ use Rattle.std.proofs.lemmas.List.Sums.{sum_by-cons, sum_by-set, get_or-le-sum_b
 use Rattle.std.proofs.lemmas.Bool.{cases_eq}
 use Rattle.std.proofs.lemmas.Grind.{common_steps}
 use Rattle.block_pool.specs.declared.owners.Owner.{Owner}
-use Rattle.block_pool.specs.Slots.{Held, blocks_for, slot, put, bytes_in, bytes_of, owner_in}
-use Rattle.block_pool.specs.Names.{bytes_at, IsLiveAt, put_at, removed_at, IsNamedAfter}
+use Rattle.block_pool.specs.Slots.{Held, blocks_for, slot, with_chain, bytes_in, held_bytes, owner_in}
+use Rattle.block_pool.specs.Names.{named_bytes, IsLiveAt, put_at, removed_at, IsNamedAfter}
 use Rattle.block_pool.specs.Owners.{owner_at, with_aside, new_owners}
 use Rattle.block_pool.specs.Pool.{PoolState, quota_of, used_of, aside_of, spare_of}
 use Rattle.block_pool.specs.Counts.{blocks_in, blocks_held, AreCounted, AreFree, IsCounted}
@@ -39,11 +39,11 @@ in_other : (p o : ℕ) (bytes : List ℕ) → p ≢ o → blocks_in p (Some (rec
 in_other p o bytes apart = ap (λ b. cond b (blocks_for (length bytes)) 0) (test_false o p (λ e. apart (sym e)))
 
 -- a live chain lies at its name
-pub live_slot : (slots : List (Option Held)) (o b : ℕ) → IsLiveAt slots o (Some b) → slot slots b ≡ Some (record { owner = o; bytes = bytes_of slots b })
+pub live_slot : (slots : List (Option Held)) (o b : ℕ) → IsLiveAt slots o (Some b) → slot slots b ≡ Some (record { owner = o; bytes = held_bytes slots b })
 live_slot slots o b live = by_slot (slot slots b) refl
   where
-    by_slot : (s : Option Held) → slot slots b ≡ s → slot slots b ≡ Some (record { owner = o; bytes = bytes_of slots b })
-    by_slot None e = absurd (let none : length (bytes_of slots b) ≡ 0 = ap (λ s. length (bytes_in s)) e in omega (arith, live.0))
+    by_slot : (s : Option Held) → slot slots b ≡ s → slot slots b ≡ Some (record { owner = o; bytes = held_bytes slots b })
+    by_slot None e = absurd (let none : length (held_bytes slots b) ≡ 0 = ap (λ s. length (bytes_in s)) e in omega (arith, live.0))
     by_slot (Some held) e =
         e ∙ (ap (λ x. Some (record { owner = x; bytes = held.bytes })) (sym (ap owner_in e) ∙ live.1)
         ∙ ap (λ bs. Some (record { owner = o; bytes = bs })) (sym (ap bytes_in e)))
@@ -54,30 +54,30 @@ held_set slots b v p low = sum_by-set (blocks_in p) slots b v None low
 
 -- ---- a chain grown, freed or begun
 
-grown_held : (slots : List (Option Held)) (o b : ℕ) (bytes : List ℕ) → IsLiveAt slots o (Some b) → blocks_held (put slots b o (bytes_of slots b ++ bytes)) o + blocks_for (length (bytes_of slots b)) ≡ blocks_held slots o + blocks_for (length (bytes_of slots b) + length bytes)
+grown_held : (slots : List (Option Held)) (o b : ℕ) (bytes : List ℕ) → IsLiveAt slots o (Some b) → blocks_held (with_chain slots b o (held_bytes slots b ++ bytes)) o + blocks_for (length (held_bytes slots b)) ≡ blocks_held slots o + blocks_for (length (held_bytes slots b) + length bytes)
 grown_held slots o b bytes live =
     let low = slot_low slots b live.0 in
-    let changed = held_set slots b (Some (record { owner = o; bytes = bytes_of slots b ++ bytes })) o low in
-    let before : blocks_in o (slot slots b) ≡ blocks_for (length (bytes_of slots b)) = ap (blocks_in o) (live_slot slots o b live) ∙ in_same o (bytes_of slots b) in
-    let after : blocks_in o (Some (record { owner = o; bytes = bytes_of slots b ++ bytes })) ≡ blocks_for (length (bytes_of slots b) + length bytes) =
-    in_same o (bytes_of slots b ++ bytes) ∙ ap blocks_for (length-append (bytes_of slots b) bytes) in
+    let changed = held_set slots b (Some (record { owner = o; bytes = held_bytes slots b ++ bytes })) o low in
+    let before : blocks_in o (slot slots b) ≡ blocks_for (length (held_bytes slots b)) = ap (blocks_in o) (live_slot slots o b live) ∙ in_same o (held_bytes slots b) in
+    let after : blocks_in o (Some (record { owner = o; bytes = held_bytes slots b ++ bytes })) ≡ blocks_for (length (held_bytes slots b) + length bytes) =
+    in_same o (held_bytes slots b ++ bytes) ∙ ap blocks_for (length-append (held_bytes slots b) bytes) in
     omega (arith, changed, before, after)
 
-grown_others : (slots : List (Option Held)) (o b p : ℕ) (bytes : List ℕ) → IsLiveAt slots o (Some b) → p ≢ o → blocks_held (put slots b o bytes) p ≡ blocks_held slots p
+grown_others : (slots : List (Option Held)) (o b p : ℕ) (bytes : List ℕ) → IsLiveAt slots o (Some b) → p ≢ o → blocks_held (with_chain slots b o bytes) p ≡ blocks_held slots p
 grown_others slots o b p bytes live apart =
     let low = slot_low slots b live.0 in
     let changed = held_set slots b (Some (record { owner = o; bytes = bytes })) p low in
-    let before : blocks_in p (slot slots b) ≡ 0 = ap (blocks_in p) (live_slot slots o b live) ∙ in_other p o (bytes_of slots b) apart in
+    let before : blocks_in p (slot slots b) ≡ 0 = ap (blocks_in p) (live_slot slots o b live) ∙ in_other p o (held_bytes slots b) apart in
     let after = in_other p o bytes apart in
     omega (arith, changed, before, after)
 
-begun_held : (slots : List (Option Held)) (o b : ℕ) (bytes : List ℕ) → b < length slots → slot slots b ≡ None → blocks_held (put slots b o bytes) o ≡ blocks_held slots o + blocks_for (length bytes)
+begun_held : (slots : List (Option Held)) (o b : ℕ) (bytes : List ℕ) → b < length slots → slot slots b ≡ None → blocks_held (with_chain slots b o bytes) o ≡ blocks_held slots o + blocks_for (length bytes)
 begun_held slots o b bytes low none =
     let changed = held_set slots b (Some (record { owner = o; bytes = bytes })) o low in
     let before : blocks_in o (slot slots b) ≡ 0 = ap (blocks_in o) none in
     omega (arith, changed, before, in_same o bytes)
 
-begun_others : (slots : List (Option Held)) (o b p : ℕ) (bytes : List ℕ) → b < length slots → slot slots b ≡ None → p ≢ o → blocks_held (put slots b o bytes) p ≡ blocks_held slots p
+begun_others : (slots : List (Option Held)) (o b p : ℕ) (bytes : List ℕ) → b < length slots → slot slots b ≡ None → p ≢ o → blocks_held (with_chain slots b o bytes) p ≡ blocks_held slots p
 begun_others slots o b p bytes low none apart =
     let changed = held_set slots b (Some (record { owner = o; bytes = bytes })) p low in
     let before : blocks_in p (slot slots b) ≡ 0 = ap (blocks_in p) none in
@@ -86,9 +86,9 @@ begun_others slots o b p bytes low none apart =
 no_blocks : blocks_for 0 ≡ 0
 no_blocks = refl
 
-pub append_held : (slots : List (Option Held)) (o : ℕ) (before : Option ℕ) (bytes : List ℕ) (after : Option ℕ) → IsLiveAt slots o before → IsNamedAfter slots before bytes after → blocks_held (put_at slots after o (bytes_at slots before ++ bytes)) o + blocks_for (length (bytes_at slots before)) ≡ blocks_held slots o + blocks_for (length (bytes_at slots before) + length bytes)
+pub append_held : (slots : List (Option Held)) (o : ℕ) (before : Option ℕ) (bytes : List ℕ) (after : Option ℕ) → IsLiveAt slots o before → IsNamedAfter slots before bytes after → blocks_held (put_at slots after o (named_bytes slots before ++ bytes)) o + blocks_for (length (named_bytes slots before)) ≡ blocks_held slots o + blocks_for (length (named_bytes slots before) + length bytes)
 append_held slots o (Some b) bytes after live name =
-    ap (λ n. blocks_held (put_at slots n o (bytes_of slots b ++ bytes)) o + blocks_for (length (bytes_of slots b))) name ∙ grown_held slots o b bytes live
+    ap (λ n. blocks_held (put_at slots n o (held_bytes slots b ++ bytes)) o + blocks_for (length (held_bytes slots b))) name ∙ grown_held slots o b bytes live
 append_held slots o None [] after live name = ap (λ n. blocks_held (put_at slots n o []) o + blocks_for 0) name
 append_held slots o None (byte ∷ bytes) after live name =
     ap (λ n. blocks_held (put_at slots n o (byte ∷ bytes)) o + blocks_for 0) name.1
@@ -96,19 +96,19 @@ append_held slots o None (byte ∷ bytes) after live name =
     let plain : 0 + length (byte ∷ bytes) ≡ length (byte ∷ bytes) = omega arith in
     ap (λ n. n + blocks_for 0) begun ∙ (omega (arith, no_blocks) ∙ ap (λ n. blocks_held slots o + blocks_for n) (sym plain)))
 
-pub append_others : (slots : List (Option Held)) (o : ℕ) (before : Option ℕ) (bytes : List ℕ) (after : Option ℕ) (p : ℕ) → IsLiveAt slots o before → IsNamedAfter slots before bytes after → p ≢ o → blocks_held (put_at slots after o (bytes_at slots before ++ bytes)) p ≡ blocks_held slots p
+pub append_others : (slots : List (Option Held)) (o : ℕ) (before : Option ℕ) (bytes : List ℕ) (after : Option ℕ) (p : ℕ) → IsLiveAt slots o before → IsNamedAfter slots before bytes after → p ≢ o → blocks_held (put_at slots after o (named_bytes slots before ++ bytes)) p ≡ blocks_held slots p
 append_others slots o (Some b) bytes after p live name apart =
-    ap (λ n. blocks_held (put_at slots n o (bytes_of slots b ++ bytes)) p) name ∙ grown_others slots o b p (bytes_of slots b ++ bytes) live apart
+    ap (λ n. blocks_held (put_at slots n o (held_bytes slots b ++ bytes)) p) name ∙ grown_others slots o b p (held_bytes slots b ++ bytes) live apart
 append_others slots o None [] after p live name apart = ap (λ n. blocks_held (put_at slots n o []) p) name
 append_others slots o None (byte ∷ bytes) after p live name apart =
     ap (λ n. blocks_held (put_at slots n o (byte ∷ bytes)) p) name.1 ∙ begun_others slots o name.0 p (byte ∷ bytes) name.2 name.3 apart
 
-pub remove_held : (slots : List (Option Held)) (o : ℕ) (name : Option ℕ) → IsLiveAt slots o name → blocks_held (removed_at slots name) o + blocks_for (length (bytes_at slots name)) ≡ blocks_held slots o
+pub remove_held : (slots : List (Option Held)) (o : ℕ) (name : Option ℕ) → IsLiveAt slots o name → blocks_held (removed_at slots name) o + blocks_for (length (named_bytes slots name)) ≡ blocks_held slots o
 remove_held slots o None live = omega (arith, no_blocks)
 remove_held slots o (Some b) live =
     let low = slot_low slots b live.0 in
     let changed = held_set slots b None o low in
-    let before : blocks_in o (slot slots b) ≡ blocks_for (length (bytes_of slots b)) = ap (blocks_in o) (live_slot slots o b live) ∙ in_same o (bytes_of slots b) in
+    let before : blocks_in o (slot slots b) ≡ blocks_for (length (held_bytes slots b)) = ap (blocks_in o) (live_slot slots o b live) ∙ in_same o (held_bytes slots b) in
     omega (arith, changed, before)
 
 pub remove_others : (slots : List (Option Held)) (o : ℕ) (name : Option ℕ) (p : ℕ) → IsLiveAt slots o name → p ≢ o → blocks_held (removed_at slots name) p ≡ blocks_held slots p
@@ -116,23 +116,23 @@ remove_others slots o None p live apart = refl
 remove_others slots o (Some b) p live apart =
     let low = slot_low slots b live.0 in
     let changed = held_set slots b None p low in
-    let before : blocks_in p (slot slots b) ≡ 0 = ap (blocks_in p) (live_slot slots o b live) ∙ in_other p o (bytes_of slots b) apart in
+    let before : blocks_in p (slot slots b) ≡ 0 = ap (blocks_in p) (live_slot slots o b live) ∙ in_other p o (held_bytes slots b) apart in
     omega (arith, changed, before)
 
 -- a chain put back where one was removed
-pub again_held : (slots : List (Option Held)) (o q : ℕ) (name : Option ℕ) → IsLiveAt slots o name → blocks_held (put_at slots name q (bytes_at slots name)) q ≡ blocks_held (removed_at slots name) q + blocks_for (length (bytes_at slots name))
+pub again_held : (slots : List (Option Held)) (o q : ℕ) (name : Option ℕ) → IsLiveAt slots o name → blocks_held (put_at slots name q (named_bytes slots name)) q ≡ blocks_held (removed_at slots name) q + blocks_for (length (named_bytes slots name))
 again_held slots o q None live = omega (arith, no_blocks)
 again_held slots o q (Some b) live =
     let low = slot_low slots b live.0 in
-    ap (λ ss. blocks_held ss q) (sym (set-set slots b None (Some (record { owner = q; bytes = bytes_of slots b }))))
-    ∙ begun_held (set slots b None) q b (bytes_of slots b) (omega (arith, low, length-set slots b None)) (get_or-set_same slots b None None low)
+    ap (λ ss. blocks_held ss q) (sym (set-set slots b None (Some (record { owner = q; bytes = held_bytes slots b }))))
+    ∙ begun_held (set slots b None) q b (held_bytes slots b) (omega (arith, low, length-set slots b None)) (get_or-set_same slots b None None low)
 
-pub again_others : (slots : List (Option Held)) (o q : ℕ) (name : Option ℕ) (p : ℕ) → IsLiveAt slots o name → p ≢ q → blocks_held (put_at slots name q (bytes_at slots name)) p ≡ blocks_held (removed_at slots name) p
+pub again_others : (slots : List (Option Held)) (o q : ℕ) (name : Option ℕ) (p : ℕ) → IsLiveAt slots o name → p ≢ q → blocks_held (put_at slots name q (named_bytes slots name)) p ≡ blocks_held (removed_at slots name) p
 again_others slots o q None p live apart = refl
 again_others slots o q (Some b) p live apart =
     let low = slot_low slots b live.0 in
-    ap (λ ss. blocks_held ss p) (sym (set-set slots b None (Some (record { owner = q; bytes = bytes_of slots b }))))
-    ∙ begun_others (set slots b None) q b p (bytes_of slots b) (omega (arith, low, length-set slots b None)) (get_or-set_same slots b None None low) apart
+    ap (λ ss. blocks_held ss p) (sym (set-set slots b None (Some (record { owner = q; bytes = held_bytes slots b }))))
+    ∙ begun_others (set slots b None) q b p (held_bytes slots b) (omega (arith, low, length-set slots b None)) (get_or-set_same slots b None None low) apart
 
 -- ---- owners
 
@@ -159,7 +159,7 @@ module _ (pool : PoolState) (counted : IsCounted pool) (o : ℕ) (has : o < leng
   used_low = omega (arith, quota_low, counted.within o)
 
   -- a live chain's blocks are used by its owner
-  pub chain_low : (name : Option ℕ) → IsLiveAt pool.slots o name → blocks_for (length (bytes_at pool.slots name)) ≤ used_of pool o
+  pub chain_low : (name : Option ℕ) → IsLiveAt pool.slots o name → blocks_for (length (named_bytes pool.slots name)) ≤ used_of pool o
   chain_low name live = omega (arith, remove_held pool.slots o name live, counted.used o has)
 
   -- the owners' counts after one of them changed
@@ -210,10 +210,10 @@ module _ (pool : PoolState) (counted : IsCounted pool) (o : ℕ) (has : o < leng
 
 module _ (pool : PoolState) (counted : IsCounted pool) (free : ℕ) (rest : AreFree pool.owners free) (o : ℕ) (has : o < length pool.owners) where
   -- bytes were appended to a chain of an owner
-  pub taken_counted : (before : Option ℕ) (bytes : List ℕ) (after : Option ℕ) (slots : List (Option Held)) (left more : ℕ) (old : Owner) → IsLiveAt pool.slots o before → IsNamedAfter pool.slots before bytes after → slots ≡ put_at pool.slots after o (bytes_at pool.slots before ++ bytes) → left + blocks_for (length (bytes_at pool.slots before) + length bytes) ≡ free + blocks_for (length (bytes_at pool.slots before)) → more ≡ blocks_for (length (bytes_at pool.slots before) + length bytes) - blocks_for (length (bytes_at pool.slots before)) → more ≤ spare_of pool o → old ≡ owner_at pool.owners o
+  pub taken_counted : (before : Option ℕ) (bytes : List ℕ) (after : Option ℕ) (slots : List (Option Held)) (left more : ℕ) (old : Owner) → IsLiveAt pool.slots o before → IsNamedAfter pool.slots before bytes after → slots ≡ put_at pool.slots after o (named_bytes pool.slots before ++ bytes) → left + blocks_for (length (named_bytes pool.slots before) + length bytes) ≡ free + blocks_for (length (named_bytes pool.slots before)) → more ≡ blocks_for (length (named_bytes pool.slots before) + length bytes) - blocks_for (length (named_bytes pool.slots before)) → more ≤ spare_of pool o → old ≡ owner_at pool.owners o
       → AreCounted slots (set pool.owners o (record { quota = old.quota; used = old.used + more; aside = old.aside })) × AreFree (set pool.owners o (record { quota = old.quota; used = old.used + more; aside = old.aside })) left
   taken_counted before bytes after slots left more old live name slots_are left_is more_is room old_is =
-      let n = length (bytes_at pool.slots before) in
+      let n = length (named_bytes pool.slots before) in
       let grows : blocks_for n ≤ blocks_for (n + length bytes) = omega arith in
       let held = append_held pool.slots o before bytes after live name in
       let held_is : blocks_held slots o ≡ blocks_held pool.slots o + more = ap (λ ss. blocks_held ss o) slots_are ∙ omega (arith, held, more_is, grows) in
@@ -224,7 +224,7 @@ module _ (pool : PoolState) (counted : IsCounted pool) (free : ℕ) (rest : AreF
       )
 
   -- a chain's blocks were given back
-  pub given_counted : (name : Option ℕ) (slots : List (Option Held)) (left n : ℕ) (old : Owner) → IsLiveAt pool.slots o name → slots ≡ removed_at pool.slots name → left ≡ free + blocks_for (length (bytes_at pool.slots name)) → n ≡ blocks_for (length (bytes_at pool.slots name)) → old ≡ owner_at pool.owners o
+  pub given_counted : (name : Option ℕ) (slots : List (Option Held)) (left n : ℕ) (old : Owner) → IsLiveAt pool.slots o name → slots ≡ removed_at pool.slots name → left ≡ free + blocks_for (length (named_bytes pool.slots name)) → n ≡ blocks_for (length (named_bytes pool.slots name)) → old ≡ owner_at pool.owners o
       → AreCounted slots (set pool.owners o (record { quota = old.quota; used = old.used - n; aside = old.aside })) × AreFree (set pool.owners o (record { quota = old.quota; used = old.used - n; aside = old.aside })) left
   given_counted name slots left n old live slots_are left_is n_is old_is =
       let low = chain_low pool counted o has name live in
@@ -237,7 +237,7 @@ module _ (pool : PoolState) (counted : IsCounted pool) (free : ℕ) (rest : AreF
       )
 
 -- a chain went to another owner: as if it was given back and taken again
-pub passed_counted : (pool : PoolState) (counted : IsCounted pool) (free : ℕ) (rest : AreFree pool.owners free) (o q : ℕ) (has : o < length pool.owners) (other : q < length pool.owners) (name : Option ℕ) (slots : List (Option Held)) (n : ℕ) (old new : Owner) → IsLiveAt pool.slots o name → slots ≡ put_at pool.slots name q (bytes_at pool.slots name) → n ≡ blocks_for (length (bytes_at pool.slots name)) → n ≤ spare_of pool q → old ≡ owner_at pool.owners o
+pub passed_counted : (pool : PoolState) (counted : IsCounted pool) (free : ℕ) (rest : AreFree pool.owners free) (o q : ℕ) (has : o < length pool.owners) (other : q < length pool.owners) (name : Option ℕ) (slots : List (Option Held)) (n : ℕ) (old new : Owner) → IsLiveAt pool.slots o name → slots ≡ put_at pool.slots name q (named_bytes pool.slots name) → n ≡ blocks_for (length (named_bytes pool.slots name)) → n ≤ spare_of pool q → old ≡ owner_at pool.owners o
     → new ≡ owner_at (set pool.owners o (record { quota = old.quota; used = old.used - n; aside = old.aside })) q
     → AreCounted slots (set (set pool.owners o (record { quota = old.quota; used = old.used - n; aside = old.aside })) q (record { quota = new.quota; used = new.used + n; aside = new.aside }))
     × AreFree (set (set pool.owners o (record { quota = old.quota; used = old.used - n; aside = old.aside })) q (record { quota = new.quota; used = new.used + n; aside = new.aside })) free
@@ -245,7 +245,7 @@ passed_counted pool counted free rest o q has other name slots n old new live sl
     let lowered : Owner = record { quota = old.quota; used = old.used - n; aside = old.aside } in
     let between : PoolState = record { slots = removed_at pool.slots name; owners = set pool.owners o lowered; places = pool.places } in
     let nobody : Owner = record { quota = 0; used = 0; aside = 0 } in
-    let one = given_counted pool counted free rest o has name (removed_at pool.slots name) (free + blocks_for (length (bytes_at pool.slots name))) n old live refl refl n_is old_is in
+    let one = given_counted pool counted free rest o has name (removed_at pool.slots name) (free + blocks_for (length (named_bytes pool.slots name))) n old live refl refl n_is old_is in
     let low = chain_low pool counted o has name live in
     let still : q < length between.owners = omega (arith, other, length-set pool.owners o lowered) in
     let fits : (get_or between.owners q nobody).used + n ≤ (get_or between.owners q nobody).quota = elim (cases_eq q o) [
@@ -263,7 +263,7 @@ passed_counted pool counted free rest o q has other name slots n old new live sl
     subst (λ (x : Owner). AreCounted slots (set between.owners q (record { quota = x.quota; used = x.used + n; aside = x.aside })) × AreFree (set between.owners q (record { quota = x.quota; used = x.used + n; aside = x.aside })) free) (sym new_is) (
       counted_after between one.0 q still slots (used + n) aside (omega (arith, held_is, one.0.used q still)) fits
           (λ p apart. ap (λ ss. blocks_held ss p) slots_are ∙ again_others pool.slots o q name p live apart),
-      free_after between one.0 q still slots (free + blocks_for (length (bytes_at pool.slots name))) (used + n) aside free one.1 (omega (arith, n_is)),
+      free_after between one.0 q still slots (free + blocks_for (length (named_bytes pool.slots name))) (used + n) aside free one.1 (omega (arith, n_is)),
     )
 
 -- ---- a new pool

@@ -7,10 +7,10 @@ use Rattle.std.proofs.lemmas.List.Sums.{sum_by-cons}
 use Rattle.block_pool.specs.declared.chain.Chain.{Chain}
 use Rattle.block_pool.specs.declared.owners.Owner.{Owner}
 use Rattle.block_pool.specs.Slots.{blocks_for}
-use Rattle.block_pool.specs.Names.{bytes_at, IsLiveAt}
+use Rattle.block_pool.specs.Names.{named_bytes, IsLiveAt}
 use Rattle.block_pool.specs.Owners.{owner_at, with_used, with_aside}
 use Rattle.block_pool.specs.Pool.{PoolState, IsLive, IsApart, chain_bytes, KeepsOthers}
-use Rattle.block_pool.specs.Holdings.{IsOwn, OwnsAll, LiesApart, LieApart, all_bytes, all_blocks, KeepsAllOthers, KeptAll}
+use Rattle.block_pool.specs.Holdings.{IsOwnChain, OwnsAll, LiesApart, LieApart, all_bytes, all_blocks, KeepsAllOthers, KeptAll}
 
 -- two chains of two owners don't lie in one place
 pub apart_by_owner : (pool : PoolState) (one other : Chain) → IsLive pool one → IsLive pool other → one.owner ≢ other.owner → IsApart one other
@@ -42,7 +42,7 @@ all_pushed X P (x ∷ xs) y all here = (all.0, all_pushed X P xs y all.1 here)
 pub lies_apart_by_owner : (X : Type 0) (chain_of : X → Chain) (pool : PoolState) (owner : ℕ) (xs : List X) (other : Chain) → OwnsAll X chain_of pool owner xs
     → IsLive pool other → other.owner ≢ owner → LiesApart X chain_of xs other
 lies_apart_by_owner X chain_of pool owner xs other own live differ =
-    all_mapped X (λ x. IsOwn pool owner (chain_of x)) (λ x. IsApart other (chain_of x)) xs
+    all_mapped X (λ x. IsOwnChain pool owner (chain_of x)) (λ x. IsApart other (chain_of x)) xs
     (λ x o. apart_by_owner pool other (chain_of x) live o.live (λ e. differ (e ∙ o.owned))) own
 
 -- one more chain that lies apart from all
@@ -72,10 +72,10 @@ kept_each X chain_of old new owner (x ∷ xs) own each =
 pub kept_all : (X : Type 0) (chain_of : X → Chain) (old new : PoolState) (owner : ℕ) (before after : Chain) (xs : List X) → KeepsOthers old new before after
     → OwnsAll X chain_of old owner xs → LiesApart X chain_of xs before → KeptAll X chain_of old new owner xs × LiesApart X chain_of xs after
 kept_all X chain_of old new owner before after xs keeps own apart =
-    let each = all_mapped X (λ x. IsOwn old owner (chain_of x) × IsApart before (chain_of x))
+    let each = all_mapped X (λ x. IsOwnChain old owner (chain_of x) × IsApart before (chain_of x))
     (λ x. IsApart (chain_of x) after × (IsLive new (chain_of x) × (chain_bytes new (chain_of x) ≡ chain_bytes old (chain_of x)))) xs
     (λ x o. let k = keeps (chain_of x) o.0.live (apart_turned before (chain_of x) o.1) in (k.0, (k.1, k.2)))
-    (all_joined X (λ x. IsOwn old owner (chain_of x)) (λ x. IsApart before (chain_of x)) xs own apart) in (
+    (all_joined X (λ x. IsOwnChain old owner (chain_of x)) (λ x. IsApart before (chain_of x)) xs own apart) in (
       kept_each X chain_of old new owner xs own
           (all_mapped X (λ x. IsApart (chain_of x) after × (IsLive new (chain_of x) × (chain_bytes new (chain_of x) ≡ chain_bytes old (chain_of x))))
           (λ x. IsLive new (chain_of x) × (chain_bytes new (chain_of x) ≡ chain_bytes old (chain_of x))) xs (λ x e. e.1) each),
@@ -89,10 +89,10 @@ pub kept_beside : (X Y Z : Type 0) (chain_of : X → Chain) (before_of : Y → C
     → AllByRecursion (λ x. LiesApart Y before_of before (chain_of x)) xs
     → KeptAll X chain_of old new owner xs × AllByRecursion (λ x. LiesApart Z after_of after (chain_of x)) xs
 kept_beside X Y Z chain_of before_of after_of old new owner before after xs keeps own apart =
-    let each = all_mapped X (λ x. IsOwn old owner (chain_of x) × LiesApart Y before_of before (chain_of x))
+    let each = all_mapped X (λ x. IsOwnChain old owner (chain_of x) × LiesApart Y before_of before (chain_of x))
     (λ x. LiesApart Z after_of after (chain_of x) × (IsLive new (chain_of x) × (chain_bytes new (chain_of x) ≡ chain_bytes old (chain_of x)))) xs
     (λ x o. let k = keeps (chain_of x) o.0.live o.1 in (k.2, (k.0, k.1)))
-    (all_joined X (λ x. IsOwn old owner (chain_of x)) (λ x. LiesApart Y before_of before (chain_of x)) xs own apart) in (
+    (all_joined X (λ x. IsOwnChain old owner (chain_of x)) (λ x. LiesApart Y before_of before (chain_of x)) xs own apart) in (
       kept_each X chain_of old new owner xs own
           (all_mapped X (λ x. LiesApart Z after_of after (chain_of x) × (IsLive new (chain_of x) × (chain_bytes new (chain_of x) ≡ chain_bytes old (chain_of x))))
           (λ x. IsLive new (chain_of x) × (chain_bytes new (chain_of x) ≡ chain_bytes old (chain_of x))) xs (λ x e. e.1) each),
@@ -104,7 +104,7 @@ kept_beside X Y Z chain_of before_of after_of old new owner before after xs keep
 pub beside_by_owner : (X Y : Type 0) (chain_of : X → Chain) (other_of : Y → Chain) (pool : PoolState) (owner other : ℕ) (xs : List X) (ys : List Y)
     → OwnsAll X chain_of pool owner xs → OwnsAll Y other_of pool other ys → owner ≢ other → AllByRecursion (λ x. LiesApart Y other_of ys (chain_of x)) xs
 beside_by_owner X Y chain_of other_of pool owner other xs ys own theirs differ =
-    all_mapped X (λ x. IsOwn pool owner (chain_of x)) (λ x. LiesApart Y other_of ys (chain_of x)) xs
+    all_mapped X (λ x. IsOwnChain pool owner (chain_of x)) (λ x. LiesApart Y other_of ys (chain_of x)) xs
     (λ x o. lies_apart_by_owner Y other_of pool other ys (chain_of x) theirs o.live (λ e. differ (sym o.owned ∙ e))) own
 
 -- ---- owners
@@ -133,7 +133,7 @@ pub counted_keeps : (old new : PoolState) (o used aside : ℕ) (chain : Chain) �
 counted_keeps old new o used aside chain slots owners live =
     let len : length new.owners ≡ length old.owners = ap length owners ∙ length-set old.owners o (record { quota = (owner_at old.owners o).quota; used = used; aside = aside }) in (
       (omega (arith, len, live.0), subst (λ s. IsLiveAt s chain.owner chain.first) (sym slots) live.1),
-      ap (λ s. bytes_at s chain.first) slots,
+      ap (λ s. named_bytes s chain.first) slots,
     )
 
 -- a use that is counted anew

@@ -9,9 +9,9 @@ use Rattle.std.proofs.lemmas.Bool.{cases_lt, cases_eq}
 use Rattle.std.proofs.lemmas.List.FromFn.{length-map-range_with_len, get_or-map-range_with_len, map-range_with_len_more, take-map-range_with_len, length-range_with_len, get_or-range_with_len}
 use Rattle.std.proofs.lemmas.Grind.{common_steps}
 use Rattle.block_pool.specs.declared.blocks.Head.{Head}
-use Rattle.block_pool.specs.Slots.{Held, blocks_for, slot, put, bytes_in, bytes_of, owner_in, owner_of}
-use Rattle.block_pool.specs.Links.{block_at, byte_at}
-use Rattle.block_pool.specs.Layout.{chain_bytes, held_by, slots_of, head_blocks, IsMarked, IsChain, IsSound}
+use Rattle.block_pool.specs.Slots.{Held, blocks_for, slot, with_chain, bytes_in, held_bytes, owner_in, owner_of}
+use Rattle.block_pool.specs.Links.{block_at, linked_byte}
+use Rattle.block_pool.specs.Layout.{laid_bytes, held_by, slots_of, head_blocks, IsMarked, IsChain, AreSoundBlocks}
 
 -- ---- links
 
@@ -39,21 +39,21 @@ same_made f g n same =
     get_or-map-range_with_len f 0 n k k d low (omega arith)
     ∙ (same k low ∙ sym (get_or-map-range_with_len g 0 n k k d low (omega arith))))
 
-same_bytes : (region next region' next' : List ℕ) (first len : ℕ) → ((i : ℕ) → i < len → byte_at region' next' first i ≡ byte_at region next first i) → chain_bytes region' next' first len ≡ chain_bytes region next first len
-unfolding chain_bytes
-same_bytes region next region' next' first len same = same_made (byte_at region' next' first) (byte_at region next first) len same
+same_bytes : (region next region' next' : List ℕ) (first len : ℕ) → ((i : ℕ) → i < len → linked_byte region' next' first i ≡ linked_byte region next first i) → laid_bytes region' next' first len ≡ laid_bytes region next first len
+unfolding laid_bytes
+same_bytes region next region' next' first len same = same_made (linked_byte region' next' first) (linked_byte region next first) len same
 
-one_more_byte : (region next : List ℕ) (first len : ℕ) → chain_bytes region next first (len + 1) ≡ chain_bytes region next first len ++ byte_at region next first len ∷ []
-unfolding chain_bytes
-one_more_byte region next first len = map-range_with_len_more (byte_at region next first) 0 len len (omega arith)
+one_more_byte : (region next : List ℕ) (first len : ℕ) → laid_bytes region next first (len + 1) ≡ laid_bytes region next first len ++ linked_byte region next first len ∷ []
+unfolding laid_bytes
+one_more_byte region next first len = map-range_with_len_more (linked_byte region next first) 0 len len (omega arith)
 
-one_byte : (region next : List ℕ) (first : ℕ) → chain_bytes region next first 1 ≡ get_or region (32 * first + 0) 0 ∷ []
-unfolding chain_bytes
+one_byte : (region next : List ℕ) (first : ℕ) → laid_bytes region next first 1 ≡ get_or region (32 * first + 0) 0 ∷ []
+unfolding laid_bytes
 one_byte region next first = refl
 
-pub length-chain_bytes : (region next : List ℕ) (first len : ℕ) → length (chain_bytes region next first len) ≡ len
-unfolding chain_bytes
-length-chain_bytes region next first len = length-map-range_with_len (byte_at region next first) 0 len
+pub length-chain_bytes : (region next : List ℕ) (first len : ℕ) → length (laid_bytes region next first len) ≡ len
+unfolding laid_bytes
+length-chain_bytes region next first len = length-map-range_with_len (linked_byte region next first) 0 len
 
 -- ---- slots
 
@@ -184,7 +184,7 @@ free_link next mark count free free_len spare at link d j marked apart k low =
 
 -- ---- a byte more in the last block
 
-module _ (region next : List ℕ) (heads : List (Option Head)) (free free_len : ℕ) (sound : IsSound region next heads free free_len) where
+module _ (region next : List ℕ) (heads : List (Option Head)) (free free_len : ℕ) (sound : AreSoundBlocks region next heads free free_len) where
   -- no chain begins at the first free block
   pub first_free : 0 < free_len → IsMarked sound.mark sound.count free sound.count 0
   first_free some = sound.spare 0 some
@@ -210,7 +210,7 @@ module _ (region next : List ℕ) (heads : List (Option Head)) (free free_len : 
       let s : Some h ≡ Some v = sym e ∙ get_or-set_same heads b (Some v) None low in cc
 
   -- a byte more in the last block of a chain
-  pub push_in_block_sound : (b : ℕ) (head : Head) (place byte : ℕ) → get_or heads b None ≡ Some head → 0 < head.len % 32 → IsSound (set region place byte) next (set heads b (Some (record { owner = head.owner; last = head.last; len = head.len + 1; read_on = head.read_on; passed = head.passed }))) free free_len
+  pub push_in_block_sound : (b : ℕ) (head : Head) (place byte : ℕ) → get_or heads b None ≡ Some head → 0 < head.len % 32 → AreSoundBlocks (set region place byte) next (set heads b (Some (record { owner = head.owner; last = head.last; len = head.len + 1; read_on = head.read_on; passed = head.passed }))) free free_len
   push_in_block_sound b head place byte at room =
       let chain = sound.chains b head at in
       let low : b < length heads = omega (arith, in_pool next sound.mark sound.count b head chain, sound.counted) in
@@ -240,7 +240,7 @@ module _ (region next : List ℕ) (heads : List (Option Head)) (free free_len : 
       }
 
   -- the bytes of a chain, where another chain's block was written
-  other_bytes : (b : ℕ) (head : Head) → get_or heads b None ≡ Some head → (block d j offset byte : ℕ) → sound.mark block ≡ (d, j) → d ≢ b → chain_bytes (set region (32 * block + offset % 32) byte) next b head.len ≡ chain_bytes region next b head.len
+  other_bytes : (b : ℕ) (head : Head) → get_or heads b None ≡ Some head → (block d j offset byte : ℕ) → sound.mark block ≡ (d, j) → d ≢ b → laid_bytes (set region (32 * block + offset % 32) byte) next b head.len ≡ laid_bytes region next b head.len
   other_bytes b head at block d j offset byte marked apart =
       same_bytes region next (set region (32 * block + offset % 32) byte) next b head.len (λ i low.
       let m = block_of_byte next sound.mark sound.count b head (sound.chains b head at) i low in
@@ -254,15 +254,15 @@ module _ (region next : List ℕ) (heads : List (Option Head)) (free free_len : 
       ap (block_at next b) e ∙ (sound.chains b head at).last
 
   -- the chain's bytes after a byte more in its last block
-  pushed_bytes : (b : ℕ) (head : Head) (byte : ℕ) → get_or heads b None ≡ Some head → 0 < head.len % 32 → chain_bytes (set region (32 * head.last + head.len % 32) byte) next b (head.len + 1) ≡ chain_bytes region next b head.len ++ byte ∷ []
+  pushed_bytes : (b : ℕ) (head : Head) (byte : ℕ) → get_or heads b None ≡ Some head → 0 < head.len % 32 → laid_bytes (set region (32 * head.last + head.len % 32) byte) next b (head.len + 1) ≡ laid_bytes region next b head.len ++ byte ∷ []
   pushed_bytes b head byte at room =
       let chain = sound.chains b head at in
       let place = 32 * head.last + head.len % 32 in
       let last_in : head.last < sound.count = (last_marked next sound.mark sound.count b head chain).0 in
       let in_region : place < length region = omega (arith, last_in, sound.bytes) in
-      let new_byte : byte_at (set region place byte) next b head.len ≡ byte =
+      let new_byte : linked_byte (set region place byte) next b head.len ≡ byte =
       ap (λ x. get_or (set region place byte) (32 * x + head.len % 32) 0) (last_has_room b head at room) ∙ get_or-set_same region place byte 0 in_region in
-      let before : chain_bytes (set region place byte) next b head.len ≡ chain_bytes region next b head.len =
+      let before : laid_bytes (set region place byte) next b head.len ≡ laid_bytes region next b head.len =
       same_bytes region next (set region place byte) next b head.len (λ i low.
       let m = block_of_byte next sound.mark sound.count b head chain i low in
       let l = last_marked next sound.mark sound.count b head chain in
@@ -273,16 +273,16 @@ module _ (region next : List ℕ) (heads : List (Option Head)) (free free_len : 
       let place_is : i / 32 ≡ blocks_for head.len - 1 = parts.1 in
       let offsets : i % 32 ≡ head.len % 32 = omega arith in
       absurd (omega arith))) in
-      one_more_byte (set region place byte) next b head.len ∙ (ap (λ bs. bs ++ byte_at (set region place byte) next b head.len ∷ []) before ∙ ap (λ x. chain_bytes region next b head.len ++ x ∷ []) new_byte)
+      one_more_byte (set region place byte) next b head.len ∙ (ap (λ bs. bs ++ linked_byte (set region place byte) next b head.len ∷ []) before ∙ ap (λ x. laid_bytes region next b head.len ++ x ∷ []) new_byte)
 
-  pub push_in_block_slots : (b : ℕ) (head : Head) (byte : ℕ) → get_or heads b None ≡ Some head → 0 < head.len % 32 → slots_of (set region (32 * head.last + head.len % 32) byte) next (set heads b (Some (record { owner = head.owner; last = head.last; len = head.len + 1; read_on = head.read_on; passed = head.passed }))) ≡ put (slots_of region next heads) b head.owner (chain_bytes region next b head.len ++ byte ∷ [])
+  pub push_in_block_slots : (b : ℕ) (head : Head) (byte : ℕ) → get_or heads b None ≡ Some head → 0 < head.len % 32 → slots_of (set region (32 * head.last + head.len % 32) byte) next (set heads b (Some (record { owner = head.owner; last = head.last; len = head.len + 1; read_on = head.read_on; passed = head.passed }))) ≡ with_chain (slots_of region next heads) b head.owner (laid_bytes region next b head.len ++ byte ∷ [])
   push_in_block_slots b head byte at room =
       let chain = sound.chains b head at in
       let low : b < length heads = omega (arith, in_pool next sound.mark sound.count b head chain, sound.counted) in
       let longer : Head = record { owner = head.owner; last = head.last; len = head.len + 1; read_on = head.read_on; passed = head.passed } in
       let place = 32 * head.last + head.len % 32 in
       let l = last_marked next sound.mark sound.count b head chain in
-      slots_set region next (set region place byte) next heads (set heads b (Some longer)) b (Some (record { owner = head.owner; bytes = chain_bytes region next b head.len ++ byte ∷ [] }))
+      slots_set region next (set region place byte) next heads (set heads b (Some longer)) b (Some (record { owner = head.owner; bytes = laid_bytes region next b head.len ++ byte ∷ [] }))
       (length-set heads b (Some longer)) low
       (ap (held_by (set region place byte) next b) (get_or-set_same heads b (Some longer) None low)
       ∙ ap (λ bs. Some (record { owner = head.owner; bytes = bs })) (pushed_bytes b head byte at room))
@@ -320,7 +320,7 @@ module _ (region next : List ℕ) (heads : List (Option Head)) (free free_len : 
         reading = same head.passed chain.within ∙ chain.reading;
       }
 
-  pub begin_sound : (owner byte place after : ℕ) → 0 < free_len → after ≡ get_or next free 0 → IsSound (set region place byte) next (set heads free (Some (record { owner = owner; last = free; len = 1; read_on = free; passed = 0 }))) after (free_len - 1)
+  pub begin_sound : (owner byte place after : ℕ) → 0 < free_len → after ≡ get_or next free 0 → AreSoundBlocks (set region place byte) next (set heads free (Some (record { owner = owner; last = free; len = 1; read_on = free; passed = 0 }))) after (free_len - 1)
   begin_sound owner byte place after some is_next =
       let first = first_free some in
       let low : free < length heads = omega (arith, first.0, sound.counted) in
@@ -352,14 +352,14 @@ module _ (region next : List ℕ) (heads : List (Option Head)) (free free_len : 
         all = omega (arith, sum_by-set head_blocks heads free (Some new) None low, ap head_blocks (no_head some), sound.all);
       }
 
-  pub begin_slots : (owner byte : ℕ) → 0 < free_len → slots_of (set region (32 * free) byte) next (set heads free (Some (record { owner = owner; last = free; len = 1; read_on = free; passed = 0 }))) ≡ put (slots_of region next heads) free owner (byte ∷ [])
+  pub begin_slots : (owner byte : ℕ) → 0 < free_len → slots_of (set region (32 * free) byte) next (set heads free (Some (record { owner = owner; last = free; len = 1; read_on = free; passed = 0 }))) ≡ with_chain (slots_of region next heads) free owner (byte ∷ [])
   begin_slots owner byte some =
       let first = first_free some in
       let low : free < length heads = omega (arith, first.0, sound.counted) in
       let new : Head = record { owner = owner; last = free; len = 1; read_on = free; passed = 0 } in
       let in_region : 32 * free < length region = omega (arith, first.0, sound.bytes) in
       let plain : 32 * free + 0 ≡ 32 * free = omega arith in
-      let one : chain_bytes (set region (32 * free) byte) next free 1 ≡ byte ∷ [] =
+      let one : laid_bytes (set region (32 * free) byte) next free 1 ≡ byte ∷ [] =
       one_byte (set region (32 * free) byte) next free ∙ ap (λ x. x ∷ []) (ap (λ i. get_or (set region (32 * free) byte) i 0) plain ∙ get_or-set_same region (32 * free) byte 0 in_region) in
       slots_set region next (set region (32 * free) byte) next heads (set heads free (Some new)) free (Some (record { owner = owner; bytes = byte ∷ [] }))
       (length-set heads free (Some new)) low
@@ -376,7 +376,7 @@ module _ (region next : List ℕ) (heads : List (Option Head)) (free free_len : 
 
   -- ---- a byte more in a new last block
 
-  pub push_in_new_block_sound : (b : ℕ) (head : Head) (place byte after : ℕ) → get_or heads b None ≡ Some head → head.len % 32 ≡ 0 → 0 < free_len → after ≡ get_or next free 0 → IsSound (set region place byte) (set next head.last free) (set heads b (Some (record { owner = head.owner; last = free; len = head.len + 1; read_on = head.read_on; passed = head.passed }))) after (free_len - 1)
+  pub push_in_new_block_sound : (b : ℕ) (head : Head) (place byte after : ℕ) → get_or heads b None ≡ Some head → head.len % 32 ≡ 0 → 0 < free_len → after ≡ get_or next free 0 → AreSoundBlocks (set region place byte) (set next head.last free) (set heads b (Some (record { owner = head.owner; last = free; len = head.len + 1; read_on = head.read_on; passed = head.passed }))) after (free_len - 1)
   push_in_new_block_sound b head place byte after at full some is_next =
       let chain = sound.chains b head at in
       let b_low = in_pool next sound.mark sound.count b head chain in
@@ -435,7 +435,7 @@ module _ (region next : List ℕ) (heads : List (Option Head)) (free free_len : 
         all = omega (arith, sum_by-set head_blocks heads b (Some longer) None low, ap head_blocks at, one_more, sound.all);
       }
 
-  pub push_in_new_block_slots : (b : ℕ) (head : Head) (byte : ℕ) → get_or heads b None ≡ Some head → head.len % 32 ≡ 0 → 0 < free_len → slots_of (set region (32 * free) byte) (set next head.last free) (set heads b (Some (record { owner = head.owner; last = free; len = head.len + 1; read_on = head.read_on; passed = head.passed }))) ≡ put (slots_of region next heads) b head.owner (chain_bytes region next b head.len ++ byte ∷ [])
+  pub push_in_new_block_slots : (b : ℕ) (head : Head) (byte : ℕ) → get_or heads b None ≡ Some head → head.len % 32 ≡ 0 → 0 < free_len → slots_of (set region (32 * free) byte) (set next head.last free) (set heads b (Some (record { owner = head.owner; last = free; len = head.len + 1; read_on = head.read_on; passed = head.passed }))) ≡ with_chain (slots_of region next heads) b head.owner (laid_bytes region next b head.len ++ byte ∷ [])
   push_in_new_block_slots b head byte at full some =
       let chain = sound.chains b head at in
       let b_low = in_pool next sound.mark sound.count b head chain in
@@ -455,12 +455,12 @@ module _ (region next : List ℕ) (heads : List (Option Head)) (free free_len : 
       let step : get_or next' (block_at next' b (n - 1)) 0 ≡ free =
       ap (λ x. get_or next' x 0) (kept (n - 1) (omega arith) ∙ chain.last) ∙ get_or-set_same next head.last free 0 (omega (arith, l.0, sound.links)) in
       ap (block_at next' b) (sym e) ∙ step in
-      let new_byte : byte_at region' next' b head.len ≡ byte =
+      let new_byte : linked_byte region' next' b head.len ≡ byte =
       ap (λ x. get_or region' (32 * x + head.len % 32) 0) new_last
       ∙ (ap (λ o. get_or region' (32 * free + o) 0) full ∙ (ap (λ i. get_or region' i 0) plain ∙ get_or-set_same region (32 * free) byte 0 in_region)) in
-      let same_links : chain_bytes region next' b head.len ≡ chain_bytes region next b head.len =
+      let same_links : laid_bytes region next' b head.len ≡ laid_bytes region next b head.len =
       same_bytes region next region next' b head.len (λ i i_low. ap (λ x. get_or region (32 * x + i % 32) 0) (kept (i / 32) (omega arith))) in
-      let before : chain_bytes region' next' b head.len ≡ chain_bytes region next b head.len =
+      let before : laid_bytes region' next' b head.len ≡ laid_bytes region next b head.len =
       same_bytes region next' region' next' b head.len (λ i i_low.
       let m = block_of_byte next sound.mark sound.count b head chain i i_low in
       let block_is : block_at next' b (i / 32) ≡ block_at next b (i / 32) = kept (i / 32) (omega arith) in
@@ -469,12 +469,12 @@ module _ (region next : List ℕ) (heads : List (Option Head)) (free free_len : 
       get_or-set_other region (32 * free) (32 * block_at next' b (i / 32) + i % 32) byte 0
       (λ same. other_block (block_at next' b (i / 32)) free i 0 apart (same ∙ sym plain)))
       ∙ same_links in
-      slots_set region next region' next' heads (set heads b (Some longer)) b (Some (record { owner = head.owner; bytes = chain_bytes region next b head.len ++ byte ∷ [] }))
+      slots_set region next region' next' heads (set heads b (Some longer)) b (Some (record { owner = head.owner; bytes = laid_bytes region next b head.len ++ byte ∷ [] }))
       (length-set heads b (Some longer)) low
       (ap (held_by region' next' b) (get_or-set_same heads b (Some longer) None low)
       ∙ ap (λ bs. Some (record { owner = head.owner; bytes = bs }))
       (one_more_byte region' next' b head.len
-      ∙ (ap (λ bs. bs ++ byte_at region' next' b head.len ∷ []) before ∙ ap (λ x. chain_bytes region next b head.len ++ x ∷ []) new_byte)))
+      ∙ (ap (λ bs. bs ++ linked_byte region' next' b head.len ∷ []) before ∙ ap (λ x. laid_bytes region next b head.len ++ x ∷ []) new_byte)))
       (λ c apart. ap (held_by region' next' c) (get_or-set_other heads b c (Some longer) None apart)
       ∙ (ap (λ i. held_by (set region i byte) next' c (get_or heads c None)) (sym plain)
       ∙ other_held c (get_or heads c None) refl b head l.1 first.1 (λ e. apart e)))
@@ -484,7 +484,7 @@ module _ (region next : List ℕ) (heads : List (Option Head)) (free free_len : 
       other_held c (Some h) e b head m m0 apart =
           let c_chain = sound.chains c h e in
           let low = in_pool next sound.mark sound.count c h c_chain in
-          let links : chain_bytes (set region (32 * free + 0 % 32) byte) (set next head.last free) c h.len ≡ chain_bytes (set region (32 * free + 0 % 32) byte) next c h.len =
+          let links : laid_bytes (set region (32 * free + 0 % 32) byte) (set next head.last free) c h.len ≡ laid_bytes (set region (32 * free + 0 % 32) byte) next c h.len =
           same_bytes (set region (32 * free + 0 % 32) byte) next (set region (32 * free + 0 % 32) byte) (set next head.last free) c h.len
           (λ i i_low. ap (λ x. get_or (set region (32 * free + 0 % 32) byte) (32 * x + i % 32) 0)
           (other_link next sound.mark sound.count c h c_chain head.last free b (blocks_for head.len - 1) m (λ s. apart (sym s)) (i / 32) (omega arith))) in
@@ -492,7 +492,7 @@ module _ (region next : List ℕ) (heads : List (Option Head)) (free free_len : 
 
   -- ---- a chain freed
 
-  pub free_chain_sound : (b : ℕ) (head : Head) → get_or heads b None ≡ Some head → IsSound region (set next head.last free) (set heads b None) b (free_len + blocks_for head.len)
+  pub free_chain_sound : (b : ℕ) (head : Head) → get_or heads b None ≡ Some head → AreSoundBlocks region (set next head.last free) (set heads b None) b (free_len + blocks_for head.len)
   free_chain_sound b head at =
       let chain = sound.chains b head at in
       let b_low = in_pool next sound.mark sound.count b head chain in
@@ -574,7 +574,7 @@ module _ (region next : List ℕ) (heads : List (Option Head)) (free free_len : 
           (other_link next sound.mark sound.count c h (sound.chains c h e) head.last free b (blocks_for head.len - 1) m (λ s. apart (sym s)) (i / 32) (omega arith)))))
 
 -- the last block of a chain lies in the pool
-pub last_in : (region next : List ℕ) (heads : List (Option Head)) (free free_len : ℕ) (sound : IsSound region next heads free free_len) (b : ℕ) (head : Head) → get_or heads b None ≡ Some head → head.last < sound.count
+pub last_in : (region next : List ℕ) (heads : List (Option Head)) (free free_len : ℕ) (sound : AreSoundBlocks region next heads free free_len) (b : ℕ) (head : Head) → get_or heads b None ≡ Some head → head.last < sound.count
 last_in region next heads free free_len sound b head at = (last_marked next sound.mark sound.count b head (sound.chains b head at)).0
 
 -- the length of a chain that isn't too long fits its type
@@ -594,26 +594,26 @@ module _ (region next : List ℕ) (heads : List (Option Head)) (slots : List (Op
   slots_say : (b : ℕ) → slot slots b ≡ held_by region next b (get_or heads b None)
   slots_say b = ap (λ s. slot s b) (sym view) ∙ slot_is region next heads b
 
-  pub bytes_say : (b : ℕ) (head : Head) → get_or heads b None ≡ Some head → bytes_of slots b ≡ chain_bytes region next b head.len
+  pub bytes_say : (b : ℕ) (head : Head) → get_or heads b None ≡ Some head → held_bytes slots b ≡ laid_bytes region next b head.len
   bytes_say b head at = ap bytes_in (slots_say b ∙ ap (held_by region next b) at)
 
   pub owner_says : (b : ℕ) (head : Head) → get_or heads b None ≡ Some head → owner_of slots b ≡ head.owner
   owner_says b head at = ap owner_in (slots_say b ∙ ap (held_by region next b) at)
 
-  pub len_says : (b : ℕ) (head : Head) → get_or heads b None ≡ Some head → length (bytes_of slots b) ≡ head.len
+  pub len_says : (b : ℕ) (head : Head) → get_or heads b None ≡ Some head → length (held_bytes slots b) ≡ head.len
   len_says b head at = ap length (bytes_say b head at) ∙ length-chain_bytes region next b head.len
 
   -- where there are bytes a chain begins
-  pub not_none : (b : ℕ) → 0 < length (bytes_of slots b) → get_or heads b None ≡ None → ⊥
+  pub not_none : (b : ℕ) → 0 < length (held_bytes slots b) → get_or heads b None ≡ None → ⊥
   not_none b some e =
-      let none : bytes_of slots b ≡ [] = ap bytes_in (slots_say b ∙ ap (held_by region next b) e) in
-      let zero_long : length (bytes_of slots b) ≡ 0 = ap length none in
+      let none : held_bytes slots b ≡ [] = ap bytes_in (slots_say b ∙ ap (held_by region next b) e) in
+      let zero_long : length (held_bytes slots b) ≡ 0 = ap length none in
       absurd (omega arith)
 
-  pub block_low : (b : ℕ) → 0 < length (bytes_of slots b) → b < length heads
+  pub block_low : (b : ℕ) → 0 < length (held_bytes slots b) → b < length heads
   block_low b some = elim (cases_lt b (length heads)) [ inl low ↦ low | inr high ↦ absurd (not_none b some (get_or_past heads b None high)) ]
 
-  pub has_head : (b : ℕ) → 0 < length (bytes_of slots b) → IsSome (get_or heads b None)
+  pub has_head : (b : ℕ) → 0 < length (held_bytes slots b) → IsSome (get_or heads b None)
   has_head b some = by_head (get_or heads b None) refl
     where
       by_head : (h : Option Head) → get_or heads b None ≡ h → IsSome h
@@ -622,8 +622,8 @@ module _ (region next : List ℕ) (heads : List (Option Head)) (slots : List (Op
 
 -- ---- another owner
 
-module _ (region next : List ℕ) (heads : List (Option Head)) (free free_len : ℕ) (sound : IsSound region next heads free free_len) where
-  pub set_owner_sound : (b owner : ℕ) (head : Head) → get_or heads b None ≡ Some head → IsSound region next (set heads b (Some (record { owner = owner; last = head.last; len = head.len; read_on = head.read_on; passed = head.passed }))) free free_len
+module _ (region next : List ℕ) (heads : List (Option Head)) (free free_len : ℕ) (sound : AreSoundBlocks region next heads free free_len) where
+  pub set_owner_sound : (b owner : ℕ) (head : Head) → get_or heads b None ≡ Some head → AreSoundBlocks region next (set heads b (Some (record { owner = owner; last = head.last; len = head.len; read_on = head.read_on; passed = head.passed }))) free free_len
   set_owner_sound b owner head at =
       let chain = sound.chains b head at in
       let low : b < length heads = omega (arith, in_pool next sound.mark sound.count b head chain, sound.counted) in
@@ -645,18 +645,18 @@ module _ (region next : List ℕ) (heads : List (Option Head)) (free free_len : 
         all = omega (arith, sum_by-set head_blocks heads b (Some new) None low, ap head_blocks at, sound.all);
       }
 
-  pub set_owner_slots : (b owner : ℕ) (head : Head) → get_or heads b None ≡ Some head → slots_of region next (set heads b (Some (record { owner = owner; last = head.last; len = head.len; read_on = head.read_on; passed = head.passed }))) ≡ put (slots_of region next heads) b owner (chain_bytes region next b head.len)
+  pub set_owner_slots : (b owner : ℕ) (head : Head) → get_or heads b None ≡ Some head → slots_of region next (set heads b (Some (record { owner = owner; last = head.last; len = head.len; read_on = head.read_on; passed = head.passed }))) ≡ with_chain (slots_of region next heads) b owner (laid_bytes region next b head.len)
   set_owner_slots b owner head at =
       let low : b < length heads = omega (arith, in_pool next sound.mark sound.count b head (sound.chains b head at), sound.counted) in
       let new : Head = record { owner = owner; last = head.last; len = head.len; read_on = head.read_on; passed = head.passed } in
-      slots_set region next region next heads (set heads b (Some new)) b (Some (record { owner = owner; bytes = chain_bytes region next b head.len }))
+      slots_set region next region next heads (set heads b (Some new)) b (Some (record { owner = owner; bytes = laid_bytes region next b head.len }))
       (length-set heads b (Some new)) low
       (ap (held_by region next b) (get_or-set_same heads b (Some new) None low))
       (λ c apart. ap (held_by region next c) (get_or-set_other heads b c (Some new) None apart))
 
   -- ---- reading goes on at another block
 
-  pub read_on_sound : (b block passed : ℕ) (head : Head) → get_or heads b None ≡ Some head → passed < blocks_for head.len → block ≡ block_at next b passed → IsSound region next (set heads b (Some (record { owner = head.owner; last = head.last; len = head.len; read_on = block; passed = passed }))) free free_len
+  pub read_on_sound : (b block passed : ℕ) (head : Head) → get_or heads b None ≡ Some head → passed < blocks_for head.len → block ≡ block_at next b passed → AreSoundBlocks region next (set heads b (Some (record { owner = head.owner; last = head.last; len = head.len; read_on = block; passed = passed }))) free free_len
   read_on_sound b block passed head at low block_is =
       let chain = sound.chains b head at in
       let b_low : b < length heads = omega (arith, in_pool next sound.mark sound.count b head chain, sound.counted) in
@@ -711,34 +711,34 @@ drop-made f n from low =
     ∙ (get_or-map-range_with_len f 0 n (from + k) (from + k) d (omega arith) (omega arith)
     ∙ sym (get_or-map-range_with_len f from (n - from) k (from + k) d inside refl)))
 
-pub copied_bytes : (region next : List ℕ) (b len from count : ℕ) → from ≤ len → count ≤ len - from → map (byte_at region next b) (range_with_len from count) ≡ take count (drop from (chain_bytes region next b len))
-unfolding chain_bytes
+pub copied_bytes : (region next : List ℕ) (b len from count : ℕ) → from ≤ len → count ≤ len - from → map (linked_byte region next b) (range_with_len from count) ≡ take count (drop from (laid_bytes region next b len))
+unfolding laid_bytes
 copied_bytes region next b len from count low few =
-    sym (ap (take count) (drop-made (byte_at region next b) len from low) ∙ take-map-range_with_len (byte_at region next b) from (len - from) count few)
+    sym (ap (take count) (drop-made (linked_byte region next b) len from low) ∙ take-map-range_with_len (linked_byte region next b) from (len - from) count few)
 
 -- what the slots say of a chain whose head is known
-module _ (region next : List ℕ) (heads : List (Option Head)) (free free_len : ℕ) (sound : IsSound region next heads free free_len) (slots : List (Option Held)) (view : slots_of region next heads ≡ slots) (b : ℕ) (some : 0 < length (bytes_of slots b)) where
-  pub blocks_reached : (k : ℕ) → k * 32 < length (bytes_of slots b) → block_at next b k < length next
+module _ (region next : List ℕ) (heads : List (Option Head)) (free free_len : ℕ) (sound : AreSoundBlocks region next heads free free_len) (slots : List (Option Held)) (view : slots_of region next heads ≡ slots) (b : ℕ) (some : 0 < length (held_bytes slots b)) where
+  pub blocks_reached : (k : ℕ) → k * 32 < length (held_bytes slots b) → block_at next b k < length next
   blocks_reached k low = by_head (get_or heads b None) refl
     where
       by_head : (h : Option Head) → get_or heads b None ≡ h → block_at next b k < length next
       by_head None e = absurd (not_none region next heads slots view b some e)
       by_head (Some head) e = blocks_low region next heads free free_len sound b head e k (omega (arith, len_says region next heads slots view b head e))
 
-  pub bytes_copied : (from count : ℕ) → from ≤ length (bytes_of slots b) → count ≤ length (bytes_of slots b) - from → map (byte_at region next b) (range_with_len from count) ≡ take count (drop from (bytes_of slots b))
+  pub bytes_copied : (from count : ℕ) → from ≤ length (held_bytes slots b) → count ≤ length (held_bytes slots b) - from → map (linked_byte region next b) (range_with_len from count) ≡ take count (drop from (held_bytes slots b))
   bytes_copied from count low few = by_head (get_or heads b None) refl
     where
-      by_head : (h : Option Head) → get_or heads b None ≡ h → map (byte_at region next b) (range_with_len from count) ≡ take count (drop from (bytes_of slots b))
+      by_head : (h : Option Head) → get_or heads b None ≡ h → map (linked_byte region next b) (range_with_len from count) ≡ take count (drop from (held_bytes slots b))
       by_head None e = absurd (not_none region next heads slots view b some e)
       by_head (Some head) e =
           let len = len_says region next heads slots view b head e in
           copied_bytes region next b head.len from count (omega (arith, len)) (omega (arith, len)) ∙ ap (λ bs. take count (drop from bs)) (sym (bytes_say region next heads slots view b head e))
 
-  pub copied_out : (from count : ℕ) (out new : List ℕ) → from ≤ length (bytes_of slots b) → count ≡ min (length (bytes_of slots b) - from) (length out) → new ≡ map (byte_at region next b) (range_with_len from (length (take count out)))
-      → new ++ drop count out ≡ take count (drop from (bytes_of slots b)) ++ drop count out
+  pub copied_out : (from count : ℕ) (out new : List ℕ) → from ≤ length (held_bytes slots b) → count ≡ min (length (held_bytes slots b) - from) (length out) → new ≡ map (linked_byte region next b) (range_with_len from (length (take count out)))
+      → new ++ drop count out ≡ take count (drop from (held_bytes slots b)) ++ drop count out
   copied_out from count out new low count_is new_is =
       let len : length (take count out) ≡ count = omega (arith, length-take count out, count_is) in
-      ap (λ bs. bs ++ drop count out) (new_is ∙ (ap (λ n. map (byte_at region next b) (range_with_len from n)) len ∙ bytes_copied from count low (omega (arith, count_is))))
+      ap (λ bs. bs ++ drop count out) (new_is ∙ (ap (λ n. map (linked_byte region next b) (range_with_len from n)) len ∙ bytes_copied from count low (omega (arith, count_is))))
 
 -- ---- a new pool
 
@@ -752,7 +752,7 @@ no_head_blocks : (n : ℕ) → sum_by head_blocks (replicate n None) ≡ 0
 no_head_blocks zero = refl
 no_head_blocks (suc n) = omega (arith, sum_by-cons head_blocks None (replicate n None), no_head_blocks n)
 
-pub make_sound : (region next : List ℕ) (heads : List (Option Head)) (count : ℕ) → count ≤ 16384 → length region ≡ 32 * count → next ≡ range_with_len 1 count → heads ≡ replicate count None → IsSound region next heads 0 count
+pub make_sound : (region next : List ℕ) (heads : List (Option Head)) (count : ℕ) → count ≤ 16384 → length region ≡ 32 * count → next ≡ range_with_len 1 count → heads ≡ replicate count None → AreSoundBlocks region next heads 0 count
 make_sound region next heads count few bytes links none = record {
   count = count;
   counted = ap length none ∙ length-replicate count None;

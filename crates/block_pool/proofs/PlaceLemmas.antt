@@ -8,11 +8,11 @@ use Rattle.std.proofs.lemmas.Bool.{cases_lt, cases_eq}
 use Rattle.std.proofs.lemmas.List.FromFn.{length-map-range_with_len, get_or-map-range_with_len}
 use Rattle.block_pool.specs.declared.blocks.Head.{Head}
 use Rattle.block_pool.specs.declared.chain.Chain.{Chain}
-use Rattle.block_pool.specs.Slots.{Held, BlocksState, ShareNoBlock, blocks_for, bytes_of}
-use Rattle.block_pool.specs.Names.{bytes_at, blocks_named}
+use Rattle.block_pool.specs.Slots.{Held, BlocksState, ShareNoBlock, blocks_for, held_bytes}
+use Rattle.block_pool.specs.Names.{named_bytes, blocks_named}
 use Rattle.block_pool.specs.Pool.{PoolState, chain_bytes, chain_blocks}
-use Rattle.block_pool.specs.Links.{block_at, byte_at}
-use Rattle.block_pool.specs.Layout.{chain_bytes as bytes_along, slots_of, blocks_by, chains_of, places_of, head_blocks, IsMarked, IsSound}
+use Rattle.block_pool.specs.Links.{block_at, linked_byte}
+use Rattle.block_pool.specs.Layout.{laid_bytes as bytes_along, slots_of, blocks_by, chains_of, places_of, head_blocks, IsMarked, AreSoundBlocks}
 use Rattle.block_pool.proofs.LayoutLemmas.{same_mark, in_pool, length-slots_of, not_none, bytes_say, len_says}
 
 -- ---- the blocks of one chain
@@ -68,9 +68,9 @@ same_state slots slots' memory chains chains' frees n same_slots same_places =
     ap (λ ss. state ss memory chains' frees n) same_slots ∙ ap (λ cs. state slots memory cs frees n) same_places
 
 -- byte i of a chain lies in its block i / 32
-byte_along : (region next : List ℕ) (first len i : ℕ) → i < len → get_or (bytes_along region next first len) i 0 ≡ byte_at region next first i
+byte_along : (region next : List ℕ) (first len i : ℕ) → i < len → get_or (bytes_along region next first len) i 0 ≡ linked_byte region next first i
 unfolding bytes_along
-byte_along region next first len i low = get_or-map-range_with_len (byte_at region next first) 0 len i i 0 low (omega arith)
+byte_along region next first len i low = get_or-map-range_with_len (linked_byte region next first) 0 len i i 0 low (omega arith)
 
 -- ---- all chains
 
@@ -86,7 +86,7 @@ blocks_together next heads =
     ∙ (ap length (chain_is next heads k) ∙ (length-blocks_by next k (get_or heads k None) ∙ sym (get_or-map head_blocks heads k None d inside)))))
     ∙ sum-map head_blocks heads)
 
-module _ (region next : List ℕ) (heads : List (Option Head)) (free free_len : ℕ) (sound : IsSound region next heads free free_len) where
+module _ (region next : List ℕ) (heads : List (Option Head)) (free free_len : ℕ) (sound : AreSoundBlocks region next heads free free_len) where
   -- a block of a chain
   in_chain : (first k : ℕ) → k < length (get_or (chains_of next heads) first [])
       → (get_or (get_or (chains_of next heads) first []) k 0 ≡ block_at next first k)
@@ -121,14 +121,14 @@ module _ (region next : List ℕ) (heads : List (Option Head)) (free free_len : 
       (get_or-map-range_with_len (block_at next free) 0 free_len k k 0 inside (omega arith), sound.spare k inside)
 
   module _ (slots : List (Option Held)) (view : slots_of region next heads ≡ slots) where
-    chain_len : (first : ℕ) → length (get_or (chains_of next heads) first []) ≡ blocks_for (length (bytes_of slots first))
+    chain_len : (first : ℕ) → length (get_or (chains_of next heads) first []) ≡ blocks_for (length (held_bytes slots first))
     chain_len first = by_head (get_or heads first None) refl
       where
         by_head : (h : Option Head) → get_or heads first None ≡ h
-            → length (get_or (chains_of next heads) first []) ≡ blocks_for (length (bytes_of slots first))
+            → length (get_or (chains_of next heads) first []) ≡ blocks_for (length (held_bytes slots first))
         by_head None e =
             let none : length (get_or (chains_of next heads) first []) ≡ 0 = ap length (chain_is next heads first ∙ ap (blocks_by next first) e) in
-            elim (cases_lt 0 (length (bytes_of slots first))) [
+            elim (cases_lt 0 (length (held_bytes slots first))) [
               | inl some ↦ absurd (not_none region next heads slots view first some e)
               | inr no_more ↦ omega arith
             ]
@@ -136,12 +136,12 @@ module _ (region next : List ℕ) (heads : List (Option Head)) (free free_len : 
             ap length (chain_is next heads first ∙ ap (blocks_by next first) e) ∙ (length-blocks_by next first (Some head) ∙ ap blocks_for (sym
             (len_says region next heads slots view first head e)))
 
-    byte_lies : (first i : ℕ) → i < length (bytes_of slots first)
-        → get_or (bytes_of slots first) i 0 ≡ get_or region (32 * get_or (get_or (chains_of next heads) first []) (i / 32) 0 + i % 32) 0
+    byte_lies : (first i : ℕ) → i < length (held_bytes slots first)
+        → get_or (held_bytes slots first) i 0 ≡ get_or region (32 * get_or (get_or (chains_of next heads) first []) (i / 32) 0 + i % 32) 0
     byte_lies first i low = by_head (get_or heads first None) refl
       where
         by_head : (h : Option Head) → get_or heads first None ≡ h
-            → get_or (bytes_of slots first) i 0 ≡ get_or region (32 * get_or (get_or (chains_of next heads) first []) (i / 32) 0 + i % 32) 0
+            → get_or (held_bytes slots first) i 0 ≡ get_or region (32 * get_or (get_or (chains_of next heads) first []) (i / 32) 0 + i % 32) 0
         by_head None e = absurd (not_none region next heads slots view first (omega arith) e)
         by_head (Some head) e =
             let len = len_says region next heads slots view first head e in
@@ -197,6 +197,6 @@ pub blocks_of_chain : (pool : PoolState) (chain : Chain) → ShareNoBlock pool.s
     → length (chain_blocks pool chain) ≡ blocks_for (length (chain_bytes pool chain))
 blocks_of_chain pool chain shares = by_name chain.first
   where
-    by_name : (name : Option ℕ) → length (blocks_named pool.places name) ≡ blocks_for (length (bytes_at pool.slots name))
+    by_name : (name : Option ℕ) → length (blocks_named pool.places name) ≡ blocks_for (length (named_bytes pool.slots name))
     by_name None = refl
     by_name (Some first) = shares.blocks first

@@ -3,41 +3,41 @@ use Rattle.std.proofs.Common.{◌≡◌, ◌≢◌, ℕ, ◌<◌, inl, inr, List
 use Rattle.std.specs.Prelude.{Option, Some, None}
 use Rattle.std.proofs.lemmas.List.{get_or_past, set-set, set-get_or}
 use Rattle.std.proofs.lemmas.Bool.{cases_lt}
-use Rattle.block_pool.specs.Slots.{Held, slot, put, bytes_in, bytes_of, owner_in, owner_of}
+use Rattle.block_pool.specs.Slots.{Held, slot, with_chain, bytes_in, held_bytes, owner_in, owner_of}
 
 module _ (slots : List (Option Held)) (b : ℕ) where
   -- a chain with bytes begins at a block of the pool
-  pub slot_low : 0 < length (bytes_of slots b) → b < length slots
+  pub slot_low : 0 < length (held_bytes slots b) → b < length slots
   slot_low some = elim (cases_lt b (length slots)) [
     | inl low ↦ low
-    | inr high ↦ absurd (let none : length (bytes_of slots b) ≡ 0 = ap (λ s. length (bytes_in s)) (get_or_past slots b None high) in omega arith)
+    | inr high ↦ absurd (let none : length (held_bytes slots b) ≡ 0 = ap (λ s. length (bytes_in s)) (get_or_past slots b None high) in omega arith)
   ]
 
-  pub slot-put : (owner : ℕ) (bytes : List ℕ) → b < length slots → slot (put slots b owner bytes) b ≡ Some (record { owner = owner; bytes = bytes })
+  pub slot-put : (owner : ℕ) (bytes : List ℕ) → b < length slots → slot (with_chain slots b owner bytes) b ≡ Some (record { owner = owner; bytes = bytes })
   slot-put owner bytes low = get_or-set_same slots b (Some (record { owner = owner; bytes = bytes })) None low
 
-  pub bytes_of-put : (owner : ℕ) (bytes : List ℕ) → b < length slots → bytes_of (put slots b owner bytes) b ≡ bytes
+  pub bytes_of-put : (owner : ℕ) (bytes : List ℕ) → b < length slots → held_bytes (with_chain slots b owner bytes) b ≡ bytes
   bytes_of-put owner bytes low = ap bytes_in (slot-put owner bytes low)
 
-  pub owner_of-put : (owner : ℕ) (bytes : List ℕ) → b < length slots → owner_of (put slots b owner bytes) b ≡ owner
+  pub owner_of-put : (owner : ℕ) (bytes : List ℕ) → b < length slots → owner_of (with_chain slots b owner bytes) b ≡ owner
   owner_of-put owner bytes low = ap owner_in (slot-put owner bytes low)
 
-  pub slot-put_other : (owner : ℕ) (bytes : List ℕ) (c : ℕ) → c ≢ b → slot (put slots b owner bytes) c ≡ slot slots c
+  pub slot-put_other : (owner : ℕ) (bytes : List ℕ) (c : ℕ) → c ≢ b → slot (with_chain slots b owner bytes) c ≡ slot slots c
   slot-put_other owner bytes c apart = get_or-set_other slots b c (Some (record { owner = owner; bytes = bytes })) None apart
 
-  pub put-put : (o p : ℕ) (xs ys : List ℕ) → put (put slots b o xs) b p ys ≡ put slots b p ys
+  pub put-put : (o p : ℕ) (xs ys : List ℕ) → with_chain (with_chain slots b o xs) b p ys ≡ with_chain slots b p ys
   put-put o p xs ys = set-set slots b (Some (record { owner = o; bytes = xs })) (Some (record { owner = p; bytes = ys }))
 
-  pub length-put : (owner : ℕ) (bytes : List ℕ) → length (put slots b owner bytes) ≡ length slots
+  pub length-put : (owner : ℕ) (bytes : List ℕ) → length (with_chain slots b owner bytes) ≡ length slots
   length-put owner bytes = length-set slots b (Some (record { owner = owner; bytes = bytes }))
 
   -- a chain written as it stands
-  pub put_same : 0 < length (bytes_of slots b) → put slots b (owner_of slots b) (bytes_of slots b) ≡ slots
+  pub put_same : 0 < length (held_bytes slots b) → with_chain slots b (owner_of slots b) (held_bytes slots b) ≡ slots
   put_same some = by_slot (slot slots b) refl
     where
-      by_slot : (s : Option Held) → slot slots b ≡ s → put slots b (owner_of slots b) (bytes_of slots b) ≡ slots
-      by_slot None e = absurd (let none : length (bytes_of slots b) ≡ 0 = ap (λ s. length (bytes_in s)) e in omega arith)
+      by_slot : (s : Option Held) → slot slots b ≡ s → with_chain slots b (owner_of slots b) (held_bytes slots b) ≡ slots
+      by_slot None e = absurd (let none : length (held_bytes slots b) ≡ 0 = ap (λ s. length (bytes_in s)) e in omega arith)
       by_slot (Some held) e =
-          ap (λ o. put slots b o (bytes_of slots b)) (ap owner_in e)
-          ∙ (ap (λ bs. put slots b held.owner bs) (ap bytes_in e)
+          ap (λ o. with_chain slots b o (held_bytes slots b)) (ap owner_in e)
+          ∙ (ap (λ bs. with_chain slots b held.owner bs) (ap bytes_in e)
           ∙ (ap (set slots b) (sym e) ∙ set-get_or slots b None))

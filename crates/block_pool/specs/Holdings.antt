@@ -6,13 +6,13 @@ use Rattle.block_pool.specs.Pool.{PoolState, IsLive, IsApart, chain_bytes}
 use Rattle.block_pool.specs.declared.chain.Chain.{Chain}
 
 -- a live chain of an owner
-pub record IsOwn (pool : PoolState) (owner : ℕ) (chain : Chain) : Type 0 where
+pub record IsOwnChain (pool : PoolState) (owner : ℕ) (chain : Chain) : Type 0 where
   pub live : IsLive pool chain
   pub owned : chain.owner ≡ owner
 
 -- their chains are live chains of one owner
 abbrev pub OwnsAll : (X : Type 0) → (X → Chain) → PoolState → ℕ → List X → Type 0
-OwnsAll X chain_of pool owner xs = AllByRecursion (λ x. IsOwn pool owner (chain_of x)) xs
+OwnsAll X chain_of pool owner xs = AllByRecursion (λ x. IsOwnChain pool owner (chain_of x)) xs
 
 -- a chain lies apart from each of theirs
 abbrev pub LiesApart : (X : Type 0) → (X → Chain) → List X → Chain → Type 0

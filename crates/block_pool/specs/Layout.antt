@@ -2,18 +2,18 @@
 use Rattle.std.specs.Prelude.{◌≡◌, ℕ, ◌+◌, ◌-◌, ◌*◌, ◌<◌, ◌≤◌, List, [], map, length, Option, None, Some, slice_index_or}
 use Rattle.std.specs.List.{range_with_len, sum_by}
 use Rattle.block_pool.specs.Slots.{Held, Places, blocks_for}
-use Rattle.block_pool.specs.Links.{block_at, byte_at}
+use Rattle.block_pool.specs.Links.{block_at, linked_byte}
 use Rattle.block_pool.specs.declared.blocks.Head.{Head}
 
 -- the bytes of a chain
-unfoldable pub chain_bytes : List ℕ → List ℕ → ℕ → ℕ → List ℕ
-chain_bytes region next first len = map (byte_at region next first) (range_with_len 0 len)
+unfoldable pub laid_bytes : List ℕ → List ℕ → ℕ → ℕ → List ℕ
+laid_bytes region next first len = map (linked_byte region next first) (range_with_len 0 len)
 
 -- the chain that a head says
 abbrev pub held_by : List ℕ → List ℕ → ℕ → Option Head → Option Held
 held_by region next block None = None
 held_by region next block (Some head) =
-    Some (record { owner = head.owner; bytes = chain_bytes region next block head.len })
+    Some (record { owner = head.owner; bytes = laid_bytes region next block head.len })
 
 -- for each block the chain that begins there
 unfoldable pub slots_of : List ℕ → List ℕ → List (Option Head) → List (Option Held)
@@ -54,7 +54,7 @@ pub record IsChain (next : List ℕ) (mark : ℕ → ℕ × ℕ) (count block : 
   pub reading : block_at next block head.passed ≡ head.read_on
 
 -- Each block lies in a chain or in the free list. None lies in two of them, nor twice in one.
-pub record IsSound (region next : List ℕ) (heads : List (Option Head)) (free free_len : ℕ) : Type 0 where
+pub record AreSoundBlocks (region next : List ℕ) (heads : List (Option Head)) (free free_len : ℕ) : Type 0 where
   pub count : ℕ
   pub counted : length heads ≡ count
   pub links : length next ≡ count

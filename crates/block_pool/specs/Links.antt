@@ -7,5 +7,5 @@ block_at next first zero = first
 block_at next first (suc k) = slice_index next (block_at next first k)
 
 -- byte i of the chain that begins at a block
-abbrev pub byte_at : List ℕ → List ℕ → ℕ → ℕ → ℕ
-byte_at region next first i = slice_index region (32 * block_at next first (i / 32) + i % 32)
+abbrev pub linked_byte : List ℕ → List ℕ → ℕ → ℕ → ℕ
+linked_byte region next first i = slice_index region (32 * block_at next first (i / 32) + i % 32)

@@ -2,7 +2,7 @@
 -- where the chains lie.
 use Rattle.std.specs.Prelude.{◌≡◌, ℕ, ◌+◌, ◌-◌, ◌<◌, List, ◌++◌, length, sum, replicate, Option, None}
 use Rattle.block_pool.specs.Slots.{Held, Places, blocks_for}
-use Rattle.block_pool.specs.Names.{bytes_at, blocks_named, IsLiveAt, put_at, removed_at, IsNamedAfter, IsApartAt}
+use Rattle.block_pool.specs.Names.{named_bytes, blocks_named, IsLiveAt, put_at, removed_at, IsNamedAfter, IsApartAt}
 use Rattle.block_pool.specs.Owners.{owner_at, with_used, new_owners}
 use Rattle.block_pool.specs.declared.owners.Owner.{Owner}
 use Rattle.block_pool.specs.declared.chain.Chain.{Chain}
@@ -37,7 +37,7 @@ HasQuota pool owner = owner < length pool.owners
 
 -- the bytes of a chain
 abbrev pub chain_bytes : PoolState → Chain → List ℕ
-chain_bytes pool chain = bytes_at pool.slots chain.first
+chain_bytes pool chain = named_bytes pool.slots chain.first
 
 abbrev pub IsLive : PoolState → Chain → Type 0
 IsLive pool chain = HasQuota pool chain.owner × IsLiveAt pool.slots chain.owner chain.first

@@ -20,8 +20,8 @@ abbrev pub bytes_in : Option Held → List ℕ
 bytes_in None = []
 bytes_in (Some held) = held.bytes
 
-abbrev pub bytes_of : List (Option Held) → ℕ → List ℕ
-bytes_of slots block = bytes_in (slot slots block)
+abbrev pub held_bytes : List (Option Held) → ℕ → List ℕ
+held_bytes slots block = bytes_in (slot slots block)
 
 -- the owner of the chain that begins at a block
 abbrev pub owner_in : Option Held → ℕ
@@ -32,8 +32,8 @@ abbrev pub owner_of : List (Option Held) → ℕ → ℕ
 owner_of slots block = owner_in (slot slots block)
 
 -- the chains, where these bytes of this owner are the chain that begins at a block
-abbrev pub put : List (Option Held) → ℕ → ℕ → List ℕ → List (Option Held)
-put slots block owner bytes = slice_set slots block (Some (record { owner = owner; bytes = bytes }))
+abbrev pub with_chain : List (Option Held) → ℕ → ℕ → List ℕ → List (Option Held)
+with_chain slots block owner bytes = slice_set slots block (Some (record { owner = owner; bytes = bytes }))
 
 -- Where chains lie: the memory, 32 bytes to a block; for each block the blocks of the chain that begins there, in order; and the
 -- free blocks.
@@ -48,9 +48,9 @@ blocks_at places first = slice_index_or places.chains first []
 
 -- Each block of a pool lies in one chain, once, or is free. Byte i of a chain lies in block i / 32 of its blocks.
 pub record ShareNoBlock (slots : List (Option Held)) (places : Places) : Type 0 where
-  pub blocks : (first : ℕ) → length (blocks_at places first) ≡ blocks_for (length (bytes_of slots first))
-  pub bytes : (first i : ℕ) → i < length (bytes_of slots first)
-      → slice_index (bytes_of slots first) i ≡ slice_index places.memory (32 * slice_index (blocks_at places first) (i / 32) + i % 32)
+  pub blocks : (first : ℕ) → length (blocks_at places first) ≡ blocks_for (length (held_bytes slots first))
+  pub bytes : (first i : ℕ) → i < length (held_bytes slots first)
+      → slice_index (held_bytes slots first) i ≡ slice_index places.memory (32 * slice_index (blocks_at places first) (i / 32) + i % 32)
   pub once : (first other k j : ℕ) → k < length (blocks_at places first) → j < length (blocks_at places other)
       → slice_index (blocks_at places first) k ≡ slice_index (blocks_at places other) j → (first ≡ other) × (k ≡ j)
   pub not_free : (first k j : ℕ) → k < length (blocks_at places first) → j < length places.free

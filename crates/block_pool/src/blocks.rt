@@ -1,7 +1,7 @@
 //! Blocks of memory in one region, linked into chains and a list of free blocks.
 ghost use Rattle.std.specs.Prelude.{◌≡◌, ℕ, ◌+◌, ◌*◌, ◌/◌, ◌^◌, ◌<◌, ◌≤◌, length, map, replicate, None, Some, IsSome, IfOk, slice_index_or};
 ghost use Rattle.std.specs.List.{range_with_len};
-ghost use Rattle.block_pool.specs.Links.{block_at, byte_at};
+ghost use Rattle.block_pool.specs.Links.{block_at, linked_byte};
 
 use std::alloc::{AllocError, Global};
 use std::marker::Model;
@@ -75,7 +75,7 @@ fn copy_from(
     requires reached { (k : ℕ) → k * 32 < from + length out.old → block_at next.now first k < length next.now }
     requires marked { block_at next.now first head.now.passed ≡ head.now.read_on }
     requires short { from + length out.old < 2 ^ 32 }
-    ensures copied { out.new ≡ map (byte_at region.now next.now first) (range_with_len from (length out.old)) }
+    ensures copied { out.new ≡ map (linked_byte region.now next.now first) (range_with_len from (length out.old)) }
     ensures behind { result ≡ block_at next.now first ((from + length out.old) / 32) }
 {
     let mut block = seek(next, first, head, from / BLOCK_BYTES);
@@ -133,7 +133,7 @@ impl Model for Blocks {
 
     ghost Value = { BlocksState };
 
-    ghost use Rattle.block_pool.specs.Layout.{slots_of, places_of, IsSound};
+    ghost use Rattle.block_pool.specs.Layout.{slots_of, places_of, AreSoundBlocks};
 
     ghost view = { λ b. record {
       slots = slots_of b.region.items b.next.items b.heads.items;
@@ -141,12 +141,12 @@ impl Model for Blocks {
       free = b.free_len;
     } };
 
-    ghost invariant = { λ b. IsSound b.region.items b.next.items b.heads.items b.free b.free_len };
+    ghost invariant = { λ b. AreSoundBlocks b.region.items b.next.items b.heads.items b.free b.free_len };
 }
 
 impl Blocks {
     ghost use Rattle.std.specs.Prelude.{◌≡◌, ◌+◌, ◌-◌, ◌%◌, ◌^◌, ◌<◌, ◌≤◌, [], ◌∷◌, ◌++◌, length, replicate, take, drop, min, None, IfOk, slice_set};
-    ghost use Rattle.block_pool.specs.Slots.{ShareNoBlock, slot, put, bytes_of, owner_of, blocks_for};
+    ghost use Rattle.block_pool.specs.Slots.{ShareNoBlock, slot, with_chain, held_bytes, owner_of, blocks_for};
 
     /// So many free blocks, at most 16,384.
     pub fn make(alloc: Global, count: u16) -> Result<Blocks, AllocError>
@@ -174,8 +174,8 @@ impl Blocks {
 
     /// The length of a chain in bytes.
     pub fn len(&self, first: u16) -> u32
-        requires { 0 < length (bytes_of self.now.slots first) }
-        ensures { result ≡ length (bytes_of self.now.slots first) }
+        requires { 0 < length (held_bytes self.now.slots first) }
+        ensures { result ≡ length (held_bytes self.now.slots first) }
     {
         head_at(&self.heads, first).len
     }
@@ -185,7 +185,7 @@ impl Blocks {
         requires { 0 < self.old.free }
         ensures fits { result < length self.old.slots }
         ensures fresh { slot self.old.slots result ≡ None }
-        ensures slots { self.new.slots ≡ put self.old.slots result owner (byte ∷ []) }
+        ensures slots { self.new.slots ≡ with_chain self.old.slots result owner (byte ∷ []) }
         ensures free { self.new.free + 1 ≡ self.old.free }
     {
         let block = self.free;
@@ -204,10 +204,10 @@ impl Blocks {
 
     /// Appends a byte to a chain whose last block has room.
     fn push_in_block(&mut self, first: u16, byte: u8)
-        requires room { 0 < length (bytes_of self.old.slots first) % 32 }
-        requires short { length (bytes_of self.old.slots first) < 2 ^ 24 }
+        requires room { 0 < length (held_bytes self.old.slots first) % 32 }
+        requires short { length (held_bytes self.old.slots first) < 2 ^ 24 }
         ensures slots { self.new.slots
-            ≡ put self.old.slots first (owner_of self.old.slots first) (bytes_of self.old.slots first ++ byte ∷ []) }
+            ≡ with_chain self.old.slots first (owner_of self.old.slots first) (held_bytes self.old.slots first ++ byte ∷ []) }
         ensures free { self.new.free ≡ self.old.free }
     {
         let head = head_at(&self.heads, first);
@@ -224,12 +224,12 @@ impl Blocks {
 
     /// Appends a byte to a chain whose blocks are full: the first free block becomes its last one.
     fn push_in_new_block(&mut self, first: u16, byte: u8)
-        requires some { 0 < length (bytes_of self.old.slots first) }
-        requires full { length (bytes_of self.old.slots first) % 32 ≡ 0 }
-        requires short { length (bytes_of self.old.slots first) < 2 ^ 24 }
+        requires some { 0 < length (held_bytes self.old.slots first) }
+        requires full { length (held_bytes self.old.slots first) % 32 ≡ 0 }
+        requires short { length (held_bytes self.old.slots first) < 2 ^ 24 }
         requires free { 0 < self.old.free }
         ensures slots { self.new.slots
-            ≡ put self.old.slots first (owner_of self.old.slots first) (bytes_of self.old.slots first ++ byte ∷ []) }
+            ≡ with_chain self.old.slots first (owner_of self.old.slots first) (held_bytes self.old.slots first ++ byte ∷ []) }
         ensures free { self.new.free + 1 ≡ self.old.free }
     {
         let head = head_at(&self.heads, first);
@@ -249,10 +249,10 @@ impl Blocks {
 
     /// Frees the blocks of a chain: its last one leads to what was free.
     pub fn free_chain(&mut self, first: u16)
-        requires some { 0 < length (bytes_of self.old.slots first) }
-        requires fits { self.old.free + blocks_for (length (bytes_of self.old.slots first)) < 2 ^ 16 }
+        requires some { 0 < length (held_bytes self.old.slots first) }
+        requires fits { self.old.free + blocks_for (length (held_bytes self.old.slots first)) < 2 ^ 16 }
         ensures slots { self.new.slots ≡ slice_set self.old.slots first None }
-        ensures free { self.new.free ≡ self.old.free + blocks_for (length (bytes_of self.old.slots first)) }
+        ensures free { self.new.free ≡ self.old.free + blocks_for (length (held_bytes self.old.slots first)) }
     {
         let head = head_at(&self.heads, first);
         self.next[head.last as usize] = self.free;
@@ -263,14 +263,14 @@ impl Blocks {
 
     /// Appends a byte to a chain.
     fn push(&mut self, first: u16, byte: u8)
-        requires some { 0 < length (bytes_of self.old.slots first) }
-        requires short { length (bytes_of self.old.slots first) < 2 ^ 24 }
-        requires room { blocks_for (length (bytes_of self.old.slots first) + 1)
-            ≤ blocks_for (length (bytes_of self.old.slots first)) + self.old.free }
+        requires some { 0 < length (held_bytes self.old.slots first) }
+        requires short { length (held_bytes self.old.slots first) < 2 ^ 24 }
+        requires room { blocks_for (length (held_bytes self.old.slots first) + 1)
+            ≤ blocks_for (length (held_bytes self.old.slots first)) + self.old.free }
         ensures slots { self.new.slots
-            ≡ put self.old.slots first (owner_of self.old.slots first) (bytes_of self.old.slots first ++ byte ∷ []) }
-        ensures free { self.new.free + blocks_for (length (bytes_of self.old.slots first) + 1)
-            ≡ self.old.free + blocks_for (length (bytes_of self.old.slots first)) }
+            ≡ with_chain self.old.slots first (owner_of self.old.slots first) (held_bytes self.old.slots first ++ byte ∷ []) }
+        ensures free { self.new.free + blocks_for (length (held_bytes self.old.slots first) + 1)
+            ≡ self.old.free + blocks_for (length (held_bytes self.old.slots first)) }
     {
         if self.len(first) as usize % BLOCK_BYTES == 0 {
             self.push_in_new_block(first, byte);
@@ -281,14 +281,14 @@ impl Blocks {
 
     /// Appends bytes to a chain.
     pub fn extend(&mut self, first: u16, bytes: &[u8])
-        requires some { 0 < length (bytes_of self.old.slots first) }
-        requires short { length (bytes_of self.old.slots first) + length bytes.now < 2 ^ 24 }
-        requires room { blocks_for (length (bytes_of self.old.slots first) + length bytes.now)
-            ≤ blocks_for (length (bytes_of self.old.slots first)) + self.old.free }
+        requires some { 0 < length (held_bytes self.old.slots first) }
+        requires short { length (held_bytes self.old.slots first) + length bytes.now < 2 ^ 24 }
+        requires room { blocks_for (length (held_bytes self.old.slots first) + length bytes.now)
+            ≤ blocks_for (length (held_bytes self.old.slots first)) + self.old.free }
         ensures slots { self.new.slots
-            ≡ put self.old.slots first (owner_of self.old.slots first) (bytes_of self.old.slots first ++ bytes.now) }
-        ensures free { self.new.free + blocks_for (length (bytes_of self.old.slots first) + length bytes.now)
-            ≡ self.old.free + blocks_for (length (bytes_of self.old.slots first)) }
+            ≡ with_chain self.old.slots first (owner_of self.old.slots first) (held_bytes self.old.slots first ++ bytes.now) }
+        ensures free { self.new.free + blocks_for (length (held_bytes self.old.slots first) + length bytes.now)
+            ≡ self.old.free + blocks_for (length (held_bytes self.old.slots first)) }
     {
         for byte in bytes {
             self.push(first, *byte);
@@ -297,8 +297,8 @@ impl Blocks {
 
     /// Gives a chain to another owner. No byte moves.
     pub fn set_owner(&mut self, first: u16, owner: u8)
-        requires { 0 < length (bytes_of self.old.slots first) }
-        ensures slots { self.new.slots ≡ put self.old.slots first owner (bytes_of self.old.slots first) }
+        requires { 0 < length (held_bytes self.old.slots first) }
+        ensures slots { self.new.slots ≡ with_chain self.old.slots first owner (held_bytes self.old.slots first) }
         ensures free { self.new.free ≡ self.old.free }
     {
         let head = head_at(&self.heads, first);
@@ -314,10 +314,10 @@ impl Blocks {
     /// Copies the bytes of a chain from a place on into the front of `out`, as many as are there and fit, and says how
     /// many.
     pub fn copy_out(&self, first: u16, from: u32, out: &mut [u8]) -> usize
-        requires some { 0 < length (bytes_of self.now.slots first) }
-        requires in_chain { from ≤ length (bytes_of self.now.slots first) }
-        ensures count { result ≡ min (length (bytes_of self.now.slots first) - from) (length out.old) }
-        ensures copied { out.new ≡ take result (drop from (bytes_of self.now.slots first)) ++ drop result out.old }
+        requires some { 0 < length (held_bytes self.now.slots first) }
+        requires in_chain { from ≤ length (held_bytes self.now.slots first) }
+        ensures count { result ≡ min (length (held_bytes self.now.slots first) - from) (length out.old) }
+        ensures copied { out.new ≡ take result (drop from (held_bytes self.now.slots first)) ++ drop result out.old }
     {
         let left = (self.len(first) - from) as usize;
         let count = left.min(out.len());
@@ -336,10 +336,10 @@ impl Blocks {
     /// Copies as `copy_out` does, and keeps the block behind what it copied, so that the next call goes on there without walking
     /// along the chain.
     pub fn copy_on(&mut self, first: u16, from: u32, out: &mut [u8]) -> usize
-        requires some { 0 < length (bytes_of self.old.slots first) }
-        requires in_chain { from ≤ length (bytes_of self.old.slots first) }
-        ensures count { result ≡ min (length (bytes_of self.old.slots first) - from) (length out.old) }
-        ensures copied { out.new ≡ take result (drop from (bytes_of self.old.slots first)) ++ drop result out.old }
+        requires some { 0 < length (held_bytes self.old.slots first) }
+        requires in_chain { from ≤ length (held_bytes self.old.slots first) }
+        ensures count { result ≡ min (length (held_bytes self.old.slots first) - from) (length out.old) }
+        ensures copied { out.new ≡ take result (drop from (held_bytes self.old.slots first)) ++ drop result out.old }
         ensures unchanged { self.new ≡ self.old }
     {
         let head = head_at(&self.heads, first);

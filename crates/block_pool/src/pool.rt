@@ -1,7 +1,7 @@
 //! The pool: chains with a quota for each owner.
 ghost use Rattle.std.specs.Prelude.{◌≡◌, ◌+◌, ◌^◌, ◌<◌, ◌≤◌, ◌++◌, length, sum, IfOk};
 ghost use Rattle.block_pool.specs.Slots.{blocks_for};
-ghost use Rattle.block_pool.specs.Names.{bytes_at, IsLiveAt, put_at, removed_at, IsNamedAfter};
+ghost use Rattle.block_pool.specs.Names.{named_bytes, IsLiveAt, put_at, removed_at, IsNamedAfter};
 ghost use Rattle.block_pool.specs.Owners.{new_owners};
 
 use crate::blocks::{BLOCK_BYTES, Blocks};
@@ -278,9 +278,9 @@ fn new_owners(alloc: Global, quotas: &[u16]) -> Result<Vec<Owner>, AllocError>
 /// Frees the blocks of a chain.
 fn free_all(blocks: &mut Blocks, chain: &Chain)
     requires live { IsLiveAt blocks.old.slots chain.now.owner chain.now.first }
-    requires fits { blocks.old.free + blocks_for (length (bytes_at blocks.old.slots chain.now.first)) < 2 ^ 16 }
+    requires fits { blocks.old.free + blocks_for (length (named_bytes blocks.old.slots chain.now.first)) < 2 ^ 16 }
     ensures slots { blocks.new.slots ≡ removed_at blocks.old.slots chain.now.first }
-    ensures free { blocks.new.free ≡ blocks.old.free + blocks_for (length (bytes_at blocks.old.slots chain.now.first)) }
+    ensures free { blocks.new.free ≡ blocks.old.free + blocks_for (length (named_bytes blocks.old.slots chain.now.first)) }
 {
     if let Some(first) = chain.first {
         blocks.free_chain(first);
@@ -290,15 +290,15 @@ fn free_all(blocks: &mut Blocks, chain: &Chain)
 /// Appends bytes to a chain, with as many free blocks as it needs.
 fn append(blocks: &mut Blocks, chain: &mut Chain, bytes: &[u8])
     requires live { IsLiveAt blocks.old.slots chain.old.owner chain.old.first }
-    requires short { length (bytes_at blocks.old.slots chain.old.first) + length bytes.now < 2 ^ 24 }
-    requires room { blocks_for (length (bytes_at blocks.old.slots chain.old.first) + length bytes.now)
-        ≤ blocks_for (length (bytes_at blocks.old.slots chain.old.first)) + blocks.old.free }
+    requires short { length (named_bytes blocks.old.slots chain.old.first) + length bytes.now < 2 ^ 24 }
+    requires room { blocks_for (length (named_bytes blocks.old.slots chain.old.first) + length bytes.now)
+        ≤ blocks_for (length (named_bytes blocks.old.slots chain.old.first)) + blocks.old.free }
     ensures owner { chain.new.owner ≡ chain.old.owner }
     ensures name { IsNamedAfter blocks.old.slots chain.old.first bytes.now chain.new.first }
     ensures slots { blocks.new.slots ≡ put_at blocks.old.slots chain.new.first chain.old.owner
-        (bytes_at blocks.old.slots chain.old.first ++ bytes.now) }
-    ensures free { blocks.new.free + blocks_for (length (bytes_at blocks.old.slots chain.old.first) + length bytes.now)
-        ≡ blocks.old.free + blocks_for (length (bytes_at blocks.old.slots chain.old.first)) }
+        (named_bytes blocks.old.slots chain.old.first ++ bytes.now) }
+    ensures free { blocks.new.free + blocks_for (length (named_bytes blocks.old.slots chain.old.first) + length bytes.now)
+        ≡ blocks.old.free + blocks_for (length (named_bytes blocks.old.slots chain.old.first)) }
 {
     if let Some(first) = chain.first {
         blocks.extend(first, bytes);
@@ -315,7 +315,7 @@ fn append(blocks: &mut Blocks, chain: &mut Chain, bytes: &[u8])
 fn hand_over(blocks: &mut Blocks, chain: &mut Chain, owner: u8)
     requires { IsLiveAt blocks.old.slots chain.old.owner chain.old.first }
     ensures chain { chain.new ≡ record { owner = owner; first = chain.old.first } }
-    ensures slots { blocks.new.slots ≡ put_at blocks.old.slots chain.old.first owner (bytes_at blocks.old.slots chain.old.first) }
+    ensures slots { blocks.new.slots ≡ put_at blocks.old.slots chain.old.first owner (named_bytes blocks.old.slots chain.old.first) }
     ensures free { blocks.new.free ≡ blocks.old.free }
 {
     if let Some(first) = chain.first {

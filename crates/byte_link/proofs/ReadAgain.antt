@@ -9,12 +9,12 @@ use Rattle.swp_base.specs.DataUnits.{IsLpdu}
 use Rattle.swp_crc.specs.Crc.{crc_of}
 use Rattle.byte_link.specs.declared.unit.Unit.{Unit}
 use Rattle.byte_link.specs.declared.unit.Unit.TheVariants.{Nothing, Tick, Frame, Refused}
-use Rattle.byte_link.specs.Units.{unit_of, is_whole, checked, said}
-use Rattle.byte_link.specs.Reading.{emptied, under_way, given, answers_after, says_something, units}
+use Rattle.byte_link.specs.Units.{unit_of, is_whole, checked, unit_said}
+use Rattle.byte_link.specs.Reading.{emptied, unit_under_way, unit_given, units_given, says_something, units}
 
 -- a part of a unit of this length and these bytes
 part : (count : ℕ) (bytes q r : List ℕ) → 0 < count → count ≤ 30 → length bytes ≡ count + 2 → q ++ r ≡ 0 ∷ count ∷ bytes → 0 < length r
-    → (said q ≡ Nothing) × (is_whole q ≡ false)
+    → (unit_said q ≡ Nothing) × (is_whole q ≡ false)
 part count bytes [] r low high l e more = (refl, refl)
 part count bytes (h ∷ []) r low high l e more = (refl, refl)
 part count bytes (h ∷ m ∷ []) r low high l e more =
@@ -50,7 +50,7 @@ record IsUnderWay (count : ℕ) (bytes seen p rest : List ℕ) : Type 0 where
   some : 0 < count
   most : count ≤ 30
   long : length bytes ≡ count + 2
-  front : under_way seen ≡ p
+  front : unit_under_way seen ≡ p
   whole : p ++ rest ≡ 0 ∷ count ∷ bytes
   more : 0 < length rest
 
@@ -67,13 +67,13 @@ unit_empties count [] low high long = absurd (omega (arith, long))
 unit_empties count (x ∷ bytes) low high long = empties (0 ∷ count ∷ x ∷ bytes) (is_unit count x bytes low high long)
 
 -- the rest of a unit gives what it says at its last byte, and then nothing is under way
-reads : (count : ℕ) (bytes seen p rest later : List ℕ) → IsUnderWay count bytes seen p rest → says_something (said (0 ∷ count ∷ bytes)) ≡ true
-    → (filter says_something (answers_after seen (rest ++ later)) ≡ said (0 ∷ count ∷ bytes) ∷ filter says_something (answers_after (came seen rest) later))
-    × (under_way (came seen rest) ≡ [])
+reads : (count : ℕ) (bytes seen p rest later : List ℕ) → IsUnderWay count bytes seen p rest → says_something (unit_said (0 ∷ count ∷ bytes)) ≡ true
+    → (filter says_something (units_given seen (rest ++ later)) ≡ unit_said (0 ∷ count ∷ bytes) ∷ filter says_something (units_given (came seen rest) later))
+    × (unit_under_way (came seen rest) ≡ [])
 reads count bytes seen p [] later u says = absurd (omega (arith, u.more))
 reads count bytes seen p (b ∷ []) later u says =
-    let last : under_way seen ++ b ∷ [] ≡ 0 ∷ count ∷ bytes = ap (λ xs. xs ++ b ∷ []) u.front ∙ u.whole in (
-      keep (given (b ∷ seen)) (said (0 ∷ count ∷ bytes)) (answers_after (b ∷ seen) later) (ap said last) says,
+    let last : unit_under_way seen ++ b ∷ [] ≡ 0 ∷ count ∷ bytes = ap (λ xs. xs ++ b ∷ []) u.front ∙ u.whole in (
+      keep (unit_given (b ∷ seen)) (unit_said (0 ∷ count ∷ bytes)) (units_given (b ∷ seen) later) (ap unit_said last) says,
       ap emptied last ∙ unit_empties count bytes u.some u.most u.long,
     )
   where
@@ -90,7 +90,7 @@ reads count bytes seen p (b ∷ c ∷ rest) later u says =
       whole = whole;
       more = omega arith;
     }) says in
-    (skip (given (b ∷ seen)) (answers_after (b ∷ seen) (c ∷ rest ++ later)) (ap (λ xs. said (xs ++ b ∷ [])) u.front ∙ next.0) ∙ further.0, further.1)
+    (skip (unit_given (b ∷ seen)) (units_given (b ∷ seen) (c ∷ rest ++ later)) (ap (λ xs. unit_said (xs ++ b ∷ [])) u.front ∙ next.0) ∙ further.0, further.1)
 
 tail_length : (lpdu : List ℕ) (high low : ℕ) → length (lpdu ++ high ∷ low ∷ []) ≡ length lpdu + 2
 tail_length lpdu high low = length-append lpdu (high ∷ low ∷ [])
@@ -137,11 +137,11 @@ checked_again lpdu crc is =
         + get_or (lpdu ++ crc / 256 ∷ crc % 256 ∷ []) (length (lpdu ++ crc / 256 ∷ crc % 256 ∷ []) - 1) 0
     value = omega (arith, first, second)
 
-said_whole : (h m x count : ℕ) (bytes : List ℕ) → 256 * h + m ≡ count → 0 < count → count ≤ 30 → suc (length bytes) ≡ count + 2 → said (h ∷ m ∷ x ∷ bytes) ≡ checked (x ∷ bytes)
+said_whole : (h m x count : ℕ) (bytes : List ℕ) → 256 * h + m ≡ count → 0 < count → count ≤ 30 → suc (length bytes) ≡ count + 2 → unit_said (h ∷ m ∷ x ∷ bytes) ≡ checked (x ∷ bytes)
 said_whole h m x count bytes same low high l =
     rw (same, ne_eqb count 0 (λ z. absurd (omega (arith, z))), le-leb count 30 high, eq-eqb (suc (length bytes)) (count + 2) l) refl
 
-whole_unit : (lpdu : List ℕ) → IsLpdu lpdu → said (unit_of lpdu) ≡ Frame lpdu
+whole_unit : (lpdu : List ℕ) → IsLpdu lpdu → unit_said (unit_of lpdu) ≡ Frame lpdu
 whole_unit [] h = absurd (omega arith)
 whole_unit (x ∷ lpdu) h =
     said_whole 0 (suc (length lpdu)) x (suc (length lpdu)) (lpdu ++ crc_of (x ∷ lpdu) / 256 ∷ crc_of (x ∷ lpdu) % 256 ∷ []) (omega arith) (omega arith) h.1
@@ -158,24 +158,24 @@ says_checked bytes = by_crc (crc_of (take (length bytes - 2) bytes)) (256 * get_
     by_crc : (want got : ℕ) → says_something (cond (eqb want got) (Frame (take (length bytes - 2) bytes)) (Refused (Crc want got))) ≡ true
     by_crc want got = by (eqb want got) want got
 
-says_unit : (count : ℕ) (bytes : List ℕ) → 0 < count → count ≤ 30 → length bytes ≡ count + 2 → says_something (said (0 ∷ count ∷ bytes)) ≡ true
+says_unit : (count : ℕ) (bytes : List ℕ) → 0 < count → count ≤ 30 → length bytes ≡ count + 2 → says_something (unit_said (0 ∷ count ∷ bytes)) ≡ true
 says_unit count [] low high long = absurd (omega (arith, long))
 says_unit count (x ∷ bytes) low high long =
     ap says_something (said_whole 0 count x count bytes (omega arith) low high long) ∙ says_checked (x ∷ bytes)
 
 -- a unit gives what it says, and then nothing is under way
-unit_is_read : (seen bytes later : List ℕ) → under_way seen ≡ [] → IsUnit bytes
-    → (filter says_something (answers_after seen (bytes ++ later)) ≡ said bytes ∷ filter says_something (answers_after (came seen bytes) later))
-    × (under_way (came seen bytes) ≡ [])
+unit_is_read : (seen bytes later : List ℕ) → unit_under_way seen ≡ [] → IsUnit bytes
+    → (filter says_something (units_given seen (bytes ++ later)) ≡ unit_said bytes ∷ filter says_something (units_given (came seen bytes) later))
+    × (unit_under_way (came seen bytes) ≡ [])
 unit_is_read seen bytes later is (inl tick) =
-    subst (λ b. (filter says_something (answers_after seen (b ++ later)) ≡ said b ∷ filter says_something (answers_after (came seen b) later)) × (under_way (came seen b) ≡ []))
+    subst (λ b. (filter says_something (units_given seen (b ++ later)) ≡ unit_said b ∷ filter says_something (units_given (came seen b) later)) × (unit_under_way (came seen b) ≡ []))
     (sym tick) (tick_is_read seen later is)
   where
-    tick_is_read : (seen later : List ℕ) → under_way seen ≡ []
-        → (filter says_something (answers_after seen (0 ∷ 0 ∷ later)) ≡ Tick ∷ filter says_something (answers_after (0 ∷ 0 ∷ seen) later)) × (under_way (0 ∷ 0 ∷ seen) ≡ [])
+    tick_is_read : (seen later : List ℕ) → unit_under_way seen ≡ []
+        → (filter says_something (units_given seen (0 ∷ 0 ∷ later)) ≡ Tick ∷ filter says_something (units_given (0 ∷ 0 ∷ seen) later)) × (unit_under_way (0 ∷ 0 ∷ seen) ≡ [])
     tick_is_read seen later is = (rw is refl, rw is refl)
 unit_is_read seen bytes later is (inr u) =
-    subst (λ b. (filter says_something (answers_after seen (b ++ later)) ≡ said b ∷ filter says_something (answers_after (came seen b) later)) × (under_way (came seen b) ≡ []))
+    subst (λ b. (filter says_something (units_given seen (b ++ later)) ≡ unit_said b ∷ filter says_something (units_given (came seen b) later)) × (unit_under_way (came seen b) ≡ []))
     (sym u.spelled) (reads u.count u.rest seen [] (0 ∷ u.count ∷ u.rest) later (record {
       some = u.some;
       most = u.most;
@@ -185,12 +185,12 @@ unit_is_read seen bytes later is (inr u) =
       more = omega arith;
     }) (says_unit u.count u.rest u.some u.most u.long))
 
-pub all_are_read : (seen : List ℕ) (written : List (List ℕ)) → under_way seen ≡ [] → AllByRecursion IsUnit written
-    → units_behind seen (concat written) ≡ map said written
+pub all_are_read : (seen : List ℕ) (written : List (List ℕ)) → unit_under_way seen ≡ [] → AllByRecursion IsUnit written
+    → units_behind seen (concat written) ≡ map unit_said written
 all_are_read seen [] is all = refl
 all_are_read seen (bytes ∷ written) is all =
     let first = unit_is_read seen bytes (concat written) is all.0 in
-    first.0 ∙ ap (λ us. said bytes ∷ us) (all_are_read (came seen bytes) written first.1 all.1)
+    first.0 ∙ ap (λ us. unit_said bytes ∷ us) (all_are_read (came seen bytes) written first.1 all.1)
 
 unit_of_lpdu : (lpdu : List ℕ) → IsLpdu lpdu → IsUnit (unit_of lpdu)
 unit_of_lpdu lpdu h = inr (record {
@@ -206,7 +206,7 @@ units_of_lpdus : (lpdus : List (List ℕ)) → AllByRecursion IsLpdu lpdus → A
 units_of_lpdus [] all = tt
 units_of_lpdus (lpdu ∷ lpdus) all = (unit_of_lpdu lpdu all.0, units_of_lpdus lpdus all.1)
 
-said_of_lpdus : (lpdus : List (List ℕ)) → AllByRecursion IsLpdu lpdus → map said (map unit_of lpdus) ≡ map Frame lpdus
+said_of_lpdus : (lpdus : List (List ℕ)) → AllByRecursion IsLpdu lpdus → map unit_said (map unit_of lpdus) ≡ map Frame lpdus
 said_of_lpdus [] all = refl
 said_of_lpdus (lpdu ∷ lpdus) all = cong (whole_unit lpdu all.0) (said_of_lpdus lpdus all.1)
   where

@@ -27,11 +27,11 @@ checked bytes =
 
 -- What the last of these bytes, all that came since the last whole unit, gives. A length above 30 is refused where it is
 -- complete, and nothing comes after it.
-abbrev pub said : List ℕ → unit.Unit
-said [] = Nothing
-said (high ∷ []) = Nothing
-said (high ∷ low ∷ []) =
+abbrev pub unit_said : List ℕ → unit.Unit
+unit_said [] = Nothing
+unit_said (high ∷ []) = Nothing
+unit_said (high ∷ low ∷ []) =
     let count = 256 * high + low in
     if count == 0 then Tick else if nat_le count 30 then Nothing else Refused (Length (8 * count))
-said (high ∷ low ∷ byte ∷ bytes) =
+unit_said (high ∷ low ∷ byte ∷ bytes) =
     if is_whole (high ∷ low ∷ byte ∷ bytes) then checked (byte ∷ bytes) else Nothing

@@ -21,12 +21,12 @@ pub struct ByteLink {
 }
 
 impl ByteLink {
-    ghost use Rattle.byte_link.specs.Reading.{given};
-    ghost use Rattle.byte_link.specs.Kept.{StandsFor};
+    ghost use Rattle.byte_link.specs.Reading.{unit_given};
+    ghost use Rattle.byte_link.specs.Kept.{ByteLinkStandsFor};
 
     /// A link on which nothing came.
     pub fn new() -> Self
-        ensures { StandsFor result [] }
+        ensures { ByteLinkStandsFor result [] }
     {
         Self {
             unit: ArrayVec::new(),
@@ -37,8 +37,8 @@ impl ByteLink {
     /// Takes a byte. A unit whose CRC differs is refused, and the next one is read as usual; a length above 30 is refused,
     /// and each later byte gives nothing.
     pub fn feed(&mut self, byte: u8) -> Unit
-        ensures stands { (seen : List ℕ) → StandsFor self.old seen → StandsFor self.new (byte ∷ seen) }
-        ensures answer { (seen : List ℕ) → StandsFor self.old seen → result ≡ given (byte ∷ seen) }
+        ensures stands { (seen : List ℕ) → ByteLinkStandsFor self.old seen → ByteLinkStandsFor self.new (byte ∷ seen) }
+        ensures answer { (seen : List ℕ) → ByteLinkStandsFor self.old seen → result ≡ unit_given (byte ∷ seen) }
     {
         if self.lost {
             return Unit::Nothing;

@@ -6,8 +6,8 @@ use Rattle.std.proofs.lemmas.Bool.{cases_Bool, true≢false}
 use Rattle.swp_base.specs.InMemory.{Memory}
 use Rattle.journal_laws.specs.declared.banks.Side.{Side}
 use Rattle.journal_laws.specs.declared.state.State.{State}
-use Rattle.journal_laws.specs.Banks.{other, place, is_open, current}
-use Rattle.journal_laws.specs.Writes.{Write, after}
+use Rattle.journal_laws.specs.Banks.{other, bank_place, is_opened_gate, current}
+use Rattle.journal_laws.specs.Writes.{Write, after_writes}
 use Rattle.journal_laws.specs.Journal.{Journal, journal, count_of}
 use Rattle.journal_laws.specs.Operations.{append_writes, compact_writes, open_bank, close_bank}
 use Rattle.journal_laws.specs.Planned.{fails_within, after_planned}
@@ -18,7 +18,7 @@ use Rattle.hci_tables.specs.Commands.{IsCommand}
 use Rattle.hci_tables.specs.Bodies.{body_of}
 use Rattle.hci_tables.specs.Tables.{HciTables, AreTables, apply}
 use Rattle.hci_store.specs.Recordable.{IsRecordable}
-use Rattle.hci_store.specs.Committing.{fits, snapshot_bodies, room_writes, with_room, commit_writes, committed}
+use Rattle.hci_store.specs.Committing.{record_fits, snapshot_bodies, room_writes, with_room, commit_writes, committed}
 use Rattle.kept_laws.specs.Finds.{Knows, FindsRoom}
 use Rattle.kept_laws.proofs.Commits.{says_of, can, room_knows, next_of}
 use Rattle.cut_laws.specs.Gates.{opens_gate}
@@ -34,11 +34,11 @@ bank_of content s t k = ap (λ (x : State). x.in_use) k.state_is
 
 snapshot_ends : (s : State) (bodies : List (List ℕ)) → IsSome s.in_use → EndsInGate (compact_writes s bodies)
 snapshot_ends s bodies used = by_side s.in_use used where
-  by_side : (o : Option Side) → IsSome o → EndsInGate (option_map_or (λ side. close_bank s.beside (place (other side))
-      ++ open_bank (place (other side)) (s.generation + 1) (count_of s) bodies) o [])
+  by_side : (o : Option Side) → IsSome o → EndsInGate (option_map_or (λ side. close_bank s.beside (bank_place (other side))
+      ++ open_bank (bank_place (other side)) (s.generation + 1) (count_of s) bodies) o [])
   by_side None used = absurd (true≢false (sym used))
   by_side (Some side) used =
-      ends_append (close_bank s.beside (place (other side))) (open_bank (place (other side)) (s.generation + 1) (count_of s) bodies) refl
+      ends_append (close_bank s.beside (bank_place (other side))) (open_bank (bank_place (other side)) (s.generation + 1) (count_of s) bodies) refl
 
 -- ## The writes of a snapshot
 
@@ -50,9 +50,9 @@ module _ (content : List ℕ) (s : State) (t : HciTables) (c : Command) (k : Kno
   abbrev by_room : Bool → List Write
   by_room b = cond b [] (compact_writes s (snapshot_bodies t))
 
-  snapshot_stayed : (i + 1 ≡ length before → is_open (slice_index fill 0) ≡ false) → current new ≡ s.in_use
-  snapshot_stayed closed = by_fit (fits s (body_of c)) refl filled closed where
-    by_fit : (b : Bool) → fits s (body_of c) ≡ b → IsFilled i fill (by_room b) content new → (i + 1 ≡ length (by_room b) → is_open (slice_index fill 0) ≡ false)
+  snapshot_stayed : (i + 1 ≡ length before → is_opened_gate (slice_index fill 0) ≡ false) → current new ≡ s.in_use
+  snapshot_stayed closed = by_fit (record_fits s (body_of c)) refl filled closed where
+    by_fit : (b : Bool) → record_fits s (body_of c) ≡ b → IsFilled i fill (by_room b) content new → (i + 1 ≡ length (by_room b) → is_opened_gate (slice_index fill 0) ≡ false)
         → current new ≡ s.in_use
     by_fit true is filled closed = absurd filled
     by_fit false is filled closed =
@@ -61,11 +61,11 @@ module _ (content : List ℕ) (s : State) (t : HciTables) (c : Command) (k : Kno
         (snapshot_ends s (snapshot_bodies t) k.in_use) filled closed)
         ∙ bank_of content s t k
 
-  snapshot_moved : i + 1 ≡ length before → is_open (slice_index fill 0) ≡ true → current new ≡ (with_room s t (body_of c)).in_use
-  snapshot_moved last opened = ap current (by_fit (fits s (body_of c)) filled last)
-      ∙ bank_of (after before content) (with_room s t (body_of c)) t (room_knows content s t c k are may command room (fits s (body_of c)) refl).0
+  snapshot_moved : i + 1 ≡ length before → is_opened_gate (slice_index fill 0) ≡ true → current new ≡ (with_room s t (body_of c)).in_use
+  snapshot_moved last opened = ap current (by_fit (record_fits s (body_of c)) filled last)
+      ∙ bank_of (after_writes before content) (with_room s t (body_of c)) t (room_knows content s t c k are may command room (record_fits s (body_of c)) refl).0
     where
-      by_fit : (b : Bool) → IsFilled i fill (by_room b) content new → i + 1 ≡ length (by_room b) → new ≡ after (by_room b) content
+      by_fit : (b : Bool) → IsFilled i fill (by_room b) content new → i + 1 ≡ length (by_room b) → new ≡ after_writes (by_room b) content
       by_fit true filled last = absurd filled
       by_fit false filled last =
           gate_opened i fill (compact_writes s (snapshot_bodies t)) content new (snapshot_ends s (snapshot_bodies t) k.in_use) filled last opened
@@ -85,7 +85,7 @@ module _ (m : Memory) (s : State) (t : HciTables) (c : Command) (k : Knows m.con
 
   abbrev Parts : Type 0
   Parts = ((cut.i < length first) × IsFilled cut.i cut.fill first m.content left)
-      ⊎ ((j : ℕ) × (cut.i ≡ length first + j) × IsFilled j cut.fill (append_writes (with_room s t (body_of c)) (body_of c)) (after first m.content) left)
+      ⊎ ((j : ℕ) × (cut.i ≡ length first + j) × IsFilled j cut.fill (append_writes (with_room s t (body_of c)) (body_of c)) (after_writes first m.content) left)
 
   of_parts : Parts
   of_parts = parts m.content s t c k are may command room cut.i cut.fill left cut.filled
@@ -97,7 +97,7 @@ module _ (m : Memory) (s : State) (t : HciTables) (c : Command) (k : Knows m.con
         snapshot_stayed m.content s t c k are may command room cut.i cut.fill left front.1 (cut.closed (length first) opens)
     by_part (inr back) = absurd (omega (arith, back.1, cut.reached (length first) near))
 
-  record_moved : (j : ℕ) → cut.i ≡ length first + j → IsFilled j cut.fill (append_writes (with_room s t (body_of c)) (body_of c)) (after first m.content) left
+  record_moved : (j : ℕ) → cut.i ≡ length first + j → IsFilled j cut.fill (append_writes (with_room s t (body_of c)) (body_of c)) (after_writes first m.content) left
       → current left ≡ (with_room s t (body_of c)).in_use
   record_moved j is filled = by_gate (cases_Bool (opens_gate (length (commit_writes s t (body_of c))) m.plan)) where
     by_gate : (opens_gate (length (commit_writes s t (body_of c))) m.plan ≡ true) ⊎ (opens_gate (length (commit_writes s t (body_of c))) m.plan ≡ false)
@@ -107,16 +107,16 @@ module _ (m : Memory) (s : State) (t : HciTables) (c : Command) (k : Knows m.con
         bank_of left (committed s t (body_of c)) (apply t c)
         (commit_opened m.content s t c k are may command room cut.i cut.fill left cut.filled o.0 o.1)
     by_gate (inr opens) =
-        let r = room_knows m.content s t c k are may command room (fits s (body_of c)) refl in
-        same_bank (after first m.content) left
-        (record_same (after first m.content) (with_room s t (body_of c)) t r.0 c command r.1 j cut.fill left filled
+        let r = room_knows m.content s t c k are may command room (record_fits s (body_of c)) refl in
+        same_bank (after_writes first m.content) left
+        (record_same (after_writes first m.content) (with_room s t (body_of c)) t r.0 c command r.1 j cut.fill left filled
         (λ last. cut.closed (length (commit_writes s t (body_of c))) opens (omega (
           arith,
           last,
           is,
           many m.content s t c k are may command room cut.i cut.fill left cut.filled,
         ))))
-        ∙ bank_of (after first m.content) (with_room s t (body_of c)) t r.0
+        ∙ bank_of (after_writes first m.content) (with_room s t (body_of c)) t r.0
 
   pub bank_moved : (fails_within (length first) m.plan ≡ false) ⊎ (opens_gate (length first) m.plan ≡ true)
       → current left ≡ (with_room s t (body_of c)).in_use

@@ -4,8 +4,8 @@ use Rattle.std.specs.Prelude.{Option, Some, None, nat_le}
 use Rattle.std.proofs.lemmas.Bool.{cases_Bool, and_parts, and_from, both_ways, eqb-true, eq-eqb, leb-true, leb-false, and_cases, true≢false, false_from_ne_true}
 use Rattle.swp_base.specs.InMemory.{Plan, Memory}
 use Rattle.journal_laws.specs.declared.state.State.{State}
-use Rattle.journal_laws.specs.Banks.{is_open}
-use Rattle.journal_laws.specs.Writes.{Write, after}
+use Rattle.journal_laws.specs.Banks.{is_opened_gate}
+use Rattle.journal_laws.specs.Writes.{Write, after_writes}
 use Rattle.journal_laws.specs.Journal.{journal, count_of, left}
 use Rattle.journal_laws.specs.Operations.{append_writes, IsAllOrNothing}
 use Rattle.journal_laws.specs.Planned.{fails_within, after_planned}
@@ -16,7 +16,7 @@ use Rattle.hci_tables.specs.Commands.{IsCommand}
 use Rattle.hci_tables.specs.Bodies.{body_of}
 use Rattle.hci_tables.specs.Tables.{HciTables, AreTables, apply}
 use Rattle.hci_store.specs.Recordable.{IsRecordable}
-use Rattle.hci_store.specs.Committing.{fits, room_writes, with_room, commit_writes, committed}
+use Rattle.hci_store.specs.Committing.{record_fits, room_writes, with_room, commit_writes, committed}
 use Rattle.hci_store.proofs.CutShort.{room_count}
 use Rattle.kept_laws.specs.Finds.{BootFinds, Knows, FindsRoom}
 use Rattle.kept_laws.proofs.Commits.{says_of, has_room, finds_still, room_knows, room_left, commit_knows, commit_count}
@@ -28,7 +28,7 @@ use Rattle.cut_laws.proofs.Gates.{ends_append, gate_opened, gate_closed}
 
 module _ (content : List ℕ) (s : State) (t : HciTables) (k : Knows content s t) (c : Command) (may : IsCommand c)
     (room : length (body_of c) + 5 ≤ left s) (i : ℕ) (fill new : List ℕ) (filled : IsFilled i fill (append_writes s (body_of c)) content new)
-    (closed : i + 1 ≡ 2 → is_open (slice_index fill 0) ≡ false) where
+    (closed : i + 1 ≡ 2 → is_opened_gate (slice_index fill 0) ≡ false) where
   whole : IsAllOrNothing (append_writes s (body_of c)) content
   whole = appending.all_or_nothing content (body_of c) s (says_of content s t k) (has_room content s t k c may room)
 
@@ -56,27 +56,27 @@ module _ (content : List ℕ) (s : State) (t : HciTables) (c : Command) (k : Kno
   -- in the writes of a snapshot, or in one of the two of the record
   abbrev Parts : Type 0
   Parts = ((i < length before) × IsFilled i fill before content new)
-      ⊎ ((j : ℕ) × (i ≡ length before + j) × IsFilled j fill record_of (after before content) new)
+      ⊎ ((j : ℕ) × (i ≡ length before + j) × IsFilled j fill record_of (after_writes before content) new)
 
   pub parts : Parts
   parts = filled_append i fill before record_of content new filled
 
   -- its last gate was left open
-  pub commit_opened : i + 1 ≡ length (commit_writes s t (body_of c)) → is_open (slice_index fill 0) ≡ true
+  pub commit_opened : i + 1 ≡ length (commit_writes s t (body_of c)) → is_opened_gate (slice_index fill 0) ≡ true
       → Knows new (committed s t (body_of c)) (apply t c)
   commit_opened last opened = subst (λ x. Knows x (committed s t (body_of c)) (apply t c))
       (sym (gate_opened i fill (commit_writes s t (body_of c)) content new (ends_append before record_of refl) filled last opened))
       (commit_knows content s t c k are may command room)
 
-  commit_closed : (i + 1 ≡ length (commit_writes s t (body_of c)) → is_open (slice_index fill 0) ≡ false) → BootFinds new t (count_of s)
+  commit_closed : (i + 1 ≡ length (commit_writes s t (body_of c)) → is_opened_gate (slice_index fill 0) ≡ false) → BootFinds new t (count_of s)
   commit_closed closed = by_part parts where
     by_part : Parts → BootFinds new t (count_of s)
     by_part (inl front) =
-        room_left content s t c k are may command room (fits s (body_of c)) refl i new (filled_cut i fill before content new front.1)
+        room_left content s t c k are may command room (record_fits s (body_of c)) refl i new (filled_cut i fill before content new front.1)
     by_part (inr back) =
-        let r = room_knows content s t c k are may command room (fits s (body_of c)) refl in
+        let r = room_knows content s t c k are may command room (record_fits s (body_of c)) refl in
         subst (λ n. BootFinds new t n) (room_count s t (body_of c))
-        (record_closed (after before content) (with_room s t (body_of c)) t r.0 c command r.1 back.0 fill new back.2
+        (record_closed (after_writes before content) (with_room s t (body_of c)) t r.0 c command r.1 back.0 fill new back.2
         (λ last. closed (omega (arith, last, back.1, many))))
 
 -- ## Over a memory whose failing write is planned
@@ -91,8 +91,8 @@ module _ (m : Memory) (s : State) (t : HciTables) (c : Command) (fails : fails_w
     pub fill : List ℕ
     pub within : i < length writes
     pub filled : IsFilled i fill writes m.content (after_planned writes m).content
-    pub opened : (n : ℕ) → opens_gate n m.plan ≡ true → (i + 1 ≡ n) × (is_open (slice_index fill 0) ≡ true)
-    pub closed : (n : ℕ) → opens_gate n m.plan ≡ false → i + 1 ≡ n → is_open (slice_index fill 0) ≡ false
+    pub opened : (n : ℕ) → opens_gate n m.plan ≡ true → (i + 1 ≡ n) × (is_opened_gate (slice_index fill 0) ≡ true)
+    pub closed : (n : ℕ) → opens_gate n m.plan ≡ false → i + 1 ≡ n → is_opened_gate (slice_index fill 0) ≡ false
     pub reached : (n : ℕ) → fails_within n m.plan ≡ true → i < n
     pub passed : (n : ℕ) → fails_within n m.plan ≡ false → n ≤ i
 
@@ -111,10 +111,10 @@ module _ (m : Memory) (s : State) (t : HciTables) (c : Command) (fails : fails_w
           within = within;
           filled = planned_filled (p.nth - 1) p.fill writes m (is ∙ ap (λ n. Some (record { nth = n; fill = p.fill })) (omega (arith, low))) within;
           opened = λ n opens.
-              let both = and_parts (p.nth == n) (is_open (slice_index p.fill 0)) (sym (ap (opens_gate n) is) ∙ opens) in
+              let both = and_parts (p.nth == n) (is_opened_gate (slice_index p.fill 0)) (sym (ap (opens_gate n) is) ∙ opens) in
               (next ∙ eqb-true p.nth n both.0, both.1);
-          closed = λ n opens last. false_from_ne_true (is_open (slice_index p.fill 0)) (λ open_gate. both_ways (opens_gate n m.plan) opens
-              (ap (opens_gate n) is ∙ and_from (p.nth == n) (is_open (slice_index p.fill 0)) (eq-eqb p.nth n (sym next ∙ last)) open_gate));
+          closed = λ n opens last. false_from_ne_true (is_opened_gate (slice_index p.fill 0)) (λ open_gate. both_ways (opens_gate n m.plan) opens
+              (ap (opens_gate n) is ∙ and_from (p.nth == n) (is_opened_gate (slice_index p.fill 0)) (eq-eqb p.nth n (sym next ∙ last)) open_gate));
           reached = λ n near.
               let two = and_parts (nat_le 1 p.nth) (nat_le p.nth n) (sym (ap (fails_within n) is) ∙ near) in
               omega (arith, low, leb-true p.nth n two.1);

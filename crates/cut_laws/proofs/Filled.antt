@@ -5,7 +5,7 @@ use Rattle.std.proofs.lemmas.Bool.{ne_eqb}
 use Rattle.std.proofs.lemmas.List.FromFn.{length-map-range_with_len}
 use Rattle.swp_base.specs.InMemory.{Plan, Memory, is_next, plan_after, memory_after, cycled, torn_bytes}
 use Rattle.swp_base.specs.Outside.{overwritten}
-use Rattle.journal_laws.specs.Writes.{Write, after, IsCut}
+use Rattle.journal_laws.specs.Writes.{Write, after_writes, IsCut}
 use Rattle.journal_laws.specs.Planned.{after_planned}
 use Rattle.kept_laws.proofs.Planned.{content_on, content_torn, plan_on}
 
@@ -50,14 +50,14 @@ filled_cut (suc k) fill (w ∷ writes) old new filled = filled_cut k fill writes
 
 -- in the first of two lists of writes, or in the second one
 pub filled_append : (k : ℕ) (fill : List ℕ) (first later : List Write) (old new : List ℕ) → IsFilled k fill (first ++ later) old new
-    → ((k < length first) × IsFilled k fill first old new) ⊎ ((j : ℕ) × (k ≡ length first + j) × IsFilled j fill later (after first old) new)
+    → ((k < length first) × IsFilled k fill first old new) ⊎ ((j : ℕ) × (k ≡ length first + j) × IsFilled j fill later (after_writes first old) new)
 filled_append k fill [] later old new filled = inr (k, omega arith, filled)
 filled_append zero fill (w ∷ first) later old new filled = inl (omega arith, filled)
 filled_append (suc k) fill (w ∷ first) later old new filled = one_on (filled_append k fill first later (overwritten old w.at w.bytes) new filled) where
   one_on : ((k < length first) × IsFilled k fill first (overwritten old w.at w.bytes) new)
-      ⊎ ((j : ℕ) × (k ≡ length first + j) × IsFilled j fill later (after first (overwritten old w.at w.bytes)) new)
+      ⊎ ((j : ℕ) × (k ≡ length first + j) × IsFilled j fill later (after_writes first (overwritten old w.at w.bytes)) new)
       → ((suc k < length (w ∷ first)) × IsFilled k fill first (overwritten old w.at w.bytes) new)
-      ⊎ ((j : ℕ) × (suc k ≡ length (w ∷ first) + j) × IsFilled j fill later (after first (overwritten old w.at w.bytes)) new)
+      ⊎ ((j : ℕ) × (suc k ≡ length (w ∷ first) + j) × IsFilled j fill later (after_writes first (overwritten old w.at w.bytes)) new)
   one_on (inl front) = inl (omega (arith, front.0), front.1)
   one_on (inr back) = inr (back.0, omega (arith, back.1), back.2)
 

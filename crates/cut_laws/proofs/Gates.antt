@@ -4,8 +4,8 @@ use Rattle.std.proofs.lemmas.Bool.{cases_eq, and_left, and_right, ne_eqb, eqb-tr
 use Rattle.std.proofs.lemmas.List.{get_or_at}
 use Rattle.swp_base.specs.Outside.{overwritten}
 use Rattle.swp_base.specs.InMemory.{cycled}
-use Rattle.journal_laws.specs.Banks.{is_open}
-use Rattle.journal_laws.specs.Writes.{Write, after, FitIn, last_place}
+use Rattle.journal_laws.specs.Banks.{is_opened_gate}
+use Rattle.journal_laws.specs.Writes.{Write, after_writes, FitIn, last_place}
 use Rattle.journal_laws.specs.Journal.{journal}
 use Rattle.journal_laws.specs.Operations.{IsAllOrNothing}
 use Rattle.journal_laws.proofs.Places.{length-overwritten}
@@ -49,7 +49,7 @@ gate_left (suc i) fill (w ∷ next ∷ writes) c new fit ends filled last =
 
 -- The gate was left open: all of these writes stand in the memory.
 pub gate_opened : (i : ℕ) (fill : List ℕ) (writes : List Write) (c new : List ℕ) → EndsInGate writes → IsFilled i fill writes c new
-    → i + 1 ≡ length writes → is_open (slice_index fill 0) ≡ true → new ≡ after writes c
+    → i + 1 ≡ length writes → is_opened_gate (slice_index fill 0) ≡ true → new ≡ after_writes writes c
 gate_opened i fill [] c new ends filled last opened = absurd ends
 gate_opened zero fill (w ∷ []) c new ends filled last opened =
     filled ∙ ap (overwritten c w.at) (gate_filled fill w.bytes ends ∙ ap (λ g. g ∷ []) (eqb-true (slice_index fill 0) 90 opened) ∙ sym ends)
@@ -60,11 +60,11 @@ gate_opened (suc i) fill (w ∷ next ∷ writes) c new ends filled last opened =
 
 -- It wasn't reached, or was left closed: the memory says what it said before, where the writes are all or nothing.
 pub gate_closed : (i : ℕ) (fill : List ℕ) (writes : List Write) (c new : List ℕ) → IsAllOrNothing writes c → EndsInGate writes → IsFilled i fill writes c new
-    → (i + 1 ≡ length writes → is_open (slice_index fill 0) ≡ false) → journal new ≡ journal c
+    → (i + 1 ≡ length writes → is_opened_gate (slice_index fill 0) ≡ false) → journal new ≡ journal c
 gate_closed i fill writes c new whole ends filled closed =
-    whole.says i new (filled_cut i fill writes c new filled) ∙ ap (λ b. journal (cond b (after writes c) c)) (by_last (cases_eq (i + 1) (length writes)))
+    whole.says i new (filled_cut i fill writes c new filled) ∙ ap (λ b. journal (cond b (after_writes writes c) c)) (by_last (cases_eq (i + 1) (length writes)))
   where
-    by_last : (i + 1 ≡ length writes) ⊎ (i + 1 ≡ length writes → ⊥) → (i + 1 == length writes && is_open (slice_index new (last_place writes))) ≡ false
-    by_last (inl last) = and_right (i + 1 == length writes) (is_open (slice_index new (last_place writes)))
-        (ap is_open (gate_left i fill writes c new whole.fit ends filled last) ∙ closed last)
-    by_last (inr off) = and_left (i + 1 == length writes) (is_open (slice_index new (last_place writes))) (ne_eqb (i + 1) (length writes) off)
+    by_last : (i + 1 ≡ length writes) ⊎ (i + 1 ≡ length writes → ⊥) → (i + 1 == length writes && is_opened_gate (slice_index new (last_place writes))) ≡ false
+    by_last (inl last) = and_right (i + 1 == length writes) (is_opened_gate (slice_index new (last_place writes)))
+        (ap is_opened_gate (gate_left i fill writes c new whole.fit ends filled last) ∙ closed last)
+    by_last (inr off) = and_left (i + 1 == length writes) (is_opened_gate (slice_index new (last_place writes))) (ne_eqb (i + 1) (length writes) off)

@@ -7,14 +7,14 @@ use Rattle.swp_base.specs.Outside.{overwritten, one_more}
 use Rattle.swp_base.specs.InMemory.{Plan, Memory, is_next, plan_after, memory_after, torn_bytes}
 use Rattle.trace_model.specs.declared.entry.Entry.{Entry}
 use Rattle.trace_model.specs.declared.entry.Entry.TheVariants as entry
-use Rattle.journal_laws.specs.Banks.{is_open}
+use Rattle.journal_laws.specs.Banks.{is_opened_gate}
 use Rattle.journal_laws.specs.Writes.{Write}
 use Rattle.journal_laws.specs.Journal.{count_of}
 use Rattle.journal_laws.specs.Planned.{fails_within, after_planned}
 use Rattle.hci_tables.specs.declared.command.Command.{Command}
 use Rattle.hci_tables.specs.Commands.{IsCommand}
 use Rattle.hci_tables.specs.Bodies.{body_of}
-use Rattle.hci_tables.specs.Tables.{no_tables, apply, after, close}
+use Rattle.hci_tables.specs.Tables.{no_tables, apply, after_commands, close}
 use Rattle.hci_store.specs.Committing.{commit_writes, committed}
 use Rattle.node_machine.specs.Parts.{Work}
 use Rattle.node_machine.specs.Carrying.{noting, loses_power, commit}
@@ -109,7 +109,7 @@ module _ (n : ℕ) (hosts : List ℕ) (old : Memory) (before : List Entry) (c : 
     by_plan (Some p) is =
         let sides = and_parts (nat_le 1 p.nth) (nat_le p.nth (length writes)) (sym (ap (fails_within (length writes)) is) ∙ now) in
         ap (opens_gate (length (w.writes ++ writes))) (plan_before w.writes old p (leb-true 1 p.nth sides.0) (left_is ∙ is))
-        ∙ ap (λ b. b && is_open (slice_index p.fill 0)) (same_last p.nth (length w.writes) (length writes) (length (w.writes ++ writes))
+        ∙ ap (λ b. b && is_opened_gate (slice_index p.fill 0)) (same_last p.nth (length w.writes) (length writes) (length (w.writes ++ writes))
         (length-append w.writes writes))
         ∙ ap (opens_gate (length writes)) (sym is)
 
@@ -134,22 +134,22 @@ module _ (n : ℕ) (hosts : List ℕ) (old : Memory) (before : List Entry) (c : 
   new = (after_planned (commit c w).writes old).content
 
   abbrev FindsAll : List Command → Type 0
-  FindsAll commands = BootFinds new (after no_tables commands) (min (length commands) (2 ^ 32 - 1))
+  FindsAll commands = BootFinds new (after_commands no_tables commands) (min (length commands) (2 ^ 32 - 1))
 
   pub step_opened : opens_gate (length (commit c w).writes) old.plan ≡ true → FindsAll (commands_in (before ++ (commit c w).entries) n)
   step_opened opens =
       let found = planned_opened r.memory w.core.journal w.core.tables c r.knows r.sorted r.recordable may room now (sym plan_at ∙ opens) in
       let closed = ap (λ t. close (apply t c)) r.tables_are ∙ closed_command (book_in seen n) c (closed_book seen n) in
       subst FindsAll (sym commands_are)
-      (subst (λ x. BootFinds x (after no_tables (commands_in seen n ++ c ∷ [])) (min (length (commands_in seen n ++ c ∷ [])) (2 ^ 32 - 1))) (sym memory_is)
-      (subst (λ k. BootFinds (after_planned writes r.memory).content (after no_tables (commands_in seen n ++ c ∷ [])) k) count_then
-      (finds_closed (after_planned writes r.memory).content (apply w.core.tables c) (after no_tables (commands_in seen n ++ c ∷ []))
+      (subst (λ x. BootFinds x (after_commands no_tables (commands_in seen n ++ c ∷ [])) (min (length (commands_in seen n ++ c ∷ [])) (2 ^ 32 - 1))) (sym memory_is)
+      (subst (λ k. BootFinds (after_planned writes r.memory).content (after_commands no_tables (commands_in seen n ++ c ∷ [])) k) count_then
+      (finds_closed (after_planned writes r.memory).content (apply w.core.tables c) (after_commands no_tables (commands_in seen n ++ c ∷ []))
       (count_of (committed w.core.journal w.core.tables (body_of c))) found closed)))
 
   pub step_closed : opens_gate (length (commit c w).writes) old.plan ≡ false → FindsAll (commands_in seen n)
   step_closed opens =
       let found = planned_closed r.memory w.core.journal w.core.tables c r.knows r.sorted r.recordable may room now (sym plan_at ∙ opens) in
-      subst (λ x. BootFinds x (after no_tables (commands_in seen n)) (min (length (commands_in seen n)) (2 ^ 32 - 1))) (sym memory_is)
-      (subst (λ k. BootFinds (after_planned writes r.memory).content (after no_tables (commands_in seen n)) k) r.count_is
-      (finds_closed (after_planned writes r.memory).content w.core.tables (after no_tables (commands_in seen n)) (count_of w.core.journal) found
+      subst (λ x. BootFinds x (after_commands no_tables (commands_in seen n)) (min (length (commands_in seen n)) (2 ^ 32 - 1))) (sym memory_is)
+      (subst (λ k. BootFinds (after_planned writes r.memory).content (after_commands no_tables (commands_in seen n)) k) r.count_is
+      (finds_closed (after_planned writes r.memory).content w.core.tables (after_commands no_tables (commands_in seen n)) (count_of w.core.journal) found
       (ap close r.tables_are ∙ closed_book seen n)))

@@ -11,7 +11,7 @@ ghost use Rattle.journal_laws.specs.Planned.{fails_within, after_planned};
 ghost use Rattle.hci_tables.specs.declared.command.Command.{Command};
 ghost use Rattle.hci_tables.specs.Commands.{IsCommand};
 ghost use Rattle.hci_tables.specs.Bodies.{body_of};
-ghost use Rattle.hci_tables.specs.Tables.{HciTables, AreTables, no_tables, apply, after};
+ghost use Rattle.hci_tables.specs.Tables.{HciTables, AreTables, no_tables, apply, after_commands};
 ghost use Rattle.hci_store.specs.Recordable.{IsRecordable};
 ghost use Rattle.hci_store.specs.Committing.{room_writes, with_room, commit_writes, committed};
 ghost use Rattle.trace_model.specs.declared.entry.Entry.{Entry};
@@ -62,10 +62,10 @@ pub fn a_cut_commit_changes_banks_exactly_where_its_snapshot_was_opened()
 pub fn a_cut_step_is_found_exactly_where_its_last_gate_was_opened()
     ensures opened { (n : ℕ) (hosts : List ℕ) (old : Memory) (before : List Entry) (c : Command) (w : Work) → StillRuns n hosts old before w
         → IsCommand c → FindsRoom w.core.journal c → (commit c w).cut ≡ true → opens_gate (length (commit c w).writes) old.plan ≡ true
-        → BootFinds (after_planned (commit c w).writes old).content (after no_tables (commands_in (before ++ (commit c w).entries) n))
+        → BootFinds (after_planned (commit c w).writes old).content (after_commands no_tables (commands_in (before ++ (commit c w).entries) n))
         (min (length (commands_in (before ++ (commit c w).entries) n)) (2 ^ 32 - 1)) }
     ensures closed { (n : ℕ) (hosts : List ℕ) (old : Memory) (before : List Entry) (c : Command) (w : Work) → StillRuns n hosts old before w
         → IsCommand c → FindsRoom w.core.journal c → (commit c w).cut ≡ true → opens_gate (length (commit c w).writes) old.plan ≡ false
-        → BootFinds (after_planned (commit c w).writes old).content (after no_tables (commands_in (before ++ w.entries) n))
+        → BootFinds (after_planned (commit c w).writes old).content (after_commands no_tables (commands_in (before ++ w.entries) n))
         (min (length (commands_in (before ++ w.entries) n)) (2 ^ 32 - 1)) }
 {}

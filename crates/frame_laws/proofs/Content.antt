@@ -8,7 +8,7 @@ use Rattle.swp_crc.proofs.Numbers.{number_of-lt}
 use Rattle.swp_crc.proofs.Steps.{length-remainder}
 use Rattle.swp_frame.specs.declared.fed.Fed.TheVariants.{Frame}
 use Rattle.swp_frame.specs.Stuffing.{with_crc}
-use Rattle.swp_frame.specs.Content.{judged, judged_bytes, bytes_of}
+use Rattle.swp_frame.specs.Content.{judged, judged_bytes, bytes_of_bits}
 use Rattle.swp_frame.specs.Kept.{AreBytes}
 use Rattle.swp_frame.proofs.ContentLemmas.{length-bits_of, bytes_in_front, judged_whole, crc_is_right}
 use Rattle.swp_frame.proofs.WritingLemmas.{take_all}
@@ -72,7 +72,7 @@ right_content lpdu sized bytes =
     in_range : AreBytes (with_crc lpdu)
     in_range = bytes_with lpdu (crc_of lpdu / 256) (crc_of lpdu % 256) bytes high_small (omega arith)
 
-    spelled : bytes_of (bits_of (with_crc lpdu)) ≡ with_crc lpdu
+    spelled : bytes_of_bits (bits_of (with_crc lpdu)) ≡ with_crc lpdu
     spelled =
         bytes_in_front (with_crc lpdu) (bits_of (with_crc lpdu)) [] (length (with_crc lpdu)) in_range (sym (append-nil (bits_of (with_crc lpdu)))) (length-bits_of (with_crc lpdu)) (omega arith)
         ∙ take_all (with_crc lpdu) (length (with_crc lpdu)) (omega arith)

@@ -10,7 +10,7 @@ use Rattle.swp_frame.specs.declared.fed.Fed.{Fed}
 use Rattle.swp_frame.specs.declared.fed.Fed.TheVariants.{Nothing, Frame, Refused}
 use Rattle.swp_frame.specs.Signal.{Symbol, bit_0, bit_1, symbol_of, run_of, start_mark, end_mark, no_mark, mark_of, since_mark, since_start, unstuffed}
 use Rattle.swp_frame.specs.Stuffing.{start_of_frame, end_of_frame, stuffed, stuffed_after, with_crc, frame_of}
-use Rattle.swp_frame.specs.Content.{bytes_of, judged_bytes, judged}
+use Rattle.swp_frame.specs.Content.{bytes_of_bits, judged_bytes, judged}
 use Rattle.swp_frame.specs.Verdicts.{verdict, verdict_after, answers_after, is_verdict, verdicts}
 use Rattle.frame_laws.specs.Spelling.{Spells, NoSixOnes}
 use Rattle.frame_laws.specs.Whole.{framed, all_framed, SpellAll, verdicts_behind, IsBetweenFrames}
@@ -103,11 +103,11 @@ either_verdict false first second h k = k
 judged_is_verdict : (content : List Bool) → is_verdict (judged content) ≡ true
 judged_is_verdict content =
     either_verdict (nat_lt (length content) 24 || nat_lt 256 (length content)) (Refused (Length (min 65535 (length content))))
-    (cond (eqb (length content % 8) 0) (judged_bytes (bytes_of content)) (Refused (Alignment (length content)))) refl
-    (either_verdict (eqb (length content % 8) 0) (judged_bytes (bytes_of content)) (Refused (Alignment (length content))) whole refl)
+    (cond (eqb (length content % 8) 0) (judged_bytes (bytes_of_bits content)) (Refused (Alignment (length content)))) refl
+    (either_verdict (eqb (length content % 8) 0) (judged_bytes (bytes_of_bits content)) (Refused (Alignment (length content))) whole refl)
   where
     bytes : List ℕ
-    bytes = bytes_of content
+    bytes = bytes_of_bits content
 
     want : ℕ
     want = crc_of (take (length bytes - 2) bytes)
@@ -115,7 +115,7 @@ judged_is_verdict content =
     got : ℕ
     got = 256 * slice_index bytes (length bytes - 2) + slice_index bytes (length bytes - 1)
 
-    whole : is_verdict (judged_bytes (bytes_of content)) ≡ true
+    whole : is_verdict (judged_bytes (bytes_of_bits content)) ≡ true
     whole = either_verdict (eqb want got) (Frame (take (length bytes - 2) bytes)) (Refused (Crc want got)) refl refl
 
 keep : (answer : Fed) (answers : List Fed) → is_verdict answer ≡ true → filter is_verdict (answer ∷ answers) ≡ answer ∷ filter is_verdict answers

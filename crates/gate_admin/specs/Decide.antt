@@ -25,8 +25,8 @@ is_recordable (Answer answer) = true
 is_recordable (Commit command answer tell notice) = is_command command
 is_recordable (Ask host notice command answer) = is_command command
 
-abbrev pub IsRecordable : Decision → Type 0
-IsRecordable decision = IsTrue (is_recordable decision)
+abbrev pub IsRecordableDecision : Decision → Type 0
+IsRecordableDecision decision = IsTrue (is_recordable decision)
 
 -- an answer alone
 abbrev pub answers : Response → List ℕ → Decision

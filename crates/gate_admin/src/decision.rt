@@ -1,7 +1,7 @@
 //! Decisions.
 ghost use Rattle.std.specs.Prelude.{◌≡◌, ◌≤◌, ◌<◌};
 ghost use Rattle.gate_answers.specs.Answers.{IsCommandMessage, instruction_in, body_in};
-ghost use Rattle.gate_admin.specs.Decide.{IsRecordable, decided, carried_out, administration};
+ghost use Rattle.gate_admin.specs.Decide.{IsRecordableDecision, decided, carried_out, administration};
 
 use crate::parameters::{get, set};
 use crate::pipes::{clear, close, create, delete, open, refusal_of_pipe};
@@ -43,7 +43,7 @@ pub fn decide(tables: &Tables, view: &LinkView, host: u8, pipe: u8, message: &[u
     requires pipe { pipe < 112 }
     requires command { IsCommandMessage message.now }
     ensures decided { result ≡ decided tables.now view.now host pipe (instruction_in message.now) (body_in message.now) }
-    ensures recordable { IsRecordable result }
+    ensures recordable { IsRecordableDecision result }
 {
     let instruction = instruction_of(message);
     match refusal_of_pipe(tables, host, pipe, instruction) {
@@ -65,7 +65,7 @@ fn carry_out(
     requires host { host ≤ 7 }
     requires pipe { pipe < 112 }
     ensures decided { result ≡ carried_out tables.now view.now host pipe instruction body.now }
-    ensures recordable { IsRecordable result }
+    ensures recordable { IsRecordableDecision result }
 {
     match instruction {
         ANY_OPEN_PIPE => open(tables, host, pipe, body),
@@ -79,7 +79,7 @@ fn administer(tables: &Tables, view: &LinkView, host: u8, instruction: u8, body:
     requires some { 1 ≤ host }
     requires host { host ≤ 7 }
     ensures decided { result ≡ administration tables.now view.now host instruction body.now }
-    ensures recordable { IsRecordable result }
+    ensures recordable { IsRecordableDecision result }
 {
     match instruction {
         ANY_SET_PARAMETER => set(view, host, body),

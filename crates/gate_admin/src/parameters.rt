@@ -4,7 +4,7 @@ ghost use Rattle.registry.specs.Values.{is_kept};
 ghost use Rattle.hci_tables.specs.Commands.{is_allowed};
 ghost use Rattle.gate_answers.specs.Answers.{first_of, param_in, value_in};
 ghost use Rattle.gate_admin.specs.View.{is_configured, hosts_where};
-ghost use Rattle.gate_admin.specs.Decide.{IsRecordable, setting, getting, value_of, tests_to_set_it};
+ghost use Rattle.gate_admin.specs.Decide.{IsRecordableDecision, setting, getting, value_of, tests_to_set_it};
 
 use crate::decision::Decision;
 use crate::tests_in_order::{behind_first, byte_at};
@@ -24,7 +24,7 @@ pub(crate) fn set(view: &LinkView, host: u8, body: &[u8]) -> Decision
     requires some { 1 ≤ host }
     requires host { host ≤ 7 }
     ensures decided { result ≡ setting view.now host body.now }
-    ensures recordable { IsRecordable result }
+    ensures recordable { IsRecordableDecision result }
 {
     if let Some(response) = refusal(view, host, body) {
         return Decision::Answer(refused(response));
@@ -69,7 +69,7 @@ pub(crate) fn get(tables: &Tables, view: &LinkView, host: u8, body: &[u8]) -> De
     requires some { 1 ≤ host }
     requires host { host ≤ 7 }
     ensures decided { result ≡ getting tables.now view.now host body.now }
-    ensures recordable { IsRecordable result }
+    ensures recordable { IsRecordableDecision result }
 {
     match refusal_to_get(ADMINISTRATION_GATE, body) {
         Some(response) => Decision::Answer(refused(response)),

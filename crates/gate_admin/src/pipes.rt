@@ -9,7 +9,7 @@ ghost use Rattle.pipe_table.specs.PipeRows.{IsDynamic, pipe_at, lowest_free, joi
 ghost use Rattle.hci_tables.specs.Commands.{IsCommand};
 ghost use Rattle.gate_answers.specs.Answers.{first_of};
 ghost use Rattle.gate_admin.specs.View.{is_connected, is_noticed, mask_of};
-ghost use Rattle.gate_admin.specs.Decide.{IsRecordable, far_end, far_end_of, is_opened, others_opened, allows};
+ghost use Rattle.gate_admin.specs.Decide.{IsRecordableDecision, far_end, far_end_of, is_opened, others_opened, allows};
 ghost use Rattle.gate_admin.specs.Decide.{tests_of_pipe, opening, closing, creating, tests_to_create, creation};
 ghost use Rattle.gate_admin.specs.Decide.{deleting, clearing, shares, told_of_clearing, commits_and_tells, if_told};
 
@@ -106,7 +106,7 @@ pub(crate) fn open(tables: &Tables, host: u8, pipe: u8, body: &[u8]) -> Decision
     requires host { host ≤ 7 }
     requires pipe { pipe < 112 }
     ensures decided { result ≡ opening tables.now host pipe body.now }
-    ensures recordable { IsRecordable result }
+    ensures recordable { IsRecordableDecision result }
 {
     if !body.is_empty() {
         return Decision::Answer(refused(Response::CommandParameterUnknown));
@@ -132,7 +132,7 @@ pub(crate) fn close(host: u8, pipe: u8, body: &[u8]) -> Decision
     requires host { host ≤ 7 }
     requires pipe { pipe < 112 }
     ensures decided { result ≡ closing host pipe body.now }
-    ensures recordable { IsRecordable result }
+    ensures recordable { IsRecordableDecision result }
 {
     if !body.is_empty() {
         return Decision::Answer(refused(Response::CommandParameterUnknown));
@@ -153,7 +153,7 @@ pub(crate) fn close(host: u8, pipe: u8, body: &[u8]) -> Decision
 pub(crate) fn create(tables: &Tables, view: &LinkView, host: u8, body: &[u8]) -> Decision
     requires host { host ≤ 7 }
     ensures decided { result ≡ creating tables.now view.now host body.now }
-    ensures recordable { IsRecordable result }
+    ensures recordable { IsRecordableDecision result }
 {
     let pid = tables.pipes().lowest_free(view.waiting.as_slice());
     match refusal_to_create(tables, view, host, body, pid.is_none()) {
@@ -225,7 +225,7 @@ fn whitelist_holds(tables: &Tables, dest: u8, host: u8) -> bool
 // A pipe to the controller is made at once; for one to another host that host is asked.
 fn creation(row: PipeRow) -> Decision
     ensures decided { result ≡ creation row }
-    ensures recordable { IsCommand (Command.Create row) → IsRecordable result }
+    ensures recordable { IsCommand (Command.Create row) → IsRecordableDecision result }
 {
     let ends = [
         row.creator,
@@ -255,7 +255,7 @@ fn creation(row: PipeRow) -> Decision
 pub(crate) fn delete(tables: &Tables, view: &LinkView, host: u8, body: &[u8]) -> Decision
     requires host { host ≤ 7 }
     ensures decided { result ≡ deleting tables.now view.now host body.now }
-    ensures recordable { IsRecordable result }
+    ensures recordable { IsRecordableDecision result }
 {
     let pid = byte_at(body, 0);
     let end = row_end(tables, host, pid);
@@ -334,7 +334,7 @@ fn if_told(told: Option<u8>, pid: u8) -> Notice
 pub(crate) fn clear(tables: &Tables, view: &LinkView, host: u8, body: &[u8]) -> Decision
     requires host { host ≤ 7 }
     ensures decided { result ≡ clearing tables.now view.now host body.now }
-    ensures recordable { IsRecordable result }
+    ensures recordable { IsRecordableDecision result }
 {
     let refusal = first_of(&[
         (

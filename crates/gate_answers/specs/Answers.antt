@@ -51,10 +51,10 @@ param_in body = slice_index body 0
 abbrev pub value_in : List ℕ → List ℕ
 value_in body = drop 1 body
 
-abbrev pub is_unknown : Access → Bool
-is_unknown Unknown = true
-is_unknown ReadOnly = false
-is_unknown ReadWrite = false
+abbrev pub is_unknown_access : Access → Bool
+is_unknown_access Unknown = true
+is_unknown_access ReadOnly = false
+is_unknown_access ReadWrite = false
 
 abbrev pub is_read_only : Access → Bool
 is_read_only ReadOnly = true
@@ -65,7 +65,7 @@ is_read_only ReadWrite = false
 abbrev pub tests_to_set : ℕ → List ℕ → List (Bool × Response)
 tests_to_set gate body =
     (length body == 0, response.CommandParameterUnknown)
-    ∷ (is_unknown (access_of gate (param_in body)), response.RegistryParameterUnknown)
+    ∷ (is_unknown_access (access_of gate (param_in body)), response.RegistryParameterUnknown)
     ∷ (is_read_only (access_of gate (param_in body)), response.RegistryAccessDenied)
     ∷ []
 
@@ -73,5 +73,5 @@ tests_to_set gate body =
 abbrev pub tests_to_get : ℕ → List ℕ → List (Bool × Response)
 tests_to_get gate body =
     (not (length body == 1), response.CommandParameterUnknown)
-    ∷ (is_unknown (access_of gate (param_in body)), response.RegistryParameterUnknown)
+    ∷ (is_unknown_access (access_of gate (param_in body)), response.RegistryParameterUnknown)
     ∷ []

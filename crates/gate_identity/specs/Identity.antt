@@ -5,8 +5,8 @@ use Rattle.gate_answers.specs.declared.response.Response.TheVariants as response
 use Rattle.gate_answers.specs.Answers.{answer_of, first_of, tests_to_set, tests_to_get, param_in}
 
 -- the value of a parameter, at a host that has these gates
-abbrev pub value_of : List ℕ → ℕ → List ℕ
-value_of gates param =
+abbrev pub identity_value : List ℕ → ℕ → List ℕ
+identity_value gates param =
     if param == 1 then 1 ∷ 0 ∷ 0 ∷ [] else  -- VERSION_SW
     (if param == 2 then 2 ∷ [] else  -- HCI_VERSION
     (if param == 3 then 1 ∷ 0 ∷ 0 ∷ [] else  -- VERSION_HARD
@@ -15,13 +15,13 @@ value_of gates param =
     gates))))  -- GATES_LIST
 
 -- an answer alone, or this one where no test holds
-abbrev pub unless_refused : Option Response → List ℕ → List ℕ
-unless_refused (Some r) otherwise = answer_of r []
-unless_refused None otherwise = otherwise
+abbrev pub identity_unless_refused : Option Response → List ℕ → List ℕ
+identity_unless_refused (Some r) otherwise = answer_of r []
+identity_unless_refused None otherwise = otherwise
 
 -- the answer to a command
-abbrev pub served : List ℕ → ℕ → List ℕ → List ℕ
-served gates instruction body =
-    if instruction == 1 then unless_refused (first_of (tests_to_set 5 body)) (answer_of response.RegistryAccessDenied []) else
-    (if instruction == 2 then unless_refused (first_of (tests_to_get 5 body)) (answer_of response.Ok (value_of gates (param_in body))) else
+abbrev pub identity_served : List ℕ → ℕ → List ℕ → List ℕ
+identity_served gates instruction body =
+    if instruction == 1 then identity_unless_refused (first_of (tests_to_set 5 body)) (answer_of response.RegistryAccessDenied []) else
+    (if instruction == 2 then identity_unless_refused (first_of (tests_to_get 5 body)) (answer_of response.Ok (identity_value gates (param_in body))) else
     answer_of response.CommandNotSupported [])

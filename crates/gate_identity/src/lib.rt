@@ -3,7 +3,7 @@
 
 ghost use Rattle.std.specs.Prelude.{◌≡◌, ◌≤◌, length};
 ghost use Rattle.gate_answers.specs.Answers.{IsCommandMessage, instruction_in, body_in};
-ghost use Rattle.gate_identity.specs.Identity.{served, value_of};
+ghost use Rattle.gate_identity.specs.Identity.{identity_served, identity_value};
 
 use arrayvec::ArrayVec;
 use gate_answers::{
@@ -22,7 +22,7 @@ const VENDOR_NAME: [u8; 7] = [0x53, 0x57, 0x50, 0x20, 0x48, 0x43, 0x49];
 pub fn serve(gates: &[u8], message: &[u8]) -> ArrayVec<u8, 24>
     requires few { length gates.now ≤ 23 }
     requires command { IsCommandMessage message.now }
-    ensures { result.items ≡ served gates.now (instruction_in message.now) (body_in message.now) }
+    ensures { result.items ≡ identity_served gates.now (instruction_in message.now) (body_in message.now) }
 {
     let body = &message[1..];
     match instruction_of(message) {
@@ -39,7 +39,7 @@ pub fn serve(gates: &[u8], message: &[u8]) -> ArrayVec<u8, 24>
 
 // The value of a parameter.
 fn value_of(gates: &[u8], param: u8) -> &[u8]
-    ensures value { result.now ≡ value_of gates.now param }
+    ensures value { result.now ≡ identity_value gates.now param }
     ensures sized { length gates.now ≤ 23 → length result.now ≤ 23 }
 {
     match param {

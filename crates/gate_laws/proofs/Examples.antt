@@ -4,14 +4,14 @@ use Rattle.pipe_table.specs.declared.row.PipeRow.{PipeRow}
 use Rattle.pipe_table.specs.PipeRows.{lowest_free}
 use Rattle.hci_tables.specs.declared.command.Command.{Command}
 use Rattle.hci_tables.specs.declared.command.Command.TheVariants.{Create, Delete, SetOpened, Set}
-use Rattle.hci_tables.specs.Tables.{HciTables, no_tables, after}
+use Rattle.hci_tables.specs.Tables.{HciTables, no_tables, after_commands}
 use Rattle.gate_admin.specs.declared.view.LinkView.{LinkView}
 use Rattle.gate_admin.specs.declared.decision.Decision.TheVariants.{Answer, Commit, Ask}
 use Rattle.gate_admin.specs.View.{hosts_where}
 use Rattle.gate_admin.specs.Decide.{decided}
 
 abbrev tables : List Command → HciTables
-tables commands = after no_tables (SetOpened 1 1 true ∷ SetOpened 2 1 true ∷ commands)
+tables commands = after_commands no_tables (SetOpened 1 1 true ∷ SetOpened 2 1 true ∷ commands)
 
 abbrev view : LinkView
 view = record { hosts = 6; connected = 6; noticed = 0; asked = 0; waiting = record { items = [] }; errors = 0 }

@@ -16,13 +16,13 @@ abbrev pub tests_to_set_errors : List ℕ → List (Bool × Response)
 tests_to_set_errors body = tests_to_set 6 body ++ (not (length (value_in body) == 2), response.CommandParameterUnknown) ∷ []
 
 -- an answer alone, or with what follows where no test holds
-abbrev pub unless_refused : Option Response → List ℕ × Option ℕ → List ℕ × Option ℕ
-unless_refused (Some r) otherwise = (answer_of r [], None)
-unless_refused None otherwise = otherwise
+abbrev pub link_unless_refused : Option Response → List ℕ × Option ℕ → List ℕ × Option ℕ
+link_unless_refused (Some r) otherwise = (answer_of r [], None)
+link_unless_refused None otherwise = otherwise
 
 -- The answer to a command, and REC_ERROR's new value where the command sets it.
-abbrev pub served : ℕ → ℕ → List ℕ → List ℕ × Option ℕ
-served errors instruction body =
-    if instruction == 1 then unless_refused (first_of (tests_to_set_errors body)) (answer_of response.Ok [], Some (count_in (value_in body))) else
-    (if instruction == 2 then unless_refused (first_of (tests_to_get 6 body)) (answer_of response.Ok (count_bytes errors), None) else
+abbrev pub link_served : ℕ → ℕ → List ℕ → List ℕ × Option ℕ
+link_served errors instruction body =
+    if instruction == 1 then link_unless_refused (first_of (tests_to_set_errors body)) (answer_of response.Ok [], Some (count_in (value_in body))) else
+    (if instruction == 2 then link_unless_refused (first_of (tests_to_get 6 body)) (answer_of response.Ok (count_bytes errors), None) else
     (answer_of response.CommandNotSupported [], None))

@@ -3,7 +3,7 @@
 
 ghost use Rattle.std.specs.Prelude.{◌≡◌, ◌==◌, not, if◌then◌else◌, length, option_map, Some, None};
 ghost use Rattle.gate_answers.specs.Answers.{IsCommandMessage, instruction_in, body_in, value_in, answer_of, first_of};
-ghost use Rattle.gate_link.specs.Link.{served, tests_to_set_errors, count_bytes, count_in};
+ghost use Rattle.gate_link.specs.Link.{link_served, tests_to_set_errors, count_bytes, count_in};
 
 use arrayvec::ArrayVec;
 use gate_answers::{
@@ -15,8 +15,8 @@ use gate_answers::{
 /// REC_ERROR's new value, where the command sets it. It asks for a message that is a command.
 pub fn serve(errors: u16, message: &[u8]) -> (ArrayVec<u8, 24>, Option<u16>)
     requires { IsCommandMessage message.now }
-    ensures answer { result.0.items ≡ (served errors (instruction_in message.now) (body_in message.now)).0 }
-    ensures set { result.1 ≡ (served errors (instruction_in message.now) (body_in message.now)).1 }
+    ensures answer { result.0.items ≡ (link_served errors (instruction_in message.now) (body_in message.now)).0 }
+    ensures set { result.1 ≡ (link_served errors (instruction_in message.now) (body_in message.now)).1 }
 {
     let body = &message[1..];
     match instruction_of(message) {

@@ -13,12 +13,12 @@ use Rattle.hci_tables.specs.Commands.{is_dynamic, is_host, IsCommand}
 use Rattle.hci_tables.specs.Bodies.{body_of, command_of}
 use Rattle.hci_tables.specs.Tables.{HciTables, AreTables, no_tables, apply, close}
 use Rattle.hci_store.specs.Image.{applied, tables_of, are_commands}
-use Rattle.hci_store.specs.Stored.{Holds}
+use Rattle.hci_store.specs.Stored.{HoldsTables}
 use Rattle.hci_store.specs.Snapshots.{sync_command, set_command, create_command, open_command, static_command, snapshot_of}
 use Rattle.hci_store.specs.Recordable.{IsRecordable}
 use Rattle.journal_laws.specs.declared.state.State.{State}
 use Rattle.journal_laws.specs.Operations.{append_writes, compact_writes}
-use Rattle.hci_store.specs.Committing.{fits, snapshot_bodies, room_writes, with_room, commit_writes}
+use Rattle.hci_store.specs.Committing.{record_fits, snapshot_bodies, room_writes, with_room, commit_writes}
 use Rattle.hci_store.proofs.Applying.{fold-push, are_commands-push}
 use Rattle.hci_store.proofs.Closing.{same_closed}
 use Rattle.hci_store.proofs.SnapshotLaw.{snapshot_again}
@@ -27,8 +27,8 @@ use Rattle.hci_store.proofs.Recorded.{all-filter, all-append}
 use Rattle.hci_store.proofs.ReadAgain.{read_again, applied_commands, commands_again}
 
 -- one more command
-pub holds_more : (content new body : List ℕ) (t : HciTables) (c : Command) → Holds content t → records new ≡ records content ++ body ∷ [] → body ≡ body_of c → IsCommand c
-    → Holds new (apply t c)
+pub holds_more : (content new body : List ℕ) (t : HciTables) (c : Command) → HoldsTables content t → records new ≡ records content ++ body ∷ [] → body ≡ body_of c → IsCommand c
+    → HoldsTables new (apply t c)
 holds_more content new body t c holds more is may =
     let read = ap (λ b. command_of b) is ∙ read_again c may in
     record {
@@ -64,7 +64,7 @@ all_recordable t may are =
     (all-mapped open_command opened (all-filter (λ r. IsCommand (open_command r)) (λ row. row.opened) t.rows (may_open t.rows may.rows))))
     (all-mapped static_command t.statics (statics_by_rows 0 t.statics are.statics))
 
-pub holds_snapshot : (new : List ℕ) (t : HciTables) → IsRecordable t → AreTables t → records new ≡ map body_of (snapshot_of t) → Holds new t
+pub holds_snapshot : (new : List ℕ) (t : HciTables) → IsRecordable t → AreTables t → records new ≡ map body_of (snapshot_of t) → HoldsTables new t
 holds_snapshot new t may are is =
     let all = all_recordable t may are in
     record {
@@ -98,7 +98,7 @@ on_ok (Ok x) P Q p step = step p
 on_ok (Err e) P Q p step = tt
 
 module _ {M : Type 0} (writes : M → ℕ → List ℕ → Bool → M → Type 0) (s : State) (t : HciTables) where
-  pub room_made : (body : List ℕ) (old : M) (ok : Bool) (new : M) → fits s body ≡ false
+  pub room_made : (body : List ℕ) (old : M) (ok : Bool) (new : M) → record_fits s body ≡ false
       → AreMade writes (compact_writes s (snapshot_bodies t)) old ok new → AreMade writes (room_writes s t body) old ok new
   room_made body old ok new full made =
       subst (λ b. AreMade writes (cond b [] (compact_writes s (snapshot_bodies t))) old ok new) (sym full) made

@@ -2,11 +2,11 @@
 use Rattle.std.proofs.Common.{◌≡◌, ◌⊎◌, inl, inr, ℕ, ◌+◌, ◌<◌, ◌≤◌, ◌^◌, ◌==◌, ◌&&◌, slice_index, Bool, true, false, cond, List, [], ◌∷◌, length, fold, map, IsSome, Result, Ok, Err, OnErr, sym, refl, ap, ap₂, ◌∙◌, subst, arith}
 use Rattle.std.specs.List.{AllByRecursion}
 use Rattle.journal_laws.specs.declared.state.State.{State}
-use Rattle.journal_laws.specs.Writes.{Write, after, last_place}
-use Rattle.journal_laws.specs.Banks.{is_open}
+use Rattle.journal_laws.specs.Writes.{Write, after_writes, last_place}
+use Rattle.journal_laws.specs.Banks.{is_opened_gate}
 use Rattle.journal_laws.specs.Records.{IsBody, used}
 use Rattle.journal_laws.specs.Journal.{Journal, journal, records, count_of, IsSound}
-use Rattle.journal_laws.specs.Operations.{append_writes, compact_writes, HasRoom, CanCompact, appended, compacted, LeftByCut}
+use Rattle.journal_laws.specs.Operations.{append_writes, compact_writes, HasRoomForBody, CanCompact, appended, compacted, LeftByCut}
 use Rattle.journal_laws.proofs.Kept.{compact_count, same_count}
 use Rattle.nv_journal.specs.declared.JournalFault.{JournalFault}
 use Rattle.nv_journal.specs.declared.JournalFault.TheVariants.{NvFault}
@@ -23,8 +23,8 @@ use Rattle.hci_tables.specs.Tables.{HciTables, AreTables, no_tables, apply, clos
 use Rattle.hci_store.specs.Image.{applied, are_commands}
 use Rattle.hci_store.specs.Recordable.{IsRecordable}
 use Rattle.hci_store.specs.Snapshots.{snapshot_of}
-use Rattle.hci_store.specs.Stored.{Holds, Keeps}
-use Rattle.hci_store.specs.Committing.{fits, snapshot_bodies, with_room, committed}
+use Rattle.hci_store.specs.Stored.{HoldsTables, Keeps}
+use Rattle.hci_store.specs.Committing.{record_fits, snapshot_bodies, with_room, committed}
 use Rattle.hci_store.proofs.ReadAgain.{short_value}
 use Rattle.hci_store.proofs.Committed.{all_recordable, holds_more, holds_snapshot}
 
@@ -45,15 +45,15 @@ are_bodies (c ∷ cs) all = (is_body c all.0, are_bodies cs all.1)
 
 -- what was said before the writes, or behind all of them
 pub journal_left : (writes : List Write) (content left : List ℕ) → LeftByCut writes content left
-    → (journal left ≡ journal content) ⊎ (journal left ≡ journal (after writes content))
-journal_left writes content left cut = either (cut.whole + 1 == length writes && is_open (slice_index left (last_place writes))) cut.says
+    → (journal left ≡ journal content) ⊎ (journal left ≡ journal (after_writes writes content))
+journal_left writes content left cut = either (cut.whole + 1 == length writes && is_opened_gate (slice_index left (last_place writes))) cut.says
   where
-    either : (b : Bool) → journal left ≡ journal (cond b (after writes content) content)
-        → (journal left ≡ journal content) ⊎ (journal left ≡ journal (after writes content))
+    either : (b : Bool) → journal left ≡ journal (cond b (after_writes writes content) content)
+        → (journal left ≡ journal content) ⊎ (journal left ≡ journal (after_writes writes content))
     either true is = inr is
     either false is = inl is
 
-pub holds_still : (content new : List ℕ) (t : HciTables) → Holds content t → records new ≡ records content → Holds new t
+pub holds_still : (content new : List ℕ) (t : HciTables) → HoldsTables content t → records new ≡ records content → HoldsTables new t
 holds_still content new t holds same = record {
   commands = ap are_commands same ∙ holds.commands;
   tables_are = ap (λ l. close (fold applied no_tables l)) same ∙ holds.tables_are;
@@ -61,7 +61,7 @@ holds_still content new t holds same = record {
 
 -- a memory that says what another one says keeps what that keeps
 pub keeps_still : (content new : List ℕ) (s : State) (t : HciTables) (many : ℕ) → Says content s
-    → Holds content t → count_of s ≡ many → journal new ≡ journal content
+    → HoldsTables content t → count_of s ≡ many → journal new ≡ journal content
     → Keeps new t many
 keeps_still content new s t many says holds is same = record {
   sound = subst IsSound (sym same) says.sound;
@@ -69,19 +69,19 @@ keeps_still content new s t many says holds is same = record {
   count_is = same_count new content same ∙ ap count_of says.state_is ∙ is;
 }
 
-module _ (content left : List ℕ) (s : State) (t : HciTables) (says : Says content s) (holds : Holds content t) where
+module _ (content left : List ℕ) (s : State) (t : HciTables) (says : Says content s) (holds : HoldsTables content t) where
   -- a record that was cut
-  pub append_left : (body : List ℕ) (c : Command) → HasRoom s body → body ≡ body_of c → IsCommand c → LeftByCut (append_writes s body) content left
+  pub append_left : (body : List ℕ) (c : Command) → HasRoomForBody s body → body ≡ body_of c → IsCommand c → LeftByCut (append_writes s body) content left
       → Keeps left t (count_of s) ⊎ Keeps left (apply t c) (count_of (appended s body))
   append_left body c room is may cut = either (journal_left (append_writes s body) content left cut)
     where
-      either : (journal left ≡ journal content) ⊎ (journal left ≡ journal (after (append_writes s body) content))
+      either : (journal left ≡ journal content) ⊎ (journal left ≡ journal (after_writes (append_writes s body) content))
           → Keeps left t (count_of s) ⊎ Keeps left (apply t c) (count_of (appended s body))
       either (inl same) = inl (keeps_still content left s t (count_of s) says holds refl same)
       either (inr more) =
-          inr (keeps_still (after (append_writes s body) content) left (appended s body) (apply t c) (count_of (appended s body))
+          inr (keeps_still (after_writes (append_writes s body) content) left (appended s body) (apply t c) (count_of (appended s body))
           (appending.says_after content body s says room)
-          (holds_more content (after (append_writes s body) content) body t c holds (appending.records_after content body s says room) is may) refl more)
+          (holds_more content (after_writes (append_writes s body) content) body t c holds (appending.records_after content body s says room) is may) refl more)
 
   -- a snapshot that was cut
   pub compact_left : (bodies : List (List ℕ)) → IsSome s.in_use → s.generation + 1 < 2 ^ 32 → IsRecordable t → AreTables t
@@ -97,16 +97,16 @@ module _ (content left : List ℕ) (s : State) (t : HciTables) (says : Says cont
         room = room;
       }
 
-      either : (journal left ≡ journal content) ⊎ (journal left ≡ journal (after (compact_writes s bodies) content)) → Keeps left t (count_of s)
+      either : (journal left ≡ journal content) ⊎ (journal left ≡ journal (after_writes (compact_writes s bodies) content)) → Keeps left t (count_of s)
       either (inl same) = keeps_still content left s t (count_of s) says holds refl same
       either (inr whole) =
-          keeps_still (after (compact_writes s bodies) content) left (compacted s bodies) t (count_of s) (compacting.says_after content bodies s says can)
-          (holds_snapshot (after (compact_writes s bodies) content) t may are (compacting.records_after content bodies s says can ∙ is))
+          keeps_still (after_writes (compact_writes s bodies) content) left (compacted s bodies) t (count_of s) (compacting.says_after content bodies s says can)
+          (holds_snapshot (after_writes (compact_writes s bodies) content) t may are (compacting.records_after content bodies s says can ∙ is))
           (compact_count s bodies) whole
 
 -- room for a record changes no count
 pub room_count : (s : State) (t : HciTables) (body : List ℕ) → count_of (with_room s t body) ≡ count_of s
-room_count s t body = by_room (fits s body)
+room_count s t body = by_room (record_fits s body)
   where
     by_room : (b : Bool) → count_of (cond b s (compacted s (snapshot_bodies t))) ≡ count_of s
     by_room true = refl

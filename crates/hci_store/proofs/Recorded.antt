@@ -5,7 +5,7 @@ use Rattle.std.proofs.lemmas.Bool.{and_parts, and_from}
 use Rattle.pipe_table.specs.declared.row.PipeRow.{PipeRow}
 use Rattle.pipe_table.specs.PipeRows.{as_opened, joins_host}
 use Rattle.registry.specs.declared.value.RegValue.{RegValue}
-use Rattle.registry.specs.Values.{is_default, place, place_of}
+use Rattle.registry.specs.Values.{is_default, value_place, place_of_value}
 use Rattle.hci_tables.specs.declared.command.Command.{Command}
 use Rattle.hci_tables.specs.declared.command.Command.TheVariants.{Create, Delete, Clear, SetOpened, Set, Sync}
 use Rattle.hci_tables.specs.Commands.{is_dynamic, is_host, IsCommand}
@@ -42,13 +42,13 @@ created row is =
     and_from front true (and_parts front (not row.opened) is).0 refl
 
 set_again : (t : HciTables) (host gate param : ℕ) (v : RegValue) → MaySet v → AllByRecursion MaySet t.values
-    → (b : Bool) → AllByRecursion MaySet (cond b (filter (λ row. not (place_of row == place host param)) t.values)
-    (filter (λ row. nat_lt (place_of row) (place_of v)) t.values ++ v ∷ filter (λ row. nat_lt (place_of v) (place_of row)) t.values))
-set_again t host gate param v may all true = all-filter MaySet (λ row. not (place_of row == place host param)) t.values all
+    → (b : Bool) → AllByRecursion MaySet (cond b (filter (λ row. not (place_of_value row == value_place host param)) t.values)
+    (filter (λ row. nat_lt (place_of_value row) (place_of_value v)) t.values ++ v ∷ filter (λ row. nat_lt (place_of_value v) (place_of_value row)) t.values))
+set_again t host gate param v may all true = all-filter MaySet (λ row. not (place_of_value row == value_place host param)) t.values all
 set_again t host gate param v may all false =
-    all-append MaySet (filter (λ row. nat_lt (place_of row) (place_of v)) t.values) (v ∷ filter (λ row. nat_lt (place_of v) (place_of row)) t.values)
-    (all-filter MaySet (λ row. nat_lt (place_of row) (place_of v)) t.values all)
-    (may, all-filter MaySet (λ row. nat_lt (place_of v) (place_of row)) t.values all)
+    all-append MaySet (filter (λ row. nat_lt (place_of_value row) (place_of_value v)) t.values) (v ∷ filter (λ row. nat_lt (place_of_value v) (place_of_value row)) t.values)
+    (all-filter MaySet (λ row. nat_lt (place_of_value row) (place_of_value v)) t.values all)
+    (may, all-filter MaySet (λ row. nat_lt (place_of_value v) (place_of_value row)) t.values all)
 
 pub recordable-none : IsRecordable no_tables
 recordable-none = record { rows = tt; values = tt }
@@ -85,4 +85,4 @@ recordable-apply t (Sync host id) is may = record { rows = is.rows; values = by_
   where
     by_kept : (b : Bool) → AllByRecursion MaySet (cond b t.values (without_identity t.values host))
     by_kept true = is.values
-    by_kept false = all-filter MaySet (λ row. not (place_of row == place host 1)) t.values is.values
+    by_kept false = all-filter MaySet (λ row. not (place_of_value row == value_place host 1)) t.values is.values

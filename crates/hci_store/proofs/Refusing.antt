@@ -9,7 +9,7 @@ use Rattle.journal_laws.specs.Writes.{AreRead}
 use Rattle.nv_journal.specs.Faults.{is_known, IsKnown, fault}
 use Rattle.nv_journal.specs.Refusals as journal_refusals
 use Rattle.hci_store.specs.Image.{first_other, image_fault}
-use Rattle.hci_store.specs.Refusals.{IsRefused}
+use Rattle.hci_store.specs.Refusals.{AreRecordsRefused}
 
 pub unknown_is_told : (content : List ℕ) → is_known (journal content).head.version ≡ false → image_fault content ≡ fault content
 unfolding image_fault
@@ -19,7 +19,7 @@ unknown_is_told content unknown =
 module _ {N : Type 0} (reads : N → Bool → N → Type 0) (faults : N → ℕ) (tells : Bool) (content : N → List ℕ) (first new : N) where
   -- the heads were refused
   pub heads_refused : (f : JournalFault) → journal_refusals.IsRefused reads faults tells content first new f
-      → (IsTrue tells → (f ≡ NvFault) ⊎ (is_known (journal (content first)).head.version ≡ false)) → IsRefused reads faults tells content first new f
+      → (IsTrue tells → (f ≡ NvFault) ⊎ (is_known (journal (content first)).head.version ≡ false)) → AreRecordsRefused reads faults tells content first new f
   heads_refused f (inl unread, kept) unknown = (inl unread, kept)
   heads_refused f (inr unsound, kept) unknown = (
     inr (record {
@@ -41,7 +41,7 @@ module _ {N : Type 0} (reads : N → Bool → N → Type 0) (faults : N → ℕ)
       → faults first ≤ faults between → (f ≡ NvFault → Rose (faults between) (faults new))
       → (IsTrue tells → content between ≡ content first) → (IsTrue tells → content new ≡ content between)
       → (IsTrue tells → IsKnown (journal (content first)).head.version)
-      → IsRefused reads faults tells content first new f
+      → AreRecordsRefused reads faults tells content first new f
   records_refused between f (inl memory) unread read count rose kept still known =
       (inl (record { fault = memory; read = unread memory; rose = omega (arith, count, rose memory) }), λ t. still t ∙ kept t)
   records_refused between f (inr image) unread read count rose kept still known = (
@@ -53,20 +53,20 @@ module _ {N : Type 0} (reads : N → Bool → N → Type 0) (faults : N → ℕ)
     λ t. still t ∙ kept t,
   )
 
-  pub rose_of : (f : JournalFault) → IsRefused reads faults tells content first new f → f ≡ NvFault → Rose (faults first) (faults new)
+  pub rose_of : (f : JournalFault) → AreRecordsRefused reads faults tells content first new f → f ≡ NvFault → Rose (faults first) (faults new)
   rose_of f (inl unread, kept) memory = unread.rose
   rose_of f (inr unsound, kept) memory = absurd (subst journal_refusals.IsImageFault memory unsound.fault_is)
 
-  pub image_of : (f : JournalFault) → IsRefused reads faults tells content first new f → IsTrue tells → journal_refusals.IsImageFault f
+  pub image_of : (f : JournalFault) → AreRecordsRefused reads faults tells content first new f → IsTrue tells → journal_refusals.IsImageFault f
       → image_fault (content first) ≡ Some f
   image_of f (inl unread, kept) t image = absurd (subst journal_refusals.IsImageFault unread.fault image)
   image_of f (inr unsound, kept) t image = unsound.told t
 
-  pub fault_of : (f : JournalFault) → IsRefused reads faults tells content first new f → (f ≡ NvFault) ⊎ (f ≡ GenerationsSpent) ⊎ journal_refusals.IsImageFault f
+  pub fault_of : (f : JournalFault) → AreRecordsRefused reads faults tells content first new f → (f ≡ NvFault) ⊎ (f ≡ GenerationsSpent) ⊎ journal_refusals.IsImageFault f
   fault_of f (inl unread, kept) = inl unread.fault
   fault_of f (inr unsound, kept) = inr (inr unsound.fault_is)
 
-  pub not_spent : (f : JournalFault) → IsRefused reads faults tells content first new f → f ≡ GenerationsSpent → ⊥
+  pub not_spent : (f : JournalFault) → AreRecordsRefused reads faults tells content first new f → f ≡ GenerationsSpent → ⊥
   not_spent f (inl unread, kept) spent = absurd (memory_is_not_spent (sym unread.fault ∙ spent))
     where
       memory_is_not_spent : NvFault ≡ GenerationsSpent → ⊥

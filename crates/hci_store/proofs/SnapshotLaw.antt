@@ -8,7 +8,7 @@ use Rattle.sorted_rows.proofs.RowLemmas.{AreRows-map}
 use Rattle.pipe_table.specs.declared.row.PipeRow.{PipeRow}
 use Rattle.pipe_table.specs.PipeRows.{ArePipeRows, as_opened, all_closed, pid_of}
 use Rattle.registry.specs.declared.value.RegValue.{RegValue}
-use Rattle.registry.specs.Values.{IsPresent, is_kept, is_default, place_of, place}
+use Rattle.registry.specs.Values.{IsPresent, is_kept, is_default, place_of_value, value_place}
 use Rattle.hci_tables.specs.declared.command.Command.{Command}
 use Rattle.hci_tables.specs.declared.command.Command.TheVariants.{SetOpened}
 use Rattle.hci_tables.specs.Tables.{HciTables, AreTables, no_tables, sync_host, is_kept_sync, without_identity, apply, close}
@@ -60,14 +60,14 @@ syncs_again front (s ∷ rest) h =
     ∙ syncs_again (front ++ s ∷ []) rest (subst (AreRows sync_host 1 8) (sym (append_assoc front (s ∷ []) rest)) h)
     ∙ ap (λ l. record no_tables { syncs = l }) (append_assoc front (s ∷ []) rest)
 
-values_again : (t : HciTables) (front rest : List RegValue) → AreRows place_of 2 16 (front ++ rest) → AllByRecursion IsPresent rest
+values_again : (t : HciTables) (front rest : List RegValue) → AreRows place_of_value 2 16 (front ++ rest) → AllByRecursion IsPresent rest
     → fold apply (record t { values = front }) (map set_command rest) ≡ record t { values = front ++ rest }
 values_again t front [] h p = ap (λ l. record t { values = l }) (sym (append-nil front))
 values_again t front (v ∷ rest) h p =
     let other = not-true (is_default v.param v.value.items) (and_parts (is_kept v.host v.gate v.param) (not (is_default v.param v.value.items)) p.0).1 in
     ap (λ l. fold apply (record t { values = l }) (map set_command rest))
-    (ap (λ b. cond b (filter (λ row. not (place_of row == place v.host v.param)) front) (with_row place_of v front)) other ∙ put_last place_of 16 2 front v rest h)
-    ∙ values_again t (front ++ v ∷ []) rest (subst (AreRows place_of 2 16) (sym (append_assoc front (v ∷ []) rest)) h) p.1
+    (ap (λ b. cond b (filter (λ row. not (place_of_value row == value_place v.host v.param)) front) (with_row place_of_value v front)) other ∙ put_last place_of_value 16 2 front v rest h)
+    ∙ values_again t (front ++ v ∷ []) rest (subst (AreRows place_of_value 2 16) (sym (append_assoc front (v ∷ []) rest)) h) p.1
     ∙ ap (λ l. record t { values = l }) (append_assoc front (v ∷ []) rest)
 
 rows_again : (t : HciTables) (front rest : List PipeRow) → ArePipeRows (all_closed front ++ all_closed rest)

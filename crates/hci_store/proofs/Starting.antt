@@ -5,19 +5,19 @@ use Rattle.std.proofs.lemmas.Bool.Decides.{nat_tests}
 use Rattle.journal_laws.specs.declared.banks.Side.{Side}
 use Rattle.journal_laws.specs.declared.state.State.{State}
 use Rattle.journal_laws.specs.Writes.{AreMade}
-use Rattle.journal_laws.specs.Banks.{other, is_open, head, current}
+use Rattle.journal_laws.specs.Banks.{other, is_opened_gate, head, current}
 use Rattle.journal_laws.specs.Journal.{unformatted, journal_at, journal, records, state_by, count_of, count}
-use Rattle.journal_laws.specs.Operations.{format_writes, formatted, start_writes, started}
+use Rattle.journal_laws.specs.Operations.{format_writes, formatted, start_writes, started_state}
 use Rattle.nv_journal.specs.Kept.{Says}
 use Rattle.hci_store.specs.Image.{are_commands}
 use Rattle.hci_store.specs.Refusals.{IsSpent}
 use Rattle.hci_store.proofs.Applying.{sound_has_no_fault}
 
 -- a bank that isn't of version 02 was not formatted just now
-was_used : (s : State) → (started s).version ≢ 2 → (started s ≡ s) × (start_writes s ≡ [])
+was_used : (s : State) → (started_state s).version ≢ 2 → (started_state s ≡ s) × (start_writes s ≡ [])
 was_used s older = by_bank s.in_use refl
   where
-    by_bank : (o : Option Side) → s.in_use ≡ o → (started s ≡ s) × (start_writes s ≡ [])
+    by_bank : (o : Option Side) → s.in_use ≡ o → (started_state s ≡ s) × (start_writes s ≡ [])
     by_bank None is = absurd (older (ap (λ p. (option_map_or (λ _. s) p formatted).version) is))
     by_bank (Some side) is = (ap (λ p. option_map_or (λ _. s) p formatted) is, ap (λ p. option_map_or (λ _. []) p format_writes) is)
 
@@ -27,13 +27,13 @@ first_version v known older = grind (arith, nat_tests)
 -- the state of a memory, by the bank in use
 abbrev state_in : List ℕ → Option Side → State
 state_in content o =
-    state_by o (option_map_or (journal_at content) o unformatted) (option_map_or (λ side. is_open (head content (other side)).gate) o false)
+    state_by o (option_map_or (journal_at content) o unformatted) (option_map_or (λ side. is_opened_gate (head content (other side)).gate) o false)
 
-module _ (content : List ℕ) (s j : State) (says : Says content s) (is : j ≡ started s) where
+module _ (content : List ℕ) (s j : State) (says : Says content s) (is : j ≡ started_state s) where
   pub counted : count_of j ≡ count content
-  counted = ap count_of is ∙ ap (λ t. count_of (started t)) (sym says.state_is) ∙ by_bank (current content)
+  counted = ap count_of is ∙ ap (λ t. count_of (started_state t)) (sym says.state_is) ∙ by_bank (current content)
     where
-      by_bank : (o : Option Side) → count_of (started (state_in content o)) ≡ count_of (state_in content o)
+      by_bank : (o : Option Side) → count_of (started_state (state_in content o)) ≡ count_of (state_in content o)
       by_bank None = refl
       by_bank (Some side) = refl
 
@@ -54,12 +54,12 @@ module _ (content : List ℕ) (s j : State) (says : Says content s) (is : j ≡ 
 
   pub unspent : (j.version ≢ 2 → j.generation ≢ 4294967295) → (journal content).head.version ≡ 1 → (journal content).head.generation ≢ 4294967295
   unspent left first last =
-      let now = is ∙ ap started (sym says.state_is) ∙ by_bank (current content) first in
+      let now = is ∙ ap started_state (sym says.state_is) ∙ by_bank (current content) first in
       left (λ two. one_is_not_two j.version (ap (λ (t : State). t.version) now ∙ first) two) (ap (λ (t : State). t.generation) now ∙ last)
     where
       one_is_not_two : (n : ℕ) → n ≡ 1 → n ≡ 2 → ⊥
       one_is_not_two n e f = omega (arith, e, f)
 
-      by_bank : (o : Option Side) → (state_in content o).version ≡ 1 → started (state_in content o) ≡ state_in content o
+      by_bank : (o : Option Side) → (state_in content o).version ≡ 1 → started_state (state_in content o) ≡ state_in content o
       by_bank None e = absurd (omega (arith, e))
       by_bank (Some side) e = refl

@@ -9,18 +9,18 @@ use Rattle.hci_tables.specs.Bodies.{body_of}
 use Rattle.hci_store.specs.Snapshots.{snapshot_of}
 
 -- whether a record with this body fits into the bank in use, with a closed gate behind it
-abbrev pub fits : State → List ℕ → Bool
-fits s body = nat_le (length body + 5) (left s)
+abbrev pub record_fits : State → List ℕ → Bool
+record_fits s body = nat_le (length body + 5) (left s)
 
 abbrev pub snapshot_bodies : HciTables → List (List ℕ)
 snapshot_bodies t = map body_of (snapshot_of t)
 
 -- Where the record doesn't fit, the tables are first written as a snapshot into the other bank.
 abbrev pub room_writes : State → HciTables → List ℕ → List Write
-room_writes s t body = if fits s body then [] else compact_writes s (snapshot_bodies t)
+room_writes s t body = if record_fits s body then [] else compact_writes s (snapshot_bodies t)
 
 abbrev pub with_room : State → HciTables → List ℕ → State
-with_room s t body = if fits s body then s else compacted s (snapshot_bodies t)
+with_room s t body = if record_fits s body then s else compacted s (snapshot_bodies t)
 
 abbrev pub commit_writes : State → HciTables → List ℕ → List Write
 commit_writes s t body = room_writes s t body ++ append_writes (with_room s t body) body

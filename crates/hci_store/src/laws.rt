@@ -1,7 +1,7 @@
 //! Laws of the tables that a store keeps. No code.
 ghost use Rattle.std.specs.Prelude.{◌≡◌};
 ghost use Rattle.hci_tables.specs.declared.command.Command.{Command};
-ghost use Rattle.hci_tables.specs.Tables.{HciTables, AreTables, no_tables, apply, after, close};
+ghost use Rattle.hci_tables.specs.Tables.{HciTables, AreTables, no_tables, apply, after_commands, close};
 ghost use Rattle.hci_store.specs.Snapshots.{snapshot_of};
 
 /// Where all pipes are closed at the end, it doesn't matter whether they were closed before.
@@ -12,5 +12,5 @@ pub fn closing_first_changes_nothing()
 
 /// The commands of a snapshot make the same tables again, all pipes closed.
 pub fn a_snapshot_makes_the_tables_again()
-    ensures { (t : HciTables) → AreTables t → close (after no_tables (snapshot_of t)) ≡ close t }
+    ensures { (t : HciTables) → AreTables t → close (after_commands no_tables (snapshot_of t)) ≡ close t }
 {}

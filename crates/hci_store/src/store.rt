@@ -2,12 +2,12 @@
 ghost use Rattle.std.specs.Prelude.{◌≡◌, ◌≢◌, ◌⊎◌, ◌↔◌, ◌+◌, ◌-◌, ◌^◌, ◌≤◌, ◌<◌, length, min, true, false, is_ok, None, Err, Some, IsSome, IsTrue, IfOk, IfErr, OnOk, OnErr, MatchResult};
 ghost use Rattle.swp_base.specs.Outside.{Rose};
 ghost use Rattle.journal_laws.specs.Writes.{AreRead, AreMade};
-ghost use Rattle.journal_laws.specs.Operations.{append_writes, compact_writes, HasRoom, appended, compacted};
+ghost use Rattle.journal_laws.specs.Operations.{append_writes, compact_writes, HasRoomForBody, appended, compacted};
 ghost use Rattle.journal_laws.specs.Journal.{journal, records, count_of, count, left};
 ghost use Rattle.hci_tables.specs.Tables.{apply, close};
 ghost use Rattle.hci_tables.specs.Commands.{IsCommand};
 ghost use Rattle.hci_tables.specs.Bodies.{body_of};
-ghost use Rattle.hci_store.specs.Committing.{fits, snapshot_bodies, room_writes, with_room, commit_writes, committed};
+ghost use Rattle.hci_store.specs.Committing.{record_fits, snapshot_bodies, room_writes, with_room, commit_writes, committed};
 ghost use Rattle.hci_store.specs.Image.{tables_of, are_commands, image_fault};
 ghost use Rattle.nv_journal.specs.Refusals.{IsImageFault};
 
@@ -37,8 +37,8 @@ impl<N: Nv + Drop> Model for Store<N> {
 }
 
 impl<N: Nv + Drop> Store<N> {
-    ghost use Rattle.hci_store.specs.Refusals.{IsRefused, IsSpent};
-    ghost use Rattle.hci_store.specs.Stored.{Holds, Keeps, FindsSame};
+    ghost use Rattle.hci_store.specs.Refusals.{AreRecordsRefused, IsSpent};
+    ghost use Rattle.hci_store.specs.Stored.{HoldsTables, Keeps, FindsSame};
 
     /// The tables of a memory of 65,536 bytes, all pipes closed, without any write: one that has no bank with an open gate reads as
     /// empty tables. A memory whose bank in use has an unknown version, a bad record or one that is no command is refused, and
@@ -51,7 +51,7 @@ impl<N: Nv + Drop> Store<N> {
         ensures sound { IsTrue N.tells → OnOk result (image_fault (N.content nv) ≡ None) }
         ensures count { IsTrue N.tells → IfOk result (λ s. count_of s.journal.state ≡ count (N.content nv)) }
         ensures kept { IsTrue N.tells → IfOk result (λ s. N.content s.journal.nv ≡ N.content nv) }
-        ensures refused { IfErr result (λ e. IsRefused N.reads N.faults N.tells N.content nv e.nv e.fault) }
+        ensures refused { IfErr result (λ e. AreRecordsRefused N.reads N.faults N.tells N.content nv e.nv e.fault) }
         ensures faults { MatchResult result (λ s. N.faults nv ≤ N.faults s.journal.nv) (λ e. N.faults nv ≤ N.faults e.nv) }
     {
         let mut scan = match Scan::open(nv) {
@@ -85,7 +85,7 @@ impl<N: Nv + Drop> Store<N> {
         ensures tables { IsTrue N.tells → IfOk result (λ s. s.tables ≡ close (tables_of (N.content nv))) }
         ensures commands { IsTrue N.tells → OnOk result (are_commands (records (N.content nv)) ≡ true) }
         ensures count { IsTrue N.tells → IfOk result (λ s. count_of s.journal.state ≡ count (N.content nv)) }
-        ensures holds { IsTrue N.tells → IfOk result (λ s. Holds (N.content s.journal.nv) s.tables) }
+        ensures holds { IsTrue N.tells → IfOk result (λ s. HoldsTables (N.content s.journal.nv) s.tables) }
         ensures fault { IfErr result (λ e. (e.fault ≡ JournalFault.NvFault) ⊎ (e.fault ≡ JournalFault.GenerationsSpent)
             ⊎ IsImageFault e.fault) }
         ensures spent { IsTrue N.tells → IfErr result (λ e. e.fault ≡ JournalFault.GenerationsSpent
@@ -130,7 +130,7 @@ impl<N: Nv + Drop> Store<N> {
         ensures version { IfOk result (λ s. s.journal.state.version ≡ 2) }
         ensures tables { IfOk result (λ s. s.tables ≡ self.tables) }
         ensures kept { IfOk result (λ s. count_of s.journal.state ≡ count_of self.journal.state) }
-        ensures holds { IsTrue N.tells → IfOk result (λ s. Holds (N.content s.journal.nv) s.tables) }
+        ensures holds { IsTrue N.tells → IfOk result (λ s. HoldsTables (N.content s.journal.nv) s.tables) }
         ensures spent { IfErr result (λ e. e.fault ≡ JournalFault.GenerationsSpent
             → (self.journal.state.version ≢ 2) × (self.journal.state.generation ≡ 4294967295) × (e.nv ≡ self.journal.nv)) }
         ensures unspent { OnOk result (self.journal.state.version ≢ 2 → self.journal.state.generation ≢ 4294967295) }
@@ -159,7 +159,7 @@ impl<N: Nv + Drop> Store<N> {
         ensures version { OnOk result (self.new.journal.state.version ≡ 2) }
         ensures tables { self.new.tables ≡ self.old.tables }
         ensures kept { OnOk result (count_of self.new.journal.state ≡ count_of self.old.journal.state) }
-        ensures holds { IsTrue N.tells → OnOk result (Holds (N.content self.new.journal.nv) self.new.tables) }
+        ensures holds { IsTrue N.tells → OnOk result (HoldsTables (N.content self.new.journal.nv) self.new.tables) }
         ensures spent { (result ≡ Err JournalFault.GenerationsSpent)
             ↔ ((self.old.journal.state.version ≢ 2) × (self.old.journal.state.generation ≡ 4294967295)) }
         ensures unchanged { result ≡ Err JournalFault.GenerationsSpent → self.new ≡ self.old }
@@ -187,7 +187,7 @@ impl<N: Nv + Drop> Store<N> {
         requires version { self.old.journal.state.version ≡ 2 }
         requires command { IsCommand command.now }
         ensures spent { (result ≡ Err JournalFault.GenerationsSpent)
-            ↔ ((fits self.old.journal.state (body_of command.now) ≡ false) × (self.old.journal.state.generation ≡ 4294967295)) }
+            ↔ ((record_fits self.old.journal.state (body_of command.now) ≡ false) × (self.old.journal.state.generation ≡ 4294967295)) }
         ensures unchanged { result ≡ Err JournalFault.GenerationsSpent → self.new ≡ self.old }
         ensures made { result ≢ Err JournalFault.GenerationsSpent → AreMade N.writes
             (commit_writes self.old.journal.state self.old.tables (body_of command.now))
@@ -209,7 +209,7 @@ impl<N: Nv + Drop> Store<N> {
             → Keeps (N.content self.new.journal.nv) self.old.tables (count_of self.old.journal.state)
             ⊎ Keeps (N.content self.new.journal.nv) (apply self.old.tables command.now)
             (count_of (committed self.old.journal.state self.old.tables (body_of command.now))) }
-        ensures holds { IsTrue N.tells → OnOk result (Holds (N.content self.new.journal.nv) self.new.tables) }
+        ensures holds { IsTrue N.tells → OnOk result (HoldsTables (N.content self.new.journal.nv) self.new.tables) }
     {
         let body = write_command(command);
         match self.make_room(body.as_slice()) {
@@ -226,7 +226,7 @@ impl<N: Nv + Drop> Store<N> {
         requires version { self.old.journal.state.version ≡ 2 }
         requires command { IsCommand command.now }
         ensures answer { (result ≡ false)
-            ↔ ((fits self.old.journal.state (body_of command.now) ≡ false) × (self.old.journal.state.generation ≡ 4294967295)) }
+            ↔ ((record_fits self.old.journal.state (body_of command.now) ≡ false) × (self.old.journal.state.generation ≡ 4294967295)) }
         ensures unchanged { self.new ≡ self.old }
     {
         let body = write_command(command);
@@ -240,7 +240,7 @@ impl<N: Nv + Drop> Store<N> {
         requires version { self.old.journal.state.version ≡ 2 }
         requires short { length body.now ≤ 61 }
         ensures spent { (result ≡ Err JournalFault.GenerationsSpent)
-            ↔ ((fits self.old.journal.state body.now ≡ false) × (self.old.journal.state.generation ≡ 4294967295)) }
+            ↔ ((record_fits self.old.journal.state body.now ≡ false) × (self.old.journal.state.generation ≡ 4294967295)) }
         ensures unchanged { result ≡ Err JournalFault.GenerationsSpent → self.new ≡ self.old }
         ensures made { result ≢ Err JournalFault.GenerationsSpent → AreMade N.writes
             (room_writes self.old.journal.state self.old.tables body.now) self.old.journal.nv (is_ok result) self.new.journal.nv }
@@ -283,7 +283,7 @@ impl<N: Nv + Drop> Store<N> {
         ensures count { N.faults self.old.journal.nv ≤ N.faults self.new.journal.nv }
         ensures rose { result ≡ Err JournalFault.NvFault
             → Rose (N.faults self.old.journal.nv) (N.faults self.new.journal.nv) }
-        ensures holds { IsTrue N.tells → OnOk result (Holds (N.content self.new.journal.nv) self.new.tables) }
+        ensures holds { IsTrue N.tells → OnOk result (HoldsTables (N.content self.new.journal.nv) self.new.tables) }
         ensures cut { IsTrue N.tells → result ≡ Err JournalFault.NvFault
             → Keeps (N.content self.new.journal.nv) self.old.tables (count_of self.old.journal.state) }
     {
@@ -297,7 +297,7 @@ impl<N: Nv + Drop> Store<N> {
     /// Whether a record with this body fits into the bank in use.
     fn is_fitting(&self, body: &[u8]) -> bool
         requires short { length body.now ≤ 61 }
-        ensures { result ≡ fits self.now.journal.state body.now }
+        ensures { result ≡ record_fits self.now.journal.state body.now }
     {
         body.len() as u32 + 5 <= self.journal.left()
     }
@@ -305,7 +305,7 @@ impl<N: Nv + Drop> Store<N> {
     /// Appends the record of a command that fits, and does what it says.
     fn keep(&mut self, command: &Command, body: &[u8]) -> Result<(), JournalFault>
         requires live { IsTrue self.old.journal.live }
-        requires room { HasRoom self.old.journal.state body.now }
+        requires room { HasRoomForBody self.old.journal.state body.now }
         requires command { IsCommand command.now }
         requires body { body.now ≡ body_of command.now }
         ensures made { AreMade N.writes (append_writes self.old.journal.state body.now) self.old.journal.nv (is_ok result)
@@ -321,7 +321,7 @@ impl<N: Nv + Drop> Store<N> {
             (Keeps (N.content self.new.journal.nv) self.old.tables (count_of self.old.journal.state)
             ⊎ Keeps (N.content self.new.journal.nv) (apply self.old.tables command.now)
             (count_of (appended self.old.journal.state body.now))) }
-        ensures holds { IsTrue N.tells → OnOk result (Holds (N.content self.new.journal.nv) self.new.tables) }
+        ensures holds { IsTrue N.tells → OnOk result (HoldsTables (N.content self.new.journal.nv) self.new.tables) }
     {
         match self.journal.append(body) {
             Ok(()) => {

@@ -5,7 +5,7 @@ use Rattle.std.specs.Prelude.{Option}
 use Rattle.pipe_table.specs.declared.row.PipeRow.{PipeRow}
 use Rattle.hci_tables.specs.declared.command.Command.{Command}
 use Rattle.hci_tables.specs.declared.command.Command.TheVariants.{Create, Delete, Clear, SetOpened, Set, Sync}
-use Rattle.hci_tables.specs.Bodies.{body_of, create_of, delete_of, clear_of, opened_of, set_of, sync_of, spelled_by}
+use Rattle.hci_tables.specs.Bodies.{body_of, create_of, delete_of, clear_of, opened_of, set_of, sync_in_body, spelled_by}
 
 -- the bytes behind a kind are those of the command's body
 abbrev Spells : ℕ → List ℕ → Command → Type 0
@@ -47,7 +47,7 @@ set_case (host ∷ gate ∷ param ∷ value) command e =
     (λ many. λ e. cc) e
 set_case fields command e = cc
 
-sync_case : (fields : List ℕ) (command : Command) → ((k : ℕ) → get_or fields k 0 < 256) → sync_of fields ≡ Some command → Spells 6 fields command
+sync_case : (fields : List ℕ) (command : Command) → ((k : ℕ) → get_or fields k 0 < 256) → sync_in_body fields ≡ Some command → Spells 6 fields command
 sync_case (host ∷ high ∷ low ∷ []) command bytes e =
     let same : Sync host (high * 256 + low) ≡ command = cc in
     let below : low < 256 = bytes 2 in
@@ -69,5 +69,5 @@ body_of-spelled (kind ∷ fields) command bytes e =
     (λ no. cond_both (eqb kind 3) (clear_of fields) _ P (λ yes. λ e. at_kind kind 3 fields command (eqb-true kind 3 yes) (clear_case fields command e))
     (λ no. cond_both (eqb kind 4) (opened_of fields) _ P (λ yes. λ e. at_kind kind 4 fields command (eqb-true kind 4 yes) (opened_case fields command e))
     (λ no. cond_both (eqb kind 5) (set_of fields) _ P (λ yes. λ e. at_kind kind 5 fields command (eqb-true kind 5 yes) (set_case fields command e))
-    (λ no. cond_both (eqb kind 6) (sync_of fields) None P (λ yes. λ e. at_kind kind 6 fields command (eqb-true kind 6 yes) (sync_case fields command rest e))
+    (λ no. cond_both (eqb kind 6) (sync_in_body fields) None P (λ yes. λ e. at_kind kind 6 fields command (eqb-true kind 6 yes) (sync_case fields command rest e))
     (λ no. λ e. cc)))))) e

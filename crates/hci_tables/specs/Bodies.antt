@@ -36,9 +36,9 @@ abbrev pub set_of : List ℕ → Option Command
 set_of (host ∷ gate ∷ param ∷ value) = if nat_le (length value) 20 then Some (Set host gate param (record { items = value })) else None
 set_of _ = None
 
-abbrev pub sync_of : List ℕ → Option Command
-sync_of (host ∷ high ∷ low ∷ []) = Some (Sync host (high * 256 + low))
-sync_of _ = None
+abbrev pub sync_in_body : List ℕ → Option Command
+sync_in_body (host ∷ high ∷ low ∷ []) = Some (Sync host (high * 256 + low))
+sync_in_body _ = None
 
 -- what the bytes of a body spell, whether it may be recorded or not
 abbrev pub spelled_by : List ℕ → Option Command
@@ -49,7 +49,7 @@ spelled_by (kind ∷ fields) =
     (if kind == 3 then clear_of fields else
     (if kind == 4 then opened_of fields else
     (if kind == 5 then set_of fields else
-    (if kind == 6 then sync_of fields else None)))))
+    (if kind == 6 then sync_in_body fields else None)))))
 
 -- a command that may be recorded
 abbrev pub if_command : Option Command → Option Command

@@ -57,9 +57,9 @@ abbrev pub apply : HciTables → Command → HciTables
 apply t (Create row) = record t { rows = pipes.with_pipe t.rows (pipes.as_opened false row) }
 apply t (Delete pid) = record t { rows = pipes.without_pipe t.rows pid }
 apply t (Clear host) = record t {
-  rows = pipes.without_host t.rows host;
+  rows = pipes.rows_without_host t.rows host;
   statics = without_statics t.statics host;
-  values = registry.without_host t.values host;
+  values = registry.values_without_host t.values host;
 }
 apply t (SetOpened host pid opened) =
     if nat_lt pid 2 then record t { statics = with_static t.statics host pid opened }
@@ -71,8 +71,8 @@ apply t (Sync host id) = record t {
 }
 
 -- commands one after another
-abbrev pub after : HciTables → List Command → HciTables
-after t commands = fold apply t commands
+abbrev pub after_commands : HciTables → List Command → HciTables
+after_commands t commands = fold apply t commands
 
 -- the tables where every pipe is closed, static ones too, as a node finds them when it boots
 abbrev pub close : HciTables → HciTables

@@ -1,7 +1,7 @@
 //! The bodies of the commands' records. This project's own.
 ghost use Rattle.std.specs.Prelude.{◌≡◌, ◌≤◌, length, Some, IfSome};
 ghost use Rattle.hci_tables.specs.Commands.{IsCommand};
-ghost use Rattle.hci_tables.specs.Bodies.{body_of, command_of, spelled_by, create_of, opened_of, set_of, sync_of};
+ghost use Rattle.hci_tables.specs.Bodies.{body_of, command_of, spelled_by, create_of, opened_of, set_of, sync_in_body};
 
 use crate::Command;
 use arrayvec::ArrayVec;
@@ -143,7 +143,7 @@ fn set_of(fields: &[u8]) -> Option<Command>
 }
 
 fn sync_of(fields: &[u8]) -> Option<Command>
-    ensures { result ≡ sync_of fields.now }
+    ensures { result ≡ sync_in_body fields.now }
 {
     match fields {
         [host, high, low] => Some(Command::Sync {

@@ -10,19 +10,19 @@ use Rattle.block_pool.specs.Owners.{owner_at, with_used}
 use Rattle.block_pool.specs.Pool.{PoolState, HasQuota, used_of, IsApart, chain_bytes, KeepsOthers, Gives}
 use Rattle.hcp_chain.specs.declared.joiner.Open.{Open}
 use Rattle.hcp_chain.specs.declared.joiner.Joiner.{Joiner}
-use Rattle.hcp_chain.specs.Holding.{message_of, messages_in, IsReady, IsOwn, AreApart, Holds, held_blocks, KeepsAllOthers}
+use Rattle.hcp_chain.specs.Holding.{message_of, messages_in, IsJoinerReady, IsOwnOpen, AreApart, HoldsChains, held_blocks, KeepsOtherChains}
 use Rattle.hcp_chain.proofs.HoldingLemmas.{all_front, all_map, apart_front}
 
 -- ---- a pool that changed at one chain
 
 -- what chains apart from it keep
 pub record Kept (old new : PoolState) (owner : ℕ) (after : Chain) (xs : List Open) : Type 0 where
-  pub own : AllByRecursion (IsOwn new owner) xs
+  pub own : AllByRecursion (IsOwnOpen new owner) xs
   pub apart : AllByRecursion (λ x. IsApart x.chain after) xs
   pub messages : messages_in new xs ≡ messages_in old xs
   pub blocks : held_blocks new xs ≡ held_blocks old xs
 
-pub kept : (old new : PoolState) (owner : ℕ) (before after : Chain) (xs : List Open) → KeepsOthers old new before after → AllByRecursion (IsOwn old owner) xs → AllByRecursion (λ x. IsApart x.chain before) xs → Kept old new owner after xs
+pub kept : (old new : PoolState) (owner : ℕ) (before after : Chain) (xs : List Open) → KeepsOthers old new before after → AllByRecursion (IsOwnOpen old owner) xs → AllByRecursion (λ x. IsApart x.chain before) xs → Kept old new owner after xs
 kept old new owner before after [] keeps own apart = record { own = tt; apart = tt; messages = refl; blocks = refl }
 kept old new owner before after (x ∷ xs) keeps own apart =
     let here = keeps x.chain own.0.live apart.0 in
@@ -60,12 +60,12 @@ with_used-same owners o = let nobody : Owner = record { quota = 0; used = 0; asi
 pub record Clears (first now : PoolState) (owner owner_now : ℕ) (chains left : List Open) : Type 0 where
   pub same_owner : owner_now ≡ owner
   pub quota : HasQuota first owner
-  pub holds : Holds now owner left
+  pub holds : HoldsChains now owner left
   pub fewer : held_blocks now left ≤ held_blocks first chains
   pub used : now.owners ≡ with_used first.owners owner (used_of first owner - (held_blocks first chains - held_blocks now left))
-  pub others : KeepsAllOthers first now chains left
+  pub others : KeepsOtherChains first now chains left
 
-pub clears_none : (pool : PoolState) (owner : ℕ) (chains : List Open) → HasQuota pool owner → Holds pool owner chains → Clears pool pool owner owner chains chains
+pub clears_none : (pool : PoolState) (owner : ℕ) (chains : List Open) → HasQuota pool owner → HoldsChains pool owner chains → Clears pool pool owner owner chains chains
 clears_none pool owner chains quota holds = record {
   same_owner = refl;
   quota = quota;
@@ -79,7 +79,7 @@ clears_none pool owner chains quota holds = record {
 
 pub clears_more : (first now next : PoolState) (owner owner_now : ℕ) (chains left : List Open) (x : Open) → Clears first now owner owner_now chains (left ++ x ∷ []) → Gives now next x.chain → KeepsOthers now next x.chain x.chain → Clears first next owner owner_now chains left
 clears_more first now next owner owner_now chains left x so_far gives keeps =
-    let own = all_front (IsOwn now owner) left x so_far.holds.own in
+    let own = all_front (IsOwnOpen now owner) left x so_far.holds.own in
     let apart = apart_front left x so_far.holds.apart in
     let k = kept now next owner x.chain x.chain left keeps own.0 (all_map (λ y. AreApart y x) (λ y. IsApart y.chain x.chain) left (λ y a. a.chains) apart.1) in
     let n = blocks_for (length (chain_bytes now x.chain)) in
@@ -105,7 +105,7 @@ clears_more first now next owner owner_now chains left x so_far gives keeps =
     }
 
 -- a chain was given back, and then those of a joiner: their owner uses nothing
-pub all_given : (pool next last : PoolState) (owner : ℕ) (chain : Chain) (xs : List Open) → HasQuota pool owner → chain.owner ≡ owner → Holds pool owner xs → AllByRecursion (λ x. IsApart x.chain chain) xs → Gives pool next chain → KeepsOthers pool next chain chain → used_of pool owner ≡ blocks_for (length (chain_bytes pool chain)) + held_blocks pool xs → last.owners ≡ with_used next.owners owner (used_of next owner - held_blocks next xs) → last.owners ≡ with_used pool.owners owner 0
+pub all_given : (pool next last : PoolState) (owner : ℕ) (chain : Chain) (xs : List Open) → HasQuota pool owner → chain.owner ≡ owner → HoldsChains pool owner xs → AllByRecursion (λ x. IsApart x.chain chain) xs → Gives pool next chain → KeepsOthers pool next chain chain → used_of pool owner ≡ blocks_for (length (chain_bytes pool chain)) + held_blocks pool xs → last.owners ≡ with_used next.owners owner (used_of next owner - held_blocks next xs) → last.owners ≡ with_used pool.owners owner 0
 all_given pool next last owner chain xs quota owned holds apart gives keeps used cleared =
     let k = kept pool next owner chain chain xs keeps holds.own apart in
     let n = blocks_for (length (chain_bytes pool chain)) in
@@ -115,7 +115,7 @@ all_given pool next last owner chain xs quota owned holds apart gives keeps used
     cleared ∙ (ap (with_used next.owners owner) none ∙ (ap (λ os. with_used os owner 0) given ∙ with_used-with_used pool.owners owner (used_of pool owner - n) 0 quota))
 
 -- a joiner can take the next packet
-pub ready_again : (old new : PoolState) (before after : Joiner) (whole : List Open) → IsReady old before → after.owner ≡ before.owner → whole ≡ [] → Holds new before.owner (after.open.items ++ whole) → new.owners ≡ with_used old.owners before.owner (held_blocks new (after.open.items ++ whole)) → IsReady new after
+pub ready_again : (old new : PoolState) (before after : Joiner) (whole : List Open) → IsJoinerReady old before → after.owner ≡ before.owner → whole ≡ [] → HoldsChains new before.owner (after.open.items ++ whole) → new.owners ≡ with_used old.owners before.owner (held_blocks new (after.open.items ++ whole)) → IsJoinerReady new after
 ready_again old new before after whole ready owner none holds used =
     let o = before.owner in
     let xs = after.open.items in
@@ -125,7 +125,7 @@ ready_again old new before after whole ready owner none holds used =
     let nobody : Owner = record { quota = 0; used = 0; aside = 0 } in
     let here : owner_at new.owners o ≡ entry = ap (λ os. owner_at os o) used_is ∙ get_or-set_same old.owners o entry nobody ready.has_quota in
     record {
-      holds = subst (λ q. Holds new q xs) (sym owner) (subst (Holds new o) all holds);
+      holds = subst (λ q. HoldsChains new q xs) (sym owner) (subst (HoldsChains new o) all holds);
       has_quota = subst (λ q. q < length new.owners) (sym owner) (subst (λ os. o < length os) (sym used_is) (omega (arith, ready.has_quota, length-set old.owners o entry)));
       quota = ap (λ q. (owner_at new.owners q).quota) owner ∙ (ap (λ (x : Owner). x.quota) here ∙ ready.quota);
       used = ap (λ q. (owner_at new.owners q).used) owner ∙ ap (λ (x : Owner). x.used) here;

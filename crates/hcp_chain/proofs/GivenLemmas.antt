@@ -4,7 +4,7 @@ use Rattle.std.specs.Prelude.{IsTrue}
 use Rattle.std.proofs.lemmas.List.{append-nil}
 use Rattle.std.proofs.lemmas.Grind.{common_steps, fold-append}
 use Rattle.hcp_packet.specs.declared.Packet.{Packet}
-use Rattle.hcp_packet.specs.Packets.{under_way, under_way_after, ended_by, messages_after, messages_of}
+use Rattle.hcp_packet.specs.Packets.{under_way, under_way_after, message_ended_by, messages_after, messages_of}
 use Rattle.hcp_chain.specs.Joining.{Nothing, Message, Fifth, Long, so_far, others, is_fifth, grown, join_step, message_in, is_fault, are_taken, given_by}
 
 eqb_is : (a b : ℕ) → eqb a b ≡ true → a ≡ b
@@ -83,7 +83,7 @@ given_behind (p ∷ packets) ms before stands taken =
     by_step false false true fifth long last more =
         let step : join_step ms p ≡ (Message p.pipe (grown ms p), others ms p.pipe) = last_step ms p fifth long last in
         let t : IsTrue (not false && are_taken (others ms p.pipe) packets) = subst (λ s. IsTrue (not (is_fault s.0) && are_taken s.1 packets)) step taken in
-        let ended : ended_by before p ≡ (p.pipe, under_way p.pipe before ++ p.bytes.items) ∷ [] = ap (λ b. cond b ((p.pipe, under_way p.pipe before ++ p.bytes.items) ∷ []) []) last in
+        let ended : message_ended_by before p ≡ (p.pipe, under_way p.pipe before ++ p.bytes.items) ∷ [] = ap (λ b. cond b ((p.pipe, under_way p.pipe before ++ p.bytes.items) ∷ []) []) last in
         ap (λ s. message_in s.0 ++ given_by s.1 packets) step
         ∙ (ap (λ bs. (p.pipe, bs ++ p.bytes.items) ∷ given_by (others ms p.pipe) packets) (stands p.pipe)
         ∙ (ap (λ xs. (p.pipe, under_way p.pipe before ++ p.bytes.items) ∷ xs) (more (others ms p.pipe) (after_last ms before p stands last) t)
@@ -92,7 +92,7 @@ given_behind (p ∷ packets) ms before stands taken =
         let ns = others ms p.pipe ++ (p.pipe, grown ms p) ∷ [] in
         let step : join_step ms p ≡ (Nothing, ns) = more_step ms p fifth long last in
         let t : IsTrue (not false && are_taken ns packets) = subst (λ s. IsTrue (not (is_fault s.0) && are_taken s.1 packets)) step taken in
-        let ended : ended_by before p ≡ [] = ap (λ b. cond b ((p.pipe, under_way p.pipe before ++ p.bytes.items) ∷ []) []) last in
+        let ended : message_ended_by before p ≡ [] = ap (λ b. cond b ((p.pipe, under_way p.pipe before ++ p.bytes.items) ∷ []) []) last in
         ap (λ s. message_in s.0 ++ given_by s.1 packets) step
         ∙ (more ns (after_more ms before p stands last) t ∙ ap (λ xs. xs ++ messages_after (before ++ p ∷ []) packets) (sym ended))
 

@@ -11,7 +11,7 @@ use Rattle.block_pool.specs.Pool.{PoolState, used_of, spare_of, chain_spare, IsL
 use Rattle.hcp_packet.specs.declared.Packet.{Packet}
 use Rattle.hcp_chain.specs.declared.joiner.Open.{Open}
 use Rattle.hcp_chain.specs.declared.joiner.Joiner.{Joiner}
-use Rattle.hcp_chain.specs.Holding.{message_of, messages_in, IsOwn, AreApart, held_blocks}
+use Rattle.hcp_chain.specs.Holding.{message_of, messages_in, IsOwnOpen, AreApart, held_blocks}
 use Rattle.hcp_chain.specs.TakingOut.{CanGrow, Grown}
 use Rattle.hcp_chain.proofs.HoldingLemmas.{all_push, all_map, all_both, apart_push}
 use Rattle.hcp_chain.proofs.ClearLemmas.{kept}
@@ -22,7 +22,7 @@ on_ok (Ok x) P ok p = p
 on_ok (Err e) P ok p = absurd (search rules)
 
 -- a message has at most 128 blocks
-held_low : (pool : PoolState) (owner : ℕ) (xs : List Open) → AllByRecursion (IsOwn pool owner) xs → held_blocks pool xs ≤ 128 * length xs
+held_low : (pool : PoolState) (owner : ℕ) (xs : List Open) → AllByRecursion (IsOwnOpen pool owner) xs → held_blocks pool xs ≤ 128 * length xs
 held_low pool owner [] own = omega arith
 held_low pool owner (x ∷ xs) own =
     let rest = held_low pool owner xs own.1 in
@@ -43,7 +43,7 @@ grows old new joiner p chain after can appends bytes live keeps =
     let y : Open = record { pipe = p.pipe; chain = after } in
     let len : length (chain_bytes new after) ≡ length (chain_bytes old chain) + length p.bytes.items = ap length bytes ∙ length-append (chain_bytes old chain) p.bytes.items in
     let k = kept old new o chain after xs keeps can.holds.own (all_map (λ x. (x.pipe ≢ p.pipe) × IsApart x.chain chain) (λ x. IsApart x.chain chain) xs (λ x a. a.1) can.apart) in
-    let own_y : IsOwn new o y = record { live = live; owned = appends.owner ∙ can.owned; short = omega (arith, len, can.fits) } in
+    let own_y : IsOwnOpen new o y = record { live = live; owned = appends.owner ∙ can.owned; short = omega (arith, len, can.fits) } in
     let both = all_both (λ x. (x.pipe ≢ p.pipe) × IsApart x.chain chain) (λ x. IsApart x.chain after) xs can.apart k.apart in
     let apart_y = all_map (λ x. ((x.pipe ≢ p.pipe) × IsApart x.chain chain) × IsApart x.chain after) (AreApart y) xs
     (λ x a. record { pipes = λ e. a.0.0 (sym e); chains = λ first q r. a.1 first r q }) both in
@@ -52,7 +52,7 @@ grows old new joiner p chain after can appends bytes live keeps =
     let size : blocks_for (length (chain_bytes new after)) ≡ blocks_for (length (chain_bytes old chain) + length p.bytes.items) = ap blocks_for len in
     let total : used_of old o + more_blocks (length (chain_bytes old chain)) (length p.bytes.items) ≡ held_blocks new (xs ++ y ∷ []) = omega (arith, sum, size, k.blocks, can.used, grows) in
     record {
-      holds = record { own = all_push (IsOwn new o) xs y k.own own_y; apart = apart_push xs y can.holds.apart apart_y };
+      holds = record { own = all_push (IsOwnOpen new o) xs y k.own own_y; apart = apart_push xs y can.holds.apart apart_y };
       used = appends.owners ∙ (ap (λ q. with_used old.owners q (used_of old q + more_blocks (length (chain_bytes old chain)) (length p.bytes.items))) can.owned ∙ ap (with_used old.owners o) total);
       others = λ other other_live away apart.
           let s = keeps other other_live apart in

@@ -8,13 +8,13 @@ use Rattle.std.proofs.lemmas.List.Quantifiers.{position-Some}
 use Rattle.std.proofs.lemmas.Grind.{common_steps}
 use Rattle.block_pool.specs.declared.chain.Chain.{Chain}
 use Rattle.block_pool.specs.Slots.{blocks_for}
-use Rattle.block_pool.specs.Names.{bytes_at, IsLiveAt}
+use Rattle.block_pool.specs.Names.{named_bytes, IsLiveAt}
 use Rattle.block_pool.specs.Pool.{PoolState, HasQuota, IsApart, chain_bytes}
 use Rattle.hcp_chain.specs.declared.joiner.Open.{Open}
 use Rattle.hcp_chain.specs.declared.joiner.Joiner.{Joiner}
 use Rattle.hcp_chain.specs.TakingOut.{TakesOut}
-use Rattle.hcp_chain.specs.Joining.{is_open, so_far, others, is_fifth}
-use Rattle.hcp_chain.specs.Holding.{message_of, messages_in, IsOwn, AreApart, ArePairwiseApart, Holds, held_blocks, IsApartFrom}
+use Rattle.hcp_chain.specs.Joining.{is_message_open, so_far, others, is_fifth}
+use Rattle.hcp_chain.specs.Holding.{message_of, messages_in, IsOwnOpen, AreApart, ArePairwiseApart, HoldsChains, held_blocks, IsApartFrom}
 
 test_true : (a b : ℕ) → a ≡ b → eqb a b ≡ true
 test_true a b e = grind (arith, common_steps)
@@ -93,23 +93,23 @@ apart_front (x ∷ xs) y apart =
 -- ---- messages of other pipes
 
 -- no chain has the pipe
-none_open : (pool : PoolState) (pipe : ℕ) (xs : List Open) → AllByRecursion (λ x. x.pipe ≢ pipe) xs → (is_open (messages_in pool xs) pipe ≡ false) × (so_far (messages_in pool xs) pipe ≡ []) × (others (messages_in pool xs) pipe ≡ messages_in pool xs)
+none_open : (pool : PoolState) (pipe : ℕ) (xs : List Open) → AllByRecursion (λ x. x.pipe ≢ pipe) xs → (is_message_open (messages_in pool xs) pipe ≡ false) × (so_far (messages_in pool xs) pipe ≡ []) × (others (messages_in pool xs) pipe ≡ messages_in pool xs)
 none_open pool pipe [] all = (refl, refl, refl)
 none_open pool pipe (x ∷ xs) all =
     let no = test_false x.pipe pipe all.0 in
     let rest = none_open pool pipe xs all.1 in (
-      ap (λ b. b || is_open (messages_in pool xs) pipe) no ∙ rest.0,
+      ap (λ b. b || is_message_open (messages_in pool xs) pipe) no ∙ rest.0,
       ap (λ b. cond b (chain_bytes pool x.chain) (so_far (messages_in pool xs) pipe)) no ∙ rest.1,
       ap (λ b. cond (not b) (message_of pool x ∷ others (messages_in pool xs) pipe) (others (messages_in pool xs) pipe)) no ∙ ap (λ ms. message_of pool x ∷ ms) rest.2,
     )
 
 -- the chain at a place has the pipe
-pub one_open : (pool : PoolState) (pipe : ℕ) (d : Open) (xs : List Open) (i : ℕ) → ArePairwiseApart xs → i < length xs → (get_or xs i d).pipe ≡ pipe → (is_open (messages_in pool xs) pipe ≡ true) × (so_far (messages_in pool xs) pipe ≡ chain_bytes pool (get_or xs i d).chain) × (others (messages_in pool xs) pipe ≡ messages_in pool (remove xs i))
+pub one_open : (pool : PoolState) (pipe : ℕ) (d : Open) (xs : List Open) (i : ℕ) → ArePairwiseApart xs → i < length xs → (get_or xs i d).pipe ≡ pipe → (is_message_open (messages_in pool xs) pipe ≡ true) × (so_far (messages_in pool xs) pipe ≡ chain_bytes pool (get_or xs i d).chain) × (others (messages_in pool xs) pipe ≡ messages_in pool (remove xs i))
 one_open pool pipe d [] i apart low at = absurd (omega arith)
 one_open pool pipe d (x ∷ xs) zero apart low at =
     let yes = test_true x.pipe pipe at in
     let rest = none_open pool pipe xs (all_map (AreApart x) (λ y. y.pipe ≢ pipe) xs (λ y a e. a.pipes (at ∙ sym e)) apart.0) in (
-      ap (λ b. b || is_open (messages_in pool xs) pipe) yes,
+      ap (λ b. b || is_message_open (messages_in pool xs) pipe) yes,
       ap (λ b. cond b (chain_bytes pool x.chain) (so_far (messages_in pool xs) pipe)) yes,
       ap (λ b. cond (not b) (message_of pool x ∷ others (messages_in pool xs) pipe) (others (messages_in pool xs) pipe)) yes ∙ rest.2,
     )
@@ -117,7 +117,7 @@ one_open pool pipe d (x ∷ xs) (suc i) apart low at =
     let differs : x.pipe ≢ pipe = λ e. (all_at (AreApart x) d xs i apart.0 (omega arith)).pipes (e ∙ sym at) in
     let no = test_false x.pipe pipe differs in
     let rest = one_open pool pipe d xs i apart.1 (omega arith) at in (
-      ap (λ b. b || is_open (messages_in pool xs) pipe) no ∙ rest.0,
+      ap (λ b. b || is_message_open (messages_in pool xs) pipe) no ∙ rest.0,
       ap (λ b. cond b (chain_bytes pool x.chain) (so_far (messages_in pool xs) pipe)) no ∙ rest.1,
       ap (λ b. cond (not b) (message_of pool x ∷ others (messages_in pool xs) pipe) (others (messages_in pool xs) pipe)) no ∙ ap (λ ms. message_of pool x ∷ ms) rest.2,
     )
@@ -150,15 +150,15 @@ length-messages : (pool : PoolState) (xs : List Open) → length (messages_in po
 length-messages pool xs = length-map xs (message_of pool)
 
 -- a chain is under way on the pipe
-pub taken_out : (pool : PoolState) (old new : Joiner) (pipe i : ℕ) (x : Open) → Holds pool old.owner old.open.items → position (λ y. eqb y.pipe pipe) old.open.items ≡ Some i → x ≡ get_or old.open.items i x → new.owner ≡ old.owner → new.open.items ≡ remove old.open.items i → length new.open.items < 4 → TakesOut pool old new pipe x.chain
+pub taken_out : (pool : PoolState) (old new : Joiner) (pipe i : ℕ) (x : Open) → HoldsChains pool old.owner old.open.items → position (λ y. eqb y.pipe pipe) old.open.items ≡ Some i → x ≡ get_or old.open.items i x → new.owner ≡ old.owner → new.open.items ≡ remove old.open.items i → length new.open.items < 4 → TakesOut pool old new pipe x.chain
 taken_out pool old new pipe i x holds found read owner items room =
     let xs = old.open.items in
     let at = position-Some (λ y. eqb y.pipe pipe) xs i x found in
     let low = at.0 in
     let pipe_is : (get_or xs i x).pipe ≡ pipe = eqb_is (get_or xs i x).pipe pipe at.1 in
     let one = one_open pool pipe x xs i holds.apart low pipe_is in
-    let own = all_at (IsOwn pool old.owner) x xs i holds.own low in
-    let own_x : IsOwn pool old.owner x = subst (IsOwn pool old.owner) (sym read) own in
+    let own = all_at (IsOwnOpen pool old.owner) x xs i holds.own low in
+    let own_x : IsOwnOpen pool old.owner x = subst (IsOwnOpen pool old.owner) (sym read) own in
     let apart = apart_at x xs i holds.apart low in
     record {
       bytes = ap (λ y. chain_bytes pool y.chain) read ∙ sym one.1;
@@ -170,8 +170,8 @@ taken_out pool old new pipe i x holds found read owner items room =
       apart = subst (AllByRecursion (λ y. (y.pipe ≢ pipe) × IsApart y.chain x.chain)) (sym items)
           (all_map (AreApart (get_or xs i x)) (λ y. (y.pipe ≢ pipe) × IsApart y.chain x.chain) (remove xs i)
           (λ y a. (λ e. a.pipes (pipe_is ∙ sym e), λ first p q. a.chains first (ap (λ z. z.chain.first) (sym read) ∙ q) p)) apart);
-      holds = subst (Holds pool new.owner) (sym items) (subst (λ o. Holds pool o (remove xs i)) (sym owner)
-          (record { own = all_remove (IsOwn pool old.owner) xs i holds.own; apart = apart_remove xs i holds.apart }));
+      holds = subst (HoldsChains pool new.owner) (sym items) (subst (λ o. HoldsChains pool o (remove xs i)) (sym owner)
+          (record { own = all_remove (IsOwnOpen pool old.owner) xs i holds.own; apart = apart_remove xs i holds.apart }));
       blocks =
           (let sum = sum_by-remove (λ (y : Open). blocks_for (length (chain_bytes pool y.chain))) xs i x low in
           let here : blocks_for (length (chain_bytes pool x.chain)) ≡ blocks_for (length (chain_bytes pool (get_or xs i x).chain)) = ap (λ y. blocks_for (length (chain_bytes pool y.chain))) read in
@@ -183,12 +183,12 @@ taken_out pool old new pipe i x holds found read owner items room =
     }
 
 -- none is, and there is room
-pub begun : (pool : PoolState) (old new : Joiner) (pipe : ℕ) (chain : Chain) → Holds pool old.owner old.open.items → HasQuota pool old.owner → position (λ y. eqb y.pipe pipe) old.open.items ≡ None → new.owner ≡ old.owner → new.open.items ≡ old.open.items → length old.open.items < 4 → chain.owner ≡ old.owner → chain.first ≡ None → TakesOut pool old new pipe chain
+pub begun : (pool : PoolState) (old new : Joiner) (pipe : ℕ) (chain : Chain) → HoldsChains pool old.owner old.open.items → HasQuota pool old.owner → position (λ y. eqb y.pipe pipe) old.open.items ≡ None → new.owner ≡ old.owner → new.open.items ≡ old.open.items → length old.open.items < 4 → chain.owner ≡ old.owner → chain.first ≡ None → TakesOut pool old new pipe chain
 begun pool old new pipe chain holds quota found owner items room owned empty =
     let xs = old.open.items in
     let away = found_none pipe xs found in
     let none = none_open pool pipe xs away in
-    let no_bytes : chain_bytes pool chain ≡ [] = ap (bytes_at pool.slots) empty in
+    let no_bytes : chain_bytes pool chain ≡ [] = ap (named_bytes pool.slots) empty in
     record {
       bytes = no_bytes ∙ sym none.1;
       rest = ap (messages_in pool) items ∙ sym none.2;
@@ -198,7 +198,7 @@ begun pool old new pipe chain holds quota found owner items room owned empty =
       short = omega (arith, ap length no_bytes);
       apart = subst (AllByRecursion (λ y. (y.pipe ≢ pipe) × IsApart y.chain chain)) (sym items)
           (all_map (λ y. y.pipe ≢ pipe) (λ y. (y.pipe ≢ pipe) × IsApart y.chain chain) xs (λ y a. (a, λ first p q. no_name first (sym empty ∙ q))) away);
-      holds = subst (Holds pool new.owner) (sym items) (subst (λ o. Holds pool o xs) (sym owner) holds);
+      holds = subst (HoldsChains pool new.owner) (sym items) (subst (λ o. HoldsChains pool o xs) (sym owner) holds);
       blocks = ap (λ ys. blocks_for (length (chain_bytes pool chain)) + held_blocks pool ys) items ∙ (ap (λ bs. blocks_for (length bs) + held_blocks pool xs) no_bytes ∙ no_blocks (held_blocks pool xs));
       outside = λ other apart. (λ first p q. no_name first (sym empty ∙ q), subst (λ ys. IsApartFrom ys other) (sym items) apart);
     }

@@ -11,7 +11,7 @@ use Rattle.hcp_packet.specs.declared.Packet.{Packet}
 use Rattle.hcp_chain.specs.declared.joiner.Open.{Open}
 use Rattle.hcp_chain.specs.declared.joiner.Joiner.{Joiner}
 use Rattle.hcp_chain.specs.Joining.{join_step, message_in, is_fault, are_taken, given_by, open_after}
-use Rattle.hcp_chain.specs.Holding.{IsReady, IsOwn, AreApart, HoldsWhole, held_blocks}
+use Rattle.hcp_chain.specs.Holding.{IsJoinerReady, IsOwnOpen, AreApart, HoldsWhole, held_blocks}
 use Rattle.hcp_chain.proofs.HoldingLemmas.{all_front, all_map, apart_front}
 use Rattle.hcp_chain.proofs.ClearLemmas.{kept}
 
@@ -38,11 +38,11 @@ are_taken-append ms (x ∷ xs) ys =
 -- what is left once the chain of the message doesn't count any more
 ready_without : (pool new : PoolState) (j : Joiner) (x : Open) (after : Chain) → HoldsWhole pool j x → KeepsOthers pool new x.chain after
     → length new.owners ≡ length pool.owners → (owner_at new.owners j.owner).quota ≡ (owner_at pool.owners j.owner).quota
-    → (owner_at new.owners j.owner).used ≡ used_of pool j.owner - blocks_for (length (chain_bytes pool x.chain)) → IsReady new j
+    → (owner_at new.owners j.owner).used ≡ used_of pool j.owner - blocks_for (length (chain_bytes pool x.chain)) → IsJoinerReady new j
 ready_without pool new j x after whole keeps len quota used =
     let xs = j.open.items in
     let o = j.owner in
-    let own = all_front (IsOwn pool o) xs x whole.holds.own in
+    let own = all_front (IsOwnOpen pool o) xs x whole.holds.own in
     let apart = apart_front xs x whole.holds.apart in
     let k = kept pool new o x.chain after xs keeps own.0 (all_map (λ y. AreApart y x) (λ y. IsApart y.chain x.chain) xs (λ y a. a.chains) apart.1) in
     let sum : held_blocks pool (xs ++ x ∷ []) ≡ held_blocks pool xs + blocks_for (length (chain_bytes pool x.chain)) = sum_by_push (λ (y : Open). blocks_for (length (chain_bytes pool y.chain))) xs x in
@@ -53,21 +53,21 @@ ready_without pool new j x after whole keeps len quota used =
       used = omega (arith, used, whole.used, sum, k.blocks);
     }
 
-pub ready_given : (pool new : PoolState) (j : Joiner) (x : Open) → HoldsWhole pool j x → Gives pool new x.chain → KeepsOthers pool new x.chain x.chain → IsReady new j
+pub ready_given : (pool new : PoolState) (j : Joiner) (x : Open) → HoldsWhole pool j x → Gives pool new x.chain → KeepsOthers pool new x.chain x.chain → IsJoinerReady new j
 ready_given pool new j x whole gives keeps =
     let o = j.owner in
     let n = blocks_for (length (chain_bytes pool x.chain)) in
-    let own = all_front (IsOwn pool o) j.open.items x whole.holds.own in
+    let own = all_front (IsOwnOpen pool o) j.open.items x whole.holds.own in
     let owners : new.owners ≡ with_used pool.owners o (used_of pool o - n) = gives.owners ∙ ap (λ q. with_used pool.owners q (used_of pool q - n)) own.1.owned in
     ready_without pool new j x x.chain whole keeps (ap length owners ∙ length-with_used pool.owners o (used_of pool o - n))
     (ap (λ os. (owner_at os o).quota) owners ∙ quota-with_used pool.owners o (used_of pool o - n) whole.has_quota)
     (ap (λ os. (owner_at os o).used) owners ∙ used-with_used pool.owners o (used_of pool o - n) whole.has_quota)
 
-pub ready_passed : (pool new : PoolState) (j : Joiner) (x : Open) (after : Chain) (owner : ℕ) → HoldsWhole pool j x → owner ≢ j.owner → Passes pool new x.chain after owner → KeepsOthers pool new x.chain after → IsReady new j
+pub ready_passed : (pool new : PoolState) (j : Joiner) (x : Open) (after : Chain) (owner : ℕ) → HoldsWhole pool j x → owner ≢ j.owner → Passes pool new x.chain after owner → KeepsOthers pool new x.chain after → IsJoinerReady new j
 ready_passed pool new j x after owner whole differ passes keeps =
     let o = j.owner in
     let n = blocks_for (length (chain_bytes pool x.chain)) in
-    let own = all_front (IsOwn pool o) j.open.items x whole.holds.own in
+    let own = all_front (IsOwnOpen pool o) j.open.items x whole.holds.own in
     let without = with_used pool.owners o (used_of pool o - n) in
     let more = (owner_at without owner).used + n in
     let owners : new.owners ≡ with_used without owner more =

@@ -6,19 +6,19 @@ use Rattle.std.specs.List.{filter, list_any}
 use Rattle.hcp_packet.specs.declared.Packet.{Packet}
 
 -- what a packet gives
-pub data Outcome : Type 0 where
+pub data JoinOutcome : Type 0 where
   -- its message isn't whole yet
-  Nothing : Outcome
+  Nothing : JoinOutcome
   -- it ends the message of a pipe
-  Message : (pipe : ℕ) (bytes : List ℕ) → Outcome
+  Message : (pipe : ℕ) (bytes : List ℕ) → JoinOutcome
   -- it begins a fifth message
-  Fifth : (pipe : ℕ) → Outcome
+  Fifth : (pipe : ℕ) → JoinOutcome
   -- its message would have so many bytes
-  Long : (len : ℕ) → Outcome
+  Long : (len : ℕ) → JoinOutcome
 
 -- whether a message is under way on a pipe
-abbrev pub is_open : List (ℕ × List ℕ) → ℕ → Bool
-is_open messages pipe = list_any (λ m. m.0 == pipe) messages
+abbrev pub is_message_open : List (ℕ × List ℕ) → ℕ → Bool
+is_message_open messages pipe = list_any (λ m. m.0 == pipe) messages
 
 -- what has come of the message under way on a pipe
 abbrev pub so_far : List (ℕ × List ℕ) → ℕ → List ℕ
@@ -31,14 +31,14 @@ others messages pipe = filter (λ m. not (m.0 == pipe)) messages
 
 -- whether a packet on this pipe begins a fifth message
 abbrev pub is_fifth : List (ℕ × List ℕ) → ℕ → Bool
-is_fifth messages pipe = not (is_open messages pipe) && nat_le 4 (length messages)
+is_fifth messages pipe = not (is_message_open messages pipe) && nat_le 4 (length messages)
 
 -- a message after one more packet of its pipe
 abbrev pub grown : List (ℕ × List ℕ) → Packet → List ℕ
 grown messages p = so_far messages p.pipe ++ p.bytes.items
 
 -- what one packet gives, and the messages under way after it. After a fault none is.
-abbrev pub join_step : List (ℕ × List ℕ) → Packet → Outcome × List (ℕ × List ℕ)
+abbrev pub join_step : List (ℕ × List ℕ) → Packet → JoinOutcome × List (ℕ × List ℕ)
 join_step messages p =
     if is_fifth messages p.pipe then (Fifth p.pipe, [])
     else (if nat_lt 4096 (length (grown messages p)) then (Long (length (grown messages p)), [])
@@ -46,13 +46,13 @@ join_step messages p =
     else (Nothing, others messages p.pipe ++ (p.pipe, grown messages p) ∷ [])))
 
 -- the message that a packet gave
-abbrev pub message_in : Outcome → List (ℕ × List ℕ)
+abbrev pub message_in : JoinOutcome → List (ℕ × List ℕ)
 message_in Nothing = []
 message_in (Message pipe bytes) = (pipe, bytes) ∷ []
 message_in (Fifth pipe) = []
 message_in (Long len) = []
 
-abbrev pub is_fault : Outcome → Bool
+abbrev pub is_fault : JoinOutcome → Bool
 is_fault Nothing = false
 is_fault (Message pipe bytes) = false
 is_fault (Fifth pipe) = true

@@ -9,7 +9,7 @@ use Rattle.hcp_packet.specs.declared.Packet.{Packet}
 use Rattle.hcp_chain.specs.declared.joiner.Open.{Open}
 use Rattle.hcp_chain.specs.declared.joiner.Joiner.{Joiner}
 use Rattle.hcp_chain.specs.Joining.{so_far, others}
-use Rattle.hcp_chain.specs.Holding.{Holds, open_messages, messages_in, held_blocks, IsApartFrom}
+use Rattle.hcp_chain.specs.Holding.{HoldsChains, open_messages, messages_in, held_blocks, IsApartFrom}
 
 -- the chain of a pipe was taken out, or an empty one where there was room
 pub record TakesOut (pool : PoolState) (old new : Joiner) (pipe : ℕ) (chain : Chain) : Type 0 where
@@ -20,7 +20,7 @@ pub record TakesOut (pool : PoolState) (old new : Joiner) (pipe : ℕ) (chain : 
   pub owned : chain.owner ≡ old.owner
   pub short : length (chain_bytes pool chain) ≤ 4096
   pub apart : AllByRecursion (λ x. (x.pipe ≢ pipe) × IsApart x.chain chain) new.open.items
-  pub holds : Holds pool new.owner new.open.items
+  pub holds : HoldsChains pool new.owner new.open.items
   pub blocks : blocks_for (length (chain_bytes pool chain)) + held_blocks pool new.open.items ≡ held_blocks pool old.open.items
   pub outside : (other : Chain) → IsApartFrom old.open.items other → IsApart other chain × IsApartFrom new.open.items other
 
@@ -31,14 +31,14 @@ pub record CanGrow (pool : PoolState) (joiner : Joiner) (p : Packet) (chain : Ch
   pub owned : chain.owner ≡ joiner.owner
   pub fits : length (chain_bytes pool chain) + length p.bytes.items ≤ 4096
   pub apart : AllByRecursion (λ x. (x.pipe ≢ p.pipe) × IsApart x.chain chain) joiner.open.items
-  pub holds : Holds pool joiner.owner joiner.open.items
+  pub holds : HoldsChains pool joiner.owner joiner.open.items
   pub quota : quota_of pool joiner.owner ≡ 512
   pub used : used_of pool joiner.owner ≡ blocks_for (length (chain_bytes pool chain)) + held_blocks pool joiner.open.items
 
 -- the data was appended, and the chain stands behind the others
 pub record Grown (old new : PoolState) (owner pipe : ℕ) (chain after : Chain) (xs : List Open) (bytes : List ℕ) : Type 0 where
   pub bytes_are : chain_bytes new after ≡ bytes
-  pub holds : Holds new owner (xs ++ record { pipe = pipe; chain = after } ∷ [])
+  pub holds : HoldsChains new owner (xs ++ record { pipe = pipe; chain = after } ∷ [])
   pub used : new.owners ≡ with_used old.owners owner (held_blocks new (xs ++ record { pipe = pipe; chain = after } ∷ []))
   pub others : (other : Chain) → IsLive old other → IsApartFrom xs other → IsApart other chain → IsLive new other × (chain_bytes new other ≡ chain_bytes old other) × IsApartFrom (xs ++ record { pipe = pipe; chain = after } ∷ []) other
   pub rest : messages_in new xs ≡ messages_in old xs

@@ -49,7 +49,7 @@ impl Joiner {
     ghost use Rattle.block_pool.specs.Owners.{with_used};
     ghost use Rattle.block_pool.specs.Pool.{HasQuota, used_of, IsLive, IsApart, chain_bytes};
     ghost use Rattle.hcp_chain.specs.Joining.{Nothing, Message, join_step, is_fifth};
-    ghost use Rattle.hcp_chain.specs.Holding.{Holds, IsReady, IsApartFrom, KeepsAllOthers, Says, open_messages, held_blocks, whole_in};
+    ghost use Rattle.hcp_chain.specs.Holding.{HoldsChains, IsJoinerReady, IsApartFrom, KeepsOtherChains, AnswersOutcome, open_messages, held_blocks, whole_in};
     ghost use Rattle.hcp_chain.specs.TakingOut.{TakesOut, CanGrow, Grown};
 
     /// A joiner that keeps its chains for an owner. Nothing is received yet.
@@ -65,13 +65,13 @@ impl Joiner {
 
     /// Forgets what is partly received, and gives its blocks back.
     pub fn clear(&mut self, pool: &mut Pool)
-        requires holds { Holds pool.old self.old.owner self.old.open.items }
+        requires holds { HoldsChains pool.old self.old.owner self.old.open.items }
         requires quota { HasQuota pool.old self.old.owner }
         ensures owner { self.new.owner ≡ self.old.owner }
         ensures open { self.new.open.items ≡ [] }
         ensures used { pool.new.owners ≡ with_used pool.old.owners self.old.owner
             (used_of pool.old self.old.owner - held_blocks pool.old self.old.open.items) }
-        ensures others { KeepsAllOthers pool.old pool.new self.old.open.items [] }
+        ensures others { KeepsOtherChains pool.old pool.new self.old.open.items [] }
     {
         while let Some(open) = self.open.pop() {
             pool.give(open.chain);
@@ -81,7 +81,7 @@ impl Joiner {
     /// Takes out what has come of the message on a pipe: an empty chain where none is under way. `None` comes where four
     /// others are.
     fn take_out(&mut self, pool: &mut Pool, pipe: u8) -> Option<Chain>
-        requires holds { Holds pool.old self.old.owner self.old.open.items }
+        requires holds { HoldsChains pool.old self.old.owner self.old.open.items }
         requires quota { HasQuota pool.old self.old.owner }
         ensures pool { pool.new ≡ pool.old }
         ensures owner { self.new.owner ≡ self.old.owner }
@@ -111,11 +111,11 @@ impl Joiner {
     fn grow(&mut self, pool: &mut Pool, chain: Chain, packet: &Packet) -> Joined
         requires { CanGrow pool.old self.old packet.now chain }
         ensures owner { self.new.owner ≡ self.old.owner }
-        ensures says { Says pool.new result (if packet.now.last
+        ensures says { AnswersOutcome pool.new result (if packet.now.last
             then Message packet.now.pipe (chain_bytes pool.old chain ++ packet.now.bytes.items) else Nothing) }
         ensures open { open_messages pool.new self.new ≡ (if packet.now.last then open_messages pool.old self.old
             else open_messages pool.old self.old ++ (packet.now.pipe, chain_bytes pool.old chain ++ packet.now.bytes.items) ∷ []) }
-        ensures holds { Holds pool.new self.old.owner (self.new.open.items ++ whole_in result) }
+        ensures holds { HoldsChains pool.new self.old.owner (self.new.open.items ++ whole_in result) }
         ensures used { pool.new.owners ≡ with_used pool.old.owners self.old.owner
             (held_blocks pool.new (self.new.open.items ++ whole_in result)) }
         ensures others { (other : Chain) → IsLive pool.old other → IsApartFrom self.old.open.items other → IsApart other chain
@@ -133,14 +133,14 @@ impl Joiner {
 
     /// Forgets everything at a fault.
     fn refuse(&mut self, pool: &mut Pool, fault: ChainFault) -> Joined
-        requires holds { Holds pool.old self.old.owner self.old.open.items }
+        requires holds { HoldsChains pool.old self.old.owner self.old.open.items }
         requires quota { HasQuota pool.old self.old.owner }
         ensures fault { result ≡ Joined.Fault fault }
         ensures owner { self.new.owner ≡ self.old.owner }
         ensures open { self.new.open.items ≡ [] }
         ensures used { pool.new.owners ≡ with_used pool.old.owners self.old.owner
             (used_of pool.old self.old.owner - held_blocks pool.old self.old.open.items) }
-        ensures others { KeepsAllOthers pool.old pool.new self.old.open.items [] }
+        ensures others { KeepsOtherChains pool.old pool.new self.old.open.items [] }
     {
         self.clear(pool);
         Joined::Fault(fault)
@@ -149,15 +149,15 @@ impl Joiner {
     /// Takes a packet: what has come of its message is kept until its last packet. After a fault nothing is kept. It asks
     /// that the joiner's owner has 512 blocks and uses none but those of the joiner's own chains.
     pub fn take(&mut self, pool: &mut Pool, packet: &Packet) -> Joined
-        requires { IsReady pool.old self.old }
+        requires { IsJoinerReady pool.old self.old }
         ensures owner { self.new.owner ≡ self.old.owner }
-        ensures says { Says pool.new result (join_step (open_messages pool.old self.old) packet.now).0 }
+        ensures says { AnswersOutcome pool.new result (join_step (open_messages pool.old self.old) packet.now).0 }
         ensures open { open_messages pool.new self.new ≡ (join_step (open_messages pool.old self.old) packet.now).1 }
-        ensures holds { Holds pool.new self.old.owner (self.new.open.items ++ whole_in result) }
+        ensures holds { HoldsChains pool.new self.old.owner (self.new.open.items ++ whole_in result) }
         ensures used { pool.new.owners ≡ with_used pool.old.owners self.old.owner
             (held_blocks pool.new (self.new.open.items ++ whole_in result)) }
-        ensures others { KeepsAllOthers pool.old pool.new self.old.open.items (self.new.open.items ++ whole_in result) }
-        ensures ready { whole_in result ≡ [] → IsReady pool.new self.new }
+        ensures others { KeepsOtherChains pool.old pool.new self.old.open.items (self.new.open.items ++ whole_in result) }
+        ensures ready { whole_in result ≡ [] → IsJoinerReady pool.new self.new }
     {
         let pipe = packet.pipe;
         let Some(chain) = self.take_out(pool, pipe) else {

@@ -6,15 +6,15 @@ use Rattle.std.proofs.lemmas.List.{append-nil, take_all, drop-drop}
 use Rattle.std.proofs.lemmas.List.Elements.{filter_map-append, filter-append}
 use Rattle.std.proofs.lemmas.Grind.{common_steps, fold-append}
 use Rattle.hcp_packet.specs.declared.Packet.{Packet}
-use Rattle.hcp_packet.specs.Packets.{packet, bytes_of, packet_of, parts_of, packet_count, packets_of, packet_at, under_way_after, under_way, ended_by, messages_after, messages_of, is_good, good_of, packets_in, good_messages_of, fragments_of, AreSendable, IsFrontOf}
+use Rattle.hcp_packet.specs.Packets.{packet, packet_bytes, packet_of, parts_of, packet_count, packets_of, packet_at, under_way_after, under_way, message_ended_by, messages_after, messages_of, is_good, good_of, packets_in, good_messages_of, fragments_of, AreSendable, IsFrontOf}
 
 -- what packets end that come behind others
 messages_after-append : (before q r : List Packet) → messages_after before (q ++ r) ≡ messages_after before q ++ messages_after (before ++ q) r
 messages_after-append before [] r = ap (λ b. messages_after b r) (sym (append-nil before))
 messages_after-append before (p ∷ q) r =
-    ap (λ ms. ended_by before p ++ ms) (messages_after-append (before ++ p ∷ []) q r)
-    ∙ (ap (λ b. ended_by before p ++ (messages_after (before ++ p ∷ []) q ++ messages_after b r)) (append_assoc before (p ∷ []) q)
-    ∙ sym (append_assoc (ended_by before p) (messages_after (before ++ p ∷ []) q) (messages_after (before ++ p ∷ q) r)))
+    ap (λ ms. message_ended_by before p ++ ms) (messages_after-append (before ++ p ∷ []) q r)
+    ∙ (ap (λ b. message_ended_by before p ++ (messages_after (before ++ p ∷ []) q ++ messages_after b r)) (append_assoc before (p ∷ []) q)
+    ∙ sym (append_assoc (message_ended_by before p) (messages_after (before ++ p ∷ []) q) (messages_after (before ++ p ∷ q) r)))
 
 -- the good messages of fragments, and those that come behind them
 good_messages_of-append : (a b : List (List ℕ)) → good_messages_of (a ++ b) ≡ good_messages_of a ++ good_of (messages_after (packets_in a) (packets_in b))
@@ -91,14 +91,14 @@ joined_behind (m ∷ sent) sendable before idle =
     (λ q. parts_end m.0 count.0 m.1 before q (λ other. idle q)))))
 
 -- what is written is read again
-packet_of-bytes_of : (p : Packet) → p.pipe < 112 → packet_of (bytes_of p) ≡ Some p
+packet_of-bytes_of : (p : Packet) → p.pipe < 112 → packet_of (packet_bytes p) ≡ Some p
 packet_of-bytes_of p low = by_mark p.last p.pipe p.bytes.items low
   where
-    by_mark : (last : Bool) (pipe : ℕ) (data_bytes : List ℕ) → pipe < 112 → packet_of (bytes_of (packet last pipe data_bytes)) ≡ Some (packet last pipe data_bytes)
+    by_mark : (last : Bool) (pipe : ℕ) (data_bytes : List ℕ) → pipe < 112 → packet_of (packet_bytes (packet last pipe data_bytes)) ≡ Some (packet last pipe data_bytes)
     by_mark true pipe data_bytes low = grind (arith, common_steps)
     by_mark false pipe data_bytes low = grind (arith, common_steps)
 
-packets_in-parts : (pipe n : ℕ) (left : List ℕ) → pipe < 112 → packets_in (map bytes_of (parts_of pipe n left)) ≡ parts_of pipe n left
+packets_in-parts : (pipe n : ℕ) (left : List ℕ) → pipe < 112 → packets_in (map packet_bytes (parts_of pipe n left)) ≡ parts_of pipe n left
 packets_in-parts pipe zero left low = refl
 packets_in-parts pipe (suc n) left low =
     let this = packet (eqb n 0) pipe (take 28 left) in
@@ -109,7 +109,7 @@ packets_in-parts pipe (suc n) left low =
 packets_in-fragments : (sent : List (ℕ × List ℕ)) → AreSendable sent → packets_in (fragments_of sent) ≡ packets_of_all sent
 packets_in-fragments [] sendable = refl
 packets_in-fragments (m ∷ sent) sendable =
-    filter_map-append packet_of (map bytes_of (packets_of m.0 m.1)) (fragments_of sent)
+    filter_map-append packet_of (map packet_bytes (packets_of m.0 m.1)) (fragments_of sent)
     ∙ (ap (λ ps. ps ++ packets_in (fragments_of sent)) (packets_in-parts m.0 (packet_count (length m.1)) m.1 sendable.0.0)
     ∙ ap (λ ps. packets_of m.0 m.1 ++ ps) (packets_in-fragments sent sendable.1))
 

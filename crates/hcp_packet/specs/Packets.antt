@@ -13,8 +13,8 @@ abbrev pub first_byte_of : Packet → ℕ
 first_byte_of p = (if p.last then 128 else 0) + p.pipe
 
 -- the bytes of a packet
-abbrev pub bytes_of : Packet → List ℕ
-bytes_of p = first_byte_of p ∷ p.bytes.items
+abbrev pub packet_bytes : Packet → List ℕ
+packet_bytes p = first_byte_of p ∷ p.bytes.items
 
 -- the pipe that the first byte of a packet names
 abbrev pub pipe_in : List ℕ → ℕ
@@ -53,13 +53,13 @@ abbrev pub under_way : ℕ → List Packet → List ℕ
 under_way pipe packets = fold (under_way_after pipe) [] packets
 
 -- the message that a packet ends, with its pipe, if it is marked as the last one
-abbrev pub ended_by : List Packet → Packet → List (ℕ × List ℕ)
-ended_by before p = if p.last then (p.pipe, under_way p.pipe before ++ p.bytes.items) ∷ [] else []
+abbrev pub message_ended_by : List Packet → Packet → List (ℕ × List ℕ)
+message_ended_by before p = if p.last then (p.pipe, under_way p.pipe before ++ p.bytes.items) ∷ [] else []
 
 -- the messages that packets end, which come behind others
 abbrev pub messages_after : List Packet → List Packet → List (ℕ × List ℕ)
 messages_after before [] = []
-messages_after before (p ∷ packets) = ended_by before p ++ messages_after (before ++ p ∷ []) packets
+messages_after before (p ∷ packets) = message_ended_by before p ++ messages_after (before ++ p ∷ []) packets
 
 -- The messages of packets of any pipes mixed. On each pipe a message ends with each packet that is marked as the last
 -- one; the messages stand in the order of their last packets.
@@ -88,7 +88,7 @@ good_messages_of fragments = good_of (messages_of (packets_in fragments))
 
 -- the fragments of messages that are sent one after another, each with its pipe
 abbrev pub fragments_of : List (ℕ × List ℕ) → List (List ℕ)
-fragments_of messages = flat_map (λ m. map bytes_of (packets_of m.0 m.1)) messages
+fragments_of messages = flat_map (λ m. map packet_bytes (packets_of m.0 m.1)) messages
 
 -- a message that isn't empty, on a pipe that isn't reserved
 abbrev pub IsSendable : ℕ × List ℕ → Type 0

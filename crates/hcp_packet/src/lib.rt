@@ -2,7 +2,7 @@
 #![tactic(auto)]
 
 ghost use Rattle.std.specs.Prelude.{◌≡◌, ℕ, ◌<◌, ◌≤◌, ◌*◌, ◌+◌, ◌↔◌, ◌∷◌, List, length, Some, Ok, Err, IfOk, IfErr, IsOk, IsErr};
-ghost use Rattle.hcp_packet.specs.Packets.{packet_of, bytes_of, pipe_in, IsGood};
+ghost use Rattle.hcp_packet.specs.Packets.{packet_of, packet_bytes, pipe_in, IsGood};
 ghost use Rattle.hcp_packet.specs.MessageHeader.{header_of, type_bits_of};
 
 use arrayvec::ArrayVec;
@@ -83,7 +83,7 @@ fn data_of(bytes: &[u8]) -> ArrayVec<u8, 28>
 /// Writes a packet: its header and its data. It asks for a pipe that isn't reserved.
 pub fn write_packet(packet: &Packet) -> ArrayVec<u8, 29>
     requires { packet.now.pipe < 112 }
-    ensures written { result.items ≡ bytes_of packet.now }
+    ensures written { result.items ≡ packet_bytes packet.now }
     ensures read_again { packet_of result.items ≡ Some packet.now }
 {
     let mark = if packet.last { 0x80 } else { 0 };

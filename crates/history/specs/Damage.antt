@@ -53,10 +53,10 @@ first_frame lpdu why (Frame read ∷ later) = read_as lpdu read
 first_frame lpdu why (Refused fault ∷ later) = first_frame lpdu why later
 
 -- the first frame that is read decides; where there is none, the first refusal is the cause
-abbrev pub judged : List ℕ → List Fed → Verdict
-judged lpdu feds = first_frame lpdu (first_refusal feds) feds
+abbrev pub judged_by_first : List ℕ → List Fed → Verdict
+judged_by_first lpdu feds = first_frame lpdu (first_refusal feds) feds
 
 -- What is read of a frame whose bits at these places are changed, with eight 0 bits behind it.
 abbrev pub verdict_on : List ℕ → List ℕ → Verdict
 verdict_on lpdu places =
-    judged lpdu (verdicts (map symbol_of (flipped_at places (frame_of lpdu) ++ replicate 8 false)))
+    judged_by_first lpdu (verdicts (map symbol_of (flipped_at places (frame_of lpdu) ++ replicate 8 false)))

@@ -76,13 +76,13 @@ abbrev pub sent_in : List Entry → End → ℕ → List Message
 sent_in t e n = filter_map (λ entry. sent_by n (said_of e entry)) t
 
 -- the message that was got in this session
-abbrev pub got_by : ℕ → Option Saying → Option Message
-got_by n (Some (Gets k m)) = if k == n then Some m else None
-got_by n _ = None
+abbrev pub got_in_session : ℕ → Option Saying → Option Message
+got_in_session n (Some (Gets k m)) = if k == n then Some m else None
+got_in_session n _ = None
 
 -- the messages that an end got in a session
 abbrev pub got_in : List Entry → End → ℕ → List Message
-got_in t e n = filter_map (λ entry. got_by n (said_of e entry)) t
+got_in t e n = filter_map (λ entry. got_in_session n (said_of e entry)) t
 
 -- how many messages of the session are acknowledged after this was said, where so many were before
 abbrev pub acked_after : ℕ → ℕ → Option Saying → ℕ
@@ -100,8 +100,8 @@ session_after session (Some Ends) = None
 session_after session _ = session
 
 -- the number of the session that an end has, if it is up
-abbrev pub session_of : List Entry → End → Option ℕ
-session_of t e = fold (λ session entry. session_after session (said_of e entry)) None t
+abbrev pub session_number : List Entry → End → Option ℕ
+session_number t e = fold (λ session entry. session_after session (said_of e entry)) None t
 
 -- The wire to an end after an entry, which says one thing of the end and another of the other end: what the other end puts
 -- there stands behind what stands there, and what the end takes or what is lost on its way is the first frame.

@@ -15,7 +15,7 @@ use Rattle.hcp_packet.specs.Packets.{good_of, IsFrontOf}
 use Rattle.shdlc_core.specs.Machine.{is_waiting}
 use Rattle.history.specs.Histories.{Event, History, all_entries, all_events, entries_of, causes_of}
 use Rattle.history.specs.Histories.Cause.{WasReset}
-use Rattle.history.specs.Filters.{Saying, said, sent_in, got_in, acked_in, session_of, wire_to}
+use Rattle.history.specs.Filters.{Saying, said, sent_in, got_in, acked_in, session_number, wire_to}
 use Rattle.history.specs.Filters.Saying.{Begins, Puts, Loses}
 use Rattle.history.specs.Steps.{bare_link, link_after_all}
 use Rattle.history.specs.Follows.{machine_of}
@@ -36,15 +36,15 @@ Prefix t = (front back : List Entry) → all_entries t ≡ front ++ back → IsI
 -- ## Complete
 
 -- an LPDU is an RNR
-abbrev pub is_rnr : List ℕ → Bool
-is_rnr lpdu = by_reading (control_of lpdu) where
+abbrev pub is_rnr_lpdu : List ℕ → Bool
+is_rnr_lpdu lpdu = by_reading (control_of lpdu) where
   by_reading : Result Control LpduFault → Bool
   by_reading (Ok (S Rnr nr)) = true
   by_reading _ = false
 
 -- an LPDU is an RSET
-abbrev pub is_rset : List ℕ → Bool
-is_rset lpdu = by_reading (control_of lpdu) where
+abbrev pub is_rset_lpdu : List ℕ → Bool
+is_rset_lpdu lpdu = by_reading (control_of lpdu) where
   by_reading : Result Control LpduFault → Bool
   by_reading (Ok (Rset window caps)) = true
   by_reading _ = false
@@ -56,12 +56,12 @@ loses_on h _ = false
 
 -- on it an RNR was put on a wire
 abbrev pub rejects_on : ℕ → Option (End × Saying) → Bool
-rejects_on h (Some (e, Puts lpdu)) = (e.link == h) && is_rnr lpdu
+rejects_on h (Some (e, Puts lpdu)) = (e.link == h) && is_rnr_lpdu lpdu
 rejects_on h _ = false
 
 -- on it an RSET was put on a wire
 abbrev pub resets_on : ℕ → Option (End × Saying) → Bool
-resets_on h (Some (e, Puts lpdu)) = (e.link == h) && is_rset lpdu
+resets_on h (Some (e, Puts lpdu)) = (e.link == h) && is_rset_lpdu lpdu
 resets_on h _ = false
 
 -- an end of it came up with this number
@@ -88,9 +88,9 @@ has_rset h t = list_any (λ x. resets_on h (said x)) t
 
 -- Both ends of a link are up with a number, since the first of them came up with it no frame was lost and no RNR put on it, and both
 -- wires are empty.
-pub record IsQuiet (t : List Entry) (e : End) (n : ℕ) : Type 0 where
-  pub here : session_of t e ≡ Some n
-  pub there : session_of t (other_end e) ≡ Some n
+pub record IsReadQuiet (t : List Entry) (e : End) (n : ℕ) : Type 0 where
+  pub here : session_number t e ≡ Some n
+  pub there : session_number t (other_end e) ≡ Some n
   pub lossless : has_lost e.link (since_up e.link n t) ≡ false
   pub ready : has_rnr e.link (since_up e.link n t) ≡ false
   pub to_here : wire_to t e ≡ []
@@ -103,7 +103,7 @@ pub record IsDelivered (t : List Entry) (e : End) (n : ℕ) : Type 0 where
 
 -- a quiet link has delivered all
 abbrev pub IsComplete : List Entry → Type 0
-IsComplete t = (e : End) (n : ℕ) → IsQuiet t e n → IsDelivered t e n
+IsComplete t = (e : End) (n : ℕ) → IsReadQuiet t e n → IsDelivered t e n
 
 -- that holds at the end of each event
 abbrev pub Complete : History → Type 0
@@ -111,7 +111,7 @@ Complete t = (front back : List Event) → all_events t ≡ front ++ back → Is
 
 -- After these events an end was reset while the other one wasn't Waiting; since then, in these events behind it, no frame of the
 -- link was lost and no other RSET put on it, and now both its wires are empty.
-pub record IsSettled (opening : List Entry) (before : List Event) (reset : Event) (behind : List Event) (e : End) (window : Option ℕ) : Type 0 where
+pub record IsReadSettled (opening : List Entry) (before : List Event) (reset : Event) (behind : List Event) (e : End) (window : Option ℕ) : Type 0 where
   pub cause : reset.cause ≡ WasReset e window
   pub other : is_waiting (machine_of (link_after_all bare_link (causes_of before)) (other_end e)).shdlc ≡ false
   pub lossless : has_lost e.link (entries_of (reset ∷ behind)) ≡ false
@@ -120,18 +120,18 @@ pub record IsSettled (opening : List Entry) (before : List Event) (reset : Event
   pub to_there : wire_to (opening ++ entries_of (before ++ reset ∷ behind)) (other_end e) ≡ []
 
 -- both ends of a link are up with one number
-pub record AreUpTogether (t : List Entry) (e : End) : Type 0 where
+pub record AreReadUpTogether (t : List Entry) (e : End) : Type 0 where
   pub number : ℕ
-  pub here : session_of t e ≡ Some number
-  pub there : session_of t (other_end e) ≡ Some number
+  pub here : session_number t e ≡ Some number
+  pub there : session_number t (other_end e) ≡ Some number
 
 -- a reset whose answer nothing kept back has brought both ends up
 abbrev pub Settled : History → Type 0
 Settled t =
     (before : List Event) (reset : Event) (behind back : List Event) (e : End) (window : Option ℕ)
     → all_events t ≡ before ++ (reset ∷ behind ++ back)
-    → IsSettled t.opening before reset behind e window
-    → AreUpTogether (t.opening ++ entries_of (before ++ reset ∷ behind)) e
+    → IsReadSettled t.opening before reset behind e window
+    → AreReadUpTogether (t.opening ++ entries_of (before ++ reset ∷ behind)) e
 
 -- an entry says that a session ended by packets that can't be joined
 abbrev pub is_chain_fault : Entry → Bool

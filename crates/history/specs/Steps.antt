@@ -2,7 +2,7 @@
 use Rattle.std.specs.Prelude.{ℕ, true, false, not, if◌then◌else◌, List, [], ◌∷◌}
 use Rattle.std.specs.List.{flat_map}
 use Rattle.swp_base.specs.declared.link_terms.FrameFault.TheVariants as fault
-use Rattle.swp_lpdu.specs.Controls.{bytes_of as lpdu_of}
+use Rattle.swp_lpdu.specs.Controls.{lpdu_of}
 use Rattle.trace_model.specs.declared.entry.Entry.{Entry}
 use Rattle.trace_model.specs.declared.entry.Entry.TheVariants as entry
 use Rattle.trace_model.specs.declared.entry.LostCause.{LostCause}

@@ -8,17 +8,17 @@ use Rattle.trace_model.specs.declared.line.Header.{Header}
 use Rattle.trace_model.specs.declared.line.Line.{Line}
 use Rattle.trace_model.specs.Lines.{IsLineOf, IsHeader}
 use Rattle.link_machine.specs.Machine.{Message}
-use Rattle.message_link.specs.Links.{Link, number_of, after}
+use Rattle.message_link.specs.Links.{Link, number_of, after_link_events}
 use Rattle.message_link.specs.Links.IsStart.{IsBare}
 use Rattle.link_entries.specs.Entries.{Entry as Noted}
 use Rattle.link_entries.specs.Entries.End.{Controller, Host}
 use Rattle.link_entries.specs.Reading.{Seen, see_all, nothing_seen}
-use Rattle.link_entries.specs.Quiet.{disturbs, since, IsQuietSince, IsDelivered as LinkDelivered}
+use Rattle.link_entries.specs.Quiet.{disturbs, since, IsQuietSince, IsDeliveredOnLink as LinkDelivered}
 use Rattle.link_entries.proofs.Ages.{read_off}
 use Rattle.link_entries.proofs.Delivering.{quiet_here, quiet_there}
 use Rattle.history.specs.Histories.{Event, History, causes_of}
-use Rattle.history.specs.Filters.{session_of, wire_to}
-use Rattle.history.specs.Legal.{IsQuiet, IsDelivered, IsComplete, Complete, since_up, has_lost, has_rnr}
+use Rattle.history.specs.Filters.{session_number, wire_to}
+use Rattle.history.specs.Legal.{IsReadQuiet, IsDelivered, IsComplete, Complete, since_up, has_lost, has_rnr}
 use Rattle.history.specs.Steps.{end_of, entries_for, bare_link}
 use Rattle.history.specs.Follows.{Follows, host_of}
 use Rattle.history_laws.proofs.Runs.{AreOf, link_events, of_front, of_allowed, of_can}
@@ -31,7 +31,7 @@ use Rattle.history_laws.proofs.Reading.{session-all, none_session, no_bytes, wir
 
 -- the link after these events
 abbrev pub link_now : List Event → Link
-link_now xs = after bare_link (link_events xs)
+link_now xs = after_link_events bare_link (link_events xs)
 
 -- where the wires are empty as they are read they are empty
 pub empty_controller : (h : ℕ) (xs : List Event) → wire_to (entries_for h (notes_of xs)) (end_of h Controller) ≡ [] → (link_now xs).to_controller ≡ []
@@ -50,8 +50,8 @@ empty_host h xs q =
 
 -- both ends are up with this number, nothing disturbed the link since, and its wires are empty
 record IsStill (h : ℕ) (xs : List Event) (n : ℕ) : Type 0 where
-  controller : session_of (entries_for h (notes_of xs)) (end_of h Controller) ≡ Some n
-  host : session_of (entries_for h (notes_of xs)) (end_of h Host) ≡ Some n
+  controller : session_number (entries_for h (notes_of xs)) (end_of h Controller) ≡ Some n
+  host : session_number (entries_for h (notes_of xs)) (end_of h Host) ≡ Some n
   lossless : has_lost h (since_up h n (entries_for h (notes_of xs))) ≡ false
   ready : has_rnr h (since_up h n (entries_for h (notes_of xs))) ≡ false
   to_controller : wire_to (entries_for h (notes_of xs)) (end_of h Controller) ≡ []
@@ -100,7 +100,7 @@ delivered_to_controller h t n d =
       acked = acked-all h t Host n ∙ (d.acked ∙ sym (ap (λ (ms : List Message). length ms) (sent-all h t Host n)));
     }
 
-complete_controller : (h : ℕ) (xs : List Event) (n : ℕ) → AreOf h bare_link xs → IsQuiet (entries_for h (notes_of xs)) (end_of h Controller) n
+complete_controller : (h : ℕ) (xs : List Event) (n : ℕ) → AreOf h bare_link xs → IsReadQuiet (entries_for h (notes_of xs)) (end_of h Controller) n
     → IsDelivered (entries_for h (notes_of xs)) (end_of h Controller) n
 complete_controller h xs n a q =
     let t : List Noted = notes_of xs in
@@ -115,7 +115,7 @@ complete_controller h xs n a q =
     let P : ℕ → Type 0 = λ z. LinkDelivered t Controller z in
     delivered_to_host h t n (subst P k.number (quiet_here bare_link IsBare (link_events xs) (of_allowed h bare_link xs a) k.quiet))
 
-complete_host : (h : ℕ) (xs : List Event) (n : ℕ) → AreOf h bare_link xs → IsQuiet (entries_for h (notes_of xs)) (end_of h Host) n
+complete_host : (h : ℕ) (xs : List Event) (n : ℕ) → AreOf h bare_link xs → IsReadQuiet (entries_for h (notes_of xs)) (end_of h Host) n
     → IsDelivered (entries_for h (notes_of xs)) (end_of h Host) n
 complete_host h xs n a q =
     let t : List Noted = notes_of xs in
@@ -136,15 +136,15 @@ complete_at h xs a e n = go (h == e.link) refl
     t : List Entry
     t = entries_for h (notes_of xs)
 
-    side : (k : ℕ) (b : Bool) → h ≡ k → IsQuiet t (record { link = k; at_host = b }) n → IsDelivered t (record { link = k; at_host = b }) n
+    side : (k : ℕ) (b : Bool) → h ≡ k → IsReadQuiet t (record { link = k; at_host = b }) n → IsDelivered t (record { link = k; at_host = b }) n
     side k false q =
-        let P : ℕ → Type 0 = λ z. IsQuiet t (record { link = z; at_host = false }) n → IsDelivered t (record { link = z; at_host = false }) n in
+        let P : ℕ → Type 0 = λ z. IsReadQuiet t (record { link = z; at_host = false }) n → IsDelivered t (record { link = z; at_host = false }) n in
         subst P q (complete_controller h xs n a)
     side k true q =
-        let P : ℕ → Type 0 = λ z. IsQuiet t (record { link = z; at_host = true }) n → IsDelivered t (record { link = z; at_host = true }) n in
+        let P : ℕ → Type 0 = λ z. IsReadQuiet t (record { link = z; at_host = true }) n → IsDelivered t (record { link = z; at_host = true }) n in
         subst P q (complete_host h xs n a)
 
-    go : (b : Bool) → (h == e.link) ≡ b → IsQuiet t e n → IsDelivered t e n
+    go : (b : Bool) → (h == e.link) ≡ b → IsReadQuiet t e n → IsDelivered t e n
     go true q = side e.link e.at_host (same_link h e.link q)
     go false q = λ quiet. absurd (let z : None ≡ Some n = sym (none_session e t (unsaid h e (notes_of xs) q)) ∙ quiet.here in cc)
 

@@ -10,11 +10,11 @@ use Rattle.link_machine.specs.Machine.{Message}
 use Rattle.link_entries.specs.Entries.{End as Side, Entry as Noted}
 use Rattle.link_entries.specs.Entries.End.{Controller, Host}
 use Rattle.link_entries.specs.Entries.Entry.{Up, Down, Active, GaveUp, Acked, Got, Sent, Emit, Took, Lost, Tick, Restarted, Cut}
-use Rattle.link_entries.specs.Filters.{same_end as same_side, sent_in as link_sent, got_in as link_got, acked_in as link_acked}
-use Rattle.link_entries.specs.Order.{is_chain_fault as link_fault}
+use Rattle.link_entries.specs.Filters.{same_link_end as same_side, sent_noted as link_sent, got_noted as link_got, acked_noted as link_acked}
+use Rattle.link_entries.specs.Order.{is_noted_chain_fault as link_fault}
 use Rattle.link_entries.proofs.Lasting.{same_number}
 use Rattle.link_entries.proofs.Books.{Book, read-append}
-use Rattle.history.specs.Filters.{Saying, same_end, at_end, said_of, sent_by, got_by, acked_after, sent_in, got_in, acked_in}
+use Rattle.history.specs.Filters.{Saying, same_end, at_end, said_of, sent_by, got_in_session, acked_after, sent_in, got_in, acked_in}
 use Rattle.history.specs.Filters.Saying.{Begins, Ends, Sends, Gets, Counts}
 use Rattle.history.specs.Legal.{is_chain_fault}
 use Rattle.history.specs.Steps.{end_of, entry_of, entries_for}
@@ -73,7 +73,7 @@ sent-all h (x ∷ t) who n =
 
 -- ## Messages got
 
-got_here : (n k : ℕ) (m : Message) (b : Bool) → cons_option (got_by n (if_said b (Gets k m))) [] ≡ (if b && (k == n) then m ∷ [] else [])
+got_here : (n k : ℕ) (m : Message) (b : Bool) → cons_option (got_in_session n (if_said b (Gets k m))) [] ≡ (if b && (k == n) then m ∷ [] else [])
 got_here n k m false = refl
 got_here n k m true = go (k == n)
   where
@@ -82,17 +82,17 @@ got_here n k m true = go (k == n)
     go false = refl
 
 got-one : (h : ℕ) (x : Noted) (who : Side) (n : ℕ) → got_in (entry_of h x) (end_of h who) n ≡ link_got (x ∷ []) who n
-got-one h (Up w k) who n = passed (got_by n) (same_end (end_of h w) (end_of h who)) (Begins k) refl refl
-got-one h (Down w cause) who n = passed (got_by n) (same_end (end_of h w) (end_of h who)) Ends refl refl
+got-one h (Up w k) who n = passed (got_in_session n) (same_end (end_of h w) (end_of h who)) (Begins k) refl refl
+got-one h (Down w cause) who n = passed (got_in_session n) (same_end (end_of h w) (end_of h who)) Ends refl refl
 got-one h (Active w) who n = refl
 got-one h (GaveUp w tries) who n = refl
-got-one h (Acked w k count) who n = passed (got_by n) (same_end (end_of h w) (end_of h who)) (Counts k count) refl refl
+got-one h (Acked w k count) who n = passed (got_in_session n) (same_end (end_of h w) (end_of h who)) (Counts k count) refl refl
 got-one h (Got w k m) who n =
-    ap (λ b. cons_option (got_by n (if_said b (Gets k m))) []) (same_as h w who) ∙ got_here n k m (same_side w who)
-got-one h (Sent w k m) who n = passed (got_by n) (same_end (end_of h w) (end_of h who)) (Sends k m) refl refl
-got-one h (Emit w c) who n = passed (got_by n) (same_end (end_of h w) (end_of h who)) _ refl refl
-got-one h (Took w c) who n = passed (got_by n) (same_end (end_of h w) (end_of h who)) _ refl refl
-got-one h (Lost w c why) who n = passed (got_by n) (same_end (end_of h w) (end_of h who)) _ refl refl
+    ap (λ b. cons_option (got_in_session n (if_said b (Gets k m))) []) (same_as h w who) ∙ got_here n k m (same_side w who)
+got-one h (Sent w k m) who n = passed (got_in_session n) (same_end (end_of h w) (end_of h who)) (Sends k m) refl refl
+got-one h (Emit w c) who n = passed (got_in_session n) (same_end (end_of h w) (end_of h who)) _ refl refl
+got-one h (Took w c) who n = passed (got_in_session n) (same_end (end_of h w) (end_of h who)) _ refl refl
+got-one h (Lost w c why) who n = passed (got_in_session n) (same_end (end_of h w) (end_of h who)) _ refl refl
 got-one h Tick who n = refl
 got-one h (Restarted w) who n = refl
 got-one h (Cut w) who n = refl
@@ -100,7 +100,7 @@ got-one h (Cut w) who n = refl
 pub got-all : (h : ℕ) (t : List Noted) (who : Side) (n : ℕ) → got_in (entries_for h t) (end_of h who) n ≡ link_got t who n
 got-all h [] who n = refl
 got-all h (x ∷ t) who n =
-    filter_map-append (λ entry. got_by n (said_of (end_of h who) entry)) (entry_of h x) (entries_for h t)
+    filter_map-append (λ entry. got_in_session n (said_of (end_of h who) entry)) (entry_of h x) (entries_for h t)
     ∙ (ap (λ ms. ms ++ got_in (entries_for h t) (end_of h who) n) (got-one h x who n)
     ∙ (ap (λ ms. link_got (x ∷ []) who n ++ ms) (got-all h t who n) ∙ sym (ap (λ (b : Book). b.got) (read-append (x ∷ []) t who n))))
 
@@ -190,7 +190,7 @@ none_sent e n (x ∷ t) u = ap (λ o. cons_option (sent_by n o) (sent_in t e n))
 
 pub none_got : (e : End) (n : ℕ) (t : List Entry) → Unsaid e t → got_in t e n ≡ []
 none_got e n [] u = refl
-none_got e n (x ∷ t) u = ap (λ o. cons_option (got_by n o) (got_in t e n)) u.0 ∙ none_got e n t u.1
+none_got e n (x ∷ t) u = ap (λ o. cons_option (got_in_session n o) (got_in t e n)) u.0 ∙ none_got e n t u.1
 
 pub none_acked : (e : End) (n : ℕ) (t : List Entry) → Unsaid e t → acked_in t e n ≡ 0
 none_acked e n [] u = refl

@@ -13,7 +13,7 @@ use Rattle.session_laws.specs.Sessions.{OnWire, took_with}
 use Rattle.link_machine.specs.Machine.{LinkEnd, ActDue, Refused, LinkInput, Turn, Report, report, whole_acked, turn, turned, give_refusal, after_input, ended_by, among, frames_out}
 use Rattle.link_machine.specs.Machine.LinkInput.{Take, Tick as HasTick, Reset}
 use Rattle.link_machine.specs.Machine.Turn.{Give, Hold, FetchMessage, SetAside, Release}
-use Rattle.message_link.specs.Links.{Half, Link, Loss, EndEvent, exchanged, number_of, put, with_ended, ticks_here, aged, happens}
+use Rattle.message_link.specs.Links.{NumberedEnd, Link, Loss, EndEvent, exchanged, number_of, put, with_ended, ticks_at_controller, aged, happens}
 use Rattle.message_link.specs.Links.Ending.{GoesOut, CutOff}
 use Rattle.message_link.specs.Links.Comes.{NextFrame, AsksReset, Starts, Stops, NoInput}
 use Rattle.message_link.specs.Links.EndEvent.{Step as EndStep, Lose}
@@ -164,7 +164,7 @@ plain_rest who l e ts =
     (plain_turns who (number_of l.controller) e ts)
     (plain_puts who (frames_out (turned e ts)) l (out_numbers (turned e ts)))
 
-plain_input : (who : End) (h : Half) (i : LinkInput) (k : Link) (e : LinkEnd) (ts : List Turn) → ArePlain (told_of who h i ++ rest_entries who k e ts GoesOut)
+plain_input : (who : End) (h : NumberedEnd) (i : LinkInput) (k : Link) (e : LinkEnd) (ts : List Turn) → ArePlain (told_of who h i ++ rest_entries who k e ts GoesOut)
 plain_input who h i k e ts = plain-append (told_of who h i) (rest_entries who k e ts GoesOut)
     (plain_told who (number_of h) (report h.side i) (whole_acked (after_input h.side i))) (plain_rest who k e ts)
 
@@ -234,7 +234,7 @@ plain_event l (WasReset e window) = plain_at l e _ tt
 plain_event l (Readied e ready) = plain_at l e _ tt
 plain_event l Ticked =
     let old : Link = aged l in
-    let near : Link = exchanged (ticks_here old [] GoesOut) in (
+    let near : Link = exchanged (ticks_at_controller old [] GoesOut) in (
       tt,
       plain-append (aged_entries Controller l.to_controller) (aged_entries Host l.to_host ++ (ticks Controller old ++ ticks Host near))
           (plain_aged Controller l.to_controller)

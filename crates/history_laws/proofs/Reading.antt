@@ -6,7 +6,7 @@ use Rattle.std.proofs.lemmas.List.{drop-map, map-append}
 use Rattle.swp_base.specs.declared.control_frames.Control.{Control}
 use Rattle.swp_base.specs.declared.control_frames.Control.TheVariants.{I, S, Rset, Ua, Act, Clt}
 use Rattle.swp_base.specs.declared.control_frames.Kind.TheVariants.{Rr, Rej, Rnr, Srej}
-use Rattle.swp_lpdu.specs.Controls.{bytes_of as lpdu_of}
+use Rattle.swp_lpdu.specs.Controls.{lpdu_of}
 use Rattle.trace_model.specs.declared.entry.Entry.{Entry}
 use Rattle.trace_model.specs.declared.line.End.{End}
 use Rattle.trace_model.specs.Ends.{other_end}
@@ -15,13 +15,13 @@ use Rattle.message_link.specs.Links.{Loss}
 use Rattle.link_entries.specs.Entries.{End as Side, Entry as Noted}
 use Rattle.link_entries.specs.Entries.End.{Controller, Host}
 use Rattle.link_entries.specs.Entries.Entry.{Up, Down, Active, GaveUp, Acked, Got, Sent, Emit, Took, Lost, Tick, Restarted, Cut}
-use Rattle.link_entries.specs.Filters.{same_end as same_side}
+use Rattle.link_entries.specs.Filters.{same_link_end as same_side}
 use Rattle.link_entries.specs.Reading.{Seen, see, see_all, numbered}
 use Rattle.link_entries.specs.Quiet.{disturbs, begins, since}
 use Rattle.link_entries.proofs.Lasting.{same_number}
-use Rattle.history.specs.Filters.{Saying, same_end, said_of, session_after, session_of, wire_after, wire_to}
+use Rattle.history.specs.Filters.{Saying, same_end, said_of, session_after, session_number, wire_after, wire_to}
 use Rattle.history.specs.Filters.Saying.{Begins, Ends, Sends, Gets, Counts, Puts, Takes, Loses}
-use Rattle.history.specs.Legal.{begins_on, since_up, has_lost, has_rnr, is_rnr}
+use Rattle.history.specs.Legal.{begins_on, since_up, has_lost, has_rnr, is_rnr_lpdu}
 use Rattle.history.specs.Steps.{end_of, entries_for}
 use Rattle.history_laws.proofs.Noted.{same_as, if_said, Unsaid}
 use Rattle.link_entries.proofs.Hearing.{heard}
@@ -72,10 +72,10 @@ session-from h (Tick ∷ t) who s p = session-from h t who s p.1
 session-from h (Restarted w ∷ t) who s p = session-from h t who s p.1
 session-from h (Cut w ∷ t) who s p = absurd p.0
 
-pub session-all : (h : ℕ) (t : List Noted) (who : Side) → ArePlain t → session_of (entries_for h t) (end_of h who) ≡ heard who None t
+pub session-all : (h : ℕ) (t : List Noted) (who : Side) → ArePlain t → session_number (entries_for h t) (end_of h who) ≡ heard who None t
 session-all h t who p = session-from h t who None p
 
-pub none_session : (e : End) (t : List Entry) → Unsaid e t → session_of t e ≡ None
+pub none_session : (e : End) (t : List Entry) → Unsaid e t → session_number t e ≡ None
 none_session e [] u = refl
 none_session e (x ∷ t) u = ap (λ o. session_from (session_after None o) e t) u.0 ∙ none_session e t u.1
 
@@ -223,7 +223,7 @@ plain_since n (e ∷ t) p = go (begins n e) refl (plain_since n t p.1)
 -- ## What disturbs a link
 
 -- RNR with a number below 8 is read again
-reads_rnr : (nr : ℕ) → nr < 8 → is_rnr (lpdu_of (S Rnr nr)) ≡ true
+reads_rnr : (nr : ℕ) → nr < 8 → is_rnr_lpdu (lpdu_of (S Rnr nr)) ≡ true
 reads_rnr zero low = refl
 reads_rnr (suc zero) low = refl
 reads_rnr (suc (suc zero)) low = refl
@@ -264,7 +264,7 @@ undisturbed h (Emit w (S Srej nr) ∷ t) p a b = undisturbed h t p.1 a (or_right
 undisturbed h (Emit w (S Rnr nr) ∷ t) p a b =
     let one = link_same h w in
     let two = reads_rnr nr p.0 in
-    absurd (or_left (((end_of h w).link == h) && is_rnr (lpdu_of (S Rnr nr))) (has_rnr h (entries_for h t)) b (rw (one, two) refl))
+    absurd (or_left (((end_of h w).link == h) && is_rnr_lpdu (lpdu_of (S Rnr nr))) (has_rnr h (entries_for h t)) b (rw (one, two) refl))
 undisturbed h (Emit w (Rset window caps) ∷ t) p a b = undisturbed h t p.1 a (or_right _ _ b)
 undisturbed h (Emit w Ua ∷ t) p a b = undisturbed h t p.1 a (or_right _ _ b)
 undisturbed h (Emit w (Act act again) ∷ t) p a b = undisturbed h t p.1 a (or_right _ _ b)

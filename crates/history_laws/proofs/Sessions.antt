@@ -1,10 +1,10 @@
 -- What is noted of the events of causes says which sessions both ends have.
 use Rattle.std.proofs.Common.{◌≡◌, List, [], ◌∷◌, map, None}
-use Rattle.message_link.specs.Links.{Link, after, happens, AllAllowed}
+use Rattle.message_link.specs.Links.{Link, after_link_events, happens, AllAllowed}
 use Rattle.message_link.specs.Links.IsStart.{IsBare}
 use Rattle.link_entries.specs.Entries.{trace}
 use Rattle.link_entries.specs.Entries.End.{Controller, Host}
-use Rattle.link_entries.specs.Sessions.{session_now}
+use Rattle.link_entries.specs.Sessions.{number_now}
 use Rattle.link_entries.proofs.Hearing.{heard}
 use Rattle.link_entries.proofs.Heard.{controller_heard as link_controller, host_heard as link_host}
 use Rattle.history.specs.Histories.{Cause}
@@ -17,8 +17,8 @@ all_can (c ∷ cs) l can = (can_event l c can.0, all_can cs (happens l (event_of
 
 -- what is heard of a bare link from its beginning on
 pub controller_heard : (cs : List Cause) → CanAll cs
-    → heard Controller None (trace bare_link (map event_of cs)) ≡ session_now (after bare_link (map event_of cs)).controller
+    → heard Controller None (trace bare_link (map event_of cs)) ≡ number_now (after_link_events bare_link (map event_of cs)).controller
 controller_heard cs can = link_controller bare_link IsBare (map event_of cs) (all_can cs bare_link can)
 
-pub host_heard : (cs : List Cause) → CanAll cs → heard Host None (trace bare_link (map event_of cs)) ≡ session_now (after bare_link (map event_of cs)).host
+pub host_heard : (cs : List Cause) → CanAll cs → heard Host None (trace bare_link (map event_of cs)) ≡ number_now (after_link_events bare_link (map event_of cs)).host
 host_heard cs can = link_host bare_link IsBare (map event_of cs) (all_can cs bare_link can)

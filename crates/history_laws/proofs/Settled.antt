@@ -20,7 +20,7 @@ use Rattle.message_link.specs.Settled.{AreUpTogether as LinkTogether}
 use Rattle.message_link.proofs.Whole.{start_good, start_reached}
 use Rattle.link_entries.specs.Entries.End.{Controller, Host}
 use Rattle.link_entries.specs.Entries.Entry.{Up, Down, Active, GaveUp, Acked, Got, Sent, Emit, Took, Lost, Tick, Restarted, Cut}
-use Rattle.message_link.specs.Links.{Link, LinkEvent, happens, after, number_of, AllAllowed}
+use Rattle.message_link.specs.Links.{Link, LinkEvent, happens, after_link_events, number_of, AllAllowed}
 use Rattle.message_link.specs.Projection.{core_of, core_event}
 use Rattle.message_link.proofs.Runs.{Good, Reached, reached_more, event_step}
 use Rattle.link_entries.specs.Entries.{Entry as Noted, event_entries, entries, first_entries}
@@ -32,8 +32,8 @@ use Rattle.history_laws.proofs.Runs.{AreOf, CanAll, can_event, link_events, of_f
 use Rattle.history_laws.proofs.Plain.{ArePlain, plain_event, plain_entries, plain_trace}
 use Rattle.history.specs.Histories.{Cause, Event, History, entries_of, causes_of, all_events}
 use Rattle.history.specs.Histories.Cause.{WasReset}
-use Rattle.history.specs.Filters.{session_of, wire_to}
-use Rattle.history.specs.Legal.{has_lost, has_rset, AreUpTogether, Settled}
+use Rattle.history.specs.Filters.{session_number, wire_to}
+use Rattle.history.specs.Legal.{has_lost, has_rset, AreReadUpTogether, Settled}
 use Rattle.history.specs.Steps.{at, event_of, end_of, entries_for, bare_link, link_after, link_after_all}
 use Rattle.history.specs.Follows.{machine_of, Follows, host_of}
 use Rattle.history_laws.proofs.Ordered.{IsRun, is_run, notes_of, run_entries}
@@ -92,7 +92,7 @@ reset_alone l e window = go e.at_host
 
 -- ## Runs
 
-after_causes : (cs : List Cause) (l : Link) → after l (map event_of cs) ≡ link_after_all l cs
+after_causes : (cs : List Cause) (l : Link) → after_link_events l (map event_of cs) ≡ link_after_all l cs
 after_causes [] l = refl
 after_causes (c ∷ cs) l = after_causes cs (link_after l c)
 
@@ -113,7 +113,7 @@ run_together before reset behind a asked alone undisturbed near there =
     let e : LinkEvent = event_of reset.cause in
     let is : link_events (before ++ reset ∷ behind) ≡ es ++ e ∷ fs = events-append before (reset ∷ behind) in
     let same = after_causes (causes_of before) bare_link in
-    let P : List LinkEvent → Type 0 = λ z. AllAllowed bare_link z → (after bare_link z).to_controller ≡ [] → (after bare_link z).to_host ≡ [] → LinkTogether (after bare_link z) in
+    let P : List LinkEvent → Type 0 = λ z. AllAllowed bare_link z → (after_link_events bare_link z).to_controller ≡ [] → (after_link_events bare_link z).to_host ≡ [] → LinkTogether (after_link_events bare_link z) in
     let R : Link → Type 0 = λ z. IsReset z e in
     let W : Link → Type 0 = λ z. list_any withholds (rest_of z e ++ entries (happens z e) fs) ≡ false in
     let m : Link = link_after_all bare_link (causes_of before) in
@@ -165,7 +165,7 @@ asked_at h l (y ∷ xs) x ys a = asked_at h (link_after l y.cause) xs x ys a.1
 -- where nothing kept the answer back and both wires are empty
 up_both : (h : ℕ) (xs : List Event) (e : End) → AreOf h bare_link xs → h ≡ e.link
     → ((link_now xs).to_controller ≡ [] → (link_now xs).to_host ≡ [] → LinkTogether (link_now xs))
-    → wire_to (entries_for h (notes_of xs)) e ≡ [] → wire_to (entries_for h (notes_of xs)) (other_end e) ≡ [] → AreUpTogether (entries_for h (notes_of xs)) e
+    → wire_to (entries_for h (notes_of xs)) e ≡ [] → wire_to (entries_for h (notes_of xs)) (other_end e) ≡ [] → AreReadUpTogether (entries_for h (notes_of xs)) e
 up_both h xs e a q law = side e.link e.at_host q
   where
     t : List Entry
@@ -174,11 +174,11 @@ up_both h xs e a q law = side e.link e.at_host q
     up : wire_to t (end_of h Controller) ≡ [] → wire_to t (end_of h Host) ≡ [] → LinkTogether (link_now xs)
     up w v = law (empty_controller h xs w) (empty_host h xs v)
 
-    near : LinkTogether (link_now xs) → session_of t (end_of h Controller) ≡ Some (number_of (link_now xs).controller)
+    near : LinkTogether (link_now xs) → session_number t (end_of h Controller) ≡ Some (number_of (link_now xs).controller)
     near u =
         session-all h (notes_of xs) Controller (plain_trace (causes_of xs)) ∙ (controller_heard (causes_of xs) (of_can h bare_link xs a) ∙ up_session (link_now xs).controller u.controller)
 
-    there : LinkTogether (link_now xs) → session_of t (end_of h Host) ≡ Some (number_of (link_now xs).controller)
+    there : LinkTogether (link_now xs) → session_number t (end_of h Host) ≡ Some (number_of (link_now xs).controller)
     there u =
         session-all h (notes_of xs) Host (plain_trace (causes_of xs))
         ∙ (host_heard (causes_of xs) (of_can h bare_link xs a) ∙ (up_session (link_now xs).host u.host ∙ ap (λ n. Some n) (sym u.number)))
@@ -186,7 +186,7 @@ up_both h xs e a q law = side e.link e.at_host q
     P : Bool → ℕ → Type 0
     P b z =
         wire_to t (record { link = z; at_host = b }) ≡ [] → wire_to t (other_end (record { link = z; at_host = b })) ≡ []
-        → AreUpTogether t (record { link = z; at_host = b })
+        → AreReadUpTogether t (record { link = z; at_host = b })
 
     side : (k : ℕ) (b : Bool) → h ≡ k → P b k
     side k false q =
@@ -222,7 +222,7 @@ settled_of h t run asked before reset behind back e window q z =
     (subst Alone (sym z.cause) (reset_alone l e window))
     (none_withheld (entries m (link_events behind)) spared (plain_stands (entries m (link_events behind)) (plain_entries (causes_of behind) m))) in
     let is : t.opening ++ entries_of xs ≡ entries_for h (notes_of xs) = run_entries h t.opening xs run.opening a in
-    let P : List Entry → Type 0 = λ y. AreUpTogether y e in
+    let P : List Entry → Type 0 = λ y. AreReadUpTogether y e in
     subst P (sym is)
     (up_both h xs e a (sym mine.0) law (sym (ap (λ y. wire_to y e) is) ∙ z.to_here) (sym (ap (λ y. wire_to y (other_end e)) is) ∙ z.to_there))
 

@@ -2,15 +2,15 @@
 use Rattle.std.proofs.Common.{◌≡◌, ℕ, suc, ◌+◌, ◌-◌, ◌*◌, ◌<◌, ◌≤◌, false, List, [], ◌∷◌, ◌++◌, length, take, drop, Option, Some, None, IsSome, sym, refl, ap, ap₂, ◌∙◌, subst, arith, append_assoc, append-nil, length-append, length-take, length-drop, drop_at, add_assoc, add-zero, zero-add}
 use Rattle.std.proofs.lemmas.Bool.{true≢false}
 use Rattle.swp_base.specs.Outside.{overwritten}
-use Rattle.journal_laws.specs.Writes.{Write, write, after}
+use Rattle.journal_laws.specs.Writes.{Write, write, after_writes}
 use Rattle.std.specs.Option.{option_map_or}
 use Rattle.journal_laws.specs.declared.banks.Side.TheVariants.{First, Second}
 use Rattle.journal_laws.specs.declared.banks.Side.{Side}
 use Rattle.journal_laws.specs.declared.state.Head.{Head}
-use Rattle.journal_laws.specs.Banks.{other, place, bank, head, head_of, is_open, current}
-use Rattle.journal_laws.specs.Records.{IsBody, Found, nothing, behind, found_from, record_bytes}
+use Rattle.journal_laws.specs.Banks.{other, bank_place, bank, head, head_of, is_opened_gate, current}
+use Rattle.journal_laws.specs.Records.{IsBody, Found, nothing_found, behind, found_from, record_bytes}
 use Rattle.journal_laws.specs.Journal.{Journal, found_in, journal_at, journal, state_by, state_of, IsStarted}
-use Rattle.journal_laws.specs.Operations.{record_writes, append_writes, HasRoom, appended, IsAllOrNothing}
+use Rattle.journal_laws.specs.Operations.{record_writes, append_writes, HasRoomForBody, appended, IsAllOrNothing}
 use Rattle.journal_laws.proofs.Places.{length-overwritten, overwritten-split, overwritten-right, length-bank, bank_beside, in_front, keeps_first}
 use Rattle.journal_laws.proofs.Reading.{Parts, parts, found_closed, record_is_read}
 use Rattle.journal_laws.proofs.InUse.{journal_in_use, in_use_is, in_use_then, state_at, journal_inside}
@@ -46,7 +46,7 @@ module _ (b : List ℕ) (version : ℕ) (long : length b ≡ 32768) (good : (fou
       ∙ bank_parts.again (32768 - length f.bodies) there (omega (arith, length-overwritten bank_parts.rest i bytes (omega (arith, size)), size, bank_parts.some))
       ∙ ap (λ m. behind f.bodies f.size (found_from version (32768 - length f.bodies) m there)) (zero-add (length f.bodies))
 
-  nothing_new : behind f.bodies f.size nothing ≡ f
+  nothing_new : behind f.bodies f.size nothing_found ≡ f
   nothing_new =
       ap₂ (λ l m. record { bodies = l; size = m; is_bad = false }) (append-nil f.bodies) (add-zero f.size)
       ∙ ap (λ t. record { bodies = f.bodies; size = f.size; is_bad = t }) (sym good)
@@ -56,11 +56,11 @@ module _ (b : List ℕ) (version : ℕ) (long : length b ≡ 32768) (good : (fou
   found_behind bytes fits =
       found_written 1 bytes fits
       ∙ ap (behind f.bodies f.size) (found_closed version (32768 - length f.bodies) (length f.bodies) (overwritten bank_parts.rest 1 bytes)
-      (ap is_open (keeps_first bank_parts.rest bytes bank_parts.some) ∙ bank_parts.closed))
+      (ap is_opened_gate (keeps_first bank_parts.rest bytes bank_parts.some) ∙ bank_parts.closed))
       ∙ nothing_new
 
   -- and then a closed gate
-  found_shut : (gate : ℕ) (bytes : List ℕ) → is_open gate ≡ false → 12 + f.size + 1 + length bytes ≤ 32768 → found_in version (overwritten b (12 + f.size) (gate ∷ bytes)) ≡ f
+  found_shut : (gate : ℕ) (bytes : List ℕ) → is_opened_gate gate ≡ false → 12 + f.size + 1 + length bytes ≤ 32768 → found_in version (overwritten b (12 + f.size) (gate ∷ bytes)) ≡ f
   found_shut gate bytes closed fits =
       ap (λ m. found_in version (overwritten b m (gate ∷ bytes))) (sym (add-zero (12 + f.size)))
       ∙ found_written 0 (gate ∷ bytes) (omega arith)
@@ -86,7 +86,7 @@ module _ (b : List ℕ) (version : ℕ) (long : length b ≡ 32768) (good : (fou
 
 -- ---- in a memory
 
-pub place_low : (side : Side) → place side ≤ 32768
+pub place_low : (side : Side) → bank_place side ≤ 32768
 place_low First = omega arith
 place_low Second = omega arith
 
@@ -99,7 +99,7 @@ abbrev pub one_more : Journal → List ℕ → Journal
 one_more j body =
     record j { found = record { bodies = j.found.bodies ++ body ∷ []; size = j.found.size + (4 + length body); is_bad = false } }
 
-module _ (c body : List ℕ) (started : IsStarted c) (h : HasRoom (state_of c) body) (side : Side) (is : current c ≡ Some side) where
+module _ (c body : List ℕ) (started : IsStarted c) (h : HasRoomForBody (state_of c) body) (side : Side) (is : current c ≡ Some side) where
   abbrev body_bytes : Journal → List ℕ
   body_bytes j = record_bytes (length j.found.bodies) body ++ 255 ∷ []
 
@@ -107,13 +107,13 @@ module _ (c body : List ℕ) (started : IsStarted c) (h : HasRoom (state_of c) b
   p = 12 + (found_in (head c side).version (bank c side)).size
 
   abbrev writes : List Write
-  writes = write (place side + p + 1) (body_bytes (journal_at c side)) ∷ write (place side + p) (90 ∷ []) ∷ []
+  writes = write (bank_place side + p + 1) (body_bytes (journal_at c side)) ∷ write (bank_place side + p) (90 ∷ []) ∷ []
 
   seen : journal c ≡ journal_at c side
   seen = journal_in_use c side is
 
   planned : append_writes (state_of c) body ≡ writes
-  planned = ap₂ (λ o (j : Journal). record_writes (option_map_or place o 0 + (12 + j.found.size)) (length j.found.bodies) body) is seen
+  planned = ap₂ (λ o (j : Journal). record_writes (option_map_or bank_place o 0 + (12 + j.found.size)) (length j.found.bodies) body) is seen
 
   good : (found_in (head c side).version (bank c side)).is_bad ≡ false
   good = sym (ap (λ (j : Journal). j.found.is_bad) seen) ∙ started.sound.good
@@ -125,43 +125,43 @@ module _ (c body : List ℕ) (started : IsStarted c) (h : HasRoom (state_of c) b
   long = started.size
 
   -- the gate and the body together
-  gate_and_body : (gate : ℕ) → journal (overwritten (overwritten c (place side + p + 1) (body_bytes (journal_at c side))) (place side + p) (gate ∷ []))
+  gate_and_body : (gate : ℕ) → journal (overwritten (overwritten c (bank_place side + p + 1) (body_bytes (journal_at c side))) (bank_place side + p) (gate ∷ []))
       ≡ record (journal_at c side) { found = found_in (head c side).version (overwritten (bank c side) p (gate ∷ body_bytes (journal_at c side))) }
   gate_and_body gate =
-      ap journal (in_front c (place side + p) gate (body_bytes (journal_at c side)) (omega (arith, long, room, place_low side)))
+      ap journal (in_front c (bank_place side + p) gate (body_bytes (journal_at c side)) (omega (arith, long, room, place_low side)))
       ∙ journal_inside c side p (gate ∷ body_bytes (journal_at c side)) long (omega (arith, room, length-append body (255 ∷ []))) is (omega arith)
 
-  pub append_is_whole : journal (after (append_writes (state_of c) body) c) ≡ one_more (journal c) body
+  pub append_is_whole : journal (after_writes (append_writes (state_of c) body) c) ≡ one_more (journal c) body
   append_is_whole =
-      ap (λ ws. journal (after ws c)) planned
+      ap (λ ws. journal (after_writes ws c)) planned
       ∙ gate_and_body 90
       ∙ ap (λ f. record (journal_at c side) { found = f })
       (found_more (bank c side) (head c side).version (length-bank c side long) good body (sym (ap (λ (j : Journal). j.head.version) seen) ∙ h.version) h.short room)
       ∙ sym (ap (λ j. one_more j body) seen)
 
   -- the other bank stays
-  beside_is : head (after (append_writes (state_of c) body) c) (other side) ≡ head c (other side)
+  beside_is : head (after_writes (append_writes (state_of c) body) c) (other side) ≡ head c (other side)
   beside_is =
-      ap (λ ws. head (after ws c) (other side)) planned
-      ∙ ap (λ d. head d (other side)) (in_front c (place side + p) 90 (body_bytes (journal_at c side)) (omega (arith, long, room, place_low side)))
+      ap (λ ws. head (after_writes ws c) (other side)) planned
+      ∙ ap (λ d. head d (other side)) (in_front c (bank_place side + p) 90 (body_bytes (journal_at c side)) (omega (arith, long, room, place_low side)))
       ∙ ap (λ l. head_of (take 12 l)) (bank_beside c side p (90 ∷ body_bytes (journal_at c side)) long (omega (arith, room, length-append body (255 ∷ []))))
 
-  pub append_state : state_of (after (append_writes (state_of c) body) c) ≡ appended (state_of c) body
+  pub append_state : state_of (after_writes (append_writes (state_of c) body) c) ≡ appended (state_of c) body
   append_state =
-      let d = after (append_writes (state_of c) body) c in
+      let d = after_writes (append_writes (state_of c) body) c in
       let still : current d ≡ Some side = in_use_then d (one_more (journal c) body) (Some side) append_is_whole (in_use_is c ∙ is) in
       state_at d side still
-      ∙ ap₂ (λ (j : Journal) (h : Head). state_by (Some side) j (is_open h.gate)) append_is_whole beside_is
-      ∙ ap (λ n. record (state_by (Some side) (journal c) (is_open (head c (other side)).gate)) { many = n; size = (journal c).found.size + (4 + length body) })
+      ∙ ap₂ (λ (j : Journal) (h : Head). state_by (Some side) j (is_opened_gate h.gate)) append_is_whole beside_is
+      ∙ ap (λ n. record (state_by (Some side) (journal c) (is_opened_gate (head c (other side)).gate)) { many = n; size = (journal c).found.size + (4 + length body) })
       (length-append (journal c).found.bodies (body ∷ []))
       ∙ ap (λ s. appended s body) (sym (state_at c side is))
 
   pub append_is_cut : IsAllOrNothing (append_writes (state_of c) body) c
   append_is_cut = subst (λ ws. IsAllOrNothing ws c) (sym planned)
-      (two_writes c (write (place side + p + 1) (body_bytes (journal_at c side))) (place side + p)
+      (two_writes c (write (bank_place side + p + 1) (body_bytes (journal_at c side))) (bank_place side + p)
       (omega (arith, long, room, place_low side, length-append body (255 ∷ []))) (omega (arith, long, room, place_low side))
       (λ torn size.
-      ap (λ m. journal (overwritten c m torn)) (add_assoc (place side) p 1)
+      ap (λ m. journal (overwritten c m torn)) (add_assoc (bank_place side) p 1)
       ∙ journal_inside c side (p + 1) torn long (omega (arith, room, size, length-append body (255 ∷ []))) is (omega arith)
       ∙ ap (λ f. record (journal_at c side) { found = f })
       (found_behind (bank c side) (head c side).version (length-bank c side long) good torn (omega (arith, room, size, length-append body (255 ∷ []))))

@@ -4,13 +4,13 @@ use Rattle.std.proofs.lemmas.List.{get_or_at}
 use Rattle.std.proofs.lemmas.Bool.{cases_Bool}
 use Rattle.std.proofs.lemmas.Bool.Decides.{nat_tests}
 use Rattle.swp_base.specs.Outside.{overwritten}
-use Rattle.journal_laws.specs.Writes.{Write, write, after, IsCut, FitIn, last_place}
-use Rattle.journal_laws.specs.Banks.{is_open}
+use Rattle.journal_laws.specs.Writes.{Write, write, after_writes, IsCut, FitIn, last_place}
+use Rattle.journal_laws.specs.Banks.{is_opened_gate}
 use Rattle.journal_laws.specs.Journal.{journal}
 use Rattle.journal_laws.specs.Operations.{outcome, IsAllOrNothing}
 use Rattle.journal_laws.proofs.Places.{length-overwritten}
 
-pub length-after : (writes : List Write) (c : List ℕ) → FitIn (length c) writes → length (after writes c) ≡ length c
+pub length-after : (writes : List Write) (c : List ℕ) → FitIn (length c) writes → length (after_writes writes c) ≡ length c
 length-after [] c fit = refl
 length-after (w ∷ writes) c fit =
     let size = length-overwritten c w.at w.bytes fit.0 in
@@ -41,17 +41,17 @@ module _ (c : List ℕ) (w : Write) (at : ℕ) (fits : w.at + length w.bytes ≤
 
   -- a body of any bytes, and then an open gate
   pub two_writes : ((torn : List ℕ) → length torn ≡ length w.bytes → journal (overwritten c w.at torn) ≡ journal c)
-      → ((gate : ℕ) → is_open gate ≡ false → journal (overwritten filled at (gate ∷ [])) ≡ journal c)
+      → ((gate : ℕ) → is_opened_gate gate ≡ false → journal (overwritten filled at (gate ∷ [])) ≡ journal c)
       → IsAllOrNothing (w ∷ write at (90 ∷ []) ∷ []) c
   two_writes body shut = record { fit = (fits, (omega arith, tt)); says = says }
     where
       gate_left : (gate : ℕ) (left : List ℕ) → left ≡ overwritten filled at (gate ∷ []) → journal left ≡ journal (outcome 1 (w ∷ write at (90 ∷ []) ∷ []) c left)
-      gate_left gate left is = by_gate (cases_Bool (is_open gate))
+      gate_left gate left is = by_gate (cases_Bool (is_opened_gate gate))
         where
-          told : is_open (slice_index left at) ≡ is_open gate
-          told = ap (λ l. is_open (slice_index l at)) is ∙ ap is_open (at_place filled at gate (omega (arith, length-filled)))
+          told : is_opened_gate (slice_index left at) ≡ is_opened_gate gate
+          told = ap (λ l. is_opened_gate (slice_index l at)) is ∙ ap is_opened_gate (at_place filled at gate (omega (arith, length-filled)))
 
-          by_gate : (is_open gate ≡ true) ⊎ (is_open gate ≡ false) → journal left ≡ journal (cond (is_open (slice_index left at)) (overwritten filled at (90 ∷ [])) c)
+          by_gate : (is_opened_gate gate ≡ true) ⊎ (is_opened_gate gate ≡ false) → journal left ≡ journal (cond (is_opened_gate (slice_index left at)) (overwritten filled at (90 ∷ [])) c)
           by_gate (inl opened) =
               ap journal (is ∙ ap (λ g. overwritten filled at (g ∷ [])) (eqb-true gate 90 opened))
               ∙ ap (λ b. journal (cond b (overwritten filled at (90 ∷ [])) c)) (sym (told ∙ opened))
@@ -70,7 +70,7 @@ pub more_writes : (c : List ℕ) (w next : Write) (later : List Write) → w.at 
 more_writes c w next later fits torn rest =
     record { fit = (fits, subst (λ n. FitIn n (next ∷ later)) (length-overwritten c w.at w.bytes fits) rest.fit); says = says }
   where
-    choose : (b : Bool) → journal (cond b (after (next ∷ later) (overwritten c w.at w.bytes)) (overwritten c w.at w.bytes)) ≡ journal (cond b (after (next ∷ later) (overwritten c w.at w.bytes)) c)
+    choose : (b : Bool) → journal (cond b (after_writes (next ∷ later) (overwritten c w.at w.bytes)) (overwritten c w.at w.bytes)) ≡ journal (cond b (after_writes (next ∷ later) (overwritten c w.at w.bytes)) c)
     choose true = refl
     choose false = torn w.bytes refl
 
@@ -83,8 +83,8 @@ more_writes c w next later fits torn rest =
     says : (k : ℕ) (left : List ℕ) → IsCut k (w ∷ next ∷ later) c left → journal left ≡ journal (outcome k (w ∷ next ∷ later) c left)
     says zero left cut =
         ap journal cut.2 ∙ torn cut.0 cut.1
-        ∙ ap (λ b. journal (cond (b && is_open (slice_index left (last_place (next ∷ later)))) (after (next ∷ later) (overwritten c w.at w.bytes)) c)) (sym (not_last (length later)))
+        ∙ ap (λ b. journal (cond (b && is_opened_gate (slice_index left (last_place (next ∷ later)))) (after_writes (next ∷ later) (overwritten c w.at w.bytes)) c)) (sym (not_last (length later)))
     says (suc k) left cut =
         rest.says k left cut
-        ∙ choose (k + 1 == length (next ∷ later) && is_open (slice_index left (last_place (next ∷ later))))
-        ∙ ap (λ b. journal (cond (b && is_open (slice_index left (last_place (next ∷ later)))) (after (next ∷ later) (overwritten c w.at w.bytes)) c)) (one_on k (length (next ∷ later)))
+        ∙ choose (k + 1 == length (next ∷ later) && is_opened_gate (slice_index left (last_place (next ∷ later))))
+        ∙ ap (λ b. journal (cond (b && is_opened_gate (slice_index left (last_place (next ∷ later)))) (after_writes (next ∷ later) (overwritten c w.at w.bytes)) c)) (one_on k (length (next ∷ later)))

@@ -1,11 +1,11 @@
 -- The memory of a started journal stays one.
 use Rattle.std.proofs.Common.{◌≡◌, ◌⊎◌, inl, inr, ℕ, ◌+◌, ◌-◌, ◌^◌, ◌≤◌, ◌==◌, ◌||◌, ◌&&◌, slice_index, min, Bool, true, false, cond, List, length, Option, Some, None, IsSome, IsTrue, option_map, sym, refl, ap, ◌∙◌, subst, arith}
 use Rattle.journal_laws.specs.declared.banks.Side.{Side}
-use Rattle.journal_laws.specs.Writes.{Write, after, IsCut, last_place}
+use Rattle.journal_laws.specs.Writes.{Write, after_writes, IsCut, last_place}
 use Rattle.journal_laws.specs.declared.state.State.{State}
-use Rattle.journal_laws.specs.Banks.{other, is_open, current}
+use Rattle.journal_laws.specs.Banks.{other, is_opened_gate, current}
 use Rattle.journal_laws.specs.Journal.{Journal, journal, state_of, count_of, count, IsSound, IsStarted}
-use Rattle.journal_laws.specs.Operations.{format_writes, append_writes, compact_writes, IsUnformatted, HasRoom, CanCompact, appended, compacted, outcome, IsAllOrNothing}
+use Rattle.journal_laws.specs.Operations.{format_writes, append_writes, compact_writes, IsUnformatted, HasRoomForBody, CanCompact, appended, compacted, outcome, IsAllOrNothing}
 use Rattle.journal_laws.proofs.InUse.{in_use_is, in_use_then}
 use Rattle.journal_laws.proofs.Cuts.{length-after, length-cut}
 use Rattle.journal_laws.proofs.Append.{one_more, bank_in_use, append_is_whole, append_state, append_is_cut}
@@ -28,24 +28,24 @@ good_now c started = (subst IsSome (sym (in_use_is c)) started.in_use, started.s
 version_2 : (j : Journal) → j.head.version ≡ 2 → j.found.is_bad ≡ false → IsSound j
 version_2 j new good = record { known = subst (λ v. IsTrue (v == 1 || v == 2)) (sym new) refl; good = good }
 
-after_started : (c : List ℕ) (writes : List Write) (j : Journal) → 65536 ≤ length c → IsAllOrNothing writes c → journal (after writes c) ≡ j → IsGood j
-    → IsStarted (after writes c)
-after_started c writes j long whole is good = started_from (after writes c) j (omega (arith, length-after writes c whole.fit)) is good
+after_started : (c : List ℕ) (writes : List Write) (j : Journal) → 65536 ≤ length c → IsAllOrNothing writes c → journal (after_writes writes c) ≡ j → IsGood j
+    → IsStarted (after_writes writes c)
+after_started c writes j long whole is good = started_from (after_writes writes c) j (omega (arith, length-after writes c whole.fit)) is good
 
-module _ (c body : List ℕ) (started : IsStarted c) (h : HasRoom (state_of c) body) where
+module _ (c body : List ℕ) (started : IsStarted c) (h : HasRoomForBody (state_of c) body) where
   abbrev used : (side : Side) × (current c ≡ Some side)
   used = bank_in_use (current c) started.in_use
 
   pub append_cut : IsAllOrNothing (append_writes (state_of c) body) c
   append_cut = append_is_cut c body started h used.0 used.1
 
-  pub append_whole : journal (after (append_writes (state_of c) body) c) ≡ one_more (journal c) body
+  pub append_whole : journal (after_writes (append_writes (state_of c) body) c) ≡ one_more (journal c) body
   append_whole = append_is_whole c body started h used.0 used.1
 
-  pub append_says : state_of (after (append_writes (state_of c) body) c) ≡ appended (state_of c) body
+  pub append_says : state_of (after_writes (append_writes (state_of c) body) c) ≡ appended (state_of c) body
   append_says = append_state c body started h used.0 used.1
 
-  pub append_started : IsStarted (after (append_writes (state_of c) body) c)
+  pub append_started : IsStarted (after_writes (append_writes (state_of c) body) c)
   append_started =
       after_started c (append_writes (state_of c) body) (one_more (journal c) body) started.size append_cut append_whole
       ((good_now c started).0, version_2 (one_more (journal c) body) h.version refl)
@@ -60,13 +60,13 @@ module _ (c : List ℕ) (bodies : List (List ℕ)) (started : IsStarted c) (h : 
   pub compact_cut : IsAllOrNothing (compact_writes (state_of c) bodies) c
   compact_cut = compact_is_cut c bodies started.size h side_now.0 side_now.1
 
-  pub compact_whole : journal (after (compact_writes (state_of c) bodies) c) ≡ snapshot_journal (state_of c) bodies
+  pub compact_whole : journal (after_writes (compact_writes (state_of c) bodies) c) ≡ snapshot_journal (state_of c) bodies
   compact_whole = compact_is_whole c bodies started.size h side_now.0 side_now.1
 
-  pub compact_says : state_of (after (compact_writes (state_of c) bodies) c) ≡ compacted (state_of c) bodies
+  pub compact_says : state_of (after_writes (compact_writes (state_of c) bodies) c) ≡ compacted (state_of c) bodies
   compact_says = compact_state c bodies started.size h side_now.0 side_now.1
 
-  pub compact_started : IsStarted (after (compact_writes (state_of c) bodies) c)
+  pub compact_started : IsStarted (after_writes (compact_writes (state_of c) bodies) c)
   compact_started =
       after_started c (compact_writes (state_of c) bodies) (snapshot_journal (state_of c) bodies) started.size compact_cut compact_whole
       (still_used (current c) started.in_use, version_2 (snapshot_journal (state_of c) bodies) refl refl)
@@ -81,17 +81,17 @@ compact_count s bodies = again (s.base + s.many - s.snapshot)
     again : (n : ℕ) → min (min n (2 ^ 32 - 1) + length bodies - length bodies) (2 ^ 32 - 1) ≡ min n (2 ^ 32 - 1)
     again n = omega arith
 
-pub format_started : (c : List ℕ) → IsUnformatted c → IsStarted (after format_writes c)
+pub format_started : (c : List ℕ) → IsUnformatted c → IsStarted (after_writes format_writes c)
 format_started c h = after_started c format_writes no_records h.size (format_is_cut c h) (format_is_whole c h) (refl, version_2 no_records refl refl)
 
-pub cut_started : (c : List ℕ) (writes : List Write) (k : ℕ) (left : List ℕ) → IsAllOrNothing writes c → IsStarted c → IsStarted (after writes c)
+pub cut_started : (c : List ℕ) (writes : List Write) (k : ℕ) (left : List ℕ) → IsAllOrNothing writes c → IsStarted c → IsStarted (after_writes writes c)
     → IsCut k writes c left → IsStarted left
 cut_started c writes k left whole before done cut =
     started_from left (journal (outcome k writes c left)) (omega (arith, before.size, length-cut k writes c left whole.fit cut)) (whole.says k left cut)
-    (either (k + 1 == length writes && is_open (slice_index left (last_place writes))))
+    (either (k + 1 == length writes && is_opened_gate (slice_index left (last_place writes))))
   where
-    either : (b : Bool) → IsGood (journal (cond b (after writes c) c))
-    either true = good_now (after writes c) done
+    either : (b : Bool) → IsGood (journal (cond b (after_writes writes c) c))
+    either true = good_now (after_writes writes c) done
     either false = good_now c before
 
 still_unformatted : (c left : List ℕ) → length left ≡ length c → IsUnformatted c → journal left ≡ journal c → IsUnformatted left
@@ -99,7 +99,7 @@ still_unformatted c left size h says =
     record { size = omega (arith, size, h.size); closed = in_use_then left (journal c) None says (in_use_is c ∙ h.closed) }
 
 pub format_left : (c : List ℕ) (k : ℕ) (left : List ℕ) → IsUnformatted c → IsCut k format_writes c left → IsUnformatted left ⊎ IsStarted left
-format_left c k left h cut = either (k + 1 == length format_writes && is_open (slice_index left (last_place format_writes))) (whole.says k left cut)
+format_left c k left h cut = either (k + 1 == length format_writes && is_opened_gate (slice_index left (last_place format_writes))) (whole.says k left cut)
   where
     whole : IsAllOrNothing format_writes c
     whole = format_is_cut c h
@@ -107,7 +107,7 @@ format_left c k left h cut = either (k + 1 == length format_writes && is_open (s
     size : length left ≡ length c
     size = length-cut k format_writes c left whole.fit cut
 
-    either : (b : Bool) → journal left ≡ journal (cond b (after format_writes c) c) → IsUnformatted left ⊎ IsStarted left
+    either : (b : Bool) → journal left ≡ journal (cond b (after_writes format_writes c) c) → IsUnformatted left ⊎ IsStarted left
     either true says = inr (started_from left no_records (omega (arith, size, h.size)) (says ∙ format_is_whole c h) (refl, version_2 no_records refl refl))
     either false says = inl (still_unformatted c left size h says)
 

@@ -6,11 +6,11 @@ use Rattle.std.proofs.lemmas.Nat.{from_be_bytes-to_be_bytes_2, from_be_bytes-to_
 use Rattle.std.proofs.lemmas.List.{length-replicate, take-replicate, drop-replicate}
 use Rattle.std.proofs.lemmas.Bool.{cases_Bool}
 use Rattle.swp_base.specs.Outside.{overwritten}
-use Rattle.journal_laws.specs.Writes.{Write, write, after}
+use Rattle.journal_laws.specs.Writes.{Write, write, after_writes}
 use Rattle.journal_laws.specs.declared.banks.Side.{Side}
 use Rattle.journal_laws.specs.declared.state.Head.{Head}
 use Rattle.journal_laws.specs.declared.state.State.{State}
-use Rattle.journal_laws.specs.Banks.{other, place, bank, head, head_of, is_open, newer, current}
+use Rattle.journal_laws.specs.Banks.{other, bank_place, bank, head, head_of, is_opened_gate, newer, current}
 use Rattle.journal_laws.specs.declared.banks.Side.TheVariants.{First, Second}
 use Rattle.journal_laws.specs.Records.{IsBody, behind, found_from, records_bytes, used}
 use Rattle.journal_laws.specs.Journal.{Journal, found_in, journal_at, journal, state_by, state_of, count_of, count}
@@ -49,20 +49,20 @@ gate-head c side = get_or-take 12 (bank c side) 0 0 (omega arith)
 -- ---- a bank of a memory
 
 module _ (c : List ℕ) (side : Side) (long : 65536 ≤ length c) where
-  torn_gate : (torn : List ℕ) → 1 + length torn ≤ 32768 → (head (overwritten c (place side + 1) torn) side).gate ≡ (head c side).gate
+  torn_gate : (torn : List ℕ) → 1 + length torn ≤ 32768 → (head (overwritten c (bank_place side + 1) torn) side).gate ≡ (head c side).gate
   torn_gate torn fits =
-      gate-head (overwritten c (place side + 1) torn) side ∙ ap (λ l. slice_index l 0) (bank_here c side 1 torn long fits)
+      gate-head (overwritten c (bank_place side + 1) torn) side ∙ ap (λ l. slice_index l 0) (bank_here c side 1 torn long fits)
       ∙ keeps_first (bank c side) torn (omega (arith, length-bank c side long)) ∙ sym (gate-head c side)
 
-  bank_at_gate : (gate : ℕ) (bytes : List ℕ) → 1 + length bytes ≤ 32768 → bank (overwritten c (place side) (gate ∷ bytes)) side ≡ overwritten (bank c side) 0 (gate ∷ bytes)
+  bank_at_gate : (gate : ℕ) (bytes : List ℕ) → 1 + length bytes ≤ 32768 → bank (overwritten c (bank_place side) (gate ∷ bytes)) side ≡ overwritten (bank c side) 0 (gate ∷ bytes)
   bank_at_gate gate bytes fits =
-      ap (λ m. bank (overwritten c m (gate ∷ bytes)) side) (sym (add-zero (place side))) ∙ bank_here c side 0 (gate ∷ bytes) long (omega arith)
+      ap (λ m. bank (overwritten c m (gate ∷ bytes)) side) (sym (add-zero (bank_place side))) ∙ bank_here c side 0 (gate ∷ bytes) long (omega arith)
 
-  new_gate : (gate : ℕ) (bytes : List ℕ) → 1 + length bytes ≤ 32768 → (head (overwritten c (place side) (gate ∷ bytes)) side).gate ≡ gate
-  new_gate gate bytes fits = gate-head (overwritten c (place side) (gate ∷ bytes)) side ∙ ap (λ l. slice_index l 0) (bank_at_gate gate bytes fits)
+  new_gate : (gate : ℕ) (bytes : List ℕ) → 1 + length bytes ≤ 32768 → (head (overwritten c (bank_place side) (gate ∷ bytes)) side).gate ≡ gate
+  new_gate gate bytes fits = gate-head (overwritten c (bank_place side) (gate ∷ bytes)) side ∙ ap (λ l. slice_index l 0) (bank_at_gate gate bytes fits)
 
   opened_bank : (generation base : ℕ) (bodies : List (List ℕ)) → generation < 2 ^ 32 → base < 2 ^ 32 → AllByRecursion IsBody bodies → used bodies ≤ 2560
-      → journal_at (overwritten c (place side) (90 ∷ bank_bytes generation base bodies)) side
+      → journal_at (overwritten c (bank_place side) (90 ∷ bank_bytes generation base bodies)) side
       ≡ record {
         in_use = Some side;
         head = record { gate = 90; version = 2; generation = generation; base = base; snapshot = length bodies };
@@ -92,42 +92,42 @@ module _ (c : List ℕ) (h : IsUnformatted c) where
   abbrev format_bytes : List ℕ
   format_bytes = bank_bytes 1 0 []
 
-  second_stays : (i : ℕ) (bytes : List ℕ) → i + length bytes ≤ 32768 → head (overwritten c (place First + i) bytes) Second ≡ head c Second
+  second_stays : (i : ℕ) (bytes : List ℕ) → i + length bytes ≤ 32768 → head (overwritten c (bank_place First + i) bytes) Second ≡ head c Second
   second_stays i bytes fits = ap (λ l. head_of (take 12 l)) (bank_beside c First i bytes h.size fits)
 
   unused : (d : List ℕ) → current d ≡ None → journal d ≡ journal c
   unused d is = no_journal d is ∙ sym (no_journal c h.closed)
 
-  format_opens : current (after format_writes c) ≡ Some First
+  format_opens : current (after_writes format_writes c) ≡ Some First
   format_opens =
-      let d = overwritten c (place First) (90 ∷ format_bytes) in
-      ap current (in_front c (place First) 90 format_bytes (omega (arith, h.size)))
-      ∙ first_opens c d h.closed (ap is_open (new_gate c First h.size 90 format_bytes (omega arith))) (second_stays 0 (90 ∷ format_bytes) (omega arith))
+      let d = overwritten c (bank_place First) (90 ∷ format_bytes) in
+      ap current (in_front c (bank_place First) 90 format_bytes (omega (arith, h.size)))
+      ∙ first_opens c d h.closed (ap is_opened_gate (new_gate c First h.size 90 format_bytes (omega arith))) (second_stays 0 (90 ∷ format_bytes) (omega arith))
 
-  pub format_is_whole : journal (after format_writes c) ≡ no_records
+  pub format_is_whole : journal (after_writes format_writes c) ≡ no_records
   format_is_whole =
-      let d = overwritten c (place First) (90 ∷ format_bytes) in
-      let opened = first_opens c d h.closed (ap is_open (new_gate c First h.size 90 format_bytes (omega arith))) (second_stays 0 (90 ∷ format_bytes) (omega arith)) in
-      ap journal (in_front c (place First) 90 format_bytes (omega (arith, h.size)))
+      let d = overwritten c (bank_place First) (90 ∷ format_bytes) in
+      let opened = first_opens c d h.closed (ap is_opened_gate (new_gate c First h.size 90 format_bytes (omega arith))) (second_stays 0 (90 ∷ format_bytes) (omega arith)) in
+      ap journal (in_front c (bank_place First) 90 format_bytes (omega (arith, h.size)))
       ∙ journal_in_use d First opened
       ∙ opened_bank c First h.size 1 0 [] (omega arith) (omega arith) tt (omega arith)
 
-  pub format_state : state_of (after format_writes c) ≡ formatted
+  pub format_state : state_of (after_writes format_writes c) ≡ formatted
   format_state =
-      state_at (after format_writes c) First format_opens
+      state_at (after_writes format_writes c) First format_opens
       ∙ ap₂ (λ (j : Journal) (b : Bool). state_by (Some First) j b) format_is_whole
-      (ap (λ d. is_open (head d Second).gate) (in_front c (place First) 90 format_bytes (omega (arith, h.size)))
-      ∙ ap (λ (h : Head). is_open h.gate) (second_stays 0 (90 ∷ format_bytes) (omega arith))
+      (ap (λ d. is_opened_gate (head d Second).gate) (in_front c (bank_place First) 90 format_bytes (omega (arith, h.size)))
+      ∙ ap (λ (h : Head). is_opened_gate h.gate) (second_stays 0 (90 ∷ format_bytes) (omega arith))
       ∙ closed_second c h.closed)
 
   pub format_is_cut : IsAllOrNothing format_writes c
   format_is_cut =
-      two_writes c (write (place First + 1) format_bytes) (place First) (omega (arith, h.size)) (omega (arith, h.size))
-      (λ torn size. unused (overwritten c (place First + 1) torn) (still_none c (overwritten c (place First + 1) torn) h.closed
-      (ap is_open (torn_gate c First h.size torn (omega (arith, size))) ∙ closed_first c h.closed) (second_stays 1 torn (omega (arith, size)))))
-      (λ gate closed. ap journal (in_front c (place First) gate format_bytes (omega (arith, h.size)))
-      ∙ unused (overwritten c (place First) (gate ∷ format_bytes)) (still_none c (overwritten c (place First) (gate ∷ format_bytes)) h.closed
-      (ap is_open (new_gate c First h.size gate format_bytes (omega arith)) ∙ closed) (second_stays 0 (gate ∷ format_bytes) (omega arith))))
+      two_writes c (write (bank_place First + 1) format_bytes) (bank_place First) (omega (arith, h.size)) (omega (arith, h.size))
+      (λ torn size. unused (overwritten c (bank_place First + 1) torn) (still_none c (overwritten c (bank_place First + 1) torn) h.closed
+      (ap is_opened_gate (torn_gate c First h.size torn (omega (arith, size))) ∙ closed_first c h.closed) (second_stays 1 torn (omega (arith, size)))))
+      (λ gate closed. ap journal (in_front c (bank_place First) gate format_bytes (omega (arith, h.size)))
+      ∙ unused (overwritten c (bank_place First) (gate ∷ format_bytes)) (still_none c (overwritten c (bank_place First) (gate ∷ format_bytes)) h.closed
+      (ap is_opened_gate (new_gate c First h.size gate format_bytes (omega arith)) ∙ closed) (second_stays 0 (gate ∷ format_bytes) (omega arith))))
 
 -- a memory of FF
 pub fresh : (size : ℕ) → 65536 ≤ size → IsUnformatted (replicate size 255)
@@ -141,7 +141,7 @@ fresh size long = record { size = omega (arith, length-replicate {A = ℕ} size 
 
 -- ---- the other bank, whose gate is closed
 
-module _ (c : List ℕ) (side : Side) (long : 65536 ≤ length c) (is : current c ≡ Some side) (shut : is_open (head c (other side)).gate ≡ false)
+module _ (c : List ℕ) (side : Side) (long : 65536 ≤ length c) (is : current c ≡ Some side) (shut : is_opened_gate (head c (other side)).gate ≡ false)
     (generation base : ℕ) (bodies : List (List ℕ)) (low_generation : generation < 2 ^ 32) (low_base : base < 2 ^ 32) (short : AllByRecursion IsBody bodies)
     (room : used bodies ≤ 2560) (later : (head c side).generation < generation) where
   abbrev bytes : List ℕ
@@ -150,46 +150,46 @@ module _ (c : List ℕ) (side : Side) (long : 65536 ≤ length c) (is : current 
   size : length bytes ≡ 12 + used bodies
   size = length-bank_bytes generation base bodies
 
-  within : place (other side) + 32768 ≤ length c
+  within : bank_place (other side) + 32768 ≤ length c
   within = omega (arith, long, place_low (other side))
 
-  across : (gate : ℕ) (bytes : List ℕ) → 1 + length bytes ≤ 32768 → head (overwritten c (place (other side)) (gate ∷ bytes)) side ≡ head c side
-  across gate bytes fits = ap (λ m. head (overwritten c m (gate ∷ bytes)) side) (sym (add-zero (place (other side)))) ∙ head_across c side 0 (gate ∷ bytes) long (omega arith)
+  across : (gate : ℕ) (bytes : List ℕ) → 1 + length bytes ≤ 32768 → head (overwritten c (bank_place (other side)) (gate ∷ bytes)) side ≡ head c side
+  across gate bytes fits = ap (λ m. head (overwritten c m (gate ∷ bytes)) side) (sym (add-zero (bank_place (other side)))) ∙ head_across c side 0 (gate ∷ bytes) long (omega arith)
 
-  filled_is_whole : journal (after (open_bank (place (other side)) generation base bodies) c)
+  filled_is_whole : journal (after_writes (open_bank (bank_place (other side)) generation base bodies) c)
       ≡ record {
         in_use = Some (other side);
         head = record { gate = 90; version = 2; generation = generation; base = base; snapshot = length bodies };
         found = record { bodies = bodies; size = used bodies; is_bad = false };
       }
   filled_is_whole =
-      let d = overwritten c (place (other side)) (90 ∷ bytes) in
+      let d = overwritten c (bank_place (other side)) (90 ∷ bytes) in
       let there = opened_bank c (other side) long generation base bodies low_generation low_base short room in
-      let moved = moves c d side is (across 90 bytes (omega (arith, size, room))) (ap (λ (j : Journal). is_open j.head.gate) there) (subst (λ n. (head c side).generation < n) (sym (ap (λ (j : Journal). j.head.generation) there)) later) in
-      ap journal (in_front c (place (other side)) 90 bytes (omega (arith, within)))
+      let moved = moves c d side is (across 90 bytes (omega (arith, size, room))) (ap (λ (j : Journal). is_opened_gate j.head.gate) there) (subst (λ n. (head c side).generation < n) (sym (ap (λ (j : Journal). j.head.generation) there)) later) in
+      ap journal (in_front c (bank_place (other side)) 90 bytes (omega (arith, within)))
       ∙ journal_in_use d (other side) moved
       ∙ there
 
-  filled_beside : is_open (head (after (open_bank (place (other side)) generation base bodies) c) side).gate ≡ true
+  filled_beside : is_opened_gate (head (after_writes (open_bank (bank_place (other side)) generation base bodies) c) side).gate ≡ true
   filled_beside =
-      ap (λ d. is_open (head d side).gate) (in_front c (place (other side)) 90 bytes (omega (arith, within)))
-      ∙ ap (λ (h : Head). is_open h.gate) (across 90 bytes (omega (arith, size, room)))
+      ap (λ d. is_opened_gate (head d side).gate) (in_front c (bank_place (other side)) 90 bytes (omega (arith, within)))
+      ∙ ap (λ (h : Head). is_opened_gate h.gate) (across 90 bytes (omega (arith, size, room)))
       ∙ gate_is_open c c side is
 
-  filled_is_cut : IsAllOrNothing (open_bank (place (other side)) generation base bodies) c
+  filled_is_cut : IsAllOrNothing (open_bank (bank_place (other side)) generation base bodies) c
   filled_is_cut =
-      two_writes c (write (place (other side) + 1) bytes) (place (other side)) (omega (arith, within, size, room)) (omega (arith, within))
+      two_writes c (write (bank_place (other side) + 1) bytes) (bank_place (other side)) (omega (arith, within, size, room)) (omega (arith, within))
       (λ torn length_is. (journal_across c side 1 torn long (omega (arith, length_is, size, room)) is
-      (ap is_open (torn_gate c (other side) long torn (omega (arith, length_is, size, room))) ∙ shut)).1)
-      (λ gate closed. ap journal (in_front c (place (other side)) gate bytes (omega (arith, within)))
+      (ap is_opened_gate (torn_gate c (other side) long torn (omega (arith, length_is, size, room))) ∙ shut)).1)
+      (λ gate closed. ap journal (in_front c (bank_place (other side)) gate bytes (omega (arith, within)))
       ∙ closed_again gate bytes closed (omega (arith, size, room)))
     where
-      closed_again : (gate : ℕ) (bytes : List ℕ) → is_open gate ≡ false → 1 + length bytes ≤ 32768 → journal (overwritten c (place (other side)) (gate ∷ bytes)) ≡ journal c
+      closed_again : (gate : ℕ) (bytes : List ℕ) → is_opened_gate gate ≡ false → 1 + length bytes ≤ 32768 → journal (overwritten c (bank_place (other side)) (gate ∷ bytes)) ≡ journal c
       closed_again gate bytes closed fits =
-          ap (λ m. journal (overwritten c m (gate ∷ bytes))) (sym (add-zero (place (other side))))
+          ap (λ m. journal (overwritten c m (gate ∷ bytes))) (sym (add-zero (bank_place (other side))))
           ∙ (journal_across c side 0 (gate ∷ bytes) long (omega arith) is
-          (ap (λ m. is_open (head (overwritten c m (gate ∷ bytes)) (other side)).gate) (add-zero (place (other side)))
-          ∙ ap is_open (new_gate c (other side) long gate bytes fits) ∙ closed)).1
+          (ap (λ m. is_opened_gate (head (overwritten c m (gate ∷ bytes)) (other side)).gate) (add-zero (bank_place (other side)))
+          ∙ ap is_opened_gate (new_gate c (other side) long gate bytes fits) ∙ closed)).1
 
 -- ---- a compaction
 
@@ -199,30 +199,30 @@ same_byte (x ∷ l) gate some is = ap (λ g. g ∷ l) (sym is)
 
 module _ (c : List ℕ) (side : Side) (long : 65536 ≤ length c) (is : current c ≡ Some side) where
   -- a closed gate is written over the other bank's
-  closed_then : (gate : ℕ) → is_open gate ≡ false
-      → (current (overwritten c (place (other side)) (gate ∷ [])) ≡ Some side) × (journal (overwritten c (place (other side)) (gate ∷ [])) ≡ journal c)
-  closed_then gate closed = subst (λ m. (current (overwritten c m (gate ∷ [])) ≡ Some side) × (journal (overwritten c m (gate ∷ [])) ≡ journal c)) (add-zero (place (other side)))
+  closed_then : (gate : ℕ) → is_opened_gate gate ≡ false
+      → (current (overwritten c (bank_place (other side)) (gate ∷ [])) ≡ Some side) × (journal (overwritten c (bank_place (other side)) (gate ∷ [])) ≡ journal c)
+  closed_then gate closed = subst (λ m. (current (overwritten c m (gate ∷ [])) ≡ Some side) × (journal (overwritten c m (gate ∷ [])) ≡ journal c)) (add-zero (bank_place (other side)))
       (journal_across c side 0 (gate ∷ []) long (omega arith) is
-      (ap (λ m. is_open (head (overwritten c m (gate ∷ [])) (other side)).gate) (add-zero (place (other side)))
-      ∙ ap is_open (new_gate c (other side) long gate [] (omega arith)) ∙ closed))
+      (ap (λ m. is_opened_gate (head (overwritten c m (gate ∷ [])) (other side)).gate) (add-zero (bank_place (other side)))
+      ∙ ap is_opened_gate (new_gate c (other side) long gate [] (omega arith)) ∙ closed))
 
   -- an open one is written over an open one
-  opened_again : is_open (head c (other side)).gate ≡ true → journal (overwritten c (place (other side)) (90 ∷ [])) ≡ journal c
+  opened_again : is_opened_gate (head c (other side)).gate ≡ true → journal (overwritten c (bank_place (other side)) (90 ∷ [])) ≡ journal c
   opened_again opened =
-      let d = overwritten c (place (other side)) (90 ∷ []) in
+      let d = overwritten c (bank_place (other side)) (90 ∷ []) in
       let gate : slice_index (bank c (other side)) 0 ≡ 90 = sym (gate-head c (other side)) ∙ eqb-true (head c (other side)).gate 90 opened in
       let there : bank d (other side) ≡ bank c (other side) = bank_at_gate c (other side) long 90 [] (omega arith) ∙ same_byte (bank c (other side)) 90 (omega (arith, length-bank c (other side) long)) gate in
-      let here : bank d side ≡ bank c side = ap (λ m. bank (overwritten c m (90 ∷ [])) side) (sym (add-zero (place (other side)))) ∙ bank_across c side 0 (90 ∷ []) long (omega arith) in
+      let here : bank d side ≡ bank c side = ap (λ m. bank (overwritten c m (90 ∷ [])) side) (sym (add-zero (bank_place (other side)))) ∙ bank_across c side 0 (90 ∷ []) long (omega arith) in
       let still : current d ≡ Some side = same_current c d side (ap (λ l. head_of (take 12 l)) here) (ap (λ l. head_of (take 12 l)) there) ∙ is in
       same_journal c d side is still here
 
   -- any byte
-  gate_written : is_open (head c (other side)).gate ≡ true → (torn : List ℕ) → length torn ≡ 1 → journal (overwritten c (place (other side)) torn) ≡ journal c
+  gate_written : is_opened_gate (head c (other side)).gate ≡ true → (torn : List ℕ) → length torn ≡ 1 → journal (overwritten c (bank_place (other side)) torn) ≡ journal c
   gate_written opened torn one =
-      ap (λ l. journal (overwritten c (place (other side)) l)) (one_byte torn one) ∙ by_gate (cases_Bool (is_open (get_or torn 0 0)))
+      ap (λ l. journal (overwritten c (bank_place (other side)) l)) (one_byte torn one) ∙ by_gate (cases_Bool (is_opened_gate (get_or torn 0 0)))
     where
-      by_gate : (is_open (get_or torn 0 0) ≡ true) ⊎ (is_open (get_or torn 0 0) ≡ false) → journal (overwritten c (place (other side)) (get_or torn 0 0 ∷ [])) ≡ journal c
-      by_gate (inl open_gate) = ap (λ g. journal (overwritten c (place (other side)) (g ∷ []))) (eqb-true (get_or torn 0 0) 90 open_gate) ∙ opened_again opened
+      by_gate : (is_opened_gate (get_or torn 0 0) ≡ true) ⊎ (is_opened_gate (get_or torn 0 0) ≡ false) → journal (overwritten c (bank_place (other side)) (get_or torn 0 0 ∷ [])) ≡ journal c
+      by_gate (inl open_gate) = ap (λ g. journal (overwritten c (bank_place (other side)) (g ∷ []))) (eqb-true (get_or torn 0 0) 90 open_gate) ∙ opened_again opened
       by_gate (inr closed) = (closed_then (get_or torn 0 0) closed).1
 
 -- what it says with the records of a snapshot
@@ -250,20 +250,20 @@ module _ (c : List ℕ) (bodies : List (List ℕ)) (long : 65536 ≤ length c) (
       below n = omega arith
 
   abbrev filling : List Write
-  filling = open_bank (place (other side)) generation (count c) bodies
+  filling = open_bank (bank_place (other side)) generation (count c) bodies
 
   abbrev closing : Bool → List Write
-  closing opened = cond opened (write (place (other side)) (255 ∷ []) ∷ []) []
+  closing opened = cond opened (write (bank_place (other side)) (255 ∷ []) ∷ []) []
 
   abbrev by_state : State → List Write
   by_state s = compact_writes s bodies
 
-  planned : (opened : Bool) → is_open (head c (other side)).gate ≡ opened → compact_writes (state_of c) bodies ≡ closing opened ++ filling
+  planned : (opened : Bool) → is_opened_gate (head c (other side)).gate ≡ opened → compact_writes (state_of c) bodies ≡ closing opened ++ filling
   planned opened gate =
       ap by_state (state_at c side is)
-      ∙ ap (λ (j : Journal). by_state (state_by (Some side) j (is_open (head c (other side)).gate))) seen
-      ∙ ap (λ b. closing b ++ open_bank (place (other side)) generation (count_of (state_by (Some side) (journal_at c side) b)) bodies) gate
-      ∙ ap (λ (j : Journal). closing opened ++ open_bank (place (other side)) generation (count_of (state_by (Some side) j opened)) bodies) (sym seen)
+      ∙ ap (λ (j : Journal). by_state (state_by (Some side) j (is_opened_gate (head c (other side)).gate))) seen
+      ∙ ap (λ b. closing b ++ open_bank (bank_place (other side)) generation (count_of (state_by (Some side) (journal_at c side) b)) bodies) gate
+      ∙ ap (λ (j : Journal). closing opened ++ open_bank (bank_place (other side)) generation (count_of (state_by (Some side) j opened)) bodies) (sym seen)
 
   abbrev made : Journal
   made = record {
@@ -281,55 +281,55 @@ module _ (c : List ℕ) (bodies : List (List ℕ)) (long : 65536 ≤ length c) (
 
   -- the memory with the other bank closed
   abbrev c1 : List ℕ
-  c1 = overwritten c (place (other side)) (255 ∷ [])
+  c1 = overwritten c (bank_place (other side)) (255 ∷ [])
 
   long1 : 65536 ≤ length c1
-  long1 = omega (arith, long, length-overwritten c (place (other side)) (255 ∷ []) (omega (arith, long, place_low (other side))))
+  long1 = omega (arith, long, length-overwritten c (bank_place (other side)) (255 ∷ []) (omega (arith, long, place_low (other side))))
 
   is1 : current c1 ≡ Some side
   is1 = (closed_then c side long is 255 refl).0
 
-  shut1 : is_open (head c1 (other side)).gate ≡ false
-  shut1 = ap is_open (new_gate c (other side) long 255 [] (omega arith))
+  shut1 : is_opened_gate (head c1 (other side)).gate ≡ false
+  shut1 = ap is_opened_gate (new_gate c (other side) long 255 [] (omega arith))
 
   later1 : (head c1 side).generation < generation
   later1 =
-      let same = ap (λ m. (head (overwritten c m (255 ∷ [])) side).generation) (sym (add-zero (place (other side)))) ∙ ap (λ (h : Head). h.generation) (head_across c side 0 (255 ∷ []) long (omega arith)) in
+      let same = ap (λ m. (head (overwritten c m (255 ∷ [])) side).generation) (sym (add-zero (bank_place (other side)))) ∙ ap (λ (h : Head). h.generation) (head_across c side 0 (255 ∷ []) long (omega arith)) in
       subst (λ n. n < generation) (sym same) (omega arith)
 
-  pub compact_is_whole : journal (after (compact_writes (state_of c) bodies) c) ≡ snapshot_journal (state_of c) bodies
-  compact_is_whole = by_gate (cases_Bool (is_open (head c (other side)).gate)) ∙ sym made_is
+  pub compact_is_whole : journal (after_writes (compact_writes (state_of c) bodies) c) ≡ snapshot_journal (state_of c) bodies
+  compact_is_whole = by_gate (cases_Bool (is_opened_gate (head c (other side)).gate)) ∙ sym made_is
     where
-      by_gate : (is_open (head c (other side)).gate ≡ true) ⊎ (is_open (head c (other side)).gate ≡ false) → journal (after (compact_writes (state_of c) bodies) c) ≡ made
-      by_gate (inl opened) = ap (λ ws. journal (after ws c)) (planned true opened) ∙ filled_is_whole c1 side long1 is1 shut1 generation (count c) bodies low low_count h.short h.room later1
-      by_gate (inr shut) = ap (λ ws. journal (after ws c)) (planned false shut) ∙ filled_is_whole c side long is shut generation (count c) bodies low low_count h.short h.room (omega arith)
+      by_gate : (is_opened_gate (head c (other side)).gate ≡ true) ⊎ (is_opened_gate (head c (other side)).gate ≡ false) → journal (after_writes (compact_writes (state_of c) bodies) c) ≡ made
+      by_gate (inl opened) = ap (λ ws. journal (after_writes ws c)) (planned true opened) ∙ filled_is_whole c1 side long1 is1 shut1 generation (count c) bodies low low_count h.short h.room later1
+      by_gate (inr shut) = ap (λ ws. journal (after_writes ws c)) (planned false shut) ∙ filled_is_whole c side long is shut generation (count c) bodies low low_count h.short h.room (omega arith)
 
-  beside_is : is_open (head (after (compact_writes (state_of c) bodies) c) side).gate ≡ true
-  beside_is = by_gate (cases_Bool (is_open (head c (other side)).gate))
+  beside_is : is_opened_gate (head (after_writes (compact_writes (state_of c) bodies) c) side).gate ≡ true
+  beside_is = by_gate (cases_Bool (is_opened_gate (head c (other side)).gate))
     where
-      by_gate : (is_open (head c (other side)).gate ≡ true) ⊎ (is_open (head c (other side)).gate ≡ false)
-          → is_open (head (after (compact_writes (state_of c) bodies) c) side).gate ≡ true
-      by_gate (inl opened) = ap (λ ws. is_open (head (after ws c) side).gate) (planned true opened)
+      by_gate : (is_opened_gate (head c (other side)).gate ≡ true) ⊎ (is_opened_gate (head c (other side)).gate ≡ false)
+          → is_opened_gate (head (after_writes (compact_writes (state_of c) bodies) c) side).gate ≡ true
+      by_gate (inl opened) = ap (λ ws. is_opened_gate (head (after_writes ws c) side).gate) (planned true opened)
           ∙ filled_beside c1 side long1 is1 shut1 generation (count c) bodies low low_count h.short h.room later1
-      by_gate (inr shut) = ap (λ ws. is_open (head (after ws c) side).gate) (planned false shut)
+      by_gate (inr shut) = ap (λ ws. is_opened_gate (head (after_writes ws c) side).gate) (planned false shut)
           ∙ filled_beside c side long is shut generation (count c) bodies low low_count h.short h.room (omega arith)
 
-  pub compact_state : state_of (after (compact_writes (state_of c) bodies) c) ≡ compacted (state_of c) bodies
+  pub compact_state : state_of (after_writes (compact_writes (state_of c) bodies) c) ≡ compacted (state_of c) bodies
   compact_state =
-      let d = after (compact_writes (state_of c) bodies) c in
+      let d = after_writes (compact_writes (state_of c) bodies) c in
       let moved : current d ≡ Some (other side) = in_use_then d made (Some (other side)) (compact_is_whole ∙ made_is) refl in
       state_at d (other side) moved
       ∙ ap₂ (λ (j : Journal) (b : Bool). state_by (Some (other side)) j b) (compact_is_whole ∙ made_is)
-      (ap (λ s. is_open (head d s).gate) (other_other side) ∙ beside_is)
+      (ap (λ s. is_opened_gate (head d s).gate) (other_other side) ∙ beside_is)
       ∙ ap₂ (λ (o : Option Side) (j : Journal). record (compacted (state_of c) bodies) { in_use = option_map other o; generation = j.head.generation + 1 })
       (sym is) (sym seen)
 
   pub compact_is_cut : IsAllOrNothing (compact_writes (state_of c) bodies) c
-  compact_is_cut = by_gate (cases_Bool (is_open (head c (other side)).gate))
+  compact_is_cut = by_gate (cases_Bool (is_opened_gate (head c (other side)).gate))
     where
-      by_gate : (is_open (head c (other side)).gate ≡ true) ⊎ (is_open (head c (other side)).gate ≡ false) → IsAllOrNothing (compact_writes (state_of c) bodies) c
+      by_gate : (is_opened_gate (head c (other side)).gate ≡ true) ⊎ (is_opened_gate (head c (other side)).gate ≡ false) → IsAllOrNothing (compact_writes (state_of c) bodies) c
       by_gate (inl opened) = subst (λ ws. IsAllOrNothing ws c) (sym (planned true opened))
-          (more_writes c (write (place (other side)) (255 ∷ [])) (write (place (other side) + 1) (bank_bytes generation (count c) bodies)) (write (place (other side)) (90 ∷ []) ∷ [])
+          (more_writes c (write (bank_place (other side)) (255 ∷ [])) (write (bank_place (other side) + 1) (bank_bytes generation (count c) bodies)) (write (bank_place (other side)) (90 ∷ []) ∷ [])
           (omega (arith, long, place_low (other side))) (gate_written c side long is opened)
           (filled_is_cut c1 side long1 is1 shut1 generation (count c) bodies low low_count h.short h.room later1))
       by_gate (inr shut) = subst (λ ws. IsAllOrNothing ws c) (sym (planned false shut))

@@ -4,7 +4,7 @@ use Rattle.std.proofs.Math.Seq.{take-append-add, drop-append-add}
 use Rattle.std.proofs.lemmas.List.{take-append-le, drop-append-le}
 use Rattle.swp_base.specs.Outside.{overwritten}
 use Rattle.journal_laws.specs.declared.banks.Side.{Side}
-use Rattle.journal_laws.specs.Banks.{other, place, bank}
+use Rattle.journal_laws.specs.Banks.{other, bank_place, bank}
 use Rattle.journal_laws.specs.declared.banks.Side.TheVariants.{First, Second}
 
 pub length-overwritten : (c : List ℕ) (i : ℕ) (bytes : List ℕ) → i + length bytes ≤ length c → length (overwritten c i bytes) ≡ length c
@@ -53,7 +53,7 @@ length-bank c First long = omega (arith, length-take 32768 c)
 length-bank c Second long = omega (arith, length-take 32768 (drop 32768 c), length-drop 32768 c)
 
 -- the bank that is written
-pub bank_here : (c : List ℕ) (side : Side) (i : ℕ) (bytes : List ℕ) → 65536 ≤ length c → i + length bytes ≤ 32768 → bank (overwritten c (place side + i) bytes) side ≡ overwritten (bank c side) i bytes
+pub bank_here : (c : List ℕ) (side : Side) (i : ℕ) (bytes : List ℕ) → 65536 ≤ length c → i + length bytes ≤ 32768 → bank (overwritten c (bank_place side + i) bytes) side ≡ overwritten (bank c side) i bytes
 bank_here c First i bytes long fits =
     ap (λ m. take 32768 (overwritten c m bytes)) (zero-add i) ∙ take-overwritten c 32768 i bytes fits (omega arith)
 bank_here c Second i bytes long fits =
@@ -62,7 +62,7 @@ bank_here c Second i bytes long fits =
     ∙ take-overwritten (drop 32768 c) 32768 i bytes fits (omega (arith, length-drop 32768 c))
 
 -- and the other one
-pub bank_beside : (c : List ℕ) (side : Side) (i : ℕ) (bytes : List ℕ) → 65536 ≤ length c → i + length bytes ≤ 32768 → bank (overwritten c (place side + i) bytes) (other side) ≡ bank c (other side)
+pub bank_beside : (c : List ℕ) (side : Side) (i : ℕ) (bytes : List ℕ) → 65536 ≤ length c → i + length bytes ≤ 32768 → bank (overwritten c (bank_place side + i) bytes) (other side) ≡ bank c (other side)
 bank_beside c First i bytes long fits =
     ap (λ m. take 32768 (drop 32768 (overwritten c m bytes))) (zero-add i) ∙ ap (take 32768) (drop-overwritten c 32768 i bytes fits (omega arith))
 bank_beside c Second i bytes long fits =

@@ -3,7 +3,7 @@ use Rattle.std.proofs.Common.{◌≡◌, inl, inr, ℕ, zero, suc, Bool, true, f
 use Rattle.std.proofs.lemmas.Bool.{true≢false, false≢true, cases_lt}
 use Rattle.swp_base.specs.Outside.{one_more}
 use Rattle.swp_base.specs.InMemory.{Memory, is_next_read, read_plan_after, memory_read, ReadsAsPlanned, ReadsSurely, WritesSurely}
-use Rattle.journal_laws.specs.Writes.{Write, after, AreMade, AreRead, AreCalled}
+use Rattle.journal_laws.specs.Writes.{Write, after_writes, AreMade, AreRead, AreCalled}
 
 module _ {M : Type 0} (reads : M → Bool → M → Type 0) where
   -- one more read, behind reads that went through
@@ -90,15 +90,15 @@ sure_reads (suc most) old ok new (inr (inl r)) = absurd (false≢true r.1.answer
 sure_reads (suc most) old ok new (inr (inr r)) =
     let rest = sure_reads most r.0 ok new r.2 in (rest.0, rest.1 ∙ r.1.memory)
 
-sure_writes : (planned : List Write) (old : List ℕ) (ok : Bool) (new : List ℕ) → AreMade WritesSurely planned old ok new → (ok ≡ true) × (new ≡ after planned old)
+sure_writes : (planned : List Write) (old : List ℕ) (ok : Bool) (new : List ℕ) → AreMade WritesSurely planned old ok new → (ok ≡ true) × (new ≡ after_writes planned old)
 sure_writes [] old ok new made = made
 sure_writes (w ∷ planned) old ok new (inl failed) = absurd (false≢true failed.1.answer)
 sure_writes (w ∷ planned) old ok new (inr rest) =
-    let later = sure_writes planned rest.0 ok new rest.2 in (later.0, later.1 ∙ ap (after planned) rest.1.memory)
+    let later = sure_writes planned rest.0 ok new rest.2 in (later.0, later.1 ∙ ap (after_writes planned) rest.1.memory)
 
 pub sure_calls : (most : ℕ) (planned : List Write) (old : List ℕ) (ok : Bool) (new : List ℕ) → AreCalled ReadsSurely WritesSurely most planned old ok new
-    → (ok ≡ true) × (new ≡ after planned old)
+    → (ok ≡ true) × (new ≡ after_writes planned old)
 sure_calls most planned old ok new (inl failed) = absurd (false≢true (sure_reads most old false new failed.1).0)
 sure_calls most planned old ok new (inr rest) =
     let made = sure_writes planned rest.0 ok new rest.2 in
-    (made.0, made.1 ∙ ap (after planned) (sure_reads most old true rest.0 rest.1).1)
+    (made.0, made.1 ∙ ap (after_writes planned) (sure_reads most old true rest.0 rest.1).1)

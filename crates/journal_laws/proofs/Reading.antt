@@ -6,8 +6,8 @@ use Rattle.std.proofs.lemmas.Nat.{from_be_bytes-to_be_bytes_2}
 use Rattle.std.proofs.lemmas.List.{drop-take}
 use Rattle.std.proofs.lemmas.Bool.{cases_Bool, and_parts, leb-true, ltb-true, true≢false, and_from, le-leb, lt-ltb, eq-eqb}
 use Rattle.std.proofs.lemmas.Bool.Decides.{nat_tests}
-use Rattle.journal_laws.specs.Banks.{is_open}
-use Rattle.journal_laws.specs.Records.{index_len, gap, body, IsBody, is_good, Found, nothing, bad, behind, found_from, record_bytes, records_bytes, used}
+use Rattle.journal_laws.specs.Banks.{is_opened_gate}
+use Rattle.journal_laws.specs.Records.{index_len, gap, body, IsBody, is_good_record, Found, nothing_found, bad, behind, found_from, record_bytes, records_bytes, used}
 
 -- ---- one record
 
@@ -29,7 +29,7 @@ same_body version xs ys same =
     ap (λ l. take l (drop (2 + index_len version) xs)) (first xs ys (gap version ys) 1 same (omega arith))
     ∙ window xs ys (gap version ys) (2 + index_len version) (slice_index ys 1) same (omega arith)
 
-pub is_good_parts : (version position : ℕ) (bytes : List ℕ) → is_good version position bytes ≡ true → (1 ≤ slice_index bytes 1) × (gap version bytes < length bytes)
+pub is_good_parts : (version position : ℕ) (bytes : List ℕ) → is_good_record version position bytes ≡ true → (1 ≤ slice_index bytes 1) × (gap version bytes < length bytes)
 is_good_parts version position bytes good =
     let len = slice_index bytes 1 in
     let all = and_parts (nat_le 1 len && nat_le len 61 && nat_lt (gap version bytes) (length bytes)) (version == 1 || from_be_bytes w16 (slice_range bytes 2 4) == position) good in
@@ -43,7 +43,7 @@ abbrev tells : ℕ → ℕ → List ℕ → Bool
 tells version position bytes = version == 1 || from_be_bytes w16 (slice_range bytes 2 4) == position
 
 -- a record is good by its own bytes, whatever stands behind them
-same_good : (version position : ℕ) (xs ys : List ℕ) → take (gap version ys) xs ≡ take (gap version ys) ys → gap version ys < length xs → is_good version position ys ≡ true → is_good version position xs ≡ true
+same_good : (version position : ℕ) (xs ys : List ℕ) → take (gap version ys) xs ≡ take (gap version ys) ys → gap version ys < length xs → is_good_record version position ys ≡ true → is_good_record version position xs ≡ true
 same_good version position xs ys same fits good =
     let within = (is_good_parts version position ys good).1 in
     let long_ys : nat_lt (gap version ys) (length ys) ≡ true = grind (arith, nat_tests) in
@@ -61,15 +61,15 @@ same_good version position xs ys same fits good =
         ap (λ l. version == 1 || from_be_bytes w16 l == position) (window xs ys (gap version ys) 2 2 same (omega arith))
 
 -- what is found where a good record stands
-pub found_good : (version most position : ℕ) (bytes : List ℕ) → is_open (slice_index bytes 0) ≡ true → is_good version position bytes ≡ true
+pub found_good : (version most position : ℕ) (bytes : List ℕ) → is_opened_gate (slice_index bytes 0) ≡ true → is_good_record version position bytes ≡ true
     → found_from version (suc most) position bytes ≡ behind (body version bytes ∷ []) (gap version bytes) (found_from version most (position + 1) (drop (gap version bytes) bytes))
 unfolding found_from
 found_good version most position bytes opened good =
     let more = behind (body version bytes ∷ []) (gap version bytes) (found_from version most (position + 1) (drop (gap version bytes) bytes)) in
-    ap (λ b. cond b (cond (is_good version position bytes) more bad) nothing) opened ∙ ap (λ b. cond b more bad) good
+    ap (λ b. cond b (cond (is_good_record version position bytes) more bad) nothing_found) opened ∙ ap (λ b. cond b more bad) good
 
 -- a good record in front of other bytes
-step : (version most position : ℕ) (bytes rest : List ℕ) → is_open (slice_index bytes 0) ≡ true → is_good version position bytes ≡ true → 0 < length rest
+step : (version most position : ℕ) (bytes rest : List ℕ) → is_opened_gate (slice_index bytes 0) ≡ true → is_good_record version position bytes ≡ true → 0 < length rest
     → found_from version (suc most) position (take (gap version bytes) bytes ++ rest) ≡ behind (body version bytes ∷ []) (gap version bytes) (found_from version most (position + 1) rest)
 step version most position bytes rest opened good some =
     let n = gap version bytes in
@@ -78,17 +78,17 @@ step version most position bytes rest opened good some =
     let size : length (take n bytes) ≡ n = omega (arith, length-take n bytes) in
     let same : take n xs ≡ take n bytes = take_at (take n bytes) rest n size in
     let long : n < length xs = omega (arith, length-append (take n bytes) rest) in
-    found_good version most position xs (ap is_open (first xs bytes n 0 same (omega arith)) ∙ opened) (same_good version position xs bytes same long good)
+    found_good version most position xs (ap is_opened_gate (first xs bytes n 0 same (omega arith)) ∙ opened) (same_good version position xs bytes same long good)
     ∙ ap (λ b. behind (b ∷ []) (gap version xs) (found_from version most (position + 1) (drop (gap version xs) xs))) (same_body version xs bytes same)
     ∙ ap (λ m. behind (body version bytes ∷ []) m (found_from version most (position + 1) (drop m xs))) (same_gap version xs bytes same)
     ∙ ap (λ l. behind (body version bytes ∷ []) n (found_from version most (position + 1) l)) (drop_at (take n bytes) rest n size)
 
 -- a closed gate
-pub found_closed : (version most position : ℕ) (bytes : List ℕ) → is_open (slice_index bytes 0) ≡ false → found_from version most position bytes ≡ nothing
+pub found_closed : (version most position : ℕ) (bytes : List ℕ) → is_opened_gate (slice_index bytes 0) ≡ false → found_from version most position bytes ≡ nothing_found
 unfolding found_from
 found_closed version zero position bytes closed = refl
 found_closed version (suc most) position bytes closed =
-    ap (λ b. cond b (cond (is_good version position bytes) (behind (body version bytes ∷ []) (gap version bytes) (found_from version most (position + 1) (drop (gap version bytes) bytes))) bad) nothing) closed
+    ap (λ b. cond b (cond (is_good_record version position bytes) (behind (body version bytes ∷ []) (gap version bytes) (found_from version most (position + 1) (drop (gap version bytes) bytes))) bad) nothing_found) closed
 
 -- ---- the records of a bank
 
@@ -100,7 +100,7 @@ pub record Parts (version position : ℕ) (bytes : List ℕ) (found : Found) : T
   pub whole : bytes ≡ front ++ rest
   pub size : length front ≡ found.size
   pub some : 0 < length rest
-  pub closed : is_open (slice_index rest 0) ≡ false
+  pub closed : is_opened_gate (slice_index rest 0) ≡ false
   pub few : 3 * length found.bodies ≤ found.size
   pub again : (most : ℕ) (other : List ℕ) → 0 < length other
       → found_from version (length found.bodies + most) position (front ++ other) ≡ behind found.bodies found.size (found_from version most (position + length found.bodies) other)
@@ -112,7 +112,7 @@ behind-none found = ap (λ n. record { bodies = found.bodies; size = n; is_bad =
 pub behind-one : (body : List ℕ) (n : ℕ) (bodies : List (List ℕ)) (size : ℕ) (found : Found) → behind (body ∷ []) n (behind bodies size found) ≡ behind (body ∷ bodies) (n + size) found
 behind-one body n bodies size found = ap (λ m. record { bodies = body ∷ bodies ++ found.bodies; size = m; is_bad = found.is_bad }) (sym (add_assoc n size found.size))
 
-none_found : (version position : ℕ) (bytes : List ℕ) → 0 < length bytes → is_open (slice_index bytes 0) ≡ false → Parts version position bytes nothing
+none_found : (version position : ℕ) (bytes : List ℕ) → 0 < length bytes → is_opened_gate (slice_index bytes 0) ≡ false → Parts version position bytes nothing_found
 none_found version position bytes some closed = record {
   front = [];
   rest = bytes;
@@ -124,7 +124,7 @@ none_found version position bytes some closed = record {
   again = λ most other long. ap₂ (λ m n. found_from version m n other) (zero-add most) (sym (add-zero position)) ∙ sym (behind-none (found_from version most (position + 0) other));
 }
 
-one_found : (version most position : ℕ) (bytes : List ℕ) (found : Found) → is_open (slice_index bytes 0) ≡ true → is_good version position bytes ≡ true
+one_found : (version most position : ℕ) (bytes : List ℕ) (found : Found) → is_opened_gate (slice_index bytes 0) ≡ true → is_good_record version position bytes ≡ true
     → Parts version (position + 1) (drop (gap version bytes) bytes) found → Parts version position bytes (behind (body version bytes ∷ []) (gap version bytes) found)
 one_found version most position bytes found opened good more =
     let n = gap version bytes in
@@ -147,21 +147,21 @@ one_found version most position bytes found opened good more =
     }
 
 -- at an open gate stands a good record or a bad one
-pub bad_found : (version most position : ℕ) (bytes : List ℕ) → is_open (slice_index bytes 0) ≡ true → is_good version position bytes ≡ false → found_from version (suc most) position bytes ≡ bad
+pub bad_found : (version most position : ℕ) (bytes : List ℕ) → is_opened_gate (slice_index bytes 0) ≡ true → is_good_record version position bytes ≡ false → found_from version (suc most) position bytes ≡ bad
 unfolding found_from
 bad_found version most position bytes opened wrong =
     let more = behind (body version bytes ∷ []) (gap version bytes) (found_from version most (position + 1) (drop (gap version bytes) bytes)) in
-    ap (λ b. cond b (cond (is_good version position bytes) more bad) nothing) opened ∙ ap (λ b. cond b more bad) wrong
+    ap (λ b. cond b (cond (is_good_record version position bytes) more bad) nothing_found) opened ∙ ap (λ b. cond b more bad) wrong
 
 pub parts : (version most position : ℕ) (bytes : List ℕ) → 0 < length bytes → length bytes ≤ most → (found_from version most position bytes).is_bad ≡ false → Parts version position bytes (found_from version most position bytes)
 parts version zero position bytes some enough good = absurd (omega arith)
 parts version (suc most) position bytes some enough good =
-    by_gate (parts version most (position + 1) (drop (gap version bytes) bytes)) (cases_Bool (is_open (slice_index bytes 0)))
+    by_gate (parts version most (position + 1) (drop (gap version bytes) bytes)) (cases_Bool (is_opened_gate (slice_index bytes 0)))
   where
     by_record : (0 < length (drop (gap version bytes) bytes) → length (drop (gap version bytes) bytes) ≤ most
         → (found_from version most (position + 1) (drop (gap version bytes) bytes)).is_bad ≡ false
         → Parts version (position + 1) (drop (gap version bytes) bytes) (found_from version most (position + 1) (drop (gap version bytes) bytes)))
-        → is_open (slice_index bytes 0) ≡ true → (is_good version position bytes ≡ true) ⊎ (is_good version position bytes ≡ false)
+        → is_opened_gate (slice_index bytes 0) ≡ true → (is_good_record version position bytes ≡ true) ⊎ (is_good_record version position bytes ≡ false)
         → Parts version position bytes (found_from version (suc most) position bytes)
     by_record more opened (inl right) =
         let n = gap version bytes in
@@ -174,8 +174,8 @@ parts version (suc most) position bytes some enough good =
     by_gate : (0 < length (drop (gap version bytes) bytes) → length (drop (gap version bytes) bytes) ≤ most
         → (found_from version most (position + 1) (drop (gap version bytes) bytes)).is_bad ≡ false
         → Parts version (position + 1) (drop (gap version bytes) bytes) (found_from version most (position + 1) (drop (gap version bytes) bytes)))
-        → (is_open (slice_index bytes 0) ≡ true) ⊎ (is_open (slice_index bytes 0) ≡ false) → Parts version position bytes (found_from version (suc most) position bytes)
-    by_gate more (inl opened) = by_record more opened (cases_Bool (is_good version position bytes))
+        → (is_opened_gate (slice_index bytes 0) ≡ true) ⊎ (is_opened_gate (slice_index bytes 0) ≡ false) → Parts version position bytes (found_from version (suc most) position bytes)
+    by_gate more (inl opened) = by_record more opened (cases_Bool (is_good_record version position bytes))
     by_gate more (inr closed) = subst (Parts version position bytes) (sym (found_closed version (suc most) position bytes closed)) (none_found version position bytes some closed)
 
 -- ---- records that are written
@@ -187,7 +187,7 @@ record_is_read most position body rest low short some =
     let front = 90 ∷ record_bytes position body in
     let fits : ltb (4 + length body) (length xs) ≡ true = lt-ltb (4 + length body) (length xs) (omega (arith, length-append body rest)) in
     let index : from_be_bytes w16 (slice_range xs 2 4) == position ≡ true = eq-eqb (from_be_bytes w16 (to_be_bytes w16 position)) position (from_be_bytes-to_be_bytes_2 position low) in
-    let good : is_good 2 position xs ≡ true = and_from (leb 1 (length body) && leb (length body) 61 && ltb (4 + length body) (length xs)) (from_be_bytes w16 (slice_range xs 2 4) == position)
+    let good : is_good_record 2 position xs ≡ true = and_from (leb 1 (length body) && leb (length body) 61 && ltb (4 + length body) (length xs)) (from_be_bytes w16 (slice_range xs 2 4) == position)
     (and_from (leb 1 (length body) && leb (length body) 61) (ltb (4 + length body) (length xs)) (and_from (leb 1 (length body)) (leb (length body) 61) (le-leb 1 (length body) short.0) (le-leb (length body) 61 short.1)) fits) index in
     found_good 2 most position xs refl good
     ∙ ap (λ b. behind (b ∷ []) (4 + length body) (found_from 2 most (position + 1) (drop (4 + length body) xs))) (take_at body rest (length body) refl)

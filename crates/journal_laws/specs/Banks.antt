@@ -10,17 +10,17 @@ other First = Second
 other Second = First
 
 -- where a bank begins
-abbrev pub place : Side → ℕ
-place First = 0
-place Second = 32768
+abbrev pub bank_place : Side → ℕ
+bank_place First = 0
+bank_place Second = 32768
 
 -- the bytes of a bank
 abbrev pub bank : List ℕ → Side → List ℕ
-bank content side = take 32768 (drop (place side) content)
+bank content side = take 32768 (drop (bank_place side) content)
 
 -- an open gate is 5A, any other byte is closed
-abbrev pub is_open : ℕ → Bool
-is_open gate = gate == 90
+abbrev pub is_opened_gate : ℕ → Bool
+is_opened_gate gate = gate == 90
 
 -- what stands in the first 12 bytes of a bank
 abbrev pub head_of : List ℕ → Head
@@ -38,9 +38,9 @@ head content side = head_of (take 12 (bank content side))
 -- the bank with an open gate and the greater generation; the first one where both are open with the same one
 abbrev pub newer : Head → Head → Option Side
 newer first second =
-    if is_open first.gate
-    then (if is_open second.gate && nat_lt first.generation second.generation then Some Second else Some First)
-    else (if is_open second.gate then Some Second else None)
+    if is_opened_gate first.gate
+    then (if is_opened_gate second.gate && nat_lt first.generation second.generation then Some Second else Some First)
+    else (if is_opened_gate second.gate then Some Second else None)
 
 -- the bank in use
 abbrev pub current : List ℕ → Option Side

@@ -4,8 +4,8 @@ use Rattle.std.specs.Option.{option_map_or}
 use Rattle.journal_laws.specs.declared.banks.Side.{Side}
 use Rattle.journal_laws.specs.declared.state.Head.{Head}
 use Rattle.journal_laws.specs.declared.state.State.{State}
-use Rattle.journal_laws.specs.Banks.{other, place, bank, is_open, head, current}
-use Rattle.journal_laws.specs.Records.{Found, nothing, found_from, size_in}
+use Rattle.journal_laws.specs.Banks.{other, bank_place, bank, is_opened_gate, head, current}
+use Rattle.journal_laws.specs.Records.{Found, nothing_found, found_from, size_in}
 
 pub record Journal : Type 0 where
   pub in_use : Option Side
@@ -17,7 +17,7 @@ abbrev pub unformatted : Journal
 unformatted = record {
   in_use = None;
   head = record { gate = 255; version = 2; generation = 0; base = 0; snapshot = 0 };
-  found = nothing;
+  found = nothing_found;
 }
 
 -- what is found in a bank of this version, from place 12 on
@@ -60,7 +60,7 @@ state_by in_use j beside = record {
 
 -- the gate of the bank that is not in use stands open
 abbrev pub is_open_beside : List ℕ → Bool
-is_open_beside content = option_map_or (λ side. is_open (head content (other side)).gate) (current content) false
+is_open_beside content = option_map_or (λ side. is_opened_gate (head content (other side)).gate) (current content) false
 
 abbrev pub state_of : List ℕ → State
 state_of content = state_by (current content) (journal content) (is_open_beside content)
@@ -77,12 +77,12 @@ abbrev pub next_gate : State → ℕ
 next_gate s = 12 + s.size
 
 abbrev pub next_place : State → ℕ
-next_place s = option_map_or place s.in_use 0 + next_gate s
+next_place s = option_map_or bank_place s.in_use 0 + next_gate s
 
 -- the place in the memory of the gate of record k, from 0, or of the one behind the last
 abbrev pub gate_at : List ℕ → ℕ → ℕ
 gate_at content k =
-    option_map_or place (current content) 0 + 12 + size_in (journal content).head.version (take k (records content))
+    option_map_or bank_place (current content) 0 + 12 + size_in (journal content).head.version (take k (records content))
 
 -- the bytes of the bank from there on
 abbrev pub left : State → ℕ

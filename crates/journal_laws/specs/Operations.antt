@@ -5,8 +5,8 @@ use Rattle.std.specs.List.{AllByRecursion}
 use Rattle.std.specs.Int.{w16, w32, to_be_bytes}
 use Rattle.journal_laws.specs.declared.banks.Side.TheVariants.{First}
 use Rattle.journal_laws.specs.declared.state.State.{State}
-use Rattle.journal_laws.specs.Writes.{Write, write, after, IsCut, FitIn, last_place}
-use Rattle.journal_laws.specs.Banks.{other, place, is_open, current}
+use Rattle.journal_laws.specs.Writes.{Write, write, after_writes, IsCut, FitIn, last_place}
+use Rattle.journal_laws.specs.Banks.{other, bank_place, is_opened_gate, current}
 use Rattle.journal_laws.specs.Records.{IsBody, record_bytes, records_bytes, used}
 use Rattle.journal_laws.specs.Journal.{next_place, left, count_of, journal}
 
@@ -22,7 +22,7 @@ abbrev pub open_bank : ℕ → ℕ → ℕ → List (List ℕ) → List Write
 open_bank at generation base bodies = write (at + 1) (bank_bytes generation base bodies) ∷ write at (90 ∷ []) ∷ []
 
 abbrev pub format_writes : List Write
-format_writes = open_bank (place First) 1 0 []
+format_writes = open_bank (bank_place First) 1 0 []
 
 -- A start formats a memory where no bank is in use.
 abbrev pub start_writes : State → List Write
@@ -43,7 +43,7 @@ close_bank opened at = if opened then write at (255 ∷ []) ∷ [] else []
 abbrev pub compact_writes : State → List (List ℕ) → List Write
 compact_writes s bodies =
     option_map_or (λ side.
-    close_bank s.beside (place (other side)) ++ open_bank (place (other side)) (s.generation + 1) (count_of s) bodies) s.in_use []
+    close_bank s.beside (bank_place (other side)) ++ open_bank (bank_place (other side)) (s.generation + 1) (count_of s) bodies) s.in_use []
 
 -- ---- what they make
 
@@ -55,11 +55,11 @@ pub record IsUnformatted (content : List ℕ) : Type 0 where
 abbrev pub formatted : State
 formatted = record { in_use = Some First; version = 2; generation = 1; base = 0; snapshot = 0; many = 0; size = 0; beside = false }
 
-abbrev pub started : State → State
-started s = option_map_or (λ _. s) s.in_use formatted
+abbrev pub started_state : State → State
+started_state s = option_map_or (λ _. s) s.in_use formatted
 
 -- this body may be appended
-pub record HasRoom (s : State) (body : List ℕ) : Type 0 where
+pub record HasRoomForBody (s : State) (body : List ℕ) : Type 0 where
   pub in_use : IsSome s.in_use
   pub version : s.version ≡ 2
   pub short : IsBody body
@@ -93,7 +93,7 @@ compacted s bodies = record {
 -- open, and else the one before them.
 abbrev pub outcome : ℕ → List Write → List ℕ → List ℕ → List ℕ
 outcome k writes content left =
-    if k + 1 == length writes && is_open (slice_index left (last_place writes)) then after writes content else content
+    if k + 1 == length writes && is_opened_gate (slice_index left (last_place writes)) then after_writes writes content else content
 
 -- what a cut leaves: which of the writes it came in, and for which memory that stands
 pub record LeftByCut (writes : List Write) (content left : List ℕ) : Type 0 where

@@ -1,7 +1,7 @@
 -- The records of a bank: from a gate on, up to the first closed gate.
 use Rattle.std.specs.Prelude.{ℕ, zero, suc, ◌+◌, ◌≤◌, Bool, true, false, ◌&&◌, ◌||◌, ◌==◌, nat_lt, nat_le, if◌then◌else◌, List, [], ◌∷◌, ◌++◌, length, take, drop, slice_index, slice_range}
 use Rattle.std.specs.Int.{w16, from_be_bytes, to_be_bytes}
-use Rattle.journal_laws.specs.Banks.{is_open}
+use Rattle.journal_laws.specs.Banks.{is_opened_gate}
 
 -- how many bytes of a record tell its position; in version 01 there are none
 abbrev pub index_len : ℕ → ℕ
@@ -25,8 +25,8 @@ is_record version position rest bytes =
     nat_le 1 (slice_index bytes 1) && nat_le (slice_index bytes 1) 61 && nat_lt (gap version bytes) rest
     && (version == 1 || from_be_bytes w16 (slice_range bytes 2 4) == position)
 
-abbrev pub is_good : ℕ → ℕ → List ℕ → Bool
-is_good version position bytes = is_record version position (length bytes) bytes
+abbrev pub is_good_record : ℕ → ℕ → List ℕ → Bool
+is_good_record version position bytes = is_record version position (length bytes) bytes
 
 -- what is found in a bank from a gate on: the bodies of the records, how many bytes these records take, and whether the gate
 -- behind them is open, with a bad record
@@ -35,8 +35,8 @@ pub record Found : Type 0 where
   pub size : ℕ
   pub is_bad : Bool
 
-abbrev pub nothing : Found
-nothing = record { bodies = []; size = 0; is_bad = false }
+abbrev pub nothing_found : Found
+nothing_found = record { bodies = []; size = 0; is_bad = false }
 
 abbrev pub bad : Found
 bad = record { bodies = []; size = 0; is_bad = true }
@@ -48,13 +48,13 @@ behind bodies size found = record { bodies = bodies ++ found.bodies; size = size
 -- what is found in a bank of this version from a gate on, where the first record has this position, and of at most so many
 -- records
 unfoldable pub found_from : ℕ → ℕ → ℕ → List ℕ → Found
-found_from version zero position bytes = nothing
+found_from version zero position bytes = nothing_found
 found_from version (suc most) position bytes =
-    if is_open (slice_index bytes 0)
-    then (if is_good version position bytes
+    if is_opened_gate (slice_index bytes 0)
+    then (if is_good_record version position bytes
     then behind (body version bytes ∷ []) (gap version bytes) (found_from version most (position + 1) (drop (gap version bytes) bytes))
     else bad)
-    else nothing
+    else nothing_found
 
 -- a record of version 02, behind its gate
 abbrev pub record_bytes : ℕ → List ℕ → List ℕ

@@ -12,9 +12,9 @@ abbrev pub write : ℕ → List ℕ → Write
 write at bytes = record { at = at; bytes = bytes }
 
 -- a memory after these writes, the first of them first
-abbrev pub after : List Write → List ℕ → List ℕ
-after [] content = content
-after (w ∷ writes) content = after writes (overwritten content w.at w.bytes)
+abbrev pub after_writes : List Write → List ℕ → List ℕ
+after_writes [] content = content
+after_writes (w ∷ writes) content = after_writes writes (overwritten content w.at w.bytes)
 
 -- A memory after a cut: the first k of these writes were made whole, and the next one was torn.
 abbrev pub IsCut : ℕ → List Write → List ℕ → List ℕ → Type 0

@@ -9,11 +9,11 @@ pub enum Side {
 }
 
 impl Side {
-    ghost use Rattle.journal_laws.specs.Banks.{place, other};
+    ghost use Rattle.journal_laws.specs.Banks.{bank_place, other};
 
     /// Where the bank begins in the memory: at place 0 or 32,768.
     pub fn place(self) -> u32
-        ensures { result ≡ place self }
+        ensures { result ≡ bank_place self }
     {
         match self {
             Side::First => 0,

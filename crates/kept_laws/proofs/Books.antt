@@ -9,7 +9,7 @@ use Rattle.trace_model.specs.declared.entry.Entry.TheVariants as entry
 use Rattle.std.specs.Prelude.{IsSome}
 use Rattle.journal_laws.specs.Banks.{current}
 use Rattle.hci_tables.specs.declared.command.Command.{Command}
-use Rattle.hci_tables.specs.Tables.{HciTables, no_tables, apply, after, close}
+use Rattle.hci_tables.specs.Tables.{HciTables, no_tables, apply, after_commands, close}
 use Rattle.hci_store.proofs.Closing.{close-close, same_closed}
 use Rattle.node_world.specs.NodeFilters.{Book, new_book, with_command, with_found, book_after, book_in}
 use Rattle.node_world.specs.NodeLegal.{Last, last_after, last_in}
@@ -95,14 +95,14 @@ last_cut t m n c same =
 
 -- the tables are those of the commands, but for open pipes
 abbrev pub IsClosedBook : Book → Type 0
-IsClosedBook b = close b.tables ≡ close (after no_tables b.commands)
+IsClosedBook b = close b.tables ≡ close (after_commands no_tables b.commands)
 
 pub closed_command : (b : Book) (c : Command) → IsClosedBook b → IsClosedBook (with_command c b)
-closed_command b c is = same_closed b.tables (after no_tables b.commands) c is ∙ ap close (sym (fold-append apply no_tables b.commands (c ∷ [])))
+closed_command b c is = same_closed b.tables (after_commands no_tables b.commands) c is ∙ ap close (sym (fold-append apply no_tables b.commands (c ∷ [])))
 
 closed_one : (n : ℕ) (b : Book) (e : Entry) → IsClosedBook b → IsClosedBook (book_after n b e)
 closed_one n b (entry.Command m c) is = cond_both (eqb m n) (with_command c b) b IsClosedBook (λ _. closed_command b c is) (λ _. is)
-closed_one n b (entry.Booted m k) is = cond_both (eqb m n) (with_found k b) b IsClosedBook (λ _. close-close (after no_tables (take k b.commands))) (λ _. is)
+closed_one n b (entry.Booted m k) is = cond_both (eqb m n) (with_found k b) b IsClosedBook (λ _. close-close (after_commands no_tables (take k b.commands))) (λ _. is)
 closed_one n b _ is = is
 
 closed_fold : (n : ℕ) (b : Book) (es : List Entry) → IsClosedBook b → IsClosedBook (fold (book_after n) b es)
@@ -115,23 +115,23 @@ closed_book t n = closed_fold n new_book t refl
 -- ## Memories
 
 -- all commands are found
-pub finds_all : (content : List ℕ) (b : Book) (last : Last) (t : HciTables) (many : ℕ) → BootFinds content t many → close t ≡ close (after no_tables b.commands)
+pub finds_all : (content : List ℕ) (b : Book) (last : Last) (t : HciTables) (many : ℕ) → BootFinds content t many → close t ≡ close (after_commands no_tables b.commands)
     → many ≡ min (length b.commands) (2 ^ 32 - 1) → WouldFind content b last
 finds_all content b last t many finds same is = record {
   many = length b.commands;
   which = inl refl;
-  finds = subst (λ l. BootFinds content (after no_tables l) (min (length b.commands) (2 ^ 32 - 1))) (sym (take-length b.commands))
-      (finds_closed content t (after no_tables b.commands) (min (length b.commands) (2 ^ 32 - 1)) (subst (λ k. BootFinds content t k) is finds) same);
+  finds = subst (λ l. BootFinds content (after_commands no_tables l) (min (length b.commands) (2 ^ 32 - 1))) (sym (take-length b.commands))
+      (finds_closed content t (after_commands no_tables b.commands) (min (length b.commands) (2 ^ 32 - 1)) (subst (λ k. BootFinds content t k) is finds) same);
 }
 
 -- all but the last one
-pub finds_less : (content : List ℕ) (b : Book) (c : Command) (t : HciTables) (many : ℕ) → BootFinds content t many → close t ≡ close (after no_tables b.commands)
+pub finds_less : (content : List ℕ) (b : Book) (c : Command) (t : HciTables) (many : ℕ) → BootFinds content t many → close t ≡ close (after_commands no_tables b.commands)
     → many ≡ min (length b.commands) (2 ^ 32 - 1) → IsSome (current content) → WouldFind content (with_command c b) CutBehindCommand
 finds_less content b c t many finds same is used = record {
   many = length b.commands;
   which = inr (omega (arith, length-append b.commands (c ∷ [])), refl, used);
-  finds = subst (λ l. BootFinds content (after no_tables l) (min (length b.commands) (2 ^ 32 - 1))) (sym (take-append_seam b.commands (c ∷ [])))
-      (finds_closed content t (after no_tables b.commands) (min (length b.commands) (2 ^ 32 - 1)) (subst (λ k. BootFinds content t k) is finds) same);
+  finds = subst (λ l. BootFinds content (after_commands no_tables l) (min (length b.commands) (2 ^ 32 - 1))) (sym (take-append_seam b.commands (c ∷ [])))
+      (finds_closed content t (after_commands no_tables b.commands) (min (length b.commands) (2 ^ 32 - 1)) (subst (λ k. BootFinds content t k) is finds) same);
 }
 
 -- of equal memories and books

@@ -9,10 +9,10 @@ use Rattle.trace_model.specs.declared.entry.Entry.{Entry}
 use Rattle.trace_model.specs.declared.entry.Entry.TheVariants as entry
 use Rattle.journal_laws.specs.declared.banks.Side.{Side}
 use Rattle.journal_laws.specs.declared.state.State.{State}
-use Rattle.journal_laws.specs.Writes.{after, IsCut}
+use Rattle.journal_laws.specs.Writes.{after_writes, IsCut}
 use Rattle.journal_laws.specs.Banks.{current}
 use Rattle.journal_laws.specs.Journal.{records, state_of, count_of, count}
-use Rattle.journal_laws.specs.Operations.{format_writes, formatted, started}
+use Rattle.journal_laws.specs.Operations.{format_writes, formatted, started_state}
 use Rattle.journal_laws.specs.Planned.{fails_within, after_planned}
 use Rattle.journal_laws.proofs.Planned.{none_within}
 use Rattle.nv_journal.specs.Kept.{Says}
@@ -20,7 +20,7 @@ use Rattle.nv_journal.proofs.Formatting.{says_formatted, format_all_or_nothing, 
 use Rattle.hci_tables.specs.declared.command.Command.{Command}
 use Rattle.hci_tables.specs.Commands.{is_command, IsCommand}
 use Rattle.hci_tables.specs.Bodies.{spelled_by, if_command, command_of}
-use Rattle.hci_tables.specs.Tables.{HciTables, AreTables, no_tables, apply, after as after_commands, close}
+use Rattle.hci_tables.specs.Tables.{HciTables, AreTables, no_tables, apply, after_commands, close}
 use Rattle.tables_laws.proofs.SortedTables.{AreTables-apply, AreTables-close, AreTables-none}
 use Rattle.hci_store.specs.Recordable.{IsRecordable}
 use Rattle.hci_store.specs.Image.{applied, tables_of}
@@ -28,7 +28,7 @@ use Rattle.hci_store.proofs.Recorded.{recordable-none, recordable-close, recorda
 use Rattle.hci_store.proofs.Closing.{close-close}
 use Rattle.hci_store.proofs.CutShort.{holds_still}
 use Rattle.hci_store.proofs.Starting.{counted}
-use Rattle.message_link.specs.Links.{Half}
+use Rattle.message_link.specs.Links.{NumberedEnd}
 use Rattle.node_machine.specs.Parts.{Creation, Desk, Running, Port}
 use Rattle.node_machine.specs.Carrying.{port_at}
 use Rattle.node_machine.specs.Controller.{asked_at}
@@ -89,14 +89,14 @@ module _ (content : List ℕ) (t : HciTables) (many : ℕ) (f : BootFinds conten
   }
 
   module _ (none : current content ≡ None) where
-    knows_formatted : Knows (after format_writes content) formatted (close (tables_of content))
+    knows_formatted : Knows (after_writes format_writes content) formatted (close (tables_of content))
     knows_formatted =
-        knows_from (after format_writes content) formatted (close (tables_of content)) (says_formatted content (state_of content) says none) refl refl
+        knows_from (after_writes format_writes content) formatted (close (tables_of content)) (says_formatted content (state_of content) says none) refl refl
         (omega arith)
-        (let h = holds_still content (after format_writes content) t f.keeps.holds (no_records_then content (state_of content) says none) in
+        (let h = holds_still content (after_writes format_writes content) t f.keeps.holds (no_records_then content (state_of content) says none) in
         record { commands = h.commands; tables_are = h.tables_are ∙ same_tables })
 
-    started_is : formatted ≡ started (state_of content)
+    started_is : formatted ≡ started_state (state_of content)
     started_is = ap (λ o. option_map_or (λ _. state_of content) o formatted) (sym none)
 
     count_formatted : count_of formatted ≡ many
@@ -105,9 +105,9 @@ module _ (content : List ℕ) (t : HciTables) (many : ℕ) (f : BootFinds conten
     left_formatted : (j : ℕ) (left : List ℕ) → IsCut j format_writes content left → BootFinds left t many
     left_formatted j left cut =
         either (left_finds format_writes content left t t many many j (format_all_or_nothing content (state_of content) says none) cut f after_it) where
-          after_it : BootFinds (after format_writes content) t many
-          after_it = finds_closed (after format_writes content) (close (tables_of content)) t many
-              (subst (λ k. BootFinds (after format_writes content) (close (tables_of content)) k) count_formatted knows_formatted.finds) (sym same_tables)
+          after_it : BootFinds (after_writes format_writes content) t many
+          after_it = finds_closed (after_writes format_writes content) (close (tables_of content)) t many
+              (subst (λ k. BootFinds (after_writes format_writes content) (close (tables_of content)) k) count_formatted knows_formatted.finds) (sym same_tables)
 
           either : BootFinds left t many ⊎ BootFinds left t many → BootFinds left t many
           either (inl x) = x
@@ -123,7 +123,7 @@ new_waits : (hosts : List ℕ) → AllByRecursion (λ (d : Desk). WaitsFor d.not
 new_waits [] = tt
 new_waits (h ∷ hosts) = (tt, new_waits hosts)
 
-new_none : (halves : ℕ → Half) (hosts : List ℕ) (x : ℕ) (q : Port) (c : Creation)
+new_none : (halves : ℕ → NumberedEnd) (hosts : List ℕ) (x : ℕ) (q : Port) (c : Creation)
     → port_at (map (λ (d : Desk). port_for (halves d.host) d) (map new_desk hosts)) x ≡ Some q
     → asked_at q ≡ Some c → ⊥
 new_none halves [] x q c here asked = absurd (cc here)
@@ -144,16 +144,16 @@ module _ (n : ℕ) (hosts : List ℕ) (t : List Entry) (m : Memory) (would : Wou
   tables = after_commands no_tables (take would.many book.commands)
 
   abbrev now : State
-  now = started (state_of content)
+  now = started_state (state_of content)
 
-  boot_knows : (o : Option Side) → current content ≡ o → Knows (after (boot_writes content) content) now (close (tables_of content))
+  boot_knows : (o : Option Side) → current content ≡ o → Knows (after_writes (boot_writes content) content) now (close (tables_of content))
   boot_knows (Some side) is =
-      subst (λ w. Knows (after w content) now (close (tables_of content))) (sym (ap (λ p. option_map_or (λ _. []) p format_writes) is))
+      subst (λ w. Knows (after_writes w content) now (close (tables_of content))) (sym (ap (λ p. option_map_or (λ _. []) p format_writes) is))
       (subst (λ s. Knows content s (close (tables_of content))) (sym (ap (λ p. option_map_or (λ _. state_of content) p formatted) is))
       (knows_used content tables _ would.finds (subst IsSome (sym is) refl)))
   boot_knows None is =
-      subst (λ w. Knows (after w content) now (close (tables_of content))) (sym (ap (λ p. option_map_or (λ _. []) p format_writes) is))
-      (subst (λ s. Knows (after format_writes content) s (close (tables_of content))) (sym (ap (λ p. option_map_or (λ _. state_of content) p formatted) is))
+      subst (λ w. Knows (after_writes w content) now (close (tables_of content))) (sym (ap (λ p. option_map_or (λ _. []) p format_writes) is))
+      (subst (λ s. Knows (after_writes format_writes content) s (close (tables_of content))) (sym (ap (λ p. option_map_or (λ _. state_of content) p formatted) is))
       (knows_formatted content tables _ would.finds is))
 
   module _ (few : length (commands_in t n) ≤ 2 ^ 32 - 1) where

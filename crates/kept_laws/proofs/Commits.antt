@@ -7,9 +7,9 @@ use Rattle.swp_base.specs.InMemory.{Memory}
 use Rattle.journal_laws.specs.declared.banks.Side.{Side}
 use Rattle.journal_laws.specs.declared.state.State.{State}
 use Rattle.journal_laws.specs.Banks.{other, current}
-use Rattle.journal_laws.specs.Writes.{Write, after, IsCut}
+use Rattle.journal_laws.specs.Writes.{Write, after_writes, IsCut}
 use Rattle.journal_laws.specs.Journal.{Journal, journal, count_of, left, IsSound}
-use Rattle.journal_laws.specs.Operations.{append_writes, compact_writes, HasRoom, CanCompact, appended, compacted, IsAllOrNothing}
+use Rattle.journal_laws.specs.Operations.{append_writes, compact_writes, HasRoomForBody, CanCompact, appended, compacted, IsAllOrNothing}
 use Rattle.journal_laws.specs.Planned.{fails_within, after_planned}
 use Rattle.journal_laws.proofs.InUse.{in_use_is}
 use Rattle.journal_laws.proofs.Kept.{append_count, compact_count, same_count}
@@ -23,8 +23,8 @@ use Rattle.hci_tables.specs.Bodies.{body_of}
 use Rattle.hci_tables.specs.Tables.{HciTables, AreTables, apply, close}
 use Rattle.hci_store.specs.Recordable.{IsRecordable}
 use Rattle.hci_store.specs.Snapshots.{snapshot_of}
-use Rattle.hci_store.specs.Stored.{Holds}
-use Rattle.hci_store.specs.Committing.{fits, snapshot_bodies, room_writes, with_room, commit_writes, committed}
+use Rattle.hci_store.specs.Stored.{HoldsTables}
+use Rattle.hci_store.specs.Committing.{record_fits, snapshot_bodies, room_writes, with_room, commit_writes, committed}
 use Rattle.hci_store.proofs.CutShort.{journal_left, holds_still, room_count}
 use Rattle.hci_store.proofs.Committed.{all_recordable, holds_more, holds_snapshot}
 use Rattle.kept_laws.specs.Finds.{BootFinds, Knows, FindsRoom}
@@ -59,7 +59,7 @@ finds_closed content t u many f same = record {
 }
 
 pub knows_from : (content : List ℕ) (s : State) (t : HciTables) → Says content s → IsSome s.in_use → s.version ≡ 2 → s.snapshot ≤ s.base + s.many
-    → Holds content t → Knows content s t
+    → HoldsTables content t → Knows content s t
 knows_from content s t says some version enough holds = record {
   state_is = says.state_is;
   in_use = some;
@@ -71,12 +71,12 @@ knows_from content s t says some version enough holds = record {
   };
 }
 
-after-append : (first later : List Write) (c : List ℕ) → after (first ++ later) c ≡ after later (after first c)
+after-append : (first later : List Write) (c : List ℕ) → after_writes (first ++ later) c ≡ after_writes later (after_writes first c)
 after-append [] later c = refl
 after-append (w ∷ first) later c = after-append first later (overwritten c w.at w.bytes)
 
 cut-append : (k : ℕ) (first later : List Write) (c left : List ℕ) → IsCut k (first ++ later) c left
-    → IsCut k first c left ⊎ ((j : ℕ) × IsCut j later (after first c) left)
+    → IsCut k first c left ⊎ ((j : ℕ) × IsCut j later (after_writes first c) left)
 cut-append k [] later c left cut = inr (k, cut)
 cut-append zero (w ∷ first) later c left cut = inl cut
 cut-append (suc k) (w ∷ first) later c left cut = cut-append k first later (overwritten c w.at w.bytes) left cut
@@ -87,24 +87,24 @@ some_other (Some side) some = refl
 
 -- a cut of writes that are all or nothing
 pub left_finds : (writes : List Write) (content left : List ℕ) (t u : HciTables) (m n k : ℕ) → IsAllOrNothing writes content → IsCut k writes content left
-    → BootFinds content t m → BootFinds (after writes content) u n → BootFinds left t m ⊎ BootFinds left u n
+    → BootFinds content t m → BootFinds (after_writes writes content) u n → BootFinds left t m ⊎ BootFinds left u n
 left_finds writes content left t u m n k whole cut before done = either (journal_left writes content left
     (record { whole = k; cut = cut; says = whole.says k left cut })) where
       size : length left ≡ length content
       size = length-cut k writes content left whole.fit cut
 
-      either : (journal left ≡ journal content) ⊎ (journal left ≡ journal (after writes content)) → BootFinds left t m ⊎ BootFinds left u n
+      either : (journal left ≡ journal content) ⊎ (journal left ≡ journal (after_writes writes content)) → BootFinds left t m ⊎ BootFinds left u n
       either (inl same) = inl (finds_still content left t m before size same)
-      either (inr same) = inr (finds_still (after writes content) left u n done (size ∙ sym (length-after writes content whole.fit)) same)
+      either (inr same) = inr (finds_still (after_writes writes content) left u n done (size ∙ sym (length-after writes content whole.fit)) same)
 
 -- a bank is in use still
 left_used : (writes : List Write) (content left : List ℕ) (k : ℕ) → IsAllOrNothing writes content → IsCut k writes content left
-    → IsSome (current content) → IsSome (current (after writes content)) → IsSome (current left)
+    → IsSome (current content) → IsSome (current (after_writes writes content)) → IsSome (current left)
 left_used writes content left k whole cut before done = either (journal_left writes content left
     (record { whole = k; cut = cut; says = whole.says k left cut })) where
-      either : (journal left ≡ journal content) ⊎ (journal left ≡ journal (after writes content)) → IsSome (current left)
+      either : (journal left ≡ journal content) ⊎ (journal left ≡ journal (after_writes writes content)) → IsSome (current left)
       either (inl same) = subst IsSome (sym (sym (in_use_is left) ∙ ap (λ (j : Journal). j.in_use) same ∙ in_use_is content)) before
-      either (inr same) = subst IsSome (sym (sym (in_use_is left) ∙ ap (λ (j : Journal). j.in_use) same ∙ in_use_is (after writes content))) done
+      either (inr same) = subst IsSome (sym (sym (in_use_is left) ∙ ap (λ (j : Journal). j.in_use) same ∙ in_use_is (after_writes writes content))) done
 
 pub used_of : (content : List ℕ) (s : State) (t : HciTables) → Knows content s t → IsSome (current content)
 used_of content s t k = subst IsSome (sym (ap (λ (x : State). x.in_use) k.state_is)) k.in_use
@@ -120,14 +120,14 @@ module _ (content : List ℕ) (s : State) (t : HciTables) (k : Knows content s t
   enough_of = subst (λ (x : State). x.snapshot ≤ x.base + x.many) k.state_is k.finds.enough
 
   module _ (c : Command) (may : IsCommand c) (room : length (body_of c) + 5 ≤ left s) where
-    pub has_room : HasRoom s (body_of c)
+    pub has_room : HasRoomForBody s (body_of c)
     has_room = record { in_use = k.in_use; version = version_of; short = is_body c may; room = room }
 
-    append_knows : Knows (after (append_writes s (body_of c)) content) (appended s (body_of c)) (apply t c)
+    append_knows : Knows (after_writes (append_writes s (body_of c)) content) (appended s (body_of c)) (apply t c)
     append_knows =
-        knows_from (after (append_writes s (body_of c)) content) (appended s (body_of c)) (apply t c)
+        knows_from (after_writes (append_writes s (body_of c)) content) (appended s (body_of c)) (apply t c)
         (appending.says_after content (body_of c) s says_of has_room) k.in_use version_of (omega (arith, enough_of))
-        (holds_more content (after (append_writes s (body_of c)) content) (body_of c) t c k.finds.keeps.holds (appending.records_after content
+        (holds_more content (after_writes (append_writes s (body_of c)) content) (body_of c) t c k.finds.keeps.holds (appending.records_after content
         (body_of c) s says_of has_room) refl may)
 
     append_left : (j : ℕ) (left : List ℕ) → IsCut j (append_writes s (body_of c)) content left
@@ -139,7 +139,7 @@ module _ (content : List ℕ) (s : State) (t : HciTables) (k : Knows content s t
     append_used : (j : ℕ) (left : List ℕ) → IsCut j (append_writes s (body_of c)) content left → IsSome (current left)
     append_used j left cut =
         left_used (append_writes s (body_of c)) content left j (appending.all_or_nothing content (body_of c) s says_of has_room) cut
-        (used_of content s t k) (used_of (after (append_writes s (body_of c)) content) (appended s (body_of c)) (apply t c) append_knows)
+        (used_of content s t k) (used_of (after_writes (append_writes s (body_of c)) content) (appended s (body_of c)) (apply t c) append_knows)
 
   module _ (are : AreTables t) (may : IsRecordable t) (next : s.generation < 4294967295) where
     pub can : CanCompact s (snapshot_bodies t)
@@ -150,11 +150,11 @@ module _ (content : List ℕ) (s : State) (t : HciTables) (k : Knows content s t
       room = snapshot_fits t may are;
     }
 
-    compact_knows : Knows (after (compact_writes s (snapshot_bodies t)) content) (compacted s (snapshot_bodies t)) t
+    compact_knows : Knows (after_writes (compact_writes s (snapshot_bodies t)) content) (compacted s (snapshot_bodies t)) t
     compact_knows =
-        knows_from (after (compact_writes s (snapshot_bodies t)) content) (compacted s (snapshot_bodies t)) t
+        knows_from (after_writes (compact_writes s (snapshot_bodies t)) content) (compacted s (snapshot_bodies t)) t
         (compacting.says_after content (snapshot_bodies t) s says_of can) (some_other s.in_use k.in_use) refl (omega arith)
-        (holds_snapshot (after (compact_writes s (snapshot_bodies t)) content) t may are (compacting.records_after content (snapshot_bodies t) s says_of can))
+        (holds_snapshot (after_writes (compact_writes s (snapshot_bodies t)) content) t may are (compacting.records_after content (snapshot_bodies t) s says_of can))
 
     compact_left : (j : ℕ) (left : List ℕ) → IsCut j (compact_writes s (snapshot_bodies t)) content left → BootFinds left t (count_of s)
     compact_left j left cut = either
@@ -171,45 +171,45 @@ compact_used : (content : List ℕ) (s : State) (t : HciTables) (k : Knows conte
 compact_used content s t k are may next j left cut =
     left_used (compact_writes s (snapshot_bodies t)) content left j
     (compacting.all_or_nothing content (snapshot_bodies t) s (says_of content s t k) (can content s t k are may next)) cut (used_of content s t k)
-    (used_of (after (compact_writes s (snapshot_bodies t)) content) (compacted s (snapshot_bodies t)) t (compact_knows content s t k are may next))
+    (used_of (after_writes (compact_writes s (snapshot_bodies t)) content) (compacted s (snapshot_bodies t)) t (compact_knows content s t k are may next))
 
 module _ (content : List ℕ) (s : State) (t : HciTables) (c : Command) (k : Knows content s t) (are : AreTables t) (may : IsRecordable t)
     (command : IsCommand c) (room : FindsRoom s c) where
   abbrev made_room : Bool → List ℕ
-  made_room b = after (cond b [] (compact_writes s (snapshot_bodies t))) content
+  made_room b = after_writes (cond b [] (compact_writes s (snapshot_bodies t))) content
 
   abbrev roomy : Bool → State
   roomy b = cond b s (compacted s (snapshot_bodies t))
 
-  pub next_of : fits s (body_of c) ≡ false → s.generation < 4294967295
+  pub next_of : record_fits s (body_of c) ≡ false → s.generation < 4294967295
   next_of full = ltb-true s.generation 4294967295 (sym (ap (λ b. cond b true (nat_lt s.generation 4294967295)) full) ∙ room)
 
-  pub room_knows : (b : Bool) → fits s (body_of c) ≡ b → Knows (made_room b) (roomy b) t × (length (body_of c) + 5 ≤ left (roomy b))
+  pub room_knows : (b : Bool) → record_fits s (body_of c) ≡ b → Knows (made_room b) (roomy b) t × (length (body_of c) + 5 ≤ left (roomy b))
   room_knows true is = (k, leb-true (length (body_of c) + 5) (left s) is)
   room_knows false is = (compact_knows content s t k are may (next_of is), omega (arith, snapshot_fits t may are, (is_body c command).1))
 
   abbrev between : List ℕ
-  between = after (room_writes s t (body_of c)) content
+  between = after_writes (room_writes s t (body_of c)) content
 
-  pub commit_knows : Knows (after (commit_writes s t (body_of c)) content) (committed s t (body_of c)) (apply t c)
+  pub commit_knows : Knows (after_writes (commit_writes s t (body_of c)) content) (committed s t (body_of c)) (apply t c)
   commit_knows =
-      let r = room_knows (fits s (body_of c)) refl in
+      let r = room_knows (record_fits s (body_of c)) refl in
       subst (λ x. Knows x (committed s t (body_of c)) (apply t c))
       (sym (after-append (room_writes s t (body_of c)) (append_writes (with_room s t (body_of c)) (body_of c)) content))
       (append_knows between (with_room s t (body_of c)) t r.0 c command r.1)
 
   pub commit_count : count_of (committed s t (body_of c)) ≡ min (count_of s + 1) (2 ^ 32 - 1)
   commit_count =
-      let r = room_knows (fits s (body_of c)) refl in
+      let r = room_knows (record_fits s (body_of c)) refl in
       append_count (with_room s t (body_of c)) (body_of c) (enough_of between (with_room s t (body_of c)) t r.0)
       ∙ ap (λ n. min (n + 1) (2 ^ 32 - 1)) (room_count s t (body_of c))
 
-  pub room_left : (b : Bool) → fits s (body_of c) ≡ b → (j : ℕ) (left : List ℕ) → IsCut j (cond b [] (compact_writes s (snapshot_bodies t))) content left
+  pub room_left : (b : Bool) → record_fits s (body_of c) ≡ b → (j : ℕ) (left : List ℕ) → IsCut j (cond b [] (compact_writes s (snapshot_bodies t))) content left
       → BootFinds left t (count_of s)
   room_left true is j left cut = absurd cut
   room_left false is j left cut = compact_left content s t k are may (next_of is) j left cut
 
-  room_used : (b : Bool) → fits s (body_of c) ≡ b → (j : ℕ) (left : List ℕ) → IsCut j (cond b [] (compact_writes s (snapshot_bodies t))) content left
+  room_used : (b : Bool) → record_fits s (body_of c) ≡ b → (j : ℕ) (left : List ℕ) → IsCut j (cond b [] (compact_writes s (snapshot_bodies t))) content left
       → IsSome (current left)
   room_used true is j left cut = absurd cut
   room_used false is j left cut = compact_used content s t k are may (next_of is) j left cut
@@ -218,9 +218,9 @@ module _ (content : List ℕ) (s : State) (t : HciTables) (c : Command) (k : Kno
   commit_used j left cut = by_part (cut-append j (room_writes s t (body_of c)) (append_writes (with_room s t (body_of c)) (body_of c)) content left cut) where
     by_part : IsCut j (room_writes s t (body_of c)) content left ⊎ ((i : ℕ) × IsCut i (append_writes (with_room s t (body_of c))
         (body_of c)) between left) → IsSome (current left)
-    by_part (inl first) = room_used (fits s (body_of c)) refl j left first
+    by_part (inl first) = room_used (record_fits s (body_of c)) refl j left first
     by_part (inr later) =
-        let r = room_knows (fits s (body_of c)) refl in
+        let r = room_knows (record_fits s (body_of c)) refl in
         append_used between (with_room s t (body_of c)) t r.0 c command r.1 later.0 left later.1
 
   pub commit_left : (j : ℕ) (left : List ℕ) → IsCut j (commit_writes s t (body_of c)) content left
@@ -233,9 +233,9 @@ module _ (content : List ℕ) (s : State) (t : HciTables) (c : Command) (k : Kno
 
     by_part : IsCut j (room_writes s t (body_of c)) content left ⊎ ((i : ℕ) × IsCut i (append_writes (with_room s t (body_of c)) (body_of c)) between left)
         → BootFinds left t (count_of s) ⊎ BootFinds left (apply t c) (count_of (committed s t (body_of c)))
-    by_part (inl first) = inl (room_left (fits s (body_of c)) refl j left first)
+    by_part (inl first) = inl (room_left (record_fits s (body_of c)) refl j left first)
     by_part (inr later) =
-        let r = room_knows (fits s (body_of c)) refl in
+        let r = room_knows (record_fits s (body_of c)) refl in
         by_record (append_left between (with_room s t (body_of c)) t r.0 c command r.1 later.0 left later.1)
 
 -- over a memory whose failing write is planned

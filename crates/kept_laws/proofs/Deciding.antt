@@ -13,14 +13,14 @@ use Rattle.hci_tables.specs.Commands.{is_allowed, is_host, IsCommand}
 use Rattle.hci_tables.specs.Tables.{HciTables, AreTables}
 use Rattle.gate_answers.specs.declared.response.Response.{Response}
 use Rattle.gate_answers.specs.declared.response.Response.TheVariants as response
-use Rattle.gate_answers.specs.Answers.{answer_of, first_of, tests_to_get, param_in, value_in, is_unknown, is_read_only}
+use Rattle.gate_answers.specs.Answers.{answer_of, first_of, tests_to_get, param_in, value_in, is_unknown_access, is_read_only}
 use Rattle.gate_admin.specs.declared.view.LinkView.{LinkView}
 use Rattle.gate_admin.specs.declared.decision.Decision.{Decision}
 use Rattle.gate_admin.specs.declared.decision.Decision.TheVariants.{Ask}
-use Rattle.gate_admin.specs.Decide.{IsRecordable, commits, unless_refused, far_end_of, far_end, is_opened, tests_of_pipe, tests_to_open, tests_to_set_it, tests_to_create, tests_to_delete, tests_to_clear, opening, closing, setting, getting, creating, created, creation, ends_of, deleting, clearing, carried_out, decided}
+use Rattle.gate_admin.specs.Decide.{IsRecordableDecision, commits, unless_refused, far_end_of, far_end, is_opened, tests_of_pipe, tests_to_open, tests_to_set_it, tests_to_create, tests_to_delete, tests_to_clear, opening, closing, setting, getting, creating, created, creation, ends_of, deleting, clearing, carried_out, decided}
 use Rattle.gate_admin.proofs.CreationLemmas.{AllFalse, all_false, creation-recordable}
 
-unless : (refusal : Option Response) (otherwise : Decision) → (refusal ≡ None → IsRecordable otherwise) → IsRecordable (unless_refused refusal otherwise)
+unless : (refusal : Option Response) (otherwise : Decision) → (refusal ≡ None → IsRecordableDecision otherwise) → IsRecordableDecision (unless_refused refusal otherwise)
 unless (Some r) otherwise done = refl
 unless None otherwise done = done refl
 
@@ -45,7 +45,7 @@ host_is h most = le-leb h 7 most
 may_open : (h pipe : ℕ) (opened : Bool) → h ≤ 7 → pipe < 112 → IsCommand (SetOpened h pipe opened)
 may_open h pipe opened most small = and_from (is_host h) (ltb pipe 112) (host_is h most) (lt-ltb pipe 112 small)
 
-kept_param : (h p : ℕ) → 1 ≤ h → h ≤ 7 → is_unknown (access_of 0 p) ≡ false → is_read_only (access_of 0 p) ≡ false → IsTrue (is_kept h 0 p)
+kept_param : (h p : ℕ) → 1 ≤ h → h ≤ 7 → is_unknown_access (access_of 0 p) ≡ false → is_read_only (access_of 0 p) ≡ false → IsTrue (is_kept h 0 p)
 kept_param h p some most known writable = by_one (cases_eq p 1) where
   front : (leb 1 h && leb h 7 && true) ≡ true
   front = and_from (leb 1 h && leb h 7) true (and_from (leb 1 h) (leb h 7) (le-leb 1 h some) (le-leb h 7 most)) refl
@@ -69,10 +69,10 @@ kept_param h p some most known writable = by_one (cases_eq p 1) where
             let e2 = ne_eqb 2 p (λ s. c (sym s)) in
             let e3 = ne_eqb 3 p (λ s. b (sym s)) in
             let e4 = ne_eqb 4 p (λ s. d (sym s)) in
-            let unknown : is_unknown (access_of 0 p) ≡ true = rw (e1, e2, e3, e4) refl in
+            let unknown : is_unknown_access (access_of 0 p) ≡ true = rw (e1, e2, e3, e4) refl in
             absurd (true≢false (sym unknown ∙ known))
 
-set_fine : (v : LinkView) (h : ℕ) (body : List ℕ) → 1 ≤ h → h ≤ 7 → IsRecordable (setting v h body)
+set_fine : (v : LinkView) (h : ℕ) (body : List ℕ) → 1 ≤ h → h ≤ 7 → IsRecordableDecision (setting v h body)
 unfolding AllFalse
 set_fine v h body some most =
     unless (first_of (tests_to_set_it v h body)) _ (λ passed.
@@ -81,7 +81,7 @@ set_fine v h body some most =
     (kept_param h (param_in body) some most none.1.0 none.1.1.0)
     (not-false (is_allowed h (param_in body) (value_in body)) none.1.1.1.0))
 
-delete_fine : (t : HciTables) (v : LinkView) (h : ℕ) (body : List ℕ) → AreTables t → IsRecordable (deleting t v h body)
+delete_fine : (t : HciTables) (v : LinkView) (h : ℕ) (body : List ℕ) → AreTables t → IsRecordableDecision (deleting t v h body)
 unfolding AllFalse
 delete_fine t v h body are =
     unless (first_of (tests_to_delete t v h body)) _ (λ passed.
@@ -89,27 +89,27 @@ delete_fine t v h body are =
     let within = row_dynamic t h (param_in body) are none.1.0 in
     and_from (leb 2 (param_in body)) (ltb (param_in body) 112) (le-leb 2 (param_in body) within.0) (lt-ltb (param_in body) 112 within.1))
 
-creation_fine : (row : PipeRow) → IsCommand (Create row) → IsRecordable (creation row)
+creation_fine : (row : PipeRow) → IsCommand (Create row) → IsRecordableDecision (creation row)
 creation_fine row may =
     cond_both (eqb row.dest 0) (commits (Create row) (ends_of row))
     (Ask row.dest (record { items = 18 ∷ ends_of row }) (Create row) (record { items = answer_of response.Ok (ends_of row) }))
-    IsRecordable (λ _. may) (λ _. may)
+    IsRecordableDecision (λ _. may) (λ _. may)
 
 pub decided_recordable : (t : HciTables) (v : LinkView) (h pipe instruction : ℕ) (body : List ℕ) → AreTables t → 1 ≤ h → h ≤ 7
-    → IsRecordable (decided t v h pipe instruction body)
+    → IsRecordableDecision (decided t v h pipe instruction body)
 unfolding AllFalse
 decided_recordable t v h pipe instruction body are some most =
     unless (first_of (tests_of_pipe t h pipe instruction)) (carried_out t v h pipe instruction body) (λ tested.
     let small : pipe < 112 = pipe_known t h pipe are (all_false (tests_of_pipe t h pipe instruction) tested).0 in
-    cond_both (eqb instruction 3) (opening t h pipe body) _ IsRecordable
-    (λ _. unless (first_of (tests_to_open body)) _ (λ _. cond_both (is_opened t h pipe) _ _ IsRecordable (λ _. refl) (λ _. may_open h pipe true most small)))
-    (λ _. cond_both (eqb instruction 4) (closing h pipe body) _ IsRecordable (λ _. unless (first_of (tests_to_open body)) _
+    cond_both (eqb instruction 3) (opening t h pipe body) _ IsRecordableDecision
+    (λ _. unless (first_of (tests_to_open body)) _ (λ _. cond_both (is_opened t h pipe) _ _ IsRecordableDecision (λ _. refl) (λ _. may_open h pipe true most small)))
+    (λ _. cond_both (eqb instruction 4) (closing h pipe body) _ IsRecordableDecision (λ _. unless (first_of (tests_to_open body)) _
     (λ _. may_open h pipe false most small))
-    (λ _. cond_both (eqb instruction 1) (setting v h body) _ IsRecordable (λ _. set_fine v h body some most)
-    (λ _. cond_both (eqb instruction 2) (getting t v h body) _ IsRecordable (λ _. unless (first_of (tests_to_get 0 body)) _ (λ _. refl))
-    (λ _. cond_both (eqb instruction 16) (creating t v h body) _ IsRecordable
+    (λ _. cond_both (eqb instruction 1) (setting v h body) _ IsRecordableDecision (λ _. set_fine v h body some most)
+    (λ _. cond_both (eqb instruction 2) (getting t v h body) _ IsRecordableDecision (λ _. unless (first_of (tests_to_get 0 body)) _ (λ _. refl))
+    (λ _. cond_both (eqb instruction 16) (creating t v h body) _ IsRecordableDecision
     (λ _. unless (first_of (tests_to_create t v h body)) _ (λ passed. creation_fine (created h body (unwrap_or (lowest_free t.rows v.waiting.items) 0))
     (creation-recordable t v h body most passed)))
-    (λ _. cond_both (eqb instruction 17) (deleting t v h body) _ IsRecordable (λ _. delete_fine t v h body are)
-    (λ _. cond_both (eqb instruction 20) (clearing t v h body) _ IsRecordable (λ _. unless (first_of (tests_to_clear t v h body)) _ (λ _. host_is h most))
+    (λ _. cond_both (eqb instruction 17) (deleting t v h body) _ IsRecordableDecision (λ _. delete_fine t v h body are)
+    (λ _. cond_both (eqb instruction 20) (clearing t v h body) _ IsRecordableDecision (λ _. unless (first_of (tests_to_clear t v h body)) _ (λ _. host_is h most))
     (λ _. refl))))))))

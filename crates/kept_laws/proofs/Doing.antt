@@ -13,7 +13,7 @@ use Rattle.journal_laws.specs.Planned.{fails_within, after_planned}
 use Rattle.hci_tables.specs.declared.command.Command.{Command}
 use Rattle.hci_tables.specs.Commands.{IsCommand}
 use Rattle.hci_tables.specs.Bodies.{body_of}
-use Rattle.hci_tables.specs.Tables.{HciTables, no_tables, apply, after, close}
+use Rattle.hci_tables.specs.Tables.{HciTables, no_tables, apply, after_commands, close}
 use Rattle.hci_store.specs.Committing.{commit_writes, committed}
 use Rattle.hci_store.proofs.Recorded.{recordable-apply}
 use Rattle.tables_laws.proofs.SortedTables.{AreTables-apply}
@@ -63,7 +63,7 @@ module _ (n : ℕ) (hosts : List ℕ) (old : Memory) (before : List Entry) where
     book_begun : book_in (before ++ (w.entries ++ entry.Command w.core.node c ∷ [])) n ≡ with_command c (book_in seen n)
     book_begun = ap (λ l. book_in l n) (sym (append_assoc before w.entries (entry.Command w.core.node c ∷ []))) ∙ book_command seen w.core.node n c r.number
 
-    closed_now : close w.core.tables ≡ close (after no_tables (book_in seen n).commands)
+    closed_now : close w.core.tables ≡ close (after_commands no_tables (book_in seen n).commands)
     closed_now = ap close r.tables_are ∙ closed_book seen n
 
     count_then : count_of (committed w.core.journal w.core.tables (body_of c)) ≡ min (length ((book_in seen n).commands ++ c ∷ [])) (2 ^ 32 - 1)

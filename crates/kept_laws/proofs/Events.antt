@@ -12,7 +12,7 @@ use Rattle.trace_model.specs.declared.line.End.{End}
 use Rattle.journal_laws.specs.Journal.{count_of}
 use Rattle.journal_laws.specs.Planned.{fails_within, after_planned}
 use Rattle.link_machine.specs.Machine.{Message, LinkInput}
-use Rattle.message_link.specs.Links.{Half, Comes, Loss, happens}
+use Rattle.message_link.specs.Links.{NumberedEnd, Comes, Loss, happens}
 use Rattle.message_link.specs.Links.Comes.{Starts, NoInput}
 use Rattle.message_link.specs.Links.Loss.{OnDemand, Broken, Unread, TooOld, TooMany}
 use Rattle.link_entries.specs.Entries.{first_lost}
@@ -89,7 +89,7 @@ more_all : (h : ℕ) (desks : List Desk) → with_error h desks ≡ map (more_er
 unfolding more_errors
 more_all h desks = refl
 
-error_new : (halves : ℕ → Half) (h : ℕ) (desks : List Desk)
+error_new : (halves : ℕ → NumberedEnd) (h : ℕ) (desks : List Desk)
     → NoneNew (map (λ (d : Desk). port_for (halves d.host) d) desks) (map (λ (d : Desk). port_for (halves d.host) d) (with_error h desks))
 error_new halves h desks x q c here asked =
     let at = ap (λ l. port_at l x) (sym (ap (map (λ (d : Desk). port_for (halves d.host) d)) (more_all h desks) ∙ map_two (λ (d : Desk). port_for

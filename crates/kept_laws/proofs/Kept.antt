@@ -18,7 +18,7 @@ use Rattle.node_world.specs.World.{Site, new_memory, new_site, new_world}
 use Rattle.node_world.specs.Lines.LineOutcome.{ToldTables}
 use Rattle.node_world.specs.NodeHistories.{LineStep, NodeHistory, steps_from, FollowsNodes, occurrences_of, entries_in, node_entries}
 use Rattle.node_world.specs.NodeFilters.{Book, book_after, book_in, commands_in, tables_in}
-use Rattle.node_world.specs.NodeLegal.{Last, last_after, last_in, FindsCommands, AreFound, AreCounted, AreAnswered, Kept, Allowed}
+use Rattle.node_world.specs.NodeLegal.{Last, last_after, last_in, FindsCommands, AreFound, AreAllAnswered, AreAnswered, Kept, Allowed}
 use Rattle.node_world.specs.NodeLegal.Last.{NothingYet, CommandLast, CutBehindCommand, OtherLast}
 use Rattle.kept_laws.specs.Finds.{BootFinds}
 use Rattle.kept_laws.specs.Books.{IsTold, AreToldBehind}
@@ -147,7 +147,7 @@ module _ (t : List Entry) (told : AreToldBehind [] t) (few : IsFew t) where
   are_found : AreFound t
   are_found front back n k is = (at_front front back (entry.Booted n k) is).0
 
-  are_counted : AreCounted t
+  are_counted : AreAllAnswered t
   are_counted front back n k is = small k (length (commands_in front n)) (at_front front back (entry.AnyOk n k) is).0 (few front
       (entry.AnyOk n k ∷ back) n is) where
         small : (k l : ℕ) → k ≡ min l (2 ^ 32 - 1) → l ≤ 2 ^ 32 - 1 → k ≡ l

@@ -5,7 +5,7 @@ use Rattle.std.proofs.lemmas.Bool.{cases_Bool, true≢false, not-true, not-false
 use Rattle.std.proofs.lemmas.List.FromFn.{length-map-range_with_len}
 use Rattle.swp_base.specs.InMemory.{Plan, Memory, is_next, plan_after, memory_after, torn_bytes, WritesAsPlanned}
 use Rattle.swp_base.specs.Outside.{overwritten, one_more, IsWritten}
-use Rattle.journal_laws.specs.Writes.{Write, after, IsCut, AreMade}
+use Rattle.journal_laws.specs.Writes.{Write, after_writes, IsCut, AreMade}
 use Rattle.journal_laws.specs.Planned.{fails_within, after_planned}
 use Rattle.journal_laws.proofs.Made.{made_whole, made_in_part}
 use Rattle.journal_laws.proofs.Planned.{planned_answer}
@@ -69,13 +69,13 @@ are_made (w ∷ planned) m = by_next (cases_Bool (is_next m.plan)) (are_made pla
 
 -- where none of them fails, all stand in the memory
 pub planned_whole : (planned : List Write) (m : Memory) → fails_within (length planned) m.plan ≡ false
-    → ((after_planned planned m).content ≡ after planned m.content) × ((after_planned planned m).plan ≡ plan_behind planned m.plan)
+    → ((after_planned planned m).content ≡ after_writes planned m.content) × ((after_planned planned m).plan ≡ plan_behind planned m.plan)
 planned_whole planned m none = whole made.0 (planned_answer planned m made.0 (after_planned planned m) made.1 ∙ ap not none) made.1 where
   made : Made planned m
   made = are_made planned m
 
   whole : (ok : Bool) → ok ≡ true → AreMade WritesAsPlanned planned m ok (after_planned planned m)
-      → ((after_planned planned m).content ≡ after planned m.content) × ((after_planned planned m).plan ≡ plan_behind planned m.plan)
+      → ((after_planned planned m).content ≡ after_writes planned m.content) × ((after_planned planned m).plan ≡ plan_behind planned m.plan)
   whole true is made = (
     made_whole WritesAsPlanned (λ (m : Memory). m.content) told planned m (after_planned planned m) made,
     plan_made planned m

@@ -17,9 +17,9 @@ use Rattle.gate_admin.specs.declared.view.LinkView.{LinkView}
 use Rattle.gate_admin.specs.declared.decision.Decision.{Decision}
 use Rattle.gate_admin.specs.declared.decision.Decision.TheVariants.{Answer, Commit, Ask}
 use Rattle.gate_admin.specs.View.{has, hosts_where}
-use Rattle.gate_admin.specs.Decide.{IsRecordable, decided}
-use Rattle.gate_link.specs.Link.{served as link_served}
-use Rattle.gate_identity.specs.Identity.{served as identity_served}
+use Rattle.gate_admin.specs.Decide.{IsRecordableDecision, decided}
+use Rattle.gate_link.specs.Link.{link_served}
+use Rattle.gate_identity.specs.Identity.{identity_served}
 use Rattle.link_machine.specs.Machine.{Message}
 use Rattle.node_machine.specs.Parts.{Creation, About, Notice, Core, Port, Deed}
 use Rattle.node_machine.specs.Parts.About.{Waits, Forgotten, Removed}
@@ -103,7 +103,7 @@ module _ (core : Core) (on : IsOnOrder core.command core.init) where
   relay_may ports h m other true = on
   relay_may ports h m other false = unrelayed_may h (has_link ports h) m
 
-  decision_may : (h pipe : ℕ) (d : Decision) → IsRecordable d → Fine (decision_deeds core h pipe d)
+  decision_may : (h pipe : ℕ) (d : Decision) → IsRecordableDecision d → Fine (decision_deeds core h pipe d)
   decision_may h pipe (Answer answer) may = on
   decision_may h pipe (Commit c answer tell notice) may =
       commit_may c (finds_room core c) refl h pipe answer.items _ may (told None notice.items (hosts_where (has tell)))

@@ -7,7 +7,7 @@ use Rattle.journal_laws.specs.Records.{IsBody, used}
 use Rattle.pipe_table.specs.declared.row.PipeRow.{PipeRow}
 use Rattle.pipe_table.specs.PipeRows.{pid_of}
 use Rattle.registry.specs.declared.value.RegValue.{RegValue}
-use Rattle.registry.specs.Values.{place_of, is_kept}
+use Rattle.registry.specs.Values.{place_of_value, is_kept}
 use Rattle.hci_tables.specs.declared.command.Command.{Command}
 use Rattle.hci_tables.specs.declared.command.Command.TheVariants.{Create, Delete, Clear, SetOpened, Set, Sync}
 use Rattle.hci_tables.specs.Commands.{is_allowed, IsCommand}
@@ -85,7 +85,7 @@ snapshot_fits t may are =
     (taken syncs) (taken values) (taken rows) (taken opened) (taken statics)
     (length t.syncs) (length t.values) (length t.rows) (length t.statics) a b c d
     (syncs_taken t.syncs) (values_taken t.values may.values) (rows_taken t.rows) (opened_taken t.rows) (statics_taken t.statics)
-    (length-rows sync_host 1 8 t.syncs are.syncs) (length-rows place_of 2 16 t.values are.values.sorted)
+    (length-rows sync_host 1 8 t.syncs are.syncs) (length-rows place_of_value 2 16 t.values are.values.sorted)
     (length-rows pid_of 2 112 t.rows are.rows) (length-rows static_place 0 16 t.statics are.statics)
   where
     all_fit : (n a b c s v r o st ls lv lr lst : ℕ) → n ≡ a + st → a ≡ b + o → b ≡ c + r → c ≡ s + v

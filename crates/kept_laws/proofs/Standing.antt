@@ -8,7 +8,7 @@ use Rattle.trace_model.specs.declared.entry.Entry.{Entry}
 use Rattle.trace_model.specs.declared.entry.Entry.TheVariants as entry
 use Rattle.journal_laws.specs.Journal.{count_of}
 use Rattle.journal_laws.specs.Planned.{after_planned}
-use Rattle.message_link.specs.Links.{Half}
+use Rattle.message_link.specs.Links.{NumberedEnd}
 use Rattle.hci_tables.specs.Tables.{close}
 use Rattle.node_machine.specs.Parts.{Desk, Running, Port, Work}
 use Rattle.node_world.specs.World.{port_for, work_of, runs_on}
@@ -87,11 +87,11 @@ keeps_same n hosts t u m node same k = record {
 
 -- ## Before and after a step
 
-port_hosts : (halves : ℕ → Half) (desks : List Desk) → hosts_of_ends (map (λ (d : Desk). port_for (halves d.host) d) desks) ≡ map (λ (d : Desk). d.host) desks
+port_hosts : (halves : ℕ → NumberedEnd) (desks : List Desk) → hosts_of_ends (map (λ (d : Desk). port_for (halves d.host) d) desks) ≡ map (λ (d : Desk). d.host) desks
 port_hosts halves [] = refl
 port_hosts halves (d ∷ desks) = ap (λ l. d.host ∷ l) (port_hosts halves desks)
 
-port_waits : (halves : ℕ → Half) (desks : List Desk) → AllByRecursion (λ (d : Desk). WaitsFor d.notice) desks
+port_waits : (halves : ℕ → NumberedEnd) (desks : List Desk) → AllByRecursion (λ (d : Desk). WaitsFor d.notice) desks
     → AllByRecursion WaitsAt (map (λ (d : Desk). port_for (halves d.host) d) desks)
 port_waits halves [] all = tt
 port_waits halves (d ∷ desks) all = (all.0, port_waits halves desks all.1)
@@ -104,13 +104,13 @@ desk_waits : (ports : List Port) → AllByRecursion WaitsAt ports → AllByRecur
 desk_waits [] all = tt
 desk_waits (p ∷ ports) all = (all.0, desk_waits ports all.1)
 
-desk_new : (halves : ℕ → Half) (ports : List Port) → NoneNew ports (map (λ (d : Desk). port_for (halves d.host) d) (map (λ (p : Port). p.desk) ports))
+desk_new : (halves : ℕ → NumberedEnd) (ports : List Port) → NoneNew ports (map (λ (d : Desk). port_for (halves d.host) d) (map (λ (p : Port). p.desk) ports))
 desk_new halves ports =
     subst (NoneNew ports) (sym (map_two (λ (d : Desk). port_for (halves d.host) d) (λ (p : Port). p.desk) ports))
     (map_new (λ (p : Port). port_for (halves p.desk.host) p.desk) (λ p. refl) (λ p c e. e) ports)
 
 -- a step begins
-pub runs_begun : (n : ℕ) (hosts : List ℕ) (t : List Entry) (m : Memory) (r : Running) (halves : ℕ → Half) (es : List Entry) → AllByRecursion IsPlain es
+pub runs_begun : (n : ℕ) (hosts : List ℕ) (t : List Entry) (m : Memory) (r : Running) (halves : ℕ → NumberedEnd) (es : List Entry) → AllByRecursion IsPlain es
     → RunsSo n hosts m.content t r → StillRuns n hosts m t (work_of r m.plan halves es)
 runs_begun n hosts t m r halves es plain k = record {
   on = refl;

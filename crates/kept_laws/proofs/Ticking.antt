@@ -6,7 +6,7 @@ use Rattle.std.proofs.lemmas.Bool.{eqb-false, ne_eqb}
 use Rattle.trace_model.specs.Lines.{IsHost}
 use Rattle.trace_model.specs.declared.entry.Entry.{Entry}
 use Rattle.journal_laws.specs.Planned.{after_planned}
-use Rattle.message_link.specs.Links.{exchanged, aged, ticks_here}
+use Rattle.message_link.specs.Links.{exchanged, aged, ticks_at_controller}
 use Rattle.message_link.specs.Links.Ending.{GoesOut}
 use Rattle.link_entries.specs.Entries.{aged_entries}
 use Rattle.link_entries.specs.Entries.End.{Controller, Host}
@@ -128,9 +128,9 @@ module _ (hosts : List ℕ) (are : AreHosts hosts) where
           memory = w.memory;
           controller = None;
           sites = map (λ
-              (s : Site). record s { link = ticks_here s.link [] GoesOut }) w.sites;
+              (s : Site). record s { link = ticks_at_controller s.link [] GoesOut }) w.sites;
         }) []
-        (λ (s : Site). record s { link = ticks_here s.link [] GoesOut }) all tt refl k (λ s. refl) (λ s x. x))
+        (λ (s : Site). record s { link = ticks_at_controller s.link [] GoesOut }) all tt refl k (λ s. refl) (λ s x. x))
     by_node (Some r) e k =
         let begun : Work = work_of r w.memory.plan (λ h. (link_to w.sites h).controller) [] in
         let work : Work = steps TimePasses begun in

@@ -9,7 +9,7 @@ use Rattle.journal_laws.specs.Writes.{Write}
 use Rattle.journal_laws.specs.Journal.{count_of}
 use Rattle.journal_laws.specs.Planned.{after_planned}
 use Rattle.hci_tables.specs.Commands.{IsCommand}
-use Rattle.hci_tables.specs.Tables.{AreTables, no_tables, after}
+use Rattle.hci_tables.specs.Tables.{AreTables, no_tables, after_commands}
 use Rattle.hci_store.specs.Recordable.{IsRecordable}
 use Rattle.node_machine.specs.Parts.{About, Notice, Port, Work}
 use Rattle.node_machine.specs.Parts.About.{Waits, Forgotten, Removed}
@@ -57,7 +57,7 @@ AreToldBehind front (x ∷ es) = IsTold front x × AreToldBehind (front ++ x ∷
 pub record WouldFind (content : List ℕ) (book : Book) (last : Last) : Type 0 where
   pub many : ℕ
   pub which : (many ≡ length book.commands) ⊎ ((suc many ≡ length book.commands) × (last ≡ CutBehindCommand) × IsSome (current content))
-  pub finds : BootFinds content (after no_tables (take many book.commands)) (min many (2 ^ 32 - 1))
+  pub finds : BootFinds content (after_commands no_tables (take many book.commands)) (min many (2 ^ 32 - 1))
 
 -- ## A step
 

@@ -12,7 +12,7 @@ use Rattle.node_world.specs.World.{NodeWorld, Site, Happening, node_at, port_for
 use Rattle.node_world.specs.World.Happening.{IsCut, Gives}
 use Rattle.node_world.specs.NodeFilters.{new_book, book_in, commands_in, tables_in}
 use Rattle.node_world.specs.NodeLegal.{last_in}
-use Rattle.message_link.specs.Links.{Half}
+use Rattle.message_link.specs.Links.{NumberedEnd}
 use Rattle.node_laws.specs.Waiting.{MayWait}
 use Rattle.kept_laws.specs.Finds.{Knows}
 use Rattle.kept_laws.specs.Books.{WaitsFor, WouldFind}
@@ -30,7 +30,7 @@ pub record RunsSo (n : ℕ) (hosts content : List ℕ) (t : List Entry) (r : Run
   pub count_is : count_of r.core.journal ≡ min (length (commands_in t n)) (2 ^ 32 - 1)
   pub on : IsOnOrder r.core.command r.core.init
   pub waits : AllByRecursion (λ (d : Desk). WaitsFor d.notice) r.desks
-  pub allowed : n ≡ 0 → (halves : ℕ → Half) → MayWait r.core.tables (map (λ (d : Desk). port_for (halves d.host) d) r.desks)
+  pub allowed : n ≡ 0 → (halves : ℕ → NumberedEnd) → MayWait r.core.tables (map (λ (d : Desk). port_for (halves d.host) d) r.desks)
 
 -- where it runs
 abbrev pub IfRuns : ℕ → List ℕ → List ℕ → List Entry → Option Running → Type 0

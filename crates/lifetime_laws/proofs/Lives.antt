@@ -11,11 +11,11 @@ use Rattle.link_laws.specs.Wire.{OnWire, with_frame, fits, is_act, sans, overflo
 use Rattle.link_laws.proofs.Marks.{Shows, Counts}
 use Rattle.link_laws.proofs.Flows.{flows_new}
 use Rattle.link_laws.proofs.Idle.{few_taken, idle_after, left, no_due}
-use Rattle.session_laws.specs.Sessions.{Half, Link, exchanged, put, put_all, becomes, with_ended, took_with, happens_here, ticks_here, aged, EndEvent, all_here, LinkEvent, happens, after, start, Turn, turn, turned}
-use Rattle.session_laws.specs.Sessions.Turn.{Offer, SetReady}
-use Rattle.session_laws.specs.Sessions.EndEvent.{Turns, Deliver}
-use Rattle.session_laws.specs.Sessions.LinkEvent.{AtController, AtHost, Tick, TickWithout}
-use Rattle.session_laws.specs.Losses.{Losses, no_losses, noted, noted_all, noted_out, came_up, noted_here, noted_turns, noted_tick, noted_aged, noted_event, losses_after}
+use Rattle.session_laws.specs.Sessions.{NumberedShdlc, ShdlcLink, shdlc_exchanged, shdlc_put, shdlc_put_all, shdlc_becomes, with_shdlc_ended, took_with, shdlc_happens_at_controller, shdlc_ticks_at_controller, shdlc_aged, ShdlcEndEvent, shdlc_all_at_controller, ShdlcLinkEvent, shdlc_happens, shdlc_after, start, ShdlcTurn, shdlc_turn, shdlc_turned}
+use Rattle.session_laws.specs.Sessions.ShdlcTurn.{Offer, SetReady}
+use Rattle.session_laws.specs.Sessions.ShdlcEndEvent.{Turns, Deliver}
+use Rattle.session_laws.specs.Sessions.ShdlcLinkEvent.{AtController, AtHost, Tick, TickWithout}
+use Rattle.session_laws.specs.Losses.{Losses, no_losses, noted_loss, noted_all, noted_out, came_up, noted_here, noted_turns, noted_tick, noted_aged, noted_event, losses_after}
 use Rattle.session_laws.proofs.Wire.{IsData, Young, young_later, young_older}
 use Rattle.session_laws.proofs.Steps.{not_rset, took_other}
 use Rattle.session_laws.proofs.Ties.{data_due, sends_noted, offer_up, few_turns, none_due}
@@ -72,21 +72,21 @@ aged_is_older (x ∷ xs) h y = go (nat_lt x.age 4) refl (aged_is_older xs)
 -- ## The link
 
 -- what an end keeps of its sessions and their numbers
-record Keeps (before now : Half) : Type 0 where
+record Keeps (before now : NumberedShdlc) : Type 0 where
   emitted : now.emitted ≡ before.emitted
   took : now.took ≡ before.took
   past : now.past ≡ before.past
 
 -- both ends go on in their session, c and h are what they were as it began, and both have sent all that is due; kn and kf ticks
 -- have passed that they have still to count
-record IsAlive (kn kf : ℕ) (c h : Half) (l : Link) : Type 0 where
+record IsAlive (kn kf : ℕ) (c h : NumberedShdlc) (l : ShdlcLink) : Type 0 where
   lasts : Lasts kn kf l.controller.side l.host.side l.to_controller l.to_host
   near_idle : frame_due l.controller.side ≡ None
   far_idle : frame_due l.host.side ≡ None
   near : Keeps c l.controller
   far : Keeps h l.host
 
-alive_exchanged : (kn kf : ℕ) (c h : Half) (l : Link) → IsAlive kn kf c h l → IsAlive kf kn h c (exchanged l)
+alive_exchanged : (kn kf : ℕ) (c h : NumberedShdlc) (l : ShdlcLink) → IsAlive kn kf c h l → IsAlive kf kn h c (shdlc_exchanged l)
 alive_exchanged kn kf c h l a =
     record {
       lasts = lasts_exchanged kn kf l.controller.side l.host.side l.to_controller l.to_host a.lasts;
@@ -97,16 +97,16 @@ alive_exchanged kn kf c h l a =
     }
 
 -- what was lost stays lost as frames go out
-out_lost : (cs : List Control) (n : Losses) (l : Link) → (noted_all n l cs).lost ≡ false → n.lost ≡ false
+out_lost : (cs : List Control) (n : Losses) (l : ShdlcLink) → (noted_all n l cs).lost ≡ false → n.lost ≡ false
 out_lost [] n l v = v
-out_lost (c ∷ cs) n l v = (or_parts n.lost (overflows (with_frame l.to_host c)) (out_lost cs (noted n l c) (put l c) v)).0
+out_lost (c ∷ cs) n l v = (or_parts n.lost (overflows (with_frame l.to_host c)) (out_lost cs (noted_loss n l c) (shdlc_put l c) v)).0
 
 -- the near end, which has become e, while it sends what is due on the link m; c and h are both ends as it began
-abbrev Sends : ℕ → Half → Half → Losses → EndState → Link → Type 0
+abbrev Sends : ℕ → NumberedShdlc → NumberedShdlc → Losses → EndState → ShdlcLink → Type 0
 Sends kf c h n e m = n.lost ≡ false → Lasts 0 kf e m.host.side m.to_controller m.to_host × (m.controller ≡ c) × (m.host ≡ h)
 
-sends_each : (kf : ℕ) (c h : Half) (n : Losses) (e : EndState) (m : Link) (f : Control) → frame_due e ≡ Some f → Sends kf c h n e m
-    → Sends kf c h (noted n m f) (fetched e) (put m f)
+sends_each : (kf : ℕ) (c h : NumberedShdlc) (n : Losses) (e : EndState) (m : ShdlcLink) (f : Control) → frame_due e ≡ Some f → Sends kf c h n e m
+    → Sends kf c h (noted_loss n m f) (fetched e) (shdlc_put m f)
 sends_each kf c h n e m f is k v =
     let parts = or_parts n.lost (overflows (with_frame m.to_host f)) v in
     let g = k parts.0 in
@@ -118,64 +118,64 @@ sends_each kf c h n e m f is k v =
     rw (not_rset f (inl d.0), all) (one, g.1, g.2)
 
 -- it becomes e, and sends all that is due
-alive_becomes : (kf : ℕ) (c h : Half) (n : Losses) (l : Link) (e : EndState) → Lasts 0 kf e l.host.side l.to_controller l.to_host → left e ≤ most_frames
-    → frame_due l.host.side ≡ None → Keeps c l.controller → Keeps h l.host → (noted_out n l e).lost ≡ false → IsAlive 0 kf c h (becomes l e)
+alive_becomes : (kf : ℕ) (c h : NumberedShdlc) (n : Losses) (l : ShdlcLink) (e : EndState) → Lasts 0 kf e l.host.side l.to_controller l.to_host → left e ≤ most_frames
+    → frame_due l.host.side ≡ None → Keeps c l.controller → Keeps h l.host → (noted_out n l e).lost ≡ false → IsAlive 0 kf c h (shdlc_becomes l e)
 alive_becomes kf c h n l e lasts few idle near far v =
-    let m : Link = put_all l (frames_of most_frames e) in
+    let m : ShdlcLink = shdlc_put_all l (frames_of most_frames e) in
     let r = sends_noted (Sends kf l.controller l.host) (sends_each kf l.controller l.host) most_frames n e l (λ w. (lasts, refl, refl)) v in
     record {
       lasts = r.0;
       near_idle = idle_after most_frames e few;
-      far_idle = ap (λ (k : Half). frame_due k.side) r.2 ∙ idle;
+      far_idle = ap (λ (k : NumberedShdlc). frame_due k.side) r.2 ∙ idle;
       near = record {
-        emitted = ap (λ (k : Half). k.emitted) r.1 ∙ near.emitted;
-        took = ap (λ (k : Half). k.took) r.1 ∙ near.took;
-        past = ap (λ (k : Half). k.past) r.1 ∙ near.past;
+        emitted = ap (λ (k : NumberedShdlc). k.emitted) r.1 ∙ near.emitted;
+        took = ap (λ (k : NumberedShdlc). k.took) r.1 ∙ near.took;
+        past = ap (λ (k : NumberedShdlc). k.past) r.1 ∙ near.past;
       };
-      far = let P : Half → Type 0 = Keeps h in subst P (sym r.2) far;
+      far = let P : NumberedShdlc → Type 0 = Keeps h in subst P (sym r.2) far;
     }
 
 -- ## Turns
 
-lasts_turn : (kn kf : ℕ) (e f : EndState) (to_near to_far : List OnWire) (t : Turn) → Lasts kn kf e f to_near to_far → Lasts kn kf (turn e t) f to_near to_far
+lasts_turn : (kn kf : ℕ) (e f : EndState) (to_near to_far : List OnWire) (t : ShdlcTurn) → Lasts kn kf e f to_near to_far → Lasts kn kf (shdlc_turn e t) f to_near to_far
 lasts_turn kn kf e f to_near to_far (Offer fragments) k =
     let P : EndState → Type 0 = λ g. Lasts kn kf g f to_near to_far in
     subst P (sym (offer_up e fragments k.near_up)) (lasts_put kn kf e f to_near to_far fragments k)
 lasts_turn kn kf e f to_near to_far (SetReady r) k = lasts_ready kn kf e f to_near to_far r k
 
-lasts_turns : (kn kf : ℕ) (ts : List Turn) (e f : EndState) (to_near to_far : List OnWire) → Lasts kn kf e f to_near to_far
-    → Lasts kn kf (turned e ts) f to_near to_far
+lasts_turns : (kn kf : ℕ) (ts : List ShdlcTurn) (e f : EndState) (to_near to_far : List OnWire) → Lasts kn kf e f to_near to_far
+    → Lasts kn kf (shdlc_turned e ts) f to_near to_far
 lasts_turns kn kf [] e f to_near to_far k = k
-lasts_turns kn kf (t ∷ ts) e f to_near to_far k = lasts_turns kn kf ts (turn e t) f to_near to_far (lasts_turn kn kf e f to_near to_far t k)
+lasts_turns kn kf (t ∷ ts) e f to_near to_far k = lasts_turns kn kf ts (shdlc_turn e t) f to_near to_far (lasts_turn kn kf e f to_near to_far t k)
 
 -- it becomes e, with few answers to send, has its turns, and sends all that is due
-alive_turned : (kf : ℕ) (c h : Half) (n : Losses) (l : Link) (ts : List Turn) (e : EndState) → Lasts 0 kf e l.host.side l.to_controller l.to_host
-    → length e.due ≤ 1 → frame_due l.host.side ≡ None → Keeps c l.controller → Keeps h l.host → (noted_out n l (turned e ts)).lost ≡ false
-    → IsAlive 0 kf c h (becomes l (turned e ts))
+alive_turned : (kf : ℕ) (c h : NumberedShdlc) (n : Losses) (l : ShdlcLink) (ts : List ShdlcTurn) (e : EndState) → Lasts 0 kf e l.host.side l.to_controller l.to_host
+    → length e.due ≤ 1 → frame_due l.host.side ≡ None → Keeps c l.controller → Keeps h l.host → (noted_out n l (shdlc_turned e ts)).lost ≡ false
+    → IsAlive 0 kf c h (shdlc_becomes l (shdlc_turned e ts))
 alive_turned kf c h n l ts e lasts one idle near far v =
     let k = lasts_turns 0 kf ts e l.host.side l.to_controller l.to_host lasts in
     let few = few_turns ts e lasts.near_up (few_room e one) in
-    alive_becomes kf c h n l (turned e ts) k (omega (arith, few, k.near_sends.window, k.near_sends.acked_next)) idle near far v
+    alive_becomes kf c h n l (shdlc_turned e ts) k (omega (arith, few, k.near_sends.window, k.near_sends.acked_next)) idle near far v
 
 none_waits : (e : EndState) → frame_due e ≡ None → length e.due ≡ 0
 none_waits e idle = ap length (no_due e idle)
 
-alive_turns : (kf : ℕ) (c h : Half) (n : Losses) (l : Link) (ts : List Turn) → IsAlive 0 kf c h l → (noted_here n l (Turns ts)).lost ≡ false
-    → IsAlive 0 kf c h (happens_here l (Turns ts))
+alive_turns : (kf : ℕ) (c h : NumberedShdlc) (n : Losses) (l : ShdlcLink) (ts : List ShdlcTurn) → IsAlive 0 kf c h l → (noted_here n l (Turns ts)).lost ≡ false
+    → IsAlive 0 kf c h (shdlc_happens_at_controller l (Turns ts))
 alive_turns kf c h n l ts a v =
     alive_turned kf c h n l ts l.controller.side a.lasts (let z = none_waits l.controller.side a.near_idle in omega arith) a.far_idle a.near a.far v
 
 -- ## A frame is taken
 
-alive_takes : (c h : Half) (n : Losses) (l : Link) (ts : List Turn) → IsAlive 0 0 c h l → (noted_here n l (Deliver ts)).lost ≡ false
-    → IsAlive 0 0 c h (happens_here l (Deliver ts))
+alive_takes : (c h : NumberedShdlc) (n : Losses) (l : ShdlcLink) (ts : List ShdlcTurn) → IsAlive 0 0 c h l → (noted_here n l (Deliver ts)).lost ≡ false
+    → IsAlive 0 0 c h (shdlc_happens_at_controller l (Deliver ts))
 alive_takes c h n l ts a = go l.to_controller a
   where
     e : EndState
     e = l.controller.side
 
     go : (wire : List OnWire) → IsAlive 0 0 c h (record l { to_controller = wire }) → (noted_here n (record l { to_controller = wire }) (Deliver ts)).lost ≡ false
-        → IsAlive 0 0 c h (happens_here (record l { to_controller = wire }) (Deliver ts))
+        → IsAlive 0 0 c h (shdlc_happens_at_controller (record l { to_controller = wire }) (Deliver ts))
     go [] b v = b
     go (x ∷ xs) b v =
         let t = lasts_taken e l.host.side x xs l.to_host (no_probe 0 0 e l.host.side (x ∷ xs) l.to_host b.near_idle b.lasts) b.lasts in
@@ -186,15 +186,15 @@ alive_takes c h n l ts a = go l.to_controller a
         (took_other l.controller.took x (not_rset x.frame (inl d)))
         (λ w. alive_turned 0 c h n (record l { to_controller = xs }) ts (taken e x.frame) t.0 (omega arith) b.far_idle b.near b.far w) v
       where
-        from : Bool → ℕ → Link
+        from : Bool → ℕ → ShdlcLink
         from ended took =
-            let m : Link = with_ended (record l { to_controller = xs }) ended in
+            let m : ShdlcLink = with_shdlc_ended (record l { to_controller = xs }) ended in
             record m { controller = record m.controller { took = took } }
 
         Goes : Bool → Bool → ℕ → Type 0
         Goes ended began took =
-            (noted_out (came_up n (from ended took) began) (from ended took) (turned (taken e x.frame) ts)).lost ≡ false
-            → IsAlive 0 0 c h (becomes (from ended took) (turned (taken e x.frame) ts))
+            (noted_out (came_up n (from ended took) began) (from ended took) (shdlc_turned (taken e x.frame) ts)).lost ≡ false
+            → IsAlive 0 0 c h (shdlc_becomes (from ended took) (shdlc_turned (taken e x.frame) ts))
 
         by : (ended began : Bool) (took : ℕ) → ended ≡ false → began ≡ false → took ≡ l.controller.took → Goes false false l.controller.took → Goes ended began took
         by true began took p q r g = absurd (true≢false p)
@@ -203,7 +203,7 @@ alive_takes c h n l ts a = go l.to_controller a
 
 -- ## A tick
 
-alive_aged : (c h : Half) (n : Losses) (l : Link) → IsAlive 0 0 c h l → (noted_aged n l).lost ≡ false → IsAlive 1 1 c h (aged l)
+alive_aged : (c h : NumberedShdlc) (n : Losses) (l : ShdlcLink) → IsAlive 0 0 c h l → (noted_aged n l).lost ≡ false → IsAlive 1 1 c h (shdlc_aged l)
 alive_aged c h n l a v =
     let s = l.controller.side.session in
     let t = l.host.side.session in
@@ -225,8 +225,8 @@ alive_aged c h n l a v =
       far = a.far;
     }
 
-alive_ticks : (kf : ℕ) (c h : Half) (n : Losses) (l : Link) (ts : List Turn) → IsAlive 1 kf c h l → (noted_tick n (Some ts) l).lost ≡ false
-    → IsAlive 0 kf c h (ticks_here l ts)
+alive_ticks : (kf : ℕ) (c h : NumberedShdlc) (n : Losses) (l : ShdlcLink) (ts : List ShdlcTurn) → IsAlive 1 kf c h l → (noted_tick n (Some ts) l).lost ≡ false
+    → IsAlive 0 kf c h (shdlc_ticks_at_controller l ts)
 alive_ticks kf c h n l ts a v =
     by (is_some (tick_answer e).ended) (ap is_some t.1)
     (λ w. alive_turned kf c h n l ts (ticked e) t.0 (omega (arith, none)) a.far_idle a.near a.far w) v
@@ -242,32 +242,32 @@ alive_ticks kf c h n l ts a v =
     none = ap length (ticked-due e a.lasts.near_up (omega (arith, a.lasts.near_timely.most)) ∙ no_due e a.near_idle)
 
     Goes : Bool → Type 0
-    Goes ended = (noted_out n (with_ended l ended) (turned (ticked e) ts)).lost ≡ false → IsAlive 0 kf c h (becomes (with_ended l ended) (turned (ticked e) ts))
+    Goes ended = (noted_out n (with_shdlc_ended l ended) (shdlc_turned (ticked e) ts)).lost ≡ false → IsAlive 0 kf c h (shdlc_becomes (with_shdlc_ended l ended) (shdlc_turned (ticked e) ts))
 
     by : (ended : Bool) → ended ≡ false → Goes false → Goes ended
     by true p g = absurd (true≢false p)
     by false p g = g
 
-turns_lost : (es : List EndEvent) (n : Losses) (l : Link) → OnlyTurns es → (noted_turns n l es).lost ≡ false → n.lost ≡ false
+turns_lost : (es : List ShdlcEndEvent) (n : Losses) (l : ShdlcLink) → OnlyTurns es → (noted_turns n l es).lost ≡ false → n.lost ≡ false
 turns_lost [] n l a v = v
 turns_lost (Turns ts ∷ es) n l a v =
-    out_lost (frames_of most_frames (turned l.controller.side ts)) n l (turns_lost es (noted_here n l (Turns ts)) (happens_here l (Turns ts)) a v)
+    out_lost (frames_of most_frames (shdlc_turned l.controller.side ts)) n l (turns_lost es (noted_here n l (Turns ts)) (shdlc_happens_at_controller l (Turns ts)) a v)
 turns_lost (_ ∷ es) n l a v = absurd a
 
-alive_all : (es : List EndEvent) (kf : ℕ) (c h : Half) (n : Losses) (l : Link) → OnlyTurns es → IsAlive 0 kf c h l → (noted_turns n l es).lost ≡ false
-    → IsAlive 0 kf c h (all_here l es)
+alive_all : (es : List ShdlcEndEvent) (kf : ℕ) (c h : NumberedShdlc) (n : Losses) (l : ShdlcLink) → OnlyTurns es → IsAlive 0 kf c h l → (noted_turns n l es).lost ≡ false
+    → IsAlive 0 kf c h (shdlc_all_at_controller l es)
 alive_all [] kf c h n l a k v = k
 alive_all (Turns ts ∷ es) kf c h n l a k v =
-    alive_all es kf c h (noted_here n l (Turns ts)) (happens_here l (Turns ts)) a
-    (alive_turns kf c h n l ts k (turns_lost es (noted_here n l (Turns ts)) (happens_here l (Turns ts)) a v)) v
+    alive_all es kf c h (noted_here n l (Turns ts)) (shdlc_happens_at_controller l (Turns ts)) a
+    (alive_turns kf c h n l ts k (turns_lost es (noted_here n l (Turns ts)) (shdlc_happens_at_controller l (Turns ts)) a v)) v
 alive_all (_ ∷ es) kf c h n l a k v = absurd a
 
-alive_tick : (c h : Half) (n : Losses) (l : Link) (ts : List Turn) (es : List EndEvent) (us : List Turn) → OnlyTurns es → IsAlive 0 0 c h l
-    → (noted_event n l (Tick (Some ts) es (Some us))).lost ≡ false → IsAlive 0 0 c h (happens l (Tick (Some ts) es (Some us)))
+alive_tick : (c h : NumberedShdlc) (n : Losses) (l : ShdlcLink) (ts : List ShdlcTurn) (es : List ShdlcEndEvent) (us : List ShdlcTurn) → OnlyTurns es → IsAlive 0 0 c h l
+    → (noted_event n l (Tick (Some ts) es (Some us))).lost ≡ false → IsAlive 0 0 c h (shdlc_happens l (Tick (Some ts) es (Some us)))
 alive_tick c h n l ts es us a k v =
-    let one : Link = aged l in
-    let two : Link = ticks_here one ts in
-    let three : Link = exchanged (all_here two es) in
+    let one : ShdlcLink = shdlc_aged l in
+    let two : ShdlcLink = shdlc_ticks_at_controller one ts in
+    let three : ShdlcLink = shdlc_exchanged (shdlc_all_at_controller two es) in
     let n_one : Losses = noted_aged n l in
     let n_two : Losses = noted_tick n_one (Some ts) one in
     let n_three : Losses = noted_turns n_two two es in
@@ -275,35 +275,35 @@ alive_tick c h n l ts es us a k v =
     let v_two : n_two.lost ≡ false = turns_lost es n_two two a v_three in
     let v_one : n_one.lost ≡ false = ticks_lost n_one ts one v_two in
     let k_two = alive_ticks 1 c h n_one one ts (alive_aged c h n l k v_one) v_two in
-    let k_three = alive_exchanged 0 1 c h (all_here two es) (alive_all es 1 c h n_two two a k_two v_three) in
-    alive_exchanged 0 0 h c (ticks_here three us) (alive_ticks 0 h c n_three three us k_three v)
+    let k_three = alive_exchanged 0 1 c h (shdlc_all_at_controller two es) (alive_all es 1 c h n_two two a k_two v_three) in
+    alive_exchanged 0 0 h c (shdlc_ticks_at_controller three us) (alive_ticks 0 h c n_three three us k_three v)
   where
-    ticks_lost : (n : Losses) (ts : List Turn) (l : Link) → (noted_tick n (Some ts) l).lost ≡ false → n.lost ≡ false
-    ticks_lost n ts l w = out_lost (frames_of most_frames (turned (ticked l.controller.side) ts)) n (with_ended l (is_some (tick_answer l.controller.side).ended)) w
+    ticks_lost : (n : Losses) (ts : List ShdlcTurn) (l : ShdlcLink) → (noted_tick n (Some ts) l).lost ≡ false → n.lost ≡ false
+    ticks_lost n ts l w = out_lost (frames_of most_frames (shdlc_turned (ticked l.controller.side) ts)) n (with_shdlc_ended l (is_some (tick_answer l.controller.side).ended)) w
 
 -- ## Events
 
-alive_here : (c h : Half) (n : Losses) (l : Link) (e : EndEvent) → IsPlainHere e → IsAlive 0 0 c h l → (noted_here n l e).lost ≡ false
-    → IsAlive 0 0 c h (happens_here l e)
+alive_here : (c h : NumberedShdlc) (n : Losses) (l : ShdlcLink) (e : ShdlcEndEvent) → IsPlainHere e → IsAlive 0 0 c h l → (noted_here n l e).lost ≡ false
+    → IsAlive 0 0 c h (shdlc_happens_at_controller l e)
 alive_here c h n l (Turns ts) p a v = alive_turns 0 c h n l ts a v
 alive_here c h n l (Deliver ts) p a v = alive_takes c h n l ts a v
 alive_here c h n l (_) p a v = absurd p
 
-alive_event : (c h : Half) (n : Losses) (l : Link) (e : LinkEvent) → IsPlainEvent e → IsAlive 0 0 c h l → (noted_event n l e).lost ≡ false
-    → IsAlive 0 0 c h (happens l e)
+alive_event : (c h : NumberedShdlc) (n : Losses) (l : ShdlcLink) (e : ShdlcLinkEvent) → IsPlainEvent e → IsAlive 0 0 c h l → (noted_event n l e).lost ≡ false
+    → IsAlive 0 0 c h (shdlc_happens l e)
 alive_event c h n l (AtController e) p a v = alive_here c h n l e p a v
 alive_event c h n l (AtHost e) p a v =
-    alive_exchanged 0 0 h c (happens_here (exchanged l) e) (alive_here h c n (exchanged l) e p (alive_exchanged 0 0 c h l a) v)
+    alive_exchanged 0 0 h c (shdlc_happens_at_controller (shdlc_exchanged l) e) (alive_here h c n (shdlc_exchanged l) e p (alive_exchanged 0 0 c h l a) v)
 alive_event c h n l (Tick (Some ts) es (Some us)) p a v = alive_tick c h n l ts es us p a v
 alive_event c h n l (Tick (Some ts) es None) p a v = absurd p
 alive_event c h n l (Tick None es d) p a v = absurd p
 alive_event c h n l (TickWithout es d) p a v = absurd p
 
-alive_after : (events : List LinkEvent) (c h : Half) (n : Losses) (l : Link) → AllPlain events
-    → ((front : List LinkEvent) → IsPrefix front events → (losses_after n l front).lost ≡ false) → IsAlive 0 0 c h l → IsAlive 0 0 c h (after l events)
+alive_after : (events : List ShdlcLinkEvent) (c h : NumberedShdlc) (n : Losses) (l : ShdlcLink) → AllPlain events
+    → ((front : List ShdlcLinkEvent) → IsPrefix front events → (losses_after n l front).lost ≡ false) → IsAlive 0 0 c h l → IsAlive 0 0 c h (shdlc_after l events)
 alive_after [] c h n l p none a = a
 alive_after (e ∷ es) c h n l p none a =
-    alive_after es c h (noted_event n l e) (happens l e) p.1 (λ front is. none (e ∷ front) (is.0, ap (λ (r : List LinkEvent). e ∷ r) is.1))
+    alive_after es c h (noted_event n l e) (shdlc_happens l e) p.1 (λ front is. none (e ∷ front) (is.0, ap (λ (r : List ShdlcLinkEvent). e ∷ r) is.1))
     (alive_event c h n l e p.0 a (none (e ∷ []) (es, refl)))
 
 -- ## A new session
@@ -340,7 +340,7 @@ anew_lasts n f g k =
           tried = λ e. absurd (omega arith);
         }
 
-begins_alive : (l : Link) → BeginsAnew l → IsAlive 0 0 l.controller l.host l
+begins_alive : (l : ShdlcLink) → BeginsAnew l → IsAlive 0 0 l.controller l.host l
 begins_alive l b =
     record {
       lasts = rw (b.to_controller, b.to_host) (anew_lasts l.controller.side l.host.side b.controller b.host);
@@ -353,18 +353,18 @@ begins_alive l b =
     anew_idle : (e : EndState) → IsAnew e → frame_due e ≡ None
     anew_idle e a = rw (a.due, a.session, none_due a.window) refl
 
-goes_on : (before now : Half) → now.side.phase ≡ Up → Keeps before now → GoesOn before now
+goes_on : (before now : NumberedShdlc) → now.side.phase ≡ Up → Keeps before now → GoesOn before now
 goes_on before now up k = record { up = up; number = rw (k.emitted, k.took) refl; past = k.past }
 
-pub alive_at_controller : (l : Link) → BeginsAnew l → (events : List LinkEvent) → AllPlain events → LosesNone l events → GoesOn l.controller (after l events).controller
+pub alive_at_controller : (l : ShdlcLink) → BeginsAnew l → (events : List ShdlcLinkEvent) → AllPlain events → LosesNone l events → GoesOn l.controller (shdlc_after l events).controller
 alive_at_controller l b events plain none =
     let a = alive_after events l.controller l.host no_losses l plain none (begins_alive l b) in
-    goes_on l.controller (after l events).controller a.lasts.near_up a.near
+    goes_on l.controller (shdlc_after l events).controller a.lasts.near_up a.near
 
-pub alive_at_host : (l : Link) → BeginsAnew l → (events : List LinkEvent) → AllPlain events → LosesNone l events → GoesOn l.host (after l events).host
+pub alive_at_host : (l : ShdlcLink) → BeginsAnew l → (events : List ShdlcLinkEvent) → AllPlain events → LosesNone l events → GoesOn l.host (shdlc_after l events).host
 alive_at_host l b events plain none =
     let a = alive_after events l.controller l.host no_losses l plain none (begins_alive l b) in
-    goes_on l.host (after l events).host a.lasts.far_up a.far
+    goes_on l.host (shdlc_after l events).host a.lasts.far_up a.far
 
 start_anew : BeginsAnew start
 start_anew = record { controller = anew; host = anew; to_controller = refl; to_host = refl }
@@ -372,6 +372,6 @@ start_anew = record { controller = anew; host = anew; to_controller = refl; to_h
     anew : IsAnew (begun (new_end 4))
     anew = record { up = refl; due = refl; timer = refl; tries = refl; window = 4; fits = (omega arith, omega arith); session = refl }
 
-pub alive_from_start : (events : List LinkEvent) → AllPlain events → LosesNone start events
-    → GoesOn start.controller (after start events).controller × GoesOn start.host (after start events).host
+pub alive_from_start : (events : List ShdlcLinkEvent) → AllPlain events → LosesNone start events
+    → GoesOn start.controller (shdlc_after start events).controller × GoesOn start.host (shdlc_after start events).host
 alive_from_start events plain none = (alive_at_controller start start_anew events plain none, alive_at_host start start_anew events plain none)

@@ -4,9 +4,9 @@ use mathlib.Core.List.{IsPrefix}
 use Rattle.shdlc_core.specs.declared.answers.LinkState.TheVariants.{Up}
 use Rattle.shdlc_core.specs.Machine.{EndState, new_session}
 use Rattle.session_laws.specs.Losses.{no_losses, losses_after}
-use Rattle.session_laws.specs.Sessions.{Half, Link, number_of, EndEvent, LinkEvent}
-use Rattle.session_laws.specs.Sessions.EndEvent.{Turns, Deliver}
-use Rattle.session_laws.specs.Sessions.LinkEvent.{AtController, AtHost, Tick}
+use Rattle.session_laws.specs.Sessions.{NumberedShdlc, ShdlcLink, shdlc_number_of, ShdlcEndEvent, ShdlcLinkEvent}
+use Rattle.session_laws.specs.Sessions.ShdlcEndEvent.{Turns, Deliver}
+use Rattle.session_laws.specs.Sessions.ShdlcLinkEvent.{AtController, AtHost, Tick}
 
 -- the end has a new session, and sent and took nothing in it
 pub record IsAnew (e : EndState) : Type 0 where
@@ -19,40 +19,40 @@ pub record IsAnew (e : EndState) : Type 0 where
   pub session : e.session ≡ new_session window
 
 -- so have both ends, and nothing is on its way
-pub record BeginsAnew (l : Link) : Type 0 where
+pub record BeginsAnew (l : ShdlcLink) : Type 0 where
   pub controller : IsAnew l.controller.side
   pub host : IsAnew l.host.side
   pub to_controller : l.to_controller ≡ []
   pub to_host : l.to_host ≡ []
 
 -- the node of an end has turns, and nothing else happens there
-abbrev pub OnlyTurns : List EndEvent → Type 0
+abbrev pub OnlyTurns : List ShdlcEndEvent → Type 0
 OnlyTurns [] = Unit {0}
 OnlyTurns (Turns ts ∷ es) = OnlyTurns es
 OnlyTurns (_ ∷ es) = ⊥
 
 -- an end takes a frame, or its node has turns; where time passes each end has its tick, the controller's with turns behind it
-abbrev pub IsPlainHere : EndEvent → Type 0
+abbrev pub IsPlainHere : ShdlcEndEvent → Type 0
 IsPlainHere (Turns ts) = Unit {0}
 IsPlainHere (Deliver ts) = Unit {0}
 IsPlainHere _ = ⊥
 
-abbrev pub IsPlainEvent : LinkEvent → Type 0
+abbrev pub IsPlainEvent : ShdlcLinkEvent → Type 0
 IsPlainEvent (AtController e) = IsPlainHere e
 IsPlainEvent (AtHost e) = IsPlainHere e
 IsPlainEvent (Tick (Some ts) turns (Some us)) = OnlyTurns turns
 IsPlainEvent _ = ⊥
 
-abbrev pub AllPlain : List LinkEvent → Type 0
+abbrev pub AllPlain : List ShdlcLinkEvent → Type 0
 AllPlain [] = Unit {0}
 AllPlain (e ∷ es) = IsPlainEvent e × AllPlain es
 
 -- At no moment of these events a frame was lost. It is asked at each, since what was lost in a session doesn't count in the next one.
-abbrev pub LosesNone : Link → List LinkEvent → Type 0
-LosesNone l events = (front : List LinkEvent) → IsPrefix front events → (losses_after no_losses l front).lost ≡ false
+abbrev pub LosesNone : ShdlcLink → List ShdlcLinkEvent → Type 0
+LosesNone l events = (front : List ShdlcLinkEvent) → IsPrefix front events → (losses_after no_losses l front).lost ≡ false
 
 -- the end is up in the same session as before, and no other has ended
-pub record GoesOn (before now : Half) : Type 0 where
+pub record GoesOn (before now : NumberedShdlc) : Type 0 where
   pub up : now.side.phase ≡ Up
-  pub number : number_of now ≡ number_of before
+  pub number : shdlc_number_of now ≡ shdlc_number_of before
   pub past : now.past ≡ before.past

@@ -8,21 +8,21 @@ use Rattle.block_pool.specs.declared.owners.Owner.{Owner}
 use Rattle.block_pool.specs.Slots.{blocks_for}
 use Rattle.block_pool.specs.Owners.{owner_at, with_used, new_owners}
 use Rattle.block_pool.specs.Pool.{PoolState, IsNew, quota_of, used_of, IsLive, IsApart, chain_bytes, Gives, KeepsOthers}
-use Rattle.block_pool.specs.Holdings.{IsOwn as IsChainOf, LiesApart}
+use Rattle.block_pool.specs.Holdings.{IsOwnChain as IsChainOf, LiesApart}
 use Rattle.block_pool.proofs.HoldingLemmas.{apart_by_owner, apart_turned, all_mapped, all_joined, kept_each, lies_apart_by_owner, used-with_used, quota-with_used, other-with_used, length-with_used}
 use Rattle.hcp_packet.specs.Packets.{AreSendable, fragments_of}
 use Rattle.hcp_chain.specs.declared.joiner.Open.{Open}
-use Rattle.hcp_chain.specs.Holding.{IsOwn, AreApart, Holds, held_blocks, messages_in as messages_of, IsApartFrom}
+use Rattle.hcp_chain.specs.Holding.{IsOwnOpen, AreApart, HoldsChains, held_blocks, messages_in as messages_of, IsApartFrom}
 use Rattle.hcp_chain.proofs.HoldingLemmas.{all_front, all_map, apart_front}
 use Rattle.link_machine.specs.Machine.{LinkEnd as Machine}
 use Rattle.link_messages.specs.declared.outbox.Queued.{Queued}
 use Rattle.link_messages.specs.declared.inbox.Got.{Got}
 use Rattle.link_messages.specs.declared.inbox.Inbox.{Inbox}
-use Rattle.link_messages.specs.Outgoing.{chain_in, messages_in, waiting_in, LeavesOthersBut}
+use Rattle.link_messages.specs.Outgoing.{chain_in, queued_messages, waiting_in, LeavesOthersBut}
 use Rattle.link_messages.specs.Incoming.{got_chains, chains_in}
 use Rattle.link_messages.proofs.OutgoingLemmas.{messages_same}
 use Rattle.link_messages.proofs.IncomingLemmas.{held_both}
-use Rattle.link_end.specs.Ends.{StandsFor, LeavesOthers, MayTake, MayPass, HaveOwners, IsFetched, Accounts, Rests, IsFree, blocks_of}
+use Rattle.link_end.specs.Ends.{EndStandsFor, EndLeavesOthers, MayTake, MayPass, HaveOwners, IsFetched, Accounts, Rests, IsFree, blocks_of}
 use Rattle.link_end.specs.declared.«end».End.{End}
 use Rattle.link_end.proofs.BoxLemmas.{OpensKept, opens_passed}
 
@@ -44,16 +44,16 @@ all_parted X P [] ys all = (tt, all)
 all_parted X P (x ∷ xs) ys all = let rest = all_parted X P xs ys all.1 in ((all.0, rest.0), rest.1)
 
 -- chains of an end that have their bytes still
-opens_stay : (old new : PoolState) (owner : ℕ) (xs : List Open) → AllByRecursion (IsOwn old owner) xs
+opens_stay : (old new : PoolState) (owner : ℕ) (xs : List Open) → AllByRecursion (IsOwnOpen old owner) xs
     → AllByRecursion (λ x. Stays old new x.chain) xs → OpensKept old new owner xs
 opens_stay old new owner xs own stay =
-    opens_passed old new owner (λ x. Stays old new x.chain) xs (all_joined Open (IsOwn old owner) (λ x. Stays old new x.chain) xs own stay) (λ x p. p.1)
+    opens_passed old new owner (λ x. Stays old new x.chain) xs (all_joined Open (IsOwnOpen old owner) (λ x. Stays old new x.chain) xs own stay) (λ x p. p.1)
 
-opens_of : (old new : PoolState) (k : End) (m : Machine) → StandsFor k old m → Untouched old new k → OpensKept old new k.inbox.joiner.owner (chains_in k.inbox)
+opens_of : (old new : PoolState) (k : End) (m : Machine) → EndStandsFor k old m → Untouched old new k → OpensKept old new k.inbox.joiner.owner (chains_in k.inbox)
 opens_of old new k m h u = opens_stay old new k.inbox.joiner.owner (chains_in k.inbox) h.half.receives.lies.holds.own u.opens
 
 -- an end whose chains and owners are untouched stands as before
-untouched_stands : (old new : PoolState) (k : End) (m : Machine) → StandsFor k old m → Untouched old new k → StandsFor k new m
+untouched_stands : (old new : PoolState) (k : End) (m : Machine) → EndStandsFor k old m → Untouched old new k → EndStandsFor k new m
 untouched_stands old new k m h u =
     let half = h.half in
     let box = k.inbox in
@@ -63,13 +63,13 @@ untouched_stands old new k m h u =
     let lies = half.receives.lies in
     let len = u.lengths in
     let sent = kept_each Queued chain_in old new o k.outbox.queue.items kept.own u.queued in
-    let same : messages_in new k.outbox ≡ messages_in old k.outbox = messages_same old new k.outbox.queue.items sent.bytes in
+    let same : queued_messages new k.outbox ≡ queued_messages old k.outbox = messages_same old new k.outbox.queue.items sent.bytes in
     let waits : waiting_in new k.outbox ≡ waiting_in old k.outbox = ap (λ l. drop k.outbox.cut (fragments_of l)) same in
     let out_used = ap (λ (x : Owner). x.used) u.sender in
     let out_aside = ap (λ (x : Owner). x.aside) u.sender in
     let all = opens_of old new k m h u in
     let parts = all_parted Open (λ x. Stays old new x.chain) box.joiner.open.items (got_chains box.got) u.opens in
-    let owns = all_parted Open (IsOwn old i) box.joiner.open.items (got_chains box.got) lies.holds.own in
+    let owns = all_parted Open (IsOwnOpen old i) box.joiner.open.items (got_chains box.got) lies.holds.own in
     let some = opens_stay old new i box.joiner.open.items owns.0 parts.0 in
     let got = opens_stay old new i (got_chains box.got) owns.1 parts.1 in
     record {
@@ -122,12 +122,12 @@ untouched_stands old new k m h u =
     }
 
 -- a chain of neither owner lies apart from all chains of an end
-far_from : (pool : PoolState) (k : End) (m : Machine) (c : Chain) → StandsFor k pool m → IsLive pool c → c.owner ≢ k.outbox.owner
+far_from : (pool : PoolState) (k : End) (m : Machine) (c : Chain) → EndStandsFor k pool m → IsLive pool c → c.owner ≢ k.outbox.owner
     → c.owner ≢ k.inbox.joiner.owner
     → LiesApart Queued chain_in k.outbox.queue.items c × IsApartFrom (chains_in k.inbox) c
 far_from pool k m c h live out into = (
   lies_apart_by_owner Queued chain_in pool k.outbox.owner k.outbox.queue.items c h.half.sends.lies.kept.own live out,
-  all_mapped Open (IsOwn pool k.inbox.joiner.owner) (λ x. IsApart c x.chain) (chains_in k.inbox)
+  all_mapped Open (IsOwnOpen pool k.inbox.joiner.owner) (λ x. IsApart c x.chain) (chains_in k.inbox)
       (λ x o. apart_by_owner pool c x.chain live o.live (λ e. into (e ∙ o.owned))) h.half.receives.lies.holds.own,
 )
 
@@ -141,14 +141,14 @@ record OwnersStay (old new : PoolState) (one two : ℕ) : Type 0 where
   uses : owner_at new.owners two ≡ owner_at old.owners two
   lengths : length new.owners ≡ length old.owners
 
-untouched : (old new : PoolState) (k : End) (m : Machine) → StandsFor k old m → OwnersStay old new k.outbox.owner k.inbox.joiner.owner → Untouched old new k
+untouched : (old new : PoolState) (k : End) (m : Machine) → EndStandsFor k old m → OwnersStay old new k.outbox.owner k.inbox.joiner.owner → Untouched old new k
 untouched old new k m h s =
     let lies = h.half.receives.lies in
     let used = ap (λ (x : Owner). x.used) s.uses in
     record {
       queued = all_mapped Queued (λ q. IsChainOf old k.outbox.owner q.chain) (λ q. Stays old new q.chain) k.outbox.queue.items
           (λ q o. s.first q.chain o.live o.owned) h.half.sends.lies.kept.own;
-      opens = all_mapped Open (IsOwn old k.inbox.joiner.owner) (λ x. Stays old new x.chain) (chains_in k.inbox)
+      opens = all_mapped Open (IsOwnOpen old k.inbox.joiner.owner) (λ x. Stays old new x.chain) (chains_in k.inbox)
           (λ x o. s.second x.chain o.live o.owned) lies.holds.own;
       sender = s.counts;
       quota = ap (λ (x : Owner). x.quota) s.uses;
@@ -165,8 +165,8 @@ fetched_stays old new k (Some c) stay f =
     (record { live = s.0; owned = f.owned; apart = f.apart }, ap (λ bs. blocks_for (length bs)) s.1)
 
 -- an end whose owners count as before, and their chains have their bytes still
-both_stay : (old new : PoolState) (k : End) (m : Machine) (chain : Option Chain) → StandsFor k old m → Accounts k old chain
-    → OwnersStay old new k.outbox.owner k.inbox.joiner.owner → StandsFor k new m × Accounts k new chain
+both_stay : (old new : PoolState) (k : End) (m : Machine) (chain : Option Chain) → EndStandsFor k old m → Accounts k old chain
+    → OwnersStay old new k.outbox.owner k.inbox.joiner.owner → EndStandsFor k new m × Accounts k new chain
 both_stay old new k m chain h a s =
     let u = untouched old new k m h s in
     let f = fetched_stays old new k chain s.second a.fetched in
@@ -178,9 +178,9 @@ both_stay old new k m chain h a s =
 
 -- ---- calls on another end
 
-pub kept_beside_call : (old new : PoolState) (before after other : End) (m n : Machine) (theirs : Option Chain) → StandsFor before old m
-    → LeavesOthers old new before after → HaveOwners before other
-    → StandsFor other old n → Accounts other old theirs → StandsFor other new n × Accounts other new theirs
+pub kept_beside_call : (old new : PoolState) (before after other : End) (m n : Machine) (theirs : Option Chain) → EndStandsFor before old m
+    → EndLeavesOthers old new before after → HaveOwners before other
+    → EndStandsFor other old n → Accounts other old theirs → EndStandsFor other new n × Accounts other new theirs
 kept_beside_call old new before after other m n theirs h l differ g a =
     let o = other.outbox.owner in
     let i = other.inbox.joiner.owner in
@@ -200,8 +200,8 @@ kept_beside_call old new before after other m n theirs h l differ g a =
 
 -- ---- calls on the end itself
 
-pub account_kept : (old new : PoolState) (before after : End) (m : Machine) (chain : Option Chain) → StandsFor before old m
-    → LeavesOthers old new before after → Accounts before old chain → Accounts after new chain
+pub account_kept : (old new : PoolState) (before after : End) (m : Machine) (chain : Option Chain) → EndStandsFor before old m
+    → EndLeavesOthers old new before after → Accounts before old chain → Accounts after new chain
 account_kept old new before after m None h l a =
     let P : ℕ → Type 0 = λ o. used_of new o ≡ held_blocks new (chains_in after.inbox) + 0 in
     record { fetched = tt; used = subst P (sym l.receiver) (omega (arith, l.received, a.used)) }
@@ -240,7 +240,7 @@ none_got : (pool : PoolState) (g : Option Got) → messages_of pool (got_chains 
 none_got pool None e = refl
 none_got pool (Some g) e = cc
 
-fetched_all : (pool : PoolState) (k : End) (m : Machine) → StandsFor k pool m → m.got ≡ [] → k.inbox.got ≡ None
+fetched_all : (pool : PoolState) (k : End) (m : Machine) → EndStandsFor k pool m → m.got ≡ [] → k.inbox.got ≡ None
 fetched_all pool k m h none = none_got pool k.inbox.got (h.half.got ∙ none)
 
 pub rests_may_take : (k : End) (pool : PoolState) → Rests k pool → MayTake k pool
@@ -251,10 +251,10 @@ rests_may_take k pool r =
     let held = ap (held_blocks pool) chains in
     record { fetched = got; free = inl (omega (arith, r.accounts.used, held)) }
 
-pub rests : (k : End) (pool : PoolState) (m : Machine) → StandsFor k pool m → Accounts k pool None → m.got ≡ [] → Rests k pool
+pub rests : (k : End) (pool : PoolState) (m : Machine) → EndStandsFor k pool m → Accounts k pool None → m.got ≡ [] → Rests k pool
 rests k pool m h a none = record { state = m; stands = h; fetched = fetched_all pool k m h none; accounts = a }
 
-pub may_take_held : (k : End) (pool : PoolState) (m : Machine) → StandsFor k pool m → m.shdlc.ready ≡ false → m.got ≡ [] → MayTake k pool
+pub may_take_held : (k : End) (pool : PoolState) (m : Machine) → EndStandsFor k pool m → m.shdlc.ready ≡ false → m.got ≡ [] → MayTake k pool
 may_take_held k pool m h held none = record { fetched = fetched_all pool k m h none; free = inr (h.half.link.kept.ready ∙ held) }
 
 -- ---- a message is fetched
@@ -266,7 +266,7 @@ none_counted pool k owner none is unused =
     let used = ap (used_of pool) is in
     record { fetched = tt; used = omega (arith, held, used, unused) }
 
-pub fetched_counted : (pool : PoolState) (k : End) (inbox : Inbox) (m : Machine) (x : Option (ℕ × Chain)) → StandsFor k pool m
+pub fetched_counted : (pool : PoolState) (k : End) (inbox : Inbox) (m : Machine) (x : Option (ℕ × Chain)) → EndStandsFor k pool m
     → Accounts k pool None → inbox.joiner ≡ k.inbox.joiner → inbox.got ≡ None
     → IfSome x (λ y. k.inbox.got ≡ Some (record { pipe = y.0; chain = y.1 })) → IfNone x (k.inbox.got ≡ None)
     → Accounts (record k { inbox = inbox }) pool (option_map (λ y. y.1) x)
@@ -279,8 +279,8 @@ fetched_counted pool k inbox m (Some y) h a joiner none some same =
     let o = k.inbox.joiner.owner in
     let one : Open = record { pipe = y.0; chain = y.1 } in
     let chains : chains_in k.inbox ≡ xs ++ one ∷ [] = ap (λ g. xs ++ got_chains g) some in
-    let holds = subst (Holds pool o) chains h.half.receives.lies.holds in
-    let own = all_front (IsOwn pool o) xs one holds.own in
+    let holds = subst (HoldsChains pool o) chains h.half.receives.lies.holds in
+    let own = all_front (IsOwnOpen pool o) xs one holds.own in
     let apart = all_map (λ x. AreApart x one) (λ x. IsApart y.1 x.chain) xs (λ x d first p q. d.chains first q p) (apart_front xs one holds.apart).1 in
     let sum = held_both pool xs (one ∷ []) in
     let held = ap (held_blocks pool) chains in
@@ -293,23 +293,23 @@ fetched_counted pool k inbox m (Some y) h a joiner none some same =
 -- ---- a message that was fetched goes away
 
 -- what lies apart from its chain has its bytes still
-goes_own : (old new : PoolState) (k : End) (m : Machine) (chain : Chain) → StandsFor k old m → Accounts k old (Some chain)
+goes_own : (old new : PoolState) (k : End) (m : Machine) (chain : Chain) → EndStandsFor k old m → Accounts k old (Some chain)
     → ((c : Chain) → IsLive old c → IsApart c chain → (c.owner ≡ k.outbox.owner) ⊎ (c.owner ≡ k.inbox.joiner.owner) → Stays old new c)
     → owner_at new.owners k.outbox.owner ≡ owner_at old.owners k.outbox.owner
     → quota_of new k.inbox.joiner.owner ≡ quota_of old k.inbox.joiner.owner
     → used_of new k.inbox.joiner.owner ≡ used_of old k.inbox.joiner.owner - blocks_for (length (chain_bytes old chain))
-    → length new.owners ≡ length old.owners → StandsFor k new m × Accounts k new None
+    → length new.owners ≡ length old.owners → EndStandsFor k new m × Accounts k new None
 goes_own old new k m chain h a stay counts quota used lengths =
     let o = k.outbox.owner in
     let i = k.inbox.joiner.owner in
     let f = a.fetched in
     let lies = h.half.receives.lies in
-    let opens = all_joined Open (IsOwn old i) (λ x. IsApart chain x.chain) (chains_in k.inbox) lies.holds.own f.apart in
+    let opens = all_joined Open (IsOwnOpen old i) (λ x. IsApart chain x.chain) (chains_in k.inbox) lies.holds.own f.apart in
     let u : Untouched old new k = record {
       queued = all_mapped Queued (λ q. IsChainOf old o q.chain) (λ q. Stays old new q.chain) k.outbox.queue.items
           (λ q own. stay q.chain own.live (apart_by_owner old q.chain chain own.live f.live (λ e. h.half.differ (sym own.owned ∙ (e
           ∙ f.owned)))) (inl own.owned)) h.half.sends.lies.kept.own;
-      opens = all_mapped Open (λ x. IsOwn old i x × IsApart chain x.chain) (λ x. Stays old new x.chain) (chains_in k.inbox)
+      opens = all_mapped Open (λ x. IsOwnOpen old i x × IsApart chain x.chain) (λ x. Stays old new x.chain) (chains_in k.inbox)
           (λ x own. stay x.chain own.0.live (apart_turned chain x.chain own.1) (inr own.0.owned)) opens;
       sender = counts;
       quota = quota;
@@ -321,9 +321,9 @@ goes_own old new k m chain h a stay counts quota used lengths =
       record { fetched = tt; used = omega (arith, used, a.used, all.blocks) },
     )
 
-pub given_own : (old new : PoolState) (k : End) (m : Machine) (chain : Chain) → StandsFor k old m → Accounts k old (Some chain)
+pub given_own : (old new : PoolState) (k : End) (m : Machine) (chain : Chain) → EndStandsFor k old m → Accounts k old (Some chain)
     → Gives old new chain → KeepsOthers old new chain chain
-    → StandsFor k new m × Accounts k new None
+    → EndStandsFor k new m × Accounts k new None
 given_own old new k m chain h a gives keeps =
     let i = k.inbox.joiner.owner in
     let n = blocks_for (length (chain_bytes old chain)) in
@@ -339,7 +339,7 @@ given_own old new k m chain h a gives keeps =
 
 pub given_beside : (old new : PoolState) (k other : End) (n : Machine) (chain : Chain) (theirs : Option Chain) → Accounts k old (Some chain)
     → Gives old new chain → KeepsOthers old new chain chain
-    → HaveOwners k other → StandsFor other old n → Accounts other old theirs → StandsFor other new n × Accounts other new theirs
+    → HaveOwners k other → EndStandsFor other old n → Accounts other old theirs → EndStandsFor other new n × Accounts other new theirs
 given_beside old new k other n chain theirs a gives keeps differ g b =
     let i = k.inbox.joiner.owner in
     let f = a.fetched in
@@ -358,7 +358,7 @@ given_beside old new k other n chain theirs a gives keeps differ g b =
 
 -- ---- a message that was fetched is passed to an end
 
-pub may_send_back : (pool : PoolState) (k : End) (m : Machine) (chain : Chain) → StandsFor k pool m → Accounts k pool (Some chain) → MayPass pool k chain
+pub may_send_back : (pool : PoolState) (k : End) (m : Machine) (chain : Chain) → EndStandsFor k pool m → Accounts k pool (Some chain) → MayPass pool k chain
 may_send_back pool k m chain h a = record {
   live = a.fetched.live;
   other = λ e. h.half.differ (sym e ∙ a.fetched.owned);
@@ -366,8 +366,8 @@ may_send_back pool k m chain h a = record {
   counted = λ e. omega (arith, a.used);
 }
 
-pub may_pass_on : (pool : PoolState) (from to : End) (m n : Machine) (chain : Chain) → StandsFor from pool m → Accounts from pool (Some chain)
-    → HaveOwners from to → StandsFor to pool n → MayPass pool to chain
+pub may_pass_on : (pool : PoolState) (from to : End) (m n : Machine) (chain : Chain) → EndStandsFor from pool m → Accounts from pool (Some chain)
+    → HaveOwners from to → EndStandsFor to pool n → MayPass pool to chain
 may_pass_on pool from to m n chain h a differ g =
     let f = a.fetched in
     record {
@@ -377,14 +377,14 @@ may_pass_on pool from to m n chain h a differ g =
       counted = λ e. absurd (differ.receivers (sym f.owned ∙ e));
     }
 
-pub sent_back_own : (old new : PoolState) (k after : End) (m : Machine) (chain : Chain) → StandsFor k old m → Accounts k old (Some chain)
+pub sent_back_own : (old new : PoolState) (k after : End) (m : Machine) (chain : Chain) → EndStandsFor k old m → Accounts k old (Some chain)
     → after.inbox ≡ k.inbox
     → LeavesOthersBut old new k.outbox.owner chain k.outbox.queue.items after.outbox.queue.items → Accounts after new None
 sent_back_own old new k after m chain h a inbox l =
     let i = k.inbox.joiner.owner in
     let f = a.fetched in
     let lies = h.half.receives.lies in
-    let opens = all_joined Open (IsOwn old i) (λ x. IsApart chain x.chain) (chains_in k.inbox) lies.holds.own f.apart in
+    let opens = all_joined Open (IsOwnOpen old i) (λ x. IsApart chain x.chain) (chains_in k.inbox) lies.holds.own f.apart in
     let all = opens_passed old new i (λ x. IsApart chain x.chain) (chains_in k.inbox) opens (λ x own.
     let queue = lies_apart_by_owner Queued chain_in old k.outbox.owner k.outbox.queue.items x.chain h.half.sends.lies.kept.own own.0.live
     (λ e. h.half.differ (sym e ∙ own.0.owned)) in
@@ -397,10 +397,10 @@ sent_back_own old new k after m chain h a inbox l =
 
 -- an end whose owners are neither the one that gave the chain nor the one that took it
 passed_by : (old new : PoolState) (giver : ℕ) (to after other : End) (n o : Machine) (chain : Chain) (theirs : Option Chain) → IsLive old chain
-    → chain.owner ≡ giver → StandsFor to old n
+    → chain.owner ≡ giver → EndStandsFor to old n
     → LeavesOthersBut old new to.outbox.owner chain to.outbox.queue.items after.outbox.queue.items
     → giver ≢ other.outbox.owner → giver ≢ other.inbox.joiner.owner → to.outbox.owner ≢ other.outbox.owner → to.outbox.owner ≢ other.inbox.joiner.owner
-    → StandsFor other old o → Accounts other old theirs → StandsFor other new o × Accounts other new theirs
+    → EndStandsFor other old o → Accounts other old theirs → EndStandsFor other new o × Accounts other new theirs
 passed_by old new giver to after other n o chain theirs live_chain owned h l a b c d g acc =
     let stay : (x : Chain) (p : ℕ) → IsLive old x → x.owner ≡ p → giver ≢ p → to.outbox.owner ≢ p → Stays old new x =
     λ x p live is u v.
@@ -415,17 +415,17 @@ passed_by old new giver to after other n o chain theirs live_chain owned h l a b
       lengths = l.lengths;
     })
 
-pub sent_back_beside : (old new : PoolState) (k after other : End) (m n : Machine) (chain : Chain) (theirs : Option Chain) → StandsFor k old m
+pub sent_back_beside : (old new : PoolState) (k after other : End) (m n : Machine) (chain : Chain) (theirs : Option Chain) → EndStandsFor k old m
     → Accounts k old (Some chain)
-    → LeavesOthersBut old new k.outbox.owner chain k.outbox.queue.items after.outbox.queue.items → HaveOwners k other → StandsFor other old n
+    → LeavesOthersBut old new k.outbox.owner chain k.outbox.queue.items after.outbox.queue.items → HaveOwners k other → EndStandsFor other old n
     → Accounts other old theirs
-    → StandsFor other new n × Accounts other new theirs
+    → EndStandsFor other new n × Accounts other new theirs
 sent_back_beside old new k after other m n chain theirs h a l differ g b =
     passed_by old new k.inbox.joiner.owner k after other m n chain theirs a.fetched.live a.fetched.owned h l differ.from differ.receivers differ.senders differ.to g b
 
-pub passed_giver : (old new : PoolState) (from to after : End) (m n : Machine) (chain : Chain) → StandsFor from old m
-    → Accounts from old (Some chain) → HaveOwners from to → StandsFor to old n
-    → LeavesOthersBut old new to.outbox.owner chain to.outbox.queue.items after.outbox.queue.items → StandsFor from new m × Accounts from new None
+pub passed_giver : (old new : PoolState) (from to after : End) (m n : Machine) (chain : Chain) → EndStandsFor from old m
+    → Accounts from old (Some chain) → HaveOwners from to → EndStandsFor to old n
+    → LeavesOthersBut old new to.outbox.owner chain to.outbox.queue.items after.outbox.queue.items → EndStandsFor from new m × Accounts from new None
 passed_giver old new from to after m n chain h a differ g l =
     let i = from.inbox.joiner.owner in
     let f = a.fetched in
@@ -445,15 +445,15 @@ passed_giver old new from to after m n chain h a differ g l =
     l.lengths
 
 pub passed_beside : (old new : PoolState) (from to after other : End) (n o : Machine) (chain : Chain) (theirs : Option Chain)
-    → Accounts from old (Some chain) → StandsFor to old n
+    → Accounts from old (Some chain) → EndStandsFor to old n
     → LeavesOthersBut old new to.outbox.owner chain to.outbox.queue.items after.outbox.queue.items → HaveOwners from other → HaveOwners to other
-    → StandsFor other old o → Accounts other old theirs
-    → StandsFor other new o × Accounts other new theirs
+    → EndStandsFor other old o → Accounts other old theirs
+    → EndStandsFor other new o × Accounts other new theirs
 passed_beside old new from to after other n o chain theirs a h l differ apart g b =
     passed_by old new from.inbox.joiner.owner to after other n o chain theirs a.fetched.live a.fetched.owned h l differ.from differ.receivers apart.senders apart.to g b
 
 pub passed_taker : (old new : PoolState) (from to after : End) (n : Machine) (chain : Chain) (theirs : Option Chain)
-    → Accounts from old (Some chain) → HaveOwners from to → StandsFor to old n
+    → Accounts from old (Some chain) → HaveOwners from to → EndStandsFor to old n
     → Accounts to old theirs → after.inbox ≡ to.inbox → LeavesOthersBut old new to.outbox.owner chain to.outbox.queue.items after.outbox.queue.items
     → Accounts after new theirs
 passed_taker old new from to after n chain theirs a differ g b inbox l =
@@ -466,7 +466,7 @@ passed_taker old new from to after n chain theirs a differ g b inbox l =
     let s = l.others c live queue (apart_by_owner old c chain live f.live (λ e. differ.receivers (sym f.owned ∙ (sym e ∙ is)))) in
     (s.0, s.1)) in
     let own = g.half.receives.lies.holds.own in
-    let all = opens_stay old new i (chains_in to.inbox) own (all_mapped Open (IsOwn old i) (λ x. Stays old new x.chain) (chains_in to.inbox)
+    let all = opens_stay old new i (chains_in to.inbox) own (all_mapped Open (IsOwnOpen old i) (λ x. Stays old new x.chain) (chains_in to.inbox)
     (λ x o. stay x.chain o.live o.owned) own) in
     let moved = fetched_stays old new to theirs stay b.fetched in
     let used = ap (λ (x : Owner). x.used) (l.counts i (λ e. g.half.differ (sym e)) (λ e. differ.receivers (sym f.owned ∙ sym e))) in

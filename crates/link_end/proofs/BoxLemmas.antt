@@ -8,16 +8,16 @@ use Rattle.block_pool.specs.declared.owners.Owner.{Owner}
 use Rattle.block_pool.specs.Slots.{blocks_for}
 use Rattle.block_pool.specs.Owners.{owner_at}
 use Rattle.block_pool.specs.Pool.{PoolState, quota_of, used_of, aside_of, IsLive, IsApart, chain_bytes}
-use Rattle.block_pool.specs.Holdings.{IsOwn as IsChainOf, OwnsAll, LiesApart}
+use Rattle.block_pool.specs.Holdings.{IsOwnChain as IsChainOf, OwnsAll, LiesApart}
 use Rattle.block_pool.proofs.HoldingLemmas.{apart_by_owner, apart_turned, all_mapped, all_joined, kept_each, other-with_used, length-with_used}
 use Rattle.hcp_packet.specs.Packets.{AreSendable, fragments_of}
 use Rattle.hcp_chain.specs.declared.joiner.Open.{Open}
-use Rattle.hcp_chain.specs.Holding.{IsOwn, held_blocks, messages_in as messages_of, message_of, IsApartFrom}
+use Rattle.hcp_chain.specs.Holding.{IsOwnOpen, held_blocks, messages_in as messages_of, message_of, IsApartFrom}
 use Rattle.link_messages.specs.declared.outbox.Queued.{Queued}
 use Rattle.link_messages.specs.declared.outbox.Outbox.{Outbox}
 use Rattle.link_messages.specs.declared.inbox.Inbox.{Inbox}
-use Rattle.link_messages.specs.Outgoing.{chain_in, messages_in, LiesIn as OutboxLiesIn, LeavesOthers as OutboxLeaves, LeavesOthersBut}
-use Rattle.link_messages.specs.Incoming.{got_chains, chains_in, under_way, got_in, LiesIn as InboxLiesIn, LeavesOthers as InboxLeaves}
+use Rattle.link_messages.specs.Outgoing.{chain_in, queued_messages, OutboxLiesIn, OutboxLeavesOthers as OutboxLeaves, LeavesOthersBut}
+use Rattle.link_messages.specs.Incoming.{got_chains, chains_in, messages_under_way, came_whole, InboxLiesIn, InboxLeavesOthers as InboxLeaves}
 use Rattle.link_messages.proofs.OutgoingLemmas.{messages_same}
 use Rattle.link_messages.proofs.IncomingLemmas.{front_holds, front_apart}
 use Rattle.circular_buffer.specs.Buffer.{Buffer}
@@ -26,12 +26,12 @@ use Rattle.link_end.specs.Ends.{LeavesBoxes}
 -- ---- what comes, where what is sent changed
 
 pub record OpensKept (old new : PoolState) (owner : ℕ) (xs : List Open) : Type 0 where
-  pub own : AllByRecursion (IsOwn new owner) xs
+  pub own : AllByRecursion (IsOwnOpen new owner) xs
   pub messages : messages_of new xs ≡ messages_of old xs
   pub blocks : held_blocks new xs ≡ held_blocks old xs
 
-opens_kept : (old new : PoolState) (owner : ℕ) (xs : List Open) → AllByRecursion (IsOwn old owner) xs
-    → ((x : Open) → IsOwn old owner x → IsLive new x.chain × (chain_bytes new x.chain ≡ chain_bytes old x.chain)) → OpensKept old new owner xs
+opens_kept : (old new : PoolState) (owner : ℕ) (xs : List Open) → AllByRecursion (IsOwnOpen old owner) xs
+    → ((x : Open) → IsOwnOpen old owner x → IsLive new x.chain × (chain_bytes new x.chain ≡ chain_bytes old x.chain)) → OpensKept old new owner xs
 opens_kept old new owner [] own each = record { own = tt; messages = refl; blocks = refl }
 opens_kept old new owner (x ∷ xs) own each =
     let here = each x own.0 in
@@ -44,8 +44,8 @@ opens_kept old new owner (x ∷ xs) own each =
           ∙ sym (sum_by-cons (λ (y : Open). blocks_for (length (chain_bytes old y.chain))) x xs)));
     }
 
-pub opens_passed : (old new : PoolState) (owner : ℕ) (P : Open → Type 0) (xs : List Open) → AllByRecursion (λ x. IsOwn old owner x × P x) xs
-    → ((x : Open) → IsOwn old owner x × P x → IsLive new x.chain × (chain_bytes new x.chain ≡ chain_bytes old x.chain)) → OpensKept old new owner xs
+pub opens_passed : (old new : PoolState) (owner : ℕ) (P : Open → Type 0) (xs : List Open) → AllByRecursion (λ x. IsOwnOpen old owner x × P x) xs
+    → ((x : Open) → IsOwnOpen old owner x × P x → IsLive new x.chain × (chain_bytes new x.chain ≡ chain_bytes old x.chain)) → OpensKept old new owner xs
 opens_passed old new owner P [] own each = record { own = tt; messages = refl; blocks = refl }
 opens_passed old new owner P (x ∷ xs) own each =
     let here = each x own.0 in
@@ -60,17 +60,17 @@ opens_passed old new owner P (x ∷ xs) own each =
 
 pub record InboxKept (old new : PoolState) (box : Inbox) : Type 0 where
   pub lies : InboxLiesIn new box
-  pub under : under_way new box ≡ under_way old box
-  pub got : got_in new box ≡ got_in old box
+  pub under : messages_under_way new box ≡ messages_under_way old box
+  pub got : came_whole new box ≡ came_whole old box
   pub held : held_blocks new (chains_in box) ≡ held_blocks old (chains_in box)
   pub used : used_of new box.joiner.owner ≡ used_of old box.joiner.owner
 
-got_holds : (pool : PoolState) (owner : ℕ) (xs ys : List Open) → AllByRecursion (IsOwn pool owner) (xs ++ ys) → AllByRecursion (IsOwn pool owner) ys
+got_holds : (pool : PoolState) (owner : ℕ) (xs ys : List Open) → AllByRecursion (IsOwnOpen pool owner) (xs ++ ys) → AllByRecursion (IsOwnOpen pool owner) ys
 got_holds pool owner [] ys own = own
 got_holds pool owner (x ∷ xs) ys own = got_holds pool owner xs ys own.1
 
 -- the chains lie apart from those of another owner
-apart_from_queue : (pool : PoolState) (owner other : ℕ) (x : Open) (xs : List Queued) → IsOwn pool other x → OwnsAll Queued chain_in pool owner xs → owner ≢ other → LiesApart Queued chain_in xs x.chain
+apart_from_queue : (pool : PoolState) (owner other : ℕ) (x : Open) (xs : List Queued) → IsOwnOpen pool other x → OwnsAll Queued chain_in pool owner xs → owner ≢ other → LiesApart Queued chain_in xs x.chain
 apart_from_queue pool owner other x xs own theirs differ =
     all_mapped Queued (λ q. IsChainOf pool owner q.chain) (λ q. IsApart x.chain q.chain) xs
     (λ q o. apart_by_owner pool x.chain q.chain own.live o.live (λ e. differ (sym o.owned ∙ (sym e ∙ own.owned)))) theirs
@@ -79,7 +79,7 @@ pub inbox_kept : (old new : PoolState) (owner : ℕ) (xs ys : List Queued) (box 
     → owner ≢ box.joiner.owner → InboxKept old new box
 inbox_kept old new owner xs ys box own leaves lies differ =
     let o = box.joiner.owner in
-    let each : (x : Open) → IsOwn old o x → IsLive new x.chain × (chain_bytes new x.chain ≡ chain_bytes old x.chain) =
+    let each : (x : Open) → IsOwnOpen old o x → IsLive new x.chain × (chain_bytes new x.chain ≡ chain_bytes old x.chain) =
     (λ x mine. let k = leaves.others x.chain mine.live (apart_from_queue old owner o x xs mine own differ) in (k.0, k.1)) in
     let all = opens_kept old new o (chains_in box) lies.holds.own each in
     let some = opens_kept old new o box.joiner.open.items (front_holds old o box.joiner.open.items box.got lies.holds).own each in
@@ -104,15 +104,15 @@ inbox_kept old new owner xs ys box own leaves lies differ =
 
 pub record OutboxKept (old new : PoolState) (box : Outbox) : Type 0 where
   pub lies : OutboxLiesIn new box
-  pub messages : messages_in new box ≡ messages_in old box
+  pub messages : queued_messages new box ≡ queued_messages old box
   pub aside : aside_of new box.owner ≡ aside_of old box.owner
 
-apart_from_opens : (pool : PoolState) (owner other : ℕ) (q : Queued) (xs : List Open) → IsChainOf pool other q.chain → AllByRecursion (IsOwn pool owner) xs → other ≢ owner → IsApartFrom xs q.chain
+apart_from_opens : (pool : PoolState) (owner other : ℕ) (q : Queued) (xs : List Open) → IsChainOf pool other q.chain → AllByRecursion (IsOwnOpen pool owner) xs → other ≢ owner → IsApartFrom xs q.chain
 apart_from_opens pool owner other q xs own theirs differ =
-    all_mapped Open (IsOwn pool owner) (λ x. IsApart q.chain x.chain) xs
+    all_mapped Open (IsOwnOpen pool owner) (λ x. IsApart q.chain x.chain) xs
     (λ x o. apart_by_owner pool q.chain x.chain own.live o.live (λ e. differ (sym own.owned ∙ (e ∙ o.owned)))) theirs
 
-pub outbox_kept : (old new : PoolState) (owner : ℕ) (xs ys : List Open) (box : Outbox) → AllByRecursion (IsOwn old owner) xs → InboxLeaves old new owner xs ys → OutboxLiesIn old box
+pub outbox_kept : (old new : PoolState) (owner : ℕ) (xs ys : List Open) (box : Outbox) → AllByRecursion (IsOwnOpen old owner) xs → InboxLeaves old new owner xs ys → OutboxLiesIn old box
     → box.owner ≢ owner → OutboxKept old new box
 outbox_kept old new owner xs ys box own leaves lies differ =
     let o = box.owner in
@@ -120,7 +120,7 @@ outbox_kept old new owner xs ys box own leaves lies differ =
     let each = all_mapped Queued (λ q. IsChainOf old o q.chain) (λ q. IsLive new q.chain × (chain_bytes new q.chain ≡ chain_bytes old q.chain)) box.queue.items
     (λ q mine. let k = leaves.others q.chain mine.live (apart_from_opens old owner o q xs mine own differ) in (k.0, k.1)) kept.own in
     let all = kept_each Queued chain_in old new o box.queue.items kept.own each in
-    let same : messages_in new box ≡ messages_in old box = messages_same old new box.queue.items all.bytes in
+    let same : queued_messages new box ≡ queued_messages old box = messages_same old new box.queue.items all.bytes in
     let here : owner_at new.owners o ≡ owner_at old.owners o = ap (λ os. owner_at os o) leaves.owners ∙ other-with_used old.owners owner (used_of new owner) o differ in
     let len = ap length leaves.owners ∙ length-with_used old.owners owner (used_of new owner) in
     let used = ap (λ (x : Owner). x.used) here in
@@ -212,18 +212,18 @@ leaves_same old new a b c x y z l owner queue inbox = record {
 
 pub inbox_passed : (old new : PoolState) (owner : ℕ) (chain : Chain) (xs ys : List Queued) (box : Inbox) → OwnsAll Queued chain_in old owner xs → LeavesOthersBut old new owner chain xs ys → InboxLiesIn old box
     → owner ≢ box.joiner.owner → IsApartFrom (chains_in box) chain → (chain.owner ≡ box.joiner.owner → held_blocks old (chains_in box) + blocks_for (length (chain_bytes old chain)) ≤ used_of old box.joiner.owner)
-    → InboxLiesIn new box × (under_way new box ≡ under_way old box) × (got_in new box ≡ got_in old box)
+    → InboxLiesIn new box × (messages_under_way new box ≡ messages_under_way old box) × (came_whole new box ≡ came_whole old box)
 inbox_passed old new owner chain xs ys box own leaves lies differ apart counted =
     let o = box.joiner.owner in
-    let kept : (x : Open) → IsOwn old o x × IsApart chain x.chain → IsLive new x.chain × (chain_bytes new x.chain ≡ chain_bytes old x.chain) =
+    let kept : (x : Open) → IsOwnOpen old o x × IsApart chain x.chain → IsLive new x.chain × (chain_bytes new x.chain ≡ chain_bytes old x.chain) =
     (λ x p. let k = leaves.others x.chain p.0.live (apart_from_queue old owner o x xs p.0 own differ) (apart_turned chain x.chain p.1) in (k.0, k.1)) in
-    let both = all_joined Open (IsOwn old o) (λ x. IsApart chain x.chain) (chains_in box) lies.holds.own apart in
+    let both = all_joined Open (IsOwnOpen old o) (λ x. IsApart chain x.chain) (chains_in box) lies.holds.own apart in
     let all = opens_passed old new o (λ x. IsApart chain x.chain) (chains_in box) both kept in
     let front = front_holds old o box.joiner.open.items box.got lies.holds in
     let parts = front_apart box.joiner.open.items box.got chain apart in
-    let some = opens_passed old new o (λ x. IsApart chain x.chain) box.joiner.open.items (all_joined Open (IsOwn old o) (λ x. IsApart chain x.chain) box.joiner.open.items front.own parts.0) kept in
+    let some = opens_passed old new o (λ x. IsApart chain x.chain) box.joiner.open.items (all_joined Open (IsOwnOpen old o) (λ x. IsApart chain x.chain) box.joiner.open.items front.own parts.0) kept in
     let got = opens_passed old new o (λ x. IsApart chain x.chain) (got_chains box.got)
-    (all_joined Open (IsOwn old o) (λ x. IsApart chain x.chain) (got_chains box.got) (got_holds old o box.joiner.open.items (got_chains box.got) lies.holds.own) parts.1) kept in
+    (all_joined Open (IsOwnOpen old o) (λ x. IsApart chain x.chain) (got_chains box.got) (got_holds old o box.joiner.open.items (got_chains box.got) lies.holds.own) parts.1) kept in
     let len = leaves.lengths in
     let stays : (quota_of new o ≡ 512) × (held_blocks new (chains_in box) ≤ used_of new o) = elim (cases_eq chain.owner o) [
       | inl same ↦ (

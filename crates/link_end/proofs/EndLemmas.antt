@@ -12,7 +12,7 @@ use Rattle.hcp_chain.specs.Joining.{are_taken, open_after}
 use Rattle.hcp_chain.specs.Holding.{held_blocks, messages_in as messages_of}
 use Rattle.shdlc_core.specs.declared.answers.LinkState.{LinkState}
 use Rattle.shdlc_core.specs.declared.answers.LinkState.TheVariants.{Up, Waiting, Down}
-use Rattle.shdlc_core.specs.Kept.{Kept, StandsFor as ShdlcStandsFor}
+use Rattle.shdlc_core.specs.Kept.{KeptEnd, ShdlcStandsFor}
 use Rattle.shdlc_core.specs.Machine.{EndState, Fragment, offered, stopped}
 use Rattle.shdlc_core.specs.Offering.{StandsBefore, with_out}
 use Rattle.shdlc_core.proofs.Offering.{stands_offered, stands_idle, stands_stopped}
@@ -24,14 +24,14 @@ use Rattle.link_machine.specs.Machine.{LinkEnd as Machine, ActDue as Due, Role, 
 use Rattle.link_messages.specs.declared.outbox.Outbox.{Outbox}
 use Rattle.link_messages.specs.declared.outbox.Queued.{Queued}
 use Rattle.link_messages.specs.declared.inbox.Inbox.{Inbox}
-use Rattle.link_messages.specs.Outgoing.{chain_in, messages_in, messages_of_all, waiting_in, LiesIn as OutboxLiesIn, LeavesOthers as OutboxLeaves}
-use Rattle.link_messages.specs.Incoming.{chains_in, under_way, got_in, LiesIn as InboxLiesIn, LeavesOthers as InboxLeaves}
+use Rattle.link_messages.specs.Outgoing.{chain_in, queued_messages, messages_of_all, waiting_in, OutboxLiesIn, OutboxLeavesOthers as OutboxLeaves}
+use Rattle.link_messages.specs.Incoming.{chains_in, messages_under_way, came_whole, InboxLiesIn, InboxLeavesOthers as InboxLeaves}
 use Rattle.link_messages.proofs.OutgoingLemmas.{aside-with_used}
-use Rattle.link_end.specs.Dues.{in_front}
-use Rattle.link_end.specs.Steps.{Forgets}
+use Rattle.link_end.specs.Dues.{kept_in_front}
+use Rattle.link_end.specs.Steps.{ForgetsMessages}
 use Rattle.link_end.specs.declared.acts.ActDue.{ActDue}
 use Rattle.link_end.proofs.BoxLemmas.{inbox_kept, outbox_kept, leaves_out, leaves_in, leaves_more}
-use Rattle.link_end.specs.Ends.{due_of, Halfway, StandsFor}
+use Rattle.link_end.specs.Ends.{due_of, Halfway, EndStandsFor}
 use Rattle.link_end.specs.Roles.{role_of}
 use Rattle.link_end.specs.Reports.{nothing_told, act_told}
 use Rattle.link_end.specs.declared.report.LinkReport.{LinkReport}
@@ -53,7 +53,7 @@ pub refills_none : (pool : PoolState) (k : End) → OutboxLiesIn pool k.outbox �
 refills_none pool k lies = record { lies = lies; half = λ m h. h; queue = refl; owner = refl; inbox = refl; acts = refl }
 
 -- one more was offered
-offered_half : (pool : PoolState) (k : End) (s : Kept) (box : Outbox) (info : Fragment) (m : Machine) → waiting_in pool k.outbox ≡ info ∷ waiting_in pool box → box ≡ record k.outbox { cut = k.outbox.cut + 1 }
+offered_half : (pool : PoolState) (k : End) (s : KeptEnd) (box : Outbox) (info : Fragment) (m : Machine) → waiting_in pool k.outbox ≡ info ∷ waiting_in pool box → box ≡ record k.outbox { cut = k.outbox.cut + 1 }
     → OutboxLiesIn pool box → k.shdlc.phase ≡ Up → length k.shdlc.sender.queue < 4 → ((e : EndState) → ShdlcStandsFor k.shdlc e → ShdlcStandsFor s (offered e info))
     → Halfway k pool m → Halfway (record k { shdlc = s; outbox = box }) pool m
 offered_half pool k s box info m waits cut lies up room takes h =
@@ -67,7 +67,7 @@ offered_half pool k s box info m waits cut lies up room takes h =
         lies = lies;
         all = h.sends.all;
         out = h.sends.out;
-        messages = ap (messages_in pool) cut ∙ h.sends.messages;
+        messages = ap (queued_messages pool) cut ∙ h.sends.messages;
         acked = ap (λ (b : Outbox). b.acked) cut ∙ h.sends.acked;
       };
       receives = h.receives;
@@ -77,7 +77,7 @@ offered_half pool k s box info m waits cut lies up room takes h =
       differ = λ e. h.differ (sym owner ∙ e);
     }
 
-pub refills_more : (pool : PoolState) (before k : End) (s : Kept) (box : Outbox) (info : Fragment) → waiting_in pool k.outbox ≡ info ∷ waiting_in pool box → box ≡ record k.outbox { cut = k.outbox.cut + 1 }
+pub refills_more : (pool : PoolState) (before k : End) (s : KeptEnd) (box : Outbox) (info : Fragment) → waiting_in pool k.outbox ≡ info ∷ waiting_in pool box → box ≡ record k.outbox { cut = k.outbox.cut + 1 }
     → OutboxLiesIn pool box → k.shdlc.phase ≡ Up → length k.shdlc.sender.queue < 4 → ((e : EndState) → ShdlcStandsFor k.shdlc e → ShdlcStandsFor s (offered e info))
     → Refills pool before k → Refills pool before (record k { shdlc = s; outbox = box })
 refills_more pool before k s box info waits cut lies up room takes r = record {
@@ -90,22 +90,22 @@ refills_more pool before k s box info waits cut lies up room takes r = record {
 }
 
 -- there is no room, or no session
-pub refilled : (pool : PoolState) (k : End) (m : Machine) → (k.shdlc.phase ≢ Up) ⊎ (length k.shdlc.sender.queue ≡ 4) → Halfway k pool m → StandsFor k pool m
+pub refilled : (pool : PoolState) (k : End) (m : Machine) → (k.shdlc.phase ≢ Up) ⊎ (length k.shdlc.sender.queue ≡ 4) → Halfway k pool m → EndStandsFor k pool m
 refilled pool k m (inl idle) h = record { half = h; full = inl (stands_idle k.shdlc (waiting_in pool k.outbox) m.shdlc h.link idle) }
 refilled pool k m (inr four) h = record { half = h; full = inr (h.link.kept.sender.offered ∙ ap (λ n. m.shdlc.session.acked + n) four) }
 
 -- nothing waits
-pub none_waits : (pool : PoolState) (k : End) (m : Machine) → waiting_in pool k.outbox ≡ [] → Halfway k pool m → StandsFor k pool m
+pub none_waits : (pool : PoolState) (k : End) (m : Machine) → waiting_in pool k.outbox ≡ [] → Halfway k pool m → EndStandsFor k pool m
 none_waits pool k m none h = record { half = h; full = inl none }
 
 -- ---- forgetting
 
 pub forgotten : (old mid new : PoolState) (k : End) (box : Outbox) (inbox : Inbox) (acts : ArrayVec ActDue) → OutboxLiesIn old k.outbox → InboxLiesIn old k.inbox → k.outbox.owner ≢ k.inbox.joiner.owner
     → OutboxLiesIn mid box → box.queue.items ≡ [] → (box.acked ≡ 0) × (box.cut ≡ 0) → box.owner ≡ k.outbox.owner → OutboxLeaves old mid k.outbox.owner k.outbox.queue.items []
-    → InboxLiesIn new inbox → inbox.joiner.open.items ≡ [] → inbox.got ≡ k.inbox.got → inbox.joiner.owner ≡ k.inbox.joiner.owner → got_in new inbox ≡ got_in mid k.inbox
+    → InboxLiesIn new inbox → inbox.joiner.open.items ≡ [] → inbox.got ≡ k.inbox.got → inbox.joiner.owner ≡ k.inbox.joiner.owner → came_whole new inbox ≡ came_whole mid k.inbox
     → InboxLeaves mid new k.inbox.joiner.owner (chains_in k.inbox) (chains_in inbox)
     → used_of new k.inbox.joiner.owner + held_blocks mid (chains_in k.inbox) ≡ used_of mid k.inbox.joiner.owner + held_blocks new (chains_in inbox)
-    → acts.items ≡ map in_front k.acts.items → Forgets old new k (record k { outbox = box; inbox = inbox; acts = acts })
+    → acts.items ≡ map kept_in_front k.acts.items → ForgetsMessages old new k (record k { outbox = box; inbox = inbox; acts = acts })
 forgotten old mid new k box inbox acts sends receives differ lies none places owner leaves lies_in under got owner_in message leaves_in_is received moved =
     let i = inbox_kept old mid k.outbox.owner k.outbox.queue.items [] k.inbox receives_own leaves receives differ in
     let o = outbox_kept mid new k.inbox.joiner.owner (chains_in k.inbox) (chains_in inbox) box i.lies.holds.own leaves_in_is lies (λ e. differ (sym owner ∙ e)) in
@@ -136,7 +136,7 @@ forgotten old mid new k box inbox acts sends receives differ lies none places ow
 
 -- ---- a session that is over
 
-pub front_same : (xs : List ActDue) → map due_of (map in_front xs) ≡ map due_in_front (map due_of xs)
+pub front_same : (xs : List ActDue) → map due_of (map kept_in_front xs) ≡ map due_in_front (map due_of xs)
 front_same [] = refl
 front_same (x ∷ xs) = ap (λ (l : List Due). record { frame = x.frame; behind = 0 } ∷ l) (front_same xs)
 
@@ -144,7 +144,7 @@ front_same (x ∷ xs) = ap (λ (l : List Due). record { frame = x.frame; behind 
 pub record Carries (k : End) (pool : PoolState) (m : Machine) : Type 0 where
   pub role : role_of k.activation ≡ m.role
   pub acts : map due_of k.acts.items ≡ m.acts
-  pub got : got_in pool k.inbox ≡ m.got
+  pub got : came_whole pool k.inbox ≡ m.got
   pub aside : aside_of pool k.outbox.owner ≡ m.aside
   pub passed_over : k.passed_over ≡ min m.passed_over 4294967295
   pub differ : k.outbox.owner ≢ k.inbox.joiner.owner
@@ -153,13 +153,13 @@ pub carries : (k : End) (pool : PoolState) (m : Machine) → Halfway k pool m �
 carries k pool m h = record { role = h.role; acts = h.acts; got = h.got; aside = h.aside; passed_over = h.passed_over; differ = h.differ }
 
 -- What is kept after the messages of a session were forgotten stands for an end whose SHDLC end has nothing of a session.
-pub session_over : (old new : PoolState) (k k1 : End) (s0 s : Kept) (m : Machine) (e : EndState) → Carries k old m → Forgets old new (record k { shdlc = s0 }) k1
-    → StandsBefore s [] e → e.session.out ≡ [] → e.session.acked ≡ 0 → e.session.acc ≡ [] → StandsFor (record k1 { shdlc = s }) new (moved m true e)
+pub session_over : (old new : PoolState) (k k1 : End) (s0 s : KeptEnd) (m : Machine) (e : EndState) → Carries k old m → ForgetsMessages old new (record k { shdlc = s0 }) k1
+    → StandsBefore s [] e → e.session.out ≡ [] → e.session.acked ≡ 0 → e.session.acc ≡ [] → EndStandsFor (record k1 { shdlc = s }) new (moved m true e)
 session_over old new k k1 s0 s m e h f link out acked acc =
-    let messages : messages_in new k1.outbox ≡ [] = ap (messages_of_all new) f.none in
-    let waiting : waiting_in new k1.outbox ≡ [] = ap (λ n. drop n (fragments_of (messages_in new k1.outbox))) f.cut ∙ ap (λ ms. fragments_of ms) messages in
+    let messages : queued_messages new k1.outbox ≡ [] = ap (messages_of_all new) f.none in
+    let waiting : waiting_in new k1.outbox ≡ [] = ap (λ n. drop n (fragments_of (queued_messages new k1.outbox))) f.cut ∙ ap (λ ms. fragments_of ms) messages in
     let P : List Fragment → Type 0 = λ w. StandsBefore s w e in
-    let under : under_way new k1.inbox ≡ [] = ap (messages_of new) f.under in
+    let under : messages_under_way new k1.inbox ≡ [] = ap (messages_of new) f.under in
     record {
       half = record {
         role = ap role_of f.activation ∙ h.role;
@@ -185,8 +185,8 @@ session_over old new k k1 s0 s m e h f link out acked acc =
       full = inl waiting;
     }
 
-pub dropped : (pool : PoolState) (k : End) (s : Kept) (acts : ArrayVec ActDue) (m : Machine) → ((e : EndState) → ShdlcStandsFor k.shdlc e → ShdlcStandsFor s (record e { due = [] }))
-    → acts.items ≡ map in_front k.acts.items → StandsFor k pool m → StandsFor (record k { shdlc = s; acts = acts }) pool (record m { shdlc = record m.shdlc { due = [] }; acts = map due_in_front m.acts })
+pub dropped : (pool : PoolState) (k : End) (s : KeptEnd) (acts : ArrayVec ActDue) (m : Machine) → ((e : EndState) → ShdlcStandsFor k.shdlc e → ShdlcStandsFor s (record e { due = [] }))
+    → acts.items ≡ map kept_in_front k.acts.items → EndStandsFor k pool m → EndStandsFor (record k { shdlc = s; acts = acts }) pool (record m { shdlc = record m.shdlc { due = [] }; acts = map due_in_front m.acts })
 dropped pool k s acts m drops moved_acts h =
     let half = h.half in
     record {
@@ -207,7 +207,7 @@ dropped pool k s acts m drops moved_acts h =
     }
 
 pub act_made : (pool : PoolState) (k : End) (acts : ArrayVec ActDue) (frame : Act) (behind : ℕ) (m : Machine) → acts.items ≡ k.acts.items ++ record { frame = frame; behind = behind } ∷ []
-    → behind ≡ length k.shdlc.due → StandsFor k pool m → StandsFor (record k { acts = acts }) pool (with_act (Some frame) m)
+    → behind ≡ length k.shdlc.due → EndStandsFor k pool m → EndStandsFor (record k { acts = acts }) pool (with_act (Some frame) m)
 act_made pool k acts frame behind m pushed counted h =
     let half = h.half in
     let due : k.shdlc.due ≡ m.shdlc.due = half.link.kept.due in
@@ -229,7 +229,7 @@ act_made pool k acts frame behind m pushed counted h =
     }
 
 -- another state of activation
-pub with_role : (pool : PoolState) (k : End) (a : Activation) (m : Machine) (r : Role) → role_of a ≡ r → StandsFor k pool m → StandsFor (record k { activation = a }) pool (record m { role = r })
+pub with_role : (pool : PoolState) (k : End) (a : Activation) (m : Machine) (r : Role) → role_of a ≡ r → EndStandsFor k pool m → EndStandsFor (record k { activation = a }) pool (record m { role = r })
 with_role pool k a m r is h =
     let half = h.half in
     record {
@@ -260,29 +260,29 @@ put_down-with_role true m r = put_down-role m r
 put_down-with_role false m r = refl
 
 -- an event of activation
-pub event_stands : (pool new : PoolState) (k k2 k3 : End) (a : Activation) (m : Machine) (event : ActEvent) (out : ActOut) → StandsFor k pool m → role_of a ≡ role_after (role_of k.activation) event
+pub event_stands : (pool new : PoolState) (k k2 k3 : End) (a : Activation) (m : Machine) (event : ActEvent) (out : ActOut) → EndStandsFor k pool m → role_of a ≡ role_after (role_of k.activation) event
     → out ≡ act_answer (role_of k.activation) event
-    → ((x : Machine) → StandsFor (record k { activation = a }) pool x → StandsFor k2 new (put_down out.ended_link x))
-    → ((p : PoolState) (x : Machine) → StandsFor k2 p x → StandsFor k3 p (with_act out.send x)) → StandsFor k3 new (activated m event)
+    → ((x : Machine) → EndStandsFor (record k { activation = a }) pool x → EndStandsFor k2 new (put_down out.ended_link x))
+    → ((p : PoolState) (x : Machine) → EndStandsFor k2 p x → EndStandsFor k3 p (with_act out.send x)) → EndStandsFor k3 new (activated m event)
 event_stands pool new k k2 k3 a m event out h role is down made =
     let r = role_after m.role event in
     let here : role_of a ≡ r = role ∙ ap (λ x. role_after x event) h.half.role in
     let answer : out ≡ act_answer m.role event = is ∙ ap (λ x. act_answer x event) h.half.role in
     let h1 = with_role pool k a m r here h in
     let h2 = down (record m { role = r }) h1 in
-    let P : Machine → Type 0 = λ x. StandsFor k2 new x in
+    let P : Machine → Type 0 = λ x. EndStandsFor k2 new x in
     let h3 = made new (record (put_down out.ended_link m) { role = r }) (subst P (put_down-with_role out.ended_link m r) h2) in
-    let Q : ActOut → Type 0 = λ o. StandsFor k3 new (with_act o.send (record (put_down o.ended_link m) { role = r })) in
+    let Q : ActOut → Type 0 = λ o. EndStandsFor k3 new (with_act o.send (record (put_down o.ended_link m) { role = r })) in
     subst Q answer h3
 
-pub stopped_before : (s s1 new : Kept) (waiting : List Fragment) (e : EndState) → StandsBefore s waiting e → s1 ≡ s → ((x : EndState) → ShdlcStandsFor s1 x → ShdlcStandsFor new (stopped x)) → StandsBefore new [] (stopped e)
+pub stopped_before : (s s1 new : KeptEnd) (waiting : List Fragment) (e : EndState) → StandsBefore s waiting e → s1 ≡ s → ((x : EndState) → ShdlcStandsFor s1 x → ShdlcStandsFor new (stopped x)) → StandsBefore new [] (stopped e)
 stopped_before s s1 new waiting e h same stops =
-    let P : Kept → Type 0 = λ x. ShdlcStandsFor x (with_out e h.offered) in
+    let P : KeptEnd → Type 0 = λ x. ShdlcStandsFor x (with_out e h.offered) in
     (stands_stopped s new waiting e h (stops (with_out e h.offered) (subst P (sym same) h.kept))).stands
 
-pub event_told : (pool : PoolState) (k : End) (a : Activation) (m : Machine) (event : ActEvent) (out : ActOut) (ended : Option Cause) (nothing : LinkReport) → StandsFor k pool m
+pub event_told : (pool : PoolState) (k : End) (a : Activation) (m : Machine) (event : ActEvent) (out : ActOut) (ended : Option Cause) (nothing : LinkReport) → EndStandsFor k pool m
     → role_of a ≡ role_after (role_of k.activation) event → out ≡ act_answer (role_of k.activation) event
-    → ((x : Machine) → StandsFor (record k { activation = a }) pool x → ended ≡ (if out.ended_link then if_up x.shdlc ByAct else None)) → nothing ≡ nothing_told
+    → ((x : Machine) → EndStandsFor (record k { activation = a }) pool x → ended ≡ (if out.ended_link then if_up x.shdlc ByAct else None)) → nothing ≡ nothing_told
     → record nothing { ended = ended; became_active = out.became_active; sync = out.sync; gave_up = out.gave_up } ≡ act_told m event
 event_told pool k a m event out ended nothing h role is cause none =
     let r = role_after m.role event in

@@ -13,7 +13,7 @@ use Rattle.swp_base.specs.declared.link_terms.Cause.TheVariants.{Chain}
 use Rattle.shdlc_core.specs.declared.answers.LinkState.{LinkState}
 use Rattle.shdlc_core.specs.declared.answers.LinkState.TheVariants.{Up, Down, Waiting}
 use Rattle.shdlc_core.specs.declared.answers.Taken.{Taken}
-use Rattle.shdlc_core.specs.Kept.{Kept, StandsFor as ShdlcStandsFor}
+use Rattle.shdlc_core.specs.Kept.{KeptEnd, ShdlcStandsFor}
 use Rattle.shdlc_core.specs.Machine.{EndState, Fragment, Session, taken, take_answer, stopped, place_of}
 use Rattle.shdlc_core.specs.Offering.{StandsBefore, with_out, left_waiting}
 use Rattle.shdlc_core.proofs.Offering.{stands_taken, stands_idle, taken_alike, takes_on, TakesOn, brings_fragment}
@@ -24,16 +24,16 @@ use Rattle.hcp_chain.proofs.ReadyLemmas.{open_after-append, given_by-append, are
 use Rattle.link_machine.specs.Machine.{LinkEnd as Machine, Message, moved, put_down, heard, is_faulty, messages_got, news, whole_acked, whole_among, oldest}
 use Rattle.link_messages.specs.declared.outbox.Outbox.{Outbox}
 use Rattle.link_messages.specs.declared.inbox.Inbox.{Inbox}
-use Rattle.link_messages.specs.Outgoing.{messages_in, waiting_in, rest_among, LiesIn as OutboxLiesIn, GivesBack, acked_more}
+use Rattle.link_messages.specs.Outgoing.{queued_messages, waiting_in, rest_among, OutboxLiesIn, GivesBack, acked_more}
 use Rattle.block_pool.specs.Owners.{owner_at}
 use Rattle.hcp_chain.specs.declared.joiner.Open.{Open}
 use Rattle.hcp_chain.specs.Holding.{held_blocks, messages_in as messages_of}
 use Rattle.link_messages.specs.declared.inbox.Got.{Got}
-use Rattle.link_messages.specs.Incoming.{got_chains, chains_in, under_way, got_in, LiesIn as InboxLiesIn, IsReady as InboxIsReady, LeavesOthers as InboxLeaves}
+use Rattle.link_messages.specs.Incoming.{got_chains, chains_in, messages_under_way, came_whole, InboxLiesIn, IsInboxReady as InboxIsReady, InboxLeavesOthers as InboxLeaves}
 use Rattle.link_messages.proofs.OutgoingLemmas.{aside-with_used}
 use Rattle.link_messages.proofs.Among.{whole-more, whole-length}
-use Rattle.link_end.specs.Ends.{Sends, Halfway, StandsFor, MayTake, LeavesBoxes}
-use Rattle.link_end.specs.Steps.{Forgets}
+use Rattle.link_end.specs.Ends.{OutboxStandsFor, Halfway, EndStandsFor, MayTake, LeavesBoxes}
+use Rattle.link_end.specs.Steps.{ForgetsMessages}
 use Rattle.link_end.specs.Received.{ReceivesOn}
 use Rattle.link_end.specs.Reports.{nothing_told, heard_told}
 use Rattle.link_end.specs.declared.«end».End.{End}
@@ -86,10 +86,10 @@ no_news s e acc = ap (λ l. drop (length (messages_got s)) (good_of (given_by []
 abbrev pub ended_in : Machine → Control → Bool
 ended_in m c = is_some (take_answer m.shdlc c).ended
 
-pub took_answer : (k : End) (pool : PoolState) (m : Machine) (c : Control) (t : Taken) → StandsFor k pool m → ((e : EndState) → ShdlcStandsFor k.shdlc e → t ≡ take_answer e c) → t ≡ take_answer m.shdlc c
+pub took_answer : (k : End) (pool : PoolState) (m : Machine) (c : Control) (t : Taken) → EndStandsFor k pool m → ((e : EndState) → ShdlcStandsFor k.shdlc e → t ≡ take_answer e c) → t ≡ take_answer m.shdlc c
 took_answer k pool m c t h answer = answer (with_out m.shdlc h.half.link.offered) h.half.link.kept ∙ (taken_alike m.shdlc h.half.link.offered c).answer
 
-pub took_link : (k : End) (pool : PoolState) (m : Machine) (c : Control) (s0 : Kept) → StandsFor k pool m → ((e : EndState) → ShdlcStandsFor k.shdlc e → ShdlcStandsFor s0 (taken e c))
+pub took_link : (k : End) (pool : PoolState) (m : Machine) (c : Control) (s0 : KeptEnd) → EndStandsFor k pool m → ((e : EndState) → ShdlcStandsFor k.shdlc e → ShdlcStandsFor s0 (taken e c))
     → StandsBefore s0 (left_waiting (ended_in m c) (waiting_in pool k.outbox)) (taken m.shdlc c)
 took_link k pool m c s0 h stands =
     let link = h.half.link in
@@ -112,23 +112,23 @@ heard-over m c over acc =
 pub over_acc : (m : Machine) (c : Control) → TakesOn m.shdlc c → ended_in m c ≡ true → (taken m.shdlc c).session.acc ≡ []
 over_acc m c on over = on.acc ∙ ap (λ b. left_waiting b (m.shdlc.session.acc ++ option_to_list (take_answer m.shdlc c).accepted)) over
 
-pub over_stands : (pool new : PoolState) (k k1 : End) (m : Machine) (c : Control) (s0 : Kept) (t : Taken) → StandsFor k pool m → ((e : EndState) → ShdlcStandsFor k.shdlc e → ShdlcStandsFor s0 (taken e c))
-    → ((e : EndState) → ShdlcStandsFor k.shdlc e → t ≡ take_answer e c) → is_some t.ended ≡ true → Forgets pool new (record k { shdlc = s0 }) k1 → StandsFor k1 new (heard m c)
+pub over_stands : (pool new : PoolState) (k k1 : End) (m : Machine) (c : Control) (s0 : KeptEnd) (t : Taken) → EndStandsFor k pool m → ((e : EndState) → ShdlcStandsFor k.shdlc e → ShdlcStandsFor s0 (taken e c))
+    → ((e : EndState) → ShdlcStandsFor k.shdlc e → t ≡ take_answer e c) → is_some t.ended ≡ true → ForgetsMessages pool new (record k { shdlc = s0 }) k1 → EndStandsFor k1 new (heard m c)
 over_stands pool new k k1 m c s0 t h stands answer ended f =
     let e = taken m.shdlc c in
     let on = takes_on m.shdlc c h.half.link.session in
     let over : ended_in m c ≡ true = sym (ap (λ (x : Taken). is_some x.ended) (took_answer k pool m c t h answer)) ∙ ended in
     let acc = over_acc m c on over in
     let P : Bool → Type 0 = λ b. StandsBefore s0 (left_waiting b (waiting_in pool k.outbox)) e in
-    let Q : Kept → Type 0 = λ x. StandsBefore x [] e in
+    let Q : KeptEnd → Type 0 = λ x. StandsBefore x [] e in
     let link = subst Q (sym f.shdlc) (subst P over (took_link k pool m c s0 h stands)) in
-    let R : Machine → Type 0 = λ x. StandsFor k1 new x in
+    let R : Machine → Type 0 = λ x. EndStandsFor k1 new x in
     subst R (sym (heard-over m c over acc))
     (session_over pool new k k1 s0 k1.shdlc m e (carries k pool m h.half) f link
     (on.out ∙ ap (λ b. left_waiting b m.shdlc.session.out) over)
     (on.acked ∙ ap (λ b. if b then 0 else m.shdlc.session.acked + (take_answer m.shdlc c).acked) over) acc)
 
-pub over_told : (pool : PoolState) (k : End) (m : Machine) (c : Control) (t : Taken) (n : LinkReport) → StandsFor k pool m → ((e : EndState) → ShdlcStandsFor k.shdlc e → t ≡ take_answer e c)
+pub over_told : (pool : PoolState) (k : End) (m : Machine) (c : Control) (t : Taken) (n : LinkReport) → EndStandsFor k pool m → ((e : EndState) → ShdlcStandsFor k.shdlc e → t ≡ take_answer e c)
     → is_some t.ended ≡ true → n ≡ nothing_told → record n { ended = t.ended; began = t.began } ≡ heard_told m c
 over_told pool k m c t n h answer ended none =
     let e = taken m.shdlc c in
@@ -151,15 +151,15 @@ over_told pool k m c t n h answer ended none =
 
 -- more of what is sent is acknowledged
 pub sends_on : (mid new : PoolState) (box after : Outbox) (sent : List Message) (s s' : Session) (count whole : ℕ) → AreSendable sent → s.out ≡ fragments_of sent
-    → messages_in mid box ≡ drop (whole_among sent s.acked) sent → box.acked ≡ rest_among sent s.acked → GivesBack mid new (acked_more box count) after whole
-    → whole_among (messages_in new after) after.acked ≡ 0 → rest_among (messages_in new after) after.acked ≡ after.acked → s'.out ≡ s.out → s'.acked ≡ s.acked + count
-    → Sends new after sent s' × (whole_among sent s'.acked ≡ whole_among sent s.acked + whole)
+    → queued_messages mid box ≡ drop (whole_among sent s.acked) sent → box.acked ≡ rest_among sent s.acked → GivesBack mid new (acked_more box count) after whole
+    → whole_among (queued_messages new after) after.acked ≡ 0 → rest_among (queued_messages new after) after.acked ≡ after.acked → s'.out ≡ s.out → s'.acked ≡ s.acked + count
+    → OutboxStandsFor new after sent s' × (whole_among sent s'.acked ≡ whole_among sent s.acked + whole)
 sends_on mid new box after sent s s' count whole all out messages acked g none rest same_out counted =
     let w = whole_among sent s.acked in
     let more = whole-more sent s.acked count in
-    let left : whole_among (messages_in mid box) (box.acked + count) ≡ whole_among (drop w sent) (rest_among sent s.acked + count) =
+    let left : whole_among (queued_messages mid box) (box.acked + count) ≡ whole_among (drop w sent) (rest_among sent s.acked + count) =
     ap (λ l. whole_among l (box.acked + count)) messages ∙ ap (λ n. whole_among (drop w sent) (n + count)) acked in
-    let resting : rest_among (messages_in mid box) (box.acked + count) ≡ rest_among (drop w sent) (rest_among sent s.acked + count) =
+    let resting : rest_among (queued_messages mid box) (box.acked + count) ≡ rest_among (drop w sent) (rest_among sent s.acked + count) =
     ap (λ l. rest_among l (box.acked + count)) messages ∙ ap (λ n. rest_among (drop w sent) (n + count)) acked in
     let among : whole_among sent s'.acked ≡ w + whole = ap (whole_among sent) counted ∙ omega (arith, more.0, left, g.among, none) in (
       record {
@@ -173,7 +173,7 @@ sends_on mid new box after sent s s' count whole all out messages acked g none r
     )
 
 -- all that is acknowledged was cut
-pub cut_enough : (pool : PoolState) (k : End) (m : Machine) (c : Control) (s0 : Kept) (t : Taken) → StandsFor k pool m → ((e : EndState) → ShdlcStandsFor k.shdlc e → ShdlcStandsFor s0 (taken e c))
+pub cut_enough : (pool : PoolState) (k : End) (m : Machine) (c : Control) (s0 : KeptEnd) (t : Taken) → EndStandsFor k pool m → ((e : EndState) → ShdlcStandsFor k.shdlc e → ShdlcStandsFor s0 (taken e c))
     → ((e : EndState) → ShdlcStandsFor k.shdlc e → t ≡ take_answer e c) → is_some t.ended ≡ false → k.outbox.acked + t.acked ≤ k.outbox.cut
 cut_enough pool k m c s0 t h stands answer going =
     let sends = h.half.sends in
@@ -190,9 +190,9 @@ cut_enough pool k m c s0 t h stands answer going =
     let len_old : length (fragments_of m.sent) ≡ length link.offered + length (waiting_in pool k.outbox) = ap length (sym sends.out ∙ link.out) ∙ length-append link.offered (waiting_in pool k.outbox) in
     let some = next.kept.sender.offered in
     let some_old = link.kept.sender.offered in
-    let waits : length (waiting_in pool k.outbox) ≡ length (fragments_of (messages_in pool k.outbox)) - k.outbox.cut = length-drop k.outbox.cut (fragments_of (messages_in pool k.outbox)) in
+    let waits : length (waiting_in pool k.outbox) ≡ length (fragments_of (queued_messages pool k.outbox)) - k.outbox.cut = length-drop k.outbox.cut (fragments_of (queued_messages pool k.outbox)) in
     let whole = whole-length m.sent m.shdlc.session.acked (omega (arith, len_old, some_old)) in
-    let left : length (fragments_of (messages_in pool k.outbox)) ≡ length (fragments_of (drop (whole_among m.sent m.shdlc.session.acked) m.sent)) = ap (λ l. length (fragments_of l)) sends.messages in
+    let left : length (fragments_of (queued_messages pool k.outbox)) ≡ length (fragments_of (drop (whole_among m.sent m.shdlc.session.acked) m.sent)) = ap (λ l. length (fragments_of l)) sends.messages in
     omega (arith, acked, len_now, some, waits, whole.0, whole.1, left, sends.lies.cut, sends.acked)
 
 -- ---- a session that goes on
@@ -208,7 +208,7 @@ heard-on m c over faulty =
 abbrev pub brought : Taken → List Fragment
 brought t = option_to_list t.accepted
 
-pub record GoesOn (old mid new : PoolState) (k : End) (m : Machine) (c : Control) (s0 : Kept) (t : Taken) (inbox : Inbox) (outbox : Outbox) (whole : ℕ) : Type 0 where
+pub record GoesOn (old mid new : PoolState) (k : End) (m : Machine) (c : Control) (s0 : KeptEnd) (t : Taken) (inbox : Inbox) (outbox : Outbox) (whole : ℕ) : Type 0 where
   pub half : Halfway (record k { shdlc = s0; outbox = outbox; inbox = inbox }) new (heard m c)
   pub told : (n : LinkReport) → n ≡ nothing_told → k.inbox.got ≡ None → record n { began = t.began; acked = whole; got = is_some inbox.got } ≡ heard_told m c
   pub elsewhere : LeavesBoxes old new k.outbox k.inbox outbox inbox
@@ -221,10 +221,10 @@ true_is : (b : Bool) → IsTrue b → b ≡ true
 true_is true t = refl
 true_is false t = t
 
-pub goes_on : (old mid new : PoolState) (k : End) (m : Machine) (c : Control) (s0 : Kept) (t : Taken) (inbox : Inbox) (outbox : Outbox) (whole : ℕ) → StandsFor k old m
+pub goes_on : (old mid new : PoolState) (k : End) (m : Machine) (c : Control) (s0 : KeptEnd) (t : Taken) (inbox : Inbox) (outbox : Outbox) (whole : ℕ) → EndStandsFor k old m
     → ((e : EndState) → ShdlcStandsFor k.shdlc e → ShdlcStandsFor s0 (taken e c)) → ((e : EndState) → ShdlcStandsFor k.shdlc e → t ≡ take_answer e c) → is_some t.ended ≡ false
-    → IsTrue (are_taken (under_way old k.inbox) (packets_in (brought t))) → ReceivesOn old mid k.inbox inbox (brought t)
-    → GivesBack mid new (acked_more k.outbox t.acked) outbox whole → whole_among (messages_in new outbox) outbox.acked ≡ 0 → rest_among (messages_in new outbox) outbox.acked ≡ outbox.acked
+    → IsTrue (are_taken (messages_under_way old k.inbox) (packets_in (brought t))) → ReceivesOn old mid k.inbox inbox (brought t)
+    → GivesBack mid new (acked_more k.outbox t.acked) outbox whole → whole_among (queued_messages new outbox) outbox.acked ≡ 0 → rest_among (queued_messages new outbox) outbox.acked ≡ outbox.acked
     → GoesOn old mid new k m c s0 t inbox outbox whole
 goes_on old mid new k m c s0 t inbox outbox whole h stands answer going joined r g none rest =
     let half = h.half in
@@ -238,7 +238,7 @@ goes_on old mid new k m c s0 t inbox outbox whole h stands answer going joined r
     on.acked ∙ (ap (λ b. if b then 0 else m.shdlc.session.acked + (take_answer m.shdlc c).acked) over ∙ ap (λ (x : Taken). m.shdlc.session.acked + x.acked) (sym is)) in
     let out : e.session.out ≡ m.shdlc.session.out = on.out ∙ ap (λ b. left_waiting b m.shdlc.session.out) over in
     let under = half.receives.under in
-    let all_taken : are_taken (under_way old k.inbox) (packets_in (brought t)) ≡ true = true_is (are_taken (under_way old k.inbox) (packets_in (brought t))) joined in
+    let all_taken : are_taken (messages_under_way old k.inbox) (packets_in (brought t)) ≡ true = true_is (are_taken (messages_under_way old k.inbox) (packets_in (brought t))) joined in
     let sound : are_taken [] (packets_in e.session.acc) ≡ true =
     taken_is m.shdlc.session e (brought t) acc half.receives.sound ∙ (ap (λ u. are_taken u (packets_in (brought t))) (sym under) ∙ all_taken) in
     let faulty : is_faulty e.session ≡ false = ap not sound in
@@ -249,8 +249,8 @@ goes_on old mid new k m c s0 t inbox outbox whole h stands answer going joined r
     let P : Bool → Type 0 = λ b. StandsBefore s0 (left_waiting b (waiting_in old k.outbox)) e in
     let waiting : waiting_in old k.outbox ≡ waiting_in new outbox = sym (g.waiting ∙ ap (λ l. drop k.outbox.cut (fragments_of l)) o.messages) in
     let Q : List Fragment → Type 0 = λ w. StandsBefore s0 w e in
-    let came : got_in new inbox ≡ m.got ++ news m.shdlc.session e =
-    i.got ∙ (r.got ∙ (ap (λ l. l ++ good_of (given_by (under_way old k.inbox) (packets_in (brought t)))) half.got
+    let came : came_whole new inbox ≡ m.got ++ news m.shdlc.session e =
+    i.got ∙ (r.got ∙ (ap (λ l. l ++ good_of (given_by (messages_under_way old k.inbox) (packets_in (brought t)))) half.got
     ∙ (ap (λ u. m.got ++ good_of (given_by u (packets_in (brought t)))) under ∙ ap (λ l. m.got ++ l) (sym new_ones)))) in
     let now : Machine = record (moved m false e) { got = m.got ++ news m.shdlc.session e } in
     let R : Machine → Type 0 = λ x. Halfway (record k { shdlc = s0; outbox = outbox; inbox = inbox }) new x in
@@ -320,7 +320,7 @@ ready_in Waiting e c f is = let up = (brings_fragment (in_phase Waiting e) c f i
 pub accepted_ready : (e : EndState) (c : Control) (f : Fragment) → (take_answer e c).accepted ≡ Some f → e.ready ≡ true
 accepted_ready e c f is = ready_in e.phase e c f is
 
-pub may_receive : (pool : PoolState) (k : End) (m : Machine) (c : Control) (t : Taken) → StandsFor k pool m → ((e : EndState) → ShdlcStandsFor k.shdlc e → t ≡ take_answer e c) → MayTake k pool
+pub may_receive : (pool : PoolState) (k : End) (m : Machine) (c : Control) (t : Taken) → EndStandsFor k pool m → ((e : EndState) → ShdlcStandsFor k.shdlc e → t ≡ take_answer e c) → MayTake k pool
     → IfSome t.accepted (λ _. InboxIsReady pool k.inbox)
 may_receive pool k m c t h answer may = go t.accepted refl
   where
@@ -358,29 +358,29 @@ pub record IsBroken (old mid : PoolState) (before after : Inbox) : Type 0 where
   pub used : used_of mid before.joiner.owner ≡ 0
   pub elsewhere : InboxLeaves old mid before.joiner.owner (chains_in before) []
 
-pub record BreaksOff (old mid new : PoolState) (k k1 : End) (m : Machine) (c : Control) (s : Kept) : Type 0 where
-  pub stands : StandsFor (record k1 { shdlc = s }) new (heard m c)
+pub record BreaksOff (old mid new : PoolState) (k k1 : End) (m : Machine) (c : Control) (s : KeptEnd) : Type 0 where
+  pub stands : EndStandsFor (record k1 { shdlc = s }) new (heard m c)
   pub told : (n : LinkReport) → n ≡ nothing_told → record n { ended = Some Chain } ≡ heard_told m c
 
-pub fault_lies : (old mid : PoolState) (k : End) (m : Machine) (inbox : Inbox) → StandsFor k old m → IsBroken old mid k.inbox inbox → OutboxKept old mid k.outbox
+pub fault_lies : (old mid : PoolState) (k : End) (m : Machine) (inbox : Inbox) → EndStandsFor k old m → IsBroken old mid k.inbox inbox → OutboxKept old mid k.outbox
 fault_lies old mid k m inbox h b = outbox_kept old mid k.inbox.joiner.owner (chains_in k.inbox) [] k.outbox h.half.receives.lies.holds.own b.elsewhere h.half.sends.lies h.half.differ
 
-pub breaks_off : (old mid new : PoolState) (k k1 : End) (m : Machine) (c : Control) (s0 s : Kept) (t : Taken) (inbox : Inbox) → StandsFor k old m
+pub breaks_off : (old mid new : PoolState) (k k1 : End) (m : Machine) (c : Control) (s0 s : KeptEnd) (t : Taken) (inbox : Inbox) → EndStandsFor k old m
     → ((e : EndState) → ShdlcStandsFor k.shdlc e → ShdlcStandsFor s0 (taken e c)) → ((e : EndState) → ShdlcStandsFor k.shdlc e → t ≡ take_answer e c)
-    → (IsTrue (are_taken (under_way old k.inbox) (packets_in (brought t))) → ⊥) → k.inbox.got ≡ None → IsBroken old mid k.inbox inbox
-    → Forgets mid new (record k { shdlc = s0; inbox = inbox }) k1 → ((e : EndState) → ShdlcStandsFor k1.shdlc e → ShdlcStandsFor s (stopped e)) → BreaksOff old mid new k k1 m c s
+    → (IsTrue (are_taken (messages_under_way old k.inbox) (packets_in (brought t))) → ⊥) → k.inbox.got ≡ None → IsBroken old mid k.inbox inbox
+    → ForgetsMessages mid new (record k { shdlc = s0; inbox = inbox }) k1 → ((e : EndState) → ShdlcStandsFor k1.shdlc e → ShdlcStandsFor s (stopped e)) → BreaksOff old mid new k k1 m c s
 breaks_off old mid new k k1 m c s0 s t inbox h stands answer broken fetched b f stops =
     let half = h.half in
     let e = taken m.shdlc c in
     let on = takes_on m.shdlc c half.link.session in
     let is = took_answer k old m c t h answer in
-    let some = some_brought (under_way old k.inbox) t.accepted broken in
+    let some = some_brought (messages_under_way old k.inbox) t.accepted broken in
     let brings = brings_fragment m.shdlc c some.0 (sym (ap (λ (x : Taken). x.accepted) is) ∙ some.1) in
     let over : ended_in m c ≡ false = ap (λ (x : Option Cause). is_some x) brings.stays in
     let acc : e.session.acc ≡ m.shdlc.session.acc ++ brought t =
     on.acc ∙ (ap (λ x. left_waiting x (m.shdlc.session.acc ++ brought (take_answer m.shdlc c))) over ∙ ap (λ (x : Taken). m.shdlc.session.acc ++ brought x) (sym is)) in
     let none_taken : are_taken [] (packets_in e.session.acc) ≡ false =
-    taken_is m.shdlc.session e (brought t) acc half.receives.sound ∙ (ap (λ u. are_taken u (packets_in (brought t))) (sym half.receives.under) ∙ not_true (are_taken (under_way old k.inbox) (packets_in (brought t))) broken) in
+    taken_is m.shdlc.session e (brought t) acc half.receives.sound ∙ (ap (λ u. are_taken u (packets_in (brought t))) (sym half.receives.under) ∙ not_true (are_taken (messages_under_way old k.inbox) (packets_in (brought t))) broken) in
     let faulty : is_faulty e.session ≡ true = ap not none_taken in
     let down : put_down true m ≡ moved m true (stopped m.shdlc) = down_up m brings.up in
     let heard_is : heard m c ≡ moved m true (stopped m.shdlc) =
@@ -388,7 +388,7 @@ breaks_off old mid new k k1 m c s0 s t inbox h stands answer broken fetched b f 
     let o = fault_lies old mid k m inbox h b in
     let got_none : got_chains inbox.got ≡ [] = nil_back inbox.joiner.open.items (got_chains inbox.got) b.none in
     let nothing_got : m.got ≡ [] = sym half.got ∙ ap (λ x. messages_of old (got_chains x)) fetched in
-    let P : Machine → Type 0 = λ x. StandsFor (record k1 { shdlc = s }) new x in
+    let P : Machine → Type 0 = λ x. EndStandsFor (record k1 { shdlc = s }) new x in
     let Q : EndState → Type 0 = λ x. StandsBefore s [] x in
     record {
       stands = subst P (sym heard_is)
@@ -436,6 +436,6 @@ broken_elsewhere old mid k inbox fetched used b =
     let P : List Open → Type 0 = λ l. InboxLeaves old mid k.inbox.joiner.owner (chains_in k.inbox) l in
     leaves_in old mid k.outbox k.inbox inbox (subst P (sym b.none) b.elsewhere) b.owner (omega (arith, used, held, left, b.used))
 
-pub received_lies : (old mid : PoolState) (k : End) (m : Machine) (inbox : Inbox) (more : List Fragment) → StandsFor k old m → ReceivesOn old mid k.inbox inbox more → OutboxLiesIn mid k.outbox
+pub received_lies : (old mid : PoolState) (k : End) (m : Machine) (inbox : Inbox) (more : List Fragment) → EndStandsFor k old m → ReceivesOn old mid k.inbox inbox more → OutboxLiesIn mid k.outbox
 received_lies old mid k m inbox more h r =
     (outbox_kept old mid k.inbox.joiner.owner (chains_in k.inbox) (chains_in inbox) k.outbox h.half.receives.lies.holds.own r.elsewhere h.half.sends.lies h.half.differ).lies

@@ -17,13 +17,13 @@ use Rattle.swp_base.specs.declared.control_frames.Control.TheVariants.{Act as Ac
 use Rattle.shdlc_core.specs.declared.answers.LinkState.{LinkState}
 use Rattle.shdlc_core.specs.declared.answers.LinkState.TheVariants.{Up, Down, Waiting}
 use Rattle.shdlc_core.specs.declared.answers.Due.{Due as Shdlc_due}
-use Rattle.shdlc_core.specs.Kept.{Kept, StandsFor as ShdlcStandsFor}
+use Rattle.shdlc_core.specs.Kept.{KeptEnd, ShdlcStandsFor}
 use Rattle.shdlc_core.specs.Machine.{EndState, Session, Fragment, reset_with, is_waiting, no_session, fetched, frame_due, fragment_due, put_out}
 use Rattle.shdlc_core.specs.Offering.{StandsBefore, StandsWith, HasSession, with_out, left_waiting}
 use Rattle.shdlc_core.proofs.Offering.{stands_reset, stands_idle, stands_fetched, fetched_alike, stands_put}
-use Rattle.hcp_packet.specs.Packets.{packets_of, packet_count, packets_in, bytes_of, fragments_of, IsSendable}
+use Rattle.hcp_packet.specs.Packets.{packets_of, packet_count, packets_in, packet_bytes, fragments_of, IsSendable}
 use Rattle.hcp_chain.specs.Joining.{are_taken, open_after}
-use Rattle.hcp_chain.specs.Holding.{held_blocks, Holds, messages_in as messages_of}
+use Rattle.hcp_chain.specs.Holding.{held_blocks, HoldsChains, messages_in as messages_of}
 use Rattle.link_machine.specs.Machine.{LinkEnd as Machine, ActDue as Due, Message, Refused, moved, after_input, is_open, window_of, frame_fetched, next_frame, nearer as due_nearer, need_of_all, spare, in_use, whole_among, give_refusal, given, turn, unless, need}
 use Rattle.link_machine.specs.Machine.Refused.{TooLong, Full}
 use Rattle.link_machine.specs.Machine.Turn.{Give}
@@ -32,14 +32,14 @@ use Rattle.link_messages.specs.declared.outbox.Queued.{Queued}
 use Rattle.link_messages.specs.declared.outbox.Outbox.{Outbox}
 use Rattle.link_messages.specs.declared.inbox.Got.{Got}
 use Rattle.link_messages.specs.declared.inbox.Inbox.{Inbox}
-use Rattle.link_messages.specs.Outgoing.{chain_in, messages_of_all, waiting_in, rest_among, Accepts, LeavesOthers as OutboxLeaves, LeavesOthersBut}
+use Rattle.link_messages.specs.Outgoing.{chain_in, messages_of_all, waiting_in, rest_among, Accepts, OutboxLeavesOthers as OutboxLeaves, LeavesOthersBut}
 use Rattle.link_messages.proofs.OutgoingLemmas.{aside-with_used}
-use Rattle.link_messages.specs.Incoming.{got_chains, LiesIn as InboxLiesIn}
+use Rattle.link_messages.specs.Incoming.{got_chains, InboxLiesIn}
 use Rattle.link_messages.proofs.Among.{whole-push, fragments-push}
 use Rattle.link_messages.proofs.IncomingLemmas.{front_holds, held_both}
-use Rattle.link_end.specs.Dues.{nearer, front_act, behind_front}
-use Rattle.link_end.specs.Ends.{due_of, Halfway, StandsFor, MayPass, LeavesBoxes}
-use Rattle.link_end.specs.Steps.{Forgets}
+use Rattle.link_end.specs.Dues.{kept_nearer, front_act, behind_front}
+use Rattle.link_end.specs.Ends.{due_of, Halfway, EndStandsFor, MayPass, LeavesBoxes}
+use Rattle.link_end.specs.Steps.{ForgetsMessages}
 use Rattle.link_end.specs.declared.acts.ActDue.{ActDue}
 use Rattle.link_end.specs.declared.«end».End.{End}
 use Rattle.link_end.proofs.EndLemmas.{session_over, carries}
@@ -48,7 +48,7 @@ use Rattle.link_end.proofs.BoxLemmas.{inbox_kept, inbox_passed, leaves_out}
 
 -- ---- a reset
 
-pub window_low : (pool : PoolState) (k : End) (m : Machine) (window : Option ℕ) → StandsFor k pool m → IfSome window (λ w. (1 ≤ w) × (w ≤ 4)) → window_of m window ≤ 4
+pub window_low : (pool : PoolState) (k : End) (m : Machine) (window : Option ℕ) → EndStandsFor k pool m → IfSome window (λ w. (1 ≤ w) × (w ≤ 4)) → window_of m window ≤ 4
 window_low pool k m None h some = h.half.link.narrow.own
 window_low pool k m (Some w) h some = some.1
 
@@ -71,7 +71,7 @@ waits_not Up e other is = rw is
 waits_not Down e other is = rw is
 waits_not Waiting e other is = absurd (other refl)
 
-reset_link : (pool : PoolState) (k : End) (m : Machine) (s : Kept) (window : Option ℕ) (p : LinkState) → StandsFor k pool m → IfSome window (λ w. (1 ≤ w) × (w ≤ 4))
+reset_link : (pool : PoolState) (k : End) (m : Machine) (s : KeptEnd) (window : Option ℕ) (p : LinkState) → EndStandsFor k pool m → IfSome window (λ w. (1 ≤ w) × (w ≤ 4))
     → ((e : EndState) → ShdlcStandsFor k.shdlc e → ShdlcStandsFor s (reset_with e (unwrap_or window e.own_window))) → (p ≡ Waiting → ⊥) → m.shdlc.phase ≡ p
     → StandsBefore s [] (reset_with m.shdlc (window_of m window))
 reset_link pool k m s window p h some asks other is =
@@ -80,13 +80,13 @@ reset_link pool k m s window p h some asks other is =
     let P : Bool → Type 0 = λ b. StandsBefore s (left_waiting (not b) (waiting_in pool k.outbox)) (reset_with m.shdlc (window_of m window)) in
     subst P (waits_not p m.shdlc other is) next
 
-pub reset_ends : (pool new : PoolState) (k k1 : End) (m : Machine) (s : Kept) (window : Option ℕ) → StandsFor k pool m → IfSome window (λ w. (1 ≤ w) × (w ≤ 4))
-    → ((e : EndState) → ShdlcStandsFor k.shdlc e → ShdlcStandsFor s (reset_with e (unwrap_or window e.own_window))) → m.shdlc.phase ≡ Up → Forgets pool new (record k { shdlc = s }) k1
-    → StandsFor k1 new (moved m true (reset_with m.shdlc (window_of m window)))
+pub reset_ends : (pool new : PoolState) (k k1 : End) (m : Machine) (s : KeptEnd) (window : Option ℕ) → EndStandsFor k pool m → IfSome window (λ w. (1 ≤ w) × (w ≤ 4))
+    → ((e : EndState) → ShdlcStandsFor k.shdlc e → ShdlcStandsFor s (reset_with e (unwrap_or window e.own_window))) → m.shdlc.phase ≡ Up → ForgetsMessages pool new (record k { shdlc = s }) k1
+    → EndStandsFor k1 new (moved m true (reset_with m.shdlc (window_of m window)))
 reset_ends pool new k k1 m s window h some asks up f =
     let e = reset_with m.shdlc (window_of m window) in
     let empty : e.session ≡ no_session = reset_empty Up m.shdlc (window_of m window) (λ x. cc) up in
-    let Q : Kept → Type 0 = λ x. StandsBefore x [] e in
+    let Q : KeptEnd → Type 0 = λ x. StandsBefore x [] e in
     session_over pool new k k1 s k1.shdlc m e (carries k pool m h.half) f (subst Q (sym f.shdlc) (reset_link pool k m s window Up h some asks (λ x. cc) up))
     (ap (λ (x : Session). x.out) empty) (ap (λ (x : Session). x.acked) empty) (ap (λ (x : Session). x.acc) empty)
 
@@ -95,7 +95,7 @@ idle_in Up s h d = cc
 idle_in Waiting s h d = cc
 idle_in Down s h d = h
 
-pub reset_begins : (pool : PoolState) (k : End) (m : Machine) (s : Kept) (window : Option ℕ) → StandsFor k pool m → IfSome window (λ w. (1 ≤ w) × (w ≤ 4))
+pub reset_begins : (pool : PoolState) (k : End) (m : Machine) (s : KeptEnd) (window : Option ℕ) → EndStandsFor k pool m → IfSome window (λ w. (1 ≤ w) × (w ≤ 4))
     → ((e : EndState) → ShdlcStandsFor k.shdlc e → ShdlcStandsFor s (reset_with e (unwrap_or window e.own_window))) → m.shdlc.phase ≡ Down
     → Halfway (record k { shdlc = s }) pool (moved m false (reset_with m.shdlc (window_of m window)))
 reset_begins pool k m s window h some asks down =
@@ -119,7 +119,7 @@ fetched_lies pool old new lies same none =
     let sum = held_both pool xs (got_chains old.got) in
     let nil = held_both pool xs [] in
     subst P (sym is) (record {
-      holds = subst (Holds pool old.joiner.owner) (sym (append-nil xs)) (front_holds pool old.joiner.owner xs old.got lies.holds);
+      holds = subst (HoldsChains pool old.joiner.owner) (sym (append-nil xs)) (front_holds pool old.joiner.owner xs old.got lies.holds);
       has_quota = lies.has_quota;
       quota = lies.quota;
       used = (let n = ap (held_blocks pool) (append-nil xs) in omega (arith, n, sum, lies.used));
@@ -129,8 +129,8 @@ fetched_got : (pool : PoolState) (g : Option Got) → [] ≡ drop 1 (messages_of
 fetched_got pool None = refl
 fetched_got pool (Some g) = refl
 
-pub message_fetched : (pool : PoolState) (k : End) (inbox : Inbox) (m : Machine) → inbox.joiner ≡ k.inbox.joiner → inbox.got ≡ None → StandsFor k pool m
-    → StandsFor (record k { inbox = inbox }) pool (record m { got = drop 1 m.got })
+pub message_fetched : (pool : PoolState) (k : End) (inbox : Inbox) (m : Machine) → inbox.joiner ≡ k.inbox.joiner → inbox.got ≡ None → EndStandsFor k pool m
+    → EndStandsFor (record k { inbox = inbox }) pool (record m { got = drop 1 m.got })
 message_fetched pool k inbox m same none h =
     let half = h.half in
     record {
@@ -150,7 +150,7 @@ message_fetched pool k inbox m same none h =
 
 -- ---- a frame is fetched
 
-nearer_same : (xs : List ActDue) → map due_of (map nearer xs) ≡ map due_nearer (map due_of xs)
+nearer_same : (xs : List ActDue) → map due_of (map kept_nearer xs) ≡ map due_nearer (map due_of xs)
 nearer_same [] = refl
 nearer_same (x ∷ xs) = ap (λ (l : List Due). record { frame = x.frame; behind = x.behind - 1 } ∷ l) (nearer_same xs)
 
@@ -176,13 +176,13 @@ link_next m (x ∷ xs) is = go (x.behind == 0) refl
     go true e = absurd (let f : None ≡ Some x.frame = rw e at is in cc)
     go false e = (rw e, rw e, rw e)
 
-pub act_sent : (pool : PoolState) (k : End) (acts : ArrayVec ActDue) (m : Machine) (act : Act) → StandsFor k pool m → Some act ≡ front_act k.acts.items → acts.items ≡ behind_front k.acts.items
-    → (Some (ActFrame act false) ≡ next_frame m) × StandsFor (record k { acts = acts }) pool (frame_fetched m)
+pub act_sent : (pool : PoolState) (k : End) (acts : ArrayVec ActDue) (m : Machine) (act : Act) → EndStandsFor k pool m → Some act ≡ front_act k.acts.items → acts.items ≡ behind_front k.acts.items
+    → (Some (ActFrame act false) ≡ next_frame m) × EndStandsFor (record k { acts = acts }) pool (frame_fetched m)
 act_sent pool k acts m act h front rest =
     let half = h.half in
     let n = act_next m k.acts.items act front in
     let is : record m { acts = map due_of k.acts.items } ≡ m = ap (λ a. record m { acts = a }) half.acts in
-    let P : Machine → Type 0 = λ x. StandsFor (record k { acts = acts }) pool x in (
+    let P : Machine → Type 0 = λ x. EndStandsFor (record k { acts = acts }) pool x in (
       sym (sym (ap next_frame is) ∙ n.0),
       subst P (sym n.1 ∙ ap frame_fetched is) (record {
         half = record {
@@ -205,17 +205,17 @@ fetched_acc e [] None s = rw s
 fetched_acc e [] (Some f) s = rw s
 fetched_acc e (d ∷ due) q s = refl
 
-pub link_sent : (pool : PoolState) (k : End) (s : Kept) (acts : ArrayVec ActDue) (middle : List ActDue) (m : Machine) (frame : Option Control) → StandsFor k pool m → None ≡ front_act k.acts.items
-    → middle ≡ behind_front k.acts.items → acts.items ≡ map nearer middle
+pub link_sent : (pool : PoolState) (k : End) (s : KeptEnd) (acts : ArrayVec ActDue) (middle : List ActDue) (m : Machine) (frame : Option Control) → EndStandsFor k pool m → None ≡ front_act k.acts.items
+    → middle ≡ behind_front k.acts.items → acts.items ≡ map kept_nearer middle
     → ((e : EndState) → ShdlcStandsFor k.shdlc e → frame ≡ frame_due e) → ((e : EndState) → ShdlcStandsFor k.shdlc e → ShdlcStandsFor s (fetched e))
-    → (frame ≡ next_frame m) × StandsFor (record k { shdlc = s; acts = acts }) pool (frame_fetched m)
+    → (frame ≡ next_frame m) × EndStandsFor (record k { shdlc = s; acts = acts }) pool (frame_fetched m)
 link_sent pool k s acts middle m frame h front rest moved_acts frames fetches =
     let half = h.half in
     let link = half.link in
     let both : StandsWith k.shdlc (waiting_in pool k.outbox) m.shdlc = record { stands = link; full = h.full } in
     let n = link_next m k.acts.items front in
     let is : record m { acts = map due_of k.acts.items } ≡ m = ap (λ a. record m { acts = a }) half.acts in
-    let P : Machine → Type 0 = λ x. StandsFor (record k { shdlc = s; acts = acts }) pool x in
+    let P : Machine → Type 0 = λ x. EndStandsFor (record k { shdlc = s; acts = acts }) pool x in
     let a = fetched_alike m.shdlc link.offered (waiting_in pool k.outbox) link.out link.narrow.session h.full in
     let w = stands_fetched k.shdlc s (waiting_in pool k.outbox) m.shdlc both (fetches (with_out m.shdlc link.offered) link.kept) in
     let acc : (fetched m.shdlc).session.acc ≡ m.shdlc.session.acc = fetched_acc m.shdlc m.shdlc.due (fragment_due m.shdlc.session) refl in (
@@ -224,7 +224,7 @@ link_sent pool k s acts middle m frame h front rest moved_acts frames fetches =
         half = record {
           role = half.role;
           link = w.stands;
-          acts = ap (map due_of) (moved_acts ∙ ap (map nearer) (rest ∙ n.2)) ∙ nearer_same k.acts.items;
+          acts = ap (map due_of) (moved_acts ∙ ap (map kept_nearer) (rest ∙ n.2)) ∙ nearer_same k.acts.items;
           sends = record {
             lies = half.sends.lies;
             all = half.sends.all;
@@ -255,7 +255,7 @@ needs pool (q ∷ queue) =
     ap (λ n. blocks_for (length (chain_bytes pool q.chain)) + n) (needs pool queue)
     ∙ sym (sum_by-cons (λ (x : Queued). blocks_for (length (chain_bytes pool x.chain))) q queue)
 
-pub spare_is : (pool : PoolState) (k : End) (m : Machine) → StandsFor k pool m → spare m ≡ spare_of pool k.outbox.owner
+pub spare_is : (pool : PoolState) (k : End) (m : Machine) → EndStandsFor k pool m → spare m ≡ spare_of pool k.outbox.owner
 spare_is pool k m h =
     let sends = h.half.sends in
     let used : in_use m ≡ all_blocks Queued chain_in pool k.outbox.queue.items = sym (ap need_of_all sends.messages) ∙ needs pool k.outbox.queue.items in
@@ -294,7 +294,7 @@ whole_low (x ∷ ms) n = go (nat_le (packet_count (length x.1)) n) refl (whole_l
     go true e rest = rw e (omega arith)
     go false e rest = rw e (omega arith)
 
-pub message_given : (old new : PoolState) (k : End) (box : Outbox) (m : Machine) (x : Message) → StandsFor k old m → k.shdlc.phase ≡ Up → IsSendable x → Accepts old new k.outbox box x
+pub message_given : (old new : PoolState) (k : End) (box : Outbox) (m : Machine) (x : Message) → EndStandsFor k old m → k.shdlc.phase ≡ Up → IsSendable x → Accepts old new k.outbox box x
     → OutboxLeaves old new k.outbox.owner k.outbox.queue.items box.queue.items → Halfway (record k { outbox = box }) new (given m x) × LeavesBoxes old new k.outbox k.inbox box k.inbox
 message_given old new k box m x h up sendable a leaves =
     let half = h.half in
@@ -305,17 +305,17 @@ message_given old new k box m x h up sendable a leaves =
     let some = link.kept.sender.offered in
     let len : length (fragments_of m.sent) ≡ length link.offered + length (waiting_in old k.outbox) = ap length (sym sends.out ∙ link.out) ∙ length-append link.offered (waiting_in old k.outbox) in
     let push = whole-push m.sent x n sendable (omega (arith, len, some)) in
-    let P : List Fragment → Type 0 = λ w. StandsBefore k.shdlc w (put_out m.shdlc (map bytes_of (packets_of x.0 x.1))) in
+    let P : List Fragment → Type 0 = λ w. StandsBefore k.shdlc w (put_out m.shdlc (map packet_bytes (packets_of x.0 x.1))) in
     let aside : aside_of new k.outbox.owner ≡ aside_of old k.outbox.owner =
     ap (λ os. (owner_at os k.outbox.owner).aside) leaves.owners ∙ aside-with_used old.owners k.outbox.owner (used_of new k.outbox.owner) sends.lies.kept.has_quota in (
       record {
         role = half.role;
-        link = subst P (sym a.waiting) (stands_put k.shdlc (waiting_in old k.outbox) (map bytes_of (packets_of x.0 x.1)) m.shdlc (sym link.kept.phase ∙ up) link);
+        link = subst P (sym a.waiting) (stands_put k.shdlc (waiting_in old k.outbox) (map packet_bytes (packets_of x.0 x.1)) m.shdlc (sym link.kept.phase ∙ up) link);
         acts = half.acts;
         sends = record {
           lies = a.lies;
           all = all_pushed Message IsSendable m.sent x sends.all sendable;
-          out = ap (λ l. l ++ map bytes_of (packets_of x.0 x.1)) sends.out ∙ sym (fragments-push m.sent x);
+          out = ap (λ l. l ++ map packet_bytes (packets_of x.0 x.1)) sends.out ∙ sym (fragments-push m.sent x);
           messages = a.messages ∙ (ap (λ (l : List Message). l ++ x ∷ []) sends.messages
               ∙ (sym (drop-append-le (whole_among m.sent n) m.sent (x ∷ []) (whole_low m.sent n)) ∙ ap (λ w. drop w (m.sent ++ x ∷ [])) (sym push.0)));
           acked = a.acked ∙ (sends.acked ∙ sym push.1);
@@ -330,7 +330,7 @@ message_given old new k box m x h up sendable a leaves =
     )
 
 -- a message in a chain of another owner
-pub message_passed : (old new : PoolState) (k : End) (box : Outbox) (chain : Chain) (m : Machine) (x : Message) → StandsFor k old m → k.shdlc.phase ≡ Up → IsSendable x → MayPass old k chain → Accepts old new k.outbox box x
+pub message_passed : (old new : PoolState) (k : End) (box : Outbox) (chain : Chain) (m : Machine) (x : Message) → EndStandsFor k old m → k.shdlc.phase ≡ Up → IsSendable x → MayPass old k chain → Accepts old new k.outbox box x
     → LeavesOthersBut old new k.outbox.owner chain k.outbox.queue.items box.queue.items → Halfway (record k { outbox = box }) new (given m x)
 message_passed old new k box chain m x h up sendable may a leaves =
     let half = h.half in
@@ -341,15 +341,15 @@ message_passed old new k box chain m x h up sendable may a leaves =
     let some = link.kept.sender.offered in
     let len : length (fragments_of m.sent) ≡ length link.offered + length (waiting_in old k.outbox) = ap length (sym sends.out ∙ link.out) ∙ length-append link.offered (waiting_in old k.outbox) in
     let push = whole-push m.sent x n sendable (omega (arith, len, some)) in
-    let P : List Fragment → Type 0 = λ w. StandsBefore k.shdlc w (put_out m.shdlc (map bytes_of (packets_of x.0 x.1))) in
+    let P : List Fragment → Type 0 = λ w. StandsBefore k.shdlc w (put_out m.shdlc (map packet_bytes (packets_of x.0 x.1))) in
     record {
       role = half.role;
-      link = subst P (sym a.waiting) (stands_put k.shdlc (waiting_in old k.outbox) (map bytes_of (packets_of x.0 x.1)) m.shdlc (sym link.kept.phase ∙ up) link);
+      link = subst P (sym a.waiting) (stands_put k.shdlc (waiting_in old k.outbox) (map packet_bytes (packets_of x.0 x.1)) m.shdlc (sym link.kept.phase ∙ up) link);
       acts = half.acts;
       sends = record {
         lies = a.lies;
         all = all_pushed Message IsSendable m.sent x sends.all sendable;
-        out = ap (λ l. l ++ map bytes_of (packets_of x.0 x.1)) sends.out ∙ sym (fragments-push m.sent x);
+        out = ap (λ l. l ++ map packet_bytes (packets_of x.0 x.1)) sends.out ∙ sym (fragments-push m.sent x);
         messages = a.messages ∙ (ap (λ (l : List Message). l ++ x ∷ []) sends.messages
             ∙ (sym (drop-append-le (whole_among m.sent n) m.sent (x ∷ []) (whole_low m.sent n)) ∙ ap (λ w. drop w (m.sent ++ x ∷ [])) (sym push.0)));
         acked = a.acked ∙ (sends.acked ∙ sym push.1);

@@ -12,7 +12,7 @@ use Rattle.hcp_chain.specs.Holding.{held_blocks, messages_in}
 use Rattle.shdlc_core.specs.Machine.{Fragment}
 use Rattle.link_machine.specs.Machine.{Message}
 use Rattle.link_messages.specs.declared.inbox.Inbox.{Inbox}
-use Rattle.link_messages.specs.Incoming.{got_chains, chains_in, under_way, got_in, LiesIn, IsReady, Joins}
+use Rattle.link_messages.specs.Incoming.{got_chains, chains_in, messages_under_way, came_whole, InboxLiesIn, IsInboxReady, Joins}
 use Rattle.link_end.specs.Received.{ReceivesOn}
 
 -- the packet of one fragment
@@ -23,29 +23,29 @@ packets_in-one f = go (packet_of f) refl
     go None e = rw e
     go (Some p) e = rw e
 
-pub received_one : (old new : PoolState) (before after : Inbox) (f : Fragment) → IsReady old before → Joins old new before after (option_to_list (packet_of f)) → ReceivesOn old new before after (f ∷ [])
+pub received_one : (old new : PoolState) (before after : Inbox) (f : Fragment) → IsInboxReady old before → Joins old new before after (option_to_list (packet_of f)) → ReceivesOn old new before after (f ∷ [])
 received_one old new before after f ready j =
     let packets = packets_in-one f in
     let o = before.joiner.owner in
-    let none : got_in old before ≡ [] = ap (λ g. messages_in old (got_chains g)) ready.fetched in
+    let none : came_whole old before ≡ [] = ap (λ g. messages_in old (got_chains g)) ready.fetched in
     let chains : chains_in before ≡ before.joiner.open.items = ap (λ g. before.joiner.open.items ++ got_chains g) ready.fetched ∙ append-nil before.joiner.open.items in
     let used_old = ready.used ∙ sym (ap (held_blocks old) chains) in
     let used_new : used_of new o ≡ held_blocks new (chains_in after) = ap (used_of new) (sym j.owner) ∙ j.used in
     record {
       lies = j.lies;
-      under = j.joined ∙ ap (open_after (under_way old before)) (sym packets);
-      got = j.got ∙ (ap (λ l. good_of (given_by (under_way old before) l)) (sym packets)
-          ∙ ap (λ (l : List Message). l ++ good_of (given_by (under_way old before) (packets_in (f ∷ [])))) (sym none));
+      under = j.joined ∙ ap (open_after (messages_under_way old before)) (sym packets);
+      got = j.got ∙ (ap (λ l. good_of (given_by (messages_under_way old before) l)) (sym packets)
+          ∙ ap (λ (l : List Message). l ++ good_of (given_by (messages_under_way old before) (packets_in (f ∷ [])))) (sym none));
       owner = j.owner;
       counted = omega (arith, used_old, used_new);
       elsewhere = j.elsewhere;
     }
 
-pub received_none : (pool : PoolState) (box : Inbox) → LiesIn pool box → ReceivesOn pool pool box box []
+pub received_none : (pool : PoolState) (box : Inbox) → InboxLiesIn pool box → ReceivesOn pool pool box box []
 received_none pool box lies = record {
   lies = lies;
   under = refl;
-  got = sym (append-nil (got_in pool box));
+  got = sym (append-nil (came_whole pool box));
   owner = refl;
   counted = refl;
   elsewhere = record { owners = sym (with_used-same pool.owners box.joiner.owner); others = λ other live away. (live, refl, away) };

@@ -9,7 +9,7 @@ use Rattle.swp_base.specs.declared.control_frames.Act.TheVariants.{Ready, SyncId
 use Rattle.shdlc_core.specs.declared.answers.LinkState.{LinkState}
 use Rattle.shdlc_core.specs.declared.answers.LinkState.TheVariants.{Up, Down, Waiting}
 use Rattle.shdlc_core.specs.declared.answers.Ticked.{Ticked}
-use Rattle.shdlc_core.specs.Kept.{Kept, StandsFor as ShdlcStandsFor}
+use Rattle.shdlc_core.specs.Kept.{KeptEnd, ShdlcStandsFor}
 use Rattle.shdlc_core.specs.Machine.{EndState, ticked, tick_answer, with_ready, take_answer}
 use Rattle.shdlc_core.specs.Offering.{StandsBefore, with_out, left_waiting}
 use Rattle.shdlc_core.proofs.Offering.{stands_ticked, ticked_alike, TicksAlike, stands_ready, ready_alike}
@@ -27,15 +27,15 @@ use Rattle.link_machine.specs.Machine.LinkInput.{Take, Tick}
 use Rattle.hcp_packet.specs.Packets.{packets_in}
 use Rattle.hcp_chain.specs.Joining.{are_taken, open_after}
 use Rattle.link_messages.specs.Outgoing.{waiting_in, rest_among}
-use Rattle.link_end.specs.Ends.{Halfway, StandsFor}
+use Rattle.link_end.specs.Ends.{Halfway, EndStandsFor}
 use Rattle.link_end.specs.Roles.{MayStart}
-use Rattle.link_end.specs.Reports.{IsShdlc, nothing_told, act_told, told}
+use Rattle.link_end.specs.Reports.{IsShdlc, nothing_told, act_told, report_told}
 use Rattle.link_end.specs.declared.report.LinkReport.{LinkReport}
-use Rattle.link_end.specs.Steps.{Forgets}
+use Rattle.link_end.specs.Steps.{ForgetsMessages}
 use Rattle.link_end.specs.declared.«end».End.{End}
 use Rattle.link_end.proofs.EndLemmas.{session_over, carries}
 
-pub passed : (pool : PoolState) (k : End) (p : ℕ) (m : Machine) → p ≡ min (k.passed_over + 1) 4294967295 → StandsFor k pool m → StandsFor (record k { passed_over = p }) pool (record m { passed_over = m.passed_over + 1 })
+pub passed : (pool : PoolState) (k : End) (p : ℕ) (m : Machine) → p ≡ min (k.passed_over + 1) 4294967295 → EndStandsFor k pool m → EndStandsFor (record k { passed_over = p }) pool (record m { passed_over = m.passed_over + 1 })
 passed pool k p m is h =
     let half = h.half in
     let was = half.passed_over in
@@ -61,8 +61,8 @@ acc_in e true false a = refl
 acc_in e false true true = refl
 acc_in e false true false = refl
 
-pub held : (pool : PoolState) (k : End) (s : Kept) (m : Machine) (r : Bool) → ((e : EndState) → ShdlcStandsFor k.shdlc e → ShdlcStandsFor s (with_ready e r)) → StandsFor k pool m
-    → StandsFor (record k { shdlc = s }) pool (record m { shdlc = with_ready m.shdlc r })
+pub held : (pool : PoolState) (k : End) (s : KeptEnd) (m : Machine) (r : Bool) → ((e : EndState) → ShdlcStandsFor k.shdlc e → ShdlcStandsFor s (with_ready e r)) → EndStandsFor k pool m
+    → EndStandsFor (record k { shdlc = s }) pool (record m { shdlc = with_ready m.shdlc r })
 held pool k s m r readies h =
     let half = h.half in
     let link = half.link in
@@ -97,18 +97,18 @@ held pool k s m r readies h =
 
 -- ---- a tick
 
-alike : (pool : PoolState) (k : End) (m : Machine) (h : StandsFor k pool m) → TicksAlike m.shdlc h.half.link.offered
+alike : (pool : PoolState) (k : End) (m : Machine) (h : EndStandsFor k pool m) → TicksAlike m.shdlc h.half.link.offered
 alike pool k m h =
     let link = h.half.link in
     let next = link.kept.sender.next in
     ticked_alike m.shdlc link.offered (waiting_in pool k.outbox) link.out h.full (omega arith)
 
-pub ticked_answer : (pool : PoolState) (k : End) (m : Machine) (t : Ticked) → StandsFor k pool m → ((e : EndState) → ShdlcStandsFor k.shdlc e → t ≡ tick_answer e) → t ≡ tick_answer m.shdlc
+pub ticked_answer : (pool : PoolState) (k : End) (m : Machine) (t : Ticked) → EndStandsFor k pool m → ((e : EndState) → ShdlcStandsFor k.shdlc e → t ≡ tick_answer e) → t ≡ tick_answer m.shdlc
 ticked_answer pool k m t h answer = answer (with_out m.shdlc h.half.link.offered) h.half.link.kept ∙ (alike pool k m h).answer
 
-pub tick_ends : (pool new : PoolState) (k k1 : End) (m : Machine) (s0 : Kept) (t : Ticked) → StandsFor k pool m → ((e : EndState) → ShdlcStandsFor k.shdlc e → ShdlcStandsFor s0 (ticked e))
-    → ((e : EndState) → ShdlcStandsFor k.shdlc e → t ≡ tick_answer e) → is_some t.ended ≡ true → Forgets pool new (record k { shdlc = s0 }) k1
-    → StandsFor k1 new (moved m (is_some (tick_answer m.shdlc).ended) (ticked m.shdlc))
+pub tick_ends : (pool new : PoolState) (k k1 : End) (m : Machine) (s0 : KeptEnd) (t : Ticked) → EndStandsFor k pool m → ((e : EndState) → ShdlcStandsFor k.shdlc e → ShdlcStandsFor s0 (ticked e))
+    → ((e : EndState) → ShdlcStandsFor k.shdlc e → t ≡ tick_answer e) → is_some t.ended ≡ true → ForgetsMessages pool new (record k { shdlc = s0 }) k1
+    → EndStandsFor k1 new (moved m (is_some (tick_answer m.shdlc).ended) (ticked m.shdlc))
 tick_ends pool new k k1 m s0 t h stands answer ended f =
     let e = ticked m.shdlc in
     let link = h.half.link in
@@ -116,8 +116,8 @@ tick_ends pool new k k1 m s0 t h stands answer ended f =
     let over : is_some (tick_answer m.shdlc).ended ≡ true = sym (ap (λ (x : Ticked). is_some x.ended) (ticked_answer pool k m t h answer)) ∙ ended in
     let next = stands_ticked k.shdlc s0 (waiting_in pool k.outbox) m.shdlc (record { stands = link; full = h.full }) (stands (with_out m.shdlc link.offered) link.kept) in
     let P : Bool → Type 0 = λ b. StandsBefore s0 (left_waiting b (waiting_in pool k.outbox)) e in
-    let Q : Kept → Type 0 = λ x. StandsBefore x [] e in
-    let R : Bool → Type 0 = λ b. StandsFor k1 new (moved m b e) in
+    let Q : KeptEnd → Type 0 = λ x. StandsBefore x [] e in
+    let R : Bool → Type 0 = λ b. EndStandsFor k1 new (moved m b e) in
     subst R (sym over)
     (session_over pool new k k1 s0 k1.shdlc m e (carries k pool m h.half) f (subst Q (sym f.shdlc) (subst P over next))
     (a.out ∙ ap (λ b. left_waiting b m.shdlc.session.out) over)
@@ -125,7 +125,7 @@ tick_ends pool new k k1 m s0 t h stands answer ended f =
     (a.acc ∙ ap (λ b. left_waiting b m.shdlc.session.acc) over))
 
 -- another state of the SHDLC end in the same session
-pub same_session : (pool : PoolState) (k : End) (s0 : Kept) (m : Machine) (e : EndState) → Halfway k pool m → StandsBefore s0 (waiting_in pool k.outbox) e → e.session.out ≡ m.shdlc.session.out
+pub same_session : (pool : PoolState) (k : End) (s0 : KeptEnd) (m : Machine) (e : EndState) → Halfway k pool m → StandsBefore s0 (waiting_in pool k.outbox) e → e.session.out ≡ m.shdlc.session.out
     → e.session.acked ≡ m.shdlc.session.acked → e.session.acc ≡ m.shdlc.session.acc → Halfway (record k { shdlc = s0 }) pool (moved m false e)
 same_session pool k s0 m e half link out acked acc = record {
   role = half.role;
@@ -149,7 +149,7 @@ same_session pool k s0 m e half link out acked acc = record {
   differ = half.differ;
 }
 
-pub tick_goes_on : (pool : PoolState) (k : End) (m : Machine) (s0 : Kept) (t : Ticked) → StandsFor k pool m → ((e : EndState) → ShdlcStandsFor k.shdlc e → ShdlcStandsFor s0 (ticked e))
+pub tick_goes_on : (pool : PoolState) (k : End) (m : Machine) (s0 : KeptEnd) (t : Ticked) → EndStandsFor k pool m → ((e : EndState) → ShdlcStandsFor k.shdlc e → ShdlcStandsFor s0 (ticked e))
     → ((e : EndState) → ShdlcStandsFor k.shdlc e → t ≡ tick_answer e) → is_some t.ended ≡ false
     → Halfway (record k { shdlc = s0 }) pool (moved m (is_some (tick_answer m.shdlc).ended) (ticked m.shdlc))
 tick_goes_on pool k m s0 t h stands answer going =
@@ -184,7 +184,7 @@ unheard_after m Ua f o = ap (λ b. if b then heard m Ua else m) o
 unheard_after m (ActFrame act again) f o = absurd f
 unheard_after m Clt f o = absurd f
 
-pub tick_told : (pool : PoolState) (k : End) (m : Machine) (t : Ticked) (n : LinkReport) → StandsFor k pool m → ((e : EndState) → ShdlcStandsFor k.shdlc e → t ≡ tick_answer e) → n ≡ nothing_told
+pub tick_told : (pool : PoolState) (k : End) (m : Machine) (t : Ticked) (n : LinkReport) → EndStandsFor k pool m → ((e : EndState) → ShdlcStandsFor k.shdlc e → t ≡ tick_answer e) → n ≡ nothing_told
     → record n { ended = t.ended; gave_up = t.gave_up } ≡ record nothing_told { ended = (tick_answer m.shdlc).ended; gave_up = (tick_answer m.shdlc).gave_up }
 tick_told pool k m t n h answer none =
     ap (λ (x : LinkReport). record x { ended = t.ended; gave_up = t.gave_up }) none
@@ -268,7 +268,7 @@ never_gives_up Bare act again = refl
 never_gives_up (Clf s) act again = clf_takes s s.phase act again
 never_gives_up (Uicc s) act again = uicc_takes s s.phase act again
 
-pub act_is_told : (m : Machine) (act : Act) (again : Bool) → act_told m (ActTake act again) ≡ told (report m (Take (ActFrame act again)))
+pub act_is_told : (m : Machine) (act : Act) (again : Bool) → act_told m (ActTake act again) ≡ report_told (report m (Take (ActFrame act again)))
 act_is_told m act again =
     let out : ActOut = act_answer m.role (ActTake act again) in
     let began : false ≡ (is_open m.role && (take_answer m.shdlc (ActFrame act again)).began) = sym (ap (λ b. is_open m.role && b) (act_begins m.shdlc.phase m.shdlc act again) ∙ and_false (is_open m.role)) in

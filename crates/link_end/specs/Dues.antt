@@ -4,12 +4,12 @@ use Rattle.swp_base.specs.declared.control_frames.Act.{Act}
 use Rattle.link_end.specs.declared.acts.ActDue.{ActDue}
 
 -- no SHDLC control frame stands before it any more
-abbrev pub in_front : ActDue → ActDue
-in_front a = record a { behind = 0 }
+abbrev pub kept_in_front : ActDue → ActDue
+kept_in_front a = record a { behind = 0 }
 
 -- one fewer stands before it
-abbrev pub nearer : ActDue → ActDue
-nearer a = record a { behind = a.behind - 1 }
+abbrev pub kept_nearer : ActDue → ActDue
+kept_nearer a = record a { behind = a.behind - 1 }
 
 -- the first ACT frame, where no SHDLC control frame stands before it
 abbrev pub front_act : List ActDue → Option Act

@@ -14,8 +14,8 @@ use Rattle.link_machine.specs.Machine.{LinkEnd as Machine, ActDue as Due, Messag
 use Rattle.link_messages.specs.declared.outbox.Queued.{Queued}
 use Rattle.link_messages.specs.declared.outbox.Outbox.{Outbox}
 use Rattle.link_messages.specs.declared.inbox.Inbox.{Inbox}
-use Rattle.link_messages.specs.Outgoing.{chain_in, messages_in, waiting_in, rest_among, LiesIn as OutboxLiesIn}
-use Rattle.link_messages.specs.Incoming.{chains_in, under_way, got_in, LiesIn as InboxLiesIn}
+use Rattle.link_messages.specs.Outgoing.{chain_in, queued_messages, waiting_in, rest_among, OutboxLiesIn}
+use Rattle.link_messages.specs.Incoming.{chains_in, messages_under_way, came_whole, InboxLiesIn}
 use Rattle.link_end.specs.Roles.{role_of}
 use Rattle.link_end.specs.declared.acts.ActDue.{ActDue}
 use Rattle.link_end.specs.declared.«end».End.{End}
@@ -24,17 +24,17 @@ abbrev pub due_of : ActDue → Due
 due_of a = record { frame = a.frame; behind = a.behind }
 
 -- The messages that are kept to be sent are those of the session that aren't acknowledged whole.
-pub record Sends (pool : PoolState) (box : Outbox) (sent : List Message) (s : Session) : Type 0 where
+pub record OutboxStandsFor (pool : PoolState) (box : Outbox) (sent : List Message) (s : Session) : Type 0 where
   pub lies : OutboxLiesIn pool box
   pub all : AreSendable sent
   pub out : s.out ≡ fragments_of sent
-  pub messages : messages_in pool box ≡ drop (whole_among sent s.acked) sent
+  pub messages : queued_messages pool box ≡ drop (whole_among sent s.acked) sent
   pub acked : box.acked ≡ rest_among sent s.acked
 
 -- What is partly received are the packets that the session accepted.
-pub record Receives (pool : PoolState) (box : Inbox) (acc : List Fragment) : Type 0 where
+pub record InboxStandsFor (pool : PoolState) (box : Inbox) (acc : List Fragment) : Type 0 where
   pub lies : InboxLiesIn pool box
-  pub under : under_way pool box ≡ open_after [] (packets_in acc)
+  pub under : messages_under_way pool box ≡ open_after [] (packets_in acc)
   pub sound : are_taken [] (packets_in acc) ≡ true
 
 -- What is kept stands for this state of the machine, whose fragments may wait although there is room for them.
@@ -42,15 +42,15 @@ pub record Halfway (k : End) (pool : PoolState) (m : Machine) : Type 0 where
   pub role : role_of k.activation ≡ m.role
   pub link : StandsBefore k.shdlc (waiting_in pool k.outbox) m.shdlc
   pub acts : map due_of k.acts.items ≡ m.acts
-  pub sends : Sends pool k.outbox m.sent m.shdlc.session
-  pub receives : Receives pool k.inbox m.shdlc.session.acc
-  pub got : got_in pool k.inbox ≡ m.got
+  pub sends : OutboxStandsFor pool k.outbox m.sent m.shdlc.session
+  pub receives : InboxStandsFor pool k.inbox m.shdlc.session.acc
+  pub got : came_whole pool k.inbox ≡ m.got
   pub aside : aside_of pool k.outbox.owner ≡ m.aside
   pub passed_over : k.passed_over ≡ min m.passed_over 4294967295
   pub differ : k.outbox.owner ≢ k.inbox.joiner.owner
 
 -- what is kept stands for this state of the machine
-pub record StandsFor (k : End) (pool : PoolState) (m : Machine) : Type 0 where
+pub record EndStandsFor (k : End) (pool : PoolState) (m : Machine) : Type 0 where
   pub half : Halfway k pool m
   pub full : (waiting_in pool k.outbox ≡ []) ⊎ (length half.link.offered ≡ m.shdlc.session.acked + 4)
 
@@ -74,8 +74,8 @@ pub record LeavesBoxes (old new : PoolState) (outbox : Outbox) (inbox : Inbox) (
   pub others : (other : Chain) → IsLive old other → LiesApart Queued chain_in outbox.queue.items other → IsApartFrom (chains_in inbox) other
       → IsLive new other × (chain_bytes new other ≡ chain_bytes old other) × LiesApart Queued chain_in sent.queue.items other × IsApartFrom (chains_in came) other
 
-abbrev pub LeavesOthers : PoolState → PoolState → End → End → Type 0
-LeavesOthers old new before after = LeavesBoxes old new before.outbox before.inbox after.outbox after.inbox
+abbrev pub EndLeavesOthers : PoolState → PoolState → End → End → Type 0
+EndLeavesOthers old new before after = LeavesBoxes old new before.outbox before.inbox after.outbox after.inbox
 
 -- a pool in which these owners use nothing: 128 blocks for what is sent, and 512 for what comes
 pub record IsFree (pool : PoolState) (sender receiver : ℕ) : Type 0 where
@@ -126,6 +126,6 @@ pub record Accounts (k : End) (pool : PoolState) (chain : Option Chain) : Type 0
 -- comes is accounted for.
 pub record Rests (k : End) (pool : PoolState) : Type 0 where
   pub state : Machine
-  pub stands : StandsFor k pool state
+  pub stands : EndStandsFor k pool state
   pub fetched : k.inbox.got ≡ None
   pub accounts : Accounts k pool None

@@ -11,7 +11,7 @@ use Rattle.byte_link.specs.declared.unit.Unit.{Unit as Given}
 use Rattle.byte_link.specs.declared.unit.Unit.TheVariants.{Nothing as NoUnit, Tick as TickUnit, Frame as FrameUnit, Refused as RefusedUnit}
 use Rattle.link_machine.specs.Machine.{LinkEnd as Machine, LinkInput, Role, Bare, Clf, Uicc, after_input, lpdu_input, report}
 use Rattle.link_machine.specs.Machine.LinkInput.{TakeBroken, Tick, Stop}
-use Rattle.link_end.specs.Reports.{told, nothing_told}
+use Rattle.link_end.specs.Reports.{report_told, nothing_told}
 use Rattle.link_end.specs.declared.report.LinkReport.{LinkReport}
 
 -- a frame that ended, if one did
@@ -34,7 +34,7 @@ after_some m (Some i) = after_input m i
 
 abbrev pub told_some : Machine → Option LinkInput → LinkReport
 told_some m None = nothing_told
-told_some m (Some i) = told (report m i)
+told_some m (Some i) = report_told (report m i)
 
 -- the bit that an end hears in a period: S2 at a CLF, S1 at a UICC
 abbrev pub heard_bit : Role → Bool → Bool → Bool
@@ -70,4 +70,4 @@ told_period m seen None = told_some m (fed_input (verdict (break ∷ seen)))
 told_period m seen (Some (Bits s1 s2)) = told_some m (fed_input (verdict (symbol_of (heard_bit m.role s1 s2) ∷ seen)))
 told_period m seen (Some Suspended) = nothing_told
 told_period m seen (Some ResumeAsked) = nothing_told
-told_period m seen (Some Deactivated) = record (told (report m Stop)) { refused = fault_in (verdict (break ∷ seen)) }
+told_period m seen (Some Deactivated) = record (report_told (report m Stop)) { refused = fault_in (verdict (break ∷ seen)) }

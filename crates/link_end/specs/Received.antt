@@ -6,13 +6,13 @@ use Rattle.hcp_chain.specs.Joining.{given_by, open_after}
 use Rattle.hcp_chain.specs.Holding.{held_blocks}
 use Rattle.shdlc_core.specs.Machine.{Fragment}
 use Rattle.link_messages.specs.declared.inbox.Inbox.{Inbox}
-use Rattle.link_messages.specs.Incoming.{chains_in, under_way, got_in, LiesIn, LeavesOthers}
+use Rattle.link_messages.specs.Incoming.{chains_in, messages_under_way, came_whole, InboxLiesIn, InboxLeavesOthers}
 
 -- the packets of these fragments were joined on, and the good messages that they gave were got
 pub record ReceivesOn (old new : PoolState) (before after : Inbox) (fragments : List Fragment) : Type 0 where
-  pub lies : LiesIn new after
-  pub under : under_way new after ≡ open_after (under_way old before) (packets_in fragments)
-  pub got : got_in new after ≡ got_in old before ++ good_of (given_by (under_way old before) (packets_in fragments))
+  pub lies : InboxLiesIn new after
+  pub under : messages_under_way new after ≡ open_after (messages_under_way old before) (packets_in fragments)
+  pub got : came_whole new after ≡ came_whole old before ++ good_of (given_by (messages_under_way old before) (packets_in fragments))
   pub owner : after.joiner.owner ≡ before.joiner.owner
   pub counted : used_of new before.joiner.owner + held_blocks old (chains_in before) ≡ used_of old before.joiner.owner + held_blocks new (chains_in after)
-  pub elsewhere : LeavesOthers old new before.joiner.owner (chains_in before) (chains_in after)
+  pub elsewhere : InboxLeavesOthers old new before.joiner.owner (chains_in before) (chains_in after)

@@ -16,8 +16,8 @@ use Rattle.link_end.specs.declared.report.ResetRefused.TheVariants.{Inactive as 
 use Rattle.link_end.specs.declared.report.LinkReport.{LinkReport}
 
 -- the report as it is told: whether a message came, and not which
-abbrev pub told : Report → LinkReport
-told r = record {
+abbrev pub report_told : Report → LinkReport
+report_told r = record {
   ended = r.ended;
   began = r.began;
   acked = r.acked;

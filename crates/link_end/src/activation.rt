@@ -1,6 +1,6 @@
 //! What goes before the link at an end.
 ghost use Rattle.std.specs.Prelude.{◌≡◌};
-ghost use Rattle.swp_act.specs.Activation.{nothing};
+ghost use Rattle.swp_act.specs.Activation.{no_act_out};
 
 use swp_act::{ActEvent, ActOut, ClfAct, UiccAct};
 use swp_base::Role;
@@ -68,7 +68,7 @@ impl Activation {
 
 // An answer that says nothing.
 fn nothing() -> ActOut
-    ensures { result ≡ nothing }
+    ensures { result ≡ no_act_out }
 {
     ActOut {
         send: None,

@@ -1,6 +1,6 @@
 //! ACT frames that wait to be fetched, in their places among the control frames of SHDLC.
 ghost use Rattle.std.specs.Prelude.{◌≡◌, ◌-◌, map, length};
-ghost use Rattle.link_end.specs.Dues.{in_front, nearer, front_act, behind_front};
+ghost use Rattle.link_end.specs.Dues.{kept_in_front, kept_nearer, front_act, behind_front};
 
 use arrayvec::ArrayVec;
 use swp_base::Act;
@@ -23,7 +23,7 @@ impl Default for ActDue {
 
 /// No SHDLC control frame stands before any of them any more.
 pub fn bring_to_front(acts: &mut ArrayVec<ActDue, 8>)
-    ensures { acts.new.items ≡ map in_front acts.old.items }
+    ensures { acts.new.items ≡ map kept_in_front acts.old.items }
 {
     let mut moved = ArrayVec::new();
     for act in acts.as_slice() {
@@ -37,7 +37,7 @@ pub fn bring_to_front(acts: &mut ArrayVec<ActDue, 8>)
 
 /// One SHDLC control frame fewer stands before each.
 pub fn bring_nearer(acts: &mut ArrayVec<ActDue, 8>)
-    ensures { acts.new.items ≡ map nearer acts.old.items }
+    ensures { acts.new.items ≡ map kept_nearer acts.old.items }
 {
     let mut moved = ArrayVec::new();
     for act in acts.as_slice() {

@@ -1,6 +1,6 @@
 //! One end of a link, from control frames to messages and back.
 ghost use Rattle.std.specs.Prelude.{◌≡◌, ◌≤◌, ◌<◌, length, IfSome, unwrap_or};
-ghost use Rattle.shdlc_core.specs.Kept.{StandsFor as ShdlcStandsFor};
+ghost use Rattle.shdlc_core.specs.Kept.{ShdlcStandsFor};
 ghost use Rattle.shdlc_core.specs.Machine.{EndState, reset_with};
 
 use crate::activation::Activation;
@@ -38,20 +38,20 @@ impl End {
     ghost use Rattle.link_machine.specs.Machine.LinkInput.{Take, TakeUnknown, Tick, Reset, Start, Stop, FromNode, Fetch};
     ghost use Rattle.link_machine.specs.Machine.Turn.{Give, Hold, FetchMessage};
     ghost use Rattle.link_end.specs.Roles.{role_of, new_role, MayStart};
-    ghost use Rattle.link_end.specs.Reports.{told, nothing_told, act_told, heard_told, give_told, pass_told, reset_told, IsShdlc};
-    ghost use Rattle.link_messages.specs.Outgoing.{LiesIn as OutboxLiesIn, LeavesOthersBut, waiting_in};
-    ghost use Rattle.link_messages.specs.Incoming.{LiesIn as InboxLiesIn};
-    ghost use Rattle.link_end.specs.Dues.{in_front};
-    ghost use Rattle.link_end.specs.Ends.{IsFree, MayPass, Halfway, StandsFor, LeavesOthers, MayTake, Accounts, controls_in};
+    ghost use Rattle.link_end.specs.Reports.{report_told, nothing_told, act_told, heard_told, give_told, pass_told, reset_told, IsShdlc};
+    ghost use Rattle.link_messages.specs.Outgoing.{OutboxLiesIn, LeavesOthersBut, waiting_in};
+    ghost use Rattle.link_messages.specs.Incoming.{InboxLiesIn};
+    ghost use Rattle.link_end.specs.Dues.{kept_in_front};
+    ghost use Rattle.link_end.specs.Ends.{IsFree, MayPass, Halfway, EndStandsFor, EndLeavesOthers, MayTake, Accounts, controls_in};
     ghost use Rattle.link_end.specs.Inputs.{heard_bit};
-    ghost use Rattle.link_end.specs.Steps.{Forgets};
+    ghost use Rattle.link_end.specs.Steps.{ForgetsMessages};
 
     // The window that an end asks for, until a reset names another.
     const WINDOW: u8 = 4;
 
     /// An end of this role, which is Up where it is bare, with an owner of 128 blocks for what it sends and one of 512 for what comes.
     pub fn make(alloc: Global, role: Role, out_owner: u8, in_owner: u8) -> Result<End, AllocError>
-        ensures stands { IfOk result (λ k. (pool : PoolState) → IsFree pool out_owner in_owner → StandsFor k pool (new_link_end (new_role role))) }
+        ensures stands { IfOk result (λ k. (pool : PoolState) → IsFree pool out_owner in_owner → EndStandsFor k pool (new_link_end (new_role role))) }
         ensures owners { IfOk result (λ k. (k.outbox.owner ≡ out_owner) × (k.inbox.joiner.owner ≡ in_owner)) }
         ensures accounts { IfOk result (λ k. (pool : PoolState) → used_of pool in_owner ≡ 0 → Accounts k pool None) }
     {
@@ -84,7 +84,7 @@ impl End {
     // Offers the fragments that wait, while there is room for them.
     fn refill(&mut self, pool: &mut Pool)
         requires { OutboxLiesIn pool.old self.old.outbox }
-        ensures stands { (m : Machine) → Halfway self.old pool.old m → StandsFor self.new pool.new m }
+        ensures stands { (m : Machine) → Halfway self.old pool.old m → EndStandsFor self.new pool.new m }
         ensures boxes { (self.new.outbox.queue ≡ self.old.outbox.queue) × (self.new.outbox.owner ≡ self.old.outbox.owner)
             × (self.new.inbox ≡ self.old.inbox) }
         ensures acts { self.new.acts ≡ self.old.acts }
@@ -103,7 +103,7 @@ impl End {
         requires outbox { OutboxLiesIn pool.old self.old.outbox }
         requires inbox { InboxLiesIn pool.old self.old.inbox }
         requires differ { self.old.outbox.owner ≢ self.old.inbox.joiner.owner }
-        ensures { Forgets pool.old pool.new self.old self.new }
+        ensures { ForgetsMessages pool.old pool.new self.old self.new }
     {
         self.outbox.clear(pool);
         self.inbox.clear(pool);
@@ -112,11 +112,11 @@ impl End {
 
     // The session is over, and the link is Down.
     fn drop_session(&mut self, pool: &mut Pool)
-        requires { (m : Machine) × StandsFor self.old pool.old m }
-        ensures stands { (m : Machine) → StandsFor self.old pool.old m → StandsFor self.new pool.new (moved m true (stopped m.shdlc)) }
+        requires { (m : Machine) × EndStandsFor self.old pool.old m }
+        ensures stands { (m : Machine) → EndStandsFor self.old pool.old m → EndStandsFor self.new pool.new (moved m true (stopped m.shdlc)) }
         ensures activation { self.new.activation ≡ self.old.activation }
         ensures few { length self.new.acts.items ≡ length self.old.acts.items }
-        ensures elsewhere { LeavesOthers pool.old pool.new self.old self.new }
+        ensures elsewhere { EndLeavesOthers pool.old pool.new self.old self.new }
     {
         self.forget(pool);
         self.shdlc.stop();
@@ -125,11 +125,11 @@ impl End {
     // The link goes down. An end that is Down already only drops the control frames that it still has to send. Why a session
     // ended, where one did.
     fn put_down(&mut self, pool: &mut Pool) -> Option<Cause>
-        requires { (m : Machine) × StandsFor self.old pool.old m }
-        ensures stands { (m : Machine) → StandsFor self.old pool.old m → StandsFor self.new pool.new (put_down true m) }
-        ensures cause { (m : Machine) → StandsFor self.old pool.old m → result ≡ if_up m.shdlc Cause.Act }
+        requires { (m : Machine) × EndStandsFor self.old pool.old m }
+        ensures stands { (m : Machine) → EndStandsFor self.old pool.old m → EndStandsFor self.new pool.new (put_down true m) }
+        ensures cause { (m : Machine) → EndStandsFor self.old pool.old m → result ≡ if_up m.shdlc Cause.Act }
         ensures few { length self.new.acts.items ≡ length self.old.acts.items }
-        ensures elsewhere { LeavesOthers pool.old pool.new self.old self.new }
+        ensures elsewhere { EndLeavesOthers pool.old pool.new self.old self.new }
     {
         match self.shdlc.state() {
             LinkState::Up => {
@@ -149,19 +149,19 @@ impl End {
 
     // The link goes down, where it does. Why a session ended, where one did.
     fn end_link(&mut self, pool: &mut Pool, down: bool) -> Option<Cause>
-        requires { (m : Machine) × StandsFor self.old pool.old m }
-        ensures stands { (m : Machine) → StandsFor self.old pool.old m → StandsFor self.new pool.new (put_down down m) }
-        ensures cause { (m : Machine) → StandsFor self.old pool.old m → result ≡ (if down then if_up m.shdlc Cause.Act else None) }
+        requires { (m : Machine) × EndStandsFor self.old pool.old m }
+        ensures stands { (m : Machine) → EndStandsFor self.old pool.old m → EndStandsFor self.new pool.new (put_down down m) }
+        ensures cause { (m : Machine) → EndStandsFor self.old pool.old m → result ≡ (if down then if_up m.shdlc Cause.Act else None) }
         ensures few { length self.new.acts.items ≡ length self.old.acts.items }
-        ensures elsewhere { LeavesOthers pool.old pool.new self.old self.new }
+        ensures elsewhere { EndLeavesOthers pool.old pool.new self.old self.new }
     {
         if down { self.put_down(pool) } else { None }
     }
 
     // The control frames of SHDLC are dropped.
     fn drop_controls(&mut self)
-        ensures stands { (pool : PoolState) (m : Machine) → StandsFor self.old pool m
-            → StandsFor self.new pool (record m { shdlc = record m.shdlc { due = [] }; acts = map due_in_front m.acts }) }
+        ensures stands { (pool : PoolState) (m : Machine) → EndStandsFor self.old pool m
+            → EndStandsFor self.new pool (record m { shdlc = record m.shdlc { due = [] }; acts = map due_in_front m.acts }) }
         ensures boxes { (self.new.outbox ≡ self.old.outbox) × (self.new.inbox ≡ self.old.inbox) }
         ensures few { length self.new.acts.items ≡ length self.old.acts.items }
     {
@@ -172,7 +172,7 @@ impl End {
     // An ACT frame is due from now on, where there is one.
     fn make_act(&mut self, send: Option<Act>)
         requires { length self.old.acts.items < 8 }
-        ensures stands { (pool : PoolState) (m : Machine) → StandsFor self.old pool m → StandsFor self.new pool (with_act send m) }
+        ensures stands { (pool : PoolState) (m : Machine) → EndStandsFor self.old pool m → EndStandsFor self.new pool (with_act send m) }
         ensures boxes { (self.new.outbox ≡ self.old.outbox) × (self.new.inbox ≡ self.old.inbox) }
     {
         if let Some(frame) = send {
@@ -183,12 +183,12 @@ impl End {
 
     // What an event of activation does to an end.
     fn event(&mut self, pool: &mut Pool, event: &ActEvent) -> LinkReport
-        requires stands { (m : Machine) × StandsFor self.old pool.old m }
+        requires stands { (m : Machine) × EndStandsFor self.old pool.old m }
         requires start { MayStart (role_of self.old.activation) event.now }
         requires room { length self.old.acts.items < 8 }
-        ensures stands { (m : Machine) → StandsFor self.old pool.old m → StandsFor self.new pool.new (activated m event.now) }
-        ensures answer { (m : Machine) → StandsFor self.old pool.old m → result ≡ act_told m event.now }
-        ensures elsewhere { LeavesOthers pool.old pool.new self.old self.new }
+        ensures stands { (m : Machine) → EndStandsFor self.old pool.old m → EndStandsFor self.new pool.new (activated m event.now) }
+        ensures answer { (m : Machine) → EndStandsFor self.old pool.old m → result ≡ act_told m event.now }
+        ensures elsewhere { EndLeavesOthers pool.old pool.new self.old self.new }
     {
         let out = self.activation.step(event);
         let ended = self.end_link(pool, out.ended_link);
@@ -204,12 +204,12 @@ impl End {
 
     // What a frame of SHDLC does to an end that is open.
     fn hear(&mut self, pool: &mut Pool, control: &Control) -> LinkReport
-        requires stands { (m : Machine) × StandsFor self.old pool.old m }
+        requires stands { (m : Machine) × EndStandsFor self.old pool.old m }
         requires ready { MayTake self.old pool.old }
         requires room { length self.old.shdlc.due < 8 }
-        ensures stands { (m : Machine) → StandsFor self.old pool.old m → StandsFor self.new pool.new (heard m control.now) }
-        ensures answer { (m : Machine) → StandsFor self.old pool.old m → result ≡ heard_told m control.now }
-        ensures elsewhere { LeavesOthers pool.old pool.new self.old self.new }
+        ensures stands { (m : Machine) → EndStandsFor self.old pool.old m → EndStandsFor self.new pool.new (heard m control.now) }
+        ensures answer { (m : Machine) → EndStandsFor self.old pool.old m → result ≡ heard_told m control.now }
+        ensures elsewhere { EndLeavesOthers pool.old pool.new self.old self.new }
     {
         let taken = self.shdlc.take(control);
         if taken.ended.is_some() {
@@ -244,8 +244,8 @@ impl End {
 
     // A frame that means nothing here was taken.
     fn pass_over(&mut self) -> LinkReport
-        ensures stands { (pool : PoolState) (m : Machine) → StandsFor self.old pool m
-            → StandsFor self.new pool (record m { passed_over = m.passed_over + 1 }) }
+        ensures stands { (pool : PoolState) (m : Machine) → EndStandsFor self.old pool m
+            → EndStandsFor self.new pool (record m { passed_over = m.passed_over + 1 }) }
         ensures answer { result ≡ nothing_told }
         ensures boxes { (self.new.outbox ≡ self.old.outbox) × (self.new.inbox ≡ self.old.inbox) }
     {
@@ -255,13 +255,13 @@ impl End {
 
     // A frame of SHDLC comes: it is taken where the end is open.
     fn hear_if_open(&mut self, pool: &mut Pool, control: &Control) -> LinkReport
-        requires stands { (m : Machine) × StandsFor self.old pool.old m }
+        requires stands { (m : Machine) × EndStandsFor self.old pool.old m }
         requires ready { MayTake self.old pool.old }
         requires room { length self.old.shdlc.due < 8 }
         requires frame { IsShdlc control.now }
-        ensures stands { (m : Machine) → StandsFor self.old pool.old m → StandsFor self.new pool.new (after_input m (Take control.now)) }
-        ensures answer { (m : Machine) → StandsFor self.old pool.old m → result ≡ told (report m (Take control.now)) }
-        ensures elsewhere { LeavesOthers pool.old pool.new self.old self.new }
+        ensures stands { (m : Machine) → EndStandsFor self.old pool.old m → EndStandsFor self.new pool.new (after_input m (Take control.now)) }
+        ensures answer { (m : Machine) → EndStandsFor self.old pool.old m → result ≡ report_told (report m (Take control.now)) }
+        ensures elsewhere { EndLeavesOthers pool.old pool.new self.old self.new }
     {
         if self.activation.is_open() {
             self.hear(pool, control)
@@ -273,12 +273,12 @@ impl End {
     /// Takes a frame. It asks that the last message was fetched, and that no fetched one is still in the blocks for what comes, or
     /// that the end is held. At most six control frames wait to be fetched before.
     pub fn take(&mut self, pool: &mut Pool, control: &Control) -> LinkReport
-        requires stands { (m : Machine) × StandsFor self.old pool.old m }
+        requires stands { (m : Machine) × EndStandsFor self.old pool.old m }
         requires ready { MayTake self.old pool.old }
         requires room { controls_in self.old ≤ 6 }
-        ensures stands { (m : Machine) → StandsFor self.old pool.old m → StandsFor self.new pool.new (after_input m (Take control.now)) }
-        ensures answer { (m : Machine) → StandsFor self.old pool.old m → result ≡ told (report m (Take control.now)) }
-        ensures elsewhere { LeavesOthers pool.old pool.new self.old self.new }
+        ensures stands { (m : Machine) → EndStandsFor self.old pool.old m → EndStandsFor self.new pool.new (after_input m (Take control.now)) }
+        ensures answer { (m : Machine) → EndStandsFor self.old pool.old m → result ≡ report_told (report m (Take control.now)) }
+        ensures elsewhere { EndLeavesOthers pool.old pool.new self.old self.new }
     {
         match control {
             Control::Act { act, again } => {
@@ -298,8 +298,8 @@ impl End {
 
     /// Counts a frame whose LPDU is outside the grammar. Nothing else changes.
     pub fn take_unknown(&mut self) -> LinkReport
-        ensures stands { (pool : PoolState) (m : Machine) → StandsFor self.old pool m → StandsFor self.new pool (after_input m TakeUnknown) }
-        ensures answer { (m : Machine) → result ≡ told (report m TakeUnknown) }
+        ensures stands { (pool : PoolState) (m : Machine) → EndStandsFor self.old pool m → EndStandsFor self.new pool (after_input m TakeUnknown) }
+        ensures answer { (m : Machine) → result ≡ report_told (report m TakeUnknown) }
         ensures boxes { (self.new.outbox ≡ self.old.outbox) × (self.new.inbox ≡ self.old.inbox) }
     {
         self.pass_over()
@@ -307,11 +307,11 @@ impl End {
 
     /// One tick of time. At most six control frames wait to be fetched before.
     pub fn tick(&mut self, pool: &mut Pool) -> LinkReport
-        requires stands { (m : Machine) × StandsFor self.old pool.old m }
+        requires stands { (m : Machine) × EndStandsFor self.old pool.old m }
         requires room { controls_in self.old ≤ 6 }
-        ensures stands { (m : Machine) → StandsFor self.old pool.old m → StandsFor self.new pool.new (after_input m Tick) }
-        ensures answer { (m : Machine) → StandsFor self.old pool.old m → result ≡ told (report m Tick) }
-        ensures elsewhere { LeavesOthers pool.old pool.new self.old self.new }
+        ensures stands { (m : Machine) → EndStandsFor self.old pool.old m → EndStandsFor self.new pool.new (after_input m Tick) }
+        ensures answer { (m : Machine) → EndStandsFor self.old pool.old m → result ≡ report_told (report m Tick) }
+        ensures elsewhere { EndLeavesOthers pool.old pool.new self.old self.new }
     {
         if self.activation.is_open() {
             self.tick_link(pool)
@@ -322,13 +322,13 @@ impl End {
 
     // One tick of an end that is open.
     fn tick_link(&mut self, pool: &mut Pool) -> LinkReport
-        requires stands { (m : Machine) × StandsFor self.old pool.old m }
+        requires stands { (m : Machine) × EndStandsFor self.old pool.old m }
         requires room { length self.old.shdlc.due < 8 }
-        ensures stands { (m : Machine) → StandsFor self.old pool.old m
-            → StandsFor self.new pool.new (moved m (is_some (tick_answer m.shdlc).ended) (ticked m.shdlc)) }
-        ensures answer { (m : Machine) → StandsFor self.old pool.old m
+        ensures stands { (m : Machine) → EndStandsFor self.old pool.old m
+            → EndStandsFor self.new pool.new (moved m (is_some (tick_answer m.shdlc).ended) (ticked m.shdlc)) }
+        ensures answer { (m : Machine) → EndStandsFor self.old pool.old m
             → result ≡ record nothing_told { ended = (tick_answer m.shdlc).ended; gave_up = (tick_answer m.shdlc).gave_up } }
-        ensures elsewhere { LeavesOthers pool.old pool.new self.old self.new }
+        ensures elsewhere { EndLeavesOthers pool.old pool.new self.old self.new }
     {
         let ticked = self.shdlc.tick();
         let report = LinkReport {
@@ -347,12 +347,12 @@ impl End {
     /// Activation begins, with the sync identifier of a UICC or the power code of a CLF, which is 00 or 01. The link goes Down. It asks
     /// for an end that isn't bare. At most six control frames wait to be fetched before.
     pub fn activate(&mut self, pool: &mut Pool, value: u16) -> LinkReport
-        requires stands { (m : Machine) × StandsFor self.old pool.old m }
+        requires stands { (m : Machine) × EndStandsFor self.old pool.old m }
         requires start { MayStart (role_of self.old.activation) (ActEvent.Start value) }
         requires room { controls_in self.old ≤ 6 }
-        ensures stands { (m : Machine) → StandsFor self.old pool.old m → StandsFor self.new pool.new (after_input m (Start value)) }
-        ensures answer { (m : Machine) → StandsFor self.old pool.old m → result ≡ told (report m (Start value)) }
-        ensures elsewhere { LeavesOthers pool.old pool.new self.old self.new }
+        ensures stands { (m : Machine) → EndStandsFor self.old pool.old m → EndStandsFor self.new pool.new (after_input m (Start value)) }
+        ensures answer { (m : Machine) → EndStandsFor self.old pool.old m → result ≡ report_told (report m (Start value)) }
+        ensures elsewhere { EndLeavesOthers pool.old pool.new self.old self.new }
     {
         let ended = self.loses_session();
         self.drop_session(pool);
@@ -363,11 +363,11 @@ impl End {
     /// Activation ends, and the link with it. It asks for an end that isn't bare. At most six control frames wait to be fetched
     /// before.
     pub fn deactivate(&mut self, pool: &mut Pool) -> LinkReport
-        requires stands { (m : Machine) × StandsFor self.old pool.old m }
+        requires stands { (m : Machine) × EndStandsFor self.old pool.old m }
         requires room { controls_in self.old ≤ 6 }
-        ensures stands { (m : Machine) → StandsFor self.old pool.old m → StandsFor self.new pool.new (after_input m Stop) }
-        ensures answer { (m : Machine) → StandsFor self.old pool.old m → result ≡ told (report m Stop) }
-        ensures elsewhere { LeavesOthers pool.old pool.new self.old self.new }
+        ensures stands { (m : Machine) → EndStandsFor self.old pool.old m → EndStandsFor self.new pool.new (after_input m Stop) }
+        ensures answer { (m : Machine) → EndStandsFor self.old pool.old m → result ≡ report_told (report m Stop) }
+        ensures elsewhere { EndLeavesOthers pool.old pool.new self.old self.new }
     {
         let ended = self.loses_session();
         self.drop_session(pool);
@@ -377,7 +377,7 @@ impl End {
 
     // Why a session ends where activation begins or ends now.
     fn loses_session(&self) -> Option<Cause>
-        ensures { (pool : PoolState) (m : Machine) → StandsFor self.now pool m → result ≡ if_up m.shdlc Cause.Act }
+        ensures { (pool : PoolState) (m : Machine) → EndStandsFor self.now pool m → result ≡ if_up m.shdlc Cause.Act }
     {
         match self.shdlc.state() {
             LinkState::Up => Some(Cause::Act),
@@ -389,7 +389,7 @@ impl End {
     /// Its node holds the end, so that it takes no fragments, or lets it go. At most six control frames wait to be fetched before.
     pub fn hold(&mut self, held: bool)
         requires room { controls_in self.old ≤ 6 }
-        ensures stands { (pool : PoolState) (m : Machine) → StandsFor self.old pool m → StandsFor self.new pool (after_input m (FromNode (Hold held))) }
+        ensures stands { (pool : PoolState) (m : Machine) → EndStandsFor self.old pool m → EndStandsFor self.new pool (after_input m (FromNode (Hold held))) }
         ensures boxes { (self.new.outbox ≡ self.old.outbox) × (self.new.inbox ≡ self.old.inbox) }
     {
         self.shdlc.set_ready(!held);
@@ -404,14 +404,14 @@ impl End {
 
     /// The bit that the end hears in a period: S2 at a CLF, S1 at a UICC.
     pub fn heard_bit(&self, s1: bool, s2: bool) -> bool
-        ensures { (pool : PoolState) (m : Machine) → StandsFor self.now pool m → result ≡ heard_bit m.role s1 s2 }
+        ensures { (pool : PoolState) (m : Machine) → EndStandsFor self.now pool m → result ≡ heard_bit m.role s1 s2 }
     {
         self.activation.heard_bit(s1, s2)
     }
 
     /// The state of the link.
     pub fn state(&self) -> LinkState
-        ensures { (pool : PoolState) (m : Machine) → StandsFor self.now pool m → result ≡ m.shdlc.phase }
+        ensures { (pool : PoolState) (m : Machine) → EndStandsFor self.now pool m → result ≡ m.shdlc.phase }
     {
         self.shdlc.state()
     }
@@ -423,12 +423,12 @@ impl End {
     ///
     /// `Inactive` where activation isn't done, and `Waiting` where the end waits already. Nothing changes then.
     pub fn reset(&mut self, pool: &mut Pool, window: Option<u8>) -> Result<LinkReport, ResetRefused>
-        requires stands { (m : Machine) × StandsFor self.old pool.old m }
+        requires stands { (m : Machine) × EndStandsFor self.old pool.old m }
         requires window { IfSome window (λ w. (1 ≤ w) × (w ≤ 4)) }
         requires room { controls_in self.old ≤ 6 }
-        ensures stands { (m : Machine) → StandsFor self.old pool.old m → StandsFor self.new pool.new (after_input m (Reset window)) }
-        ensures answer { (m : Machine) → StandsFor self.old pool.old m → result ≡ reset_told m window }
-        ensures elsewhere { LeavesOthers pool.old pool.new self.old self.new }
+        ensures stands { (m : Machine) → EndStandsFor self.old pool.old m → EndStandsFor self.new pool.new (after_input m (Reset window)) }
+        ensures answer { (m : Machine) → EndStandsFor self.old pool.old m → result ≡ reset_told m window }
+        ensures elsewhere { EndLeavesOthers pool.old pool.new self.old self.new }
     {
         if !self.activation.is_open() {
             return Err(ResetRefused::Inactive);
@@ -453,12 +453,12 @@ impl End {
 
     /// The oldest message that came and wasn't fetched, with its pipe, in a chain that is the caller's from now on.
     pub fn next_message(&mut self) -> Option<(u8, Chain)>
-        ensures stands { (pool : PoolState) (m : Machine) → StandsFor self.old pool m → StandsFor self.new pool (after_input m (FromNode FetchMessage)) }
-        ensures answer { (pool : PoolState) (m : Machine) → StandsFor self.old pool m
+        ensures stands { (pool : PoolState) (m : Machine) → EndStandsFor self.old pool m → EndStandsFor self.new pool (after_input m (FromNode FetchMessage)) }
+        ensures answer { (pool : PoolState) (m : Machine) → EndStandsFor self.old pool m
             → option_map (λ x. (x.0, chain_bytes pool x.1)) result ≡ oldest m.got }
         ensures fetched { self.new.inbox.got ≡ None }
         ensures rest { self.new ≡ record self.old { inbox = record self.old.inbox { got = None } } }
-        ensures accounts { (pool : PoolState) (m : Machine) → StandsFor self.old pool m → Accounts self.old pool None
+        ensures accounts { (pool : PoolState) (m : Machine) → EndStandsFor self.old pool m → Accounts self.old pool None
             → Accounts self.new pool (option_map (λ x. x.1) result) }
     {
         self.inbox.fetch()
@@ -467,8 +467,8 @@ impl End {
     /// Fetches the frame that is to be sent now: the control frames in the order in which they were made, ACT frames among them, and
     /// then the fragments. None where nothing is to be sent.
     pub fn next_out(&mut self) -> Option<Control>
-        ensures stands { (pool : PoolState) (m : Machine) → StandsFor self.old pool m → StandsFor self.new pool (after_input m Fetch) }
-        ensures answer { (pool : PoolState) (m : Machine) → StandsFor self.old pool m → result ≡ next_frame m }
+        ensures stands { (pool : PoolState) (m : Machine) → EndStandsFor self.old pool m → EndStandsFor self.new pool (after_input m Fetch) }
+        ensures answer { (pool : PoolState) (m : Machine) → EndStandsFor self.old pool m → result ≡ next_frame m }
         ensures boxes { (self.new.outbox ≡ self.old.outbox) × (self.new.inbox ≡ self.old.inbox) }
     {
         match take_front(&mut self.acts) {
@@ -487,12 +487,12 @@ impl End {
     /// `NotUp` where the end isn't Up; `TooLong` where the message has more than 4,096 bytes; `Full` where its blocks exceed what the
     /// owner for what goes out has left; tested in this order. Nothing changes then.
     pub fn send(&mut self, pool: &mut Pool, pipe: u8, message: &[u8]) -> Result<(), SendRefused>
-        requires stands { (m : Machine) × StandsFor self.old pool.old m }
+        requires stands { (m : Machine) × EndStandsFor self.old pool.old m }
         requires sendable { IsSendable (pipe, message.now) }
-        ensures stands { (m : Machine) → StandsFor self.old pool.old m → StandsFor self.new pool.new (after_input m (FromNode (Give (pipe, message.now)))) }
-        ensures answer { (m : Machine) → StandsFor self.old pool.old m → result ≡ give_told m (pipe, message.now) }
+        ensures stands { (m : Machine) → EndStandsFor self.old pool.old m → EndStandsFor self.new pool.new (after_input m (FromNode (Give (pipe, message.now)))) }
+        ensures answer { (m : Machine) → EndStandsFor self.old pool.old m → result ≡ give_told m (pipe, message.now) }
         ensures refused { OnErr result ((pool.new ≡ pool.old) × (self.new ≡ self.old)) }
-        ensures elsewhere { LeavesOthers pool.old pool.new self.old self.new }
+        ensures elsewhere { EndLeavesOthers pool.old pool.new self.old self.new }
     {
         match self.shdlc.state() {
             LinkState::Up => self.send_up(pool, pipe, message),
@@ -514,12 +514,12 @@ impl End {
         pipe: u8,
         chain: Chain,
     ) -> Result<(), (Chain, SendRefused)>
-        requires stands { (m : Machine) × StandsFor self.old pool.old m }
+        requires stands { (m : Machine) × EndStandsFor self.old pool.old m }
         requires chain { MayPass pool.old self.old chain }
         requires sendable { IsSendable (pipe, chain_bytes pool.old chain) }
-        ensures stands { (m : Machine) → StandsFor self.old pool.old m
-            → StandsFor self.new pool.new (after_input m (FromNode (Give (pipe, chain_bytes pool.old chain)))) }
-        ensures answer { (m : Machine) → StandsFor self.old pool.old m → result ≡ pass_told m (pipe, chain_bytes pool.old chain) chain }
+        ensures stands { (m : Machine) → EndStandsFor self.old pool.old m
+            → EndStandsFor self.new pool.new (after_input m (FromNode (Give (pipe, chain_bytes pool.old chain)))) }
+        ensures answer { (m : Machine) → EndStandsFor self.old pool.old m → result ≡ pass_told m (pipe, chain_bytes pool.old chain) chain }
         ensures refused { OnErr result ((pool.new ≡ pool.old) × (self.new ≡ self.old)) }
         ensures back { IfErr result (λ e. e.0 ≡ chain) }
         ensures elsewhere { OnOk result (LeavesOthersBut pool.old pool.new self.old.outbox.owner chain self.old.outbox.queue.items self.new.outbox.queue.items) }
@@ -540,13 +540,13 @@ impl End {
         pipe: u8,
         chain: Chain,
     ) -> Result<(), (Chain, SendRefused)>
-        requires stands { (m : Machine) × StandsFor self.old pool.old m }
+        requires stands { (m : Machine) × EndStandsFor self.old pool.old m }
         requires up { self.old.shdlc.phase ≡ LinkState.Up }
         requires chain { MayPass pool.old self.old chain }
         requires sendable { IsSendable (pipe, chain_bytes pool.old chain) }
-        ensures stands { (m : Machine) → StandsFor self.old pool.old m
-            → StandsFor self.new pool.new (after_input m (FromNode (Give (pipe, chain_bytes pool.old chain)))) }
-        ensures answer { (m : Machine) → StandsFor self.old pool.old m → result ≡ pass_told m (pipe, chain_bytes pool.old chain) chain }
+        ensures stands { (m : Machine) → EndStandsFor self.old pool.old m
+            → EndStandsFor self.new pool.new (after_input m (FromNode (Give (pipe, chain_bytes pool.old chain)))) }
+        ensures answer { (m : Machine) → EndStandsFor self.old pool.old m → result ≡ pass_told m (pipe, chain_bytes pool.old chain) chain }
         ensures refused { OnErr result ((pool.new ≡ pool.old) × (self.new ≡ self.old)) }
         ensures back { IfErr result (λ e. e.0 ≡ chain) }
         ensures elsewhere { OnOk result (LeavesOthersBut pool.old pool.new self.old.outbox.owner chain self.old.outbox.queue.items self.new.outbox.queue.items) }
@@ -568,13 +568,13 @@ impl End {
 
     // Takes a message for sending at an end that is Up.
     fn send_up(&mut self, pool: &mut Pool, pipe: u8, message: &[u8]) -> Result<(), SendRefused>
-        requires stands { (m : Machine) × StandsFor self.old pool.old m }
+        requires stands { (m : Machine) × EndStandsFor self.old pool.old m }
         requires up { self.old.shdlc.phase ≡ LinkState.Up }
         requires sendable { IsSendable (pipe, message.now) }
-        ensures stands { (m : Machine) → StandsFor self.old pool.old m → StandsFor self.new pool.new (after_input m (FromNode (Give (pipe, message.now)))) }
-        ensures answer { (m : Machine) → StandsFor self.old pool.old m → result ≡ give_told m (pipe, message.now) }
+        ensures stands { (m : Machine) → EndStandsFor self.old pool.old m → EndStandsFor self.new pool.new (after_input m (FromNode (Give (pipe, message.now)))) }
+        ensures answer { (m : Machine) → EndStandsFor self.old pool.old m → result ≡ give_told m (pipe, message.now) }
         ensures refused { OnErr result ((pool.new ≡ pool.old) × (self.new ≡ self.old)) }
-        ensures elsewhere { LeavesOthers pool.old pool.new self.old self.new }
+        ensures elsewhere { EndLeavesOthers pool.old pool.new self.old self.new }
     {
         if message.len() > MAX_MESSAGE as usize {
             let len = message.len().min(u32::MAX as usize) as u32;

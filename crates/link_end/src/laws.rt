@@ -5,7 +5,7 @@ ghost use Rattle.block_pool.specs.Pool.{PoolState, IsNew, used_of, KeepsOthers, 
 ghost use Rattle.link_machine.specs.Machine.{LinkEnd as Machine};
 ghost use Rattle.link_messages.specs.Outgoing.{LeavesOthersBut};
 ghost use Rattle.link_end.specs.declared.«end».End.{End as Kept};
-ghost use Rattle.link_end.specs.Ends.{StandsFor, LeavesOthers, IsFree, MayTake, MayPass, HaveOwners, Accounts, Rests};
+ghost use Rattle.link_end.specs.Ends.{EndStandsFor, EndLeavesOthers, IsFree, MayTake, MayPass, HaveOwners, Accounts, Rests};
 
 /// In a new pool an owner of 128 blocks and one of 512 are free for an end.
 pub fn a_new_pool_is_free()
@@ -17,59 +17,59 @@ pub fn a_new_pool_is_free()
 /// An end that accounts for each block for what comes is at rest once its messages were fetched, and may take a frame then. A held one
 /// may also while a message that was fetched lies in its blocks.
 pub fn an_end_at_rest_may_take()
-    ensures rests { (k : Kept) (pool : PoolState) (m : Machine) → StandsFor k pool m → Accounts k pool None → m.got ≡ [] → Rests k pool }
+    ensures rests { (k : Kept) (pool : PoolState) (m : Machine) → EndStandsFor k pool m → Accounts k pool None → m.got ≡ [] → Rests k pool }
     ensures free { (k : Kept) (pool : PoolState) → Rests k pool → MayTake k pool }
-    ensures held { (k : Kept) (pool : PoolState) (m : Machine) → StandsFor k pool m → m.shdlc.ready ≡ false → m.got ≡ []
+    ensures held { (k : Kept) (pool : PoolState) (m : Machine) → EndStandsFor k pool m → m.shdlc.ready ≡ false → m.got ≡ []
         → MayTake k pool }
 {}
 
 /// Each call on an end keeps its account, and keeps the other ends in its pool with theirs.
 pub fn a_call_keeps_the_accounts()
-    ensures own { (old new : PoolState) (before after : Kept) (m : Machine) (chain : Option Blocks) → StandsFor before old m
-        → LeavesOthers old new before after → Accounts before old chain → Accounts after new chain }
+    ensures own { (old new : PoolState) (before after : Kept) (m : Machine) (chain : Option Blocks) → EndStandsFor before old m
+        → EndLeavesOthers old new before after → Accounts before old chain → Accounts after new chain }
     ensures boxes { (pool : PoolState) (before after : Kept) (chain : Option Blocks) → after.inbox ≡ before.inbox
         → Accounts before pool chain → Accounts after pool chain }
     ensures others { (old new : PoolState) (before after other : Kept) (m n : Machine) (theirs : Option Blocks)
-        → StandsFor before old m → LeavesOthers old new before after → HaveOwners before other
-        → StandsFor other old n → Accounts other old theirs → StandsFor other new n × Accounts other new theirs }
+        → EndStandsFor before old m → EndLeavesOthers old new before after → HaveOwners before other
+        → EndStandsFor other old n → Accounts other old theirs → EndStandsFor other new n × Accounts other new theirs }
 {}
 
 /// A message that was fetched may be given back to the pool.
 pub fn a_fetched_message_is_given_back()
-    ensures own { (old new : PoolState) (k : Kept) (m : Machine) (chain : Blocks) → StandsFor k old m → Accounts k old (Some chain)
-        → Gives old new chain → KeepsOthers old new chain chain → StandsFor k new m × Accounts k new None }
+    ensures own { (old new : PoolState) (k : Kept) (m : Machine) (chain : Blocks) → EndStandsFor k old m → Accounts k old (Some chain)
+        → Gives old new chain → KeepsOthers old new chain chain → EndStandsFor k new m × Accounts k new None }
     ensures others { (old new : PoolState) (k other : Kept) (n : Machine) (chain : Blocks) (theirs : Option Blocks)
         → Accounts k old (Some chain) → Gives old new chain → KeepsOthers old new chain chain → HaveOwners k other
-        → StandsFor other old n → Accounts other old theirs → StandsFor other new n × Accounts other new theirs }
+        → EndStandsFor other old n → Accounts other old theirs → EndStandsFor other new n × Accounts other new theirs }
 {}
 
 /// A message that was fetched may be passed to the end that it came to.
 pub fn a_fetched_message_is_sent_back()
-    ensures may { (pool : PoolState) (k : Kept) (m : Machine) (chain : Blocks) → StandsFor k pool m → Accounts k pool (Some chain)
+    ensures may { (pool : PoolState) (k : Kept) (m : Machine) (chain : Blocks) → EndStandsFor k pool m → Accounts k pool (Some chain)
         → MayPass pool k chain }
-    ensures own { (old new : PoolState) (k after : Kept) (m : Machine) (chain : Blocks) → StandsFor k old m
+    ensures own { (old new : PoolState) (k after : Kept) (m : Machine) (chain : Blocks) → EndStandsFor k old m
         → Accounts k old (Some chain) → after.inbox ≡ k.inbox
         → LeavesOthersBut old new k.outbox.owner chain k.outbox.queue.items after.outbox.queue.items → Accounts after new None }
     ensures others { (old new : PoolState) (k after other : Kept) (m n : Machine) (chain : Blocks) (theirs : Option Blocks)
-        → StandsFor k old m → Accounts k old (Some chain)
+        → EndStandsFor k old m → Accounts k old (Some chain)
         → LeavesOthersBut old new k.outbox.owner chain k.outbox.queue.items after.outbox.queue.items → HaveOwners k other
-        → StandsFor other old n → Accounts other old theirs → StandsFor other new n × Accounts other new theirs }
+        → EndStandsFor other old n → Accounts other old theirs → EndStandsFor other new n × Accounts other new theirs }
 {}
 
 /// A message that was fetched from one end may be passed to another one in its pool.
 pub fn a_fetched_message_is_passed_on()
-    ensures may { (pool : PoolState) (from to : Kept) (m n : Machine) (chain : Blocks) → StandsFor from pool m
-        → Accounts from pool (Some chain) → HaveOwners from to → StandsFor to pool n → MayPass pool to chain }
-    ensures giver { (old new : PoolState) (from to after : Kept) (m n : Machine) (chain : Blocks) → StandsFor from old m
-        → Accounts from old (Some chain) → HaveOwners from to → StandsFor to old n
+    ensures may { (pool : PoolState) (from to : Kept) (m n : Machine) (chain : Blocks) → EndStandsFor from pool m
+        → Accounts from pool (Some chain) → HaveOwners from to → EndStandsFor to pool n → MayPass pool to chain }
+    ensures giver { (old new : PoolState) (from to after : Kept) (m n : Machine) (chain : Blocks) → EndStandsFor from old m
+        → Accounts from old (Some chain) → HaveOwners from to → EndStandsFor to old n
         → LeavesOthersBut old new to.outbox.owner chain to.outbox.queue.items after.outbox.queue.items
-        → StandsFor from new m × Accounts from new None }
+        → EndStandsFor from new m × Accounts from new None }
     ensures taker { (old new : PoolState) (from to after : Kept) (n : Machine) (chain : Blocks) (theirs : Option Blocks)
-        → Accounts from old (Some chain) → HaveOwners from to → StandsFor to old n → Accounts to old theirs → after.inbox ≡ to.inbox
+        → Accounts from old (Some chain) → HaveOwners from to → EndStandsFor to old n → Accounts to old theirs → after.inbox ≡ to.inbox
         → LeavesOthersBut old new to.outbox.owner chain to.outbox.queue.items after.outbox.queue.items → Accounts after new theirs }
     ensures others { (old new : PoolState) (from to after other : Kept) (n o : Machine) (chain : Blocks) (theirs : Option Blocks)
-        → Accounts from old (Some chain) → StandsFor to old n
+        → Accounts from old (Some chain) → EndStandsFor to old n
         → LeavesOthersBut old new to.outbox.owner chain to.outbox.queue.items after.outbox.queue.items
-        → HaveOwners from other → HaveOwners to other → StandsFor other old o → Accounts other old theirs
-        → StandsFor other new o × Accounts other new theirs }
+        → HaveOwners from other → HaveOwners to other → EndStandsFor other old o → Accounts other old theirs
+        → EndStandsFor other new o × Accounts other new theirs }
 {}

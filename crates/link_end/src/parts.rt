@@ -4,7 +4,7 @@ ghost use Rattle.std.specs.Option.{option_to_list};
 ghost use Rattle.block_pool.specs.Pool.{used_of};
 ghost use Rattle.hcp_packet.specs.Packets.{packets_in};
 ghost use Rattle.hcp_chain.specs.Joining.{are_taken};
-ghost use Rattle.link_messages.specs.Incoming.{under_way, chains_in, LiesIn, IsReady, LeavesOthers};
+ghost use Rattle.link_messages.specs.Incoming.{messages_under_way, chains_in, InboxLiesIn, IsInboxReady, InboxLeavesOthers};
 ghost use Rattle.link_end.specs.Received.{ReceivesOn};
 
 use block_pool::Pool;
@@ -18,12 +18,12 @@ pub fn receive(
     pool: &mut Pool,
     accepted: &Option<Info>,
 ) -> Result<(), ChainFault>
-    requires lies { LiesIn pool.old inbox.old }
-    requires ready { IfSome accepted.now (λ _. IsReady pool.old inbox.old) }
-    ensures taken { IsOk result ↔ IsTrue (are_taken (under_way pool.old inbox.old) (packets_in (option_to_list accepted.now))) }
+    requires lies { InboxLiesIn pool.old inbox.old }
+    requires ready { IfSome accepted.now (λ _. IsInboxReady pool.old inbox.old) }
+    ensures taken { IsOk result ↔ IsTrue (are_taken (messages_under_way pool.old inbox.old) (packets_in (option_to_list accepted.now))) }
     ensures ok { OnOk result (ReceivesOn pool.old pool.new inbox.old inbox.new (option_to_list accepted.now)) }
-    ensures err { OnErr result (LiesIn pool.new inbox.new × (inbox.new.joiner.owner ≡ inbox.old.joiner.owner) × (chains_in inbox.new ≡ [])
-        × (used_of pool.new inbox.old.joiner.owner ≡ 0) × LeavesOthers pool.old pool.new inbox.old.joiner.owner (chains_in inbox.old) []) }
+    ensures err { OnErr result (InboxLiesIn pool.new inbox.new × (inbox.new.joiner.owner ≡ inbox.old.joiner.owner) × (chains_in inbox.new ≡ [])
+        × (used_of pool.new inbox.old.joiner.owner ≡ 0) × InboxLeavesOthers pool.old pool.new inbox.old.joiner.owner (chains_in inbox.old) []) }
 {
     match accepted {
         Some(info) => inbox.take(pool, info),

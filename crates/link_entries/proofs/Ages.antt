@@ -9,14 +9,14 @@ use Rattle.session_laws.proofs.Wire.{Young, young_push, young_later}
 use Rattle.session_laws.proofs.Steps.{aged-fresh}
 use Rattle.link_machine.specs.Machine.{LinkEnd, Turn, turned, after_input, ended_by, frames_out}
 use Rattle.link_machine.specs.Machine.LinkInput.{Take, Reset, Start, Stop, Tick as HasTick}
-use Rattle.message_link.specs.Links.{Link, IsStart, Ending, Comes, EndEvent, LinkEvent, exchanged, put, put_all, with_ended, silent, finished, steps_here, happens_here, happens, ticks_here, aged, all_here, after}
+use Rattle.message_link.specs.Links.{Link, IsStart, Ending, Comes, EndEvent, LinkEvent, exchanged, put, put_all, with_ended, silent, finished, steps_at_controller, happens_at_controller, happens, ticks_at_controller, aged, all_at_controller, after_link_events}
 use Rattle.message_link.specs.Links.IsStart.{IsBare, IsLine}
 use Rattle.message_link.specs.Links.Ending.{GoesOut, CutOff}
 use Rattle.message_link.specs.Links.Loss.{TooOld}
 use Rattle.message_link.specs.Links.Comes.{NextFrame, AsksReset, Starts, Stops, NoInput}
 use Rattle.message_link.specs.Links.EndEvent.{Step, Lose}
 use Rattle.message_link.specs.Links.LinkEvent.{AtController, AtHost, Ticks, TicksWithout, Activate}
-use Rattle.link_entries.specs.Entries.{End, Entry, all_entries, step_entries, aged_entries, tick_entries, event_entries, entries, trace}
+use Rattle.link_entries.specs.Entries.{End, Entry, entries_of_events, step_entries, aged_entries, tick_entries, event_entries, entries, trace}
 use Rattle.link_entries.specs.Entries.End.{Controller, Host}
 use Rattle.link_entries.specs.Entries.Entry.{Lost, Tick}
 use Rattle.link_entries.specs.Reading.{Seen, see, see_all, kept, nothing_seen}
@@ -69,10 +69,10 @@ dropped : (w : List OnWire) → Young 4 w → Young 4 (drop 1 w)
 dropped [] y = tt
 dropped (x ∷ xs) y = young_later x.age 4 xs y.0 y.1
 
-ages_step : (l : Link) (comes : Comes) (ts : List Turn) (ending : Ending) → Ages l → Ages (steps_here l comes ts ending)
+ages_step : (l : Link) (comes : Comes) (ts : List Turn) (ending : Ending) → Ages l → Ages (steps_at_controller l comes ts ending)
 ages_step l NextFrame ts ending a = go l.to_controller refl
   where
-    go : (w : List OnWire) → l.to_controller ≡ w → Ages (steps_here l NextFrame ts ending)
+    go : (w : List OnWire) → l.to_controller ≡ w → Ages (steps_at_controller l NextFrame ts ending)
     go [] q = rw q (record { near = tt; there = a.there })
     go (x ∷ xs) q =
         let m : Link = with_ended (record l { to_controller = xs }) (is_some (ended_by l.controller.side (Take x.frame))) in
@@ -94,13 +94,13 @@ ages_step l Stops ts ending a =
     (ages_silent l (after_input l.controller.side Stop))
 ages_step l NoInput ts ending a = ages_finished l (turned l.controller.side ts) ending a
 
-ages_here : (l : Link) (e : EndEvent) → Ages l → Ages (happens_here l e)
+ages_here : (l : Link) (e : EndEvent) → Ages l → Ages (happens_at_controller l e)
 ages_here l (Step comes ts ending) a = ages_step l comes ts ending a
 ages_here l (Lose why) a = record { near = dropped l.to_controller a.near; there = a.there }
 
-ages_all : (es : List EndEvent) (l : Link) → Ages l → Ages (all_here l es)
+ages_all : (es : List EndEvent) (l : Link) → Ages l → Ages (all_at_controller l es)
 ages_all [] l a = a
-ages_all (e ∷ es) l a = ages_all es (happens_here l e) (ages_here l e a)
+ages_all (e ∷ es) l a = ages_all es (happens_at_controller l e) (ages_here l e a)
 
 ages_other : (l : Link) → Ages l → Ages (exchanged l)
 ages_other l a = record { near = a.there; there = a.near }
@@ -111,26 +111,26 @@ young_aged w y = let z = aged-fresh w y in subst (Young 4) (sym z.0) z.1
 ages_aged : (l : Link) → Ages l → Ages (aged l)
 ages_aged l a = record { near = young_aged l.to_controller a.near; there = young_aged l.to_host a.there }
 
-ages_tick : (l : Link) (ts : List Turn) (ending : Ending) → Ages l → Ages (ticks_here l ts ending)
+ages_tick : (l : Link) (ts : List Turn) (ending : Ending) → Ages l → Ages (ticks_at_controller l ts ending)
 ages_tick l ts ending a =
     ages_finished (with_ended l (is_some (ended_by l.controller.side HasTick))) (turned (after_input l.controller.side HasTick) ts) ending
     (ages_ended l (is_some (ended_by l.controller.side HasTick)) a)
 
 pub ages_event : (l : Link) (e : LinkEvent) → Ages l → Ages (happens l e)
 ages_event l (AtController e) a = ages_here l e a
-ages_event l (AtHost e) a = ages_other (happens_here (exchanged l) e) (ages_here (exchanged l) e (ages_other l a))
+ages_event l (AtHost e) a = ages_other (happens_at_controller (exchanged l) e) (ages_here (exchanged l) e (ages_other l a))
 ages_event l (Ticks c es h) a =
-    let near : Link = ticks_here (aged l) c.turns c.ending in
-    let m : Link = exchanged (all_here near es) in
-    ages_other (ticks_here m h.turns h.ending)
-    (ages_tick m h.turns h.ending (ages_other (all_here near es) (ages_all es near (ages_tick (aged l) c.turns c.ending (ages_aged l a)))))
+    let near : Link = ticks_at_controller (aged l) c.turns c.ending in
+    let m : Link = exchanged (all_at_controller near es) in
+    ages_other (ticks_at_controller m h.turns h.ending)
+    (ages_tick m h.turns h.ending (ages_other (all_at_controller near es) (ages_all es near (ages_tick (aged l) c.turns c.ending (ages_aged l a)))))
 ages_event l (TicksWithout es h) a =
-    let m : Link = exchanged (all_here (aged l) es) in
-    ages_other (ticks_here m h.turns h.ending)
-    (ages_tick m h.turns h.ending (ages_other (all_here (aged l) es) (ages_all es (aged l) (ages_aged l a))))
+    let m : Link = exchanged (all_at_controller (aged l) es) in
+    ages_other (ticks_at_controller m h.turns h.ending)
+    (ages_tick m h.turns h.ending (ages_other (all_at_controller (aged l) es) (ages_all es (aged l) (ages_aged l a))))
 ages_event l (Activate power c id h) a =
-    let near : Link = steps_here l (Starts power) c.turns c.ending in
-    ages_other (steps_here (exchanged near) (Starts id) h.turns h.ending)
+    let near : Link = steps_at_controller l (Starts power) c.turns c.ending in
+    ages_other (steps_at_controller (exchanged near) (Starts id) h.turns h.ending)
     (ages_step (exchanged near) (Starts id) h.turns h.ending (ages_other near (ages_step l (Starts power) c.turns c.ending a)))
 
 -- ## A tick
@@ -197,33 +197,33 @@ event_seen : (l : Link) (e : LinkEvent) → Ages l → see_all (kept l) (event_e
 event_seen l (AtController e) a = here_seen Controller l e
 event_seen l (AtHost e) a = here_seen Host (exchanged l) e
 event_seen l (Ticks c es h) a =
-    let near : Link = ticks_here (aged l) c.turns c.ending in
-    let m : Link = all_here near es in
+    let near : Link = ticks_at_controller (aged l) c.turns c.ending in
+    let m : Link = all_at_controller near es in
     let last : List Entry = tick_entries Host (exchanged m) h in
-    let four = then (kept near) (kept m) (kept (happens l (Ticks c es h))) (all_entries Controller near es) last (all_seen Controller es near)
+    let four = then (kept near) (kept m) (kept (happens l (Ticks c es h))) (entries_of_events Controller near es) last (all_seen Controller es near)
     (tick_seen Host (exchanged m) h) in
     let three = then (kept (aged l)) (kept near) (kept (happens l (Ticks c es h))) (tick_entries Controller (aged l) c)
-    (all_entries Controller near es ++ last) (tick_seen Controller (aged l) c) four in
-    let rest : List Entry = tick_entries Controller (aged l) c ++ (all_entries Controller near es ++ last) in
+    (entries_of_events Controller near es ++ last) (tick_seen Controller (aged l) c) four in
+    let rest : List Entry = tick_entries Controller (aged l) c ++ (entries_of_events Controller near es ++ last) in
     behind_aged l rest (kept (happens l (Ticks c es h))) a three
 event_seen l (TicksWithout es h) a =
-    let m : Link = all_here (aged l) es in
+    let m : Link = all_at_controller (aged l) es in
     let last : List Entry = tick_entries Host (exchanged m) h in
-    let two = then (kept (aged l)) (kept m) (kept (happens l (TicksWithout es h))) (all_entries Controller (aged l) es) last
+    let two = then (kept (aged l)) (kept m) (kept (happens l (TicksWithout es h))) (entries_of_events Controller (aged l) es) last
     (all_seen Controller es (aged l)) (tick_seen Host (exchanged m) h) in
-    behind_aged l (all_entries Controller (aged l) es ++ last) (kept (happens l (TicksWithout es h))) a two
+    behind_aged l (entries_of_events Controller (aged l) es ++ last) (kept (happens l (TicksWithout es h))) a two
 event_seen l (Activate power c id h) a =
-    let near : Link = steps_here l (Starts power) c.turns c.ending in
+    let near : Link = steps_at_controller l (Starts power) c.turns c.ending in
     then (kept l) (kept near) (kept (happens l (Activate power c id h))) (step_entries Controller l (Starts power) c.turns c.ending)
     (step_entries Host (exchanged near) (Starts id) h.turns h.ending) (step_seen Controller l (Starts power) c.turns c.ending)
     (step_seen Host (exchanged near) (Starts id) h.turns h.ending)
 
-events_seen : (events : List LinkEvent) (l : Link) → Ages l → see_all (kept l) (entries l events) ≡ kept (after l events)
+events_seen : (events : List LinkEvent) (l : Link) → Ages l → see_all (kept l) (entries l events) ≡ kept (after_link_events l events)
 events_seen [] l a = refl
 events_seen (e ∷ es) l a =
-    then (kept l) (kept (happens l e)) (kept (after (happens l e) es)) (event_entries l e) (entries (happens l e) es) (event_seen l e a)
+    then (kept l) (kept (happens l e)) (kept (after_link_events (happens l e) es)) (event_entries l e) (entries (happens l e) es) (event_seen l e a)
     (events_seen es (happens l e) (ages_event l e a))
 
-pub read_off : (l : Link) → IsStart l → (events : List LinkEvent) → see_all nothing_seen (trace l events) ≡ kept (after l events)
+pub read_off : (l : Link) → IsStart l → (events : List LinkEvent) → see_all nothing_seen (trace l events) ≡ kept (after_link_events l events)
 read_off l IsBare events = events_seen events l (record { near = tt; there = tt })
 read_off l IsLine events = events_seen events l (record { near = tt; there = tt })

@@ -17,11 +17,11 @@ use Rattle.link_machine.proofs.Shifts.{Shift, IsNotUp}
 use Rattle.link_machine.proofs.Shifts.Shift.{Stays, Ends, Renews, Begins, Rests}
 use Rattle.link_machine.proofs.Sound.{Data, SentAfter, whole_more, whole_given}
 use Rattle.link_machine.proofs.Reports.{Becomes}
-use Rattle.message_link.specs.Links.{Talk, Half, number_of, no_talk, ended_talk, talk_now, talk_of}
+use Rattle.message_link.specs.Links.{Talk, NumberedEnd, number_of, no_talk, ended_talk, talk_now, talk_of}
 use Rattle.link_entries.specs.Entries.{End, Entry, far, if_so, told, turn_entry, sent_unless}
 use Rattle.link_entries.specs.Entries.End.{Controller, Host}
 use Rattle.link_entries.specs.Entries.Entry.{Up, Down, Active, GaveUp, Acked, Got, Sent, Emit, Took, Lost, Tick, Restarted, Cut}
-use Rattle.link_entries.specs.Filters.{same_end, sent_in, got_in, acked_in}
+use Rattle.link_entries.specs.Filters.{same_link_end, sent_noted, got_noted, acked_noted}
 
 -- ## Three filters at once
 
@@ -41,7 +41,7 @@ abbrev pub plus : Book → Book → Book
 plus a b = record { sent = a.sent ++ b.sent; got = a.got ++ b.got; acked = max a.acked b.acked }
 
 abbrev pub read : List Entry → End → ℕ → Book
-read t who n = record { sent = sent_in t who n; got = got_in t who n; acked = acked_in t who n }
+read t who n = record { sent = sent_noted t who n; got = got_noted t who n; acked = acked_noted t who n }
 
 abbrev pub book_of : Talk → Book
 book_of t = record { sent = t.sent; got = messages_got t.session; acked = whole_among t.sent t.session.acked }
@@ -72,21 +72,21 @@ abbrev note : Entry → End → ℕ → Book
 note e who n = read (e ∷ []) who n
 
 read-one : (e : Entry) (t : List Entry) (who : End) (n : ℕ) → read (e ∷ t) who n ≡ plus (note e who n) (read t who n)
-read-one (Sent w k m) t who n = go (same_end w who && (k == n)) refl
+read-one (Sent w k m) t who n = go (same_link_end w who && (k == n)) refl
   where
-    go : (b : Bool) → (same_end w who && (k == n)) ≡ b → read (Sent w k m ∷ t) who n ≡ plus (note (Sent w k m) who n) (read t who n)
-    go true q = rw (q, zero_max (acked_in t who n)) refl
-    go false q = rw (q, zero_max (acked_in t who n)) refl
-read-one (Got w k m) t who n = go (same_end w who && (k == n)) refl
+    go : (b : Bool) → (same_link_end w who && (k == n)) ≡ b → read (Sent w k m ∷ t) who n ≡ plus (note (Sent w k m) who n) (read t who n)
+    go true q = rw (q, zero_max (acked_noted t who n)) refl
+    go false q = rw (q, zero_max (acked_noted t who n)) refl
+read-one (Got w k m) t who n = go (same_link_end w who && (k == n)) refl
   where
-    go : (b : Bool) → (same_end w who && (k == n)) ≡ b → read (Got w k m ∷ t) who n ≡ plus (note (Got w k m) who n) (read t who n)
-    go true q = rw (q, zero_max (acked_in t who n)) refl
-    go false q = rw (q, zero_max (acked_in t who n)) refl
-read-one (Acked w k a) t who n = go (same_end w who && (k == n)) refl
+    go : (b : Bool) → (same_link_end w who && (k == n)) ≡ b → read (Got w k m ∷ t) who n ≡ plus (note (Got w k m) who n) (read t who n)
+    go true q = rw (q, zero_max (acked_noted t who n)) refl
+    go false q = rw (q, zero_max (acked_noted t who n)) refl
+read-one (Acked w k a) t who n = go (same_link_end w who && (k == n)) refl
   where
-    go : (b : Bool) → (same_end w who && (k == n)) ≡ b → read (Acked w k a ∷ t) who n ≡ plus (note (Acked w k a) who n) (read t who n)
+    go : (b : Bool) → (same_link_end w who && (k == n)) ≡ b → read (Acked w k a ∷ t) who n ≡ plus (note (Acked w k a) who n) (read t who n)
     go true q = rw (q, max_zero a) refl
-    go false q = rw (q, zero_max (acked_in t who n)) refl
+    go false q = rw (q, zero_max (acked_noted t who n)) refl
 read-one (Up w k) t who n = sym (blank-plus (read t who n))
 read-one (Down w c) t who n = sym (blank-plus (read t who n))
 read-one (Active w) t who n = sym (blank-plus (read t who n))
@@ -126,11 +126,11 @@ silent_option f (Some x) p who n = p x who n
 -- ## What is told
 
 read_got : (who who' : End) (k n : ℕ) (ms : List Message)
-    → read (map (Got who k) ms) who' n ≡ pick (same_end who who' && (k == n)) (record { sent = []; got = ms; acked = 0 })
-read_got who who' k n ms = go (same_end who who' && (k == n)) refl ms
+    → read (map (Got who k) ms) who' n ≡ pick (same_link_end who who' && (k == n)) (record { sent = []; got = ms; acked = 0 })
+read_got who who' k n ms = go (same_link_end who who' && (k == n)) refl ms
   where
-    go : (b : Bool) → (same_end who who' && (k == n)) ≡ b → (ms : List Message)
-        → read (map (Got who k) ms) who' n ≡ pick (same_end who who' && (k == n)) (record { sent = []; got = ms; acked = 0 })
+    go : (b : Bool) → (same_link_end who who' && (k == n)) ≡ b → (ms : List Message)
+        → read (map (Got who k) ms) who' n ≡ pick (same_link_end who who' && (k == n)) (record { sent = []; got = ms; acked = 0 })
     go true q [] = rw q refl
     go false q [] = rw q refl
     go true q (m ∷ ms) =
@@ -139,11 +139,11 @@ read_got who who' k n ms = go (same_end who who' && (k == n)) refl ms
     go false q (m ∷ ms) = read-one (Got who k m) (map (Got who k) ms) who' n ∙ rw q (let z = go false q ms in ap (plus blank) (rw q at z))
 
 read_acked : (who who' : End) (k n a : ℕ) (b : Bool)
-    → read (if_so b (Acked who k a)) who' n ≡ pick (same_end who who' && (k == n)) (record { sent = []; got = []; acked = cond b a 0 })
-read_acked who who' k n a b = go (same_end who who' && (k == n)) refl b
+    → read (if_so b (Acked who k a)) who' n ≡ pick (same_link_end who who' && (k == n)) (record { sent = []; got = []; acked = cond b a 0 })
+read_acked who who' k n a b = go (same_link_end who who' && (k == n)) refl b
   where
-    go : (c : Bool) → (same_end who who' && (k == n)) ≡ c → (b : Bool)
-        → read (if_so b (Acked who k a)) who' n ≡ pick (same_end who who' && (k == n)) (record { sent = []; got = []; acked = cond b a 0 })
+    go : (c : Bool) → (same_link_end who who' && (k == n)) ≡ c → (b : Bool)
+        → read (if_so b (Acked who k a)) who' n ≡ pick (same_link_end who who' && (k == n)) (record { sent = []; got = []; acked = cond b a 0 })
     go true q true = rw (q, max_zero a) refl
     go true q false = rw q refl
     go false q true = rw q refl
@@ -154,7 +154,7 @@ abbrev pub told_book : Report → ℕ → Book
 told_book r acked = record { sent = []; got = r.got; acked = cond (nat_lt 0 r.acked) acked 0 }
 
 pub read_told : (who who' : End) (k n : ℕ) (r : Report) (acked : ℕ)
-    → read (told who k r acked) who' n ≡ pick (same_end who who' && (k == n)) (told_book r acked)
+    → read (told who k r acked) who' n ≡ pick (same_link_end who who' && (k == n)) (told_book r acked)
 read_told who who' k n r acked =
     skip (map (Down who) (option_to_list r.ended)) b (silent_option (Down who) r.ended (λ x w m. refl))
     ∙ (skip (if_so r.began (Up who k)) c (silent_so r.began (Up who k) (λ w m. refl))
@@ -181,24 +181,24 @@ read_told who who' k n r acked =
     both true = rw (max_zero (cond (nat_lt 0 r.acked) acked 0)) refl
     both false = refl
 
-    last : read e who' n ≡ pick (same_end who who' && (k == n)) (told_book r acked)
+    last : read e who' n ≡ pick (same_link_end who who' && (k == n)) (told_book r acked)
     last =
         read-append (if_so (nat_lt 0 r.acked) (Acked who k acked)) (map (Got who k) r.got) who' n
         ∙ (ap (λ z. plus z (read (map (Got who k) r.got) who' n)) (read_acked who who' k n acked (nat_lt 0 r.acked))
-        ∙ (ap (plus (pick (same_end who who' && (k == n)) (record { sent = []; got = []; acked = cond (nat_lt 0 r.acked) acked 0 })))
+        ∙ (ap (plus (pick (same_link_end who who' && (k == n)) (record { sent = []; got = []; acked = cond (nat_lt 0 r.acked) acked 0 })))
         (read_got who who' k n r.got)
-        ∙ both (same_end who who' && (k == n))))
+        ∙ both (same_link_end who who' && (k == n))))
 
 -- ## An end and what was noted of it
 
 -- what was noted of an end says what is kept of its sessions
-abbrev pub Told : List Entry → End → Half → Type 0
+abbrev pub Told : List Entry → End → NumberedEnd → Type 0
 Told t who h = (n : ℕ) → read t who n ≡ book_of (talk_of h n)
 
-pub up_talk : (h : Half) (n : ℕ) → h.side.shdlc.phase ≡ IsUpNow → talk_of h n ≡ cond (n == number_of h) (talk_now h.side) (ended_talk h.past n)
+pub up_talk : (h : NumberedEnd) (n : ℕ) → h.side.shdlc.phase ≡ IsUpNow → talk_of h n ≡ cond (n == number_of h) (talk_now h.side) (ended_talk h.past n)
 up_talk h n p = rw p refl
 
-pub down_talk : (h : Half) (n : ℕ) → IsNotUp h.side.shdlc → talk_of h n ≡ ended_talk h.past n
+pub down_talk : (h : NumberedEnd) (n : ℕ) → IsNotUp h.side.shdlc → talk_of h n ≡ ended_talk h.past n
 down_talk h n down = go h.side.shdlc.phase refl
   where
     go : (p : LinkState) → h.side.shdlc.phase ≡ p → talk_of h n ≡ ended_talk h.past n
@@ -206,22 +206,22 @@ down_talk h n down = go h.side.shdlc.phase refl
     go IsWaitingNow p = rw p refl
     go IsDown p = rw p refl
 
-pub same_self : (who : End) → same_end who who ≡ true
+pub same_self : (who : End) → same_link_end who who ≡ true
 same_self Controller = refl
 same_self Host = refl
 
-pub same_far : (who : End) → same_end who (far who) ≡ false
+pub same_far : (who : End) → same_link_end who (far who) ≡ false
 same_far Controller = refl
 same_far Host = refl
 
 -- nothing of the other end is told
-pub told_far : (t : List Entry) (who : End) (k : ℕ) (r : Report) (acked : ℕ) (h : Half) → Told t (far who) h → Told (t ++ told who k r acked) (far who) h
+pub told_far : (t : List Entry) (who : End) (k : ℕ) (r : Report) (acked : ℕ) (h : NumberedEnd) → Told t (far who) h → Told (t ++ told who k r acked) (far who) h
 told_far t who k r acked h b n =
     let none : read (told who k r acked) (far who) n ≡ blank =
     read_told who (far who) k n r acked ∙ ap (λ x. pick (x && (k == n)) (told_book r acked)) (same_far who) in
     read-append t (told who k r acked) (far who) n ∙ (ap (plus (read t (far who) n)) none ∙ (plus-blank (read t (far who) n) ∙ b n))
 
-pub told_silent : (t u : List Entry) (who : End) (h : Half) → Silent u → Told t who h → Told (t ++ u) who h
+pub told_silent : (t u : List Entry) (who : End) (h : NumberedEnd) → Silent u → Told t who h → Told (t ++ u) who h
 told_silent t u who h s b n = read-append t u who n ∙ (ap (plus (read t who n)) (s who n) ∙ (plus-blank (read t who n) ∙ b n))
 
 -- ## Messages that came
@@ -257,12 +257,12 @@ grows a b i = go (nat_lt 0 (b - a)) refl
     go false q = let z = ltb-false 0 (b - a) q in rw q (omega (arith, z, i))
 
 -- an end with its session ended or not
-abbrev pub past_after : Bool → Half → List (ℕ × Talk)
+abbrev pub past_after : Bool → NumberedEnd → List (ℕ × Talk)
 past_after false h = h.past
 past_after true h = (number_of h, talk_now h.side) ∷ h.past
 
 -- what an input to the end of h, which becomes k, says of messages
-pub record Input (h k : Half) (ended began : Bool) (r : Report) : Type 0 where
+pub record Input (h k : NumberedEnd) (ended began : Bool) (r : Report) : Type 0 where
   pub becomes : Becomes h.side k.side ended began r.got
   pub acked : r.acked ≡ whole_acked k.side - whole_acked h.side
   pub past : k.past ≡ past_after ended h
@@ -304,7 +304,7 @@ eq_sym : (a b : ℕ) (x : Bool) → (a == b) ≡ x → (b == a) ≡ x
 eq_sym a b true q = let e : a ≡ b = eqb-true a b q in grind (arith, common_steps, e)
 eq_sym a b false q = grind (arith, common_steps, q)
 
-pub told_input : (t : List Entry) (who : End) (h k : Half) (ended began : Bool) (r : Report) → Input h k ended began r → Data h.side → Told t who h
+pub told_input : (t : List Entry) (who : End) (h k : NumberedEnd) (ended began : Bool) (r : Report) → Input h k ended began r → Data h.side → Told t who h
     → Told (t ++ told who (number_of k) r (whole_acked k.side)) who k
 told_input t who h k ended began r i d b n = go i.becomes.shift
   where
@@ -408,7 +408,7 @@ told_input t who h k ended began r i d b n = go i.becomes.shift
 -- ## Turns
 
 -- the end of h does something that its sessions don't show
-pub told_same : (t : List Entry) (who : End) (h k : Half) → k.side.shdlc.phase ≡ h.side.shdlc.phase → k.past ≡ h.past
+pub told_same : (t : List Entry) (who : End) (h k : NumberedEnd) → k.side.shdlc.phase ≡ h.side.shdlc.phase → k.past ≡ h.past
     → (h.side.shdlc.phase ≡ IsUpNow → number_of k ≡ number_of h) → book_of (talk_now k.side) ≡ book_of (talk_now h.side) → Told t who h → Told t who k
 told_same t who h k phase past number same b n = b n ∙ go h.side.shdlc.phase refl
   where
@@ -435,7 +435,7 @@ told_same t who h k phase past number same b n = b n ∙ go h.side.shdlc.phase r
     go IsDown p = idle (λ u. let z = sym p ∙ u in cc)
 
 -- the end of h, which is e now
-abbrev pub with_side : Half → LinkEnd → Half
+abbrev pub with_side : NumberedEnd → LinkEnd → NumberedEnd
 with_side h e = record h { side = e }
 
 -- a message that is given can be sent
@@ -452,7 +452,7 @@ given_up e m q = go e.shdlc.phase refl
     go IsDown p = absurd (let z = rw p at q in cc)
 
 -- a message that is sent
-told_given : (t : List Entry) (who : End) (h : Half) (m : Message) → IsSendable m → h.side.shdlc.phase ≡ IsUpNow → Data h.side → Told t who h
+told_given : (t : List Entry) (who : End) (h : NumberedEnd) (m : Message) → IsSendable m → h.side.shdlc.phase ≡ IsUpNow → Data h.side → Told t who h
     → Told (t ++ Sent who (number_of h) m ∷ []) who (with_side h (given h.side m))
 told_given t who h m s up d b n =
     read-append t (Sent who (number_of h) m ∷ []) who n
@@ -485,10 +485,10 @@ ready_session e r =
     ready_cases (λ f. (f.session.acc ≡ e.session.acc) × (f.session.acked ≡ e.session.acked) × (f.phase ≡ e.phase)) e r (refl, refl, refl)
     (refl, refl, refl) (refl, refl, refl)
 
-told_nothing : (t : List Entry) (who : End) (h : Half) → Told t who h → Told (t ++ []) who h
+told_nothing : (t : List Entry) (who : End) (h : NumberedEnd) → Told t who h → Told (t ++ []) who h
 told_nothing t who h b = told_silent t [] who h (λ w n. refl) b
 
-pub told_turn : (t : List Entry) (who : End) (h : Half) (x : Turn) → IsSendableTurn x → Data h.side → Told t who h
+pub told_turn : (t : List Entry) (who : End) (h : NumberedEnd) (x : Turn) → IsSendableTurn x → Data h.side → Told t who h
     → Told (t ++ turn_entry who (number_of h) h.side x) who (with_side h (turn h.side x))
 told_turn t who h (Give m) s d b = go (give_refusal h.side m) refl
   where
@@ -512,7 +512,7 @@ told_turn t who h SetAside s d b = go (aside_refusal h.side) refl
     go (Some why) q = rw q (told_nothing t who h b)
 
 -- a turn of the other end
-pub turn_far : (t : List Entry) (who : End) (k : ℕ) (e : LinkEnd) (x : Turn) (h : Half) → Told t (far who) h → Told (t ++ turn_entry who k e x) (far who) h
+pub turn_far : (t : List Entry) (who : End) (k : ℕ) (e : LinkEnd) (x : Turn) (h : NumberedEnd) → Told t (far who) h → Told (t ++ turn_entry who k e x) (far who) h
 turn_far t who k e (Hold held) h b = told_nothing t (far who) h b
 turn_far t who k e FetchMessage h b = told_nothing t (far who) h b
 turn_far t who k e SetAside h b = told_nothing t (far who) h b

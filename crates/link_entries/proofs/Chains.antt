@@ -14,7 +14,7 @@ use Rattle.link_machine.specs.Machine.{Message, LinkEnd, Role, Refused, LinkInpu
 use Rattle.link_machine.specs.Machine.LinkInput.{Take, Tick as HasTick, Reset, Start, Stop}
 use Rattle.link_machine.specs.Machine.Role.{Bare, Clf, Uicc}
 use Rattle.link_machine.specs.Machine.Turn.{Give, Hold, FetchMessage, SetAside, Release}
-use Rattle.message_link.specs.Links.{Half, Link, IsStart, Ending, Comes, Loss, EndEvent, Node, LinkEvent, exchanged, number_of, put, with_ended, silent, steps_here, happens_here, happens, all_here, ticks_here, aged, AreOwn, IsOwn, IsEvent, AllAllowed}
+use Rattle.message_link.specs.Links.{NumberedEnd, Link, IsStart, Ending, Comes, Loss, EndEvent, Node, LinkEvent, exchanged, number_of, put, with_ended, silent, steps_at_controller, happens_at_controller, happens, all_at_controller, ticks_at_controller, aged, AreOwn, IsOwn, IsEvent, AllAllowed}
 use Rattle.message_link.specs.Links.Ending.{GoesOut, CutOff}
 use Rattle.message_link.specs.Links.Loss.{TooMany}
 use Rattle.message_link.specs.Links.Comes.{NextFrame, AsksReset, Starts, Stops, NoInput}
@@ -24,15 +24,15 @@ use Rattle.message_link.specs.Projection.{core_of, core_event}
 use Rattle.message_link.proofs.Steps.{FromHost, core_first, no_fault_first}
 use Rattle.message_link.proofs.Runs.{Good, Reached, event_step, reached_more, from_host, from_controller}
 use Rattle.message_link.proofs.Whole.{not_chain, act_not_chain, start_good, start_reached}
-use Rattle.link_entries.specs.Entries.{End, Entry, far, if_so, told, told_of, turn_entry, turn_entries, sent_unless, first_lost, wire_with, pushed_out, put_entries, puts_entries, ending_entries, rest_entries, left_after, taken_entries, step_entries, here_entries, all_entries, aged_entries, tick_entries, event_entries, entries, first_entries, trace}
+use Rattle.link_entries.specs.Entries.{End, Entry, far, if_so, told, told_of, turn_entry, turn_entries, sent_unless, first_lost, wire_with, pushed_out, put_entries, puts_entries, ending_entries, rest_entries, left_after, taken_entries, step_entries, here_entries, entries_of_events, aged_entries, tick_entries, event_entries, entries, first_entries, trace}
 use Rattle.link_entries.specs.Entries.End.{Controller, Host}
 use Rattle.link_entries.specs.Entries.Entry.{Up, Down, Active, GaveUp, Acked, Got}
-use Rattle.link_entries.specs.Order.{is_chain_fault}
+use Rattle.link_entries.specs.Order.{is_noted_chain_fault}
 
 -- none of these tells of a chain fault
 abbrev NoChain : List Entry → Type 0
 NoChain [] = Unit {0}
-NoChain (e ∷ t) = (is_chain_fault e ≡ false) × NoChain t
+NoChain (e ∷ t) = (is_noted_chain_fault e ≡ false) × NoChain t
 
 more : (t u : List Entry) → NoChain t → NoChain u → NoChain (t ++ u)
 more [] u a b = b
@@ -50,11 +50,11 @@ chain_ended who (Some NoAnswer) n = (refl, tt)
 chain_ended who (Some Peer) n = (refl, tt)
 chain_ended who (Some ByAct) n = (refl, tt)
 
-chain_so : (b : Bool) (e : Entry) → is_chain_fault e ≡ false → NoChain (if_so b e)
+chain_so : (b : Bool) (e : Entry) → is_noted_chain_fault e ≡ false → NoChain (if_so b e)
 chain_so false e p = tt
 chain_so true e p = (p, tt)
 
-chain_option : {A : Type 0} (f : A → Entry) (o : Option A) → ((x : A) → is_chain_fault (f x) ≡ false) → NoChain (map f (option_to_list o))
+chain_option : {A : Type 0} (f : A → Entry) (o : Option A) → ((x : A) → is_noted_chain_fault (f x) ≡ false) → NoChain (map f (option_to_list o))
 chain_option f None p = tt
 chain_option f (Some x) p = (p x, tt)
 
@@ -114,7 +114,7 @@ chain_rest who l e ts ending =
     more (turn_entries who (number_of l.controller) e ts) (ending_entries who l (turned e ts) ending) (chain_turns who (number_of l.controller) e ts)
     (chain_ending who l (turned e ts) ending)
 
-chain_input : (who : End) (k : Link) (h : Half) (i : LinkInput) (e : LinkEnd) (ts : List Turn) (ending : Ending) → IsOther (ended_by h.side i)
+chain_input : (who : End) (k : Link) (h : NumberedEnd) (i : LinkInput) (e : LinkEnd) (ts : List Turn) (ending : Ending) → IsOther (ended_by h.side i)
     → NoChain (told_of who h i ++ rest_entries who k e ts ending)
 chain_input who k h i e ts ending n =
     more (told_of who h i) (rest_entries who k e ts ending) (chain_told who (number_of h) (report h.side i) (whole_acked (after_input h.side i)) n)
@@ -215,10 +215,10 @@ chain_own who l (Step Stops ts ending) o = chain_step who l Stops ts ending tt
 chain_own who l (Step NoInput ts ending) o = chain_step who l NoInput ts ending tt
 chain_own who l (Lose why) o = absurd o
 
-chain_all : (who : End) (es : List EndEvent) (l : Link) → AreOwn l es → NoChain (all_entries who l es)
+chain_all : (who : End) (es : List EndEvent) (l : Link) → AreOwn l es → NoChain (entries_of_events who l es)
 chain_all who [] l a = tt
 chain_all who (e ∷ es) l a =
-    more (here_entries who l e) (all_entries who (happens_here l e) es) (chain_own who l e a.0) (chain_all who es (happens_here l e) a.2)
+    more (here_entries who l e) (entries_of_events who (happens_at_controller l e) es) (chain_own who l e a.0) (chain_all who es (happens_at_controller l e) a.2)
 
 chain_tick : (who : End) (l : Link) (node : Node) → NoChain (tick_entries who l node)
 chain_tick who l node =
@@ -249,29 +249,29 @@ chain_event : (l : Link) (e : LinkEvent) → IsEvent l e → Good l → Reached 
 chain_event l (AtController e) a g r = chain_here Controller l e (joins_here l g r)
 chain_event l (AtHost e) a g r = chain_here Host (exchanged l) e (joins_there l g r)
 chain_event l (Ticks c es h) a g r =
-    let near : Link = ticks_here (aged l) c.turns c.ending in
-    let ds : List Entry = all_entries Controller near es in
-    let fs : List Entry = tick_entries Host (exchanged (all_here near es)) h in
+    let near : Link = ticks_at_controller (aged l) c.turns c.ending in
+    let ds : List Entry = entries_of_events Controller near es in
+    let fs : List Entry = tick_entries Host (exchanged (all_at_controller near es)) h in
     let cs : List Entry = tick_entries Controller (aged l) c in (
       refl,
       more (aged_entries Controller l.to_controller) (aged_entries Host l.to_host ++ (cs ++ (ds ++ fs))) (chain_aged Controller l.to_controller)
           (more (aged_entries Host l.to_host) (cs ++ (ds ++ fs)) (chain_aged Host l.to_host)
           (more cs (ds ++ fs) (chain_tick Controller (aged l) c)
-          (more ds fs (chain_all Controller es near a.1) (chain_tick Host (exchanged (all_here near es)) h)))),
+          (more ds fs (chain_all Controller es near a.1) (chain_tick Host (exchanged (all_at_controller near es)) h)))),
     )
 chain_event l (TicksWithout es h) a g r =
-    let ds : List Entry = all_entries Controller (aged l) es in
-    let fs : List Entry = tick_entries Host (exchanged (all_here (aged l) es)) h in (
+    let ds : List Entry = entries_of_events Controller (aged l) es in
+    let fs : List Entry = tick_entries Host (exchanged (all_at_controller (aged l) es)) h in (
       refl,
       more (aged_entries Controller l.to_controller) (aged_entries Host l.to_host ++ (ds ++ fs)) (chain_aged Controller l.to_controller)
           (more (aged_entries Host l.to_host) (ds ++ fs) (chain_aged Host l.to_host)
-          (more ds fs (chain_all Controller es (aged l) a.1) (chain_tick Host (exchanged (all_here (aged l) es)) h))),
+          (more ds fs (chain_all Controller es (aged l) a.1) (chain_tick Host (exchanged (all_at_controller (aged l) es)) h))),
     )
 chain_event l (Activate power c id h) a g r =
     more (step_entries Controller l (Starts power) c.turns c.ending)
-    (step_entries Host (exchanged (steps_here l (Starts power) c.turns c.ending)) (Starts id) h.turns h.ending)
+    (step_entries Host (exchanged (steps_at_controller l (Starts power) c.turns c.ending)) (Starts id) h.turns h.ending)
     (chain_step Controller l (Starts power) c.turns c.ending tt)
-    (chain_step Host (exchanged (steps_here l (Starts power) c.turns c.ending)) (Starts id) h.turns h.ending tt)
+    (chain_step Host (exchanged (steps_at_controller l (Starts power) c.turns c.ending)) (Starts id) h.turns h.ending tt)
 
 chain_events : (events : List LinkEvent) (l : Link) → AllAllowed l events → Good l → Reached (core_of l) → NoChain (entries l events)
 chain_events [] l a g r = tt
@@ -285,11 +285,11 @@ first_chain Bare = (refl, (refl, tt))
 first_chain (Clf s) = tt
 first_chain (Uicc s) = tt
 
-none_any : (t : List Entry) → NoChain t → list_any is_chain_fault t ≡ false
+none_any : (t : List Entry) → NoChain t → list_any is_noted_chain_fault t ≡ false
 none_any [] a = refl
 none_any (e ∷ t) a = rw (a.0) (none_any t a.1)
 
-pub no_chain_noted : (l : Link) → IsStart l → (events : List LinkEvent) → AllAllowed l events → list_any is_chain_fault (trace l events) ≡ false
+pub no_chain_noted : (l : Link) → IsStart l → (events : List LinkEvent) → AllAllowed l events → list_any is_noted_chain_fault (trace l events) ≡ false
 no_chain_noted l s events a =
     none_any (trace l events)
     (more (first_entries l.controller.side.role) (entries l events) (first_chain l.controller.side.role)

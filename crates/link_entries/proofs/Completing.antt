@@ -14,7 +14,7 @@ use Rattle.link_machine.specs.Machine.LinkInput.{Take, Reset, Start, Stop}
 use Rattle.link_machine.proofs.Shifts.{Shift, IsNotUp}
 use Rattle.link_machine.proofs.Shifts.Shift.{Stays, Ends, Renews, Begins, Rests as ShiftRests}
 use Rattle.link_machine.proofs.Reports.{Reports, take_so, reset_so, start_so, stop_so}
-use Rattle.message_link.specs.Links.{Half, Link, Ending, Comes, number_of, put_all, with_ended, silent, finished, has_taken, steps_here, AreSendableTurns, CanEnd, IsNode, IsOwn}
+use Rattle.message_link.specs.Links.{NumberedEnd, Link, Ending, Comes, number_of, put_all, with_ended, silent, finished, has_taken, steps_at_controller, AreSendableTurns, CanEnd, IsNode, IsOwn}
 use Rattle.message_link.specs.Links.Ending.{GoesOut, CutOff}
 use Rattle.message_link.specs.Links.Comes.{NextFrame, AsksReset, Starts, Stops, NoInput}
 use Rattle.message_link.specs.Links.EndEvent.{Step}
@@ -33,12 +33,12 @@ use Rattle.link_entries.proofs.Lasting.{Knows, knows_more, knows_new, rest_grows
 
 -- ## What is lost in a step is noted
 
-pub input_grows : (n m : Losses) (who : End) (h : Half) (i : LinkInput) (k : Link) (f : LinkEnd) (ts : List Turn)
+pub input_grows : (n m : Losses) (who : End) (h : NumberedEnd) (i : LinkInput) (k : Link) (f : LinkEnd) (ts : List Turn)
     → m ≡ noted_all n (core_of k) (frames_out (turned f ts))
     → Grows n m (told_of who h i ++ rest_entries who k f ts GoesOut)
 input_grows n m who h i k f ts q = grows_right n m (told_of who h i) (rest_entries who k f ts GoesOut) (rest_grows n m who k f ts q)
 
-pub input_cut : (n m : Losses) (who : End) (h : Half) (i : LinkInput) (k : Link) (f : LinkEnd) (ts : List Turn)
+pub input_cut : (n m : Losses) (who : End) (h : NumberedEnd) (i : LinkInput) (k : Link) (f : LinkEnd) (ts : List Turn)
     → Grows n m (told_of who h i ++ rest_entries who k f ts CutOff)
 input_cut n m who h i k f ts b = inr (disturbed_right (told_of who h i) (rest_entries who k f ts CutOff) (cut_disturbs who k f ts))
 
@@ -138,8 +138,8 @@ pub record Both (t : List Entry) (n : Losses) (l : Link) : Type 0 where
   pub there : Knows t n l.host
 
 -- the other end goes on
-far_knows : (t u : List Entry) (n m : Losses) (h k : Half) → k ≡ h → Grows n m u → Knows t n h → Knows (t ++ u) m k
-far_knows t u n m h k q g x = knows_more t u n m h k (λ up. let P : Half → Type 0 = λ z. z.side.shdlc.phase ≡ IsUpNow in (subst P q up, ap number_of q)) g x
+far_knows : (t u : List Entry) (n m : Losses) (h k : NumberedEnd) → k ≡ h → Grows n m u → Knows t n h → Knows (t ++ u) m k
+far_knows t u n m h k q g x = knows_more t u n m h k (λ up. let P : NumberedEnd → Type 0 = λ z. z.side.shdlc.phase ≡ IsUpNow in (subst P q up, ap number_of q)) g x
 
 pub input_knows : (t u : List Entry) (n m : Losses) (l k : Link) (i : LinkInput) (ts : List Turn) (ending : Ending) → Reports l.controller.side i
     → began_by l.controller.side i ≡ false → number_of k.controller ≡ number_of l.controller → k.host ≡ l.host
@@ -168,14 +168,14 @@ idle_same l ts ending a can n up =
 pub own_knows : (t : List Entry) (n : Losses) (who : End) (l : Link) (comes : Comes) (ts : List Turn) (ending : Ending) → IsOwn (Step comes ts ending)
     → IsNode l ts ending
     → Near l → Both t n l → Both (t ++ step_entries who l comes ts ending) (noted_turns n (core_of l) (core_step l comes ts ending))
-    (steps_here l comes ts ending)
+    (steps_at_controller l comes ts ending)
 own_knows t n who l comes ts ending o a x b = go comes o
   where
     e : LinkEnd
     e = l.controller.side
 
     go : (comes : Comes) → IsOwn (Step comes ts ending)
-        → Both (t ++ step_entries who l comes ts ending) (noted_turns n (core_of l) (core_step l comes ts ending)) (steps_here l comes ts ending)
+        → Both (t ++ step_entries who l comes ts ending) (noted_turns n (core_of l) (core_step l comes ts ending)) (steps_at_controller l comes ts ending)
     go NextFrame o = absurd o
     go (AsksReset window) o =
         let i : LinkInput = Reset window in
@@ -203,8 +203,8 @@ own_knows t n who l comes ts ending o a x b = go comes o
         let u : List Entry = step_entries who l NoInput ts ending in
         let m : Losses = noted_turns n (core_of l) (core_step l NoInput ts ending) in
         record {
-          here = knows_more t u n m l.controller (steps_here l NoInput ts ending).controller (idle_same l ts ending a.0 a.1 x) g b.here;
-          there = far_knows t u n m l.host (steps_here l NoInput ts ending).host (host_finished l (turned e ts) ending) g b.there;
+          here = knows_more t u n m l.controller (steps_at_controller l NoInput ts ending).controller (idle_same l ts ending a.0 a.1 x) g b.here;
+          there = far_knows t u n m l.host (steps_at_controller l NoInput ts ending).host (host_finished l (turned e ts) ending) g b.there;
         }
 
 -- ## A frame is taken
@@ -228,7 +228,7 @@ taken_knows t n who l x xs ts ending w a b both = go (began_by e i) refl
     k : Link
     k = left_after l x xs
 
-    h : Half
+    h : NumberedEnd
     h = record l.controller { took = took_with l.controller.took x }
 
     m : Losses
@@ -342,7 +342,7 @@ taken_knows t n who l x xs ts ending w a b both = go (began_by e i) refl
         new = record { has = λ up. (at_j (up_number up)).has up; tells = λ up z. (at_j (up_number up)).tells up z }
 
 pub frame_knows : (t : List Entry) (n : Losses) (who : End) (l : Link) (ts : List Turn) (ending : Ending) → IsNode l ts ending → Before l → Both t n l
-    → Both (t ++ step_entries who l NextFrame ts ending) (noted_turns n (core_of l) (core_step l NextFrame ts ending)) (steps_here l NextFrame ts ending)
+    → Both (t ++ step_entries who l NextFrame ts ending) (noted_turns n (core_of l) (core_step l NextFrame ts ending)) (steps_at_controller l NextFrame ts ending)
 frame_knows t n who l ts ending a b both = go l.to_controller refl
   where
     as_is : (u v : List Entry) (m k : Losses) (x y : Link) → u ≡ v → m ≡ k → x ≡ y → Both (t ++ v) k y → Both (t ++ u) m x
@@ -353,7 +353,7 @@ frame_knows t n who l ts ending a b both = go l.to_controller refl
         subst A (sym p) (subst B (sym q) (subst C (sym r) h))
 
     none : l.to_controller ≡ [] → (step_entries who l NextFrame ts ending ≡ []) × (noted_turns n (core_of l) (core_step l NextFrame ts ending) ≡ n)
-        × (steps_here l NextFrame ts ending ≡ l)
+        × (steps_at_controller l NextFrame ts ending ≡ l)
     none q = (rw q refl, rw q refl, rw q refl)
 
     list : (x : OnWire) (xs : List OnWire) → l.to_controller ≡ x ∷ xs → core_step l NextFrame ts ending
@@ -364,15 +364,15 @@ frame_knows t n who l ts ending a b both = go l.to_controller refl
     same = let P : List Entry → Type 0 = λ z. Both z n l in subst P (sym (append-nil t)) both
 
     go : (w : List OnWire) → l.to_controller ≡ w
-        → Both (t ++ step_entries who l NextFrame ts ending) (noted_turns n (core_of l) (core_step l NextFrame ts ending)) (steps_here l NextFrame ts ending)
+        → Both (t ++ step_entries who l NextFrame ts ending) (noted_turns n (core_of l) (core_step l NextFrame ts ending)) (steps_at_controller l NextFrame ts ending)
     go [] q =
         let z = none q in
         as_is (step_entries who l NextFrame ts ending) [] (noted_turns n (core_of l) (core_step l NextFrame ts ending)) n
-        (steps_here l NextFrame ts ending) l z.0 z.1 z.2 same
+        (steps_at_controller l NextFrame ts ending) l z.0 z.1 z.2 same
     go (x ∷ xs) q =
         let k : Losses = noted_all (came_up n (core_of (left_after l x xs)) (began_by l.controller.side (Take x.frame))) (core_of (left_after l x xs))
         (frames_out (turned (took l.controller.side x.frame) ts)) in
         as_is (step_entries who l NextFrame ts ending) (taken_entries who l x xs ts ending) (noted_turns n (core_of l) (core_step l NextFrame ts ending)) k
-        (steps_here l NextFrame ts ending) (has_taken l x xs ts ending) (rw q refl) (ap (noted_turns n (core_of l)) (list x xs q)
+        (steps_at_controller l NextFrame ts ending) (has_taken l x xs ts ending) (rw q refl) (ap (noted_turns n (core_of l)) (list x xs q)
         ∙ taken_noted n l ts ending x xs q a.0 b) (rw q refl)
         (taken_knows t n who l x xs ts ending q a b both)

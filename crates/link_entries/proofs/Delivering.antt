@@ -3,13 +3,13 @@ use Rattle.std.proofs.Common.{◌≡◌, ℕ, Bool, true, false, List, [], ◌�
 use Rattle.std.proofs.lemmas.Bool.{true≢false}
 use Rattle.shdlc_core.specs.declared.answers.LinkState.TheVariants.{Up as IsUpNow}
 use Rattle.hcp_packet.specs.Packets.{good_of}
-use Rattle.session_laws.specs.Sessions.{Link as CoreLink, Turn as CoreTurn, EndEvent as CoreEndEvent, LinkEvent as CoreLinkEvent, exchanged as core_exchanged, happens as core_happens, all_here as core_all_here, happens_here as core_happens_here, ticks_or_cut as core_ticks_or_cut, ticks_if_waiting as core_ticks_if_waiting, aged as core_aged, after as core_after}
-use Rattle.session_laws.specs.Sessions.LinkEvent.{AtController as CoreAtController, AtHost as CoreAtHost, Tick as CoreTick, TickWithout as CoreTickWithout}
+use Rattle.session_laws.specs.Sessions.{ShdlcLink as CoreLink, ShdlcTurn as CoreTurn, ShdlcEndEvent as CoreEndEvent, ShdlcLinkEvent as CoreLinkEvent, shdlc_exchanged as core_exchanged, shdlc_happens as core_happens, shdlc_all_at_controller as core_all_here, shdlc_happens_at_controller as core_happens_here, ticks_or_cut as core_ticks_or_cut, ticks_if_waiting as core_ticks_if_waiting, shdlc_aged as core_aged, shdlc_after as core_after}
+use Rattle.session_laws.specs.Sessions.ShdlcLinkEvent.{AtController as CoreAtController, AtHost as CoreAtHost, Tick as CoreTick, TickWithout as CoreTickWithout}
 use Rattle.session_laws.specs.Losses.{Losses, no_losses, sans, noted_here, noted_turns, noted_tick, noted_if_waiting, noted_aged, noted_event, losses_after}
 use Rattle.session_laws.proofs.Sending.{SafeLink}
 use Rattle.session_laws.proofs.Steps.{safe_aged, safe_turns, safe_exchanged, tick_or_cut, tick_if_waiting}
 use Rattle.link_machine.proofs.Runs.{Sound}
-use Rattle.message_link.specs.Links.{Talk, Half, Link, IsStart, EndEvent, LinkEvent, exchanged, number_of, happens_here, happens, all_here, ticks_here, aged, after, talk_now, talk_of, CanStart, IsUicc, IsNode, AreOwn, IsEvent, AllAllowed}
+use Rattle.message_link.specs.Links.{Talk, NumberedEnd, Link, IsStart, EndEvent, LinkEvent, exchanged, number_of, happens_at_controller, happens, all_at_controller, ticks_at_controller, aged, after_link_events, talk_now, talk_of, CanStart, IsUicc, IsNode, AreOwn, IsEvent, AllAllowed}
 use Rattle.message_link.specs.Links.IsStart.{IsBare, IsLine}
 use Rattle.message_link.specs.Links.Comes.{Starts}
 use Rattle.message_link.specs.Links.EndEvent.{Step}
@@ -21,10 +21,10 @@ use Rattle.message_link.proofs.Finishing.{step_tick, all_here-append}
 use Rattle.message_link.proofs.Runs.{Good, Reached, safe_reached, rests_of, reached_more, event_step, own_here, own_turns, all_step, rest_both, tells_same, started_clf, clf_starts, can_start}
 use Rattle.message_link.proofs.Quiet.{all_here as delivered_here, all_there as delivered_there}
 use Rattle.message_link.proofs.Whole.{start_good, start_reached, one_number}
-use Rattle.link_entries.specs.Entries.{End, Entry, far, here_entries, all_entries, aged_entries, tick_entries, event_entries, entries, first_entries, trace}
+use Rattle.link_entries.specs.Entries.{End, Entry, far, here_entries, entries_of_events, aged_entries, tick_entries, event_entries, entries, first_entries, trace}
 use Rattle.link_entries.specs.Entries.End.{Controller, Host}
 use Rattle.link_entries.specs.Entries.Entry.{Tick}
-use Rattle.link_entries.specs.Quiet.{IsQuietSince, IsDelivered}
+use Rattle.link_entries.specs.Quiet.{IsQuietSince, IsDeliveredOnLink}
 use Rattle.link_entries.specs.Sessions.{IsRead}
 use Rattle.link_entries.proofs.Books.{up_talk}
 use Rattle.link_entries.proofs.Noting.{sound_tick}
@@ -64,35 +64,35 @@ swap_back t n l b = record { here = b.there; there = b.here }
 -- ## Events
 
 all_knows : (kf : ℕ) (es : List EndEvent) (t : List Entry) (n : Losses) (l : Link) → AreOwn l es → Tells l.controller → Tells l.host → SafeLink 0 kf (core_of l)
-    → Sound l.controller.side → Both t n l → Both (t ++ all_entries Controller l es) (noted_turns n (core_of l) (core_all l es)) (all_here l es)
+    → Sound l.controller.side → Both t n l → Both (t ++ entries_of_events Controller l es) (noted_turns n (core_of l) (core_all l es)) (all_at_controller l es)
 all_knows kf [] t n l a h g s sd b = as_is (t ++ []) t n n l (append-nil t) refl b
 all_knows kf (e ∷ es) t n l a h g s sd b =
     let r = rests_of 0 kf (core_of l) s in
     let one = own_here l e a.0 a.1 h r in
-    let m : Link = happens_here l e in
+    let m : Link = happens_at_controller l e in
     let P : CoreLink → Type 0 = λ c. SafeLink 0 kf c in
     let safe : SafeLink 0 kf (core_of m) = subst P (sym one.core) (safe_turns kf (core_here l e) (core_of l) (own_turns l e r a.0 a.1) s) in
     let u : List Entry = here_entries Controller l e in
-    let v : List Entry = all_entries Controller m es in
+    let v : List Entry = entries_of_events Controller m es in
     let k : Losses = noted_turns n (core_of l) (core_here l e) in
     let first = own_step_knows t n l e a.0 a.1 (record { tells = h; rests = r; sound = sd }) b in
     let more = all_knows kf es (t ++ u) k m a.2 one.tells (tells_same m.host l.host one.host g) safe (sound_here l e a.1 sd) first in
     as_is (t ++ (u ++ v)) ((t ++ u) ++ v) (noted_turns n (core_of l) (core_here l e ++ core_all m es)) (noted_turns k (core_of m) (core_all m es))
-    (all_here m es) (sym (append_assoc t u v))
+    (all_at_controller m es) (sym (append_assoc t u v))
     (noted-append n (core_of l) (core_here l e) (core_all m es) ∙ ap (λ c. noted_turns k c (core_all m es)) (sym one.core)) more
 
 event_knows : (t : List Entry) (n : Losses) (l : Link) (e : LinkEvent) → IsEvent l e → Good l → Reached (core_of l) → Sounds l → Both t n l
     → Both (t ++ event_entries l e) (losses_after n (core_of l) (core_event l e)) (happens l e)
 event_knows t n l (AtController e) a g r s b =
     as_is (t ++ here_entries Controller l e) (t ++ here_entries Controller l e) (losses_after n (core_of l) (core_event l (AtController e)))
-    (noted_turns n (core_of l) (core_here l e)) (happens_here l e) refl (here_losses n (core_of l) (core_here l e))
+    (noted_turns n (core_of l) (core_here l e)) (happens_at_controller l e) refl (here_losses n (core_of l) (core_here l e))
     (here_knows t n Controller l e a (before_here l g r s) b)
 event_knows t n l (AtHost e) a g r s b =
     let k : Link = exchanged l in
     let u : List Entry = t ++ here_entries Host k e in
     let m : Losses = noted_turns n (core_of k) (core_here k e) in
     as_is u u (losses_after n (core_of l) (core_event l (AtHost e))) m (happens l (AtHost e)) refl (there_losses n (core_of l) (core_here k e))
-    (swap u m (happens_here k e) (here_knows t n Host k e a (before_there l g r s) (swap t n l b)))
+    (swap u m (happens_at_controller k e) (here_knows t n Host k e a (before_there l g r s) (swap t n l b)))
 event_knows t n l (Ticks c es h) a g r s b =
     let s0 = safe_aged (core_of l) (safe_reached (core_of l) r) in
     let rests = rests_of 1 1 (core_of (aged l)) s0 in
@@ -101,7 +101,7 @@ event_knows t n l (Ticks c es h) a g r s b =
     let start : List Entry = Tick ∷ (ps ++ bs) in
     let n1 : Losses = noted_aged n (core_of l) in
     let b1 : Both (t ++ start) n1 (aged l) = aged_knows t n l b in
-    let near : Link = ticks_here (aged l) c.turns c.ending in
+    let near : Link = ticks_at_controller (aged l) c.turns c.ending in
     let one = step_tick (aged l) c.turns c.ending a.0.0 a.0.1 g.controller rests in
     let cs : List Entry = tick_entries Controller (aged l) c in
     let n2 : Losses = tick_flags n1 (aged l) c in
@@ -115,19 +115,19 @@ event_knows t n l (Ticks c es h) a g r s b =
     subst P (sym one.core) (safe_turns 1 rest first (rest_both l.controller.side c.turns c.ending).turns (tick_or_cut 1 t1 (core_aged (core_of l)) s0)) in
     let near_host : Tells near.host = tells_same near.host l.host one.host g.host in
     let all = all_step 1 near es a.1 one.tells near_safe in
-    let ds : List Entry = all_entries Controller near es in
+    let ds : List Entry = entries_of_events Controller near es in
     let n3 : Losses = noted_turns n2 (core_of near) (core_all near es) in
     let u : List Entry = ((t ++ start) ++ cs) ++ ds in
-    let m : Link = all_here near es in
+    let m : Link = all_at_controller near es in
     let b3 : Both u n3 m =
     all_knows 1 es ((t ++ start) ++ cs) n2 near a.1 one.tells near_host near_safe (sound_tick (aged l) c a.0 s.controller) b2 in
     let m_safe : SafeLink 0 1 (core_of m) = subst P (sym all.step.core) (safe_turns 1 (core_all near es) (core_of near) all.turns near_safe) in
     let host_is : m.host ≡ l.host = all.step.host ∙ one.host in
-    let H : Half → Type 0 = λ z. Sound z.side in
+    let H : NumberedEnd → Type 0 = λ z. Sound z.side in
     let m_rests = rests_of 1 0 (core_of (exchanged m)) (safe_exchanged 0 1 (core_of m) m_safe) in
     let fs : List Entry = tick_entries Host (exchanged m) h in
     let n4 : Losses = tick_flags n3 (exchanged m) h in
-    let k : Link = ticks_here (exchanged m) h.turns h.ending in
+    let k : Link = ticks_at_controller (exchanged m) h.turns h.ending in
     let b4 : Both (u ++ fs) n4 k =
     tick_knows u n3 Host (exchanged m) h a.2 (record { tells = tells_same m.host l.host host_is g.host; rests = m_rests; sound = subst H (sym host_is) s.host })
     (swap u n3 m b3) in
@@ -149,7 +149,7 @@ event_knows t n l (Ticks c es h) a g r s b =
         → (((t ++ (e ∷ (ps ++ bs))) ++ cs) ++ ds) ++ fs ≡ t ++ (e ∷ (ps ++ (bs ++ (cs ++ (ds ++ fs)))))
     five t e ps bs cs ds fs = simp append_assoc
 
-    flags : Losses → CoreLink → Half → Losses
+    flags : Losses → CoreLink → NumberedEnd → Losses
     flags n d z =
         let t : Option (List CoreTurn) = core_tick z.side h.turns h.ending in
         noted_turns (noted_tick n t (core_exchanged d)) (core_ticks_or_cut t (core_exchanged d)) (core_tick_rest z.side h.turns h.ending)
@@ -167,18 +167,18 @@ event_knows t n l (TicksWithout es h) a g r s b =
     let near_safe : SafeLink 0 1 (core_of near) = subst P kept (tick_if_waiting 1 (core_aged (core_of l)) s0) in
     let all = all_step 1 near es a.1 g.controller near_safe in
     let turns : List CoreEndEvent = core_all near es in
-    let ds : List Entry = all_entries Controller near es in
+    let ds : List Entry = entries_of_events Controller near es in
     let n3 : Losses = noted_turns n1 (core_of near) turns in
     let u : List Entry = (t ++ start) ++ ds in
-    let m : Link = all_here near es in
+    let m : Link = all_at_controller near es in
     let b3 : Both u n3 m = all_knows 1 es (t ++ start) n1 near a.1 g.controller g.host near_safe s.controller b1 in
     let m_safe : SafeLink 0 1 (core_of m) = subst P (sym all.step.core) (safe_turns 1 turns (core_of near) all.turns near_safe) in
     let host_is : m.host ≡ l.host = all.step.host in
-    let H : Half → Type 0 = λ z. Sound z.side in
+    let H : NumberedEnd → Type 0 = λ z. Sound z.side in
     let m_rests = rests_of 1 0 (core_of (exchanged m)) (safe_exchanged 0 1 (core_of m) m_safe) in
     let fs : List Entry = tick_entries Host (exchanged m) h in
     let n4 : Losses = tick_flags n3 (exchanged m) h in
-    let k : Link = ticks_here (exchanged m) h.turns h.ending in
+    let k : Link = ticks_at_controller (exchanged m) h.turns h.ending in
     let b4 : Both (u ++ fs) n4 k =
     tick_knows u n3 Host (exchanged m) h a.2 (record { tells = tells_same m.host l.host host_is g.host; rests = m_rests; sound = subst H (sym host_is) s.host })
     (swap u n3 m b3) in
@@ -195,24 +195,24 @@ event_knows t n l (TicksWithout es h) a g r s b =
     four : (t : List Entry) (e : Entry) (ps bs ds fs : List Entry) → ((t ++ (e ∷ (ps ++ bs))) ++ ds) ++ fs ≡ t ++ (e ∷ (ps ++ (bs ++ (ds ++ fs))))
     four t e ps bs ds fs = simp append_assoc
 
-    flags : Losses → CoreLink → Half → Losses
+    flags : Losses → CoreLink → NumberedEnd → Losses
     flags n d z =
         let t : Option (List CoreTurn) = core_tick z.side h.turns h.ending in
         noted_turns (noted_tick n t (core_exchanged d)) (core_ticks_or_cut t (core_exchanged d)) (core_tick_rest z.side h.turns h.ending)
 event_knows t n l (Activate power c id h) a g r s b =
     let x : EndEvent = Step (Starts power) c.turns c.ending in
     let y : EndEvent = Step (Starts id) h.turns h.ending in
-    let near : Link = happens_here l x in
+    let near : Link = happens_at_controller l x in
     let k : Link = exchanged near in
     let clf : CanStart l.controller.side.role l.host.side.role = clf_starts l.controller.side.role l.host.side.role a.0 in
     let one = event_step l (AtController x) (clf, a.2) g r in
     let next : Reached (core_of near) = subst Reached (sym one.core) (reached_more (core_of l) (core_event l (AtController x)) one.allowed r) in
     let host : near.host ≡ l.host = host_here l x (clf, a.2) g r in
-    let Q : Half → Type 0 = λ z. IsUicc z.side.role × IsNode (exchanged (record l { host = z })) h.turns h.ending in
+    let Q : NumberedEnd → Type 0 = λ z. IsUicc z.side.role × IsNode (exchanged (record l { host = z })) h.turns h.ending in
     let there : Q near.host = subst Q (sym host) (a.1, a.3) in
     let starts : CanStart near.host.side.role near.controller.side.role =
     can_start near.host.side.role near.controller.side.role there.0 (started_clf l power c.turns c.ending a.0) in
-    let H : Half → Type 0 = λ z. Sound z.side in
+    let H : NumberedEnd → Type 0 = λ z. Sound z.side in
     let sounds : Sounds near = record { controller = sound_here l x (clf, a.2) s.controller; host = subst H (sym host) s.host } in
     let u : List Entry = here_entries Controller l x in
     let v : List Entry = here_entries Host k y in
@@ -226,12 +226,12 @@ event_knows t n l (Activate power c id h) a g r s b =
     losses-append n (core_of l) es fs ∙ (ap (λ z. losses_after z (core_after (core_of l) es) fs) (here_losses n (core_of l) (core_here l x))
     ∙ (ap (λ z. losses_after n1 z fs) (sym one.core) ∙ there_losses n1 (core_of near) (core_here k y))) in
     as_is (t ++ (u ++ v)) ((t ++ u) ++ v) (losses_after n (core_of l) (es ++ fs)) n2 (happens l (Activate power c id h)) (sym (append_assoc t u v)) flag
-    (swap ((t ++ u) ++ v) n2 (happens_here k y) second)
+    (swap ((t ++ u) ++ v) n2 (happens_at_controller k y) second)
 
 -- ## Runs
 
 events_know : (events : List LinkEvent) (t : List Entry) (n : Losses) (l : Link) → AllAllowed l events → Good l → Reached (core_of l) → Noted t l → Both t n l
-    → Both (t ++ entries l events) (losses_after n (core_of l) (core_events l events)) (after l events)
+    → Both (t ++ entries l events) (losses_after n (core_of l) (core_events l events)) (after_link_events l events)
 events_know [] t n l a g r s b = as_is (t ++ []) t n n l (append-nil t) refl b
 events_know (e ∷ es) t n l a g r s b =
     let st = event_step l e a.0 g r in
@@ -243,7 +243,7 @@ events_know (e ∷ es) t n l a g r s b =
     let first = event_knows t n l e a.0 g r s.sounds b in
     let more = events_know es (t ++ u) k m a.1 st.good next (note_event t l e a.0 g r s).noted first in
     as_is (t ++ (u ++ v)) ((t ++ u) ++ v) (losses_after n (core_of l) (core_event l e ++ core_events m es)) (losses_after k (core_of m) (core_events m es))
-    (after m es) (sym (append_assoc t u v))
+    (after_link_events m es) (sym (append_assoc t u v))
     (losses-append n (core_of l) (core_event l e) (core_events m es) ∙ ap (λ c. losses_after k c (core_events m es)) (sym st.core)) more
 
 start_knows : (l : Link) → IsStart l → Both (first_entries l.controller.side.role) no_losses l
@@ -258,14 +258,14 @@ start_knows l IsLine =
       there = record { has = λ up. absurd (let z = up in cc); tells = λ up b. absurd (true≢false (sym b)) };
     }
 
-knows : (l : Link) → IsStart l → (events : List LinkEvent) → AllAllowed l events → Both (trace l events) (losses_of l events) (after l events)
+knows : (l : Link) → IsStart l → (events : List LinkEvent) → AllAllowed l events → Both (trace l events) (losses_of l events) (after_link_events l events)
 knows l s events a =
     events_know events (first_entries l.controller.side.role) no_losses l a (start_good l s) (start_reached l s) (start_noted l s) (start_knows l s)
 
 -- ## A quiet session
 
-is_quiet : (l : Link) → IsStart l → (events : List LinkEvent) → AllAllowed l events → IsQuietSince (trace l events) (after l events)
-    → IsQuiet (after l events) (losses_of l events)
+is_quiet : (l : Link) → IsStart l → (events : List LinkEvent) → AllAllowed l events → IsQuietSince (trace l events) (after_link_events l events)
+    → IsQuiet (after_link_events l events) (losses_of l events)
 is_quiet l s events a q =
     record {
       controller = q.controller;
@@ -292,22 +292,22 @@ is_quiet l s events a q =
     rnr false true p r = absurd (not_bad (rw (p, r) refl))
 
 -- the session that goes on at an end that is up
-up_now : (h : Half) (n : ℕ) → h.side.shdlc.phase ≡ IsUpNow → n ≡ number_of h → talk_of h n ≡ talk_now h.side
+up_now : (h : NumberedEnd) (n : ℕ) → h.side.shdlc.phase ≡ IsUpNow → n ≡ number_of h → talk_of h n ≡ talk_now h.side
 up_now h n up q = let z = same_number (number_of h) in ap (talk_of h) q ∙ (up_talk h (number_of h) up ∙ rw z refl)
 
 -- what the filters read is what the link has delivered
 delivered : (t : List Entry) (who : End) (n : ℕ) (sender receiver : Talk) → IsRead t who n sender → IsRead t (far who) n receiver → AllDelivered sender receiver
-    → IsDelivered t who n
+    → IsDeliveredOnLink t who n
 delivered t who n sender receiver x y d =
     record {
       got = y.got ∙ (d.got ∙ sym (ap good_of x.sent));
       acked = x.acked ∙ (d.acked ∙ sym (ap (λ (ms : List (ℕ × List ℕ)). length ms) x.sent));
     }
 
-pub quiet_here : (l : Link) → IsStart l → (events : List LinkEvent) → AllAllowed l events → IsQuietSince (trace l events) (after l events)
-    → IsDelivered (trace l events) Controller (number_of (after l events).controller)
+pub quiet_here : (l : Link) → IsStart l → (events : List LinkEvent) → AllAllowed l events → IsQuietSince (trace l events) (after_link_events l events)
+    → IsDeliveredOnLink (trace l events) Controller (number_of (after_link_events l events).controller)
 quiet_here l s events a q =
-    let m : Link = after l events in
+    let m : Link = after_link_events l events in
     let t : List Entry = trace l events in
     let n : ℕ = number_of m.controller in
     let P : Talk → Type 0 = λ z. IsRead t Controller n z in
@@ -317,10 +317,10 @@ quiet_here l s events a q =
     (subst P (up_now m.controller n q.controller refl) (read_here l s events a n)) (subst Q (up_now m.host n q.host one) (read_there l s events a n))
     (delivered_here l s events a (is_quiet l s events a q))
 
-pub quiet_there : (l : Link) → IsStart l → (events : List LinkEvent) → AllAllowed l events → IsQuietSince (trace l events) (after l events)
-    → IsDelivered (trace l events) Host (number_of (after l events).controller)
+pub quiet_there : (l : Link) → IsStart l → (events : List LinkEvent) → AllAllowed l events → IsQuietSince (trace l events) (after_link_events l events)
+    → IsDeliveredOnLink (trace l events) Host (number_of (after_link_events l events).controller)
 quiet_there l s events a q =
-    let m : Link = after l events in
+    let m : Link = after_link_events l events in
     let t : List Entry = trace l events in
     let n : ℕ = number_of m.controller in
     let P : Talk → Type 0 = λ z. IsRead t Controller n z in

@@ -11,8 +11,8 @@ use Rattle.swp_act.specs.declared.ActEvent.TheVariants.{Take as ActTake}
 use Rattle.shdlc_core.specs.declared.answers.LinkState.{LinkState}
 use Rattle.shdlc_core.specs.declared.answers.LinkState.TheVariants.{Down as IsDown, Waiting as IsWaitingNow, Up as IsUpNow}
 use Rattle.shdlc_core.specs.Machine.{EndState, taken, take_answer, reset_with}
-use Rattle.session_laws.specs.Sessions.{OnWire, Link as CoreLink, Turn as CoreTurn, turned as core_turned, with_ended as core_with_ended, is_rset, is_up, took_with, happens_here as core_happens_here}
-use Rattle.session_laws.specs.Sessions.EndEvent.{Turns as CoreTurns, Deliver as CoreDeliver, Ignore as CoreIgnore, Acts as CoreActs, Lose as CoreLose, Reset as CoreReset}
+use Rattle.session_laws.specs.Sessions.{OnWire, ShdlcLink as CoreLink, ShdlcTurn as CoreTurn, shdlc_turned as core_turned, with_shdlc_ended as core_with_ended, is_rset, is_up, took_with, shdlc_happens_at_controller as core_happens_here}
+use Rattle.session_laws.specs.Sessions.ShdlcEndEvent.{Turns as CoreTurns, Deliver as CoreDeliver, Ignore as CoreIgnore, Acts as CoreActs, Lose as CoreLose, Reset as CoreReset}
 use Rattle.session_laws.specs.Losses.{Losses, is_act, counts_first, noted_all, noted_out, noted_here, noted_turns, came_up}
 use Rattle.link_machine.specs.Machine.{LinkEnd, Turn, turned, is_open, role_after, act_answer, activated, reset_refusal, reset_by, if_up, took, ended_by, began_by, frames_out}
 use Rattle.link_machine.specs.Machine.LinkInput.{Take}

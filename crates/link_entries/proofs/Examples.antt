@@ -10,7 +10,7 @@ use Rattle.swp_act.specs.Activation.{new_clf, new_uicc}
 use Rattle.link_machine.specs.Machine.{Message}
 use Rattle.link_machine.specs.Machine.Role.{Bare, Clf, Uicc}
 use Rattle.link_machine.specs.Machine.Turn.{Give}
-use Rattle.message_link.specs.Links.{Link, EndEvent, Node, LinkEvent, after, new_link}
+use Rattle.message_link.specs.Links.{Link, EndEvent, Node, LinkEvent, after_link_events, new_link}
 use Rattle.message_link.specs.Links.Ending.{GoesOut, CutOff}
 use Rattle.message_link.specs.Links.Comes.{NextFrame, AsksReset, NoInput}
 use Rattle.message_link.specs.Links.Loss.{OnDemand, TooOld}
@@ -19,7 +19,7 @@ use Rattle.message_link.specs.Links.LinkEvent.{AtController, AtHost, Ticks, Acti
 use Rattle.link_entries.specs.Entries.{Entry, entries, trace}
 use Rattle.link_entries.specs.Entries.End.{Controller, Host}
 use Rattle.link_entries.specs.Entries.Entry.{Up, Down, Active, GaveUp, Acked, Got, Sent, Emit, Took, Lost, Tick, Restarted, Cut}
-use Rattle.link_entries.specs.Filters.{sent_in, got_in, acked_in}
+use Rattle.link_entries.specs.Filters.{sent_noted, got_noted, acked_noted}
 use Rattle.link_entries.specs.Quiet.{disturbs, since, IsQuietSince}
 use Rattle.link_entries.specs.Sessions.{session_in}
 use Rattle.link_entries.specs.Settled.{withholds, IsSettledSince}
@@ -139,10 +139,10 @@ cut_in_a_step : drop 16 (entries line cut)
     ∷ Sent Host 1 (1, 5 ∷ []) ∷ Emit Host (I 1 0 (129 ∷ 5 ∷ [])) ∷ []
 cut_in_a_step = refl
 
-cut_got : got_in (trace line cut) Controller 1 ≡ (1, 3 ∷ []) ∷ []
+cut_got : got_noted (trace line cut) Controller 1 ≡ (1, 3 ∷ []) ∷ []
 cut_got = refl
 
-cut_sent : sent_in (trace line cut) Host 1 ≡ (1, 3 ∷ []) ∷ (1, 5 ∷ []) ∷ []
+cut_sent : sent_noted (trace line cut) Host 1 ≡ (1, 3 ∷ []) ∷ (1, 5 ∷ []) ∷ []
 cut_sent = refl
 
 -- activation anew while frames are on their way
@@ -162,7 +162,7 @@ acknowledged_shown : entries bare acknowledged
     ∷ Took Host (S Rr 1) ∷ Acked Host 0 1 ∷ []
 acknowledged_shown = refl
 
-acknowledged_counts : acked_in (trace bare acknowledged) Host 0 ≡ 1
+acknowledged_counts : acked_noted (trace bare acknowledged) Host 0 ≡ 1
 acknowledged_counts = refl
 
 -- the second ACT_READY stands behind an RSET: ACT_POWER_MODE was sent twice
@@ -193,7 +193,7 @@ quiet =
     activates ∷ AtController takes ∷ ticks 10 ++ (AtController takes ∷ AtHost takes ∷ AtHost takes ∷ AtController takes ∷ AtController takes
     ∷ AtController resets ∷ AtHost takes ∷ AtController takes ∷ AtHost (gives (1, 3 ∷ [])) ∷ AtController takes ∷ AtHost takes ∷ [])
 
-quiet_is_quiet : IsQuietSince (trace line quiet) (after line quiet)
+quiet_is_quiet : IsQuietSince (trace line quiet) (after_link_events line quiet)
 quiet_is_quiet = record { controller = refl; host = refl; undisturbed = refl; to_controller = refl; to_host = refl }
 
 -- a message is lost and sent once more
@@ -210,7 +210,7 @@ cut_goes_on : session_in (trace line cut) Host ≡ Some 1
 cut_goes_on = refl
 
 -- a reset at the controller's end, once both ends are active
-settled : IsSettledSince (trace line up) (after line (activates ∷ AtController takes ∷ AtHost takes ∷ AtController takes ∷ [])) (AtController resets)
+settled : IsSettledSince (trace line up) (after_link_events line (activates ∷ AtController takes ∷ AtHost takes ∷ AtController takes ∷ [])) (AtController resets)
     (AtHost takes ∷ AtController takes ∷ [])
 settled =
     record {
@@ -227,8 +227,8 @@ settled_host : session_in (trace line up) Host ≡ Some 1
 settled_host = refl
 
 -- a second reset that crosses the first one, and a loss, withhold its answer
-crossing_withholds : list_any withholds (entries (after bare (AtController resets ∷ [])) (AtHost resets ∷ [])) ≡ true
+crossing_withholds : list_any withholds (entries (after_link_events bare (AtController resets ∷ [])) (AtHost resets ∷ [])) ≡ true
 crossing_withholds = refl
 
-loss_withholds : list_any withholds (entries (after bare (AtHost resets ∷ [])) (AtController (Lose OnDemand) ∷ [])) ≡ true
+loss_withholds : list_any withholds (entries (after_link_events bare (AtHost resets ∷ [])) (AtController (Lose OnDemand) ∷ [])) ≡ true
 loss_withholds = refl

@@ -5,10 +5,10 @@ use Rattle.hcp_packet.specs.Packets.{IsFrontOf}
 use Rattle.link_machine.specs.Machine.{Message, LinkEnd, Refused, Turn, Report, turn, give_refusal}
 use Rattle.link_machine.specs.Machine.Turn.{Give, Hold, FetchMessage, SetAside, Release}
 use Rattle.link_machine.proofs.Sound.{whole_few}
-use Rattle.message_link.specs.Links.{Half, talk_of}
+use Rattle.message_link.specs.Links.{NumberedEnd, talk_of}
 use Rattle.link_entries.specs.Entries.{End, Entry, far, if_so, told, turn_entry, turn_entries, sent_unless}
 use Rattle.link_entries.specs.Entries.Entry.{Up, Down, Active, GaveUp, Acked, Got}
-use Rattle.link_entries.specs.Filters.{sent_in, acked_in}
+use Rattle.link_entries.specs.Filters.{sent_noted, acked_noted}
 use Rattle.link_entries.proofs.Books.{Book, blank, plus, read, read-append, blank-plus, Told, same_far}
 
 -- ## Fronts
@@ -103,13 +103,13 @@ one_turns who k e (t ∷ ts) = one-append who (turn_entry who k e t) (turn_entri
 
 -- as far as it was noted
 abbrev pub Few : List Entry → End → Type 0
-Few t who = (n : ℕ) → acked_in t who n ≤ length (sent_in t who n)
+Few t who = (n : ℕ) → acked_noted t who n ≤ length (sent_noted t who n)
 
 -- at each moment of these entries behind those
 abbrev pub AllFew : List Entry → End → List Entry → Type 0
 AllFew t who u = (p : List Entry) → IsFrontOf p u → Few (t ++ p) who
 
-pub few_told : (t : List Entry) (who : End) (h : Half) → Told t who h → Few t who
+pub few_told : (t : List Entry) (who : End) (h : NumberedEnd) → Told t who h → Few t who
 few_told t who h b n =
     let q = b n in
     let s = ap (λ (z : Book). z.sent) q in
@@ -118,16 +118,16 @@ few_told t who h b n =
     let l = ap (λ (ms : List Message). length ms) s in
     omega (arith, a, l, i)
 
-sent-append : (t u : List Entry) (who : End) (n : ℕ) → sent_in (t ++ u) who n ≡ sent_in t who n ++ sent_in u who n
+sent-append : (t u : List Entry) (who : End) (n : ℕ) → sent_noted (t ++ u) who n ≡ sent_noted t who n ++ sent_noted u who n
 sent-append t u who n = ap (λ (z : Book). z.sent) (read-append t u who n)
 
-acked-append : (t u : List Entry) (who : End) (n : ℕ) → acked_in (t ++ u) who n ≡ max (acked_in t who n) (acked_in u who n)
+acked-append : (t u : List Entry) (who : End) (n : ℕ) → acked_noted (t ++ u) who n ≡ max (acked_noted t who n) (acked_noted u who n)
 acked-append t u who n = ap (λ (z : Book). z.acked) (read-append t u who n)
 
 -- each of these acknowledges nothing
 abbrev pub NoAcked : List Entry → Type 0
 NoAcked [] = Unit {0}
-NoAcked (e ∷ t) = ((who : End) (n : ℕ) → acked_in (e ∷ []) who n ≡ 0) × NoAcked t
+NoAcked (e ∷ t) = ((who : End) (n : ℕ) → acked_noted (e ∷ []) who n ≡ 0) × NoAcked t
 
 pub no_acked-append : (t u : List Entry) → NoAcked t → NoAcked u → NoAcked (t ++ u)
 no_acked-append [] u a b = b
@@ -137,7 +137,7 @@ no_acked_front : (p r : List Entry) → NoAcked (p ++ r) → NoAcked p
 no_acked_front [] r a = tt
 no_acked_front (e ∷ p) r a = (a.0, no_acked_front p r a.1)
 
-no_acked_read : (t : List Entry) → NoAcked t → (who : End) (n : ℕ) → acked_in t who n ≡ 0
+no_acked_read : (t : List Entry) → NoAcked t → (who : End) (n : ℕ) → acked_noted t who n ≡ 0
 no_acked_read [] a who n = refl
 no_acked_read (e ∷ t) a who n = let q = acked-append (e ∷ []) t who n in let z = a.0 who n in let y = no_acked_read t a.1 who n in omega (arith, q, z, y)
 
@@ -147,14 +147,14 @@ few_more t who u f a p q n =
     let none = no_acked_read p (no_acked_front p q.0 (subst P (sym q.1) a)) who n in
     let i = f n in
     let s = ap (λ (ms : List Message). length ms) (sent-append t p who n) in
-    let l = length-append (sent_in t who n) (sent_in p who n) in
+    let l = length-append (sent_noted t who n) (sent_noted p who n) in
     let k = acked-append t p who n in
     omega (arith, none, i, s, l, k)
 
 -- each of these gives no message
 abbrev pub NoSent : List Entry → Type 0
 NoSent [] = Unit {0}
-NoSent (e ∷ t) = ((who : End) (n : ℕ) → sent_in (e ∷ []) who n ≡ []) × NoSent t
+NoSent (e ∷ t) = ((who : End) (n : ℕ) → sent_noted (e ∷ []) who n ≡ []) × NoSent t
 
 pub no_sent-append : (t u : List Entry) → NoSent t → NoSent u → NoSent (t ++ u)
 no_sent-append [] u a b = b
@@ -164,9 +164,9 @@ no_sent_front : (p r : List Entry) → NoSent (p ++ r) → NoSent p
 no_sent_front [] r a = tt
 no_sent_front (e ∷ p) r a = (a.0, no_sent_front p r a.1)
 
-no_sent_read : (t : List Entry) → NoSent t → (who : End) (n : ℕ) → sent_in t who n ≡ []
+no_sent_read : (t : List Entry) → NoSent t → (who : End) (n : ℕ) → sent_noted t who n ≡ []
 no_sent_read [] a who n = refl
-no_sent_read (e ∷ t) a who n = sent-append (e ∷ []) t who n ∙ (ap (λ ms. ms ++ sent_in t who n) (a.0 who n) ∙ no_sent_read t a.1 who n)
+no_sent_read (e ∷ t) a who n = sent-append (e ∷ []) t who n ∙ (ap (λ ms. ms ++ sent_noted t who n) (a.0 who n) ∙ no_sent_read t a.1 who n)
 
 pub few_grown : (t : List Entry) (who : End) (u : List Entry) → Few (t ++ u) who → NoSent u → AllFew t who u
 few_grown t who u f a p q n =
@@ -174,12 +174,12 @@ few_grown t who u f a p q n =
     let mine = no_sent_read p (no_sent_front p q.0 (subst P (sym q.1) a)) who n in
     let all = no_sent_read u a who n in
     let i = f n in
-    let s = ap (λ (ms : List Message). length ms) (sent-append t p who n ∙ ap (λ ms. sent_in t who n ++ ms) mine) in
-    let v = ap (λ (ms : List Message). length ms) (sent-append t u who n ∙ ap (λ ms. sent_in t who n ++ ms) all) in
+    let s = ap (λ (ms : List Message). length ms) (sent-append t p who n ∙ ap (λ ms. sent_noted t who n ++ ms) mine) in
+    let v = ap (λ (ms : List Message). length ms) (sent-append t u who n ∙ ap (λ ms. sent_noted t who n ++ ms) all) in
     let k = acked-append t p who n in
     let m = acked-append t u who n in
     let w = acked-append p q.0 who n in
-    let x = ap (λ z. acked_in z who n) q.1 in
+    let x = ap (λ z. acked_noted z who n) q.1 in
     omega (arith, i, s, v, k, m, w, x)
 
 pub few_then : (t : List Entry) (who : End) (u v : List Entry) → AllFew t who u → AllFew (t ++ u) who v → AllFew t who (u ++ v)
@@ -193,11 +193,11 @@ few_then t who u v a b p f = go (front_parts p u v f)
     go (inr g) = subst P (append_assoc t u g.0 ∙ ap (λ z. t ++ z) (sym g.1)) (b g.0 g.2)
 
 -- what is told gives no message
-no_sent_so : (b : Bool) (e : Entry) → ((who : End) (n : ℕ) → sent_in (e ∷ []) who n ≡ []) → NoSent (if_so b e)
+no_sent_so : (b : Bool) (e : Entry) → ((who : End) (n : ℕ) → sent_noted (e ∷ []) who n ≡ []) → NoSent (if_so b e)
 no_sent_so false e p = tt
 no_sent_so true e p = (p, tt)
 
-no_sent_option : {A : Type 0} (f : A → Entry) (o : Option A) → ((x : A) (who : End) (n : ℕ) → sent_in (f x ∷ []) who n ≡ []) → NoSent (map f (option_to_list o))
+no_sent_option : {A : Type 0} (f : A → Entry) (o : Option A) → ((x : A) (who : End) (n : ℕ) → sent_noted (f x ∷ []) who n ≡ []) → NoSent (map f (option_to_list o))
 no_sent_option f None p = tt
 no_sent_option f (Some x) p = (p x, tt)
 

@@ -1,10 +1,10 @@
 -- What is noted of a link says which session each end has.
 use Rattle.std.proofs.Common.{◌≡◌, ℕ, List, [], ◌∷◌, ◌++◌, Option, Some, None, refl, ap, sym, subst, ◌∙◌}
-use Rattle.session_laws.specs.Sessions.{Link as CoreLink, Turn as CoreTurn, EndEvent as CoreEndEvent, aged as core_aged, ticks_or_cut as core_ticks_or_cut, ticks_if_waiting as core_ticks_if_waiting}
+use Rattle.session_laws.specs.Sessions.{ShdlcLink as CoreLink, ShdlcTurn as CoreTurn, ShdlcEndEvent as CoreEndEvent, shdlc_aged as core_aged, ticks_or_cut as core_ticks_or_cut, ticks_if_waiting as core_ticks_if_waiting}
 use Rattle.session_laws.proofs.Sending.{SafeLink}
 use Rattle.session_laws.proofs.Steps.{safe_aged, safe_turns, safe_exchanged, tick_or_cut, tick_if_waiting}
 use Rattle.link_machine.proofs.Runs.{Sound}
-use Rattle.message_link.specs.Links.{Half, Link, IsStart, EndEvent, LinkEvent, number_of, exchanged, happens_here, happens, all_here, ticks_here, aged, after, CanStart, IsUicc, IsNode, AreOwn, IsEvent, AllAllowed}
+use Rattle.message_link.specs.Links.{NumberedEnd, Link, IsStart, EndEvent, LinkEvent, number_of, exchanged, happens_at_controller, happens, all_at_controller, ticks_at_controller, aged, after_link_events, CanStart, IsUicc, IsNode, AreOwn, IsEvent, AllAllowed}
 use Rattle.message_link.specs.Links.IsStart.{IsBare, IsLine}
 use Rattle.message_link.specs.Links.Comes.{Starts}
 use Rattle.message_link.specs.Links.EndEvent.{Step}
@@ -14,12 +14,12 @@ use Rattle.message_link.proofs.Project.{Tells}
 use Rattle.message_link.proofs.Finishing.{step_tick}
 use Rattle.message_link.proofs.Runs.{Good, Reached, safe_reached, rests_of, reached_more, event_step, step_here, own_here, own_turns, all_step, rest_both, tells_same, started_clf, clf_starts, can_start}
 use Rattle.message_link.proofs.Whole.{start_good, start_reached}
-use Rattle.link_entries.specs.Entries.{End, Entry, here_entries, all_entries, aged_entries, tick_entries, event_entries, entries, first_entries, trace}
+use Rattle.link_entries.specs.Entries.{End, Entry, here_entries, entries_of_events, aged_entries, tick_entries, event_entries, entries, first_entries, trace}
 use Rattle.link_entries.specs.Entries.End.{Controller, Host}
 use Rattle.link_entries.specs.Entries.Entry.{Tick}
 use Rattle.link_entries.specs.Reading.{Seen}
-use Rattle.link_entries.specs.Sessions.{session_in, session_now}
-use Rattle.link_entries.specs.Settled.{IsSettledSince, AreUpTogether}
+use Rattle.link_entries.specs.Sessions.{session_in, number_now}
+use Rattle.link_entries.specs.Settled.{IsSettledSince, AreNotedUpTogether}
 use Rattle.link_entries.proofs.Noting.{sound_tick}
 use Rattle.link_entries.proofs.Running.{Sounds, Noted, before_here, before_there, host_here, sound_here, note_event, start_noted}
 use Rattle.link_entries.proofs.Hearing.{up_session, heard, heard-append, passes-append, passes_aged, Heard, tick_heard, own_heard, here_heard}
@@ -28,28 +28,28 @@ use Rattle.link_entries.proofs.Ages.{read_off}
 
 -- what is noted as l becomes m says the sessions of both ends
 record BothHeard (l m : Link) (u : List Entry) : Type 0 where
-  controller : heard Controller (session_now l.controller) u ≡ session_now m.controller
-  host : heard Host (session_now l.host) u ≡ session_now m.host
+  controller : heard Controller (number_now l.controller) u ≡ number_now m.controller
+  host : heard Host (number_now l.host) u ≡ number_now m.host
 
 -- one part after another
 then_heard : (who : End) (x y z : Option ℕ) (u v : List Entry) → heard who x u ≡ y → heard who y v ≡ z → heard who x (u ++ v) ≡ z
 then_heard who x y z u v p q = heard-append who x u v ∙ (ap (λ s. heard who s v) p ∙ q)
 
 all_heard : (kf : ℕ) (es : List EndEvent) (l : Link) → AreOwn l es → Tells l.controller → SafeLink 0 kf (core_of l) → Sound l.controller.side
-    → Heard Controller l (all_here l es) (all_entries Controller l es)
+    → Heard Controller l (all_at_controller l es) (entries_of_events Controller l es)
 all_heard kf [] l a h safe sound = record { here = refl; there = λ s. refl }
 all_heard kf (e ∷ es) l a h safe sound =
     let r = rests_of 0 kf (core_of l) safe in
     let one = own_here l e a.0 a.1 h r in
-    let m : Link = happens_here l e in
+    let m : Link = happens_at_controller l e in
     let P : CoreLink → Type 0 = λ c. SafeLink 0 kf c in
     let next : SafeLink 0 kf (core_of m) = subst P (sym one.core) (safe_turns kf (core_here l e) (core_of l) (own_turns l e r a.0 a.1) safe) in
     let u : List Entry = here_entries Controller l e in
-    let v : List Entry = all_entries Controller m es in
+    let v : List Entry = entries_of_events Controller m es in
     let first = own_heard Controller l e a.0 a.1 (record { tells = h; rests = r; sound = sound }) in
     let more = all_heard kf es m a.2 one.tells next (sound_here l e a.1 sound) in
     record {
-      here = then_heard Controller (session_now l.controller) (session_now m.controller) (session_now (all_here m es).controller) u v first.here more.here;
+      here = then_heard Controller (number_now l.controller) (number_now m.controller) (number_now (all_at_controller m es).controller) u v first.here more.here;
       there = passes-append Host u v first.there more.there;
     }
 
@@ -67,18 +67,18 @@ starts who x l rest =
 event_heard : (l : Link) (e : LinkEvent) → IsEvent l e → Good l → Reached (core_of l) → Sounds l → BothHeard l (happens l e) (event_entries l e)
 event_heard l (AtController e) a g r s =
     let h = here_heard Controller l e a (before_here l g r s) in
-    record { controller = h.here; host = h.there (session_now l.host) ∙ sym (ap session_now (host_here l e a g r)) }
+    record { controller = h.here; host = h.there (number_now l.host) ∙ sym (ap number_now (host_here l e a g r)) }
 event_heard l (AtHost e) a g r s =
     let k : Link = exchanged l in
     let b = before_there l g r s in
     let h = here_heard Host k e a b in
-    let host : (happens_here k e).host ≡ k.host = (step_here k e a b.tells b.host b.calm (rests_of 0 0 (core_of k) b.safe) b.from).host in
-    record { controller = h.there (session_now l.controller) ∙ sym (ap session_now host); host = h.here }
+    let host : (happens_at_controller k e).host ≡ k.host = (step_here k e a b.tells b.host b.calm (rests_of 0 0 (core_of k) b.safe) b.from).host in
+    record { controller = h.there (number_now l.controller) ∙ sym (ap number_now host); host = h.here }
 event_heard l (Ticks c es h) a g r s =
     let s0 = safe_aged (core_of l) (safe_reached (core_of l) r) in
     let old : Link = aged l in
     let rests = rests_of 1 1 (core_of old) s0 in
-    let near : Link = ticks_here old c.turns c.ending in
+    let near : Link = ticks_at_controller old c.turns c.ending in
     let one = step_tick old c.turns c.ending a.0.0 a.0.1 g.controller rests in
     let t1 : Option (List CoreTurn) = core_tick l.controller.side c.turns c.ending in
     let rest : List CoreEndEvent = core_tick_rest l.controller.side c.turns c.ending in
@@ -87,29 +87,29 @@ event_heard l (Ticks c es h) a g r s =
     let near_safe : SafeLink 0 1 (core_of near) =
     subst P (sym one.core) (safe_turns 1 rest first (rest_both l.controller.side c.turns c.ending).turns (tick_or_cut 1 t1 (core_aged (core_of l)) s0)) in
     let all = all_step 1 near es a.1 one.tells near_safe in
-    let m : Link = all_here near es in
+    let m : Link = all_at_controller near es in
     let m_safe : SafeLink 0 1 (core_of m) = subst P (sym all.step.core) (safe_turns 1 (core_all near es) (core_of near) all.turns near_safe) in
     let host_is : m.host ≡ l.host = all.step.host ∙ one.host in
-    let H : Half → Type 0 = λ z. Sound z.side in
+    let H : NumberedEnd → Type 0 = λ z. Sound z.side in
     let m_rests = rests_of 1 0 (core_of (exchanged m)) (safe_exchanged 0 1 (core_of m) m_safe) in
-    let k : Link = ticks_here (exchanged m) h.turns h.ending in
+    let k : Link = ticks_at_controller (exchanged m) h.turns h.ending in
     let cs : List Entry = tick_entries Controller old c in
-    let ds : List Entry = all_entries Controller near es in
+    let ds : List Entry = entries_of_events Controller near es in
     let fs : List Entry = tick_entries Host (exchanged m) h in
     let x = tick_heard Controller old c a.0 (record { tells = g.controller; rests = rests; sound = s.controller }) in
     let y = all_heard 1 es near a.1 one.tells near_safe (sound_tick old c a.0 s.controller) in
     let z = tick_heard Host (exchanged m) h a.2
     (record { tells = tells_same m.host l.host host_is g.host; rests = m_rests; sound = subst H (sym host_is) s.host }) in
-    let here : Option ℕ = session_now l.controller in
-    let there : Option ℕ = session_now l.host in
+    let here : Option ℕ = number_now l.controller in
+    let there : Option ℕ = number_now l.host in
     record {
       controller = starts Controller here l (cs ++ (ds ++ fs))
-          ∙ then_heard Controller here (session_now near.controller) (session_now k.host) cs (ds ++ fs) x.here
-          (then_heard Controller (session_now near.controller) (session_now m.controller) (session_now k.host) ds fs y.here
-          (z.there (session_now m.controller) ∙ sym (ap session_now (ticks_host (exchanged m) h.turns h.ending))));
+          ∙ then_heard Controller here (number_now near.controller) (number_now k.host) cs (ds ++ fs) x.here
+          (then_heard Controller (number_now near.controller) (number_now m.controller) (number_now k.host) ds fs y.here
+          (z.there (number_now m.controller) ∙ sym (ap number_now (ticks_host (exchanged m) h.turns h.ending))));
       host = starts Host there l (cs ++ (ds ++ fs))
-          ∙ then_heard Host there there (session_now k.controller) cs (ds ++ fs) (x.there there)
-          (then_heard Host there (session_now m.host) (session_now k.controller) ds fs (y.there there ∙ sym (ap session_now host_is)) z.here);
+          ∙ then_heard Host there there (number_now k.controller) cs (ds ++ fs) (x.there there)
+          (then_heard Host there (number_now m.host) (number_now k.controller) ds fs (y.there there ∙ sym (ap number_now host_is)) z.here);
     }
 event_heard l (TicksWithout es h) a g r s =
     let s0 = safe_aged (core_of l) (safe_reached (core_of l) r) in
@@ -119,59 +119,59 @@ event_heard l (TicksWithout es h) a g r s =
     let P : CoreLink → Type 0 = λ d. SafeLink 0 1 d in
     let near_safe : SafeLink 0 1 (core_of near) = subst P kept (tick_if_waiting 1 (core_aged (core_of l)) s0) in
     let all = all_step 1 near es a.1 g.controller near_safe in
-    let m : Link = all_here near es in
+    let m : Link = all_at_controller near es in
     let m_safe : SafeLink 0 1 (core_of m) = subst P (sym all.step.core) (safe_turns 1 (core_all near es) (core_of near) all.turns near_safe) in
     let host_is : m.host ≡ l.host = all.step.host in
-    let H : Half → Type 0 = λ z. Sound z.side in
+    let H : NumberedEnd → Type 0 = λ z. Sound z.side in
     let m_rests = rests_of 1 0 (core_of (exchanged m)) (safe_exchanged 0 1 (core_of m) m_safe) in
-    let k : Link = ticks_here (exchanged m) h.turns h.ending in
-    let ds : List Entry = all_entries Controller near es in
+    let k : Link = ticks_at_controller (exchanged m) h.turns h.ending in
+    let ds : List Entry = entries_of_events Controller near es in
     let fs : List Entry = tick_entries Host (exchanged m) h in
     let y = all_heard 1 es near a.1 g.controller near_safe s.controller in
     let z = tick_heard Host (exchanged m) h a.2
     (record { tells = tells_same m.host l.host host_is g.host; rests = m_rests; sound = subst H (sym host_is) s.host }) in
-    let here : Option ℕ = session_now l.controller in
-    let there : Option ℕ = session_now l.host in
+    let here : Option ℕ = number_now l.controller in
+    let there : Option ℕ = number_now l.host in
     record {
       controller = starts Controller here l (ds ++ fs)
-          ∙ then_heard Controller here (session_now m.controller) (session_now k.host) ds fs y.here
-          (z.there (session_now m.controller) ∙ sym (ap session_now (ticks_host (exchanged m) h.turns h.ending)));
+          ∙ then_heard Controller here (number_now m.controller) (number_now k.host) ds fs y.here
+          (z.there (number_now m.controller) ∙ sym (ap number_now (ticks_host (exchanged m) h.turns h.ending)));
       host = starts Host there l (ds ++ fs)
-          ∙ then_heard Host there (session_now m.host) (session_now k.controller) ds fs (y.there there ∙ sym (ap session_now host_is)) z.here;
+          ∙ then_heard Host there (number_now m.host) (number_now k.controller) ds fs (y.there there ∙ sym (ap number_now host_is)) z.here;
     }
 event_heard l (Activate power c id h) a g r s =
     let x : EndEvent = Step (Starts power) c.turns c.ending in
     let y : EndEvent = Step (Starts id) h.turns h.ending in
-    let near : Link = happens_here l x in
+    let near : Link = happens_at_controller l x in
     let k : Link = exchanged near in
     let clf : CanStart l.controller.side.role l.host.side.role = clf_starts l.controller.side.role l.host.side.role a.0 in
     let one = event_step l (AtController x) (clf, a.2) g r in
     let next : Reached (core_of near) = subst Reached (sym one.core) (reached_more (core_of l) (core_event l (AtController x)) one.allowed r) in
     let host : near.host ≡ l.host = host_here l x (clf, a.2) g r in
-    let Q : Half → Type 0 = λ z. IsUicc z.side.role × IsNode (exchanged (record l { host = z })) h.turns h.ending in
+    let Q : NumberedEnd → Type 0 = λ z. IsUicc z.side.role × IsNode (exchanged (record l { host = z })) h.turns h.ending in
     let there : Q near.host = subst Q (sym host) (a.1, a.3) in
     let can : CanStart near.host.side.role near.controller.side.role =
     can_start near.host.side.role near.controller.side.role there.0 (started_clf l power c.turns c.ending a.0) in
-    let H : Half → Type 0 = λ z. Sound z.side in
+    let H : NumberedEnd → Type 0 = λ z. Sound z.side in
     let sounds : Sounds near = record { controller = sound_here l x (clf, a.2) s.controller; host = subst H (sym host) s.host } in
     let u : List Entry = here_entries Controller l x in
     let v : List Entry = here_entries Host k y in
     let b = before_there near one.good next sounds in
     let first = here_heard Controller l x (clf, a.2) (before_here l g r s) in
     let second = here_heard Host k y (can, there.1) b in
-    let m : Link = happens_here k y in
+    let m : Link = happens_at_controller k y in
     let last : m.host ≡ k.host = (step_here k y (can, there.1) b.tells b.host b.calm (rests_of 0 0 (core_of k) b.safe) b.from).host in
     record {
-      controller = then_heard Controller (session_now l.controller) (session_now near.controller) (session_now m.host) u v first.here
-          (second.there (session_now near.controller) ∙ sym (ap session_now last));
-      host = then_heard Host (session_now l.host) (session_now near.host) (session_now m.controller) u v
-          (first.there (session_now l.host) ∙ sym (ap session_now host)) second.here;
+      controller = then_heard Controller (number_now l.controller) (number_now near.controller) (number_now m.host) u v first.here
+          (second.there (number_now near.controller) ∙ sym (ap number_now last));
+      host = then_heard Host (number_now l.host) (number_now near.host) (number_now m.controller) u v
+          (first.there (number_now l.host) ∙ sym (ap number_now host)) second.here;
     }
 
 -- ## Runs
 
 events_heard : (es : List LinkEvent) (t : List Entry) (l : Link) → AllAllowed l es → Good l → Reached (core_of l) → Noted t l
-    → BothHeard l (after l es) (entries l es)
+    → BothHeard l (after_link_events l es) (entries l es)
 events_heard [] t l a g r n = record { controller = refl; host = refl }
 events_heard (e ∷ es) t l a g r n =
     let m : Link = happens l e in
@@ -182,39 +182,39 @@ events_heard (e ∷ es) t l a g r n =
     let one = event_heard l e a.0 g r n.sounds in
     let more = events_heard es (t ++ u) m a.1 st.good next (note_event t l e a.0 g r n).noted in
     record {
-      controller = then_heard Controller (session_now l.controller) (session_now m.controller) (session_now (after m es).controller) u v one.controller
+      controller = then_heard Controller (number_now l.controller) (number_now m.controller) (number_now (after_link_events m es).controller) u v one.controller
           more.controller;
-      host = then_heard Host (session_now l.host) (session_now m.host) (session_now (after m es).host) u v one.host more.host;
+      host = then_heard Host (number_now l.host) (number_now m.host) (number_now (after_link_events m es).host) u v one.host more.host;
     }
 
 first_heard : (l : Link) → IsStart l
-    → (heard Controller None (first_entries l.controller.side.role) ≡ session_now l.controller) × (heard Host None (first_entries l.controller.side.role) ≡ session_now l.host)
+    → (heard Controller None (first_entries l.controller.side.role) ≡ number_now l.controller) × (heard Host None (first_entries l.controller.side.role) ≡ number_now l.host)
 first_heard l IsBare = (refl, refl)
 first_heard l IsLine = (refl, refl)
 
-both_heard : (l : Link) → IsStart l → (events : List LinkEvent) → AllAllowed l events → BothHeard l (after l events) (entries l events)
+both_heard : (l : Link) → IsStart l → (events : List LinkEvent) → AllAllowed l events → BothHeard l (after_link_events l events) (entries l events)
 both_heard l s events a =
     events_heard events (first_entries l.controller.side.role) l a (start_good l s) (start_reached l s) (start_noted l s)
 
 pub controller_heard : (l : Link) → IsStart l → (events : List LinkEvent) → AllAllowed l events
-    → session_in (trace l events) Controller ≡ session_now (after l events).controller
+    → session_in (trace l events) Controller ≡ number_now (after_link_events l events).controller
 controller_heard l s events a =
-    then_heard Controller None (session_now l.controller) (session_now (after l events).controller) (first_entries l.controller.side.role) (entries l events)
+    then_heard Controller None (number_now l.controller) (number_now (after_link_events l events).controller) (first_entries l.controller.side.role) (entries l events)
     (first_heard l s).0 (both_heard l s events a).controller
 
-pub host_heard : (l : Link) → IsStart l → (events : List LinkEvent) → AllAllowed l events → session_in (trace l events) Host ≡ session_now (after l events).host
+pub host_heard : (l : Link) → IsStart l → (events : List LinkEvent) → AllAllowed l events → session_in (trace l events) Host ≡ number_now (after_link_events l events).host
 host_heard l s events a =
-    then_heard Host None (session_now l.host) (session_now (after l events).host) (first_entries l.controller.side.role) (entries l events)
+    then_heard Host None (number_now l.host) (number_now (after_link_events l events).host) (first_entries l.controller.side.role) (entries l events)
     (first_heard l s).1 (both_heard l s events a).host
 
 -- ## A reset
 
 -- both ends are up with one number, as it is noted
 pub settled : (l : Link) → IsStart l → (before : List LinkEvent) (reset : LinkEvent) (behind : List LinkEvent) → AllAllowed l (before ++ reset ∷ behind)
-    → IsSettledSince (trace l (before ++ reset ∷ behind)) (after l before) reset behind → AreUpTogether (trace l (before ++ reset ∷ behind))
+    → IsSettledSince (trace l (before ++ reset ∷ behind)) (after_link_events l before) reset behind → AreNotedUpTogether (trace l (before ++ reset ∷ behind))
 settled l s before reset behind a q =
     let es : List LinkEvent = before ++ reset ∷ behind in
-    let m : Link = after l es in
+    let m : Link = after_link_events l es in
     let seen = read_off l s es in
     let up = together l s before reset behind a q.asked q.undisturbed (sym (ap (λ (z : Seen). z.to_controller) seen) ∙ q.to_controller)
     (sym (ap (λ (z : Seen). z.to_host) seen) ∙ q.to_host) in

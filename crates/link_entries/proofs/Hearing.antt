@@ -15,7 +15,7 @@ use Rattle.link_machine.specs.Machine.Turn.{Give, Hold, FetchMessage, SetAside, 
 use Rattle.link_machine.proofs.Shifts.{Shift, IsNotUp}
 use Rattle.link_machine.proofs.Shifts.Shift.{Stays, Ends, Renews, Begins, Rests as ShiftRests}
 use Rattle.link_machine.proofs.Reports.{Reports, take_so, tick_so, reset_so, start_so, stop_so}
-use Rattle.message_link.specs.Links.{Half, Link, Loss, Ending, Node, EndEvent, number_of, put, becomes, silent, finished, with_ended, has_taken, happens_here, ticks_here, CanEnd, IsNode, IsAllowed, IsOwn}
+use Rattle.message_link.specs.Links.{NumberedEnd, Link, Loss, Ending, Node, EndEvent, number_of, put, becomes, silent, finished, with_ended, has_taken, happens_at_controller, ticks_at_controller, CanEnd, IsNode, IsAllowed, IsOwn}
 use Rattle.message_link.specs.Links.Ending.{GoesOut, CutOff}
 use Rattle.message_link.specs.Links.Comes.{NextFrame, AsksReset, Starts, Stops, NoInput}
 use Rattle.message_link.specs.Links.EndEvent.{Step, Lose}
@@ -26,7 +26,7 @@ use Rattle.message_link.specs.Links.Loss.{TooMany}
 use Rattle.message_link.proofs.Ends.{frames_alike}
 use Rattle.link_entries.specs.Entries.{End, Entry, far, if_so, told, told_of, turn_entry, turn_entries, sent_unless, first_lost, wire_with, put_entries, puts_entries, rest_entries, input_entries, restart_entries, step_entries, here_entries, tick_entries, left_after, taken_entries, aged_entries}
 use Rattle.link_entries.specs.Entries.Entry.{Up, Down, Active, GaveUp, Acked, Got, Cut}
-use Rattle.link_entries.specs.Sessions.{hear, session_now}
+use Rattle.link_entries.specs.Sessions.{hear, number_now}
 use Rattle.link_entries.proofs.Books.{same_self, same_far, with_side}
 use Rattle.link_entries.proofs.Stepping.{puts_number}
 use Rattle.link_entries.proofs.Noting.{turned_same, IsQuietEnd, quiet_idle, quiet_reset, quiet_tick, not_up_quiet, restarted_down, Near, Frame, Frames, ended_number, reset_role, restart_can, tick_can}
@@ -36,19 +36,19 @@ use Rattle.link_entries.proofs.Running.{Before, frame_facts}
 
 -- ## Sessions
 
-pub up_session : (h : Half) → h.side.shdlc.phase ≡ IsUpNow → session_now h ≡ Some (number_of h)
+pub up_session : (h : NumberedEnd) → h.side.shdlc.phase ≡ IsUpNow → number_now h ≡ Some (number_of h)
 up_session h p = rw p refl
 
-pub down_session : (h : Half) → IsNotUp h.side.shdlc → session_now h ≡ None
+pub down_session : (h : NumberedEnd) → IsNotUp h.side.shdlc → number_now h ≡ None
 down_session h down = go h.side.shdlc.phase refl
   where
-    go : (p : LinkState) → h.side.shdlc.phase ≡ p → session_now h ≡ None
+    go : (p : LinkState) → h.side.shdlc.phase ≡ p → number_now h ≡ None
     go IsUpNow p = absurd (down p)
     go IsWaitingNow p = rw p refl
     go IsDown p = rw p refl
 
 -- an end that has a session is up, and this is its number
-pub session_up : (h : Half) (n : ℕ) → session_now h ≡ Some n → (h.side.shdlc.phase ≡ IsUpNow) × (number_of h ≡ n)
+pub session_up : (h : NumberedEnd) (n : ℕ) → number_now h ≡ Some n → (h.side.shdlc.phase ≡ IsUpNow) × (number_of h ≡ n)
 session_up h n q = go h.side.shdlc.phase refl
   where
     go : (p : LinkState) → h.side.shdlc.phase ≡ p → (h.side.shdlc.phase ≡ IsUpNow) × (number_of h ≡ n)
@@ -57,11 +57,11 @@ session_up h n q = go h.side.shdlc.phase refl
     go IsDown p = absurd (let z : None ≡ Some n = rw p at q in cc)
 
 -- two ends in the same phase with the same number
-same_session : (a b : Half) → a.side.shdlc.phase ≡ b.side.shdlc.phase → (b.side.shdlc.phase ≡ IsUpNow → number_of a ≡ number_of b)
-    → session_now a ≡ session_now b
+same_session : (a b : NumberedEnd) → a.side.shdlc.phase ≡ b.side.shdlc.phase → (b.side.shdlc.phase ≡ IsUpNow → number_of a ≡ number_of b)
+    → number_now a ≡ number_now b
 same_session a b p n = go b.side.shdlc.phase refl
   where
-    go : (y : LinkState) → b.side.shdlc.phase ≡ y → session_now a ≡ session_now b
+    go : (y : LinkState) → b.side.shdlc.phase ≡ y → number_now a ≡ number_now b
     go IsUpNow q = up_session a (p ∙ q) ∙ (ap (λ m. Some m) (n q) ∙ sym (up_session b q))
     go IsWaitingNow q = down_session a (λ u. let z = sym (p ∙ q) ∙ u in cc) ∙ sym (down_session b (λ u. let z = sym q ∙ u in cc))
     go IsDown q = down_session a (λ u. let z = sym (p ∙ q) ∙ u in cc) ∙ sym (down_session b (λ u. let z = sym q ∙ u in cc))
@@ -136,8 +136,8 @@ heard_told who n r acked s =
     ∙ (passes_told_rest who who n r acked (heard who first (if_so r.began (Up who n))) ∙ heard_up who r.began n first)))
 
 -- what becomes of the session of h as it becomes k
-shifted : (h k : Half) (ended began : Bool) → Shift h.side.shdlc k.side.shdlc ended began
-    → (h.side.shdlc.phase ≡ IsUpNow → ended ≡ false → number_of k ≡ number_of h) → after_told ended began (number_of k) (session_now h) ≡ session_now k
+shifted : (h k : NumberedEnd) (ended began : Bool) → Shift h.side.shdlc k.side.shdlc ended began
+    → (h.side.shdlc.phase ≡ IsUpNow → ended ≡ false → number_of k ≡ number_of h) → after_told ended began (number_of k) (number_now h) ≡ number_now k
 shifted h k ended began (Stays p q g) same =
     rw (p, q) (up_session h g.was ∙ (ap (λ m. Some m) (sym (same g.was p)) ∙ sym (up_session k g.is)))
 shifted h k ended began (Ends p q up still s) same = rw (p, q) (sym (down_session k still))
@@ -199,7 +199,7 @@ rest_far who l e ts CutOff =
 
 -- a step without an input keeps the session
 rest_session : (l : Link) (e : LinkEnd) (ts : List Turn) → IsQuietEnd e ts
-    → session_now (becomes l (turned e ts)).controller ≡ session_now (with_side l.controller e)
+    → number_now (becomes l (turned e ts)).controller ≡ number_now (with_side l.controller e)
 rest_session l e ts quiet =
     let f : LinkEnd = turned e ts in
     same_session (becomes l f).controller (with_side l.controller e) ((frames_alike most_frames f.shdlc).phase ∙ turned_same ts e)
@@ -207,10 +207,10 @@ rest_session l e ts quiet =
 
 -- turns of the node of an end that is e by now, and how the step ends
 rest_heard : (who : End) (l : Link) (e : LinkEnd) (ts : List Turn) (ending : Ending) → IsQuietEnd e ts → CanEnd (turned e ts).role ending
-    → heard who (session_now (with_side l.controller e)) (rest_entries who l e ts ending) ≡ session_now (finished l (turned e ts) ending).controller
-rest_heard who l e ts GoesOut quiet can = passes_out who who l e ts (session_now (with_side l.controller e)) ∙ sym (rest_session l e ts quiet)
+    → heard who (number_now (with_side l.controller e)) (rest_entries who l e ts ending) ≡ number_now (finished l (turned e ts) ending).controller
+rest_heard who l e ts GoesOut quiet can = passes_out who who l e ts (number_now (with_side l.controller e)) ∙ sym (rest_session l e ts quiet)
 rest_heard who l e ts CutOff quiet can =
-    let s : Option ℕ = session_now (with_side l.controller e) in
+    let s : Option ℕ = number_now (with_side l.controller e) in
     let us : List Entry = turn_entries who (number_of l.controller) e ts in
     let last : heard who s (Cut who ∷ []) ≡ None = let q = same_self who in rw q refl in
     heard-append who s us (Cut who ∷ [])
@@ -221,7 +221,7 @@ rest_heard who l e ts CutOff quiet can =
 
 -- a step tells the session of its end, and nothing of the other end
 pub record Heard (who : End) (l m : Link) (u : List Entry) : Type 0 where
-  pub here : heard who (session_now l.controller) u ≡ session_now m.controller
+  pub here : heard who (number_now l.controller) u ≡ number_now m.controller
   pub there : Passes (far who) u
 
 -- an input of the end, which has taken an RSET with the number `took` then, and what follows it
@@ -234,15 +234,15 @@ input_heard : (who : End) (l k : Link) (took : ℕ) (i : LinkInput) (ts : List T
 input_heard who l k took i ts ending so number same quiet can =
     let e : LinkEnd = l.controller.side in
     let f : LinkEnd = after_input e i in
-    let h : Half = record l.controller { took = took } in
+    let h : NumberedEnd = record l.controller { took = took } in
     let us : List Entry = told who (number_of h) (report e i) (whole_acked f) in
     let vs : List Entry = rest_entries who k f ts ending in
-    let now : heard who (session_now l.controller) us ≡ session_now (with_side k.controller f) =
-    heard_told who (number_of h) (report e i) (whole_acked f) (session_now l.controller)
+    let now : heard who (number_now l.controller) us ≡ number_now (with_side k.controller f) =
+    heard_told who (number_of h) (report e i) (whole_acked f) (number_now l.controller)
     ∙ (shifted l.controller (with_side h f) (is_some (ended_by e i)) (began_by e i) so.shift same
     ∙ same_session (with_side h f) (with_side k.controller f) refl (λ up. sym number)) in
     record {
-      here = heard-append who (session_now l.controller) us vs ∙ (ap (λ z. heard who z vs) now ∙ rest_heard who k f ts ending quiet can);
+      here = heard-append who (number_now l.controller) us vs ∙ (ap (λ z. heard who z vs) now ∙ rest_heard who k f ts ending quiet can);
       there = passes-append (far who) us vs (passes_told who (number_of h) (report e i) (whole_acked f)) (rest_far who k f ts ending);
     }
 
@@ -256,7 +256,7 @@ own_input_heard who l i ts ending so quiet can =
     input_heard who l (with_ended l b) l.controller.took i ts ending so (ended_number l b) (λ up q. refl) quiet can
 
 pub tick_heard : (who : End) (l : Link) (node : Node) → IsNode l node.turns node.ending → Near l
-    → Heard who l (ticks_here l node.turns node.ending) (tick_entries who l node)
+    → Heard who l (ticks_at_controller l node.turns node.ending) (tick_entries who l node)
 tick_heard who l node a n =
     own_input_heard who l HasTick node.turns node.ending (tick_so l.controller.side n.sound) (quiet_tick l node.turns a.0 n.tells n.rests)
     (tick_can l.controller.side node.turns node.ending a.1)
@@ -288,7 +288,7 @@ taken_heard who l x xs ts ending can n fr =
     number true = refl
 
 -- a step that takes no frame
-pub own_heard : (who : End) (l : Link) (e : EndEvent) → IsOwn e → IsAllowed l e → Near l → Heard who l (happens_here l e) (here_entries who l e)
+pub own_heard : (who : End) (l : Link) (e : EndEvent) → IsOwn e → IsAllowed l e → Near l → Heard who l (happens_at_controller l e) (here_entries who l e)
 own_heard who l (Lose why) o a n = absurd o
 own_heard who l (Step NextFrame ts ending) o a n = absurd o
 own_heard who l (Step (AsksReset window) ts ending) o a n =
@@ -308,11 +308,11 @@ own_heard who l (Step NoInput ts ending) o a n =
     }
 
 frame_heard : (who : End) (l : Link) (ts : List Turn) (ending : Ending) → CanEnd l.controller.side.role ending → Near l → Frames l ts
-    → Heard who l (happens_here l (Step NextFrame ts ending)) (step_entries who l NextFrame ts ending)
+    → Heard who l (happens_at_controller l (Step NextFrame ts ending)) (step_entries who l NextFrame ts ending)
 frame_heard who l ts ending can n frames = go l.to_controller refl
   where
     m : Link
-    m = happens_here l (Step NextFrame ts ending)
+    m = happens_at_controller l (Step NextFrame ts ending)
 
     u : List Entry
     u = step_entries who l NextFrame ts ending
@@ -332,15 +332,15 @@ frame_heard who l ts ending can n frames = go l.to_controller refl
         let Q : List Entry → Type 0 = λ z. Heard who l (has_taken l x xs ts ending) z in
         subst P (sym next) (subst Q (sym some) (taken_heard who l x xs ts ending can n (frames x xs q)))
 
-pub here_heard : (who : End) (l : Link) (e : EndEvent) → IsAllowed l e → Before l → Heard who l (happens_here l e) (here_entries who l e)
+pub here_heard : (who : End) (l : Link) (e : EndEvent) → IsAllowed l e → Before l → Heard who l (happens_at_controller l e) (here_entries who l e)
 here_heard who l e a b = go e a
   where
     near : Near l
     near = record { tells = b.tells; rests = rests_of 0 0 (core_of l) b.safe; sound = b.sound }
 
-    go : (e : EndEvent) → IsAllowed l e → Heard who l (happens_here l e) (here_entries who l e)
+    go : (e : EndEvent) → IsAllowed l e → Heard who l (happens_at_controller l e) (here_entries who l e)
     go (Lose why) a =
-        record { here = passes_lost who who why l.to_controller (session_now l.controller); there = passes_lost (far who) who why l.to_controller }
+        record { here = passes_lost who who why l.to_controller (number_now l.controller); there = passes_lost (far who) who why l.to_controller }
     go (Step NextFrame ts ending) a = frame_heard who l ts ending a.1.1 near (frame_facts l ts a.1.0 b)
     go (Step (AsksReset window) ts ending) a = own_heard who l (Step (AsksReset window) ts ending) tt a near
     go (Step (Starts v) ts ending) a = own_heard who l (Step (Starts v) ts ending) tt a near

@@ -6,11 +6,11 @@ use Rattle.std.proofs.lemmas.Grind.{common_steps}
 use Rattle.std.specs.List.{list_any}
 use Rattle.shdlc_core.specs.declared.answers.LinkState.{LinkState}
 use Rattle.shdlc_core.specs.declared.answers.LinkState.TheVariants.{Down as IsDown, Waiting as IsWaitingNow, Up as IsUpNow}
-use Rattle.session_laws.specs.Sessions.{OnWire, Link as CoreLink, EndEvent as CoreEndEvent, is_up, all_here as core_all_here, happens_here as core_happens_here}
+use Rattle.session_laws.specs.Sessions.{OnWire, ShdlcLink as CoreLink, ShdlcEndEvent as CoreEndEvent, is_up, shdlc_all_at_controller as core_all_here, shdlc_happens_at_controller as core_happens_here}
 use Rattle.session_laws.specs.Losses.{Losses, noted_all, noted_here, noted_turns, came_up, is_up_with}
 use Rattle.link_machine.specs.Machine.{LinkEnd, Turn, turned, took, began_by, frames_out}
 use Rattle.link_machine.specs.Machine.LinkInput.{Take}
-use Rattle.message_link.specs.Links.{Half, Link, Ending, number_of, AreSendableTurns}
+use Rattle.message_link.specs.Links.{NumberedEnd, Link, Ending, number_of, AreSendableTurns}
 use Rattle.message_link.specs.Links.Ending.{GoesOut, CutOff}
 use Rattle.message_link.specs.Projection.{core_of, core_half, core_take, core_ending}
 use Rattle.message_link.proofs.Steps.{FromHost, core_first}
@@ -72,12 +72,12 @@ since_up n who (e ∷ t) v d = go (begins n e) refl (since_up n who t v d)
     go false q later = rw q later
 
 -- what is known of the session of an end
-pub record Knows (t : List Entry) (n : Losses) (h : Half) : Type 0 where
+pub record Knows (t : List Entry) (n : Losses) (h : NumberedEnd) : Type 0 where
   pub has : h.side.shdlc.phase ≡ IsUpNow → Has (number_of h) t
   pub tells : h.side.shdlc.phase ≡ IsUpNow → bad n ≡ true → Disturbed (since (number_of h) t)
 
 -- more was noted, and its session goes on
-pub knows_more : (t u : List Entry) (n m : Losses) (h k : Half) → (k.side.shdlc.phase ≡ IsUpNow → (h.side.shdlc.phase ≡ IsUpNow) × (number_of k ≡ number_of h))
+pub knows_more : (t u : List Entry) (n m : Losses) (h k : NumberedEnd) → (k.side.shdlc.phase ≡ IsUpNow → (h.side.shdlc.phase ≡ IsUpNow) × (number_of k ≡ number_of h))
     → Grows n m u → Knows t n h → Knows (t ++ u) m k
 knows_more t u n m h k same grows x =
     record {
@@ -95,7 +95,7 @@ knows_more t u n m h k same grows x =
         which (inr b) = disturbed_right (since (number_of h) t) u b
 
 -- the end comes up: first in its session, or where the other end is up with its number
-pub knows_new : (t pre v : List Entry) (who : End) (n m : Losses) (other k : Half) → Knows t n other
+pub knows_new : (t pre v : List Entry) (who : End) (n m : Losses) (other k : NumberedEnd) → Knows t n other
     → Grows n m (pre ++ (Up who (number_of k) ∷ v))
     → (is_up_with (core_half other) (number_of k) ≡ false → bad m ≡ true → Disturbed v)
     → Knows (t ++ (pre ++ (Up who (number_of k) ∷ v))) m k

@@ -9,8 +9,8 @@ use Rattle.swp_base.specs.declared.control_frames.Control.TheVariants.{I, S, Rse
 use Rattle.swp_base.specs.declared.control_frames.Act.{Act as Activation}
 use Rattle.link_laws.specs.Wire.{is_rnr}
 use Rattle.shdlc_core.specs.Machine.{EndState, frames_of, most_frames}
-use Rattle.session_laws.specs.Sessions.{OnWire, Link as CoreLink, put as core_put, put_all as core_put_all, is_rset}
-use Rattle.session_laws.specs.Losses.{Losses, counts_first, overflows, noted, noted_all, noted_out}
+use Rattle.session_laws.specs.Sessions.{OnWire, ShdlcLink as CoreLink, shdlc_put as core_put, shdlc_put_all as core_put_all, is_rset}
+use Rattle.session_laws.specs.Losses.{Losses, counts_first, overflows, noted_loss, noted_all, noted_out}
 use Rattle.link_machine.specs.Machine.{LinkEnd, frames_out, among}
 use Rattle.message_link.specs.Links.{Link, put}
 use Rattle.message_link.specs.Links.Loss.{TooMany}
@@ -85,7 +85,7 @@ push_lost who l c q = go (nat_lt 64 (length (wire_with l c))) refl (wire_with l 
         ∙ ap (λ z. list_any disturbs (first_lost (far who) TooMany z)) r
 
 -- a frame goes out
-put_grows : (n : Losses) (who : End) (l : Link) (c : Control) → Grows n (noted n (core_of l) c) (put_entries who l c)
+put_grows : (n : Losses) (who : End) (l : Link) (c : Control) → Grows n (noted_loss n (core_of l) c) (put_entries who l c)
 put_grows n who l c q = go (n.lost) (n.rnr) (overflows (l.to_host ++ record { frame = c; age = 0; number = 0 } ∷ [])) (is_rnr c) refl refl refl refl
   where
     go : (a b x y : Bool) → n.lost ≡ a → n.rnr ≡ b → overflows (l.to_host ++ record { frame = c; age = 0; number = 0 } ∷ []) ≡ x → is_rnr c ≡ y
@@ -111,7 +111,7 @@ grows_then n m k u v a b q = go (b q)
 pub flush_grows : (cs : List Control) (n : Losses) (who : End) (l : Link) → Grows n (noted_all n (core_of l) cs) (puts_entries who l cs)
 flush_grows [] n who l = λ q. inl q
 flush_grows (c ∷ cs) n who l =
-    let m : Losses = noted n (core_of l) c in
+    let m : Losses = noted_loss n (core_of l) c in
     let P : CoreLink → Type 0 = λ k. Grows m (noted_all m k cs) (puts_entries who (put l c) cs) in
     grows_then n m (noted_all m (core_put (core_of l) c) cs) (put_entries who l c) (puts_entries who (put l c) cs) (put_grows n who l c)
     (subst P (put-core l c) (flush_grows cs m who (put l c)))
@@ -120,7 +120,7 @@ flush_grows (c ∷ cs) n who l =
 
 pub noted_all-append : (n : Losses) (c : CoreLink) (xs ys : List Control) → noted_all (noted_all n c xs) (core_put_all c xs) ys ≡ noted_all n c (xs ++ ys)
 noted_all-append n c [] ys = refl
-noted_all-append n c (x ∷ xs) ys = noted_all-append (noted n c x) (core_put c x) xs ys
+noted_all-append n c (x ∷ xs) ys = noted_all-append (noted_loss n c x) (core_put c x) xs ys
 
 -- what goes out of an end with this frame of activation
 pub out_noted : (n : Losses) (c : CoreLink) (o : Option Activation) (g : LinkEnd) (s : EndState) → g.acts ≡ due_now o → g.shdlc ≡ s

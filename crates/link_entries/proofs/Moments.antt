@@ -5,10 +5,10 @@ use Rattle.std.proofs.lemmas.List.{take-append-le}
 use Rattle.std.proofs.lemmas.List.Elements.{filter-append}
 use Rattle.hcp_packet.specs.Packets.{IsFrontOf, good_of, is_good}
 use Rattle.link_machine.specs.Machine.{Message, messages_got, whole_among}
-use Rattle.session_laws.specs.Sessions.{session_of}
+use Rattle.session_laws.specs.Sessions.{shdlc_session_of}
 use Rattle.session_laws.proofs.Data.{Base}
 use Rattle.session_laws.proofs.Sending.{SafeLink}
-use Rattle.link_laws.specs.Order.{InOrder as CoreInOrder}
+use Rattle.link_laws.specs.Order.{FragmentsInOrder as CoreInOrder}
 use Rattle.shdlc_core.specs.Machine.{Session}
 use Rattle.message_link.specs.Links.{Talk, Link, talk_of}
 use Rattle.message_link.specs.Order.{InOrder}
@@ -18,7 +18,7 @@ use Rattle.message_link.proofs.Steps.{says_of, session-core}
 use Rattle.message_link.proofs.Whole.{in_messages}
 use Rattle.link_entries.specs.Entries.{End, Entry, far}
 use Rattle.link_entries.specs.Entries.End.{Controller, Host}
-use Rattle.link_entries.specs.Filters.{sent_in, got_in, acked_in}
+use Rattle.link_entries.specs.Filters.{sent_noted, got_noted, acked_noted}
 use Rattle.link_entries.specs.Order.{InOrderIn}
 use Rattle.link_entries.proofs.Books.{Book, plus, plus-blank, read, read-append, Silent, book_of}
 use Rattle.link_entries.proofs.Fronts.{front_parts, OfOne, front_read, Few, AllFew, few_told}
@@ -64,18 +64,18 @@ good-append xs ys = filter-append (λ m. is_good m.1) xs ys
 
 -- ## Between
 
-as_read : (t : List Entry) (who : End) (n : ℕ) (b : Book) → read t who n ≡ b → (sent_in t who n ≡ b.sent) × (got_in t who n ≡ b.got)
-    × (acked_in t who n ≡ b.acked)
+as_read : (t : List Entry) (who : End) (n : ℕ) (b : Book) → read t who n ≡ b → (sent_noted t who n ≡ b.sent) × (got_noted t who n ≡ b.got)
+    × (acked_noted t who n ≡ b.acked)
 as_read t who n b q = (ap (λ (z : Book). z.sent) q, ap (λ (z : Book). z.got) q, ap (λ (z : Book). z.acked) q)
 
-in_order_as : (t : List Entry) (who : End) (n : ℕ) (s g : List Message) (a : ℕ) → sent_in t who n ≡ s → acked_in t who n ≡ a → got_in t (far who) n ≡ g
+in_order_as : (t : List Entry) (who : End) (n : ℕ) (s g : List Message) (a : ℕ) → sent_noted t who n ≡ s → acked_noted t who n ≡ a → got_noted t (far who) n ≡ g
     → IsFrontOf g (good_of s) → IsFrontOf (good_of (take a s)) g → a ≤ length s → InOrderIn t who n
 in_order_as t who n s g a p q r got acked few =
     let G : List Message → Type 0 = λ z. IsFrontOf z (good_of s) in
-    let H : List Message → Type 0 = λ z. IsFrontOf (got_in t (far who) n) (good_of z) in
+    let H : List Message → Type 0 = λ z. IsFrontOf (got_noted t (far who) n) (good_of z) in
     let A : List Message → Type 0 = λ z. IsFrontOf (good_of (take a s)) z in
-    let B : List Message → Type 0 = λ z. IsFrontOf (good_of (take a z)) (got_in t (far who) n) in
-    let C : ℕ → Type 0 = λ z. IsFrontOf (good_of (take z (sent_in t who n))) (got_in t (far who) n) in
+    let B : List Message → Type 0 = λ z. IsFrontOf (good_of (take a z)) (got_noted t (far who) n) in
+    let C : ℕ → Type 0 = λ z. IsFrontOf (good_of (take z (sent_noted t who n))) (got_noted t (far who) n) in
     let l = ap (λ (ms : List Message). length ms) p in
     record {
       got = subst H (sym p) (subst G (sym r) got);
@@ -97,26 +97,26 @@ mine t u p who n before after one few f =
     let there_all = as_read (t ++ u) (far who) n (read t (far who) n) other_all in
     let b = before who n in
     let a = after who n in
-    let s : List Message = sent_in t who n ++ sent_in p who n in
-    let k : ℕ = max (acked_in t who n) (acked_in p who n) in
+    let s : List Message = sent_noted t who n ++ sent_noted p who n in
+    let k : ℕ = max (acked_noted t who n) (acked_noted p who n) in
     let limit = few p f n in
     let length_s = ap (λ (ms : List Message). length ms) here.0 in
     let k_few : k ≤ length s = omega (arith, limit, here.2, length_s) in
-    let whole : sent_in (t ++ u) who n ≡ s ++ sent_in f.0 who n =
-    all.0 ∙ (ap (λ ms. sent_in t who n ++ ms) parts.0 ∙ sym (append_assoc (sent_in t who n) (sent_in p who n) (sent_in f.0 who n))) in
-    let k_less : k ≤ acked_in (t ++ u) who n = omega (arith, all.2, parts.2) in
-    let less : IsFrontOf (take k s) (take (acked_in (t ++ u) who n) (sent_in (t ++ u) who n)) =
-    let P : List Message → Type 0 = λ z. IsFrontOf z (take (acked_in (t ++ u) who n) (sent_in (t ++ u) who n)) in
-    subst P (ap (take k) whole ∙ take-append-le k s (sent_in f.0 who n) k_few)
-    (take_front k (acked_in (t ++ u) who n) (sent_in (t ++ u) who n) k_less) in
-    let G : List Message → Type 0 = λ z. IsFrontOf (good_of (take (acked_in (t ++ u) who n) (sent_in (t ++ u) who n))) z in
-    let done : IsFrontOf (good_of (take (acked_in (t ++ u) who n) (sent_in (t ++ u) who n))) (got_in t (far who) n) = subst G there_all.1 a.acked in
-    let H : List Message → Type 0 = λ z. IsFrontOf (got_in t (far who) n) z in
-    in_order_as (t ++ p) who n s (got_in t (far who) n) k here.0 here.2 there.1
-    (subst H (sym (good-append (sent_in t who n) (sent_in p who n)))
-    (front_more (got_in t (far who) n) (good_of (sent_in t who n)) (good_of (sent_in p who n)) b.got))
-    (front_then (good_of (take k s)) (good_of (take (acked_in (t ++ u) who n) (sent_in (t ++ u) who n))) (got_in t (far who) n)
-    (good_front (take k s) (take (acked_in (t ++ u) who n) (sent_in (t ++ u) who n)) less) done)
+    let whole : sent_noted (t ++ u) who n ≡ s ++ sent_noted f.0 who n =
+    all.0 ∙ (ap (λ ms. sent_noted t who n ++ ms) parts.0 ∙ sym (append_assoc (sent_noted t who n) (sent_noted p who n) (sent_noted f.0 who n))) in
+    let k_less : k ≤ acked_noted (t ++ u) who n = omega (arith, all.2, parts.2) in
+    let less : IsFrontOf (take k s) (take (acked_noted (t ++ u) who n) (sent_noted (t ++ u) who n)) =
+    let P : List Message → Type 0 = λ z. IsFrontOf z (take (acked_noted (t ++ u) who n) (sent_noted (t ++ u) who n)) in
+    subst P (ap (take k) whole ∙ take-append-le k s (sent_noted f.0 who n) k_few)
+    (take_front k (acked_noted (t ++ u) who n) (sent_noted (t ++ u) who n) k_less) in
+    let G : List Message → Type 0 = λ z. IsFrontOf (good_of (take (acked_noted (t ++ u) who n) (sent_noted (t ++ u) who n))) z in
+    let done : IsFrontOf (good_of (take (acked_noted (t ++ u) who n) (sent_noted (t ++ u) who n))) (got_noted t (far who) n) = subst G there_all.1 a.acked in
+    let H : List Message → Type 0 = λ z. IsFrontOf (got_noted t (far who) n) z in
+    in_order_as (t ++ p) who n s (got_noted t (far who) n) k here.0 here.2 there.1
+    (subst H (sym (good-append (sent_noted t who n) (sent_noted p who n)))
+    (front_more (got_noted t (far who) n) (good_of (sent_noted t who n)) (good_of (sent_noted p who n)) b.got))
+    (front_then (good_of (take k s)) (good_of (take (acked_noted (t ++ u) who n) (sent_noted (t ++ u) who n))) (got_noted t (far who) n)
+    (good_front (take k s) (take (acked_noted (t ++ u) who n) (sent_noted (t ++ u) who n)) less) done)
     k_few
 
 far_far : (who : End) → far (far who) ≡ who
@@ -137,21 +137,21 @@ theirs t u p who n before after one f =
     let there_all = as_read (t ++ u) (far who) n (read t (far who) n) other_all in
     let b = before (far who) n in
     let a = after (far who) n in
-    let g : List Message = got_in t who n ++ got_in p who n in
+    let g : List Message = got_noted t who n ++ got_noted p who n in
     let back = far_far who in
-    let got_here : got_in (t ++ p) (far (far who)) n ≡ g = ap (λ w. got_in (t ++ p) w n) back ∙ here.1 in
-    let got_all : got_in (t ++ u) (far (far who)) n ≡ g ++ got_in f.0 who n =
-    ap (λ w. got_in (t ++ u) w n) back
-    ∙ (all.1 ∙ (ap (λ ms. got_in t who n ++ ms) parts.1 ∙ sym (append_assoc (got_in t who n) (got_in p who n) (got_in f.0 who n)))) in
-    let got_before : got_in t (far (far who)) n ≡ got_in t who n = ap (λ w. got_in t w n) back in
-    let X : List Message → Type 0 = λ z. IsFrontOf z (good_of (sent_in (t ++ u) (far who) n)) in
-    let Y : List Message → Type 0 = λ z. IsFrontOf (g ++ got_in f.0 who n) (good_of z) in
-    let got_front : IsFrontOf g (good_of (sent_in t (far who) n)) =
-    front_less g (got_in f.0 who n) (good_of (sent_in t (far who) n)) (subst Y there_all.0 (subst X got_all a.got)) in
-    let Z : List Message → Type 0 = λ z. IsFrontOf (good_of (take (acked_in t (far who) n) (sent_in t (far who) n))) z in
-    let acked_front : IsFrontOf (good_of (take (acked_in t (far who) n) (sent_in t (far who) n))) g =
-    front_more (good_of (take (acked_in t (far who) n) (sent_in t (far who) n))) (got_in t who n) (got_in p who n) (subst Z got_before b.acked) in
-    in_order_as (t ++ p) (far who) n (sent_in t (far who) n) g (acked_in t (far who) n) there.0 there.2 got_here got_front acked_front b.few
+    let got_here : got_noted (t ++ p) (far (far who)) n ≡ g = ap (λ w. got_noted (t ++ p) w n) back ∙ here.1 in
+    let got_all : got_noted (t ++ u) (far (far who)) n ≡ g ++ got_noted f.0 who n =
+    ap (λ w. got_noted (t ++ u) w n) back
+    ∙ (all.1 ∙ (ap (λ ms. got_noted t who n ++ ms) parts.1 ∙ sym (append_assoc (got_noted t who n) (got_noted p who n) (got_noted f.0 who n)))) in
+    let got_before : got_noted t (far (far who)) n ≡ got_noted t who n = ap (λ w. got_noted t w n) back in
+    let X : List Message → Type 0 = λ z. IsFrontOf z (good_of (sent_noted (t ++ u) (far who) n)) in
+    let Y : List Message → Type 0 = λ z. IsFrontOf (g ++ got_noted f.0 who n) (good_of z) in
+    let got_front : IsFrontOf g (good_of (sent_noted t (far who) n)) =
+    front_less g (got_noted f.0 who n) (good_of (sent_noted t (far who) n)) (subst Y there_all.0 (subst X got_all a.got)) in
+    let Z : List Message → Type 0 = λ z. IsFrontOf (good_of (take (acked_noted t (far who) n) (sent_noted t (far who) n))) z in
+    let acked_front : IsFrontOf (good_of (take (acked_noted t (far who) n) (sent_noted t (far who) n))) g =
+    front_more (good_of (take (acked_noted t (far who) n) (sent_noted t (far who) n))) (got_noted t who n) (got_noted p who n) (subst Z got_before b.acked) in
+    in_order_as (t ++ p) (far who) n (sent_noted t (far who) n) g (acked_noted t (far who) n) there.0 there.2 got_here got_front acked_front b.few
 
 pub between : (t u : List Entry) (who : End) → Ok t → Ok (t ++ u) → OfOne who u → AllFew t who u → AllOk t u
 between t u who before after one few p f w n = go who w refl
@@ -178,7 +178,7 @@ ok_silent t u ok s who n =
     let r = as_read (t ++ u) (far who) n (read t (far who) n) (read-append t u (far who) n
     ∙ (ap (plus (read t (far who) n)) (s (far who) n) ∙ plus-blank (read t (far who) n))) in
     let k = ok who n in
-    in_order_as (t ++ u) who n (sent_in t who n) (got_in t (far who) n) (acked_in t who n) q.0 q.2 r.1 k.got k.acked k.few
+    in_order_as (t ++ u) who n (sent_noted t who n) (got_noted t (far who) n) (acked_noted t who n) q.0 q.2 r.1 k.got k.acked k.few
 
 -- ## A link and what was noted of it
 
@@ -191,14 +191,14 @@ pub link_order : (kn kf : ℕ) (l : Link) → SafeLink kn kf (core_of l) → Tel
 link_order kn kf l s c h n =
     let x = session-core l.controller n in
     let y = session-core l.host n in
-    let P : Session → Type 0 = λ z. CoreInOrder z (session_of (core_half l.host) n) in
+    let P : Session → Type 0 = λ z. CoreInOrder z (shdlc_session_of (core_half l.host) n) in
     let Q : Session → Type 0 = λ z. CoreInOrder (talk_of l.controller n).session z in
-    let R : Session → Type 0 = λ z. CoreInOrder z (session_of (core_half l.controller) n) in
+    let R : Session → Type 0 = λ z. CoreInOrder z (shdlc_session_of (core_half l.controller) n) in
     let S : Session → Type 0 = λ z. CoreInOrder (talk_of l.host n).session z in (
       in_messages (talk_of l.controller n) (talk_of l.host n) (says_of l.controller n c)
-          (subst Q y (subst P x (core_in_order (session_of (core_half l.controller) n) (session_of (core_half l.host) n) (s.n_base n)))),
+          (subst Q y (subst P x (core_in_order (shdlc_session_of (core_half l.controller) n) (shdlc_session_of (core_half l.host) n) (s.n_base n)))),
       in_messages (talk_of l.host n) (talk_of l.controller n) (says_of l.host n h)
-          (subst S x (subst R y (core_in_order (session_of (core_half l.host) n) (session_of (core_half l.controller) n) (s.f_base n)))),
+          (subst S x (subst R y (core_in_order (shdlc_session_of (core_half l.host) n) (shdlc_session_of (core_half l.controller) n) (s.f_base n)))),
     )
 
 order_in : (t : List Entry) (who : End) (n : ℕ) (s r : Talk) → read t who n ≡ book_of s → read t (far who) n ≡ book_of r → InOrder s r → Few t who

@@ -16,7 +16,7 @@ use Rattle.link_machine.specs.Machine.Turn.{Give, Hold, FetchMessage, SetAside, 
 use Rattle.link_machine.proofs.Shifts.{IsNotUp}
 use Rattle.link_machine.proofs.Runs.{Sound, sound_input}
 use Rattle.link_machine.proofs.Reports.{Reports, take_so, tick_so, reset_so, start_so, stop_so}
-use Rattle.message_link.specs.Links.{Half, Link, Ending, Comes, Node, number_of, no_talk, talk_of, with_ended, silent, finished, has_taken, steps_here, ticks_here, AreSendableTurns, CanEnd, IsNode}
+use Rattle.message_link.specs.Links.{NumberedEnd, Link, Ending, Comes, Node, number_of, no_talk, talk_of, with_ended, silent, finished, has_taken, steps_at_controller, ticks_at_controller, AreSendableTurns, CanEnd, IsNode}
 use Rattle.message_link.specs.Links.Ending.{GoesOut, CutOff}
 use Rattle.message_link.specs.Links.Comes.{NextFrame, AsksReset, Starts, Stops, NoInput}
 use Rattle.message_link.proofs.Asks.{NoAsk, NoRset, none_due, ticked_asks}
@@ -194,7 +194,7 @@ tick_can e ts ending can = go (is_open e.role) refl
         subst P (sym t.0) (can_end (activated e ActTick) ts (role_after e.role ActTick) ending (activated_role e ActTick) (can_after e.role ActTick ending can))
 
 pub tick_told : (t : List Entry) (who : End) (l : Link) (node : Node) → IsNode l node.turns node.ending → Near l → Tolds t who l
-    → Out t (tick_entries who l node) who (ticks_here l node.turns node.ending)
+    → Out t (tick_entries who l node) who (ticks_at_controller l node.turns node.ending)
 tick_told t who l node a n b =
     let e : LinkEnd = l.controller.side in
     let i : LinkInput = HasTick in
@@ -250,7 +250,7 @@ taken_told t who l x xs ts ending a n fr b =
     let f : LinkEnd = after_input e i in
     let c : Bool = is_some (ended_by e i) in
     let k : Link = left_after l x xs in
-    let h : Half = record l.controller { took = took_with l.controller.took x } in
+    let h : NumberedEnd = record l.controller { took = took_with l.controller.took x } in
     let first : Tolds (t ++ Took who x.frame ∷ []) who l =
     record {
       here = told_silent t (Took who x.frame ∷ []) who l.controller (λ y m. refl) b.here;
@@ -295,7 +295,7 @@ FramesFor NextFrame l ts = Frames l ts
 FramesFor _ l ts = Unit {0}
 
 pub step_told : (t : List Entry) (who : End) (l : Link) (comes : Comes) (ts : List Turn) (ending : Ending) → IsNode l ts ending → Near l → FramesFor comes l ts
-    → Tolds t who l → Out t (step_entries who l comes ts ending) who (steps_here l comes ts ending)
+    → Tolds t who l → Out t (step_entries who l comes ts ending) who (steps_at_controller l comes ts ending)
 step_told t who l (AsksReset window) ts ending a n fr b =
     let e : LinkEnd = l.controller.side in
     let i : LinkInput = Reset window in
@@ -316,26 +316,26 @@ step_told t who l NextFrame ts ending a n fr b = go l.to_controller refl
     some : (x : OnWire) (xs : List OnWire) → l.to_controller ≡ x ∷ xs → step_entries who l NextFrame ts ending ≡ taken_entries who l x xs ts ending
     some x xs q = rw q refl
 
-    here : (x : OnWire) (xs : List OnWire) → l.to_controller ≡ x ∷ xs → steps_here l NextFrame ts ending ≡ has_taken l x xs ts ending
+    here : (x : OnWire) (xs : List OnWire) → l.to_controller ≡ x ∷ xs → steps_at_controller l NextFrame ts ending ≡ has_taken l x xs ts ending
     here x xs q = rw q refl
 
-    none : l.to_controller ≡ [] → (step_entries who l NextFrame ts ending ≡ []) × (steps_here l NextFrame ts ending ≡ l)
+    none : l.to_controller ≡ [] → (step_entries who l NextFrame ts ending ≡ []) × (steps_at_controller l NextFrame ts ending ≡ l)
     none q = (rw q refl, rw q refl)
 
     as_is : (u v : List Entry) (k m : Link) → u ≡ v → k ≡ m → Out t v who m → Out t u who k
     as_is u v k m p q h =
         let A : List Entry → Type 0 = λ z. Out t z who k in let B : Link → Type 0 = λ z. Out t v who z in subst A (sym p) (subst B (sym q) h)
 
-    go : (w : List OnWire) → l.to_controller ≡ w → Out t (step_entries who l NextFrame ts ending) who (steps_here l NextFrame ts ending)
+    go : (w : List OnWire) → l.to_controller ≡ w → Out t (step_entries who l NextFrame ts ending) who (steps_at_controller l NextFrame ts ending)
     go [] q =
         let z = none q in
-        as_is (step_entries who l NextFrame ts ending) [] (steps_here l NextFrame ts ending) l z.0 z.1
+        as_is (step_entries who l NextFrame ts ending) [] (steps_at_controller l NextFrame ts ending) l z.0 z.1
         (record {
           tolds = record { here = told_silent t [] who l.controller (λ y m. refl) b.here; there = told_silent t [] (far who) l.host (λ y m. refl) b.there };
           few = few_more t who [] (few_told t who l.controller b.here) tt;
         })
     go (x ∷ xs) q =
-        as_is (step_entries who l NextFrame ts ending) (taken_entries who l x xs ts ending) (steps_here l NextFrame ts ending) (has_taken l x xs ts ending)
+        as_is (step_entries who l NextFrame ts ending) (taken_entries who l x xs ts ending) (steps_at_controller l NextFrame ts ending) (has_taken l x xs ts ending)
         (some x xs q) (here x xs q) (taken_told t who l x xs ts ending a n (fr x xs q) b)
 
 -- ## Ends stay sound
@@ -358,7 +358,7 @@ sound_finished l e CutOff can s = new (sent_all e).role can
         }
 
 pub sound_tick : (l : Link) (node : Node) → IsNode l node.turns node.ending → Sound l.controller.side
-    → Sound (ticks_here l node.turns node.ending).controller.side
+    → Sound (ticks_at_controller l node.turns node.ending).controller.side
 sound_tick l node a s =
     let f : LinkEnd = after_input l.controller.side HasTick in
     sound_finished (with_ended l (is_some (ended_by l.controller.side HasTick))) (turned f node.turns) node.ending
@@ -372,7 +372,7 @@ restart_can e event ts ending can =
     (can_after e.role event ending can)
 
 pub sound_step : (l : Link) (comes : Comes) (ts : List Turn) (ending : Ending) → IsNode l ts ending → Sound l.controller.side
-    → Sound (steps_here l comes ts ending).controller.side
+    → Sound (steps_at_controller l comes ts ending).controller.side
 sound_step l (AsksReset window) ts ending a s =
     let f : LinkEnd = after_input l.controller.side (Reset window) in
     sound_finished (with_ended l (is_some (ended_by l.controller.side (Reset window)))) (turned f ts) ending
@@ -394,10 +394,10 @@ sound_step l NextFrame ts ending a s = go l.to_controller refl
     P : Link → Type 0
     P k = Sound k.controller.side
 
-    go : (w : List OnWire) → l.to_controller ≡ w → Sound (steps_here l NextFrame ts ending).controller.side
-    go [] q = let is : steps_here l NextFrame ts ending ≡ l = rw q refl in subst P (sym is) s
+    go : (w : List OnWire) → l.to_controller ≡ w → Sound (steps_at_controller l NextFrame ts ending).controller.side
+    go [] q = let is : steps_at_controller l NextFrame ts ending ≡ l = rw q refl in subst P (sym is) s
     go (x ∷ xs) q =
-        let is : steps_here l NextFrame ts ending ≡ has_taken l x xs ts ending = rw q refl in
+        let is : steps_at_controller l NextFrame ts ending ≡ has_taken l x xs ts ending = rw q refl in
         let f : LinkEnd = after_input l.controller.side (Take x.frame) in
         subst P (sym is) (sound_finished (left_after l x xs) (turned f ts) ending
         (can_end f ts f.role ending refl (took_can l.controller.side x.frame ending a.1))

@@ -7,13 +7,13 @@ use Rattle.swp_base.specs.declared.link_terms.Cause.TheVariants.{Act as ByAct}
 use Rattle.swp_act.specs.declared.ActEvent.TheVariants.{Tick as ActTick}
 use Rattle.shdlc_core.specs.declared.answers.LinkState.TheVariants.{Down as IsDown}
 use Rattle.shdlc_core.specs.Machine.{EndState, most_frames, ticked, tick_answer, frames_of}
-use Rattle.session_laws.specs.Sessions.{OnWire, Link as CoreLink, Turn as CoreTurn, EndEvent as CoreEndEvent, turned as core_turned, with_ended as core_with_ended, ticks_or_cut as core_ticks_or_cut, ticks_here as core_ticks_here}
-use Rattle.session_laws.specs.Sessions.EndEvent.{Acts as CoreActs}
+use Rattle.session_laws.specs.Sessions.{OnWire, ShdlcLink as CoreLink, ShdlcTurn as CoreTurn, ShdlcEndEvent as CoreEndEvent, shdlc_turned as core_turned, with_shdlc_ended as core_with_ended, ticks_or_cut as core_ticks_or_cut, shdlc_ticks_at_controller as core_ticks_here}
+use Rattle.session_laws.specs.Sessions.ShdlcEndEvent.{Acts as CoreActs}
 use Rattle.session_laws.specs.Losses.{Losses, is_act, sans, counts_first, loses_aged, noted_all, noted_out, noted_here, noted_turns, noted_tick, noted_aged}
 use Rattle.link_machine.specs.Machine.{LinkEnd, Turn, turned, is_open, act_answer, moved, activated, if_up, after_input, ended_by, frames_out}
 use Rattle.link_machine.specs.Machine.LinkInput.{Tick as HasTick}
 use Rattle.link_machine.proofs.Reports.{tick_so}
-use Rattle.message_link.specs.Links.{Link, Ending, Loss, EndEvent, Node, with_ended, happens_here, ticks_here, aged, AreSendableTurns, IsNode, IsAllowed, IsOwn}
+use Rattle.message_link.specs.Links.{Link, Ending, Loss, EndEvent, Node, with_ended, happens_at_controller, ticks_at_controller, aged, AreSendableTurns, IsNode, IsAllowed, IsOwn}
 use Rattle.message_link.specs.Links.Ending.{GoesOut, CutOff}
 use Rattle.message_link.specs.Links.Comes.{NextFrame, AsksReset, Starts, Stops, NoInput}
 use Rattle.message_link.specs.Links.EndEvent.{Step, Lose}
@@ -126,7 +126,7 @@ tick_grows n who l ts GoesOut a h r = go (is_open e.role) refl
         none b q = rw q refl
 
 pub tick_knows : (t : List Entry) (n : Losses) (who : End) (l : Link) (node : Node) → IsNode l node.turns node.ending → Near l → Both t n l
-    → Both (t ++ tick_entries who l node) (tick_flags n l node) (ticks_here l node.turns node.ending)
+    → Both (t ++ tick_entries who l node) (tick_flags n l node) (ticks_at_controller l node.turns node.ending)
 tick_knows t n who l node a x b =
     let e : LinkEnd = l.controller.side in
     let c : Bool = is_some (ended_by e HasTick) in
@@ -179,7 +179,7 @@ lost_grows n who why [] = λ q. inl (ap (λ b. b || n.rnr) (sym (or_none n.lost)
     or_none false = refl
 
 lose_knows : (t : List Entry) (n : Losses) (who : End) (l : Link) (why : Loss) → Both t n l
-    → Both (t ++ here_entries who l (Lose why)) (noted_turns n (core_of l) (core_here l (Lose why))) (happens_here l (Lose why))
+    → Both (t ++ here_entries who l (Lose why)) (noted_turns n (core_of l) (core_here l (Lose why))) (happens_at_controller l (Lose why))
 lose_knows t n who l why b =
     let u : List Entry = first_lost who why l.to_controller in
     let m : Losses = record n { lost = n.lost || counts_first l.to_controller } in
@@ -192,7 +192,7 @@ near_of : (l : Link) → Before l → Near l
 near_of l b = record { tells = b.tells; rests = rests_of 0 0 (core_of l) b.safe; sound = b.sound }
 
 pub here_knows : (t : List Entry) (n : Losses) (who : End) (l : Link) (e : EndEvent) → IsAllowed l e → Before l → Both t n l
-    → Both (t ++ here_entries who l e) (noted_turns n (core_of l) (core_here l e)) (happens_here l e)
+    → Both (t ++ here_entries who l e) (noted_turns n (core_of l) (core_here l e)) (happens_at_controller l e)
 here_knows t n who l (Lose why) a b h = lose_knows t n who l why h
 here_knows t n who l (Step NextFrame ts ending) a b h = frame_knows t n who l ts ending a.1 b h
 here_knows t n who l (Step (AsksReset window) ts ending) a b h = own_knows t n who l (AsksReset window) ts ending tt a.1 (near_of l b) h
@@ -201,6 +201,6 @@ here_knows t n who l (Step Stops ts ending) a b h = own_knows t n who l Stops ts
 here_knows t n who l (Step NoInput ts ending) a b h = own_knows t n who l NoInput ts ending tt a.1 (near_of l b) h
 
 pub own_step_knows : (t : List Entry) (n : Losses) (l : Link) (e : EndEvent) → IsOwn e → IsAllowed l e → Near l → Both t n l
-    → Both (t ++ here_entries Controller l e) (noted_turns n (core_of l) (core_here l e)) (happens_here l e)
+    → Both (t ++ here_entries Controller l e) (noted_turns n (core_of l) (core_here l e)) (happens_at_controller l e)
 own_step_knows t n l (Lose why) o a x b = absurd o
 own_step_knows t n l (Step comes ts ending) o a x b = own_knows t n Controller l comes ts ending o a.1 x b

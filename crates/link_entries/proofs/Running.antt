@@ -6,8 +6,8 @@ use Rattle.swp_base.specs.declared.control_frames.Control.{Control}
 use Rattle.swp_base.specs.declared.control_frames.Control.TheVariants.{I, S, Rset, Ua, Act, Clt}
 use Rattle.shdlc_core.specs.declared.answers.LinkState.TheVariants.{Up as IsUpNow}
 use Rattle.shdlc_core.specs.Machine.{most_frames, taken}
-use Rattle.session_laws.specs.Sessions.{OnWire, Link as CoreLink, is_rset, took_with, aged as core_aged, happens_here as core_happens_here, ticks_or_cut as core_ticks_or_cut, ticks_if_waiting as core_ticks_if_waiting}
-use Rattle.session_laws.specs.Sessions.EndEvent.{Deliver as CoreDeliver}
+use Rattle.session_laws.specs.Sessions.{OnWire, ShdlcLink as CoreLink, is_rset, took_with, shdlc_aged as core_aged, shdlc_happens_at_controller as core_happens_here, ticks_or_cut as core_ticks_or_cut, ticks_if_waiting as core_ticks_if_waiting}
+use Rattle.session_laws.specs.Sessions.ShdlcEndEvent.{Deliver as CoreDeliver}
 use Rattle.session_laws.specs.Losses.{is_act, sans}
 use Rattle.session_laws.proofs.Hand.{peer_of, rset_tells}
 use Rattle.session_laws.proofs.Safe.{Safe}
@@ -21,7 +21,7 @@ use Rattle.link_machine.proofs.Shifts.{Shift}
 use Rattle.link_machine.proofs.Shifts.Shift.{Stays, Ends, Renews, Begins, Rests as ShiftRests}
 use Rattle.link_machine.proofs.Runs.{Sound, new_sound}
 use Rattle.link_machine.proofs.Reports.{take_so}
-use Rattle.message_link.specs.Links.{Half, Link, IsStart, Comes, EndEvent, Node, LinkEvent, exchanged, number_of, no_talk, ended_talk, talk_of, becomes, with_ended, steps_here, happens_here, happens, all_here, ticks_here, aged, after, new_half, AreSendableTurns, CanStart, IsClf, IsUicc, IsNode, IsAllowed, IsOwn, AreOwn, IsEvent, AllAllowed}
+use Rattle.message_link.specs.Links.{NumberedEnd, Link, IsStart, Comes, EndEvent, Node, LinkEvent, exchanged, number_of, no_talk, ended_talk, talk_of, becomes, with_ended, steps_at_controller, happens_at_controller, happens, all_at_controller, ticks_at_controller, aged, after_link_events, new_numbered_end, AreSendableTurns, CanStart, IsClf, IsUicc, IsNode, IsAllowed, IsOwn, AreOwn, IsEvent, AllAllowed}
 use Rattle.message_link.specs.Links.IsStart.{IsBare, IsLine}
 use Rattle.message_link.specs.Links.Ending.{GoesOut}
 use Rattle.message_link.specs.Links.Comes.{NextFrame, AsksReset, Starts, Stops, NoInput}
@@ -36,7 +36,7 @@ use Rattle.message_link.proofs.Steps.{Rests, FromHost, core_first}
 use Rattle.message_link.proofs.Finishing.{first_none, step_tick}
 use Rattle.message_link.proofs.Runs.{Good, Reached, safe_reached, rests_of, reached_more, from_host, from_controller, own_here, own_turns, step_here, event_step, rest_both, tells_same, seen, started_clf, can_start}
 use Rattle.message_link.proofs.Whole.{new_number, start_good, start_reached}
-use Rattle.link_entries.specs.Entries.{End, Entry, far, first_lost, left_after, here_entries, all_entries, aged_entries, tick_entries, event_entries, entries, first_entries, trace}
+use Rattle.link_entries.specs.Entries.{End, Entry, far, first_lost, left_after, here_entries, entries_of_events, aged_entries, tick_entries, event_entries, entries, first_entries, trace}
 use Rattle.link_entries.specs.Entries.End.{Controller, Host}
 use Rattle.link_entries.specs.Entries.Entry.{Tick}
 use Rattle.link_entries.specs.Sessions.{IsRead}
@@ -57,7 +57,7 @@ pub record Before (l : Link) : Type 0 where
   pub calm : CalmLink l
   pub safe : SafeLink 0 0 (core_of l)
   pub from : FromHost (core_happens_here (core_of l) (CoreDeliver []))
-  pub next : SafeLink 0 0 (core_of (steps_here l NextFrame [] GoesOut))
+  pub next : SafeLink 0 0 (core_of (steps_at_controller l NextFrame [] GoesOut))
   pub sound : Sound l.controller.side
 
 pub frame_facts : (l : Link) (ts : List Turn) → AreSendableTurns ts → Before l → Frames l ts
@@ -125,7 +125,7 @@ frame_facts l ts a b x xs w = record { quiet = none ts a; same = same; fresh = f
     k : Link
     k = left_after l x xs
 
-    left_half : Bool → Half
+    left_half : Bool → NumberedEnd
     left_half c = record (with_ended (record l { to_controller = xs }) c).controller { took = took_with l.controller.took x }
 
     left : (c : Bool) → ((left_half c).past ≡ past_after c l.controller) × (number_of (left_half c) ≡ n)
@@ -135,8 +135,8 @@ frame_facts l ts a b x xs w = record { quiet = none ts a; same = same; fresh = f
     -- no ended session has the number of one that begins
     new : f.shdlc.phase ≡ IsUpNow → ended_talk (past_after c l.controller) n ≡ no_talk
     new up =
-        let m : Half = (becomes k f).controller in
-        let is : steps_here l NextFrame [] GoesOut ≡ becomes k f = rw w refl in
+        let m : NumberedEnd = (becomes k f).controller in
+        let is : steps_at_controller l NextFrame [] GoesOut ≡ becomes k f = rw w refl in
         let P : Link → Type 0 = λ z. SafeLink 0 0 (core_of z) in
         let safe : SafeLink 0 0 (core_of (becomes k f)) = subst P is b.next in
         let old = new_number m ((frames_alike most_frames f.shdlc).phase ∙ up) safe.n_past in
@@ -160,7 +160,7 @@ frame_facts l ts a b x xs w = record { quiet = none ts a; same = same; fresh = f
 -- ## Events at one end
 
 pub here_told : (t : List Entry) (who : End) (l : Link) (e : EndEvent) → IsAllowed l e → Before l → Tolds t who l
-    → Out t (here_entries who l e) who (happens_here l e)
+    → Out t (here_entries who l e) who (happens_at_controller l e)
 here_told t who l (EndStep comes ts ending) a b h =
     step_told t who l comes ts ending a.1 (record { tells = b.tells; rests = rests_of 0 0 (core_of l) b.safe; sound = b.sound }) (frames comes) h
   where
@@ -193,13 +193,13 @@ one_here who l (Lose why) = go l.to_controller
     go [] = tt
     go (x ∷ xs) = ((λ n. refl), tt)
 
-pub sound_here : (l : Link) (e : EndEvent) → IsAllowed l e → Sound l.controller.side → Sound (happens_here l e).controller.side
+pub sound_here : (l : Link) (e : EndEvent) → IsAllowed l e → Sound l.controller.side → Sound (happens_at_controller l e).controller.side
 sound_here l (EndStep comes ts ending) a s = sound_step l comes ts ending a.1 s
 sound_here l (Lose why) a s = s
 
 -- a step that takes no frame
 own_told : (t : List Entry) (who : End) (l : Link) (e : EndEvent) → IsOwn e → IsAllowed l e → Near l → Tolds t who l
-    → Out t (here_entries who l e) who (happens_here l e)
+    → Out t (here_entries who l e) who (happens_at_controller l e)
 own_told t who l (Lose why) o a n h = absurd o
 own_told t who l (EndStep NextFrame ts ending) o a n h = absurd o
 own_told t who l (EndStep (AsksReset window) ts ending) o a n h = step_told t who l (AsksReset window) ts ending a.1 n tt h
@@ -218,7 +218,7 @@ record Within (kf : ℕ) (t u : List Entry) (l m : Link) : Type 0 where
   host : m.host ≡ l.host
 
 all_told : (kf : ℕ) (es : List EndEvent) (t : List Entry) (l : Link) → AreOwn l es → Tells l.controller → Tells l.host → SafeLink 0 kf (core_of l)
-    → Sound l.controller.side → Tolds t Controller l → Ok t → Within kf t (all_entries Controller l es) l (all_here l es)
+    → Sound l.controller.side → Tolds t Controller l → Ok t → Within kf t (entries_of_events Controller l es) l (all_at_controller l es)
 all_told kf [] t l a h g s sd b ok =
     record {
       tolds = record { here = told_silent t [] Controller l.controller (λ x n. refl) b.here; there = told_silent t [] Host l.host (λ x n. refl) b.there };
@@ -236,17 +236,17 @@ all_told kf [] t l a h g s sd b ok =
 all_told kf (e ∷ es) t l a h g s sd b ok =
     let r = rests_of 0 kf (core_of l) s in
     let one = own_here l e a.0 a.1 h r in
-    let m : Link = happens_here l e in
+    let m : Link = happens_at_controller l e in
     let P : CoreLink → Type 0 = λ c. SafeLink 0 kf c in
     let safe : SafeLink 0 kf (core_of m) = subst P (sym one.core) (safe_turns kf (core_here l e) (core_of l) (own_turns l e r a.0 a.1) s) in
     let out = own_told t Controller l e a.0 a.1 (record { tells = h; rests = r; sound = sd }) b in
     let u : List Entry = here_entries Controller l e in
-    let v : List Entry = all_entries Controller m es in
+    let v : List Entry = entries_of_events Controller m es in
     let far_tells : Tells m.host = tells_same m.host l.host one.host g in
     let next : Ok (t ++ u) = ok_link (t ++ u) 0 kf m safe one.tells far_tells out.tolds in
     let first : AllOk t u = between t u Controller ok next (one_here Controller l e) out.few in
     let more = all_told kf es (t ++ u) m a.2 one.tells far_tells safe (sound_here l e a.1 sd) out.tolds next in
-    let Q : List Entry → Type 0 = λ z. Tolds z Controller (all_here m es) in
+    let Q : List Entry → Type 0 = λ z. Tolds z Controller (all_at_controller m es) in
     let R : List Entry → Type 0 = λ z. Ok z in
     record {
       tolds = subst Q (append_assoc t u v) more.tolds;
@@ -288,7 +288,7 @@ before_here l g r s =
     let e : EndEvent = EndStep NextFrame [] GoesOut in
     let st = event_step l (AtController e) (tt, (tt, tt)) g r in
     let P : CoreLink → Type 0 = λ c. SafeLink 0 0 c in
-    let next : SafeLink 0 0 (core_of (happens_here l e)) =
+    let next : SafeLink 0 0 (core_of (happens_at_controller l e)) =
     subst P (sym st.core) (safe_reached _ (reached_more (core_of l) (core_event l (AtController e)) st.allowed r)) in
     record {
       tells = g.controller;
@@ -318,7 +318,7 @@ before_there l g r s =
       sound = s.host;
     }
 
-pub host_here : (l : Link) (e : EndEvent) → IsAllowed l e → Good l → Reached (core_of l) → (happens_here l e).host ≡ l.host
+pub host_here : (l : Link) (e : EndEvent) → IsAllowed l e → Good l → Reached (core_of l) → (happens_at_controller l e).host ≡ l.host
 host_here l e a g r =
     (step_here l e a g.controller g.host g.calm (rests_of 0 0 (core_of l) (safe_reached (core_of l) r)) (from_host (core_of l) r)).host
 
@@ -327,14 +327,14 @@ reached_ok : (t : List Entry) (l : Link) → Good l → Reached (core_of l) → 
 reached_ok t l g r b = ok_link t 0 0 l (safe_reached (core_of l) r) g.controller g.host b
 
 note_here : (t : List Entry) (l : Link) (e : EndEvent) → IsAllowed l e → Good l → Reached (core_of l) → Noted t l
-    → Notes t (here_entries Controller l e) (happens_here l e)
+    → Notes t (here_entries Controller l e) (happens_at_controller l e)
 note_here t l e a g r n =
-    let P : Half → Type 0 = λ z. Sound z.side in
+    let P : NumberedEnd → Type 0 = λ z. Sound z.side in
     let u : List Entry = here_entries Controller l e in
     let out = here_told t Controller l e a (before_here l g r n.sounds) n.tolds in
     let st = event_step l (AtController e) a g r in
-    let next : Reached (core_of (happens_here l e)) = subst Reached (sym st.core) (reached_more (core_of l) (core_event l (AtController e)) st.allowed r) in
-    let ok : Ok (t ++ u) = reached_ok (t ++ u) (happens_here l e) st.good next out.tolds in
+    let next : Reached (core_of (happens_at_controller l e)) = subst Reached (sym st.core) (reached_more (core_of l) (core_event l (AtController e)) st.allowed r) in
+    let ok : Ok (t ++ u) = reached_ok (t ++ u) (happens_at_controller l e) st.good next out.tolds in
     record {
       noted = record {
         tolds = out.tolds;
@@ -354,9 +354,9 @@ note_there t l e a g r n =
     let u : List Entry = here_entries Host k e in
     let b = before_there l g r n.sounds in
     let out = here_told t Host k e a b (swap_tolds t l n.tolds) in
-    let tolds = swap_back (t ++ u) (happens_here k e) out.tolds in
-    let host : (happens_here k e).host ≡ k.host = (step_here k e a b.tells b.host b.calm (rests_of 0 0 (core_of k) b.safe) b.from).host in
-    let P : Half → Type 0 = λ z. Sound z.side in
+    let tolds = swap_back (t ++ u) (happens_at_controller k e) out.tolds in
+    let host : (happens_at_controller k e).host ≡ k.host = (step_here k e a b.tells b.host b.calm (rests_of 0 0 (core_of k) b.safe) b.from).host in
+    let P : NumberedEnd → Type 0 = λ z. Sound z.side in
     let m : Link = happens l (AtHost e) in
     let st = event_step l (AtHost e) a g r in
     let next : Reached (core_of m) = subst Reached (sym st.core) (reached_more (core_of l) (core_event l (AtHost e)) st.allowed r) in
@@ -420,7 +420,7 @@ note_event t l (Ticks c es h) a g r n =
     } in
     let zero_ok : Ok (t ++ start) = ok_silent t start n.ok silent in
     let zero_all : AllOk t start = quiet_all t start n.ok quiet in
-    let near : Link = ticks_here aged_link c.turns c.ending in
+    let near : Link = ticks_at_controller aged_link c.turns c.ending in
     let one = step_tick aged_link c.turns c.ending a.0.0 a.0.1 g.controller rests in
     let one_out = tick_told (t ++ start) Controller aged_link c a.0 (record { tells = g.controller; rests = rests; sound = n.sounds.controller }) zero_told in
     let one_sound = sound_tick aged_link c a.0 n.sounds.controller in
@@ -435,10 +435,10 @@ note_event t l (Ticks c es h) a g r n =
     let one_ok : Ok ((t ++ start) ++ cs) = ok_link ((t ++ start) ++ cs) 0 1 near safe_near one.tells near_host one_out.tolds in
     let one_all : AllOk (t ++ start) cs = between (t ++ start) cs Controller zero_ok one_ok (one_tick Controller aged_link c) one_out.few in
     let two = all_told 1 es ((t ++ start) ++ cs) near a.1 one.tells near_host safe_near one_sound one_out.tolds one_ok in
-    let ds : List Entry = all_entries Controller near es in
-    let m : Link = all_here near es in
+    let ds : List Entry = entries_of_events Controller near es in
+    let m : Link = all_at_controller near es in
     let host_is : m.host ≡ l.host = two.host ∙ one.host in
-    let H : Half → Type 0 = λ z. Sound z.side in
+    let H : NumberedEnd → Type 0 = λ z. Sound z.side in
     let m_sound : Sound m.host.side = subst H (sym host_is) n.sounds.host in
     let m_tells : Tells m.host = tells_same m.host l.host host_is g.host in
     let m_rests = rests_of 1 0 (core_of (exchanged m)) (safe_exchanged 0 1 (core_of m) two.safe) in
@@ -446,7 +446,7 @@ note_event t l (Ticks c es h) a g r n =
     let three = tick_told u Host (exchanged m) h a.2 (record { tells = m_tells; rests = m_rests; sound = m_sound }) (swap_tolds u m two.tolds) in
     let last = step_tick (exchanged m) h.turns h.ending a.2.0 a.2.1 m_tells m_rests in
     let fs : List Entry = tick_entries Host (exchanged m) h in
-    let k : Link = ticks_here (exchanged m) h.turns h.ending in
+    let k : Link = ticks_at_controller (exchanged m) h.turns h.ending in
     let all : u ++ fs ≡ t ++ (Tick ∷ (ps ++ (bs ++ (cs ++ (ds ++ fs))))) = five t Tick ps bs cs ds fs in
     let Q : List Entry → Type 0 = λ z. Tolds z Controller (exchanged k) in
     let tolds : Tolds (t ++ event_entries l (Ticks c es h)) Controller (exchanged k) = subst Q all (swap_back (u ++ fs) k three.tolds) in
@@ -492,9 +492,9 @@ note_event t l (TicksWithout es h) a g r n =
     let kept : core_ticks_if_waiting (core_aged (core_of l)) ≡ core_of near = rw a.0 refl in
     let safe_near : SafeLink 0 1 (core_of near) = subst P kept (tick_if_waiting 1 (core_aged (core_of l)) s0) in
     let two = all_told 1 es (t ++ start) near a.1 g.controller g.host safe_near n.sounds.controller one_told one_ok in
-    let ds : List Entry = all_entries Controller near es in
-    let m : Link = all_here near es in
-    let H : Half → Type 0 = λ z. Sound z.side in
+    let ds : List Entry = entries_of_events Controller near es in
+    let m : Link = all_at_controller near es in
+    let H : NumberedEnd → Type 0 = λ z. Sound z.side in
     let m_sound : Sound m.host.side = subst H (sym two.host) n.sounds.host in
     let m_tells : Tells m.host = tells_same m.host l.host two.host g.host in
     let m_rests = rests_of 1 0 (core_of (exchanged m)) (safe_exchanged 0 1 (core_of m) two.safe) in
@@ -502,7 +502,7 @@ note_event t l (TicksWithout es h) a g r n =
     let three = tick_told u Host (exchanged m) h a.2 (record { tells = m_tells; rests = m_rests; sound = m_sound }) (swap_tolds u m two.tolds) in
     let last = step_tick (exchanged m) h.turns h.ending a.2.0 a.2.1 m_tells m_rests in
     let fs : List Entry = tick_entries Host (exchanged m) h in
-    let k : Link = ticks_here (exchanged m) h.turns h.ending in
+    let k : Link = ticks_at_controller (exchanged m) h.turns h.ending in
     let e : LinkEvent = TicksWithout es h in
     let all : u ++ fs ≡ t ++ event_entries l e = four t Tick ps bs ds fs in
     let Q : List Entry → Type 0 = λ z. Tolds z Controller (exchanged k) in
@@ -529,12 +529,12 @@ note_event t l (TicksWithout es h) a g r n =
 note_event t l (Activate power c id h) a g r n =
     let x : EndEvent = EndStep (Starts power) c.turns c.ending in
     let y : EndEvent = EndStep (Starts id) h.turns h.ending in
-    let near : Link = happens_here l x in
+    let near : Link = happens_at_controller l x in
     let clf : CanStart l.controller.side.role l.host.side.role = clf_starts l.controller.side.role l.host.side.role a.0 in
     let one = event_step l (AtController x) (clf, a.2) g r in
     let next : Reached (core_of near) = subst Reached (sym one.core) (reached_more (core_of l) (core_event l (AtController x)) one.allowed r) in
     let host : near.host ≡ l.host = host_here l x (clf, a.2) g r in
-    let Q : Half → Type 0 = λ z. IsUicc z.side.role × IsNode (exchanged (record l { host = z })) h.turns h.ending in
+    let Q : NumberedEnd → Type 0 = λ z. IsUicc z.side.role × IsNode (exchanged (record l { host = z })) h.turns h.ending in
     let there : Q near.host = subst Q (sym host) (a.1, a.3) in
     let starts : CanStart near.host.side.role near.controller.side.role =
     can_start near.host.side.role near.controller.side.role there.0 (started_clf l power c.turns c.ending a.0) in
@@ -553,7 +553,7 @@ note_event t l (Activate power c id h) a g r n =
 -- ## Runs
 
 note_events : (events : List LinkEvent) (t : List Entry) (l : Link) → AllAllowed l events → Good l → Reached (core_of l) → Noted t l
-    → Notes t (entries l events) (after l events)
+    → Notes t (entries l events) (after_link_events l events)
 note_events [] t l a g r n =
     record {
       noted = record {
@@ -573,16 +573,16 @@ note_events (e ∷ es) t l a g r n =
     let v : List Entry = entries (happens l e) es in
     let first = note_event t l e a.0 g r n in
     let more = note_events es (t ++ u) (happens l e) a.1 st.good next first.noted in
-    let P : List Entry → Type 0 = λ z. Noted z (after (happens l e) es) in
+    let P : List Entry → Type 0 = λ z. Noted z (after_link_events (happens l e) es) in
     record { noted = subst P (append_assoc t u v) more.noted; all = all_then t u v first.all more.all }
 
 start_tolds : (l : Link) → IsStart l → Tolds (first_entries l.controller.side.role) Controller l
 start_tolds l IsBare = record { here = told; there = told }
   where
-    told : (n : ℕ) → blank ≡ book_of (talk_of (new_half (new_link_end Bare)) n)
+    told : (n : ℕ) → blank ≡ book_of (talk_of (new_numbered_end (new_link_end Bare)) n)
     told n = by (n == 0) refl
       where
-        by : (b : Bool) → (n == 0) ≡ b → blank ≡ book_of (talk_of (new_half (new_link_end Bare)) n)
+        by : (b : Bool) → (n == 0) ≡ b → blank ≡ book_of (talk_of (new_numbered_end (new_link_end Bare)) n)
         by true q = rw q refl
         by false q = rw q refl
 start_tolds l IsLine = record { here = λ n. refl; there = λ n. refl }
@@ -604,7 +604,7 @@ start_noted l s =
 nothing_ok : Ok []
 nothing_ok who n = record { got = ([], refl); acked = ([], refl); few = omega arith }
 
-noted : (l : Link) → IsStart l → (events : List LinkEvent) → AllAllowed l events → Noted (trace l events) (after l events)
+noted : (l : Link) → IsStart l → (events : List LinkEvent) → AllAllowed l events → Noted (trace l events) (after_link_events l events)
 noted l s events a = (note_events events (first_entries l.controller.side.role) l a (start_good l s) (start_reached l s) (start_noted l s)).noted
 
 -- at each moment messages are in order
@@ -616,15 +616,15 @@ at_each_moment l s events a p f =
     (note_events events (first_entries l.controller.side.role) l a (start_good l s) (start_reached l s) (start_noted l s)).all p f
 
 -- what the filters read
-pub is_read : (t : List Entry) (who : End) (h : Half) (n : ℕ) → Told t who h → IsRead t who n (talk_of h n)
+pub is_read : (t : List Entry) (who : End) (h : NumberedEnd) (n : ℕ) → Told t who h → IsRead t who n (talk_of h n)
 is_read t who h n b =
     let q = b n in
     record { sent = ap (λ (z : Book). z.sent) q; got = ap (λ (z : Book). z.got) q; acked = ap (λ (z : Book). z.acked) q }
 
 pub read_here : (l : Link) → IsStart l → (events : List LinkEvent) → AllAllowed l events → (n : ℕ)
-    → IsRead (trace l events) Controller n (talk_of (after l events).controller n)
-read_here l s events a n = is_read (trace l events) Controller (after l events).controller n (noted l s events a).tolds.here
+    → IsRead (trace l events) Controller n (talk_of (after_link_events l events).controller n)
+read_here l s events a n = is_read (trace l events) Controller (after_link_events l events).controller n (noted l s events a).tolds.here
 
 pub read_there : (l : Link) → IsStart l → (events : List LinkEvent) → AllAllowed l events → (n : ℕ)
-    → IsRead (trace l events) Host n (talk_of (after l events).host n)
-read_there l s events a n = is_read (trace l events) Host (after l events).host n (noted l s events a).tolds.there
+    → IsRead (trace l events) Host n (talk_of (after_link_events l events).host n)
+read_there l s events a n = is_read (trace l events) Host (after_link_events l events).host n (noted l s events a).tolds.there

@@ -7,12 +7,12 @@ use Rattle.session_laws.specs.Sessions.{OnWire, is_rset, is_up, fits, took_with}
 use Rattle.link_machine.specs.Machine.{LinkEnd, Refused, LinkInput, Turn, Report, turn, turned, give_refusal, after_input, ended_by, frames_out, sent_all, report, whole_acked}
 use Rattle.link_machine.specs.Machine.LinkInput.{Take, Tick as HasTick, Reset, Start, Stop}
 use Rattle.link_machine.specs.Machine.Turn.{Give, Hold, FetchMessage, SetAside, Release}
-use Rattle.message_link.specs.Links.{Half, Link, Ending, Comes, EndEvent, Node, exchanged, number_of, put, put_all, with_controller, with_ended, silent, finished, steps_here, happens_here, ticks_here, all_here, has_taken}
+use Rattle.message_link.specs.Links.{NumberedEnd, Link, Ending, Comes, EndEvent, Node, exchanged, number_of, put, put_all, with_controller, with_ended, silent, finished, steps_at_controller, happens_at_controller, ticks_at_controller, all_at_controller, has_taken}
 use Rattle.message_link.specs.Links.Ending.{GoesOut, CutOff}
 use Rattle.message_link.specs.Links.Loss.{TooMany}
 use Rattle.message_link.specs.Links.Comes.{NextFrame, AsksReset, Starts, Stops, NoInput}
 use Rattle.message_link.specs.Links.EndEvent.{Step, Lose}
-use Rattle.link_entries.specs.Entries.{End, Entry, far, if_so, told, told_of, turn_entry, turn_entries, sent_unless, first_lost, pushed_out, wire_with, put_entries, puts_entries, ending_entries, rest_entries, left_after, taken_entries, step_entries, here_entries, all_entries, tick_entries}
+use Rattle.link_entries.specs.Entries.{End, Entry, far, if_so, told, told_of, turn_entry, turn_entries, sent_unless, first_lost, pushed_out, wire_with, put_entries, puts_entries, ending_entries, rest_entries, left_after, taken_entries, step_entries, here_entries, entries_of_events, tick_entries}
 use Rattle.link_entries.specs.Entries.End.{Controller, Host}
 use Rattle.link_entries.specs.Entries.Entry.{Up, Down, Active, GaveUp, Acked, Got, Took, Cut}
 use Rattle.link_entries.specs.Reading.{Seen, see, see_all, kept}
@@ -189,7 +189,7 @@ rest_seen who l e ts ending =
     ∙ ending_seen who l (turned e ts) ending)
 
 -- after what is told of an input
-told_seen : (who : End) (l k : Link) (h : Half) (i : LinkInput) (e : LinkEnd) (ts : List Turn) (ending : Ending) → seen_as who k ≡ seen_as who l
+told_seen : (who : End) (l k : Link) (h : NumberedEnd) (i : LinkInput) (e : LinkEnd) (ts : List Turn) (ending : Ending) → seen_as who k ≡ seen_as who l
     → see_all (seen_as who l) (told_of who h i ++ rest_entries who k e ts ending) ≡ seen_as who (finished k (turned e ts) ending)
 told_seen who l k h i e ts ending same =
     see_all-append (seen_as who l) (told_of who h i) (rest_entries who k e ts ending)
@@ -198,7 +198,7 @@ told_seen who l k h i e ts ending same =
     ∙ rest_seen who k e ts ending)
 
 pub step_seen : (who : End) (l : Link) (comes : Comes) (ts : List Turn) (ending : Ending)
-    → see_all (seen_as who l) (step_entries who l comes ts ending) ≡ seen_as who (steps_here l comes ts ending)
+    → see_all (seen_as who l) (step_entries who l comes ts ending) ≡ seen_as who (steps_at_controller l comes ts ending)
 step_seen who l (AsksReset window) ts ending =
     let i : LinkInput = Reset window in
     told_seen who l (with_ended l (is_some (ended_by l.controller.side i))) l.controller i (after_input l.controller.side i) ts ending
@@ -216,7 +216,7 @@ step_seen who l (Starts value) ts ending = restart who
         ≡ seen_as who (finished k (turned (after_input l.controller.side i) ts) ending)
     rest who = told_seen who (emptied l) k l.controller i (after_input l.controller.side i) ts ending (silent_seen who l (after_input l.controller.side i))
 
-    restart : (who : End) → see_all (seen_as who l) (step_entries who l (Starts value) ts ending) ≡ seen_as who (steps_here l (Starts value) ts ending)
+    restart : (who : End) → see_all (seen_as who l) (step_entries who l (Starts value) ts ending) ≡ seen_as who (steps_at_controller l (Starts value) ts ending)
     restart Controller = rest Controller
     restart Host = rest Host
 step_seen who l Stops ts ending = restart who
@@ -232,7 +232,7 @@ step_seen who l Stops ts ending = restart who
         ≡ seen_as who (finished k (turned (after_input l.controller.side i) ts) ending)
     rest who = told_seen who (emptied l) k l.controller i (after_input l.controller.side i) ts ending (silent_seen who l (after_input l.controller.side i))
 
-    restart : (who : End) → see_all (seen_as who l) (step_entries who l Stops ts ending) ≡ seen_as who (steps_here l Stops ts ending)
+    restart : (who : End) → see_all (seen_as who l) (step_entries who l Stops ts ending) ≡ seen_as who (steps_at_controller l Stops ts ending)
     restart Controller = rest Controller
     restart Host = rest Host
 step_seen who l NoInput ts ending = rest_seen who l l.controller.side ts ending
@@ -256,15 +256,15 @@ step_seen who l NextFrame ts ending = go l.to_controller refl
     some : (x : OnWire) (xs : List OnWire) → l.to_controller ≡ x ∷ xs → step_entries who l NextFrame ts ending ≡ taken_entries who l x xs ts ending
     some x xs q = rw q refl
 
-    here : (x : OnWire) (xs : List OnWire) → l.to_controller ≡ x ∷ xs → steps_here l NextFrame ts ending ≡ has_taken l x xs ts ending
+    here : (x : OnWire) (xs : List OnWire) → l.to_controller ≡ x ∷ xs → steps_at_controller l NextFrame ts ending ≡ has_taken l x xs ts ending
     here x xs q = rw q refl
 
     go : (w : List OnWire) → l.to_controller ≡ w → see_all (seen_as who l) (step_entries who l NextFrame ts ending)
-        ≡ seen_as who (steps_here l NextFrame ts ending)
+        ≡ seen_as who (steps_at_controller l NextFrame ts ending)
     go [] q = rw q refl
     go (x ∷ xs) q =
         let i : LinkInput = Take x.frame in
-        let h : Half = record l.controller { took = took_with l.controller.took x } in
+        let h : NumberedEnd = record l.controller { took = took_with l.controller.took x } in
         let k : Link = left_after l x xs in
         let rest : List Entry = told_of who h i ++ rest_entries who k (after_input l.controller.side i) ts ending in
         ap (see_all (seen_as who l)) (some x xs q)
@@ -272,23 +272,23 @@ step_seen who l NextFrame ts ending = go l.to_controller refl
         ∙ (told_seen who (took_link x xs) k h i (after_input l.controller.side i) ts ending (left_seen who x xs (is_some (ended_by l.controller.side i)))
         ∙ ap (seen_as who) (sym (here x xs q))))
 
-pub here_seen : (who : End) (l : Link) (e : EndEvent) → see_all (seen_as who l) (here_entries who l e) ≡ seen_as who (happens_here l e)
+pub here_seen : (who : End) (l : Link) (e : EndEvent) → see_all (seen_as who l) (here_entries who l e) ≡ seen_as who (happens_at_controller l e)
 here_seen who l (Step comes ts ending) = step_seen who l comes ts ending
 here_seen who l (Lose why) = go who l.to_controller refl
   where
-    go : (who : End) (w : List OnWire) → l.to_controller ≡ w → see_all (seen_as who l) (here_entries who l (Lose why)) ≡ seen_as who (happens_here l (Lose why))
+    go : (who : End) (w : List OnWire) → l.to_controller ≡ w → see_all (seen_as who l) (here_entries who l (Lose why)) ≡ seen_as who (happens_at_controller l (Lose why))
     go Controller [] q = rw q refl
     go Controller (x ∷ xs) q = rw q refl
     go Host [] q = rw q refl
     go Host (x ∷ xs) q = rw q refl
 
-pub all_seen : (who : End) (es : List EndEvent) (l : Link) → see_all (seen_as who l) (all_entries who l es) ≡ seen_as who (all_here l es)
+pub all_seen : (who : End) (es : List EndEvent) (l : Link) → see_all (seen_as who l) (entries_of_events who l es) ≡ seen_as who (all_at_controller l es)
 all_seen who [] l = refl
 all_seen who (e ∷ es) l =
-    see_all-append (seen_as who l) (here_entries who l e) (all_entries who (happens_here l e) es)
-    ∙ (ap (λ s. see_all s (all_entries who (happens_here l e) es)) (here_seen who l e) ∙ all_seen who es (happens_here l e))
+    see_all-append (seen_as who l) (here_entries who l e) (entries_of_events who (happens_at_controller l e) es)
+    ∙ (ap (λ s. see_all s (entries_of_events who (happens_at_controller l e) es)) (here_seen who l e) ∙ all_seen who es (happens_at_controller l e))
 
-pub tick_seen : (who : End) (l : Link) (node : Node) → see_all (seen_as who l) (tick_entries who l node) ≡ seen_as who (ticks_here l node.turns node.ending)
+pub tick_seen : (who : End) (l : Link) (node : Node) → see_all (seen_as who l) (tick_entries who l node) ≡ seen_as who (ticks_at_controller l node.turns node.ending)
 tick_seen who l node =
     let i : LinkInput = HasTick in
     told_seen who l (with_ended l (is_some (ended_by l.controller.side i))) l.controller i (after_input l.controller.side i) node.turns node.ending

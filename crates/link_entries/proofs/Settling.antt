@@ -15,13 +15,13 @@ use Rattle.shdlc_core.specs.declared.answers.Due.{Due}
 use Rattle.shdlc_core.specs.declared.answers.Due.TheVariants.{Rr as Rr_due, Rset as Rset_due}
 use Rattle.shdlc_core.specs.Machine.{EndState, Fragment, due_left, reset_with, is_waiting, frames_of, most_frames, stopped, taken, take_answer}
 use Rattle.link_laws.proofs.Joined.{ready_cases, changed}
-use Rattle.session_laws.specs.Sessions.{OnWire, Link as CoreLink, Turn as CoreTurn, EndEvent as CoreEndEvent, turn as core_turn, turned as core_turned, is_rset, happens_here as core_happens_here}
-use Rattle.session_laws.specs.Sessions.Turn.{Offer, SetReady}
-use Rattle.session_laws.specs.Sessions.EndEvent.{Reset as CoreReset}
+use Rattle.session_laws.specs.Sessions.{OnWire, ShdlcLink as CoreLink, ShdlcTurn as CoreTurn, ShdlcEndEvent as CoreEndEvent, shdlc_turn as core_turn, shdlc_turned as core_turned, is_rset, shdlc_happens_at_controller as core_happens_here}
+use Rattle.session_laws.specs.Sessions.ShdlcTurn.{Offer, SetReady}
+use Rattle.session_laws.specs.Sessions.ShdlcEndEvent.{Reset as CoreReset}
 use Rattle.session_laws.specs.Settled.{sure_here, sure_turns, sure_all}
 use Rattle.link_machine.specs.Machine.{LinkEnd, Role, Refused, Turn, turned, is_open, is_faulty, role_after, act_answer, after_input, ended_by, frames_out, among, if_up, put_down, heard, took, reset_refusal, reset_by, window_of}
 use Rattle.link_machine.specs.Machine.LinkInput.{Take, Reset}
-use Rattle.message_link.specs.Links.{Link, Loss, EndEvent, put, with_ended, has_taken, happens_here, AreSendableTurns, IsAllowed, IsOwn}
+use Rattle.message_link.specs.Links.{Link, Loss, EndEvent, put, with_ended, has_taken, happens_at_controller, AreSendableTurns, IsAllowed, IsOwn}
 use Rattle.message_link.specs.Links.Ending.{GoesOut, CutOff}
 use Rattle.message_link.specs.Links.Comes.{NextFrame, AsksReset, Starts, Stops, NoInput}
 use Rattle.message_link.specs.Links.EndEvent.{Step, Lose}
@@ -191,7 +191,7 @@ refused_spares s who l window ts why q a h p sp =
 -- a step that takes no frame
 pub own_spares : (s : Bool) (who : End) (l : Link) (e : EndEvent) → IsOwn e → IsAllowed l e → Tells l.controller → Rests l.controller.side.shdlc
     → is_open l.controller.side.role ≡ true → Stands (here_entries who l e)
-    → Spares (here_entries who l e) s (sure_turns s (core_of l) (core_here l e)) (happens_here l e)
+    → Spares (here_entries who l e) s (sure_turns s (core_of l) (core_here l e)) (happens_at_controller l e)
 own_spares s who l (Lose why) o a h r k st = absurd o
 own_spares s who l (Step NextFrame ts ending) o a h r k st = absurd o
 own_spares s who l (Step (Starts v) ts ending) o a h r k st = absurd (true≢false st)
@@ -225,7 +225,7 @@ lost_spares s who l why p q = go l.to_controller refl
 -- a frame is taken
 frame_spares : (s : Bool) (who : End) (l : Link) (ts : List Turn) → AreSendableTurns ts → Before l → is_open l.controller.side.role ≡ true
     → Spares (step_entries who l NextFrame ts GoesOut) s (sure_turns s (core_of l) (core_step l NextFrame ts GoesOut))
-    (happens_here l (Step NextFrame ts GoesOut))
+    (happens_at_controller l (Step NextFrame ts GoesOut))
 frame_spares s who l ts a b k = go l.to_controller refl
   where
     c : CoreLink
@@ -236,16 +236,16 @@ frame_spares s who l ts a b k = go l.to_controller refl
     no_more (e ∷ es) n d = no_more es (sure_here n d e) (core_happens_here d e)
 
     go : (w : List OnWire) → l.to_controller ≡ w
-        → Spares (step_entries who l NextFrame ts GoesOut) s (sure_turns s c (core_step l NextFrame ts GoesOut)) (happens_here l (Step NextFrame ts GoesOut))
+        → Spares (step_entries who l NextFrame ts GoesOut) s (sure_turns s c (core_step l NextFrame ts GoesOut)) (happens_at_controller l (Step NextFrame ts GoesOut))
     go [] r =
         let none : core_step l NextFrame ts GoesOut ≡ [] = rw r refl in
-        let same : happens_here l (Step NextFrame ts GoesOut) ≡ l = rw r refl in
+        let same : happens_at_controller l (Step NextFrame ts GoesOut) ≡ l = rw r refl in
         (λ p q. ap (sure_turns s c) none ∙ p, ap (λ (m : Link). is_open m.controller.side.role) same ∙ k)
     go (x ∷ xs) r =
         let e : LinkEnd = l.controller.side in
         let list : core_step l NextFrame ts GoesOut ≡ core_take e x.frame ts ++ [] = rw r refl in
         let some : step_entries who l NextFrame ts GoesOut ≡ taken_entries who l x xs ts GoesOut = rw r refl in
-        let next : happens_here l (Step NextFrame ts GoesOut) ≡ has_taken l x xs ts GoesOut = rw r refl in
+        let next : happens_at_controller l (Step NextFrame ts GoesOut) ≡ has_taken l x xs ts GoesOut = rw r refl in
         let m : Link = left_after l x xs in
         let h = record l.controller { took = m.controller.took } in
         let u : List Entry = told_of who h (Take x.frame) in
@@ -265,14 +265,14 @@ frame_spares s who l ts a b k = go l.to_controller refl
 
 cut_spares : (s : Bool) (who : End) (l : Link) (ts : List Turn) → is_open l.controller.side.role ≡ true
     → Stands (step_entries who l NextFrame ts CutOff)
-    → Spares (step_entries who l NextFrame ts CutOff) s (sure_turns s (core_of l) (core_step l NextFrame ts CutOff)) (happens_here l (Step NextFrame ts CutOff))
+    → Spares (step_entries who l NextFrame ts CutOff) s (sure_turns s (core_of l) (core_step l NextFrame ts CutOff)) (happens_at_controller l (Step NextFrame ts CutOff))
 cut_spares s who l ts k q = go l.to_controller refl
   where
     go : (w : List OnWire) → l.to_controller ≡ w
-        → Spares (step_entries who l NextFrame ts CutOff) s (sure_turns s (core_of l) (core_step l NextFrame ts CutOff)) (happens_here l (Step NextFrame ts CutOff))
+        → Spares (step_entries who l NextFrame ts CutOff) s (sure_turns s (core_of l) (core_step l NextFrame ts CutOff)) (happens_at_controller l (Step NextFrame ts CutOff))
     go [] r =
         let none : core_step l NextFrame ts CutOff ≡ [] = rw r refl in
-        let same : happens_here l (Step NextFrame ts CutOff) ≡ l = rw r refl in
+        let same : happens_at_controller l (Step NextFrame ts CutOff) ≡ l = rw r refl in
         (λ p q. ap (sure_turns s (core_of l)) none ∙ p, ap (λ (m : Link). is_open m.controller.side.role) same ∙ k)
     go (x ∷ xs) r =
         let some : step_entries who l NextFrame ts CutOff ≡ taken_entries who l x xs ts CutOff = rw r refl in
@@ -283,7 +283,7 @@ cut_spares s who l ts k q = go l.to_controller refl
 
 -- what happens at an end
 pub here_spares : (s : Bool) (who : End) (l : Link) (e : EndEvent) → IsAllowed l e → Before l → is_open l.controller.side.role ≡ true
-    → Stands (here_entries who l e) → Spares (here_entries who l e) s (sure_turns s (core_of l) (core_here l e)) (happens_here l e)
+    → Stands (here_entries who l e) → Spares (here_entries who l e) s (sure_turns s (core_of l) (core_here l e)) (happens_at_controller l e)
 here_spares s who l (Lose why) a b k st = (λ p sp. lost_spares s who l why p sp, k)
 here_spares s who l (Step NextFrame ts GoesOut) a b k st = frame_spares s who l ts a.1.0 b k
 here_spares s who l (Step NextFrame ts CutOff) a b k st = cut_spares s who l ts k st

@@ -13,7 +13,7 @@ use Rattle.link_machine.specs.Machine.LinkInput.{Take, Reset, Start, Stop, FromN
 use Rattle.link_machine.specs.Machine.Turn.{Give, Hold, FetchMessage, SetAside, Release}
 use Rattle.link_machine.specs.Laws.{AreSendableInputs}
 use Rattle.link_machine.proofs.Runs.{Sound, sound_turn, fetched_data}
-use Rattle.message_link.specs.Links.{Half, Link, Ending, Comes, Loss, number_of, ended_talk, talk_now, talk_of, becomes, put, put_all, with_controller, with_ended, silent, cut, finished, AreSendableTurns, CanEnd}
+use Rattle.message_link.specs.Links.{NumberedEnd, Link, Ending, Comes, Loss, number_of, ended_talk, talk_now, talk_of, becomes, put, put_all, with_controller, with_ended, silent, cut, finished, AreSendableTurns, CanEnd}
 use Rattle.message_link.specs.Links.Ending.{GoesOut, CutOff}
 use Rattle.message_link.specs.Links.Loss.{TooMany}
 use Rattle.message_link.specs.Links.Comes.{NextFrame, AsksReset, Starts, Stops, NoInput}
@@ -34,18 +34,18 @@ sendable_first FetchMessage ts a = (tt, a, tt)
 sendable_first SetAside ts a = (tt, a, tt)
 sendable_first Release ts a = (tt, a, tt)
 
-told_turns : (ts : List Turn) (t : List Entry) (who : End) (h : Half) → AreSendableTurns ts → Sound h.side → Told t who h
+told_turns : (ts : List Turn) (t : List Entry) (who : End) (h : NumberedEnd) → AreSendableTurns ts → Sound h.side → Told t who h
     → Told (t ++ turn_entries who (number_of h) h.side ts) who (with_side h (turned h.side ts))
 told_turns [] t who h a s b = told_silent t [] who h (λ w n. refl) b
 told_turns (x ∷ ts) t who h a s b =
     let p = sendable_first x ts a in
     let one = told_turn t who h x p.0 s.is b in
-    let k : Half = with_side h (turn h.side x) in
+    let k : NumberedEnd = with_side h (turn h.side x) in
     let more = told_turns ts (t ++ turn_entry who (number_of h) h.side x) who k p.1 (sound_turn h.side x p.2 s) one in
     let P : List Entry → Type 0 = λ u. Told u who (with_side h (turned h.side (x ∷ ts))) in
     subst P (append_assoc t (turn_entry who (number_of h) h.side x) (turn_entries who (number_of h) (turn h.side x) ts)) more
 
-far_turns : (ts : List Turn) (t : List Entry) (who : End) (k : ℕ) (e : LinkEnd) (h : Half) → Told t (far who) h
+far_turns : (ts : List Turn) (t : List Entry) (who : End) (k : ℕ) (e : LinkEnd) (h : NumberedEnd) → Told t (far who) h
     → Told (t ++ turn_entries who k e ts) (far who) h
 far_turns [] t who k e h b = told_silent t [] (far who) h (λ w n. refl) b
 far_turns (x ∷ ts) t who k e h b =
@@ -119,7 +119,7 @@ cut_told t who l e can b n = b n ∙ go e.shdlc.phase refl e.role refl can
     phase = (frames_alike most_frames e.shdlc).phase
 
     -- the end that is new
-    at : Bool → Role → Half
+    at : Bool → Role → NumberedEnd
     at c r =
         let m : Link = with_ended (with_controller l f) c in
         record m.controller { side = new_link_end (renewed r) }
@@ -199,7 +199,7 @@ one_rest who l e ts ending =
     one-append who (turn_entries who (number_of l.controller) e ts) (ending_entries who l (turned e ts) ending) (one_turns who (number_of l.controller) e ts)
     (one_ending who l (turned e ts) ending)
 
-pub one_input : (who : End) (l k : Link) (h : Half) (i : LinkInput) (e : LinkEnd) (ts : List Turn) (ending : Ending)
+pub one_input : (who : End) (l k : Link) (h : NumberedEnd) (i : LinkInput) (e : LinkEnd) (ts : List Turn) (ending : Ending)
     → OfOne who (told_of who h i ++ rest_entries who k e ts ending)
 one_input who l k h i e ts ending =
     one-append who (told_of who h i) (rest_entries who k e ts ending) (one_told who (number_of h) (report h.side i) (whole_acked (after_input h.side i)))
@@ -264,10 +264,10 @@ pub record Out (t u : List Entry) (who : End) (m : Link) : Type 0 where
   pub tolds : Tolds (t ++ u) who m
   pub few : AllFew t who u
 
-told_at : (t : List Entry) (who : End) (h k : Half) → k ≡ h → Told t who h → Told t who k
-told_at t who h k q b = let P : Half → Type 0 = λ z. Told t who z in subst P (sym q) b
+told_at : (t : List Entry) (who : End) (h k : NumberedEnd) → k ≡ h → Told t who h → Told t who k
+told_at t who h k q b = let P : NumberedEnd → Type 0 = λ z. Told t who z in subst P (sym q) b
 
-told_list : (t u : List Entry) (who : End) (h : Half) → t ≡ u → Told t who h → Told u who h
+told_list : (t u : List Entry) (who : End) (h : NumberedEnd) → t ≡ u → Told t who h → Told u who h
 told_list t u who h q b = let P : List Entry → Type 0 = λ z. Told z who h in subst P q b
 
 -- the turns of its node and the end of a step
@@ -296,7 +296,7 @@ rest_told t who l e ts ending a can none s here there =
     }
 
 -- an input, the turns and the end of a step: l becomes k
-pub input_told : (t : List Entry) (who : End) (l k : Link) (i : LinkInput) (h : Half) (ts : List Turn) (ending : Ending)
+pub input_told : (t : List Entry) (who : End) (l k : Link) (i : LinkInput) (h : NumberedEnd) (ts : List Turn) (ending : Ending)
     → (let f : LinkEnd = after_input l.controller.side i in
     Input l.controller (with_side k.controller f) (is_some (ended_by l.controller.side i)) (began_by l.controller.side i) (report l.controller.side i)
     → h.side ≡ l.controller.side → number_of h ≡ number_of k.controller → k.host ≡ l.host

@@ -4,15 +4,15 @@ use Rattle.std.specs.Prelude.{is_some, nat_lt}
 use Rattle.std.specs.List.{list_any}
 use Rattle.std.proofs.lemmas.Bool.{true≢false}
 use Rattle.shdlc_core.specs.Machine.{is_waiting}
-use Rattle.session_laws.specs.Sessions.{OnWire, Link as CoreLink, Turn as CoreTurn, EndEvent as CoreEndEvent, LinkEvent as CoreLinkEvent, exchanged as core_exchanged, aged as core_aged, happens as core_happens, happens_here as core_happens_here, all_here as core_all_here, after as core_after, ticks_or_cut as core_ticks_or_cut, ticks_if_waiting as core_ticks_if_waiting}
-use Rattle.session_laws.specs.Sessions.LinkEvent.{AtController as CoreAtController, AtHost as CoreAtHost, Tick as CoreTick, TickWithout as CoreTickWithout}
+use Rattle.session_laws.specs.Sessions.{OnWire, ShdlcLink as CoreLink, ShdlcTurn as CoreTurn, ShdlcEndEvent as CoreEndEvent, ShdlcLinkEvent as CoreLinkEvent, shdlc_exchanged as core_exchanged, shdlc_aged as core_aged, shdlc_happens as core_happens, shdlc_happens_at_controller as core_happens_here, shdlc_all_at_controller as core_all_here, shdlc_after as core_after, ticks_or_cut as core_ticks_or_cut, ticks_if_waiting as core_ticks_if_waiting}
+use Rattle.session_laws.specs.Sessions.ShdlcLinkEvent.{AtController as CoreAtController, AtHost as CoreAtHost, Tick as CoreTick, TickWithout as CoreTickWithout}
 use Rattle.session_laws.specs.Losses.{is_act, sans, loses_aged}
 use Rattle.session_laws.specs.Settled.{sure_here, sure_turns, sure_tick, sure_if_waiting, sure_aged, sure_event, sure_after}
 use Rattle.session_laws.proofs.Sending.{SafeLink}
 use Rattle.session_laws.proofs.Steps.{safe_aged, safe_turns, safe_exchanged, tick_or_cut, tick_if_waiting}
 use Rattle.link_machine.specs.Machine.{LinkEnd, Turn, is_open, after_input, ended_by, turned}
 use Rattle.link_machine.specs.Machine.LinkInput.{Tick as HasTick, Reset}
-use Rattle.message_link.specs.Links.{Half, Link, Ending, Node, IsStart, EndEvent, LinkEvent, exchanged, with_ended, happens_here, happens, all_here, ticks_here, aged, after, IsNode, IsAllowed, AreOwn, IsEvent, AllAllowed}
+use Rattle.message_link.specs.Links.{NumberedEnd, Link, Ending, Node, IsStart, EndEvent, LinkEvent, exchanged, with_ended, happens_at_controller, happens, all_at_controller, ticks_at_controller, aged, after_link_events, IsNode, IsAllowed, AreOwn, IsEvent, AllAllowed}
 use Rattle.message_link.specs.Links.Ending.{GoesOut, CutOff}
 use Rattle.message_link.specs.Links.Comes.{AsksReset}
 use Rattle.message_link.specs.Links.EndEvent.{Step}
@@ -24,7 +24,7 @@ use Rattle.message_link.proofs.Finishing.{reset_tells, step_tick, tick_open, all
 use Rattle.message_link.proofs.Quiet.{up_together}
 use Rattle.message_link.proofs.Runs.{Good, Reached, safe_reached, rests_of, reached_more, own_here, own_turns, all_step, rest_both, event_step, step_here, tells_same}
 use Rattle.message_link.proofs.Whole.{start_good, start_reached}
-use Rattle.link_entries.specs.Entries.{End, Entry, told_of, rest_entries, here_entries, all_entries, aged_entries, tick_entries, event_entries, entries, first_entries}
+use Rattle.link_entries.specs.Entries.{End, Entry, told_of, rest_entries, here_entries, entries_of_events, aged_entries, tick_entries, event_entries, entries, first_entries}
 use Rattle.link_entries.specs.Entries.End.{Controller, Host}
 use Rattle.link_entries.specs.Settled.{withholds, FindsReady, IsReset, rest_of}
 use Rattle.link_entries.proofs.Running.{before_here, before_there, host_here, Noted, note_event, start_noted}
@@ -53,17 +53,17 @@ turns-append s c [] fs = refl
 turns-append s c (e ∷ es) fs = turns-append (sure_here s c e) (core_happens_here c e) es fs
 
 all_spares : (kf : ℕ) (es : List EndEvent) (s : Bool) (l : Link) → AreOwn l es → Tells l.controller → SafeLink 0 kf (core_of l)
-    → is_open l.controller.side.role ≡ true → Stands (all_entries Controller l es)
-    → Spares (all_entries Controller l es) s (sure_turns s (core_of l) (core_all l es)) (all_here l es)
+    → is_open l.controller.side.role ≡ true → Stands (entries_of_events Controller l es)
+    → Spares (entries_of_events Controller l es) s (sure_turns s (core_of l) (core_all l es)) (all_at_controller l es)
 all_spares kf [] s l a h safe k st = (λ p sp. p, k)
 all_spares kf (e ∷ es) s l a h safe k st =
     let r = rests_of 0 kf (core_of l) safe in
     let one = own_here l e a.0 a.1 h r in
-    let m : Link = happens_here l e in
+    let m : Link = happens_at_controller l e in
     let P : CoreLink → Type 0 = λ c. SafeLink 0 kf c in
     let next : SafeLink 0 kf (core_of m) = subst P (sym one.core) (safe_turns kf (core_here l e) (core_of l) (own_turns l e r a.0 a.1) safe) in
     let u : List Entry = here_entries Controller l e in
-    let v : List Entry = all_entries Controller m es in
+    let v : List Entry = entries_of_events Controller m es in
     let y = stands_parts u v st in
     let n : Bool = sure_turns s (core_of l) (core_here l e) in
     let first = own_spares s Controller l e a.0 a.1 h r k y.0 in
@@ -102,7 +102,7 @@ tick_flag s l node =
 
 tick_spares : (s : Bool) (who : End) (l : Link) (node : Node) → IsNode l node.turns node.ending → Tells l.controller
     → is_open l.controller.side.role ≡ true → Stands (tick_entries who l node)
-    → Spares (tick_entries who l node) s (tick_flag s l node) (ticks_here l node.turns node.ending)
+    → Spares (tick_entries who l node) s (tick_flag s l node) (ticks_at_controller l node.turns node.ending)
 tick_spares s who l node a h k st = go node.ending refl
   where
     e : LinkEnd
@@ -120,12 +120,12 @@ tick_spares s who l node a h k st = go node.ending refl
     as_named : Ending → Node
     as_named ending = record { turns = ts; ending = ending }
 
-    go : (ending : Ending) → node.ending ≡ ending → Spares (tick_entries who l node) s (tick_flag s l node) (ticks_here l ts node.ending)
+    go : (ending : Ending) → node.ending ≡ ending → Spares (tick_entries who l node) s (tick_flag s l node) (ticks_at_controller l ts node.ending)
     go CutOff q =
         let P : Ending → Type 0 = λ z. Stands (tick_entries who l (as_named z)) in
         absurd (rest_cut (told_of who l.controller HasTick) who m f ts (subst P q st))
     go GoesOut q =
-        let Q : Ending → Type 0 = λ z. Spares (tick_entries who l (as_named z)) s (tick_flag s l (as_named z)) (ticks_here l ts z) in
+        let Q : Ending → Type 0 = λ z. Spares (tick_entries who l (as_named z)) s (tick_flag s l (as_named z)) (ticks_at_controller l ts z) in
         let first : core_tick e ts GoesOut ≡ Some (core_turns f ts) = rw k refl in
         let rest : core_tick_rest e ts GoesOut ≡ [] = rw k refl in
         let flag : tick_flag s l (as_named GoesOut) ≡ sure_tick s (Some (core_turns f ts)) (core_of l) =
@@ -153,11 +153,11 @@ pub record Goes (u : List Entry) (s n : Bool) (l : Link) : Type 0 where
   pub sure : s ≡ true → Spared u → n ≡ true
   pub active : AreActive l
 
-open_as : (h k : Half) → h ≡ k → is_open k.side.role ≡ true → is_open h.side.role ≡ true
-open_as h k q o = ap (λ (z : Half). is_open z.side.role) q ∙ o
+open_as : (h k : NumberedEnd) → h ≡ k → is_open k.side.role ≡ true → is_open h.side.role ≡ true
+open_as h k q o = ap (λ (z : NumberedEnd). is_open z.side.role) q ∙ o
 
 -- the tick of an end leaves the other one as it is
-pub ticks_host : (l : Link) (ts : List Turn) (ending : Ending) → (ticks_here l ts ending).host ≡ l.host
+pub ticks_host : (l : Link) (ts : List Turn) (ending : Ending) → (ticks_at_controller l ts ending).host ≡ l.host
 ticks_host l ts ending =
     let b : Bool = is_some (ended_by l.controller.side HasTick) in
     host_finished (with_ended l b) (turned (after_input l.controller.side HasTick) ts) ending ∙ ended_host l b
@@ -169,25 +169,25 @@ event_goes t s l (AtController e) a g r n o st =
     let k = here_spares s Controller l e a (before_here l g r n.sounds) o.controller st in
     record {
       sure = λ p sp. sure_near s (core_of l) (core_here l e) ∙ k.0 p sp;
-      active = record { controller = k.1; host = open_as (happens_here l e).host l.host (host_here l e a g r) o.host };
+      active = record { controller = k.1; host = open_as (happens_at_controller l e).host l.host (host_here l e a g r) o.host };
     }
 event_goes t s l (AtHost e) a g r n o st =
     let f : Link = exchanged l in
     let b = before_there l g r n.sounds in
     let k = here_spares s Host f e a b o.host st in
-    let host : (happens_here f e).host ≡ f.host = (step_here f e a b.tells b.host b.calm (rests_of 0 0 (core_of f) b.safe) b.from).host in
+    let host : (happens_at_controller f e).host ≡ f.host = (step_here f e a b.tells b.host b.calm (rests_of 0 0 (core_of f) b.safe) b.from).host in
     record {
       sure = λ p sp. sure_there s (core_of l) (core_here f e) ∙ k.0 p sp;
-      active = record { controller = open_as (happens_here f e).host f.host host o.controller; host = k.1 };
+      active = record { controller = open_as (happens_at_controller f e).host f.host host o.controller; host = k.1 };
     }
 event_goes t s l (Ticks c es h) a g r n o st =
     let s0 = safe_aged (core_of l) (safe_reached (core_of l) r) in
     let ps : List Entry = aged_entries Controller l.to_controller in
     let bs : List Entry = aged_entries Host l.to_host in
-    let near : Link = ticks_here (aged l) c.turns c.ending in
+    let near : Link = ticks_at_controller (aged l) c.turns c.ending in
     let cs : List Entry = tick_entries Controller (aged l) c in
-    let ds : List Entry = all_entries Controller near es in
-    let m : Link = all_here near es in
+    let ds : List Entry = entries_of_events Controller near es in
+    let m : Link = all_at_controller near es in
     let fs : List Entry = tick_entries Host (exchanged m) h in
     let q1 = stands_parts ps (bs ++ (cs ++ (ds ++ fs))) st in
     let q2 = stands_parts bs (cs ++ (ds ++ fs)) q1.1 in
@@ -227,12 +227,12 @@ event_goes t s l (Ticks c es h) a g r n o st =
           let p4 = spared_parts ds fs p3.1 in
           flag ∙ k4.0 (k3.0 (k2.0 (aged_sure s l p p1.0 p2.0) p3.0) p4.0) p4.1;
       active = record {
-        controller = open_as (ticks_here (exchanged m) h.turns h.ending).host m.controller (ticks_host (exchanged m) h.turns h.ending) k3.1;
+        controller = open_as (ticks_at_controller (exchanged m) h.turns h.ending).host m.controller (ticks_host (exchanged m) h.turns h.ending) k3.1;
         host = k4.1;
       };
     }
   where
-    flags : Bool → CoreLink → Half → Bool
+    flags : Bool → CoreLink → NumberedEnd → Bool
     flags n d z =
         let t : Option (List CoreTurn) = core_tick z.side h.turns h.ending in
         sure_turns (sure_tick n t (core_exchanged d)) (core_ticks_or_cut t (core_exchanged d)) (core_tick_rest z.side h.turns h.ending)
@@ -241,8 +241,8 @@ event_goes t s l (TicksWithout es h) a g r n o st =
     let ps : List Entry = aged_entries Controller l.to_controller in
     let bs : List Entry = aged_entries Host l.to_host in
     let near : Link = aged l in
-    let ds : List Entry = all_entries Controller near es in
-    let m : Link = all_here near es in
+    let ds : List Entry = entries_of_events Controller near es in
+    let m : Link = all_at_controller near es in
     let fs : List Entry = tick_entries Host (exchanged m) h in
     let q1 = stands_parts ps (bs ++ (ds ++ fs)) st in
     let q2 = stands_parts bs (ds ++ fs) q1.1 in
@@ -272,12 +272,12 @@ event_goes t s l (TicksWithout es h) a g r n o st =
           let p4 = spared_parts ds fs p2.1 in
           flag ∙ k4.0 (k3.0 (aged_sure s l p p1.0 p2.0) p4.0) p4.1;
       active = record {
-        controller = open_as (ticks_here (exchanged m) h.turns h.ending).host m.controller (ticks_host (exchanged m) h.turns h.ending) k3.1;
+        controller = open_as (ticks_at_controller (exchanged m) h.turns h.ending).host m.controller (ticks_host (exchanged m) h.turns h.ending) k3.1;
         host = k4.1;
       };
     }
   where
-    flags : Bool → CoreLink → Half → Bool
+    flags : Bool → CoreLink → NumberedEnd → Bool
     flags n d z =
         let t : Option (List CoreTurn) = core_tick z.side h.turns h.ending in
         sure_turns (sure_tick n t (core_exchanged d)) (core_ticks_or_cut t (core_exchanged d)) (core_tick_rest z.side h.turns h.ending)
@@ -312,7 +312,7 @@ behind_sure (e ∷ es) t s l a g r n o p sp st =
 -- a reset at the controller's end, and one at the host's
 asked_here : (s : Bool) (l : Link) (window : Option ℕ) (ts : List Turn) → IsAllowed l (Step (AsksReset window) ts GoesOut) → FindsReady l
     → (sure_turns s (core_of l) (core_here l (Step (AsksReset window) ts GoesOut)) ≡ true)
-    × (is_open (happens_here l (Step (AsksReset window) ts GoesOut)).controller.side.role ≡ true)
+    × (is_open (happens_at_controller l (Step (AsksReset window) ts GoesOut)).controller.side.role ≡ true)
 asked_here s l window ts a f = (
   reset_sure s l window ts f.granted f.free,
   ap is_open (turned_role (after_input l.controller.side (Reset window)) ts ∙ reset_role l.controller.side window) ∙ (reset_tells l.controller.side f.granted).0,
@@ -334,12 +334,12 @@ asked_in_tick s l window ts es h a g r f sp st =
     let x : EndEvent = Step (AsksReset window) ts GoesOut in
     let rests = rests_of 0 1 (core_of near) near_safe in
     let one = own_here near x tt a.1.1 g.controller rests in
-    let m : Link = happens_here near x in
+    let m : Link = happens_at_controller near x in
     let m_safe : SafeLink 0 1 (core_of m) = subst P (sym one.core) (safe_turns 1 (core_here near x) (core_of near) (own_turns near x rests tt a.1.1) near_safe) in
     let all = all_step 1 near (x ∷ es) a.1 g.controller near_safe in
     let turns : List CoreEndEvent = core_all near (x ∷ es) in
-    let last : Link = all_here m es in
-    let ds : List Entry = all_entries Controller m es in
+    let last : Link = all_at_controller m es in
+    let ds : List Entry = entries_of_events Controller m es in
     let fs : List Entry = tick_entries Host (exchanged last) h in
     let p = spared_parts ds fs sp in
     let q = stands_parts ds fs st in
@@ -362,12 +362,12 @@ asked_in_tick s l window ts es h a g r f sp st =
     ∙ (ap (λ z. flags z (core_all_here first turns) l.host) y_is ∙ (ap (λ z. flags n3 z l.host) d_is ∙ ap (flags n3 (core_of last)) (sym host_is))) in (
       flag ∙ k4.0 (k3.0 asked.0 p.0) p.1,
       record {
-        controller = open_as (ticks_here (exchanged last) h.turns h.ending).host last.controller (ticks_host (exchanged last) h.turns h.ending) k3.1;
+        controller = open_as (ticks_at_controller (exchanged last) h.turns h.ending).host last.controller (ticks_host (exchanged last) h.turns h.ending) k3.1;
         host = k4.1;
       },
     )
   where
-    flags : Bool → CoreLink → Half → Bool
+    flags : Bool → CoreLink → NumberedEnd → Bool
     flags n d z =
         let t : Option (List CoreTurn) = core_tick z.side h.turns h.ending in
         sure_turns (sure_tick n t (core_exchanged d)) (core_ticks_or_cut t (core_exchanged d)) (core_tick_rest z.side h.turns h.ending)
@@ -381,21 +381,21 @@ asked_goes : (s : Bool) (l : Link) (e : LinkEvent) → IsEvent l e → Good l �
 asked_goes s l (AtController (Step (AsksReset window) ts GoesOut)) a g r f sp st =
     let x : EndEvent = Step (AsksReset window) ts GoesOut in
     let k = asked_here s l window ts a f in
-    (sure_near s (core_of l) (core_here l x) ∙ k.0, record { controller = k.1; host = open_as (happens_here l x).host l.host (host_here l x a g r) f.active })
+    (sure_near s (core_of l) (core_here l x) ∙ k.0, record { controller = k.1; host = open_as (happens_at_controller l x).host l.host (host_here l x a g r) f.active })
 asked_goes s l (AtHost (Step (AsksReset window) ts GoesOut)) a g r f sp st =
     let x : EndEvent = Step (AsksReset window) ts GoesOut in
     let m : Link = exchanged l in
     let k = asked_here s m window ts a f in
     let safe = safe_exchanged 0 0 (core_of l) (safe_reached (core_of l) r) in
-    let host : (happens_here m x).host ≡ m.host = (own_here m x tt a g.host (rests_of 0 0 (core_of m) safe)).host in
-    (sure_there s (core_of l) (core_here m x) ∙ k.0, record { controller = open_as (happens_here m x).host m.host host f.active; host = k.1 })
+    let host : (happens_at_controller m x).host ≡ m.host = (own_here m x tt a g.host (rests_of 0 0 (core_of m) safe)).host in
+    (sure_there s (core_of l) (core_here m x) ∙ k.0, record { controller = open_as (happens_at_controller m x).host m.host host f.active; host = k.1 })
 asked_goes s l (TicksWithout (Step (AsksReset window) ts GoesOut ∷ es) h) a g r f sp st = asked_in_tick s l window ts es h a g r f sp st
 asked_goes s l (_) a g r f sp st = absurd f
 
 run_sure : (before : List LinkEvent) (reset : LinkEvent) (behind : List LinkEvent) (t : List Entry) (s : Bool) (l : Link)
-    → AllAllowed l (before ++ reset ∷ behind) → Good l → Reached (core_of l) → Noted t l → IsReset (after l before) reset
-    → Spared (rest_of (after l before) reset ++ entries (happens (after l before) reset) behind)
-    → Stands (rest_of (after l before) reset ++ entries (happens (after l before) reset) behind)
+    → AllAllowed l (before ++ reset ∷ behind) → Good l → Reached (core_of l) → Noted t l → IsReset (after_link_events l before) reset
+    → Spared (rest_of (after_link_events l before) reset ++ entries (happens (after_link_events l before) reset) behind)
+    → Stands (rest_of (after_link_events l before) reset ++ entries (happens (after_link_events l before) reset) behind)
     → sure_after s (core_of l) (core_events l (before ++ reset ∷ behind)) ≡ true
 run_sure [] e behind t s l a g r n is sp st =
     let ev = event_step l e a.0 g r in
@@ -416,11 +416,11 @@ run_sure (x ∷ before) e behind t s l a g r n is sp st =
 
 -- where nothing withheld the answer to a reset, and both wires are empty now
 pub together : (l : Link) → IsStart l → (before : List LinkEvent) (reset : LinkEvent) (behind : List LinkEvent) → AllAllowed l (before ++ reset ∷ behind)
-    → IsReset (after l before) reset → list_any withholds (rest_of (after l before) reset ++ entries (happens (after l before) reset) behind) ≡ false
-    → (after l (before ++ reset ∷ behind)).to_controller ≡ [] → (after l (before ++ reset ∷ behind)).to_host ≡ []
-    → LinkTogether (after l (before ++ reset ∷ behind))
+    → IsReset (after_link_events l before) reset → list_any withholds (rest_of (after_link_events l before) reset ++ entries (happens (after_link_events l before) reset) behind) ≡ false
+    → (after_link_events l (before ++ reset ∷ behind)).to_controller ≡ [] → (after_link_events l (before ++ reset ∷ behind)).to_host ≡ []
+    → LinkTogether (after_link_events l (before ++ reset ∷ behind))
 together l s before reset behind a asked undisturbed near there =
-    let none = none_withholds (rest_of (after l before) reset ++ entries (happens (after l before) reset) behind) undisturbed in
+    let none = none_withholds (rest_of (after_link_events l before) reset ++ entries (happens (after_link_events l before) reset) behind) undisturbed in
     up_together l s (before ++ reset ∷ behind) a
     (record {
       undisturbed = run_sure before reset behind (first_entries l.controller.side.role) false l a (start_good l s) (start_reached l s) (start_noted l s) asked none.0

@@ -7,7 +7,7 @@ use Rattle.link_machine.specs.Machine.{Message, LinkEnd, Role, Refused, LinkInpu
 use Rattle.link_machine.specs.Machine.Role.{Bare}
 use Rattle.link_machine.specs.Machine.LinkInput.{Take, Tick as HasTick, Reset, Start, Stop}
 use Rattle.link_machine.specs.Machine.Turn.{Give}
-use Rattle.message_link.specs.Links.{Half, Link, Ending, Comes, Loss, EndEvent, Node, LinkEvent, exchanged, number_of, put, with_ended, silent, steps_here, happens_here, happens, ticks_here, aged, all_here}
+use Rattle.message_link.specs.Links.{NumberedEnd, Link, Ending, Comes, Loss, EndEvent, Node, LinkEvent, exchanged, number_of, put, with_ended, silent, steps_at_controller, happens_at_controller, happens, ticks_at_controller, aged, all_at_controller}
 use Rattle.message_link.specs.Links.Ending.{GoesOut, CutOff}
 use Rattle.message_link.specs.Links.Loss.{TooOld, TooMany}
 use Rattle.message_link.specs.Links.Comes.{NextFrame, AsksReset, Starts, Stops, NoInput}
@@ -63,7 +63,7 @@ told who n r acked =
     ++ (map (GaveUp who) (option_to_list r.gave_up) ++ (if_so (nat_lt 0 r.acked) (Acked who n acked) ++ map (Got who n) r.got))))
 
 -- what is told of an input to the end of h
-abbrev pub told_of : End → Half → LinkInput → List Entry
+abbrev pub told_of : End → NumberedEnd → LinkInput → List Entry
 told_of who h i = told who (number_of h) (report h.side i) (whole_acked (after_input h.side i))
 
 -- a message that isn't refused is sent
@@ -157,9 +157,9 @@ here_entries who l (Step comes turns ending) = step_entries who l comes turns en
 here_entries who l (Lose why) = first_lost who why l.to_controller
 
 -- where these things happen there, one after another
-abbrev pub all_entries : End → Link → List EndEvent → List Entry
-all_entries who l [] = []
-all_entries who l (e ∷ es) = here_entries who l e ++ all_entries who (happens_here l e) es
+abbrev pub entries_of_events : End → Link → List EndEvent → List Entry
+entries_of_events who l [] = []
+entries_of_events who l (e ∷ es) = here_entries who l e ++ entries_of_events who (happens_at_controller l e) es
 
 -- the frames on the wire to an end that are too old
 abbrev pub aged_entries : End → List OnWire → List Entry
@@ -175,17 +175,17 @@ abbrev pub event_entries : Link → LinkEvent → List Entry
 event_entries l (AtController e) = here_entries Controller l e
 event_entries l (AtHost e) = here_entries Host (exchanged l) e
 event_entries l (Ticks c events h) =
-    let near : Link = ticks_here (aged l) c.turns c.ending in
+    let near : Link = ticks_at_controller (aged l) c.turns c.ending in
     Tick
     ∷ (aged_entries Controller l.to_controller ++ (aged_entries Host l.to_host
-    ++ (tick_entries Controller (aged l) c ++ (all_entries Controller near events ++ tick_entries Host (exchanged (all_here near events)) h))))
+    ++ (tick_entries Controller (aged l) c ++ (entries_of_events Controller near events ++ tick_entries Host (exchanged (all_at_controller near events)) h))))
 event_entries l (TicksWithout events h) =
     Tick
     ∷ (aged_entries Controller l.to_controller ++ (aged_entries Host l.to_host
-    ++ (all_entries Controller (aged l) events ++ tick_entries Host (exchanged (all_here (aged l) events)) h)))
+    ++ (entries_of_events Controller (aged l) events ++ tick_entries Host (exchanged (all_at_controller (aged l) events)) h)))
 event_entries l (Activate power c id h) =
     step_entries Controller l (Starts power) c.turns c.ending
-    ++ step_entries Host (exchanged (steps_here l (Starts power) c.turns c.ending)) (Starts id) h.turns h.ending
+    ++ step_entries Host (exchanged (steps_at_controller l (Starts power) c.turns c.ending)) (Starts id) h.turns h.ending
 
 -- what is noted of these events, one after another
 abbrev pub entries : Link → List LinkEvent → List Entry

@@ -4,16 +4,16 @@ use Rattle.swp_base.specs.declared.link_terms.Cause.TheVariants.{Chain}
 use Rattle.hcp_packet.specs.Packets.{good_of, IsFrontOf}
 use Rattle.link_entries.specs.Entries.{End, Entry, far}
 use Rattle.link_entries.specs.Entries.Entry.{Down}
-use Rattle.link_entries.specs.Filters.{sent_in, got_in, acked_in}
+use Rattle.link_entries.specs.Filters.{sent_noted, got_noted, acked_noted}
 
 -- In the session with this number the other end got a front of the good messages that this end sent, the good ones among those
 -- that count as acknowledged are a front of what it got, and no more count than were sent.
 pub record InOrderIn (t : List Entry) (who : End) (n : ℕ) : Type 0 where
-  pub got : IsFrontOf (got_in t (far who) n) (good_of (sent_in t who n))
-  pub acked : IsFrontOf (good_of (take (acked_in t who n) (sent_in t who n))) (got_in t (far who) n)
-  pub few : acked_in t who n ≤ length (sent_in t who n)
+  pub got : IsFrontOf (got_noted t (far who) n) (good_of (sent_noted t who n))
+  pub acked : IsFrontOf (good_of (take (acked_noted t who n) (sent_noted t who n))) (got_noted t (far who) n)
+  pub few : acked_noted t who n ≤ length (sent_noted t who n)
 
 -- a session ends by a packet that can't be joined
-abbrev pub is_chain_fault : Entry → Bool
-is_chain_fault (Down who Chain) = true
-is_chain_fault _ = false
+abbrev pub is_noted_chain_fault : Entry → Bool
+is_noted_chain_fault (Down who Chain) = true
+is_noted_chain_fault _ = false

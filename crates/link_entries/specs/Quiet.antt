@@ -8,7 +8,7 @@ use Rattle.hcp_packet.specs.Packets.{good_of}
 use Rattle.message_link.specs.Links.{Link, number_of}
 use Rattle.link_entries.specs.Entries.{End, Entry, far}
 use Rattle.link_entries.specs.Entries.Entry.{Up, Emit, Lost, Restarted, Cut}
-use Rattle.link_entries.specs.Filters.{sent_in, got_in, acked_in}
+use Rattle.link_entries.specs.Filters.{sent_noted, got_noted, acked_noted}
 
 -- a frame is lost, RNR is put on the link, or an end is started, stopped or cut off, which empties both wires
 abbrev pub disturbs : Entry → Bool
@@ -37,6 +37,6 @@ pub record IsQuietSince (t : List Entry) (l : Link) : Type 0 where
   pub to_host : l.to_host ≡ []
 
 -- the other end got all good messages that this end sent in a session, and all that it sent are acknowledged
-pub record IsDelivered (t : List Entry) (who : End) (n : ℕ) : Type 0 where
-  pub got : got_in t (far who) n ≡ good_of (sent_in t who n)
-  pub acked : acked_in t who n ≡ length (sent_in t who n)
+pub record IsDeliveredOnLink (t : List Entry) (who : End) (n : ℕ) : Type 0 where
+  pub got : got_noted t (far who) n ≡ good_of (sent_noted t who n)
+  pub acked : acked_noted t who n ≡ length (sent_noted t who n)

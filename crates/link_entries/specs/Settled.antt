@@ -4,12 +4,12 @@ use Rattle.std.specs.List.{list_any}
 use Rattle.shdlc_core.specs.Machine.{is_waiting}
 use Rattle.link_machine.specs.Machine.{is_open, reset_refusal}
 use Rattle.session_laws.specs.Sessions.{is_rset}
-use Rattle.message_link.specs.Links.{Link, LinkEvent, exchanged, aged, all_here, happens_here, happens}
+use Rattle.message_link.specs.Links.{Link, LinkEvent, exchanged, aged, all_at_controller, happens_at_controller, happens}
 use Rattle.message_link.specs.Links.Ending.{GoesOut}
 use Rattle.message_link.specs.Links.Comes.{AsksReset}
 use Rattle.message_link.specs.Links.EndEvent.{Step}
 use Rattle.message_link.specs.Links.LinkEvent.{AtController, AtHost, TicksWithout}
-use Rattle.link_entries.specs.Entries.{Entry, all_entries, tick_entries, entries}
+use Rattle.link_entries.specs.Entries.{Entry, entries_of_events, tick_entries, entries}
 use Rattle.link_entries.specs.Entries.End.{Controller, Host}
 use Rattle.link_entries.specs.Reading.{nothing_seen, see_all}
 use Rattle.link_entries.specs.Sessions.{session_in}
@@ -39,8 +39,8 @@ IsReset l _ = ⊥
 -- what is noted behind it in its event
 abbrev pub rest_of : Link → LinkEvent → List Entry
 rest_of l (TicksWithout (reset ∷ events) node) =
-    let m : Link = happens_here (aged l) reset in
-    all_entries Controller m events ++ tick_entries Host (exchanged (all_here m events)) node
+    let m : Link = happens_at_controller (aged l) reset in
+    entries_of_events Controller m events ++ tick_entries Host (exchanged (all_at_controller m events)) node
 rest_of l _ = []
 
 -- t is all that is noted of a link up to now. Where l is the link before a reset, which was such a one, nothing that was noted behind
@@ -52,7 +52,7 @@ pub record IsSettledSince (t : List Entry) (l : Link) (reset : LinkEvent) (behin
   pub to_host : (see_all nothing_seen t).to_host ≡ []
 
 -- both ends are up with one number, as it is noted
-pub record AreUpTogether (t : List Entry) : Type 0 where
+pub record AreNotedUpTogether (t : List Entry) : Type 0 where
   pub number : ℕ
   pub controller : session_in t Controller ≡ Some number
   pub host : session_in t Host ≡ Some number

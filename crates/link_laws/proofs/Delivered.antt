@@ -7,7 +7,7 @@ use mathlib.Core.List.{IsPrefix}
 use Rattle.swp_base.specs.declared.control_frames.Control.{Control}
 use Rattle.shdlc_core.specs.Machine.{EndState, Session, Fragment, frame_due, fragment_due}
 use Rattle.link_laws.specs.Wire.{OnWire}
-use Rattle.link_laws.specs.Order.{AllDelivered}
+use Rattle.link_laws.specs.Order.{FragmentsDelivered}
 use Rattle.link_laws.proofs.Marks.{Shows}
 use Rattle.link_laws.proofs.Whole.{NoRnr, Whole}
 use Rattle.link_laws.proofs.Joined.{Joined, Sends, fetch_cases}
@@ -50,7 +50,7 @@ delivered_by s acc sends whole none =
     (whole_front acc s.out sends.front (omega (arith, sends.next_reach)), omega (arith, sends.next_reach, sends.reach_out))
 
 pub delivered : (W : Type 0) (near far : EndState) (to_near to_far : List OnWire) → Joined W near far to_near to_far
-    → W → frame_due near ≡ None → frame_due far ≡ None → to_near ≡ [] → to_far ≡ [] → AllDelivered near.session far.session
+    → W → frame_due near ≡ None → frame_due far ≡ None → to_near ≡ [] → to_far ≡ [] → FragmentsDelivered near.session far.session
 delivered W near far to_near to_far h w near_idle far_idle near_empty far_empty =
     let a : h.near_marks ≡ [] = no_marks to_near h.near_marks near_empty h.near_shows in
     let b : h.far_marks ≡ [] = no_marks to_far h.far_marks far_empty h.far_shows in

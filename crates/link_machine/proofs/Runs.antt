@@ -19,7 +19,7 @@ use Rattle.shdlc_core.specs.declared.answers.LinkState.TheVariants.{Down, Waitin
 use Rattle.shdlc_core.specs.declared.answers.Due.{Due}
 use Rattle.shdlc_core.specs.declared.answers.Due.TheVariants.{Rr as Rr_due}
 use Rattle.shdlc_core.specs.Machine.{EndState, Session, Fragment, no_session, taken, take_answer, ticked, tick_answer, is_waiting, reset_with, stopped, with_ready, fetched, frame_due, fragment_due, sent_next, begun, new_end}
-use Rattle.hcp_packet.specs.Packets.{packets_of, packet_count, bytes_of, fragments_of, IsSendable}
+use Rattle.hcp_packet.specs.Packets.{packets_of, packet_count, packet_bytes, fragments_of, IsSendable}
 use Rattle.link_machine.specs.Machine.{Message, LinkEnd, Role, ActDue, Turn, LinkInput, Refused, new_link_end, is_faulty, whole_among, need, need_of_all, in_use, spare, is_open, role_after, act_answer, with_act, in_front, moved, put_down, activated, started, deactivated, give_refusal, given, aside_refusal, turn, reset_refusal, if_up, reset_by, window_of, heard, took, had_tick, frame_fetched, nearer, after_input, after_inputs, news}
 use Rattle.link_machine.specs.Machine.Role.{Bare, Clf, Uicc}
 use Rattle.link_machine.specs.Machine.Turn.{Give, Hold, FetchMessage, SetAside, Release}
@@ -315,7 +315,7 @@ give_tells e m q = go e.shdlc.phase (nat_lt 4096 (length m.1)) (nat_lt (spare e)
 
 data_given : (e : LinkEnd) (m : Message) → IsSendable m → IsGiven e m → Data e → Data (given e m)
 data_given e m s g h =
-    let f : Message → List (List ℕ) = λ k. map bytes_of (packets_of k.0 k.1) in
+    let f : Message → List (List ℕ) = λ k. map packet_bytes (packets_of k.0 k.1) in
     let last : fragments_of (m ∷ []) ≡ f m = append-nil (f m) in
     let a : ℕ = e.shdlc.session.acked in
     let len : length e.shdlc.session.out ≡ length (fragments_of e.sent) = ap (λ (xs : List (List ℕ)). length xs) h.out in

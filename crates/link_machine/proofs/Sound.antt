@@ -7,7 +7,7 @@ use Rattle.std.specs.Prelude.{nat_le, nat_lt, is_some, not}
 use Rattle.shdlc_core.specs.declared.answers.LinkState.{LinkState}
 use Rattle.shdlc_core.specs.declared.answers.LinkState.TheVariants.{Down, Waiting, Up}
 use Rattle.shdlc_core.specs.Machine.{EndState, Session, no_session}
-use Rattle.hcp_packet.specs.Packets.{packets_of, packet_count, bytes_of, fragments_of, IsSendable, AreSendable}
+use Rattle.hcp_packet.specs.Packets.{packets_of, packet_count, packet_bytes, fragments_of, IsSendable, AreSendable}
 use Rattle.hcp_packet.proofs.Joining.{packets_are_counted}
 use Rattle.link_machine.specs.Machine.{Message, LinkEnd, whole_among, whole_acked, need, need_of_all, in_use, spare}
 use Rattle.link_machine.proofs.Shifts.{Shift, GoesOn, IsNotUp, IsNew}
@@ -40,8 +40,8 @@ whole_few (m ∷ ms) a = go (nat_le (packet_count (length m.1)) a) refl (whole_f
     go true p later = rw p (omega (arith, later))
     go false p later = rw p (omega arith)
 
-fragments_count : (m : Message) → length (map bytes_of (packets_of m.0 m.1)) ≡ packet_count (length m.1)
-fragments_count m = length-map (packets_of m.0 m.1) bytes_of ∙ packets_are_counted m.0 m.1
+fragments_count : (m : Message) → length (map packet_bytes (packets_of m.0 m.1)) ≡ packet_count (length m.1)
+fragments_count m = length-map (packets_of m.0 m.1) packet_bytes ∙ packets_are_counted m.0 m.1
 
 -- all fragments of the messages that count as acknowledged whole are acknowledged
 pub whole_acked_before : (ms : List Message) (a : ℕ) → length (fragments_of (take (whole_among ms a) ms)) ≤ a
@@ -57,7 +57,7 @@ whole_acked_before (m ∷ ms) a = go (nat_le n a) refl (whole_acked_before ms (a
     go true p later =
         let i = leb-true n a p in
         let rest : List Message = take (whole_among ms (a - n)) ms in
-        let l = length-append (map bytes_of (packets_of m.0 m.1)) (fragments_of rest) in
+        let l = length-append (map packet_bytes (packets_of m.0 m.1)) (fragments_of rest) in
         rw p (omega (arith, later, i, l, fragments_count m))
 
 pub need_less : (ms : List Message) (a b : ℕ) → a ≤ b → need_of_all (drop b ms) ≤ need_of_all (drop a ms)
@@ -94,7 +94,7 @@ whole_given (x ∷ ms) m a p i = go (nat_le n a) refl (whole_given ms m (a - n) 
     n = packet_count (length x.1)
 
     l : length (fragments_of (x ∷ ms)) ≡ n + length (fragments_of ms)
-    l = let z = length-append (map bytes_of (packets_of x.0 x.1)) (fragments_of ms) in omega (arith, z, fragments_count x)
+    l = let z = length-append (map packet_bytes (packets_of x.0 x.1)) (fragments_of ms) in omega (arith, z, fragments_count x)
 
     go : (b : Bool) → nat_le n a ≡ b → (a - n ≤ length (fragments_of ms) → whole_among (ms ++ m ∷ []) (a - n) ≡ whole_among ms (a - n))
         → whole_among (x ∷ (ms ++ m ∷ [])) a ≡ whole_among (x ∷ ms) a

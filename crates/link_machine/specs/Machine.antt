@@ -10,7 +10,7 @@ use Rattle.swp_base.specs.declared.link_terms.Cause.TheVariants.{Asked, Act as B
 use Rattle.shdlc_core.specs.declared.answers.LinkState.{LinkState}
 use Rattle.shdlc_core.specs.declared.answers.LinkState.TheVariants.{Down, Waiting, Up}
 use Rattle.shdlc_core.specs.Machine.{EndState, Session, new_end, begun, stopped, put_out, taken, take_answer, ticked, tick_answer, is_waiting, reset_with, with_ready, frame_due, fetched, control_due, all_frames, all_fetched}
-use Rattle.hcp_packet.specs.Packets.{packets_of, packet_count, packets_in, bytes_of, good_of}
+use Rattle.hcp_packet.specs.Packets.{packets_of, packet_count, packets_in, packet_bytes, good_of}
 use Rattle.hcp_chain.specs.Joining.{are_taken, given_by}
 use Rattle.swp_lpdu.specs.declared.LpduFault.{LpduFault}
 use Rattle.swp_lpdu.specs.Controls.{control_of}
@@ -19,7 +19,7 @@ use Rattle.swp_act.specs.declared.ActEvent.TheVariants.{Start as ActStart, Take 
 use Rattle.swp_act.specs.declared.ActOut.{ActOut}
 use Rattle.swp_act.specs.declared.uicc.UiccAct.{UiccAct}
 use Rattle.swp_act.specs.declared.clf.ClfAct.{ClfAct}
-use Rattle.swp_act.specs.Activation.{is_active, nothing, new_clf, new_uicc, clf_step, uicc_step}
+use Rattle.swp_act.specs.Activation.{is_active, no_act_out, new_clf, new_uicc, clf_step, uicc_step}
 
 -- a message with its pipe
 abbrev pub Message : Type 0
@@ -120,7 +120,7 @@ role_after (Uicc s) event = Uicc (uicc_step s event).0
 
 -- what activation answers to it
 abbrev pub act_answer : Role → ActEvent → ActOut
-act_answer Bare event = nothing
+act_answer Bare event = no_act_out
 act_answer (Clf s) event = (clf_step s event).1
 act_answer (Uicc s) event = (uicc_step s event).1
 
@@ -249,7 +249,7 @@ give_refusal e m = by_phase e.shdlc.phase where
 
 -- its packets stand behind those of the messages before it
 abbrev pub given : LinkEnd → Message → LinkEnd
-given e m = record e { shdlc = put_out e.shdlc (map bytes_of (packets_of m.0 m.1)); sent = e.sent ++ m ∷ [] }
+given e m = record e { shdlc = put_out e.shdlc (map packet_bytes (packets_of m.0 m.1)); sent = e.sent ++ m ∷ [] }
 
 -- a block is set aside only where one is spare
 abbrev pub aside_refusal : LinkEnd → Option Refused
@@ -392,7 +392,7 @@ act_event e _ = None
 
 -- what activation answers to it, where it is one
 abbrev pub act_out : Role → Option ActEvent → ActOut
-act_out role None = nothing
+act_out role None = no_act_out
 act_out role (Some event) = act_answer role event
 
 -- an input begins a session

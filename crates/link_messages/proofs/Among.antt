@@ -5,21 +5,21 @@ use Rattle.std.proofs.lemmas.List.{length-map, drop-append-le}
 use Rattle.std.proofs.Math.Seq.{drop-append-add}
 use Rattle.std.proofs.lemmas.Bool.{leb-true, le-leb}
 use Rattle.std.proofs.lemmas.Grind.{flat_map-append, common_steps}
-use Rattle.hcp_packet.specs.Packets.{packets_of, packet_count, bytes_of, fragments_of, IsSendable}
+use Rattle.hcp_packet.specs.Packets.{packets_of, packet_count, packet_bytes, fragments_of, IsSendable}
 use Rattle.hcp_packet.proofs.Joining.{packets_are_counted}
 use Rattle.link_machine.specs.Machine.{Message, whole_among}
 use Rattle.link_messages.specs.Outgoing.{rest_among}
 
 abbrev fragments : Message → List (List ℕ)
-fragments m = map bytes_of (packets_of m.0 m.1)
+fragments m = map packet_bytes (packets_of m.0 m.1)
 
-pub length-fragments : (m : Message) → length (map bytes_of (packets_of m.0 m.1)) ≡ packet_count (length m.1)
-length-fragments m = length-map (packets_of m.0 m.1) bytes_of ∙ packets_are_counted m.0 m.1
+pub length-fragments : (m : Message) → length (map packet_bytes (packets_of m.0 m.1)) ≡ packet_count (length m.1)
+length-fragments m = length-map (packets_of m.0 m.1) packet_bytes ∙ packets_are_counted m.0 m.1
 
 pub fragments-append : (xs ys : List Message) → fragments_of (xs ++ ys) ≡ fragments_of xs ++ fragments_of ys
 fragments-append xs ys = flat_map-append fragments xs ys
 
-pub fragments-push : (xs : List Message) (m : Message) → fragments_of (xs ++ m ∷ []) ≡ fragments_of xs ++ map bytes_of (packets_of m.0 m.1)
+pub fragments-push : (xs : List Message) (m : Message) → fragments_of (xs ++ m ∷ []) ≡ fragments_of xs ++ map packet_bytes (packets_of m.0 m.1)
 fragments-push xs m = fragments-append xs (m ∷ []) ∙ ap (λ l. fragments_of xs ++ l) (nil_behind (fragments m))
   where
     nil_behind : (l : List (List ℕ)) → l ++ [] ≡ l
@@ -49,7 +49,7 @@ pub length-first : (m : Message) (ms : List Message) → length (fragments_of (m
 length-first m ms = length-append (fragments m) (fragments_of ms) ∙ ap (λ n. n + length (fragments_of ms)) (length-fragments m)
 
 -- more fragments behind those that wait
-pub waiting-push : (ms : List Message) (m : Message) (cut : ℕ) → cut ≤ length (fragments_of ms) → drop cut (fragments_of (ms ++ m ∷ [])) ≡ drop cut (fragments_of ms) ++ map bytes_of (packets_of m.0 m.1)
+pub waiting-push : (ms : List Message) (m : Message) (cut : ℕ) → cut ≤ length (fragments_of ms) → drop cut (fragments_of (ms ++ m ∷ [])) ≡ drop cut (fragments_of ms) ++ map packet_bytes (packets_of m.0 m.1)
 waiting-push ms m cut low = ap (drop cut) (fragments-push ms m) ∙ drop-append-le cut (fragments_of ms) (fragments m) low
 
 pub length-push : (ms : List Message) (m : Message) → length (fragments_of (ms ++ m ∷ [])) ≡ length (fragments_of ms) + packet_count (length m.1)

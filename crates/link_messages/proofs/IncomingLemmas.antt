@@ -17,23 +17,23 @@ use Rattle.hcp_chain.specs.declared.joiner.Joiner.{Joiner}
 use Rattle.hcp_chain.specs.declared.joiner.ChainFault.{ChainFault}
 use Rattle.hcp_chain.specs.declared.joiner.ChainFault.TheVariants.{TooManyChains, MessageTooLong}
 use Rattle.hcp_chain.specs.declared.joiner.Joined.TheVariants.{Fault}
-use Rattle.hcp_chain.specs.Joining.{Outcome, Nothing, Message as Ended, join_step, message_in, is_fault, given_by, is_fifth, grown}
-use Rattle.hcp_chain.specs.Holding.{IsReady as CanTake, IsOwn, AreApart, Holds, HoldsWhole, held_blocks, open_messages, messages_in, KeepsAllOthers, IsApartFrom, Says}
+use Rattle.hcp_chain.specs.Joining.{JoinOutcome, Nothing, Message as Ended, join_step, message_in, is_fault, given_by, is_fifth, grown}
+use Rattle.hcp_chain.specs.Holding.{IsJoinerReady as CanTake, IsOwnOpen, AreApart, HoldsChains, HoldsWhole, held_blocks, open_messages, messages_in, KeepsOtherChains, IsApartFrom, AnswersOutcome}
 use Rattle.hcp_chain.proofs.HoldingLemmas.{all_front, all_map, apart_front}
 use Rattle.hcp_chain.proofs.ClearLemmas.{kept}
 use Rattle.hcp_chain.proofs.ReadyLemmas.{ready_given}
 use Rattle.link_machine.specs.Machine.{Message}
 use Rattle.link_messages.specs.declared.inbox.Got.{Got}
 use Rattle.link_messages.specs.declared.inbox.Inbox.{Inbox}
-use Rattle.link_messages.specs.Incoming.{got_chains, chains_in, under_way, got_in, LiesIn, IsReady, LeavesOthers, Joins}
+use Rattle.link_messages.specs.Incoming.{got_chains, chains_in, messages_under_way, came_whole, InboxLiesIn, IsInboxReady, InboxLeavesOthers, Joins}
 
 -- ---- the chains under way, and the one that was got
 
-pub front_holds : (pool : PoolState) (owner : ℕ) (xs : List Open) (got : Option Got) → Holds pool owner (xs ++ got_chains got) → Holds pool owner xs
-front_holds pool owner xs None h = subst (Holds pool owner) (append-nil xs) h
+pub front_holds : (pool : PoolState) (owner : ℕ) (xs : List Open) (got : Option Got) → HoldsChains pool owner (xs ++ got_chains got) → HoldsChains pool owner xs
+front_holds pool owner xs None h = subst (HoldsChains pool owner) (append-nil xs) h
 front_holds pool owner xs (Some g) h =
     let y : Open = record { pipe = g.pipe; chain = g.chain } in
-    record { own = (all_front (IsOwn pool owner) xs y h.own).0; apart = (apart_front xs y h.apart).0 }
+    record { own = (all_front (IsOwnOpen pool owner) xs y h.own).0; apart = (apart_front xs y h.apart).0 }
 
 pub front_apart : (xs : List Open) (got : Option Got) (other : Chain) → IsApartFrom (xs ++ got_chains got) other → IsApartFrom xs other × IsApartFrom (got_chains got) other
 front_apart xs None other a = (subst (λ l. IsApartFrom l other) (append-nil xs) a, tt)
@@ -45,13 +45,13 @@ pub held_both : (pool : PoolState) (xs ys : List Open) → held_blocks pool (xs 
 held_both pool xs ys = sum_by-append (λ (x : Open). blocks_for (length (chain_bytes pool x.chain))) xs ys
 
 -- the message that was got, where the chains under way changed
-pub got_kept : (old new : PoolState) (owner : ℕ) (before after : List Open) (got : Option Got) → KeepsAllOthers old new before after → Holds old owner (before ++ got_chains got)
-    → Holds new owner (got_chains got) × (messages_in new (got_chains got) ≡ messages_in old (got_chains got)) × (held_blocks new (got_chains got) ≡ held_blocks old (got_chains got))
+pub got_kept : (old new : PoolState) (owner : ℕ) (before after : List Open) (got : Option Got) → KeepsOtherChains old new before after → HoldsChains old owner (before ++ got_chains got)
+    → HoldsChains new owner (got_chains got) × (messages_in new (got_chains got) ≡ messages_in old (got_chains got)) × (held_blocks new (got_chains got) ≡ held_blocks old (got_chains got))
     × AllByRecursion (λ x. IsApartFrom after x.chain) (got_chains got)
 got_kept old new owner before after None keeps h = (record { own = tt; apart = tt }, refl, refl, tt)
 got_kept old new owner before after (Some g) keeps h =
     let y : Open = record { pipe = g.pipe; chain = g.chain } in
-    let own = (all_front (IsOwn old owner) before y h.own).1 in
+    let own = (all_front (IsOwnOpen old owner) before y h.own).1 in
     let apart = all_map (λ x. AreApart x y) (λ x. IsApart g.chain x.chain) before (λ x a first p q. a.chains first q p) (apart_front before y h.apart).1 in
     let k = keeps g.chain own.live apart in (
       record { own = (record { live = k.0; owned = own.owned; short = subst (λ bs. length bs ≤ 4096) (sym k.1) own.short }, tt); apart = (tt, tt) },
@@ -62,14 +62,14 @@ got_kept old new owner before after (Some g) keeps h =
 
 -- what is partly received was forgotten
 pub record Cleared (old new : PoolState) (before after : Inbox) : Type 0 where
-  pub lies : LiesIn new after
-  pub message : got_in new after ≡ got_in old before
+  pub lies : InboxLiesIn new after
+  pub message : came_whole new after ≡ came_whole old before
   pub counted : used_of new before.joiner.owner + held_blocks old (chains_in before) ≡ used_of old before.joiner.owner + held_blocks new (chains_in after)
-  pub elsewhere : LeavesOthers old new before.joiner.owner (chains_in before) (chains_in after)
+  pub elsewhere : InboxLeavesOthers old new before.joiner.owner (chains_in before) (chains_in after)
 
-pub cleared : (old new : PoolState) (before after : Inbox) → LiesIn old before → after.joiner.owner ≡ before.joiner.owner → after.joiner.open.items ≡ [] → after.got ≡ before.got
+pub cleared : (old new : PoolState) (before after : Inbox) → InboxLiesIn old before → after.joiner.owner ≡ before.joiner.owner → after.joiner.open.items ≡ [] → after.got ≡ before.got
     → new.owners ≡ with_used old.owners before.joiner.owner (used_of old before.joiner.owner - held_blocks old before.joiner.open.items)
-    → KeepsAllOthers old new before.joiner.open.items [] → Cleared old new before after
+    → KeepsOtherChains old new before.joiner.open.items [] → Cleared old new before after
 cleared old new before after lies owner none got owners keeps =
     let o = before.joiner.owner in
     let n = used_of old o - held_blocks old before.joiner.open.items in
@@ -80,7 +80,7 @@ cleared old new before after lies owner none got owners keeps =
     let enough : held_blocks new (got_chains before.got) ≤ used_of new o = omega (arith, used, sum, k.2, lies.used) in
     record {
       lies = record {
-        holds = subst (λ q. Holds new q (chains_in after)) (sym owner) (subst (Holds new o) (sym chains) k.0);
+        holds = subst (λ q. HoldsChains new q (chains_in after)) (sym owner) (subst (HoldsChains new o) (sym chains) k.0);
         has_quota = subst (λ q. q < length new.owners) (sym owner) (omega (arith, ap length owners ∙ length-with_used old.owners o n, lies.has_quota));
         quota = ap (λ q. quota_of new q) owner ∙ (ap (λ os. (owner_at os o).quota) owners ∙ (quota-with_used old.owners o n lies.has_quota ∙ lies.quota));
         used = subst (λ q. held_blocks new (chains_in after) ≤ used_of new q) (sym owner) (subst (λ l. held_blocks new l ≤ used_of new o) (sym chains) enough);
@@ -106,11 +106,11 @@ bad_dropped pipe bytes bad = ap (λ b. if b then (pipe, bytes) ∷ [] else []) b
 
 -- what keeping a message leaves
 pub record Keeps (old new : PoolState) (before after : Inbox) (whole : Open) : Type 0 where
-  pub lies : LiesIn new after
-  pub under : under_way new after ≡ under_way old before
-  pub got : got_in new after ≡ good_of ((whole.pipe, chain_bytes old whole.chain) ∷ [])
+  pub lies : InboxLiesIn new after
+  pub under : messages_under_way new after ≡ messages_under_way old before
+  pub got : came_whole new after ≡ good_of ((whole.pipe, chain_bytes old whole.chain) ∷ [])
   pub used : used_of new before.joiner.owner ≡ held_blocks new (chains_in after)
-  pub elsewhere : LeavesOthers old new before.joiner.owner (before.joiner.open.items ++ whole ∷ []) (chains_in after)
+  pub elsewhere : InboxLeavesOthers old new before.joiner.owner (before.joiner.open.items ++ whole ∷ []) (chains_in after)
 
 pub kept_good : (pool : PoolState) (before : Inbox) (whole : Open) → HoldsWhole pool before.joiner whole → is_good (chain_bytes pool whole.chain) ≡ true
     → Keeps pool pool before (record before { got = Some (record { pipe = whole.pipe; chain = whole.chain }) }) whole
@@ -129,7 +129,7 @@ dropped_bad old new before whole h none bad gives keeps =
     let xs = before.joiner.open.items in
     let n = blocks_for (length (chain_bytes old whole.chain)) in
     let r = ready_given old new before.joiner whole h gives keeps in
-    let own = all_front (IsOwn old o) xs whole h.holds.own in
+    let own = all_front (IsOwnOpen old o) xs whole h.holds.own in
     let apart = apart_front xs whole h.holds.apart in
     let k = kept old new o whole.chain whole.chain xs keeps own.0 (all_map (λ y. AreApart y whole) (λ y. IsApart y.chain whole.chain) xs (λ y a. a.chains) apart.1) in
     let chains : chains_in before ≡ xs = ap (λ g. xs ++ got_chains g) none ∙ append-nil xs in
@@ -137,7 +137,7 @@ dropped_bad old new before whole h none bad gives keeps =
     let used : used_of new o ≡ used_of old o - n = ap (λ os. (owner_at os o).used) owners ∙ used-with_used old.owners o (used_of old o - n) h.has_quota in
     record {
       lies = record {
-        holds = subst (Holds new o) (sym chains) r.holds;
+        holds = subst (HoldsChains new o) (sym chains) r.holds;
         has_quota = r.has_quota;
         quota = r.quota;
         used = subst (λ l. held_blocks new l ≤ used_of new o) (sym chains) (omega (arith, r.used));
@@ -166,7 +166,7 @@ no_packet (first ∷ rest) high = go (nat_lt (first % 128) 112) refl
     go false t = rw t
 
 -- the joiner can take a packet
-pub can_take : (pool : PoolState) (box : Inbox) → LiesIn pool box → IsReady pool box → CanTake pool box.joiner
+pub can_take : (pool : PoolState) (box : Inbox) → InboxLiesIn pool box → IsInboxReady pool box → CanTake pool box.joiner
 can_take pool box lies ready = record {
   holds = front_holds pool box.joiner.owner box.joiner.open.items box.got lies.holds;
   has_quota = lies.has_quota;
@@ -175,7 +175,7 @@ can_take pool box lies ready = record {
 }
 
 -- nothing came
-pub joins_none : (pool : PoolState) (box : Inbox) → LiesIn pool box → IsReady pool box → Joins pool pool box box []
+pub joins_none : (pool : PoolState) (box : Inbox) → InboxLiesIn pool box → IsInboxReady pool box → Joins pool pool box box []
 joins_none pool box lies ready =
     let chains : chains_in box ≡ box.joiner.open.items = ap (λ g. box.joiner.open.items ++ got_chains g) ready.fetched ∙ append-nil box.joiner.open.items in
     record {
@@ -190,13 +190,13 @@ joins_none pool box lies ready =
 -- what the joiner did with a packet
 pub record TakesIn (old new : PoolState) (before : Inbox) (joiner : Joiner) (p : Packet) (whole : List Open) : Type 0 where
   pub owner : joiner.owner ≡ before.joiner.owner
-  pub under : open_messages new joiner ≡ (join_step (under_way old before) p).1
-  pub holds : Holds new before.joiner.owner (joiner.open.items ++ whole)
+  pub under : open_messages new joiner ≡ (join_step (messages_under_way old before) p).1
+  pub holds : HoldsChains new before.joiner.owner (joiner.open.items ++ whole)
   pub owners : new.owners ≡ with_used old.owners before.joiner.owner (held_blocks new (joiner.open.items ++ whole))
-  pub others : KeepsAllOthers old new before.joiner.open.items (joiner.open.items ++ whole)
+  pub others : KeepsOtherChains old new before.joiner.open.items (joiner.open.items ++ whole)
 
 -- what stands of its owner
-counts : (old new : PoolState) (before : Inbox) (joiner : Joiner) (p : Packet) (whole : List Open) → LiesIn old before → TakesIn old new before joiner p whole
+counts : (old new : PoolState) (before : Inbox) (joiner : Joiner) (p : Packet) (whole : List Open) → InboxLiesIn old before → TakesIn old new before joiner p whole
     → (before.joiner.owner < length new.owners) × (quota_of new before.joiner.owner ≡ 512) × (used_of new before.joiner.owner ≡ held_blocks new (joiner.open.items ++ whole))
 counts old new before joiner p whole lies t =
     let o = before.joiner.owner in
@@ -206,12 +206,12 @@ counts old new before joiner p whole lies t =
       ap (λ os. (owner_at os o).used) t.owners ∙ used-with_used old.owners o n lies.has_quota,
     )
 
-step_given : (ms : List Message) (p : Packet) (o : Outcome) → (join_step ms p).0 ≡ o → given_by ms (p ∷ []) ≡ message_in o
+step_given : (ms : List Message) (p : Packet) (o : JoinOutcome) → (join_step ms p).0 ≡ o → given_by ms (p ∷ []) ≡ message_in o
 step_given ms p o e = append-nil (message_in (join_step ms p).0) ∙ ap message_in e
 
 -- its message isn't whole yet
-pub joins_more : (old new : PoolState) (before : Inbox) (joiner : Joiner) (p : Packet) → LiesIn old before → IsReady old before → TakesIn old new before joiner p []
-    → (join_step (under_way old before) p).0 ≡ Nothing → Joins old new before (record before { joiner = joiner }) (p ∷ [])
+pub joins_more : (old new : PoolState) (before : Inbox) (joiner : Joiner) (p : Packet) → InboxLiesIn old before → IsInboxReady old before → TakesIn old new before joiner p []
+    → (join_step (messages_under_way old before) p).0 ≡ Nothing → Joins old new before (record before { joiner = joiner }) (p ∷ [])
 joins_more old new before joiner p lies ready t outcome =
     let o = before.joiner.owner in
     let c = counts old new before joiner p [] lies t in
@@ -219,14 +219,14 @@ joins_more old new before joiner p lies ready t outcome =
     let before_chains : chains_in before ≡ before.joiner.open.items = ap (λ g. before.joiner.open.items ++ got_chains g) ready.fetched ∙ append-nil before.joiner.open.items in
     record {
       lies = record {
-        holds = subst (λ q. Holds new q (joiner.open.items ++ got_chains before.got)) (sym t.owner) (subst (Holds new o) (sym all) t.holds);
+        holds = subst (λ q. HoldsChains new q (joiner.open.items ++ got_chains before.got)) (sym t.owner) (subst (HoldsChains new o) (sym all) t.holds);
         has_quota = subst (λ q. q < length new.owners) (sym t.owner) c.0;
         quota = ap (λ q. quota_of new q) t.owner ∙ c.1;
         used = subst (λ q. held_blocks new (joiner.open.items ++ got_chains before.got) ≤ used_of new q) (sym t.owner)
             (subst (λ l. held_blocks new l ≤ used_of new o) (sym all) (omega (arith, c.2)));
       };
       joined = t.under;
-      got = ap (λ g. messages_in new (got_chains g)) ready.fetched ∙ sym (ap good_of (step_given (under_way old before) p Nothing outcome));
+      got = ap (λ g. messages_in new (got_chains g)) ready.fetched ∙ sym (ap good_of (step_given (messages_under_way old before) p Nothing outcome));
       owner = t.owner;
       used = ap (λ q. used_of new q) t.owner ∙ (c.2 ∙ sym (ap (held_blocks new) all));
       elsewhere = record {
@@ -238,18 +238,18 @@ joins_more old new before joiner p lies ready t outcome =
     }
 
 -- it is whole now
-pub holds_whole : (old new : PoolState) (before : Inbox) (joiner : Joiner) (p : Packet) (whole : Open) → LiesIn old before → TakesIn old new before joiner p (whole ∷ []) → HoldsWhole new joiner whole
+pub holds_whole : (old new : PoolState) (before : Inbox) (joiner : Joiner) (p : Packet) (whole : Open) → InboxLiesIn old before → TakesIn old new before joiner p (whole ∷ []) → HoldsWhole new joiner whole
 holds_whole old new before joiner p whole lies t =
     let c = counts old new before joiner p (whole ∷ []) lies t in
     record {
-      holds = subst (λ q. Holds new q (joiner.open.items ++ whole ∷ [])) (sym t.owner) t.holds;
+      holds = subst (λ q. HoldsChains new q (joiner.open.items ++ whole ∷ [])) (sym t.owner) t.holds;
       has_quota = subst (λ q. q < length new.owners) (sym t.owner) c.0;
       quota = ap (λ q. quota_of new q) t.owner ∙ c.1;
       used = ap (λ q. used_of new q) t.owner ∙ c.2;
     }
 
-pub joins_whole : (old mid new : PoolState) (before after : Inbox) (joiner : Joiner) (p : Packet) (whole : Open) → LiesIn old before → IsReady old before → TakesIn old mid before joiner p (whole ∷ [])
-    → (join_step (under_way old before) p).0 ≡ Ended whole.pipe (chain_bytes mid whole.chain) → after.joiner ≡ joiner → Keeps mid new (record before { joiner = joiner }) after whole → Joins old new before after (p ∷ [])
+pub joins_whole : (old mid new : PoolState) (before after : Inbox) (joiner : Joiner) (p : Packet) (whole : Open) → InboxLiesIn old before → IsInboxReady old before → TakesIn old mid before joiner p (whole ∷ [])
+    → (join_step (messages_under_way old before) p).0 ≡ Ended whole.pipe (chain_bytes mid whole.chain) → after.joiner ≡ joiner → Keeps mid new (record before { joiner = joiner }) after whole → Joins old new before after (p ∷ [])
 joins_whole old mid new before after joiner p whole lies ready t outcome same k =
     let o = before.joiner.owner in
     let before_chains : chains_in before ≡ before.joiner.open.items = ap (λ g. before.joiner.open.items ++ got_chains g) ready.fetched ∙ append-nil before.joiner.open.items in
@@ -257,7 +257,7 @@ joins_whole old mid new before after joiner p whole lies ready t outcome same k 
     record {
       lies = k.lies;
       joined = k.under ∙ t.under;
-      got = k.got ∙ sym (ap good_of (step_given (under_way old before) p (Ended whole.pipe (chain_bytes mid whole.chain)) outcome));
+      got = k.got ∙ sym (ap good_of (step_given (messages_under_way old before) p (Ended whole.pipe (chain_bytes mid whole.chain)) outcome));
       owner = owner ∙ t.owner;
       used = ap (λ q. used_of new q) owner ∙ k.used;
       elsewhere = record {
@@ -285,24 +285,24 @@ none_open pool [] e = refl
 none_open pool (x ∷ xs) e = cc
 
 pub record Faults (old new : PoolState) (before after : Inbox) : Type 0 where
-  pub lies : LiesIn new after
+  pub lies : InboxLiesIn new after
   pub owner : after.joiner.owner ≡ before.joiner.owner
   pub none : chains_in after ≡ []
   pub used : used_of new before.joiner.owner ≡ 0
-  pub elsewhere : LeavesOthers old new before.joiner.owner (chains_in before) []
+  pub elsewhere : InboxLeavesOthers old new before.joiner.owner (chains_in before) []
 
-pub joins_fault : (old new : PoolState) (before : Inbox) (joiner : Joiner) (p : Packet) → LiesIn old before → IsReady old before → TakesIn old new before joiner p []
-    → is_fault (join_step (under_way old before) p).0 ≡ true → Faults old new before (record before { joiner = joiner })
+pub joins_fault : (old new : PoolState) (before : Inbox) (joiner : Joiner) (p : Packet) → InboxLiesIn old before → IsInboxReady old before → TakesIn old new before joiner p []
+    → is_fault (join_step (messages_under_way old before) p).0 ≡ true → Faults old new before (record before { joiner = joiner })
 joins_fault old new before joiner p lies ready t fault =
     let o = before.joiner.owner in
     let c = counts old new before joiner p [] lies t in
-    let empty : joiner.open.items ≡ [] = none_open new joiner.open.items (t.under ∙ fault_empties (under_way old before) p fault) in
+    let empty : joiner.open.items ≡ [] = none_open new joiner.open.items (t.under ∙ fault_empties (messages_under_way old before) p fault) in
     let all : joiner.open.items ++ got_chains before.got ≡ joiner.open.items ++ [] = ap (λ g. joiner.open.items ++ got_chains g) ready.fetched in
     let nothing : joiner.open.items ++ [] ≡ [] = ap (λ l. l ++ []) empty in
     let before_chains : chains_in before ≡ before.joiner.open.items = ap (λ g. before.joiner.open.items ++ got_chains g) ready.fetched ∙ append-nil before.joiner.open.items in
     record {
       lies = record {
-        holds = subst (λ q. Holds new q (joiner.open.items ++ got_chains before.got)) (sym t.owner) (subst (Holds new o) (sym all) t.holds);
+        holds = subst (λ q. HoldsChains new q (joiner.open.items ++ got_chains before.got)) (sym t.owner) (subst (HoldsChains new o) (sym all) t.holds);
         has_quota = subst (λ q. q < length new.owners) (sym t.owner) c.0;
         quota = ap (λ q. quota_of new q) t.owner ∙ c.1;
         used = subst (λ q. held_blocks new (joiner.open.items ++ got_chains before.got) ≤ used_of new q) (sym t.owner)
@@ -319,6 +319,6 @@ joins_fault old new before joiner p lies ready t fault =
       };
     }
 
-pub fault_said : (pool : PoolState) (fault : ChainFault) (o : Outcome) → Says pool (Fault fault) o → is_fault o ≡ true
+pub fault_said : (pool : PoolState) (fault : ChainFault) (o : JoinOutcome) → AnswersOutcome pool (Fault fault) o → is_fault o ≡ true
 fault_said pool (TooManyChains pipe) o e = ap is_fault e
 fault_said pool (MessageTooLong len) o e = ap is_fault e

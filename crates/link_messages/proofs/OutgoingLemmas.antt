@@ -11,14 +11,14 @@ use Rattle.block_pool.specs.declared.owners.Owner.{Owner}
 use Rattle.block_pool.specs.Slots.{blocks_for}
 use Rattle.block_pool.specs.Owners.{owner_at, with_used}
 use Rattle.block_pool.specs.Pool.{PoolState, HasQuota, quota_of, used_of, aside_of, IsLive, IsApart, chain_bytes, spare_of, chain_spare, more_blocks, KeepsOthers, Gives, Appends, Passes}
-use Rattle.block_pool.specs.Names.{bytes_at}
-use Rattle.block_pool.specs.Holdings.{IsOwn, OwnsAll, LiesApart, LieApart, all_bytes, all_blocks}
+use Rattle.block_pool.specs.Names.{named_bytes}
+use Rattle.block_pool.specs.Holdings.{IsOwnChain, OwnsAll, LiesApart, LieApart, all_bytes, all_blocks}
 use Rattle.block_pool.proofs.HoldingLemmas.{kept_all, all_pushed, lie_apart_pushed, used-with_used, quota-with_used, length-with_used, with_used-with_used, with_used-same, other-with_used, apart_empty, lies_apart_by_owner}
-use Rattle.hcp_packet.specs.Packets.{packets_of, packet_count, bytes_of, fragments_of, AreSendable, IsSendable}
+use Rattle.hcp_packet.specs.Packets.{packets_of, packet_count, packet_bytes, fragments_of, AreSendable, IsSendable}
 use Rattle.link_machine.specs.Machine.{Message, whole_among}
 use Rattle.link_messages.specs.declared.outbox.Queued.{Queued}
 use Rattle.link_messages.specs.declared.outbox.Outbox.{Outbox}
-use Rattle.link_messages.specs.Outgoing.{chain_in, message_in, messages_of_all, messages_in, rest_among, AreKept, LiesIn, LeavesOthers, Accepts, LeavesOthersBut, GivesFront, GivesBack}
+use Rattle.link_messages.specs.Outgoing.{chain_in, queued_message, messages_of_all, queued_messages, rest_among, AreKept, OutboxLiesIn, OutboxLeavesOthers, Accepts, LeavesOthersBut, GivesFront, GivesBack}
 use Rattle.link_messages.proofs.Among.{length-fragments, whole-first, waiting-first, length-first, waiting-push, length-push}
 
 -- the same bytes are the same messages
@@ -27,7 +27,7 @@ messages_same old new [] e = refl
 messages_same old new (q ∷ queue) e =
     let here : chain_bytes new q.chain ≡ chain_bytes old q.chain = cc in
     let rest : all_bytes Queued chain_in new queue ≡ all_bytes Queued chain_in old queue = cc in
-    ap (λ b. (q.pipe, b) ∷ messages_of_all new queue) here ∙ ap (λ ms. message_in old q ∷ ms) (messages_same old new queue rest)
+    ap (λ b. (q.pipe, b) ∷ messages_of_all new queue) here ∙ ap (λ ms. queued_message old q ∷ ms) (messages_same old new queue rest)
 
 -- each message has a block
 pub each_has_block : (pool : PoolState) (queue : List Queued) → AreSendable (messages_of_all pool queue) → length queue ≤ all_blocks Queued chain_in pool queue
@@ -84,8 +84,8 @@ gives_front old new before after q kept items capacity acked cut owner gives kee
       within = omega (arith, used, kept.within);
     } in
     record {
-      first = message_in old q;
-      messages = ap (messages_of_all old) items ∙ ap (λ ms. message_in old q ∷ ms) (sym same);
+      first = queued_message old q;
+      messages = ap (messages_of_all old) items ∙ ap (λ ms. queued_message old q ∷ ms) (sym same);
       kept = subst (λ p. AreKept new p after.queue) (sym owner) here;
       acked = acked;
       cut = cut;
@@ -101,8 +101,8 @@ gives_front old new before after q kept items capacity acked cut owner gives kee
     }
 
 -- one call after another
-pub leaves_on : (old mid new : PoolState) (owner : ℕ) (xs ys zs : List Queued) → owner < length old.owners → LeavesOthers old mid owner xs ys → LeavesOthers mid new owner ys zs
-    → LeavesOthers old new owner xs zs
+pub leaves_on : (old mid new : PoolState) (owner : ℕ) (xs ys zs : List Queued) → owner < length old.owners → OutboxLeavesOthers old mid owner xs ys → OutboxLeavesOthers mid new owner ys zs
+    → OutboxLeavesOthers old new owner xs zs
 leaves_on old mid new owner xs ys zs low a b = record {
   owners = b.owners ∙ (ap (λ os. with_used os owner (used_of new owner)) a.owners ∙ with_used-with_used old.owners owner (used_of mid owner) (used_of new owner) low);
   others = λ other live away.
@@ -111,15 +111,15 @@ leaves_on old mid new owner xs ys zs low a b = record {
       (l.0, l.1 ∙ k.1, l.2);
 }
 
-pub leaves_none : (pool : PoolState) (owner : ℕ) (xs : List Queued) → LeavesOthers pool pool owner xs xs
+pub leaves_none : (pool : PoolState) (owner : ℕ) (xs : List Queued) → OutboxLeavesOthers pool pool owner xs xs
 leaves_none pool owner xs = record { owners = sym (with_used-same pool.owners owner); others = λ other live away. (live, refl, away) }
 
 -- the first message was acknowledged whole
-pub gives_whole : (old new : PoolState) (before after : Outbox) (g : GivesFront old new before after) → LiesIn old before → packet_count (length g.first.1) ≤ before.acked
+pub gives_whole : (old new : PoolState) (before after : Outbox) (g : GivesFront old new before after) → OutboxLiesIn old before → packet_count (length g.first.1) ≤ before.acked
     → GivesBack old new before (record after { acked = after.acked - packet_count (length g.first.1); cut = after.cut - packet_count (length g.first.1) }) 1
 gives_whole old new before after g lies low =
     let c = packet_count (length g.first.1) in
-    let ms = messages_in new after in
+    let ms = queued_messages new after in
     let acked = lies.acked in
     let cut : before.cut ≤ length (fragments_of (g.first ∷ ms)) = subst (λ l. before.cut ≤ length (fragments_of l)) g.messages lies.cut in
     let len = length-first g.first ms in
@@ -140,15 +140,15 @@ gives_whole old new before after g lies low =
 pub gives_on : (old mid new : PoolState) (a b c : Outbox) (n : ℕ) → a.owner < length old.owners → GivesBack old mid a b n → GivesBack mid new b c 1 → GivesBack old new a c (n + 1)
 gives_on old mid new a b c n low x y = record {
   lies = y.lies;
-  messages = y.messages ∙ (ap (drop 1) x.messages ∙ drop-drop 1 n (messages_in old a));
+  messages = y.messages ∙ (ap (drop 1) x.messages ∙ drop-drop 1 n (queued_messages old a));
   waiting = y.waiting ∙ x.waiting;
   among = omega (arith, x.among, y.among);
   rest = y.rest ∙ x.rest;
   owner = y.owner ∙ x.owner;
-  elsewhere = leaves_on old mid new a.owner a.queue.items b.queue.items c.queue.items low x.elsewhere (subst (λ o. LeavesOthers mid new o b.queue.items c.queue.items) x.owner y.elsewhere);
+  elsewhere = leaves_on old mid new a.owner a.queue.items b.queue.items c.queue.items low x.elsewhere (subst (λ o. OutboxLeavesOthers mid new o b.queue.items c.queue.items) x.owner y.elsewhere);
 }
 
-pub gives_none : (pool : PoolState) (a : Outbox) → LiesIn pool a → GivesBack pool pool a a 0
+pub gives_none : (pool : PoolState) (a : Outbox) → OutboxLiesIn pool a → GivesBack pool pool a a 0
 gives_none pool a lies = record {
   lies = lies;
   messages = refl;
@@ -175,12 +175,12 @@ pushed old new o queue before after pipe bytes kept keeps away live owned is sen
     let sum = sum_by_push (λ (x : Queued). blocks_for (length (chain_bytes new x.chain))) xs y in
     let size : blocks_for (length (chain_bytes new after)) ≡ blocks_for (length bytes) = ap (λ l. blocks_for (length l)) is in
     let messages : messages_of_all new (xs ++ y ∷ []) ≡ messages_of_all old xs ++ (pipe, bytes) ∷ [] =
-    map_push (message_in new) xs y ∙ (ap (λ ms. ms ++ (pipe, chain_bytes new after) ∷ []) same ∙ ap (λ l. messages_of_all old xs ++ (pipe, l) ∷ []) is) in
+    map_push (queued_message new) xs y ∙ (ap (λ ms. ms ++ (pipe, chain_bytes new after) ∷ []) same ∙ ap (λ l. messages_of_all old xs ++ (pipe, l) ∷ []) is) in
     let each = each_has_block old xs kept.sendable in
     let some = sendable.1 in (
       omega (arith, each, some, used, within, kept.used),
       record {
-        own = all_pushed Queued (λ x. IsOwn new o x.chain) xs y both.0.own (record { live = live; owned = owned });
+        own = all_pushed Queued (λ x. IsOwnChain new o x.chain) xs y both.0.own (record { live = live; owned = owned });
         apart = lie_apart_pushed Queued chain_in xs y kept.apart both.1;
         sendable = subst AreSendable (sym messages) (all_sendable (messages_of_all old xs) (pipe, bytes) kept.sendable sendable);
         capacity = kept.capacity;
@@ -197,14 +197,14 @@ pushed old new o queue before after pipe bytes kept keeps away live owned is sen
     all_sendable ms m all here = all_pushed Message IsSendable ms m all here
 
 -- what is kept with it lies in the pool
-pub accepted : (old new : PoolState) (before after : Outbox) (m : Message) → LiesIn old before → AreKept new after.owner after.queue → messages_in new after ≡ messages_in old before ++ m ∷ []
+pub accepted : (old new : PoolState) (before after : Outbox) (m : Message) → OutboxLiesIn old before → AreKept new after.owner after.queue → queued_messages new after ≡ queued_messages old before ++ m ∷ []
     → after.acked ≡ before.acked → after.cut ≡ before.cut → after.owner ≡ before.owner → Accepts old new before after m
 accepted old new before after m lies kept messages acked cut owner =
-    let len = ap (λ l. length (fragments_of l)) messages ∙ length-push (messages_in old before) m in
+    let len = ap (λ l. length (fragments_of l)) messages ∙ length-push (queued_messages old before) m in
     record {
       lies = record { kept = kept; acked = omega (arith, acked, cut, lies.acked); cut = omega (arith, len, cut, lies.cut) };
       messages = messages;
-      waiting = ap (λ n. drop n (fragments_of (messages_in new after))) cut ∙ (ap (λ l. drop before.cut (fragments_of l)) messages ∙ waiting-push (messages_in old before) m before.cut lies.cut);
+      waiting = ap (λ n. drop n (fragments_of (queued_messages new after))) cut ∙ (ap (λ l. drop before.cut (fragments_of l)) messages ∙ waiting-push (queued_messages old before) m before.cut lies.cut);
       acked = acked;
       owner = owner;
     }
@@ -214,7 +214,7 @@ pub record Clears (first now : PoolState) (before box : Outbox) : Type 0 where
   pub kept : AreKept now box.owner box.queue
   pub owner : box.owner ≡ before.owner
   pub has : before.owner < length first.owners
-  pub elsewhere : LeavesOthers first now before.owner before.queue.items box.queue.items
+  pub elsewhere : OutboxLeavesOthers first now before.owner before.queue.items box.queue.items
 
 pub clears_none : (pool : PoolState) (box : Outbox) → AreKept pool box.owner box.queue → Clears pool pool box box
 clears_none pool box kept = record { kept = kept; owner = refl; has = kept.has_quota; elsewhere = leaves_none pool box.owner box.queue.items }
@@ -225,11 +225,11 @@ clears_more first now new before box after c g = record {
   owner = g.owner ∙ c.owner;
   has = c.has;
   elsewhere = leaves_on first now new before.owner before.queue.items box.queue.items after.queue.items c.has c.elsewhere
-      (subst (λ o. LeavesOthers now new o box.queue.items after.queue.items) c.owner g.elsewhere);
+      (subst (λ o. OutboxLeavesOthers now new o box.queue.items after.queue.items) c.owner g.elsewhere);
 }
 
 -- where none is left nothing is cut or acknowledged
-pub lies_empty : (pool : PoolState) (box : Outbox) → AreKept pool box.owner box.queue → box.acked ≡ 0 → box.cut ≡ 0 → LiesIn pool box
+pub lies_empty : (pool : PoolState) (box : Outbox) → AreKept pool box.owner box.queue → box.acked ≡ 0 → box.cut ≡ 0 → OutboxLiesIn pool box
 lies_empty pool box kept acked cut = record { kept = kept; acked = omega arith; cut = omega arith }
 
 -- bytes were taken into a chain
@@ -252,7 +252,7 @@ pub taken_into : (old new : PoolState) (o : ℕ) (queue : Buffer Queued) (before
     × (messages_of_all new (queue.items ++ record { pipe = pipe; chain = after } ∷ []) ≡ messages_of_all old queue.items ++ (pipe, bytes) ∷ [])
     × LiesApart Queued chain_in queue.items after
 taken_into old new o queue before after pipe bytes kept owned none sendable t =
-    let empty : chain_bytes old before ≡ [] = ap (bytes_at old.slots) none in
+    let empty : chain_bytes old before ≡ [] = ap (named_bytes old.slots) none in
     let n : more_blocks (length (chain_bytes old before)) (length bytes) ≡ blocks_for (length bytes) =
     ap (λ (l : List ℕ). more_blocks (length l) (length bytes)) empty ∙ omega arith in
     let owners : new.owners ≡ with_used old.owners o (used_of old o + blocks_for (length bytes)) =
@@ -294,14 +294,14 @@ pub record LooksFor (pool : PoolState) (box : Outbox) (at place : ℕ) : Type 0 
   pub low : at ≤ length box.queue.items
   pub own : OwnsAll Queued chain_in pool box.owner (drop at box.queue.items)
   pub sendable : AreSendable (messages_of_all pool (drop at box.queue.items))
-  pub fragment : slice_get (fragments_of (messages_of_all pool (drop at box.queue.items))) place ≡ slice_get (fragments_of (messages_in pool box)) box.cut
+  pub fragment : slice_get (fragments_of (messages_of_all pool (drop at box.queue.items))) place ≡ slice_get (fragments_of (queued_messages pool box)) box.cut
 
-pub looks_first : (pool : PoolState) (box : Outbox) → LiesIn pool box → LooksFor pool box 0 box.cut
+pub looks_first : (pool : PoolState) (box : Outbox) → OutboxLiesIn pool box → LooksFor pool box 0 box.cut
 looks_first pool box lies = record { low = omega arith; own = lies.kept.own; sendable = lies.kept.sendable; fragment = refl }
 
 pub looks_at : (pool : PoolState) (box : Outbox) (at place : ℕ) (q : Queued) → LooksFor pool box at place → Some q ≡ slice_get box.queue.items at
-    → IsLive pool q.chain × (q.pipe < 112) × (slice_get (map bytes_of (packets_of q.pipe (chain_bytes pool q.chain)) ++ fragments_of (messages_of_all pool (drop (at + 1) box.queue.items))) place
-    ≡ slice_get (fragments_of (messages_in pool box)) box.cut)
+    → IsLive pool q.chain × (q.pipe < 112) × (slice_get (map packet_bytes (packets_of q.pipe (chain_bytes pool q.chain)) ++ fragments_of (messages_of_all pool (drop (at + 1) box.queue.items))) place
+    ≡ slice_get (fragments_of (queued_messages pool box)) box.cut)
 looks_at pool box at place q looks found =
     let items = drop_at box.queue.items at q found in
     let own = subst (OwnsAll Queued chain_in pool box.owner) items looks.own in
@@ -315,13 +315,13 @@ looks_on pool box at place count q looks found counted low =
     let own = subst (OwnsAll Queued chain_in pool box.owner) items looks.own in
     let sendable = subst (λ l. AreSendable (messages_of_all pool l)) items looks.sendable in
     let here = looks_at pool box at place q looks found in
-    let len = length-fragments (message_in pool q) in
+    let len = length-fragments (queued_message pool q) in
     let some = slice_get_within box.queue.items at q (sym found) in
     record {
       low = omega arith;
       own = own.1;
       sendable = sendable.1;
-      fragment = sym (slice_get_behind (map bytes_of (packets_of q.pipe (chain_bytes pool q.chain))) (fragments_of (messages_of_all pool (drop (at + 1) box.queue.items))) place (place - count)
+      fragment = sym (slice_get_behind (map packet_bytes (packets_of q.pipe (chain_bytes pool q.chain))) (fragments_of (messages_of_all pool (drop (at + 1) box.queue.items))) place (place - count)
           (omega (arith, len, counted, low))) ∙ here.2;
     }
 
@@ -331,10 +331,10 @@ few_fragments pool [] s = omega arith
 few_fragments pool (q ∷ queue) s =
     let some = s.0.1 in
     let rest = few_fragments pool queue s.1 in
-    let len = length-first (message_in pool q) (messages_of_all pool queue) in
+    let len = length-first (queued_message pool q) (messages_of_all pool queue) in
     omega (arith, some, rest, len, sum_by-cons (λ (x : Queued). blocks_for (length (chain_bytes pool x.chain))) q queue)
 
-pub cut_low : (pool : PoolState) (box : Outbox) → LiesIn pool box → box.cut ≤ 256
+pub cut_low : (pool : PoolState) (box : Outbox) → OutboxLiesIn pool box → box.cut ≤ 256
 cut_low pool box lies =
     let few = few_fragments pool box.queue.items lies.kept.sendable in
     omega (arith, few, lies.cut, lies.kept.used, lies.kept.within)
@@ -347,7 +347,7 @@ pub record Acknowledges (first now : PoolState) (before box : Outbox) (whole : �
   pub has : before.owner < length first.owners
   pub few : length before.queue.items ≤ 128
 
-pub acknowledges_none : (pool : PoolState) (box : Outbox) → LiesIn pool box → Acknowledges pool pool box box 0
+pub acknowledges_none : (pool : PoolState) (box : Outbox) → OutboxLiesIn pool box → Acknowledges pool pool box box 0
 acknowledges_none pool box lies =
     let each = each_has_block pool box.queue.items lies.kept.sendable in
     record { gives = gives_none pool box lies; counted = omega arith; has = lies.kept.has_quota; few = omega (arith, each, lies.kept.used, lies.kept.within) }
@@ -421,7 +421,7 @@ first_is x y xs ys e = cc
 pub some_waits : (x : List ℕ) (xs ys : List (List ℕ)) → ys ≡ x ∷ xs → ys ≡ [] → ⊥
 some_waits x xs ys e none = cc
 
-pub few_queued : (pool : PoolState) (box : Outbox) → LiesIn pool box → length box.queue.items ≤ 128
+pub few_queued : (pool : PoolState) (box : Outbox) → OutboxLiesIn pool box → length box.queue.items ≤ 128
 few_queued pool box lies =
     let each = each_has_block pool box.queue.items lies.kept.sendable in
     omega (arith, each, lies.kept.used, lies.kept.within)

@@ -7,7 +7,7 @@ use Rattle.block_pool.specs.Slots.{blocks_for}
 use Rattle.block_pool.specs.Owners.{owner_at, with_used}
 use Rattle.block_pool.specs.Pool.{PoolState, HasQuota, quota_of, used_of, aside_of, IsLive, IsApart, chain_bytes}
 use Rattle.block_pool.specs.Holdings.{OwnsAll, LiesApart, LieApart, all_blocks, KeepsAllOthers}
-use Rattle.hcp_packet.specs.Packets.{packets_of, packet_count, bytes_of, fragments_of, AreSendable}
+use Rattle.hcp_packet.specs.Packets.{packets_of, packet_count, packet_bytes, fragments_of, AreSendable}
 use Rattle.link_machine.specs.Machine.{Message, whole_among}
 use Rattle.link_messages.specs.declared.outbox.Queued.{Queued}
 use Rattle.link_messages.specs.declared.outbox.Outbox.{Outbox}
@@ -15,19 +15,19 @@ use Rattle.link_messages.specs.declared.outbox.Outbox.{Outbox}
 abbrev pub chain_in : Queued → Chain
 chain_in q = q.chain
 
-abbrev pub message_in : PoolState → Queued → Message
-message_in pool q = (q.pipe, chain_bytes pool q.chain)
+abbrev pub queued_message : PoolState → Queued → Message
+queued_message pool q = (q.pipe, chain_bytes pool q.chain)
 
 abbrev pub messages_of_all : PoolState → List Queued → List Message
-messages_of_all pool queue = map (message_in pool) queue
+messages_of_all pool queue = map (queued_message pool) queue
 
 -- the messages that aren't acknowledged whole, in order
-abbrev pub messages_in : PoolState → Outbox → List Message
-messages_in pool box = messages_of_all pool box.queue.items
+abbrev pub queued_messages : PoolState → Outbox → List Message
+queued_messages pool box = messages_of_all pool box.queue.items
 
 -- the fragments that weren't cut yet
 abbrev pub waiting_in : PoolState → Outbox → List (List ℕ)
-waiting_in pool box = drop box.cut (fragments_of (messages_in pool box))
+waiting_in pool box = drop box.cut (fragments_of (queued_messages pool box))
 
 -- Where so many fragments of messages are acknowledged, from the first on: how many of them are of the first message that isn't
 -- acknowledged whole.
@@ -48,21 +48,21 @@ pub record AreKept (pool : PoolState) (owner : ℕ) (queue : Buffer Queued) : Ty
   pub within : used_of pool owner ≤ 128
 
 -- what is kept lies in the pool
-pub record LiesIn (pool : PoolState) (box : Outbox) : Type 0 where
+pub record OutboxLiesIn (pool : PoolState) (box : Outbox) : Type 0 where
   pub kept : AreKept pool box.owner box.queue
   pub acked : box.acked ≤ box.cut
-  pub cut : box.cut ≤ length (fragments_of (messages_in pool box))
+  pub cut : box.cut ≤ length (fragments_of (queued_messages pool box))
 
 -- What a call left elsewhere: the chains that lie apart from those kept, and all counts but how much the owner uses.
-pub record LeavesOthers (old new : PoolState) (owner : ℕ) (before after : List Queued) : Type 0 where
+pub record OutboxLeavesOthers (old new : PoolState) (owner : ℕ) (before after : List Queued) : Type 0 where
   pub owners : new.owners ≡ with_used old.owners owner (used_of new owner)
   pub others : KeepsAllOthers Queued Queued chain_in chain_in old new before after
 
 -- a message stands behind the others
 pub record Accepts (old new : PoolState) (before after : Outbox) (m : Message) : Type 0 where
-  pub lies : LiesIn new after
-  pub messages : messages_in new after ≡ messages_in old before ++ m ∷ []
-  pub waiting : waiting_in new after ≡ waiting_in old before ++ map bytes_of (packets_of m.0 m.1)
+  pub lies : OutboxLiesIn new after
+  pub messages : queued_messages new after ≡ queued_messages old before ++ m ∷ []
+  pub waiting : waiting_in new after ≡ waiting_in old before ++ map packet_bytes (packets_of m.0 m.1)
   pub acked : after.acked ≡ before.acked
   pub owner : after.owner ≡ before.owner
 
@@ -80,23 +80,23 @@ pub record LeavesOthersBut (old new : PoolState) (owner : ℕ) (chain : Chain) (
 -- the first message is gone, with its blocks
 pub record GivesFront (old new : PoolState) (before after : Outbox) : Type 0 where
   pub first : Message
-  pub messages : messages_in old before ≡ first ∷ messages_in new after
+  pub messages : queued_messages old before ≡ first ∷ queued_messages new after
   pub kept : AreKept new after.owner after.queue
   pub acked : after.acked ≡ before.acked
   pub cut : after.cut ≡ before.cut
   pub owner : after.owner ≡ before.owner
   pub fewer : length after.queue.items + 1 ≡ length before.queue.items
-  pub elsewhere : LeavesOthers old new before.owner before.queue.items after.queue.items
+  pub elsewhere : OutboxLeavesOthers old new before.owner before.queue.items after.queue.items
 
 -- so many messages at the front were acknowledged whole, and are gone
 pub record GivesBack (old new : PoolState) (before after : Outbox) (whole : ℕ) : Type 0 where
-  pub lies : LiesIn new after
-  pub messages : messages_in new after ≡ drop whole (messages_in old before)
+  pub lies : OutboxLiesIn new after
+  pub messages : queued_messages new after ≡ drop whole (queued_messages old before)
   pub waiting : waiting_in new after ≡ waiting_in old before
-  pub among : whole + whole_among (messages_in new after) after.acked ≡ whole_among (messages_in old before) before.acked
-  pub rest : rest_among (messages_in new after) after.acked ≡ rest_among (messages_in old before) before.acked
+  pub among : whole + whole_among (queued_messages new after) after.acked ≡ whole_among (queued_messages old before) before.acked
+  pub rest : rest_among (queued_messages new after) after.acked ≡ rest_among (queued_messages old before) before.acked
   pub owner : after.owner ≡ before.owner
-  pub elsewhere : LeavesOthers old new before.owner before.queue.items after.queue.items
+  pub elsewhere : OutboxLeavesOthers old new before.owner before.queue.items after.queue.items
 
 -- more fragments are acknowledged
 abbrev pub acked_more : Outbox → ℕ → Outbox

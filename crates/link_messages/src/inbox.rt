@@ -29,11 +29,11 @@ impl Inbox {
     ghost use Rattle.block_pool.specs.Owners.{with_used};
     ghost use Rattle.block_pool.specs.Pool.{used_of, IsLive, chain_bytes};
     ghost use Rattle.hcp_packet.specs.Packets.{packet_of, good_of};
-    ghost use Rattle.hcp_chain.specs.Joining.{Outcome, join_step, are_taken, message_in};
-    ghost use Rattle.hcp_chain.specs.Joining.Outcome.{Message};
+    ghost use Rattle.hcp_chain.specs.Joining.{JoinOutcome, join_step, are_taken, message_in};
+    ghost use Rattle.hcp_chain.specs.Joining.JoinOutcome.{Message};
     ghost use Rattle.hcp_chain.specs.declared.joiner.Open.{Open};
     ghost use Rattle.hcp_chain.specs.Holding.{HoldsWhole, held_blocks, open_messages};
-    ghost use Rattle.link_messages.specs.Incoming.{chains_in, under_way, got_in, LiesIn, IsReady, LeavesOthers, Joins};
+    ghost use Rattle.link_messages.specs.Incoming.{chains_in, messages_under_way, came_whole, InboxLiesIn, IsInboxReady, InboxLeavesOthers, Joins};
 
     /// Nothing came. What comes is kept in the blocks of this owner.
     pub fn new(owner: u8) -> Inbox
@@ -49,13 +49,13 @@ impl Inbox {
     /// Takes a fragment. One outside the packet grammar is dropped, and so is a message that is empty or whose type is reserved.
     /// `Err` comes where its packet can't be joined: nothing that is under way is kept then.
     pub fn take(&mut self, pool: &mut Pool, info: &Info) -> Result<(), ChainFault>
-        requires lies { LiesIn pool.old self.old }
-        requires ready { IsReady pool.old self.old }
-        ensures taken { IsOk result ↔ IsTrue (are_taken (under_way pool.old self.old) (option_to_list (packet_of info.now))) }
+        requires lies { InboxLiesIn pool.old self.old }
+        requires ready { IsInboxReady pool.old self.old }
+        ensures taken { IsOk result ↔ IsTrue (are_taken (messages_under_way pool.old self.old) (option_to_list (packet_of info.now))) }
         ensures ok { OnOk result (Joins pool.old pool.new self.old self.new (option_to_list (packet_of info.now))) }
-        ensures err { OnErr result (LiesIn pool.new self.new × (self.new.joiner.owner ≡ self.old.joiner.owner) × (chains_in self.new ≡ [])
+        ensures err { OnErr result (InboxLiesIn pool.new self.new × (self.new.joiner.owner ≡ self.old.joiner.owner) × (chains_in self.new ≡ [])
             × (used_of pool.new self.old.joiner.owner ≡ 0)
-            × LeavesOthers pool.old pool.new self.old.joiner.owner (chains_in self.old) []) }
+            × InboxLeavesOthers pool.old pool.new self.old.joiner.owner (chains_in self.old) []) }
     {
         let Ok(packet) = read_packet(info.bytes()) else {
             return Ok(());
@@ -74,12 +74,12 @@ impl Inbox {
     fn keep_good(&mut self, pool: &mut Pool, pipe: u8, chain: Chain)
         requires whole { HoldsWhole pool.old self.old.joiner (record { pipe = pipe; chain = chain }) }
         requires fetched { self.old.got ≡ None }
-        ensures lies { LiesIn pool.new self.new }
+        ensures lies { InboxLiesIn pool.new self.new }
         ensures joiner { self.new.joiner ≡ self.old.joiner }
-        ensures open { under_way pool.new self.new ≡ under_way pool.old self.old }
-        ensures got { got_in pool.new self.new ≡ good_of (message_in (Message pipe (chain_bytes pool.old chain))) }
+        ensures open { messages_under_way pool.new self.new ≡ messages_under_way pool.old self.old }
+        ensures got { came_whole pool.new self.new ≡ good_of (message_in (Message pipe (chain_bytes pool.old chain))) }
         ensures used { used_of pool.new self.old.joiner.owner ≡ held_blocks pool.new (chains_in self.new) }
-        ensures elsewhere { LeavesOthers pool.old pool.new self.old.joiner.owner
+        ensures elsewhere { InboxLeavesOthers pool.old pool.new self.old.joiner.owner
             (self.old.joiner.open.items ++ record { pipe = pipe; chain = chain } ∷ []) (chains_in self.new) }
     {
         if is_good(pool, &chain) {
@@ -109,15 +109,15 @@ impl Inbox {
 
     /// Forgets what is partly received. A message that came whole stays.
     pub fn clear(&mut self, pool: &mut Pool)
-        requires { LiesIn pool.old self.old }
-        ensures lies { LiesIn pool.new self.new }
+        requires { InboxLiesIn pool.old self.old }
+        ensures lies { InboxLiesIn pool.new self.new }
         ensures open { self.new.joiner.open.items ≡ [] }
         ensures got { self.new.got ≡ self.old.got }
         ensures owner { self.new.joiner.owner ≡ self.old.joiner.owner }
-        ensures message { got_in pool.new self.new ≡ got_in pool.old self.old }
+        ensures message { came_whole pool.new self.new ≡ came_whole pool.old self.old }
         ensures counted { used_of pool.new self.old.joiner.owner + held_blocks pool.old (chains_in self.old)
             ≡ used_of pool.old self.old.joiner.owner + held_blocks pool.new (chains_in self.new) }
-        ensures elsewhere { LeavesOthers pool.old pool.new self.old.joiner.owner (chains_in self.old) (chains_in self.new) }
+        ensures elsewhere { InboxLeavesOthers pool.old pool.new self.old.joiner.owner (chains_in self.old) (chains_in self.new) }
     {
         self.joiner.clear(pool);
     }

@@ -1,7 +1,7 @@
 //! The messages that wait until they are acknowledged whole.
 ghost use Rattle.std.specs.Prelude.{◌≡◌, ◌^◌, ◌<◌, length, map, slice_get, Some};
 ghost use Rattle.block_pool.specs.Pool.{IsLive, chain_bytes};
-ghost use Rattle.hcp_packet.specs.Packets.{packet_count, packets_of, bytes_of};
+ghost use Rattle.hcp_packet.specs.Packets.{packet_count, packets_of, packet_bytes};
 
 use block_pool::{Chain, NoRoom, Pool};
 use circular_buffer::HeapCircularBuffer;
@@ -38,7 +38,7 @@ impl Outbox {
     ghost use Rattle.hcp_packet.specs.Packets.{packet_count, fragments_of, IsSendable};
     ghost use Rattle.link_machine.specs.Machine.{Message, whole_among};
     ghost use Rattle.link_messages.specs.declared.outbox.Queued.{Queued};
-    ghost use Rattle.link_messages.specs.Outgoing.{messages_in, waiting_in, rest_among, AreKept, LiesIn, LeavesOthers, LeavesOthersBut, Accepts, GivesFront, GivesBack, acked_more};
+    ghost use Rattle.link_messages.specs.Outgoing.{queued_messages, waiting_in, rest_among, AreKept, OutboxLiesIn, OutboxLeavesOthers, LeavesOthersBut, Accepts, GivesFront, GivesBack, acked_more};
 
     /// The most messages that wait: each uses at least one of the owner's 128 blocks.
     pub const MOST: usize = 128;
@@ -59,12 +59,12 @@ impl Outbox {
     /// Takes a message of at most 4,096 bytes, which is copied into a chain of its own. `Err` comes where its blocks exceed what the
     /// owner has left, and changes nothing.
     pub fn accept(&mut self, pool: &mut Pool, pipe: u8, message: &[u8]) -> Result<(), NoRoom>
-        requires lies { LiesIn pool.old self.old }
+        requires lies { OutboxLiesIn pool.old self.old }
         requires sendable { IsSendable (pipe, message.now) }
         requires short { length message.now ≤ 4096 }
         ensures room { IsOk result ↔ (blocks_for (length message.now) ≤ spare_of pool.old self.old.owner) }
         ensures ok { OnOk result (Accepts pool.old pool.new self.old self.new (pipe, message.now)) }
-        ensures elsewhere { OnOk result (LeavesOthers pool.old pool.new self.old.owner self.old.queue.items self.new.queue.items) }
+        ensures elsewhere { OnOk result (OutboxLeavesOthers pool.old pool.new self.old.owner self.old.queue.items self.new.queue.items) }
         ensures no_room { IfErr result (λ e. (e.need ≡ blocks_for (length message.now)) × (e.spare ≡ spare_of pool.old self.old.owner)) }
         ensures err { OnErr result ((pool.new ≡ pool.old) × (self.new ≡ self.old)) }
     {
@@ -100,11 +100,11 @@ impl Outbox {
     /// Forgets all messages, and gives their blocks back.
     pub fn clear(&mut self, pool: &mut Pool)
         requires { AreKept pool.old self.old.owner self.old.queue }
-        ensures lies { LiesIn pool.new self.new }
+        ensures lies { OutboxLiesIn pool.new self.new }
         ensures empty { self.new.queue.items ≡ [] }
         ensures places { (self.new.acked ≡ 0) × (self.new.cut ≡ 0) }
         ensures owner { self.new.owner ≡ self.old.owner }
-        ensures elsewhere { LeavesOthers pool.old pool.new self.old.owner self.old.queue.items [] }
+        ensures elsewhere { OutboxLeavesOthers pool.old pool.new self.old.owner self.old.queue.items [] }
     {
         while self.give_front(pool) {}
         self.acked = 0;
@@ -113,12 +113,12 @@ impl Outbox {
 
     /// The first fragment that wasn't cut yet, which is cut now. None where all were.
     pub fn next_fragment(&mut self, pool: &mut Pool) -> Option<Info>
-        requires { LiesIn pool.old self.old }
+        requires { OutboxLiesIn pool.old self.old }
         ensures fragment { waiting_in pool.old self.old ≡ option_to_list result ++ waiting_in pool.old self.new }
         ensures none { IsNone result ↔ (waiting_in pool.old self.old ≡ []) }
         ensures kept { OnSome result (self.new ≡ record self.old { cut = self.old.cut + 1 }) }
         ensures same { IfNone result (self.new ≡ self.old) }
-        ensures lies { LiesIn pool.old self.new }
+        ensures lies { OutboxLiesIn pool.old self.new }
         ensures unchanged { pool.new ≡ pool.old }
     {
         match self.fragment_at(pool) {
@@ -132,8 +132,8 @@ impl Outbox {
 
     // The first fragment that wasn't cut yet, where there is one.
     fn fragment_at(&self, pool: &mut Pool) -> Option<Info>
-        requires { LiesIn pool.old self.now }
-        ensures fragment { result ≡ slice_get (fragments_of (messages_in pool.old self.now)) self.now.cut }
+        requires { OutboxLiesIn pool.old self.now }
+        ensures fragment { result ≡ slice_get (fragments_of (queued_messages pool.old self.now)) self.now.cut }
         ensures unchanged { pool.new ≡ pool.old }
     {
         let mut place = self.cut;
@@ -152,11 +152,11 @@ impl Outbox {
     /// So many more fragments are acknowledged, all of which were cut. The blocks of each message that is acknowledged whole now are
     /// given back. How many these are.
     pub fn acknowledge(&mut self, pool: &mut Pool, count: u8) -> u16
-        requires lies { LiesIn pool.old self.old }
+        requires lies { OutboxLiesIn pool.old self.old }
         requires cut { self.old.acked + count ≤ self.old.cut }
         ensures gives { GivesBack pool.old pool.new (acked_more self.old count) self.new result }
-        ensures all { whole_among (messages_in pool.new self.new) self.new.acked ≡ 0 }
-        ensures rest { rest_among (messages_in pool.new self.new) self.new.acked ≡ self.new.acked }
+        ensures all { whole_among (queued_messages pool.new self.new) self.new.acked ≡ 0 }
+        ensures rest { rest_among (queued_messages pool.new self.new) self.new.acked ≡ self.new.acked }
     {
         self.acked += u32::from(count);
         let mut whole = 0;
@@ -168,12 +168,12 @@ impl Outbox {
 
     // Gives the blocks of the first message back, where it is acknowledged whole.
     fn give_first(&mut self, pool: &mut Pool) -> bool
-        requires { LiesIn pool.old self.old }
+        requires { OutboxLiesIn pool.old self.old }
         ensures given { OnTrue result (GivesBack pool.old pool.new self.old self.new 1) }
         ensures fewer { OnTrue result (length self.new.queue.items + 1 ≡ length self.old.queue.items) }
         ensures kept { OnFalse result ((self.new ≡ self.old) × (pool.new ≡ pool.old)) }
-        ensures all { OnFalse result (whole_among (messages_in pool.old self.old) self.old.acked ≡ 0) }
-        ensures rest { OnFalse result (rest_among (messages_in pool.old self.old) self.old.acked ≡ self.old.acked) }
+        ensures all { OnFalse result (whole_among (queued_messages pool.old self.old) self.old.acked ≡ 0) }
+        ensures rest { OnFalse result (rest_among (queued_messages pool.old self.old) self.old.acked ≡ self.old.acked) }
     {
         let Some(count) = self.first_count(pool) else {
             return false;
@@ -190,7 +190,7 @@ impl Outbox {
     // How many fragments the first message has, where there is one.
     fn first_count(&self, pool: &Pool) -> Option<u32>
         requires { AreKept pool.now self.now.owner self.now.queue }
-        ensures first { IfSome result (λ n. (m : Message) × (rest : List Message) × (messages_in pool.now self.now ≡ m ∷ rest)
+        ensures first { IfSome result (λ n. (m : Message) × (rest : List Message) × (queued_messages pool.now self.now ≡ m ∷ rest)
             × (n ≡ packet_count (length m.1))) }
         ensures none { IfNone result (self.now.queue.items ≡ []) }
     {
@@ -208,7 +208,7 @@ impl Outbox {
         pipe: u8,
         chain: Chain,
     ) -> Result<(), (Chain, NoRoom)>
-        requires lies { LiesIn pool.old self.old }
+        requires lies { OutboxLiesIn pool.old self.old }
         requires live { IsLive pool.old chain }
         requires other { chain.owner ≢ self.old.owner }
         requires sendable { IsSendable (pipe, chain_bytes pool.old chain) }
@@ -245,7 +245,7 @@ fn fragment_of(pool: &mut Pool, queued: &Queued, place: u32) -> Info
     requires pipe { queued.now.pipe < 112 }
     requires within { place < packet_count (length (chain_bytes pool.old queued.now.chain)) }
     requires short { length (chain_bytes pool.old queued.now.chain) < 2 ^ 32 }
-    ensures fragment { slice_get (map bytes_of (packets_of queued.now.pipe (chain_bytes pool.old queued.now.chain))) place ≡ Some result }
+    ensures fragment { slice_get (map packet_bytes (packets_of queued.now.pipe (chain_bytes pool.old queued.now.chain))) place ≡ Some result }
     ensures unchanged { pool.new ≡ pool.old }
 {
     let packet = cut(

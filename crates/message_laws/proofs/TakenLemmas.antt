@@ -5,21 +5,21 @@ use Rattle.std.specs.List.{flat_map}
 use Rattle.std.proofs.lemmas.List.Elements.{filter_map-append}
 use Rattle.std.proofs.lemmas.Grind.{common_steps}
 use Rattle.hcp_packet.specs.declared.Packet.{Packet}
-use Rattle.hcp_packet.specs.Packets.{packet, bytes_of, packet_of, parts_of, packet_count, packets_of, packets_in, messages_of, fragments_of, IsFrontOf}
-use Rattle.hcp_chain.specs.Joining.{Nothing, Message, Fifth, Long, is_open, so_far, others, is_fifth, grown, join_step, is_fault, are_taken, given_by}
+use Rattle.hcp_packet.specs.Packets.{packet, packet_bytes, packet_of, parts_of, packet_count, packets_of, packets_in, messages_of, fragments_of, IsFrontOf}
+use Rattle.hcp_chain.specs.Joining.{Nothing, Message, Fifth, Long, is_message_open, so_far, others, is_fifth, grown, join_step, is_fault, are_taken, given_by}
 use Rattle.hcp_chain.proofs.GivenLemmas.{given_messages}
 use Rattle.message_laws.specs.Sending.{AreShort}
 
 -- ---- fragments
 
-packet_of-bytes_of : (p : Packet) → p.pipe < 112 → packet_of (bytes_of p) ≡ Some p
+packet_of-bytes_of : (p : Packet) → p.pipe < 112 → packet_of (packet_bytes p) ≡ Some p
 packet_of-bytes_of p low = by_mark p.last p.pipe p.bytes.items low
   where
-    by_mark : (last : Bool) (pipe : ℕ) (bytes : List ℕ) → pipe < 112 → packet_of (bytes_of (packet last pipe bytes)) ≡ Some (packet last pipe bytes)
+    by_mark : (last : Bool) (pipe : ℕ) (bytes : List ℕ) → pipe < 112 → packet_of (packet_bytes (packet last pipe bytes)) ≡ Some (packet last pipe bytes)
     by_mark true pipe bytes low = grind (arith, common_steps)
     by_mark false pipe bytes low = grind (arith, common_steps)
 
-packets_in-parts : (pipe n : ℕ) (left : List ℕ) → pipe < 112 → packets_in (map bytes_of (parts_of pipe n left)) ≡ parts_of pipe n left
+packets_in-parts : (pipe n : ℕ) (left : List ℕ) → pipe < 112 → packets_in (map packet_bytes (parts_of pipe n left)) ≡ parts_of pipe n left
 packets_in-parts pipe zero left low = refl
 packets_in-parts pipe (suc n) left low =
     let read = packet_of-bytes_of (packet (eqb n 0) pipe (take 28 left)) low in
@@ -32,7 +32,7 @@ packets_of_all sent = flat_map (λ m. packets_of m.0 m.1) sent
 packets_in-fragments : (sent : List (ℕ × List ℕ)) → AreShort sent → packets_in (fragments_of sent) ≡ packets_of_all sent
 packets_in-fragments [] short = refl
 packets_in-fragments (m ∷ sent) short =
-    filter_map-append packet_of (map bytes_of (packets_of m.0 m.1)) (fragments_of sent)
+    filter_map-append packet_of (map packet_bytes (packets_of m.0 m.1)) (fragments_of sent)
     ∙ (ap (λ ps. ps ++ packets_in (fragments_of sent)) (packets_in-parts m.0 (packet_count (length m.1)) m.1 short.0.0.0)
     ∙ ap (λ ps. packets_of m.0 m.1 ++ ps) (packets_in-fragments sent short.1))
 
@@ -61,7 +61,7 @@ record Alone (ms : List (ℕ × List ℕ)) (pipe : ℕ) (bytes : List ℕ) : Typ
 not_fifth : (ms : List (ℕ × List ℕ)) (pipe : ℕ) → length ms ≤ 1 → is_fifth ms pipe ≡ false
 not_fifth ms pipe few =
     let no : leb 4 (length ms) ≡ false = grind (arith, common_steps) in
-    ap (λ b. not (is_open ms pipe) && b) no ∙ and_false (not (is_open ms pipe))
+    ap (λ b. not (is_message_open ms pipe) && b) no ∙ and_false (not (is_message_open ms pipe))
   where
     and_false : (b : Bool) → (b && false) ≡ false
     and_false true = refl

@@ -12,8 +12,8 @@ use Rattle.shdlc_core.specs.declared.answers.Due.{Due}
 use Rattle.shdlc_core.specs.declared.answers.Due.TheVariants.{Rr as Rr_due, Rej as Rej_due, Rnr as Rnr_due, Rset as Rset_due, Ua as Ua_due}
 use Rattle.shdlc_core.specs.Machine.{EndState, Fragment, fetched, frame_due, frames_of, control_due, taken, ticked, is_waiting, place_of, acknowledged, received, runs_timer}
 use Rattle.link_laws.proofs.Joined.{fetch_cases, ready_cases, received_cases}
-use Rattle.session_laws.specs.Sessions.{Turn, is_rset, turn, turned}
-use Rattle.session_laws.specs.Sessions.Turn.{Offer, SetReady}
+use Rattle.session_laws.specs.Sessions.{ShdlcTurn, is_rset, shdlc_turn, shdlc_turned}
+use Rattle.session_laws.specs.Sessions.ShdlcTurn.{Offer, SetReady}
 use Rattle.message_link.specs.Links.{Link, put, put_all}
 
 -- it is an RSET
@@ -113,33 +113,33 @@ ticked_asks e n a = go e.phase (runs_timer e.session) (nat_lt (e.timer + 1) 10) 
     go Waiting x false true p q r t = absurd (let z : true ≡ false = rw (p, r, t) at n in cc)
     go Waiting x false false p q r t = rw (p, r, t) a
 
-turn_asks : (e : EndState) (t : Turn) → NoAsk e.due → NoAsk (turn e t).due
+turn_asks : (e : EndState) (t : ShdlcTurn) → NoAsk e.due → NoAsk (shdlc_turn e t).due
 turn_asks e (Offer fs) a = go e.phase refl
   where
-    go : (p : LinkState) → e.phase ≡ p → NoAsk (turn e (Offer fs)).due
+    go : (p : LinkState) → e.phase ≡ p → NoAsk (shdlc_turn e (Offer fs)).due
     go Up p = rw p a
     go Waiting p = rw p a
     go Down p = rw p a
 turn_asks e (SetReady r) a = ready_cases (λ f. NoAsk f.due) e r a a (no_ask_more e.due Rr_due refl a)
 
 -- nor do the turns of its node
-pub turned_asks : (e : EndState) (ts : List Turn) → NoAsk e.due → NoAsk (turned e ts).due
+pub turned_asks : (e : EndState) (ts : List ShdlcTurn) → NoAsk e.due → NoAsk (shdlc_turned e ts).due
 turned_asks e [] a = a
-turned_asks e (t ∷ ts) a = turned_asks (turn e t) ts (turn_asks e t a)
+turned_asks e (t ∷ ts) a = turned_asks (shdlc_turn e t) ts (turn_asks e t a)
 
-turn_phase : (e : EndState) (t : Turn) → (turn e t).phase ≡ e.phase
+turn_phase : (e : EndState) (t : ShdlcTurn) → (shdlc_turn e t).phase ≡ e.phase
 turn_phase e (Offer fs) = go e.phase refl
   where
-    go : (p : LinkState) → e.phase ≡ p → (turn e (Offer fs)).phase ≡ e.phase
+    go : (p : LinkState) → e.phase ≡ p → (shdlc_turn e (Offer fs)).phase ≡ e.phase
     go Up p = rw p refl
     go Waiting p = rw p refl
     go Down p = rw p refl
 turn_phase e (SetReady r) = ready_cases (λ f. f.phase ≡ e.phase) e r refl refl refl
 
 -- turns leave it Up, waiting or Down
-pub turned_phase : (e : EndState) (ts : List Turn) → (turned e ts).phase ≡ e.phase
+pub turned_phase : (e : EndState) (ts : List ShdlcTurn) → (shdlc_turned e ts).phase ≡ e.phase
 turned_phase e [] = refl
-turned_phase e (t ∷ ts) = turned_phase (turn e t) ts ∙ turn_phase e t
+turned_phase e (t ∷ ts) = turned_phase (shdlc_turn e t) ts ∙ turn_phase e t
 
 -- ## What it sends
 

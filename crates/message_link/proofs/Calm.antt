@@ -12,7 +12,7 @@ use Rattle.swp_act.specs.declared.Phase.TheVariants.{Inactive, Awaiting, Active}
 use Rattle.swp_act.specs.declared.uicc.UiccAct.{UiccAct}
 use Rattle.swp_act.specs.declared.clf.ClfAct.{ClfAct}
 use Rattle.swp_act.specs.declared.ActOut.{ActOut}
-use Rattle.swp_act.specs.Activation.{is_active, nothing, sends, clf_step, uicc_step, phase_ticked}
+use Rattle.swp_act.specs.Activation.{is_active, no_act_out, sends, clf_step, uicc_step, phase_ticked}
 use Rattle.shdlc_core.specs.declared.answers.LinkState.TheVariants.{Down}
 use Rattle.shdlc_core.specs.declared.answers.Due.{Due}
 use Rattle.shdlc_core.specs.declared.answers.Due.TheVariants.{Rr as Rr_due, Rej as Rej_due, Rnr as Rnr_due, Rset as Rset_due, Ua as Ua_due}
@@ -395,8 +395,8 @@ calm_take (Clf c) (Uicc u) x w v act again q h = go act again q
     go ActReady false q = phase c.phase refl
       where
         phase : (p : Phase) → c.phase ≡ p → P (clf_step c (ActTake ActReady false))
-        phase Inactive p = by ActReady false (c, nothing) (rw p refl) g
-        phase Active p = by ActReady false (c, nothing) (rw p refl) g
+        phase Inactive p = by ActReady false (c, no_act_out) (rw p refl) g
+        phase Active p = by ActReady false (c, no_act_out) (rw p refl) g
         phase (Awaiting tries ticks) p =
             let d : ClfAct = record { phase = Active; last = c.last; power = c.power } in
             by ActReady false (d, record { send = None; became_active = true; ended_link = false; sync = None; gave_up = None }) (rw p refl)
@@ -422,8 +422,8 @@ calm_take (Uicc u) (Clf c) x w v act again q h = go act again q
     go (PowerMode code) false q = phase u.phase (nat_le code 1) refl refl
       where
         phase : (p : Phase) (b : Bool) → u.phase ≡ p → nat_le code 1 ≡ b → P (uicc_step u (ActTake (PowerMode code) false))
-        phase p false r s = by (PowerMode code) false (u, nothing) (rw s refl) g
-        phase Inactive true r s = by (PowerMode code) false (u, nothing) (rw (s, r) refl) g
+        phase p false r s = by (PowerMode code) false (u, no_act_out) (rw s refl) g
+        phase Inactive true r s = by (PowerMode code) false (u, no_act_out) (rw (s, r) refl) g
         phase Active true r s = by (PowerMode code) false (ready, sends (Some ActReady)) (rw (s, r) refl) (uicc_ready c u ready v w refl g)
         phase (Awaiting tries ticks) true r s =
             by (PowerMode code) false (ready, record { send = Some ActReady; became_active = true; ended_link = false; sync = None; gave_up = None })
@@ -462,7 +462,7 @@ calm_tick (Uicc u) (Clf c) w v o h = phase u.phase refl
 
     phase : (p : Phase) → u.phase ≡ p → P (uicc_step u ActTick)
     phase Active p = absurd (true≢false (sym (ap is_active p) ∙ o))
-    phase Inactive p = by (at Inactive, nothing) (rw p refl) (uicc_stops c u (at Inactive) v w refl h)
+    phase Inactive p = by (at Inactive, no_act_out) (rw p refl) (uicc_stops c u (at Inactive) v w refl h)
     phase (Awaiting tries ticks) p = tick (nat_le 10 (ticks + 1)) (nat_le 3 tries) refl refl
       where
         waits : is_awaiting u.phase ≡ true
@@ -472,7 +472,7 @@ calm_tick (Uicc u) (Clf c) w v o h = phase u.phase refl
         tick true true a b =
             by (at Inactive, record { send = None; became_active = false; ended_link = false; sync = None; gave_up = Some 3 }) (rw (p, a, b) refl)
             (uicc_stops c u (at Inactive) v w refl h)
-        tick false y a b = by (at (Awaiting tries (ticks + 1)), nothing) (rw (p, a) refl) (uicc_waits c u (at (Awaiting tries (ticks + 1))) v w waits refl h)
+        tick false y a b = by (at (Awaiting tries (ticks + 1)), no_act_out) (rw (p, a) refl) (uicc_waits c u (at (Awaiting tries (ticks + 1))) v w waits refl h)
         tick true false a b =
             let t : UiccAct = at (Awaiting (tries + 1) 0) in
             let l = h.last waits in
@@ -547,7 +547,7 @@ ended_means (Uicc u) (Clf c) x w v (PowerMode code) false q h e = go u.phase (na
     by_step z n p = ap (λ (y : UiccAct × ActOut). y.1.ended_link) p ∙ n
 
     go : (p : Phase) (b : Bool) → u.phase ≡ p → nat_le code 1 ≡ b → is_open (Uicc u) ≡ false
-    go p false r s = absurd (true≢false (sym e ∙ by_step (u, nothing) refl (rw s refl)))
+    go p false r s = absurd (true≢false (sym e ∙ by_step (u, no_act_out) refl (rw s refl)))
     go Inactive true r s = rw r refl
     go Active true r s = absurd (true≢false (sym e ∙ by_step (record { phase = Active; last = Some ActReady }, sends (Some ActReady)) refl (rw (s, r) refl)))
     go (Awaiting tries ticks) true r s = rw r refl

@@ -12,7 +12,7 @@ use Rattle.swp_base.specs.declared.link_terms.Cause.TheVariants.{Chain}
 use Rattle.link_machine.specs.Machine.Role.{Bare, Clf, Uicc}
 use Rattle.link_machine.specs.Machine.Turn.{Give, Hold}
 use Rattle.message_link.specs.Quiet.{losses_of, IsQuiet}
-use Rattle.message_link.specs.Links.{Link, EndEvent, Node, LinkEvent, new_link, after, number_of, talk_of}
+use Rattle.message_link.specs.Links.{Link, EndEvent, Node, LinkEvent, new_link, after_link_events, number_of, talk_of}
 use Rattle.message_link.specs.Links.Ending.{GoesOut, CutOff}
 use Rattle.message_link.specs.Links.Comes.{NextFrame, AsksReset, NoInput}
 use Rattle.message_link.specs.Links.Loss.{OnDemand}
@@ -45,42 +45,42 @@ activate = Activate 1 calm_node 6699 calm_node
 abbrev one : List LinkEvent
 one = AtHost (gives (1, 3 ∷ [])) ∷ AtController (takes []) ∷ AtHost (takes []) ∷ []
 
-one_got : messages_got (talk_of (after bare one).controller 0).session ≡ (1, 3 ∷ []) ∷ []
+one_got : messages_got (talk_of (after_link_events bare one).controller 0).session ≡ (1, 3 ∷ []) ∷ []
 one_got = refl
 
-one_acked : (talk_of (after bare one).host 0).session.acked ≡ 1
+one_acked : (talk_of (after_link_events bare one).host 0).session.acked ≡ 1
 one_acked = refl
 
 -- the node that takes a frame becomes not ready and gives a message before its frames go out: RR goes first
 abbrev answered : List LinkEvent
 answered = AtHost (gives (1, 3 ∷ [])) ∷ AtController (takes (Give (1, 128 ∷ []) ∷ Hold true ∷ [])) ∷ []
 
-answered_first : map (λ (x : OnWire). x.frame) (after bare answered).to_host ≡ S Rr 1 ∷ I 0 1 (129 ∷ 128 ∷ []) ∷ []
+answered_first : map (λ (x : OnWire). x.frame) (after_link_events bare answered).to_host ≡ S Rr 1 ∷ I 0 1 (129 ∷ 128 ∷ []) ∷ []
 answered_first = refl
 
 -- activation, a reset, and both ends up in session 1
 abbrev active : List LinkEvent
 active = activate ∷ AtController (takes []) ∷ AtHost (takes []) ∷ AtController (takes []) ∷ []
 
-active_controller : is_open (after line active).controller.side.role ≡ true
+active_controller : is_open (after_link_events line active).controller.side.role ≡ true
 active_controller = refl
 
-active_host : is_open (after line active).host.side.role ≡ true
+active_host : is_open (after_link_events line active).host.side.role ≡ true
 active_host = refl
 
 abbrev up : List LinkEvent
 up = active ++ (AtController resets ∷ AtHost (takes []) ∷ AtController (takes []) ∷ [])
 
-up_controller : (after line up).controller.side.shdlc.phase ≡ Up
+up_controller : (after_link_events line up).controller.side.shdlc.phase ≡ Up
 up_controller = refl
 
-up_number : number_of (after line up).host ≡ 1
+up_number : number_of (after_link_events line up).host ≡ 1
 up_number = refl
 
 abbrev sent : List LinkEvent
 sent = up ++ (AtHost (gives (1, 3 ∷ [])) ∷ AtController (takes (Give (1, 128 ∷ 0 ∷ []) ∷ [])) ∷ [])
 
-sent_got : messages_got (talk_of (after line sent).controller 1).session ≡ (1, 3 ∷ []) ∷ []
+sent_got : messages_got (talk_of (after_link_events line sent).controller 1).session ≡ (1, 3 ∷ []) ∷ []
 sent_got = refl
 
 -- the second ACT_READY stands behind an RSET: ACT_POWER_MODE was sent twice
@@ -93,20 +93,20 @@ ready_again =
     activate ∷ AtController (takes []) ∷ ticks 10
     ++ (AtController (takes []) ∷ AtHost (takes []) ∷ AtHost resets ∷ AtHost (takes []) ∷ [])
 
-ready_behind : map (λ (x : OnWire). x.frame) (after line ready_again).to_controller ≡ Act Ready false ∷ Rset 4 0 ∷ Act Ready false ∷ []
+ready_behind : map (λ (x : OnWire). x.frame) (after_link_events line ready_again).to_controller ≡ Act Ready false ∷ Rset 4 0 ∷ Act Ready false ∷ []
 ready_behind = refl
 
 -- the controller loses power in the middle of a session, and the host goes on
 abbrev cut : List LinkEvent
 cut = sent ++ (AtController (Step NoInput [] CutOff) ∷ [])
 
-cut_down : (after line cut).controller.side.shdlc.phase ≡ Down
+cut_down : (after_link_events line cut).controller.side.shdlc.phase ≡ Down
 cut_down = refl
 
-cut_goes_on : (after line cut).host.side.shdlc.phase ≡ Up
+cut_goes_on : (after_link_events line cut).host.side.shdlc.phase ≡ Up
 cut_goes_on = refl
 
-cut_got : messages_got (talk_of (after line cut).controller 1).session ≡ (1, 3 ∷ []) ∷ []
+cut_got : messages_got (talk_of (after_link_events line cut).controller 1).session ≡ (1, 3 ∷ []) ∷ []
 cut_got = refl
 
 -- activation anew while frames are on their way, and a message in session 2
@@ -116,13 +116,13 @@ again =
     ∷ AtHost (takes []) ∷ AtController (takes [])
     ∷ AtController (gives (1, 5 ∷ [])) ∷ AtHost (takes []) ∷ [])
 
-again_number : number_of (after line again).host ≡ 2
+again_number : number_of (after_link_events line again).host ≡ 2
 again_number = refl
 
-again_got : messages_got (talk_of (after line again).host 2).session ≡ (1, 5 ∷ []) ∷ []
+again_got : messages_got (talk_of (after_link_events line again).host 2).session ≡ (1, 5 ∷ []) ∷ []
 again_got = refl
 
-again_kept : messages_got (talk_of (after line again).controller 1).session ≡ (1, 3 ∷ []) ∷ []
+again_kept : messages_got (talk_of (after_link_events line again).controller 1).session ≡ (1, 3 ∷ []) ∷ []
 again_kept = refl
 
 -- an end that takes packets of a fifth message is Down: a chain fault
@@ -150,7 +150,7 @@ given_spare : spare (turned (new_link_end Bare) (map Give ((1, 3 ∷ []) ∷ (1,
 given_spare = refl
 
 -- all that was given is delivered, also behind a session in which a frame was lost, and over activation
-one_is_quiet : IsQuiet (after bare one) (losses_of bare one)
+one_is_quiet : IsQuiet (after_link_events bare one) (losses_of bare one)
 one_is_quiet = record { controller = refl; host = refl; lost = refl; rnr = refl; to_controller = refl; to_host = refl }
 
 abbrev gone : List LinkEvent
@@ -162,8 +162,8 @@ gone_lost = refl
 abbrev on_line : List LinkEvent
 on_line = up ++ (AtHost (gives (1, 3 ∷ [])) ∷ AtController (takes []) ∷ AtHost (takes []) ∷ [])
 
-on_line_is_quiet : IsQuiet (after line on_line) (losses_of line on_line)
+on_line_is_quiet : IsQuiet (after_link_events line on_line) (losses_of line on_line)
 on_line_is_quiet = record { controller = refl; host = refl; lost = refl; rnr = refl; to_controller = refl; to_host = refl }
 
-on_line_got : messages_got (talk_of (after line on_line).controller 1).session ≡ (1, 3 ∷ []) ∷ []
+on_line_got : messages_got (talk_of (after_link_events line on_line).controller 1).session ≡ (1, 3 ∷ []) ∷ []
 on_line_got = refl

@@ -15,12 +15,12 @@ use Rattle.shdlc_core.specs.declared.answers.LinkState.TheVariants.{Down, Waitin
 use Rattle.shdlc_core.specs.Machine.{EndState, frame_due, frames_of, after_frames, most_frames, taken, take_answer, ticked, tick_answer, reset_with, is_waiting, runs_timer, stopped, new_end, no_session}
 use Rattle.hcp_packet.specs.Packets.{fragments_of}
 use Rattle.link_laws.proofs.Idle.{after_frames_idle}
-use Rattle.session_laws.specs.Sessions.{OnWire, Link as CoreLink, Turn as CoreTurn, EndEvent as CoreEndEvent, turned as core_turned, is_up, put_all as core_put_all, becomes as core_becomes, with_ended as core_with_ended, with_controller as core_with_controller, silent as core_silent, happens_here as core_happens_here, all_here as core_all_here, ticks_here as core_ticks_here, ticks_or_cut as core_ticks_or_cut, took_with}
-use Rattle.session_laws.specs.Sessions.EndEvent.{Turns as CoreTurns, Deliver as CoreDeliver, Acts as CoreActs, Stop as CoreStop}
+use Rattle.session_laws.specs.Sessions.{OnWire, ShdlcLink as CoreLink, ShdlcTurn as CoreTurn, ShdlcEndEvent as CoreEndEvent, shdlc_turned as core_turned, is_up, shdlc_put_all as core_put_all, shdlc_becomes as core_becomes, with_shdlc_ended as core_with_ended, with_shdlc_controller as core_with_controller, shdlc_silent as core_silent, shdlc_happens_at_controller as core_happens_here, shdlc_all_at_controller as core_all_here, shdlc_ticks_at_controller as core_ticks_here, ticks_or_cut as core_ticks_or_cut, took_with}
+use Rattle.session_laws.specs.Sessions.ShdlcEndEvent.{Turns as CoreTurns, Deliver as CoreDeliver, Acts as CoreActs, Stop as CoreStop}
 use Rattle.link_machine.specs.Machine.{LinkEnd, Role, Turn, Refused, is_faulty, is_open, role_after, act_answer, moved, put_down, activated, heard, took, renewed, new_link_end, reset_refusal, if_up, reset_by, window_of, turned, after_input, among, frames_out, sent_all, ended_by, ended_by_act, ended_by_frame}
 use Rattle.link_machine.specs.Machine.LinkInput.{Tick}
 use Rattle.link_machine.specs.Machine.Role.{Bare, Clf, Uicc}
-use Rattle.message_link.specs.Links.{Half, Link, Ending, becomes, put_all, with_controller, with_ended, silent, cut, finished, has_taken, has_restarted, steps_here, ticks_here, AreSendableTurns, IfLine, CanEnd}
+use Rattle.message_link.specs.Links.{NumberedEnd, Link, Ending, becomes, put_all, with_controller, with_ended, silent, cut, finished, has_taken, has_restarted, steps_at_controller, ticks_at_controller, AreSendableTurns, IfLine, CanEnd}
 use Rattle.message_link.specs.Links.Ending.{GoesOut, CutOff}
 use Rattle.message_link.specs.Links.Comes.{NextFrame, AsksReset}
 use Rattle.message_link.specs.Projection.{core_of, core_turns, core_take, core_ending, core_reset, core_restart, core_step, is_lost_tick, core_tick, core_tick_rest}
@@ -49,7 +49,7 @@ step_silent l e n h calm =
       core = silent-core l e;
       tells = record { now = n; past = past_ended l (is_up l.controller.side.shdlc.phase) h };
       host = host_ended l (is_up l.controller.side.shdlc.phase);
-      calm = λ z. let P : Half → Type 0 = λ f. Calm e.role f.side.role [] [] in
+      calm = λ z. let P : NumberedEnd → Type 0 = λ f. Calm e.role f.side.role [] [] in
           subst P (sym (host_ended l (is_up l.controller.side.shdlc.phase))) (calm z);
     }
 
@@ -251,29 +251,29 @@ step_take l ts ending x xs w a can p h t rests from =
 pub step_frame : (l : Link) (ts : List Turn) (ending : Ending) → AreSendableTurns ts → CanEnd l.controller.side.role ending
     → IsPolite l.controller.side l.to_controller → Tells l.controller → Tells l.host → Rests l.controller.side.shdlc
     → FromHost (core_happens_here (core_of l) (CoreDeliver []))
-    → Step l (steps_here l NextFrame ts ending) (core_all_here (core_of l) (core_step l NextFrame ts ending))
+    → Step l (steps_at_controller l NextFrame ts ending) (core_all_here (core_of l) (core_step l NextFrame ts ending))
 step_frame l ts ending a can p h t rests from = go l.to_controller refl
   where
-    nothing : l.to_controller ≡ [] → steps_here l NextFrame ts ending ≡ l
+    nothing : l.to_controller ≡ [] → steps_at_controller l NextFrame ts ending ≡ l
     nothing q = rw q refl
 
     core_nothing : l.to_controller ≡ [] → core_step l NextFrame ts ending ≡ []
     core_nothing q = rw q refl
 
-    some : (x : OnWire) (xs : List OnWire) → l.to_controller ≡ x ∷ xs → steps_here l NextFrame ts ending ≡ has_taken l x xs ts ending
+    some : (x : OnWire) (xs : List OnWire) → l.to_controller ≡ x ∷ xs → steps_at_controller l NextFrame ts ending ≡ has_taken l x xs ts ending
     some x xs q = rw q refl
 
     core_some : (x : OnWire) (xs : List OnWire) → l.to_controller ≡ x ∷ xs
         → core_step l NextFrame ts ending ≡ core_take l.controller.side x.frame ts ++ core_ending ending
     core_some x xs q = rw q refl
 
-    go : (w : List OnWire) → l.to_controller ≡ w → Step l (steps_here l NextFrame ts ending) (core_all_here (core_of l) (core_step l NextFrame ts ending))
+    go : (w : List OnWire) → l.to_controller ≡ w → Step l (steps_at_controller l NextFrame ts ending) (core_all_here (core_of l) (core_step l NextFrame ts ending))
     go [] q =
-        step_same l (steps_here l NextFrame ts ending) l (core_all_here (core_of l) (core_step l NextFrame ts ending)) (core_of l)
+        step_same l (steps_at_controller l NextFrame ts ending) l (core_all_here (core_of l) (core_step l NextFrame ts ending)) (core_of l)
         (nothing q) (ap (core_all_here (core_of l)) (core_nothing q))
         (record { core = refl; tells = h; host = refl; calm = λ z. z })
     go (x ∷ xs) q =
-        step_same l (steps_here l NextFrame ts ending) (has_taken l x xs ts ending) (core_all_here (core_of l) (core_step l NextFrame ts ending))
+        step_same l (steps_at_controller l NextFrame ts ending) (has_taken l x xs ts ending) (core_all_here (core_of l) (core_step l NextFrame ts ending))
         (core_all_here (core_of l) (core_take l.controller.side x.frame ts ++ core_ending ending))
         (some x xs q) (ap (core_all_here (core_of l)) (core_some x xs q))
         (step_take l ts ending x xs q a can (subst (IsPolite l.controller.side) q p) h t rests
@@ -333,7 +333,7 @@ reset_waits s w n = rw n refl
 
 pub step_reset : (l : Link) (window : Option ℕ) (ts : List Turn) (ending : Ending) → AreSendableTurns ts → CanEnd l.controller.side.role ending
     → Tells l.controller → Rests l.controller.side.shdlc
-    → Step l (steps_here l (AsksReset window) ts ending) (core_all_here (core_of l) (core_step l (AsksReset window) ts ending))
+    → Step l (steps_at_controller l (AsksReset window) ts ending) (core_all_here (core_of l) (core_step l (AsksReset window) ts ending))
 step_reset l window ts ending a can h r = go (reset_refusal l.controller.side) refl
   where
     e : LinkEnd
@@ -345,10 +345,10 @@ step_reset l window ts ending a can h r = go (reset_refusal l.controller.side) r
     b : Bool
     b = is_some (if_up e.shdlc Asked)
 
-    refused : (why : Refused) → reset_refusal e ≡ Some why → steps_here l (AsksReset window) ts ending ≡ finished l (turned e ts) ending
+    refused : (why : Refused) → reset_refusal e ≡ Some why → steps_at_controller l (AsksReset window) ts ending ≡ finished l (turned e ts) ending
     refused why q = rw q refl
 
-    asks : reset_refusal e ≡ None → steps_here l (AsksReset window) ts ending ≡ finished (with_ended l b) (turned (reset_by e w) ts) ending
+    asks : reset_refusal e ≡ None → steps_at_controller l (AsksReset window) ts ending ≡ finished (with_ended l b) (turned (reset_by e w) ts) ending
     asks q = rw q refl
 
     core_is : (o : Option Refused) → reset_refusal e ≡ o → core_step l (AsksReset window) ts ending ≡ core_reset o e w ts ending
@@ -379,13 +379,13 @@ step_reset l window ts ending a can h r = go (reset_refusal l.controller.side) r
         }
 
     go : (o : Option Refused) → reset_refusal e ≡ o
-        → Step l (steps_here l (AsksReset window) ts ending) (core_all_here (core_of l) (core_step l (AsksReset window) ts ending))
+        → Step l (steps_at_controller l (AsksReset window) ts ending) (core_all_here (core_of l) (core_step l (AsksReset window) ts ending))
     go (Some why) q =
-        step_same l (steps_here l (AsksReset window) ts ending) (finished l (turned e ts) ending)
+        step_same l (steps_at_controller l (AsksReset window) ts ending) (finished l (turned e ts) ending)
         (core_all_here (core_of l) (core_step l (AsksReset window) ts ending)) (core_all_here (core_of l) (core_reset (Some why) e w ts ending))
         (refused why q) (ap (core_all_here (core_of l)) (core_is (Some why) q)) (step_idle l ts ending a can h r)
     go None q =
-        step_same l (steps_here l (AsksReset window) ts ending) (finished (with_ended l b) (turned (reset_by e w) ts) ending)
+        step_same l (steps_at_controller l (AsksReset window) ts ending) (finished (with_ended l b) (turned (reset_by e w) ts) ending)
         (core_all_here (core_of l) (core_step l (AsksReset window) ts ending)) (core_all_here (core_of l) (core_reset None e w ts ending))
         (asks q) (ap (core_all_here (core_of l)) (core_is None q)) (done ending can q)
 
@@ -510,12 +510,12 @@ core_tick_as l ts ending t us p q =
     ∙ ap (core_all_here (core_ticks_or_cut t (core_of l))) q
 
 tick_as : (l : Link) (ts : List Turn) (ending : Ending) (b : Bool) (e : LinkEnd) → is_some (ended_by l.controller.side Tick) ≡ b
-    → after_input l.controller.side Tick ≡ e → ticks_here l ts ending ≡ finished (with_ended l b) (turned e ts) ending
+    → after_input l.controller.side Tick ≡ e → ticks_at_controller l ts ending ≡ finished (with_ended l b) (turned e ts) ending
 tick_as l ts ending b e p q =
     ap (λ a. finished (with_ended l a) (turned (after_input l.controller.side Tick) ts) ending) p ∙ ap (λ f. finished (with_ended l b) (turned f ts) ending) q
 
 step_tick_open : (l : Link) (ts : List Turn) (ending : Ending) → AreSendableTurns ts → CanEnd l.controller.side.role ending → Tells l.controller
-    → Rests l.controller.side.shdlc → is_open l.controller.side.role ≡ true → Step l (ticks_here l ts ending) (CoreTick l ts ending)
+    → Rests l.controller.side.shdlc → is_open l.controller.side.role ≡ true → Step l (ticks_at_controller l ts ending) (CoreTick l ts ending)
 step_tick_open l ts ending a can h r o = go ending (is_lost_tick e ending) can refl
   where
     e : LinkEnd
@@ -553,30 +553,30 @@ step_tick_open l ts ending a can h r o = go ending (is_lost_tick e ending) can r
         sym z ∙ q
 
     kept : (ending : Ending) → CanEnd e.role ending → is_lost_tick e ending ≡ false → NoAsk (ticked e.shdlc).due
-        → Step l (ticks_here l ts ending) (CoreTick l ts ending)
+        → Step l (ticks_at_controller l ts ending) (CoreTick l ts ending)
     kept ending can q n =
         let k = kept_tick ending q in
         let Q : EndState → Type 0 = λ s. NoAsk s.due in
         let out =
         step_ends l (with_ended l b) (turned f ts) (core_becomes (core_with_ended (core_of l) b) (core_turned (ticked e.shdlc) (core_turns f ts))) ending st
         (none_out None f ts a now (subst Q (sym (shdlc_moved e b (ticked e.shdlc))) n)) (can_end f ts e.role ending (moved_role e b (ticked e.shdlc)) can) in
-        step_same l (ticks_here l ts ending) (finished (with_ended l b) (turned f ts) ending) (CoreTick l ts ending)
+        step_same l (ticks_at_controller l ts ending) (finished (with_ended l b) (turned f ts) ending) (CoreTick l ts ending)
         (core_all_here (core_becomes (core_with_ended (core_of l) b) (core_turned (ticked e.shdlc) (core_turns f ts))) (core_ending ending))
         (tick_as l ts ending b f t.1 t.0)
         (core_tick_as l ts ending (Some us) (core_ending ending) k.0 k.1
         ∙ ap (λ (g : LinkEnd). core_all_here (core_ticks_here (core_of l) (core_turns g ts)) (core_ending ending)) t.0)
         out
 
-    sends : Step l (ticks_here l ts GoesOut) (CoreTick l ts GoesOut)
+    sends : Step l (ticks_at_controller l ts GoesOut) (CoreTick l ts GoesOut)
     sends =
         let k = kept_tick GoesOut refl in
-        step_same l (ticks_here l ts GoesOut) (becomes (with_ended l b) (turned f ts)) (CoreTick l ts GoesOut)
+        step_same l (ticks_at_controller l ts GoesOut) (becomes (with_ended l b) (turned f ts)) (CoreTick l ts GoesOut)
         (core_becomes (core_with_ended (core_of l) b) (core_turned (ticked e.shdlc) (core_turns f ts)))
         (tick_as l ts GoesOut b f t.1 t.0)
         (core_tick_as l ts GoesOut (Some us) [] k.0 k.1 ∙ ap (λ (g : LinkEnd). core_ticks_here (core_of l) (core_turns g ts)) t.0)
         st
 
-    go : (ending : Ending) (c : Bool) → CanEnd e.role ending → is_lost_tick e ending ≡ c → Step l (ticks_here l ts ending) (CoreTick l ts ending)
+    go : (ending : Ending) (c : Bool) → CanEnd e.role ending → is_lost_tick e ending ≡ c → Step l (ticks_at_controller l ts ending) (CoreTick l ts ending)
     go GoesOut c can q = sends
     go CutOff false can q = kept CutOff can q (ticked_asks e.shdlc (waits false q) (none_due e.shdlc r.due))
     go CutOff true can q =
@@ -584,18 +584,18 @@ step_tick_open l ts ending a can h r o = go ending (is_lost_tick e ending) can r
         let w = waits true q in
         let phase : (turned f ts).shdlc.phase ≡ Waiting =
         turns_phase f ts a now ∙ (ap (λ (z : EndState). z.phase) (shdlc_moved e b (ticked e.shdlc)) ∙ waiting_phase (ticked e.shdlc) w) in
-        step_same l (ticks_here l ts CutOff) (finished (with_ended l b) (turned f ts) CutOff) (CoreTick l ts CutOff) (core_silent (core_of l) (new_end 4))
+        step_same l (ticks_at_controller l ts CutOff) (finished (with_ended l b) (turned f ts) CutOff) (CoreTick l ts CutOff) (core_silent (core_of l) (new_end 4))
         (tick_as l ts CutOff b f t.1 t.0) (core_tick_as l ts CutOff None [] k.0 k.1)
         (step_cut_instead l b (turned f ts) phase (tick_up e.shdlc w) (turned_role f ts ∙ moved_role e b (ticked e.shdlc)) can h)
 
 step_tick_closed : (l : Link) (ts : List Turn) (ending : Ending) → AreSendableTurns ts → CanEnd l.controller.side.role ending → Tells l.controller
-    → Rests l.controller.side.shdlc → is_open l.controller.side.role ≡ false → Step l (ticks_here l ts ending) (CoreTick l ts ending)
+    → Rests l.controller.side.shdlc → is_open l.controller.side.role ≡ false → Step l (ticks_at_controller l ts ending) (CoreTick l ts ending)
 step_tick_closed l ts ending a can h r o =
     let out =
     step_ends l l (turned f ts) (core_becomes (core_put_all (core_of l) (frames_now act)) (core_turned f.shdlc us)) ending st
     (none_out act f ts a m.mid (none_due f.shdlc (ap (λ (z : EndState). z.due) m.same ∙ r.due)))
     (can_end f ts (role_after e.role ActTick) ending (activated_role e ActTick) (can_after e.role ActTick ending can)) in
-    step_same l (ticks_here l ts ending) (finished l (turned f ts) ending) (CoreTick l ts ending)
+    step_same l (ticks_at_controller l ts ending) (finished l (turned f ts) ending) (CoreTick l ts ending)
     (core_all_here (core_becomes (core_put_all (core_of l) (frames_now act)) (core_turned f.shdlc us)) (core_ending ending))
     (tick_as l ts ending false f ended t.0) core out
   where
@@ -653,9 +653,9 @@ step_tick_closed l ts ending a can h r o =
 
 -- the controller's end has its tick
 pub step_tick : (l : Link) (ts : List Turn) (ending : Ending) → AreSendableTurns ts → CanEnd l.controller.side.role ending → Tells l.controller
-    → Rests l.controller.side.shdlc → Step l (ticks_here l ts ending) (CoreTick l ts ending)
+    → Rests l.controller.side.shdlc → Step l (ticks_at_controller l ts ending) (CoreTick l ts ending)
 step_tick l ts ending a can h r = go (is_open l.controller.side.role) refl
   where
-    go : (b : Bool) → is_open l.controller.side.role ≡ b → Step l (ticks_here l ts ending) (CoreTick l ts ending)
+    go : (b : Bool) → is_open l.controller.side.role ≡ b → Step l (ticks_at_controller l ts ending) (CoreTick l ts ending)
     go true o = step_tick_open l ts ending a can h r o
     go false o = step_tick_closed l ts ending a can h r o

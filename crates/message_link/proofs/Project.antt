@@ -9,13 +9,13 @@ use Rattle.swp_base.specs.declared.control_frames.Act.{Act as Activation}
 use Rattle.shdlc_core.specs.declared.answers.LinkState.{LinkState}
 use Rattle.shdlc_core.specs.declared.answers.LinkState.TheVariants.{Down, Waiting, Up}
 use Rattle.shdlc_core.specs.Machine.{EndState, frames_of, after_frames, most_frames, put_out}
-use Rattle.hcp_packet.specs.Packets.{packets_of, bytes_of, fragments_of}
+use Rattle.hcp_packet.specs.Packets.{packets_of, packet_bytes, fragments_of}
 use Rattle.message_laws.specs.Sending.{IsShort, AreShort}
-use Rattle.session_laws.specs.Sessions.{OnWire, Link as CoreLink, Turn as CoreTurn, turned as core_turned, turn as core_turn_of, act_frame, put as core_put, put_all as core_put_all, becomes as core_becomes, with_ended as core_with_ended, with_controller as core_with_controller}
-use Rattle.session_laws.specs.Sessions.Turn.{Offer}
+use Rattle.session_laws.specs.Sessions.{OnWire, ShdlcLink as CoreLink, ShdlcTurn as CoreTurn, shdlc_turned as core_turned, shdlc_turn as core_turn_of, act_frame, shdlc_put as core_put, shdlc_put_all as core_put_all, shdlc_becomes as core_becomes, with_shdlc_ended as core_with_ended, with_shdlc_controller as core_with_controller}
+use Rattle.session_laws.specs.Sessions.ShdlcTurn.{Offer}
 use Rattle.link_machine.specs.Machine.{Message, LinkEnd, Role, ActDue, Turn, Refused, is_open, moved, given, give_refusal, aside_refusal, turn, turned, among, frames_out, sent_all}
 use Rattle.link_machine.specs.Machine.Turn.{Give, Hold, FetchMessage, SetAside, Release}
-use Rattle.message_link.specs.Links.{Talk, Half, Link, talk_now, put, put_all, becomes, with_ended, AreSendableTurns}
+use Rattle.message_link.specs.Links.{Talk, NumberedEnd, Link, talk_now, put, put_all, becomes, with_ended, AreSendableTurns}
 use Rattle.message_link.specs.Projection.{core_of, core_turn, core_turns}
 use Rattle.message_link.proofs.Calm.{Calm, CalmLink, with_sent, no_acts, calm_put_all}
 use Rattle.message_link.proofs.Ends.{Idle, Keeps, ready_keeps, ready_phase, frames_alike}
@@ -78,7 +78,7 @@ short_more (x ∷ ms) m h s = (h.0, short_more ms m h.1 s)
 
 pub mid_given : (o : Option Activation) (e : LinkEnd) (m : Message) → Mid o e → e.shdlc.phase ≡ Up → IsShort m → Mid o (given e m)
 mid_given o e m h up short =
-    let f : Message → List (List ℕ) = λ k. map bytes_of (packets_of k.0 k.1) in
+    let f : Message → List (List ℕ) = λ k. map packet_bytes (packets_of k.0 k.1) in
     let last : fragments_of (m ∷ []) ≡ f m = append-nil (f m) in
     record {
       acts = h.acts;
@@ -145,7 +145,7 @@ turn_mid o e SetAside a h = go (aside_refusal e) refl
 turn_mid o e (Give m) a h = go (give_refusal e m) refl
   where
     fs : List (List ℕ)
-    fs = map bytes_of (packets_of m.0 m.1)
+    fs = map packet_bytes (packets_of m.0 m.1)
 
     none_end : give_refusal e m ≡ None → turn e (Give m) ≡ given e m
     none_end q = rw q refl
@@ -258,7 +258,7 @@ AllSay [] = Unit {0}
 AllSay (x ∷ xs) = Says x.1 × AllSay xs
 
 -- one end with its past
-pub record Tells (h : Half) : Type 0 where
+pub record Tells (h : NumberedEnd) : Type 0 where
   pub now : Now h.side
   pub past : AllSay h.past
 
@@ -288,7 +288,7 @@ pub becomes_calm : (l k : Link) (o : Option Activation) (e : LinkEnd) → k.host
 becomes_calm l k o e host acts calm =
     let b = beside-put_all (frames_out e) k in
     let v : List OnWire = (put_all k (frames_out e)).to_host in
-    let P : Half → Type 0 = λ g. Calm e.role g.side.role (put_all k (frames_out e)).to_controller v in
+    let P : NumberedEnd → Type 0 = λ g. Calm e.role g.side.role (put_all k (frames_out e)).to_controller v in
     let Q : List OnWire → Type 0 = λ w. Calm e.role l.host.side.role w v in
     subst P (sym (b.host ∙ host)) (subst Q (sym b.to_controller) goes)
   where

@@ -3,17 +3,17 @@ use Rattle.std.proofs.Common.{◌≡◌, ℕ, suc, ◌+◌, ◌≤◌, ◌-◌, 
 use Rattle.std.proofs.lemmas.List.{length-map}
 use Rattle.std.specs.Prelude.{nat_le}
 use Rattle.std.proofs.lemmas.Bool.{leb-false}
-use Rattle.hcp_packet.specs.Packets.{packets_of, packet_count, bytes_of, fragments_of, good_of, good_messages_of}
+use Rattle.hcp_packet.specs.Packets.{packets_of, packet_count, packet_bytes, fragments_of, good_of, good_messages_of}
 use Rattle.hcp_packet.proofs.Joining.{packets_are_counted, joined_again}
 use Rattle.message_laws.proofs.TakenLemmas.{all_given}
-use Rattle.link_laws.specs.Order.{AllDelivered as CoreAllDelivered}
-use Rattle.session_laws.specs.Sessions.{Link as CoreLink, after as core_after}
-use Rattle.session_laws.specs.Losses.{IsQuiet as CoreIsQuiet}
-use Rattle.session_laws.specs.Settled.{IsSettled as CoreIsSettled, AreUpTogether as CoreAreUpTogether}
+use Rattle.link_laws.specs.Order.{FragmentsDelivered as CoreAllDelivered}
+use Rattle.session_laws.specs.Sessions.{ShdlcLink as CoreLink, shdlc_after as core_after}
+use Rattle.session_laws.specs.Losses.{IsShdlcQuiet as CoreIsQuiet}
+use Rattle.session_laws.specs.Settled.{IsShdlcSettled as CoreIsSettled, AreShdlcUpTogether as CoreAreUpTogether}
 use Rattle.session_laws.proofs.Quiet.{delivered_here, delivered_there}
 use Rattle.session_laws.proofs.Resets.{up_together as core_up_together}
 use Rattle.link_machine.specs.Machine.{Message, messages_got, whole_among}
-use Rattle.message_link.specs.Links.{Talk, Link, LinkEvent, IsStart, after, talk_now, AllAllowed}
+use Rattle.message_link.specs.Links.{Talk, Link, LinkEvent, IsStart, after_link_events, talk_now, AllAllowed}
 use Rattle.message_link.specs.Projection.{core_of, core_events}
 use Rattle.message_link.specs.Quiet.{losses_of, IsQuiet, AllDelivered}
 use Rattle.message_link.specs.Settled.{sure_of, IsSettled, AreUpTogether}
@@ -27,8 +27,8 @@ whole_all (m ∷ ms) n i = go (nat_le (packet_count (length m.1)) n) refl (whole
   where
     count : length (fragments_of (m ∷ ms)) ≡ packet_count (length m.1) + length (fragments_of ms)
     count =
-        let a = length-append (map bytes_of (packets_of m.0 m.1)) (fragments_of ms) in
-        let b = length-map (packets_of m.0 m.1) bytes_of ∙ packets_are_counted m.0 m.1 in
+        let a = length-append (map packet_bytes (packets_of m.0 m.1)) (fragments_of ms) in
+        let b = length-map (packets_of m.0 m.1) packet_bytes ∙ packets_are_counted m.0 m.1 in
         omega (arith, a, b)
 
     go : (b : Bool) → nat_le (packet_count (length m.1)) n
@@ -48,39 +48,39 @@ in_messages s r says d =
       acked = whole_all s.sent s.session.acked (omega (arith, count));
     }
 
-quiet_core : (l : Link) → IsStart l → (events : List LinkEvent) → AllAllowed l events → IsQuiet (after l events) (losses_of l events)
+quiet_core : (l : Link) → IsStart l → (events : List LinkEvent) → AllAllowed l events → IsQuiet (after_link_events l events) (losses_of l events)
     → CoreIsQuiet (core_after (core_of l) (core_events l events)) (losses_of l events)
 quiet_core l s events a q =
     let P : CoreLink → Type 0 = λ c. CoreIsQuiet c (losses_of l events) in
     subst P (projected l s events a)
     (record { controller = q.controller; host = q.host; lost = q.lost; rnr = q.rnr; to_controller = q.to_controller; to_host = q.to_host })
 
-pub all_here : (l : Link) → IsStart l → (events : List LinkEvent) → AllAllowed l events → IsQuiet (after l events) (losses_of l events)
-    → AllDelivered (talk_now (after l events).controller.side) (talk_now (after l events).host.side)
+pub all_here : (l : Link) → IsStart l → (events : List LinkEvent) → AllAllowed l events → IsQuiet (after_link_events l events) (losses_of l events)
+    → AllDelivered (talk_now (after_link_events l events).controller.side) (talk_now (after_link_events l events).host.side)
 all_here l s events a q =
-    let m = after l events in
+    let m = after_link_events l events in
     let P : CoreLink → Type 0 = λ c. CoreAllDelivered c.controller.side.session c.host.side.session in
     let d = subst P (sym (projected l s events a))
     (delivered_here (core_of l) (core_starts l s) (core_events l events) (allowed l s events a) (quiet_core l s events a q)) in
     in_messages (talk_now m.controller.side) (talk_now m.host.side) (from_start l s events a).good.controller.now.says d
 
-pub all_there : (l : Link) → IsStart l → (events : List LinkEvent) → AllAllowed l events → IsQuiet (after l events) (losses_of l events)
-    → AllDelivered (talk_now (after l events).host.side) (talk_now (after l events).controller.side)
+pub all_there : (l : Link) → IsStart l → (events : List LinkEvent) → AllAllowed l events → IsQuiet (after_link_events l events) (losses_of l events)
+    → AllDelivered (talk_now (after_link_events l events).host.side) (talk_now (after_link_events l events).controller.side)
 all_there l s events a q =
-    let m = after l events in
+    let m = after_link_events l events in
     let P : CoreLink → Type 0 = λ c. CoreAllDelivered c.host.side.session c.controller.side.session in
     let d = subst P (sym (projected l s events a))
     (delivered_there (core_of l) (core_starts l s) (core_events l events) (allowed l s events a) (quiet_core l s events a q)) in
     in_messages (talk_now m.host.side) (talk_now m.controller.side) (from_start l s events a).good.host.now.says d
 
 -- both ends are up after a reset that nothing disturbed
-pub up_together : (l : Link) → IsStart l → (events : List LinkEvent) → AllAllowed l events → IsSettled (after l events) (sure_of l events)
-    → AreUpTogether (after l events)
+pub up_together : (l : Link) → IsStart l → (events : List LinkEvent) → AllAllowed l events → IsSettled (after_link_events l events) (sure_of l events)
+    → AreUpTogether (after_link_events l events)
 up_together l s events a q =
     let p = projected l s events a in
     let P : CoreLink → Type 0 = λ c. CoreIsSettled c (sure_of l events) in
     let settled : CoreIsSettled (core_after (core_of l) (core_events l events)) (sure_of l events) =
     subst P p (record { sure = q.undisturbed; to_controller = q.to_controller; to_host = q.to_host }) in
-    let up : CoreAreUpTogether (core_of (after l events)) =
+    let up : CoreAreUpTogether (core_of (after_link_events l events)) =
     subst CoreAreUpTogether (sym p) (core_up_together (core_of l) (core_starts l s) (core_events l events) (allowed l s events a) settled) in
     record { controller = up.controller; host = up.host; number = up.number }

@@ -6,14 +6,14 @@ use Rattle.swp_act.specs.Activation.{is_active}
 use Rattle.swp_act.specs.declared.clf.ClfAct.{ClfAct}
 use Rattle.swp_act.specs.declared.ActEvent.TheVariants.{Start as ActStart, Stop as ActStop}
 use Rattle.shdlc_core.specs.Machine.{stopped}
-use Rattle.session_laws.specs.Sessions.{OnWire, Link as CoreLink, Turn as CoreTurn, EndEvent as CoreEndEvent, LinkEvent as CoreLinkEvent, IsStart as CoreIsStart, exchanged as core_exchanged, happens as core_happens, happens_here as core_happens_here, all_here as core_all_here, after as core_after, aged as core_aged, ticks_or_cut as core_ticks_or_cut, ticks_if_waiting as core_ticks_if_waiting, AllAllowed as CoreAllAllowed, AreTurns as CoreAreTurns, IsAllowed as CoreIsAllowed}
-use Rattle.session_laws.specs.Sessions.EndEvent.{Deliver as CoreDeliver}
-use Rattle.session_laws.specs.Sessions.LinkEvent.{AtController as CoreAtController, AtHost as CoreAtHost, Tick as CoreTick, TickWithout as CoreTickWithout}
+use Rattle.session_laws.specs.Sessions.{OnWire, ShdlcLink as CoreLink, ShdlcTurn as CoreTurn, ShdlcEndEvent as CoreEndEvent, ShdlcLinkEvent as CoreLinkEvent, IsShdlcStart as CoreIsStart, shdlc_exchanged as core_exchanged, shdlc_happens as core_happens, shdlc_happens_at_controller as core_happens_here, shdlc_all_at_controller as core_all_here, shdlc_after as core_after, shdlc_aged as core_aged, ticks_or_cut as core_ticks_or_cut, ticks_if_waiting as core_ticks_if_waiting, AllShdlcAllowed as CoreAllAllowed, AreTurns as CoreAreTurns, IsShdlcAllowed as CoreIsAllowed}
+use Rattle.session_laws.specs.Sessions.ShdlcEndEvent.{Deliver as CoreDeliver}
+use Rattle.session_laws.specs.Sessions.ShdlcLinkEvent.{AtController as CoreAtController, AtHost as CoreAtHost, Tick as CoreTick, TickWithout as CoreTickWithout}
 use Rattle.session_laws.proofs.Sending.{SafeLink}
 use Rattle.session_laws.proofs.Steps.{after-append, safe, in_order_here, in_order_there, safe_aged, safe_turns, safe_exchanged, tick_or_cut, tick_if_waiting}
 use Rattle.link_machine.specs.Machine.{LinkEnd, Role, Turn, Refused, reset_refusal, window_of, is_open, moved, role_after, started, renewed, turned}
 use Rattle.link_machine.specs.Machine.Role.{Bare, Clf, Uicc}
-use Rattle.message_link.specs.Links.{Link, Half, Ending, Comes, Loss, EndEvent, Node, LinkEvent, exchanged, steps_here, happens_here, all_here, happens, after, aged, ticks_here, IsClf, IsUicc, IsWindow, CanStart, CanCome, IsNode, IsAllowed, IsOwn, AreOwn, IsEvent, AllAllowed}
+use Rattle.message_link.specs.Links.{Link, NumberedEnd, Ending, Comes, Loss, EndEvent, Node, LinkEvent, exchanged, steps_at_controller, happens_at_controller, all_at_controller, happens, after_link_events, aged, ticks_at_controller, IsClf, IsUicc, IsWindow, CanStart, CanCome, IsNode, IsAllowed, IsOwn, AreOwn, IsEvent, AllAllowed}
 use Rattle.message_link.specs.Links.Ending.{GoesOut, CutOff}
 use Rattle.message_link.specs.Links.Comes.{NextFrame, AsksReset, Starts, Stops, NoInput}
 use Rattle.message_link.specs.Links.EndEvent.{Step as EndStep, Lose}
@@ -202,7 +202,7 @@ from_controller c r =
 -- a step that takes no frame
 pub step_own : (l : Link) (comes : Comes) (ts : List Turn) (ending : Ending) → IsOwn (EndStep comes ts ending) → CanCome l comes → IsNode l ts ending
     → Tells l.controller → Rests l.controller.side.shdlc
-    → Step l (steps_here l comes ts ending) (core_all_here (core_of l) (core_step l comes ts ending))
+    → Step l (steps_at_controller l comes ts ending) (core_all_here (core_of l) (core_step l comes ts ending))
 step_own l NextFrame ts ending o a n h r = absurd o
 step_own l (AsksReset window) ts ending o a n h r = step_reset l window ts ending n.0 n.1 h r
 step_own l (Starts value) ts ending o a n h r =
@@ -213,7 +213,7 @@ step_own l Stops ts ending o a n h r =
     (λ z. calm_stop l.controller.side.role l.host.side.role l.to_controller l.to_host a z)
 step_own l NoInput ts ending o a n h r = step_idle l ts ending n.0 n.1 h r
 
-pub step_lost : (l : Link) (why : Loss) → Tells l.controller → Step l (happens_here l (Lose why)) (core_all_here (core_of l) (core_here l (Lose why)))
+pub step_lost : (l : Link) (why : Loss) → Tells l.controller → Step l (happens_at_controller l (Lose why)) (core_all_here (core_of l) (core_here l (Lose why)))
 step_lost l why h = record { core = refl; tells = h; host = refl; calm = lost l.to_controller }
   where
     lost : (w : List OnWire) → Calm l.controller.side.role l.host.side.role w l.to_host → Calm l.controller.side.role l.host.side.role (drop 1 w) l.to_host
@@ -221,7 +221,7 @@ step_lost l why h = record { core = refl; tells = h; host = refl; calm = lost l.
     lost (x ∷ xs) g = calm_drop l.controller.side.role l.host.side.role x xs l.to_host g
 
 pub step_here : (l : Link) (e : EndEvent) → IsAllowed l e → Tells l.controller → Tells l.host → CalmLink l → Rests l.controller.side.shdlc
-    → FromHost (core_happens_here (core_of l) (CoreDeliver [])) → Step l (happens_here l e) (core_all_here (core_of l) (core_here l e))
+    → FromHost (core_happens_here (core_of l) (CoreDeliver [])) → Step l (happens_at_controller l e) (core_all_here (core_of l) (core_here l e))
 step_here l (Lose why) a h t z r from = step_lost l why h
 step_here l (EndStep NextFrame ts ending) a h t z r from =
     step_frame l ts ending a.1.0 a.1.1 (polite_of l.controller.side l.host.side.role l.to_controller l.to_host z h.now.closed) h t r from
@@ -231,13 +231,13 @@ step_here l (EndStep Stops ts ending) a h t z r from = step_own l Stops ts endin
 step_here l (EndStep NoInput ts ending) a h t z r from = step_own l NoInput ts ending tt a.0 a.1 h r
 
 pub own_here : (l : Link) (e : EndEvent) → IsOwn e → IsAllowed l e → Tells l.controller → Rests l.controller.side.shdlc
-    → Step l (happens_here l e) (core_all_here (core_of l) (core_here l e))
+    → Step l (happens_at_controller l e) (core_all_here (core_of l) (core_here l e))
 own_here l (Lose why) o a h r = absurd o
 own_here l (EndStep comes ts ending) o a h r = step_own l comes ts ending o a.0 a.1 h r
 
 -- what happens at the controller's end in a tick
 pub record All (l : Link) (es : List EndEvent) : Type 0 where
-  pub step : Step l (all_here l es) (core_all_here (core_of l) (core_all l es))
+  pub step : Step l (all_at_controller l es) (core_all_here (core_of l) (core_all l es))
   pub turns : CoreAreTurns (core_all l es)
 
 pub all_step : (kf : ℕ) (l : Link) (es : List EndEvent) → AreOwn l es → Tells l.controller → SafeLink 0 kf (core_of l) → All l es
@@ -245,7 +245,7 @@ all_step kf l [] a h s = record { step = record { core = refl; tells = h; host =
 all_step kf l (e ∷ es) a h s =
     let r = rests_of 0 kf (core_of l) s in
     let one = own_here l e a.0 a.1 h r in
-    let m : Link = happens_here l e in
+    let m : Link = happens_at_controller l e in
     let turns = own_turns l e r a.0 a.1 in
     let P : CoreLink → Type 0 = λ c. SafeLink 0 kf c in
     let more = all_step kf m es a.2 one.tells (subst P (sym one.core) (safe_turns kf (core_here l e) (core_of l) turns s)) in
@@ -259,7 +259,7 @@ all_step kf l (e ∷ es) a h s =
       turns = turns-append (core_here l e) (core_all m es) turns more.turns;
     }
 
-pub tells_same : (h k : Half) → h ≡ k → Tells k → Tells h
+pub tells_same : (h k : NumberedEnd) → h ≡ k → Tells k → Tells h
 tells_same h k q t = subst Tells (sym q) t
 
 -- the link seen from the other end
@@ -269,24 +269,24 @@ seen n z = calm_swap n.controller.side.role n.host.side.role n.to_controller n.t
 -- ## Events
 
 step_event : (l : Link) (e : EndEvent) → IsAllowed l e → Good l → Reached (core_of l)
-    → Event l (happens_here l e) (core_after (core_of l) (map CoreAtController (core_here l e))) (map CoreAtController (core_here l e))
+    → Event l (happens_at_controller l e) (core_after (core_of l) (map CoreAtController (core_here l e))) (map CoreAtController (core_here l e))
 step_event l e a g r =
     let q = after_here (core_of l) (core_here l e) in
     let rest = rests_of 0 0 (core_of l) (safe_reached (core_of l) r) in
     let st = step_here l e a g.controller g.host g.calm rest (from_host (core_of l) r) in
     record {
       core = st.core ∙ sym q;
-      good = record { controller = st.tells; host = tells_same (happens_here l e).host l.host st.host g.host; calm = st.calm g.calm };
+      good = record { controller = st.tells; host = tells_same (happens_at_controller l e).host l.host st.host g.host; calm = st.calm g.calm };
       allowed = allowed_here (core_here l e) (here_allowed l e rest a);
     }
 
 there_event : (l : Link) (e : EndEvent) → IsAllowed (exchanged l) e → Good l → Reached (core_of l)
-    → Event l (exchanged (happens_here (exchanged l) e)) (core_after (core_of l) (map CoreAtHost (core_here (exchanged l) e)))
+    → Event l (exchanged (happens_at_controller (exchanged l) e)) (core_after (core_of l) (map CoreAtHost (core_here (exchanged l) e)))
     (map CoreAtHost (core_here (exchanged l) e))
 there_event l e a g r =
     let k : Link = exchanged l in
     let q = after_there (core_of l) (core_here k e) in
-    let n : Link = happens_here k e in
+    let n : Link = happens_at_controller k e in
     let rest = rests_of 0 0 (core_of k) (safe_exchanged 0 0 (core_of l) (safe_reached (core_of l) r)) in
     let st = step_here k e a g.host g.controller (seen l g.calm) rest (from_controller (core_of l) r) in
     record {
@@ -302,7 +302,7 @@ pub record IsIdleClf (r : Role) : Type 0 where
   pub idle : is_active clf.phase ≡ false
 
 pub started_clf : (l : Link) (power : ℕ) (ts : List Turn) (ending : Ending) → IsClf l.controller.side.role
-    → IsIdleClf (steps_here l (Starts power) ts ending).controller.side.role
+    → IsIdleClf (steps_at_controller l (Starts power) ts ending).controller.side.role
 started_clf l power ts ending i = by ending (clf l.controller.side.role i refl)
   where
     g : LinkEnd
@@ -312,11 +312,11 @@ started_clf l power ts ending i = by ending (clf l.controller.side.role i refl)
     clf Bare i q = absurd i
     clf (Uicc s) i q = absurd i
     clf (Clf s) i q =
-        let after : (turned g ts).role ≡ role_after l.controller.side.role (ActStart power) =
+        let after_link_events : (turned g ts).role ≡ role_after l.controller.side.role (ActStart power) =
         turned_role g ts ∙ activated_role (moved l.controller.side true (stopped l.controller.side.shdlc)) (ActStart power) in
-        record { clf = _; is = after ∙ ap (λ r. role_after r (ActStart power)) q; idle = refl }
+        record { clf = _; is = after_link_events ∙ ap (λ r. role_after r (ActStart power)) q; idle = refl }
 
-    by : (ending : Ending) → IsIdleClf (turned g ts).role → IsIdleClf (steps_here l (Starts power) ts ending).controller.side.role
+    by : (ending : Ending) → IsIdleClf (turned g ts).role → IsIdleClf (steps_at_controller l (Starts power) ts ending).controller.side.role
     by GoesOut k = k
     by CutOff k = record { clf = _; is = ap renewed k.is; idle = refl }
 
@@ -339,11 +339,11 @@ record Ticked (n : Link) (c : CoreLink) : Type 0 where
 -- the host's end has its tick on m, whose core has become x
 ticked_there : (l m : Link) (h : Node) (x : CoreLink) → m.host ≡ l.host → core_of m ≡ x → IsNode (exchanged m) h.turns h.ending
     → SafeLink 0 1 (core_of m) → Tells m.controller → Tells l.host → CalmLink m
-    → Ticked (exchanged (ticks_here (exchanged m) h.turns h.ending))
+    → Ticked (exchanged (ticks_at_controller (exchanged m) h.turns h.ending))
     (core_after (core_exchanged (core_ticks_or_cut (core_tick l.host.side h.turns h.ending) (core_exchanged x)))
     (map CoreAtHost (core_tick_rest l.host.side h.turns h.ending)))
 ticked_there l m h x host_is m_is a safe near far calm =
-    let n : Link = ticks_here (exchanged m) h.turns h.ending in
+    let n : Link = ticks_at_controller (exchanged m) h.turns h.ending in
     let three = step_tick (exchanged m) h.turns h.ending a.0 a.1 (tells_same m.host l.host host_is far)
     (rests_of 1 0 (core_of (exchanged m)) (safe_exchanged 0 1 (core_of m) safe)) in
     let there : List CoreEndEvent = core_tick_rest l.host.side h.turns h.ending in
@@ -363,7 +363,7 @@ event_step l (AtController e) a g r = step_event l e a g r
 event_step l (AtHost e) a g r = there_event l e a g r
 event_step l (Ticks c es h) a g r =
     let s0 = safe_aged (core_of l) (safe_reached (core_of l) r) in
-    let near : Link = ticks_here (aged l) c.turns c.ending in
+    let near : Link = ticks_at_controller (aged l) c.turns c.ending in
     let one = step_tick (aged l) c.turns c.ending a.0.0 a.0.1 g.controller (rests_of 1 1 (core_of (aged l)) s0) in
     let rest : List CoreEndEvent = core_tick_rest l.controller.side c.turns c.ending in
     let t : Option (List CoreTurn) = core_tick l.controller.side c.turns c.ending in
@@ -374,7 +374,7 @@ event_step l (Ticks c es h) a g r =
     let near_safe : SafeLink 0 1 (core_of near) = subst P (sym one.core) s1 in
     let all = all_step 1 near es a.1 one.tells near_safe in
     let two = all.step in
-    let m : Link = all_here near es in
+    let m : Link = all_at_controller near es in
     let m_safe : SafeLink 0 1 (core_of m) = subst P (sym two.core) (safe_turns 1 (core_all near es) (core_of near) all.turns near_safe) in
     let host_is : m.host ≡ l.host = two.host ∙ one.host in
     let x : CoreLink = core_all_here start (rest ++ core_all near es) in
@@ -394,7 +394,7 @@ event_step l (TicksWithout es h) a g r =
     let P : CoreLink → Type 0 = λ d. SafeLink 0 1 d in
     let near_safe : SafeLink 0 1 (core_of near) = subst P kept (tick_if_waiting 1 (core_aged (core_of l)) s0) in
     let all = all_step 1 near es a.1 g.controller near_safe in
-    let m : Link = all_here near es in
+    let m : Link = all_at_controller near es in
     let m_safe : SafeLink 0 1 (core_of m) = subst P (sym all.step.core) (safe_turns 1 (core_all near es) (core_of near) all.turns near_safe) in
     let x : CoreLink = core_all_here (core_ticks_if_waiting (core_aged (core_of l))) (core_all near es) in
     let m_is : core_of m ≡ x = all.step.core ∙ ap (λ d. core_all_here d (core_all near es)) (sym kept) in
@@ -409,7 +409,7 @@ event_step l (TicksWithout es h) a g r =
 event_step l (Activate power c id h) a g r =
     let x : EndEvent = EndStep (Starts power) c.turns c.ending in
     let y : EndEvent = EndStep (Starts id) h.turns h.ending in
-    let near : Link = happens_here l x in
+    let near : Link = happens_at_controller l x in
     let es : List CoreLinkEvent = map CoreAtController (core_here l x) in
     let fs : List CoreLinkEvent = map CoreAtHost (core_here (exchanged near) y) in
     let clf : CanStart l.controller.side.role l.host.side.role = clf_starts l.controller.side.role l.host.side.role a.0 in
@@ -417,7 +417,7 @@ event_step l (Activate power c id h) a g r =
     let next : Reached (core_of near) = subst Reached (sym one.core) (reached_more (core_of l) es one.allowed r) in
     let host : near.host ≡ l.host = (step_own l (Starts power) c.turns c.ending tt clf a.2 g.controller
     (rests_of 0 0 (core_of l) (safe_reached (core_of l) r))).host in
-    let Q : Half → Type 0 = λ z. IsUicc z.side.role × IsNode (exchanged (record l { host = z })) h.turns h.ending in
+    let Q : NumberedEnd → Type 0 = λ z. IsUicc z.side.role × IsNode (exchanged (record l { host = z })) h.turns h.ending in
     let there : Q near.host = subst Q (sym host) (a.1, a.3) in
     let starts : CanStart near.host.side.role near.controller.side.role =
     can_start near.host.side.role near.controller.side.role there.0 (started_clf l power c.turns c.ending a.0) in
@@ -437,7 +437,7 @@ pub record Run (l m : Link) (c : CoreLink) (es : List CoreLinkEvent) : Type 0 wh
   pub allowed : CoreAllAllowed es
 
 pub run : (events : List LinkEvent) (l : Link) → AllAllowed l events → Good l → Reached (core_of l)
-    → Run l (after l events) (core_after (core_of l) (core_events l events)) (core_events l events)
+    → Run l (after_link_events l events) (core_after (core_of l) (core_events l events)) (core_events l events)
 run [] l a g r = record { core = refl; good = g; reached = r; allowed = tt }
 run (e ∷ es) l a g r =
     let c : CoreLink = core_after (core_of l) (core_event l e) in

@@ -19,14 +19,14 @@ use Rattle.shdlc_core.specs.Machine.{EndState, Session, after_frames, most_frame
 use Rattle.hcp_packet.specs.Packets.{fragments_of, packets_in, IsFrontOf}
 use Rattle.hcp_chain.specs.Joining.{are_taken}
 use Rattle.message_laws.proofs.TakenLemmas.{no_fault}
-use Rattle.link_laws.specs.Order.{InOrder as CoreInOrder}
-use Rattle.session_laws.specs.Sessions.{OnWire, Half as CoreHalf, Link as CoreLink, Turn as CoreTurn, turned as core_turned, is_rset, took_with, put_all as core_put_all, becomes as core_becomes, with_ended as core_with_ended, happens_here as core_happens_here, all_here as core_all_here, ended_session, session_of, number_of as core_number_of}
-use Rattle.session_laws.specs.Sessions.EndEvent.{Deliver as CoreDeliver, Ignore as CoreIgnore, Acts as CoreActs, Lose as CoreLose}
+use Rattle.link_laws.specs.Order.{FragmentsInOrder as CoreInOrder}
+use Rattle.session_laws.specs.Sessions.{OnWire, NumberedShdlc as CoreHalf, ShdlcLink as CoreLink, ShdlcTurn as CoreTurn, shdlc_turned as core_turned, is_rset, took_with, shdlc_put_all as core_put_all, shdlc_becomes as core_becomes, with_shdlc_ended as core_with_ended, shdlc_happens_at_controller as core_happens_here, shdlc_all_at_controller as core_all_here, ended_session, shdlc_session_of, shdlc_number_of as core_number_of}
+use Rattle.session_laws.specs.Sessions.ShdlcEndEvent.{Deliver as CoreDeliver, Ignore as CoreIgnore, Acts as CoreActs, Lose as CoreLose}
 use Rattle.session_laws.specs.Losses.{is_act}
 use Rattle.session_laws.proofs.Steps.{took as core_took}
 use Rattle.link_machine.specs.Machine.{Message, LinkEnd, Role, ActDue, Turn, is_faulty, is_open, role_after, act_answer, with_act, in_front, moved, put_down, activated, news, took, if_up, turned, ended_by_frame}
 use Rattle.link_machine.specs.Machine.Role.{Bare, Clf, Uicc}
-use Rattle.message_link.specs.Links.{Talk, Half, Link, talk_now, ended_talk, talk_of, number_of, becomes, with_ended, AreSendableTurns}
+use Rattle.message_link.specs.Links.{Talk, NumberedEnd, Link, talk_now, ended_talk, talk_of, number_of, becomes, with_ended, AreSendableTurns}
 use Rattle.message_link.specs.Projection.{core_past, core_half, core_of, core_turns, core_take}
 use Rattle.message_link.proofs.Calm.{Calm, CalmLink, IsPolite, with_sent, calm_drop, calm_take}
 use Rattle.message_link.proofs.Ends.{Idle, taken_keeps, Alike, frames_alike}
@@ -297,10 +297,10 @@ ended-core (x ∷ xs) n = go (n == x.0) refl (ended-core xs n)
     go true q later = rw q refl
     go false q later = rw q later
 
-pub session-core : (h : Half) (n : ℕ) → session_of (core_half h) n ≡ (talk_of h n).session
+pub session-core : (h : NumberedEnd) (n : ℕ) → shdlc_session_of (core_half h) n ≡ (talk_of h n).session
 session-core h n = go h.side.shdlc.phase (n == core_number_of (core_half h)) refl refl
   where
-    go : (p : LinkState) (b : Bool) → h.side.shdlc.phase ≡ p → (n == core_number_of (core_half h)) ≡ b → session_of (core_half h) n ≡ (talk_of h n).session
+    go : (p : LinkState) (b : Bool) → h.side.shdlc.phase ≡ p → (n == core_number_of (core_half h)) ≡ b → shdlc_session_of (core_half h) n ≡ (talk_of h n).session
     go Up true p q = rw (p, q) refl
     go Up false p q = rw (p, q) (ended-core h.past n)
     go Waiting b p q = rw p (ended-core h.past n)
@@ -314,7 +314,7 @@ past_says (x ∷ xs) n h = go (n == x.0) refl (past_says xs n h.1)
     go true q later = rw q h.0
     go false q later = rw q later
 
-pub says_of : (h : Half) (n : ℕ) → Tells h → Says (talk_of h n)
+pub says_of : (h : NumberedEnd) (n : ℕ) → Tells h → Says (talk_of h n)
 says_of h n t = go h.side.shdlc.phase (n == number_of h) refl refl
   where
     says : Says (talk_now h.side)
@@ -331,7 +331,7 @@ says_of h n t = go h.side.shdlc.phase (n == number_of h) refl refl
 itself : (n : ℕ) → (n == n) ≡ true
 itself n = grind (arith, common_steps)
 
-session_now : (h : CoreHalf) → h.side.phase ≡ Up → session_of h (core_number_of h) ≡ h.side.session
+session_now : (h : CoreHalf) → h.side.phase ≡ Up → shdlc_session_of h (core_number_of h) ≡ h.side.session
 session_now h up = let same : (core_number_of h == core_number_of h) ≡ true = itself (core_number_of h) in rw (up, same) refl
 
 sound : (b : Bool) → IsTrue b → not b ≡ false
@@ -340,7 +340,7 @@ sound false t = absurd (cc)
 
 -- What was accepted at an end is a front of what the other end was given, in each session
 abbrev pub FromHost : CoreLink → Type 0
-FromHost c = (n : ℕ) → CoreInOrder (session_of c.host n) (session_of c.controller n)
+FromHost c = (n : ℕ) → CoreInOrder (shdlc_session_of c.host n) (shdlc_session_of c.controller n)
 
 pub no_fault_first : (l : Link) (x : OnWire) (xs : List OnWire) → l.to_controller ≡ x ∷ xs → Tells l.controller → Tells l.host
     → is_open l.controller.side.role ≡ true → FromHost (core_took (core_of l) [] x xs)
@@ -377,12 +377,12 @@ no_fault_first l x xs w h t o from = go s.phase refl
     up : s.phase ≡ Up → is_faulty s.session ≡ false
     up p =
         let n : ℕ = core_number_of (core_half m.controller) in
-        let o : CoreInOrder (session_of (core_half m.host) n) (session_of (core_half m.controller) n) = (subst FromHost (sym st.core) from) n in
+        let o : CoreInOrder (shdlc_session_of (core_half m.host) n) (shdlc_session_of (core_half m.controller) n) = (subst FromHost (sym st.core) from) n in
         let says : Says (talk_of l.host n) = says_of l.host n t in
-        let acc : (session_of (core_half m.controller) n).acc
+        let acc : (shdlc_session_of (core_half m.controller) n).acc
         ≡ s.session.acc = ap (λ (z : Session). z.acc) (session_now (core_half m.controller) (alike.phase ∙ p)) ∙ alike.acc in
-        let out : (session_of (core_half m.host) n).out ≡ fragments_of (talk_of l.host n).sent =
-        ap (λ (z : Session). z.out) (ap (λ (z : Half). session_of (core_half z) n) st.host ∙ session-core l.host n) ∙ says.out in
+        let out : (shdlc_session_of (core_half m.host) n).out ≡ fragments_of (talk_of l.host n).sent =
+        ap (λ (z : Session). z.out) (ap (λ (z : NumberedEnd). shdlc_session_of (core_half z) n) st.host ∙ session-core l.host n) ∙ says.out in
         let front : IsFrontOf s.session.acc (fragments_of (talk_of l.host n).sent) = (
           o.front.0,
           ap (λ (z : List (List ℕ)). z ++ o.front.0) (sym acc)

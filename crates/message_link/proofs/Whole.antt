@@ -9,22 +9,22 @@ use Rattle.swp_base.specs.declared.control_frames.Control.TheVariants.{I, S, Rse
 use Rattle.shdlc_core.specs.declared.answers.LinkState.{LinkState}
 use Rattle.shdlc_core.specs.declared.answers.LinkState.TheVariants.{Down, Waiting, Up}
 use Rattle.shdlc_core.specs.Machine.{EndState, taken, take_answer}
-use Rattle.hcp_packet.specs.Packets.{packets_of, packet_count, bytes_of, fragments_of, good_of, good_messages_of, AreSendable, IsFrontOf}
+use Rattle.hcp_packet.specs.Packets.{packets_of, packet_count, packet_bytes, fragments_of, good_of, good_messages_of, AreSendable, IsFrontOf}
 use Rattle.hcp_packet.proofs.Joining.{packets_are_counted, good_messages_are_a_front, whole_messages_have_come}
 use Rattle.message_laws.specs.Sending.{AreShort}
 use Rattle.message_laws.proofs.TakenLemmas.{all_given}
-use Rattle.link_laws.specs.Order.{InOrder as CoreInOrder}
-use Rattle.session_laws.specs.Sessions.{OnWire, AllAllowed as CoreAllAllowed, IsStart as CoreIsStart, after as core_after, session_of}
-use Rattle.session_laws.specs.Sessions.IsStart.{BothUp, BothDown}
+use Rattle.link_laws.specs.Order.{FragmentsInOrder as CoreInOrder}
+use Rattle.session_laws.specs.Sessions.{OnWire, AllShdlcAllowed as CoreAllAllowed, IsShdlcStart as CoreIsStart, shdlc_after as core_after, shdlc_session_of}
+use Rattle.session_laws.specs.Sessions.IsShdlcStart.{BothUp, BothDown}
 use Rattle.link_machine.specs.Machine.{Message, LinkEnd, is_faulty, messages_got, whole_among, ended_by, ended_by_act, act_answer, is_open, new_link_end}
 use Rattle.link_machine.specs.Machine.Role.{Bare, Clf, Uicc}
 use Rattle.link_machine.specs.Machine.LinkInput.{Take}
-use Rattle.message_link.specs.Links.{Talk, Half, Link, LinkEvent, IsStart, new_half, exchanged, after, talk_of, AllAllowed}
+use Rattle.message_link.specs.Links.{Talk, NumberedEnd, Link, LinkEvent, IsStart, new_numbered_end, exchanged, after_link_events, talk_of, AllAllowed}
 use Rattle.message_link.specs.Links.IsStart.{IsBare, IsLine}
 use Rattle.swp_act.specs.declared.ActEvent.{ActEvent}
 use Rattle.swp_act.specs.declared.ActEvent.TheVariants.{Take as ActTake}
 use Rattle.swp_act.specs.Activation.{new_clf, new_uicc}
-use Rattle.session_laws.specs.Sessions.{Link as CoreLink, number_of as core_number_of}
+use Rattle.session_laws.specs.Sessions.{ShdlcLink as CoreLink, shdlc_number_of as core_number_of}
 use Rattle.session_laws.proofs.Data.{Below, bound}
 use Rattle.session_laws.proofs.Steps.{agree, safe}
 use Rattle.message_link.specs.Links.{no_talk, ended_talk, number_of}
@@ -36,17 +36,17 @@ use Rattle.message_link.proofs.Steps.{FromHost, says_of, session-core, core_firs
 use Rattle.message_link.proofs.Calm.{Line}
 use Rattle.message_link.proofs.Runs.{Good, Reached, Run, run, ordered, from_host, from_controller}
 
-bare_tells : Tells (new_half (new_link_end Bare))
+bare_tells : Tells (new_numbered_end (new_link_end Bare))
 bare_tells =
     record {
       now = record { acts = refl; idle = λ n. absurd (n refl); closed = λ q. absurd (true≢false q); says = record { out = refl; short = tt } };
       past = tt;
     }
 
-clf_tells : Tells (new_half (new_link_end (Clf new_clf)))
+clf_tells : Tells (new_numbered_end (new_link_end (Clf new_clf)))
 clf_tells = record { now = record { acts = refl; idle = λ _. (refl, refl); closed = λ _. refl; says = record { out = refl; short = tt } }; past = tt }
 
-uicc_tells : Tells (new_half (new_link_end (Uicc new_uicc)))
+uicc_tells : Tells (new_numbered_end (new_link_end (Uicc new_uicc)))
 uicc_tells = record { now = record { acts = refl; idle = λ _. (refl, refl); closed = λ _. refl; says = record { out = refl; short = tt } }; past = tt }
 
 new_calm : Line new_clf new_uicc [] []
@@ -61,7 +61,7 @@ start_reached l IsBare = record { start = core_of l; starts = BothUp; events = [
 start_reached l IsLine = record { start = core_of l; starts = BothDown; events = []; allowed = tt; is = refl }
 
 pub from_start : (l : Link) → IsStart l → (events : List LinkEvent) → AllAllowed l events
-    → Run l (after l events) (core_after (core_of l) (core_events l events)) (core_events l events)
+    → Run l (after_link_events l events) (core_after (core_of l) (core_events l events)) (core_events l events)
 from_start l s events a = run events l a (start_good l s) (start_reached l s)
 
 pub core_starts : (l : Link) → IsStart l → CoreIsStart (core_of l)
@@ -72,10 +72,10 @@ pub allowed : (l : Link) → IsStart l → (events : List LinkEvent) → AllAllo
 allowed l s events a = (from_start l s events a).allowed
 
 pub projected : (l : Link) → IsStart l → (events : List LinkEvent) → AllAllowed l events
-    → core_of (after l events) ≡ core_after (core_of l) (core_events l events)
+    → core_of (after_link_events l events) ≡ core_after (core_of l) (core_events l events)
 projected l s events a = (from_start l s events a).core
 
-pub reached : (l : Link) → IsStart l → (events : List LinkEvent) (a : AllAllowed l events) → Reached (core_of (after l events))
+pub reached : (l : Link) → IsStart l → (events : List LinkEvent) (a : AllAllowed l events) → Reached (core_of (after_link_events l events))
 reached l s events a = let r = from_start l s events a in subst Reached (sym r.core) r.reached
 
 -- ## In order
@@ -103,7 +103,7 @@ taken_front zero ms = (fragments_of ms, refl)
 taken_front (suc n) [] = ([], refl)
 taken_front (suc n) (m ∷ ms) =
     let f = taken_front n ms in
-    (f.0, append_assoc (map bytes_of (packets_of m.0 m.1)) (fragments_of (take n ms)) f.0 ∙ ap (λ fs. map bytes_of (packets_of m.0 m.1) ++ fs) f.1)
+    (f.0, append_assoc (map packet_bytes (packets_of m.0 m.1)) (fragments_of (take n ms)) f.0 ∙ ap (λ fs. map packet_bytes (packets_of m.0 m.1) ++ fs) f.1)
 
 whole_fits : (ms : List Message) (n : ℕ) → length (fragments_of (take (whole_among ms n) ms)) ≤ n
 whole_fits [] n = omega arith
@@ -115,8 +115,8 @@ whole_fits (m ∷ ms) n = go (nat_le (packet_count (length m.1)) n) refl (whole_
     go false q later = rw q (omega arith)
     go true q later =
         let i = leb-true (packet_count (length m.1)) n q in
-        let a = length-append (map bytes_of (packets_of m.0 m.1)) (fragments_of (take (whole_among ms (n - packet_count (length m.1))) ms)) in
-        let b = length-map (packets_of m.0 m.1) bytes_of ∙ packets_are_counted m.0 m.1 in
+        let a = length-append (map packet_bytes (packets_of m.0 m.1)) (fragments_of (take (whole_among ms (n - packet_count (length m.1))) ms)) in
+        let b = length-map (packets_of m.0 m.1) packet_bytes ∙ packets_are_counted m.0 m.1 in
         rw q (omega (arith, i, a, b, later))
 
 pub in_messages : (s r : Talk) → Says s → CoreInOrder s.session r.session → InOrder s r
@@ -140,24 +140,24 @@ in_messages s r says o =
     short_take (suc n) (m ∷ ms) h = (h.0, short_take n ms h.1)
 
 pub in_order_here : (l : Link) → IsStart l → (events : List LinkEvent) → AllAllowed l events → (n : ℕ)
-    → InOrder (talk_of (after l events).controller n) (talk_of (after l events).host n)
+    → InOrder (talk_of (after_link_events l events).controller n) (talk_of (after_link_events l events).host n)
 in_order_here l s events a n =
-    let m = after l events in
+    let m = after_link_events l events in
     let o = (ordered (core_of m) (reached l s events a)).there n in
     let g = (from_start l s events a).good in
     in_messages (talk_of m.controller n) (talk_of m.host n) (says_of m.controller n g.controller)
     (subst (λ z. CoreInOrder z (talk_of m.host n).session) (session-core m.controller n)
-    (subst (λ r. CoreInOrder (session_of (core_half m.controller) n) r) (session-core m.host n) o))
+    (subst (λ r. CoreInOrder (shdlc_session_of (core_half m.controller) n) r) (session-core m.host n) o))
 
 pub in_order_there : (l : Link) → IsStart l → (events : List LinkEvent) → AllAllowed l events → (n : ℕ)
-    → InOrder (talk_of (after l events).host n) (talk_of (after l events).controller n)
+    → InOrder (talk_of (after_link_events l events).host n) (talk_of (after_link_events l events).controller n)
 in_order_there l s events a n =
-    let m = after l events in
+    let m = after_link_events l events in
     let o = (ordered (core_of m) (reached l s events a)).here n in
     let g = (from_start l s events a).good in
     in_messages (talk_of m.host n) (talk_of m.controller n) (says_of m.host n g.host)
     (subst (λ z. CoreInOrder z (talk_of m.controller n).session) (session-core m.host n)
-    (subst (λ r. CoreInOrder (session_of (core_half m.host) n) r) (session-core m.controller n) o))
+    (subst (λ r. CoreInOrder (shdlc_session_of (core_half m.host) n) r) (session-core m.controller n) o))
 
 -- ## No chain fault
 
@@ -226,19 +226,19 @@ not_chain e Ua f q = shdlc (is_open e.role) refl
 not_chain e Clt f q = cc
 
 pub no_chain_here : (l : Link) → IsStart l → (events : List LinkEvent) → AllAllowed l events → (x : OnWire) (xs : List OnWire)
-    → (after l events).to_controller ≡ x ∷ xs
-    → ended_by (after l events).controller.side (Take x.frame) ≡ Some Chain → ⊥
+    → (after_link_events l events).to_controller ≡ x ∷ xs
+    → ended_by (after_link_events l events).controller.side (Take x.frame) ≡ Some Chain → ⊥
 no_chain_here l s events a x xs q =
-    let m = after l events in
+    let m = after_link_events l events in
     let g = (from_start l s events a).good in
     not_chain m.controller.side x.frame
     (λ o. no_fault_first m x xs q g.controller g.host o (subst FromHost (core_first (core_of m) [] x xs q) (from_host (core_of m) (reached l s events a))))
 
 pub no_chain_there : (l : Link) → IsStart l → (events : List LinkEvent) → AllAllowed l events → (x : OnWire) (xs : List OnWire)
-    → (after l events).to_host ≡ x ∷ xs
-    → ended_by (after l events).host.side (Take x.frame) ≡ Some Chain → ⊥
+    → (after_link_events l events).to_host ≡ x ∷ xs
+    → ended_by (after_link_events l events).host.side (Take x.frame) ≡ Some Chain → ⊥
 no_chain_there l s events a x xs q =
-    let m = after l events in
+    let m = after_link_events l events in
     let k : Link = exchanged m in
     let g = (from_start l s events a).good in
     not_chain m.host.side x.frame
@@ -248,8 +248,8 @@ no_chain_there l s events a x xs q =
 -- ## One number
 
 pub one_number : (l : Link) → IsStart l → (events : List LinkEvent) → AllAllowed l events
-    → (after l events).controller.side.shdlc.phase ≡ Up → (after l events).host.side.shdlc.phase ≡ Up
-    → number_of (after l events).controller ≡ number_of (after l events).host
+    → (after_link_events l events).controller.side.shdlc.phase ≡ Up → (after_link_events l events).host.side.shdlc.phase ≡ Up
+    → number_of (after_link_events l events).controller ≡ number_of (after_link_events l events).host
 one_number l s events a p q =
     let r = reached l s events a in
     let P : CoreLink → Type 0 = λ c. c.controller.side.phase ≡ Up → c.host.side.phase ≡ Up → core_number_of c.controller ≡ core_number_of c.host in
@@ -260,19 +260,19 @@ fresh_past : (past : List (ℕ × Talk)) (n : ℕ) → Below n (core_past past) 
 fresh_past [] n b = refl
 fresh_past (x ∷ xs) n b = let d : (n == x.0) ≡ false = ne_eqb n x.0 (λ z. omega (arith, z, b.0)) in rw d (fresh_past xs n b.1)
 
-pub new_number : (h : Half) → h.side.shdlc.phase ≡ Up → Below (bound (core_half h)) (core_past h.past) → ended_talk h.past (number_of h) ≡ no_talk
+pub new_number : (h : NumberedEnd) → h.side.shdlc.phase ≡ Up → Below (bound (core_half h)) (core_past h.past) → ended_talk h.past (number_of h) ≡ no_talk
 new_number h up b = fresh_past h.past (number_of h) (rw up at b)
 
-pub new_number_here : (l : Link) → IsStart l → (events : List LinkEvent) → AllAllowed l events → (after l events).controller.side.shdlc.phase ≡ Up
-    → ended_talk (after l events).controller.past (number_of (after l events).controller) ≡ no_talk
+pub new_number_here : (l : Link) → IsStart l → (events : List LinkEvent) → AllAllowed l events → (after_link_events l events).controller.side.shdlc.phase ≡ Up
+    → ended_talk (after_link_events l events).controller.past (number_of (after_link_events l events).controller) ≡ no_talk
 new_number_here l s events a up =
     let r = reached l s events a in
     let P : CoreLink → Type 0 = λ c. Below (bound c.controller) c.controller.past in
-    new_number (after l events).controller up (subst P r.is (safe r.start r.starts r.events r.allowed).n_past)
+    new_number (after_link_events l events).controller up (subst P r.is (safe r.start r.starts r.events r.allowed).n_past)
 
-pub new_number_there : (l : Link) → IsStart l → (events : List LinkEvent) → AllAllowed l events → (after l events).host.side.shdlc.phase ≡ Up
-    → ended_talk (after l events).host.past (number_of (after l events).host) ≡ no_talk
+pub new_number_there : (l : Link) → IsStart l → (events : List LinkEvent) → AllAllowed l events → (after_link_events l events).host.side.shdlc.phase ≡ Up
+    → ended_talk (after_link_events l events).host.past (number_of (after_link_events l events).host) ≡ no_talk
 new_number_there l s events a up =
     let r = reached l s events a in
     let P : CoreLink → Type 0 = λ c. Below (bound c.host) c.host.past in
-    new_number (after l events).host up (subst P r.is (safe r.start r.starts r.events r.allowed).f_past)
+    new_number (after_link_events l events).host up (subst P r.is (safe r.start r.starts r.events r.allowed).f_past)

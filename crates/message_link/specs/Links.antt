@@ -21,7 +21,7 @@ pub record Talk : Type 0 where
   pub session : Session
 
 -- one end, with the greatest numbers of RSETs that it has sent and taken, and its ended sessions with their numbers
-pub record Half : Type 0 where
+pub record NumberedEnd : Type 0 where
   pub side : LinkEnd
   pub emitted : ℕ
   pub took : ℕ
@@ -29,8 +29,8 @@ pub record Half : Type 0 where
 
 -- a link, seen from one of its ends: the controller's, where nothing else is said
 pub record Link : Type 0 where
-  pub controller : Half
-  pub host : Half
+  pub controller : NumberedEnd
+  pub host : NumberedEnd
   -- the frames on their way to each end, the one put first in front
   pub to_controller : List OnWire
   pub to_host : List OnWire
@@ -38,7 +38,7 @@ pub record Link : Type 0 where
   pub resets : ℕ
 
 -- an end that comes up has the greatest number that it has sent or taken
-abbrev pub number_of : Half → ℕ
+abbrev pub number_of : NumberedEnd → ℕ
 number_of h = max h.emitted h.took
 
 -- a session in which nothing was given and nothing came
@@ -55,7 +55,7 @@ abbrev pub talk_now : LinkEnd → Talk
 talk_now e = record { sent = e.sent; session = e.shdlc.session }
 
 -- the session with a number, while it lasts or as it ended; one without messages where the end had none
-abbrev pub talk_of : Half → ℕ → Talk
+abbrev pub talk_of : NumberedEnd → ℕ → Talk
 talk_of h n = by_phase h.side.shdlc.phase where
   by_phase : LinkState → Talk
   by_phase Up = if n == number_of h then talk_now h.side else ended_talk h.past n
@@ -63,13 +63,13 @@ talk_of h n = by_phase h.side.shdlc.phase where
   by_phase Down = ended_talk h.past n
 
 -- an end that has sent and taken no RSET yet
-abbrev pub new_half : LinkEnd → Half
-new_half e = record { side = e; emitted = 0; took = 0; past = [] }
+abbrev pub new_numbered_end : LinkEnd → NumberedEnd
+new_numbered_end e = record { side = e; emitted = 0; took = 0; past = [] }
 
 -- two new ends, and nothing on the wires
 abbrev pub new_link : Role → Role → Link
 new_link c h =
-    record { controller = new_half (new_link_end c); host = new_half (new_link_end h); to_controller = []; to_host = []; resets = 0 }
+    record { controller = new_numbered_end (new_link_end c); host = new_numbered_end (new_link_end h); to_controller = []; to_host = []; resets = 0 }
 
 -- how a link begins: bare, or with activation
 pub data IsStart : Link → Type 0 where
@@ -187,25 +187,25 @@ pub data EndEvent : Type 0 where
   Lose : Loss → EndEvent
 
 -- a step of the controller's end
-abbrev pub steps_here : Link → Comes → List Turn → Ending → Link
-steps_here l NextFrame turns ending = first l.to_controller where
+abbrev pub steps_at_controller : Link → Comes → List Turn → Ending → Link
+steps_at_controller l NextFrame turns ending = first l.to_controller where
   first : List OnWire → Link
   first [] = l
   first (x ∷ xs) = has_taken l x xs turns ending
-steps_here l (AsksReset window) turns ending = has_input l (Reset window) turns ending
-steps_here l (Starts value) turns ending = has_restarted l (started l.controller.side value) turns ending
-steps_here l Stops turns ending = has_restarted l (deactivated l.controller.side) turns ending
-steps_here l NoInput turns ending = finished l (turned l.controller.side turns) ending
+steps_at_controller l (AsksReset window) turns ending = has_input l (Reset window) turns ending
+steps_at_controller l (Starts value) turns ending = has_restarted l (started l.controller.side value) turns ending
+steps_at_controller l Stops turns ending = has_restarted l (deactivated l.controller.side) turns ending
+steps_at_controller l NoInput turns ending = finished l (turned l.controller.side turns) ending
 
 -- it happens at the controller's end
-abbrev pub happens_here : Link → EndEvent → Link
-happens_here l (Step comes turns ending) = steps_here l comes turns ending
-happens_here l (Lose why) = record l { to_controller = drop 1 l.to_controller }
+abbrev pub happens_at_controller : Link → EndEvent → Link
+happens_at_controller l (Step comes turns ending) = steps_at_controller l comes turns ending
+happens_at_controller l (Lose why) = record l { to_controller = drop 1 l.to_controller }
 
 -- these things happen there, one after another
-abbrev pub all_here : Link → List EndEvent → Link
-all_here l [] = l
-all_here l (e ∷ es) = all_here (happens_here l e) es
+abbrev pub all_at_controller : Link → List EndEvent → Link
+all_at_controller l [] = l
+all_at_controller l (e ∷ es) = all_at_controller (happens_at_controller l e) es
 
 -- ## Events of the link
 
@@ -214,8 +214,8 @@ abbrev pub aged : Link → Link
 aged l = record l { to_controller = aged_wire l.to_controller; to_host = aged_wire l.to_host }
 
 -- the controller's end has its tick
-abbrev pub ticks_here : Link → List Turn → Ending → Link
-ticks_here l turns ending = has_input l Tick turns ending
+abbrev pub ticks_at_controller : Link → List Turn → Ending → Link
+ticks_at_controller l turns ending = has_input l Tick turns ending
 
 -- the turns of a node in a step, and how the step ends
 pub record Node : Type 0 where
@@ -236,18 +236,18 @@ pub data LinkEvent : Type 0 where
 
 -- it happens on the link
 abbrev pub happens : Link → LinkEvent → Link
-happens l (AtController e) = happens_here l e
-happens l (AtHost e) = exchanged (happens_here (exchanged l) e)
+happens l (AtController e) = happens_at_controller l e
+happens l (AtHost e) = exchanged (happens_at_controller (exchanged l) e)
 happens l (Ticks c events h) =
-    exchanged (ticks_here (exchanged (all_here (ticks_here (aged l) c.turns c.ending) events)) h.turns h.ending)
-happens l (TicksWithout events h) = exchanged (ticks_here (exchanged (all_here (aged l) events)) h.turns h.ending)
+    exchanged (ticks_at_controller (exchanged (all_at_controller (ticks_at_controller (aged l) c.turns c.ending) events)) h.turns h.ending)
+happens l (TicksWithout events h) = exchanged (ticks_at_controller (exchanged (all_at_controller (aged l) events)) h.turns h.ending)
 happens l (Activate power c id h) =
-    exchanged (steps_here (exchanged (steps_here l (Starts power) c.turns c.ending)) (Starts id) h.turns h.ending)
+    exchanged (steps_at_controller (exchanged (steps_at_controller l (Starts power) c.turns c.ending)) (Starts id) h.turns h.ending)
 
 -- the link after these events, one after another
-abbrev pub after : Link → List LinkEvent → Link
-after l [] = l
-after l (e ∷ es) = after (happens l e) es
+abbrev pub after_link_events : Link → List LinkEvent → Link
+after_link_events l [] = l
+after_link_events l (e ∷ es) = after_link_events (happens l e) es
 
 -- ## What may happen
 
@@ -317,17 +317,17 @@ IsOwn (Lose why) = ⊥
 -- in a tick these may happen at the controller's end
 abbrev pub AreOwn : Link → List EndEvent → Type 0
 AreOwn l [] = Unit {0}
-AreOwn l (e ∷ es) = IsOwn e × IsAllowed l e × AreOwn (happens_here l e) es
+AreOwn l (e ∷ es) = IsOwn e × IsAllowed l e × AreOwn (happens_at_controller l e) es
 
 -- this may happen on the link; an end that waits has its tick in each tick
 abbrev pub IsEvent : Link → LinkEvent → Type 0
 IsEvent l (AtController e) = IsAllowed l e
 IsEvent l (AtHost e) = IsAllowed (exchanged l) e
 IsEvent l (Ticks c events h) =
-    let near : Link = ticks_here (aged l) c.turns c.ending in
-    IsNode l c.turns c.ending × AreOwn near events × IsNode (exchanged (all_here near events)) h.turns h.ending
+    let near : Link = ticks_at_controller (aged l) c.turns c.ending in
+    IsNode l c.turns c.ending × AreOwn near events × IsNode (exchanged (all_at_controller near events)) h.turns h.ending
 IsEvent l (TicksWithout events h) =
-    (is_waiting l.controller.side.shdlc ≡ false) × AreOwn (aged l) events × IsNode (exchanged (all_here (aged l) events)) h.turns h.ending
+    (is_waiting l.controller.side.shdlc ≡ false) × AreOwn (aged l) events × IsNode (exchanged (all_at_controller (aged l) events)) h.turns h.ending
 IsEvent l (Activate power c id h) =
     IsClf l.controller.side.role × IsUicc l.host.side.role × IsNode l c.turns c.ending × IsNode (exchanged l) h.turns h.ending
 

@@ -5,15 +5,15 @@ use Rattle.swp_base.specs.declared.control_frames.Control.TheVariants.{Act as Ac
 use Rattle.swp_act.specs.declared.ActEvent.{ActEvent}
 use Rattle.swp_act.specs.declared.ActEvent.TheVariants.{Start as ActStart, Stop as ActStop, Take as ActTake, Tick as ActTick}
 use Rattle.shdlc_core.specs.Machine.{Session, is_waiting}
-use Rattle.hcp_packet.specs.Packets.{packets_of, bytes_of}
-use Rattle.session_laws.specs.Sessions.{OnWire, Half as CoreHalf, Link as CoreLink, Turn as CoreTurn, EndEvent as CoreEndEvent, LinkEvent as CoreLinkEvent}
-use Rattle.session_laws.specs.Sessions.Turn.{Offer, SetReady as CoreSetReady}
-use Rattle.session_laws.specs.Sessions.EndEvent.{Turns as CoreTurns, Deliver as CoreDeliver, Ignore as CoreIgnore, Acts as CoreActs, Lose as CoreLose, Reset as CoreReset, Cut as CoreCut, Stop as CoreStop}
-use Rattle.session_laws.specs.Sessions.LinkEvent.{AtController as CoreAtController, AtHost as CoreAtHost, Tick as CoreTick, TickWithout as CoreTickWithout}
+use Rattle.hcp_packet.specs.Packets.{packets_of, packet_bytes}
+use Rattle.session_laws.specs.Sessions.{OnWire, NumberedShdlc as CoreHalf, ShdlcLink as CoreLink, ShdlcTurn as CoreTurn, ShdlcEndEvent as CoreEndEvent, ShdlcLinkEvent as CoreLinkEvent}
+use Rattle.session_laws.specs.Sessions.ShdlcTurn.{Offer, SetReady as CoreSetReady}
+use Rattle.session_laws.specs.Sessions.ShdlcEndEvent.{Turns as CoreTurns, Deliver as CoreDeliver, Ignore as CoreIgnore, Acts as CoreActs, Lose as CoreLose, Reset as CoreReset, Cut as CoreCut, Stop as CoreStop}
+use Rattle.session_laws.specs.Sessions.ShdlcLinkEvent.{AtController as CoreAtController, AtHost as CoreAtHost, Tick as CoreTick, TickWithout as CoreTickWithout}
 use Rattle.link_machine.specs.Machine.{Message, LinkEnd, Turn, Refused, turn, give_refusal, reset_refusal, act_answer, after_input, reset_by, window_of, started, deactivated, is_open}
 use Rattle.link_machine.specs.Machine.LinkInput.{Take, Tick}
 use Rattle.link_machine.specs.Machine.Turn.{Give, Hold}
-use Rattle.message_link.specs.Links.{Talk, Half, Link, Ending, Comes, EndEvent, LinkEvent, exchanged, steps_here, happens_here, happens, ticks_here, aged}
+use Rattle.message_link.specs.Links.{Talk, NumberedEnd, Link, Ending, Comes, EndEvent, LinkEvent, exchanged, steps_at_controller, happens_at_controller, happens, ticks_at_controller, aged}
 use Rattle.message_link.specs.Links.Ending.{GoesOut, CutOff}
 use Rattle.message_link.specs.Links.Comes.{NextFrame, AsksReset, Starts, Stops, NoInput}
 use Rattle.message_link.specs.Links.EndEvent.{Step, Lose}
@@ -25,7 +25,7 @@ core_past [] = []
 core_past (x ∷ xs) = (x.0, x.1.session) ∷ core_past xs
 
 -- an end
-abbrev pub core_half : Half → CoreHalf
+abbrev pub core_half : NumberedEnd → CoreHalf
 core_half h = record { side = h.side.shdlc; emitted = h.emitted; took = h.took; past = core_past h.past }
 
 -- the link
@@ -43,7 +43,7 @@ core_of l =
 
 -- the fragments of a message that isn't refused are offered
 abbrev pub offers : Option Refused → Message → List CoreTurn
-offers None m = Offer (map bytes_of (packets_of m.0 m.1)) ∷ []
+offers None m = Offer (map packet_bytes (packets_of m.0 m.1)) ∷ []
 offers (Some why) m = []
 
 -- what a turn of its node is at the SHDLC end
@@ -105,7 +105,7 @@ core_here l (Lose why) = CoreLose ∷ []
 -- what happens there where these things happen, one after another
 abbrev pub core_all : Link → List EndEvent → List CoreEndEvent
 core_all l [] = []
-core_all l (e ∷ es) = core_here l e ++ core_all (happens_here l e) es
+core_all l (e ∷ es) = core_here l e ++ core_all (happens_at_controller l e) es
 
 -- ## Ticks
 
@@ -135,14 +135,14 @@ core_event l (AtController e) = map CoreAtController (core_here l e)
 core_event l (AtHost e) = map CoreAtHost (core_here (exchanged l) e)
 core_event l (Ticks c events h) =
     CoreTick (core_tick l.controller.side c.turns c.ending)
-    (core_tick_rest l.controller.side c.turns c.ending ++ core_all (ticks_here (aged l) c.turns c.ending) events)
+    (core_tick_rest l.controller.side c.turns c.ending ++ core_all (ticks_at_controller (aged l) c.turns c.ending) events)
     (core_tick l.host.side h.turns h.ending)
     ∷ map CoreAtHost (core_tick_rest l.host.side h.turns h.ending)
 core_event l (TicksWithout events h) =
     CoreTickWithout (core_all (aged l) events) (core_tick l.host.side h.turns h.ending)
     ∷ map CoreAtHost (core_tick_rest l.host.side h.turns h.ending)
 core_event l (Activate power c id h) =
-    let near : Link = exchanged (steps_here l (Starts power) c.turns c.ending) in
+    let near : Link = exchanged (steps_at_controller l (Starts power) c.turns c.ending) in
     map CoreAtController (core_step l (Starts power) c.turns c.ending) ++ map CoreAtHost (core_step near (Starts id) h.turns h.ending)
 
 -- what happens there where these things happen, one after another

@@ -7,17 +7,17 @@ use Rattle.hci_tables.specs.declared.command.Command.{Command}
 use Rattle.hci_tables.specs.declared.command.Command.TheVariants.{Create, Delete, Clear, SetOpened, Set, Sync}
 use Rattle.hci_tables.specs.Commands.{IsCommand}
 use Rattle.hci_tables.specs.Tables.{HciTables, AreTables, apply, is_kept_sync}
-use Rattle.tables_laws.specs.Changes.{told}
+use Rattle.tables_laws.specs.Changes.{told_value}
 use Rattle.tables_laws.proofs.Values.{values-apply}
 use Rattle.node_laws.specs.Creations.{LeavesWhitelist}
 
-synced : (t : HciTables) (h id x : ℕ) → told t (Sync h id) x 3 ≡ value_at t.values x 0 3
+synced : (t : HciTables) (h id x : ℕ) → told_value t (Sync h id) x 3 ≡ value_at t.values x 0 3
 synced t h id x = by_host (cases_Bool (eqb h x)) where
-  by_host : (eqb h x ≡ true) ⊎ (eqb h x ≡ false) → told t (Sync h id) x 3 ≡ value_at t.values x 0 3
+  by_host : (eqb h x ≡ true) ⊎ (eqb h x ≡ false) → told_value t (Sync h id) x 3 ≡ value_at t.values x 0 3
   by_host (inl same) = ap (λ b. cond (b && false && not (is_kept_sync t.syncs h id)) (default_of 1) (value_at t.values x 0 3)) same
   by_host (inr other) = ap (λ b. cond (b && false && not (is_kept_sync t.syncs h id)) (default_of 1) (value_at t.values x 0 3)) other
 
-left : (t : HciTables) (c : Command) (x : ℕ) → LeavesWhitelist x c → told t c x 3 ≡ value_at t.values x 0 3
+left : (t : HciTables) (c : Command) (x : ℕ) → LeavesWhitelist x c → told_value t c x 3 ≡ value_at t.values x 0 3
 left t (Set h gate p value) x leaves = ap (λ b. cond b value.items (value_at t.values x 0 3)) leaves
 left t (Clear h) x leaves = ap (λ b. cond b (default_of 3) (value_at t.values x 0 3)) leaves
 left t (Sync h id) x leaves = synced t h id x

@@ -22,8 +22,8 @@ use Rattle.gate_admin.specs.declared.decision.Decision.TheVariants.{Answer, Comm
 use Rattle.gate_admin.specs.View.{has, hosts_where, is_asked}
 use Rattle.gate_admin.specs.Decide.{commits, unless_refused, tests_of_pipe, tests_to_open, tests_to_set_it, tests_to_create, tests_to_delete, tests_to_clear, opening, closing, setting, getting, creating, creation, deleting, clearing, carried_out, decided, is_opened, ends_of, created}
 use Rattle.gate_admin.proofs.CreationLemmas.{AllFalse, all_false}
-use Rattle.gate_link.specs.Link.{served as link_served}
-use Rattle.gate_identity.specs.Identity.{served as identity_served}
+use Rattle.gate_link.specs.Link.{link_served}
+use Rattle.gate_identity.specs.Identity.{identity_served}
 use Rattle.link_machine.specs.Machine.{Message}
 use Rattle.node_machine.specs.Parts.{Creation, Notice, Core, Port, Deed}
 use Rattle.node_machine.specs.Parts.Deed.{Sends, Tells, Drops}

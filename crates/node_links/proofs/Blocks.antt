@@ -23,7 +23,7 @@ use Rattle.link_machine.specs.Machine.Role.{Bare, Clf, Uicc}
 use Rattle.link_machine.proofs.Shifts.{IsNotUp, Shift, taken_shift, ticked_shift, reset_shift}
 use Rattle.link_machine.proofs.Shifts.Shift.{Stays, Ends, Renews, Begins, Rests}
 use Rattle.link_machine.proofs.Sound.{SentAfter, whole_more, whole_few, need_less, need_more}
-use Rattle.message_link.specs.Links.{Link, Node, EndEvent, LinkEvent, exchanged, aged, happens_here, all_here, ticks_here, steps_here, happens, after}
+use Rattle.message_link.specs.Links.{Link, Node, EndEvent, LinkEvent, exchanged, aged, happens_at_controller, all_at_controller, ticks_at_controller, steps_at_controller, happens, after_link_events}
 use Rattle.message_link.specs.Links.Comes.{Starts}
 use Rattle.message_link.specs.Links.EndEvent.{Step}
 use Rattle.message_link.specs.Links.LinkEvent.{AtController, AtHost, Ticks, TicksWithout, Activate}
@@ -290,44 +290,44 @@ record AreWithin (l : Link) : Type 0 where
   near : IsWithin l.controller.side
   far : IsWithin l.host.side
 
-here_within : (l : Link) (x : EndEvent) → AreWithin l → AreWithin (happens_here l x)
+here_within : (l : Link) (x : EndEvent) → AreWithin l → AreWithin (happens_at_controller l x)
 here_within l x a = record {
   near = here_is IsWithin input_within turns_within sent_within new_within l x a.near;
-  far = subst (λ (h : Rattle.message_link.specs.Links.Half). IsWithin h.side) (sym (here_host l x)) a.far;
+  far = subst (λ (h : Rattle.message_link.specs.Links.NumberedEnd). IsWithin h.side) (sym (here_host l x)) a.far;
 }
 
-all_within : (l : Link) (xs : List EndEvent) → AreWithin l → AreWithin (all_here l xs)
+all_within : (l : Link) (xs : List EndEvent) → AreWithin l → AreWithin (all_at_controller l xs)
 all_within l [] a = a
-all_within l (x ∷ xs) a = all_within (happens_here l x) xs (here_within l x a)
+all_within l (x ∷ xs) a = all_within (happens_at_controller l x) xs (here_within l x a)
 
 over : (l : Link) → AreWithin l → AreWithin (exchanged l)
 over l a = record { near = a.far; far = a.near }
 
-ticks_within : (l : Link) (ts : List Turn) (ending : Rattle.message_link.specs.Links.Ending) → AreWithin l → AreWithin (ticks_here l ts ending)
+ticks_within : (l : Link) (ts : List Turn) (ending : Rattle.message_link.specs.Links.Ending) → AreWithin l → AreWithin (ticks_at_controller l ts ending)
 ticks_within l ts ending a = record {
   near = tick_is IsWithin input_within turns_within sent_within new_within l ts ending a.near;
-  far = subst (λ (h : Rattle.message_link.specs.Links.Half). IsWithin h.side) (sym (tick_host l ts ending)) a.far;
+  far = subst (λ (h : Rattle.message_link.specs.Links.NumberedEnd). IsWithin h.side) (sym (tick_host l ts ending)) a.far;
 }
 
 event_within : (l : Link) (e : LinkEvent) → AreWithin l → AreWithin (happens l e)
 event_within l (AtController x) a = here_within l x a
-event_within l (AtHost x) a = over (happens_here (exchanged l) x) (here_within (exchanged l) x (over l a))
+event_within l (AtHost x) a = over (happens_at_controller (exchanged l) x) (here_within (exchanged l) x (over l a))
 event_within l (Ticks c events h) a =
-    let near : Link = all_here (ticks_here (aged l) c.turns c.ending) events in
-    let b : AreWithin near = all_within (ticks_here (aged l) c.turns c.ending) events
+    let near : Link = all_at_controller (ticks_at_controller (aged l) c.turns c.ending) events in
+    let b : AreWithin near = all_within (ticks_at_controller (aged l) c.turns c.ending) events
     (ticks_within (aged l) c.turns c.ending (record { near = a.near; far = a.far })) in
-    over (ticks_here (exchanged near) h.turns h.ending) (ticks_within (exchanged near) h.turns h.ending (over near b))
+    over (ticks_at_controller (exchanged near) h.turns h.ending) (ticks_within (exchanged near) h.turns h.ending (over near b))
 event_within l (TicksWithout events h) a =
-    let near : Link = all_here (aged l) events in
+    let near : Link = all_at_controller (aged l) events in
     let b : AreWithin near = all_within (aged l) events (record { near = a.near; far = a.far }) in
-    over (ticks_here (exchanged near) h.turns h.ending) (ticks_within (exchanged near) h.turns h.ending (over near b))
+    over (ticks_at_controller (exchanged near) h.turns h.ending) (ticks_within (exchanged near) h.turns h.ending (over near b))
 event_within l (Activate power c id h) a =
-    let near : Link = steps_here l (Starts power) c.turns c.ending in
+    let near : Link = steps_at_controller l (Starts power) c.turns c.ending in
     let b : AreWithin near = here_within l (Step (Starts power) c.turns c.ending) a in
-    over (steps_here (exchanged near) (Starts id) h.turns h.ending)
+    over (steps_at_controller (exchanged near) (Starts id) h.turns h.ending)
     (here_within (exchanged near) (Step (Starts id) h.turns h.ending) (over near b))
 
-after_within : (l : Link) (events : List LinkEvent) → AreWithin l → AreWithin (after l events)
+after_within : (l : Link) (events : List LinkEvent) → AreWithin l → AreWithin (after_link_events l events)
 after_within l [] a = a
 after_within l (e ∷ events) a = after_within (happens l e) events (event_within l e a)
 
@@ -343,10 +343,10 @@ pub near_shares : (hosts : List ℕ) (lines : List Line) → ArePlayable lines
     → AllByRecursion (λ (s : Site). SharesOut s.link.controller.side) (world_after (new_world hosts) lines).sites
 near_shares = obey (λ l. SharesOut l.controller.side)
     (λ l r. subst (λ (k : Link). SharesOut k.controller.side) r.run.is
-    (shares (after new_line r.events).controller.side (after_within new_line r.events new_line_within).near))
+    (shares (after_link_events new_line r.events).controller.side (after_within new_line r.events new_line_within).near))
 
 pub far_shares : (hosts : List ℕ) (lines : List Line) → ArePlayable lines
     → AllByRecursion (λ (s : Site). SharesOut s.link.host.side) (world_after (new_world hosts) lines).sites
 far_shares = obey (λ l. SharesOut l.host.side)
     (λ l r. subst (λ (k : Link). SharesOut k.host.side) r.run.is
-    (shares (after new_line r.events).host.side (after_within new_line r.events new_line_within).far))
+    (shares (after_link_events new_line r.events).host.side (after_within new_line r.events new_line_within).far))

@@ -12,7 +12,7 @@ use Rattle.session_laws.specs.Sessions.{OnWire, is_up}
 use Rattle.link_machine.specs.Machine.{LinkEnd, ActDue, Role, LinkInput, Turn, is_faulty, is_open, role_after, renewed, moved, put_down, activated, heard, took, had_tick, turned, after_input, ended_by, frame_fetched, sent_all, new_link_end}
 use Rattle.link_machine.specs.Machine.LinkInput.{Take, TakeUnknown, TakeBroken, Tick, Reset, Start, Stop, FromNode, Fetch}
 use Rattle.link_machine.specs.Machine.Role.{Bare, Clf, Uicc}
-use Rattle.message_link.specs.Links.{Link, Ending, Comes, EndEvent, with_ended, silent, finished, has_taken, steps_here, happens_here, ticks_here, IsClf, IsUicc}
+use Rattle.message_link.specs.Links.{Link, Ending, Comes, EndEvent, with_ended, silent, finished, has_taken, steps_at_controller, happens_at_controller, ticks_at_controller, IsClf, IsUicc}
 use Rattle.message_link.specs.Links.Ending.{GoesOut, CutOff}
 use Rattle.message_link.specs.Links.Comes.{NextFrame, AsksReset, Starts, Stops, NoInput}
 use Rattle.message_link.specs.Links.EndEvent.{Step, Lose}
@@ -38,15 +38,15 @@ module _ (P : LinkEnd → Type 0)
   input_is l i ts ending a m =
       finished_is m (turned (after_input l.controller.side i) ts) ending (turns (after_input l.controller.side i) ts (has l.controller.side i a))
 
-  step_is : (l : Link) (comes : Comes) (ts : List Turn) (ending : Ending) → P l.controller.side → P (steps_here l comes ts ending).controller.side
+  step_is : (l : Link) (comes : Comes) (ts : List Turn) (ending : Ending) → P l.controller.side → P (steps_at_controller l comes ts ending).controller.side
   step_is l NextFrame ts ending a = go l.to_controller refl
     where
-      go : (w : List OnWire) → l.to_controller ≡ w → P (steps_here l NextFrame ts ending).controller.side
+      go : (w : List OnWire) → l.to_controller ≡ w → P (steps_at_controller l NextFrame ts ending).controller.side
       go [] q =
-          let is : steps_here l NextFrame ts ending ≡ l = rw q refl in
+          let is : steps_at_controller l NextFrame ts ending ≡ l = rw q refl in
           let Q : Link → Type 0 = λ k. P k.controller.side in subst Q (sym is) a
       go (x ∷ xs) q =
-          let is : steps_here l NextFrame ts ending ≡ has_taken l x xs ts ending = rw q refl in
+          let is : steps_at_controller l NextFrame ts ending ≡ has_taken l x xs ts ending = rw q refl in
           let Q : Link → Type 0 = λ k. P k.controller.side in
           subst Q (sym is) (input_is l (Take x.frame) ts ending a _)
   step_is l (AsksReset window) ts ending a = input_is l (Reset window) ts ending a (with_ended l (is_some (ended_by l.controller.side (Reset window))))
@@ -54,11 +54,11 @@ module _ (P : LinkEnd → Type 0)
   step_is l Stops ts ending a = input_is l Stop ts ending a (silent l (after_input l.controller.side Stop))
   step_is l NoInput ts ending a = finished_is l (turned l.controller.side ts) ending (turns l.controller.side ts a)
 
-  pub here_is : (l : Link) (x : EndEvent) → P l.controller.side → P (happens_here l x).controller.side
+  pub here_is : (l : Link) (x : EndEvent) → P l.controller.side → P (happens_at_controller l x).controller.side
   here_is l (Step comes ts ending) a = step_is l comes ts ending a
   here_is l (Lose why) a = a
 
-  pub tick_is : (l : Link) (ts : List Turn) (ending : Ending) → P l.controller.side → P (ticks_here l ts ending).controller.side
+  pub tick_is : (l : Link) (ts : List Turn) (ending : Ending) → P l.controller.side → P (ticks_at_controller l ts ending).controller.side
   tick_is l ts ending a = input_is l Tick ts ending a (with_ended l (is_some (ended_by l.controller.side Tick)))
 
 -- ## The other end stays
@@ -66,13 +66,13 @@ module _ (P : LinkEnd → Type 0)
 silent_host : (l : Link) (e : LinkEnd) → (silent l e).host ≡ l.host
 silent_host l e = host_ended l (is_up l.controller.side.shdlc.phase)
 
-step_host : (l : Link) (comes : Comes) (ts : List Turn) (ending : Ending) → (steps_here l comes ts ending).host ≡ l.host
+step_host : (l : Link) (comes : Comes) (ts : List Turn) (ending : Ending) → (steps_at_controller l comes ts ending).host ≡ l.host
 step_host l NextFrame ts ending = go l.to_controller refl
   where
-    go : (w : List OnWire) → l.to_controller ≡ w → (steps_here l NextFrame ts ending).host ≡ l.host
-    go [] q = let is : steps_here l NextFrame ts ending ≡ l = rw q refl in ap (λ (k : Link). k.host) is
+    go : (w : List OnWire) → l.to_controller ≡ w → (steps_at_controller l NextFrame ts ending).host ≡ l.host
+    go [] q = let is : steps_at_controller l NextFrame ts ending ≡ l = rw q refl in ap (λ (k : Link). k.host) is
     go (x ∷ xs) q =
-        let is : steps_here l NextFrame ts ending ≡ has_taken l x xs ts ending = rw q refl in
+        let is : steps_at_controller l NextFrame ts ending ≡ has_taken l x xs ts ending = rw q refl in
         let b : Bool = is_some (ended_by l.controller.side (Take x.frame)) in
         ap (λ (k : Link). k.host) is
         ∙ (host_finished _ (turned (after_input l.controller.side (Take x.frame)) ts) ending ∙ host_ended (record l { to_controller = xs }) b)
@@ -87,11 +87,11 @@ step_host l Stops ts ending =
     ∙ silent_host l (after_input l.controller.side Stop)
 step_host l NoInput ts ending = host_finished l (turned l.controller.side ts) ending
 
-pub here_host : (l : Link) (x : EndEvent) → (happens_here l x).host ≡ l.host
+pub here_host : (l : Link) (x : EndEvent) → (happens_at_controller l x).host ≡ l.host
 here_host l (Step comes ts ending) = step_host l comes ts ending
 here_host l (Lose why) = refl
 
-pub tick_host : (l : Link) (ts : List Turn) (ending : Ending) → (ticks_here l ts ending).host ≡ l.host
+pub tick_host : (l : Link) (ts : List Turn) (ending : Ending) → (ticks_at_controller l ts ending).host ≡ l.host
 tick_host l ts ending =
     let b : Bool = is_some (ended_by l.controller.side Tick) in
     host_finished (with_ended l b) (turned (after_input l.controller.side Tick) ts) ending ∙ host_ended l b
@@ -208,20 +208,20 @@ uicc_renews e a = go e.role a
     go (Clf s) a = absurd a
     go Bare a = absurd a
 
-pub here_clf : (l : Link) (x : EndEvent) → IsClf l.controller.side.role → IsClf (happens_here l x).controller.side.role
+pub here_clf : (l : Link) (x : EndEvent) → IsClf l.controller.side.role → IsClf (happens_at_controller l x).controller.side.role
 here_clf l x a = here_is HasClf (role_input IsClf clf_acts) clf_turns (λ e b. b) clf_renews l x a
 
-pub here_uicc : (l : Link) (x : EndEvent) → IsUicc l.controller.side.role → IsUicc (happens_here l x).controller.side.role
+pub here_uicc : (l : Link) (x : EndEvent) → IsUicc l.controller.side.role → IsUicc (happens_at_controller l x).controller.side.role
 here_uicc l x a = here_is HasUicc (role_input IsUicc uicc_acts) uicc_turns (λ e b. b) uicc_renews l x a
 
-pub here_clean : (l : Link) (x : EndEvent) → Clean l.controller.side → Clean (happens_here l x).controller.side
+pub here_clean : (l : Link) (x : EndEvent) → Clean l.controller.side → Clean (happens_at_controller l x).controller.side
 here_clean l x a = here_is Clean input_clean turned_clean (λ e b. b) (λ e b. tt) l x a
 
-pub tick_clf : (l : Link) (ts : List Turn) (ending : Ending) → IsClf l.controller.side.role → IsClf (ticks_here l ts ending).controller.side.role
+pub tick_clf : (l : Link) (ts : List Turn) (ending : Ending) → IsClf l.controller.side.role → IsClf (ticks_at_controller l ts ending).controller.side.role
 tick_clf l ts ending a = tick_is HasClf (role_input IsClf clf_acts) clf_turns (λ e b. b) clf_renews l ts ending a
 
-pub tick_uicc : (l : Link) (ts : List Turn) (ending : Ending) → IsUicc l.controller.side.role → IsUicc (ticks_here l ts ending).controller.side.role
+pub tick_uicc : (l : Link) (ts : List Turn) (ending : Ending) → IsUicc l.controller.side.role → IsUicc (ticks_at_controller l ts ending).controller.side.role
 tick_uicc l ts ending a = tick_is HasUicc (role_input IsUicc uicc_acts) uicc_turns (λ e b. b) uicc_renews l ts ending a
 
-pub tick_clean : (l : Link) (ts : List Turn) (ending : Ending) → Clean l.controller.side → Clean (ticks_here l ts ending).controller.side
+pub tick_clean : (l : Link) (ts : List Turn) (ending : Ending) → Clean l.controller.side → Clean (ticks_at_controller l ts ending).controller.side
 tick_clean l ts ending a = tick_is Clean input_clean turned_clean (λ e b. b) (λ e b. tt) l ts ending a

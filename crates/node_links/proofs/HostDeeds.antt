@@ -17,8 +17,8 @@ use Rattle.hci_tables.specs.Commands.{is_command, is_host}
 use Rattle.gate_answers.specs.declared.response.Response.{Response}
 use Rattle.gate_answers.specs.declared.response.Response.TheVariants as response
 use Rattle.gate_answers.specs.Answers.{answer_of, instruction_in, body_in}
-use Rattle.gate_link.specs.Link.{served as link_served}
-use Rattle.gate_identity.specs.Identity.{served as identity_served}
+use Rattle.gate_link.specs.Link.{link_served}
+use Rattle.gate_identity.specs.Identity.{identity_served}
 use Rattle.gate_loopback.specs.Loopback.{posts_back}
 use Rattle.link_machine.specs.Machine.{Message}
 use Rattle.node_machine.specs.Parts.{Init, Core, Port, Deed}

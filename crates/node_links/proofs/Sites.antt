@@ -5,7 +5,7 @@ use Rattle.shdlc_core.specs.Machine.{is_waiting}
 use Rattle.link_machine.specs.Machine.{Role, Turn}
 use Rattle.link_machine.specs.Machine.LinkInput.{Reset}
 use Rattle.link_machine.specs.Machine.Role.{Bare, Clf, Uicc}
-use Rattle.message_link.specs.Links.{Link, Half, Ending, Comes, Loss, EndEvent, Node, LinkEvent, exchanged, aged, has_input, ticks_here, happens_here, happens, after, AreSendableTurns, IsClf, IsUicc, IfLine, IsWindow, CanEnd, CanStart, CanCome, IsEvent, AllAllowed}
+use Rattle.message_link.specs.Links.{Link, NumberedEnd, Ending, Comes, Loss, EndEvent, Node, LinkEvent, exchanged, aged, has_input, ticks_at_controller, happens_at_controller, happens, after_link_events, AreSendableTurns, IsClf, IsUicc, IfLine, IsWindow, CanEnd, CanStart, CanCome, IsEvent, AllAllowed}
 use Rattle.message_link.specs.Links.Ending.{GoesOut, CutOff}
 use Rattle.message_link.specs.Links.Comes.{NextFrame, AsksReset, Starts, Stops, NoInput}
 use Rattle.message_link.specs.Links.EndEvent.{Step, Lose}
@@ -17,11 +17,11 @@ use Rattle.node_links.proofs.Ends.{here_host, tick_host, here_clf, here_uicc, he
 
 -- ## Runs
 
-after_push : (es : List LinkEvent) (l : Link) (e : LinkEvent) → after l (es ++ e ∷ []) ≡ happens (after l es) e
+after_push : (es : List LinkEvent) (l : Link) (e : LinkEvent) → after_link_events l (es ++ e ∷ []) ≡ happens (after_link_events l es) e
 after_push [] l e = refl
 after_push (x ∷ es) l e = after_push es (happens l x) e
 
-allowed_push : (es : List LinkEvent) (l : Link) (e : LinkEvent) → AllAllowed l es → IsEvent (after l es) e → AllAllowed l (es ++ e ∷ [])
+allowed_push : (es : List LinkEvent) (l : Link) (e : LinkEvent) → AllAllowed l es → IsEvent (after_link_events l es) e → AllAllowed l (es ++ e ∷ [])
 allowed_push [] l e a b = (b, tt)
 allowed_push (x ∷ es) l e a b = (a.0, allowed_push es (happens l x) e a.1 b)
 
@@ -70,10 +70,10 @@ pub can_end : (r : Role) (ending : Ending) → IfLine r → CanEnd r ending
 can_end r GoesOut a = tt
 can_end r CutOff a = a
 
-line_here : (l : Link) (x : EndEvent) → IsLine l → IsLine (happens_here l x)
+line_here : (l : Link) (x : EndEvent) → IsLine l → IsLine (happens_at_controller l x)
 line_here l x a =
-    let R : Half → Type 0 = λ h. IsUicc h.side.role in
-    let C : Half → Type 0 = λ h. Clean h.side in
+    let R : NumberedEnd → Type 0 = λ h. IsUicc h.side.role in
+    let C : NumberedEnd → Type 0 = λ h. Clean h.side in
     record {
       clf = here_clf l x a.clf;
       uicc = subst R (sym (here_host l x)) a.uicc;
@@ -81,11 +81,11 @@ line_here l x a =
       far = subst C (sym (here_host l x)) a.far;
     }
 
-line_there : (l : Link) (x : EndEvent) → IsLine l → IsLine (exchanged (happens_here (exchanged l) x))
+line_there : (l : Link) (x : EndEvent) → IsLine l → IsLine (exchanged (happens_at_controller (exchanged l) x))
 line_there l x a =
     let k : Link = exchanged l in
-    let R : Half → Type 0 = λ h. IsClf h.side.role in
-    let C : Half → Type 0 = λ h. Clean h.side in
+    let R : NumberedEnd → Type 0 = λ h. IsClf h.side.role in
+    let C : NumberedEnd → Type 0 = λ h. Clean h.side in
     record {
       clf = subst R (sym (here_host k x)) a.clf;
       uicc = here_uicc k x a.uicc;
@@ -142,13 +142,13 @@ host_loses l why a = record { run = run_more l (AtHost (Lose why)) tt a.run; lin
 
 -- what comes of a link whose controller's end has had its tick, or was reset in place of it, and then the host's
 abbrev pub ticked : Link → Bool → Node → Node → Link
-ticked l late c h = exchanged (ticks_here (exchanged (ticked_so (aged l) late c.turns c.ending)) h.turns h.ending)
+ticked l late c h = exchanged (ticks_at_controller (exchanged (ticked_so (aged l) late c.turns c.ending)) h.turns h.ending)
 
-line_ticked : (m : Link) (h : Node) → IsLine m → IsLine (exchanged (ticks_here (exchanged m) h.turns h.ending))
+line_ticked : (m : Link) (h : Node) → IsLine m → IsLine (exchanged (ticks_at_controller (exchanged m) h.turns h.ending))
 line_ticked m h a =
     let k : Link = exchanged m in
-    let R : Half → Type 0 = λ z. IsClf z.side.role in
-    let C : Half → Type 0 = λ z. Clean z.side in
+    let R : NumberedEnd → Type 0 = λ z. IsClf z.side.role in
+    let C : NumberedEnd → Type 0 = λ z. Clean z.side in
     record {
       clf = subst R (sym (tick_host k h.turns h.ending)) a.clf;
       uicc = tick_uicc k h.turns h.ending a.uicc;
@@ -156,10 +156,10 @@ line_ticked m h a =
       far = tick_clean k h.turns h.ending a.far;
     }
 
-line_tick : (l : Link) (ts : List Turn) (ending : Ending) → IsLine l → IsLine (ticks_here l ts ending)
+line_tick : (l : Link) (ts : List Turn) (ending : Ending) → IsLine l → IsLine (ticks_at_controller l ts ending)
 line_tick l ts ending a =
-    let R : Half → Type 0 = λ h. IsUicc h.side.role in
-    let C : Half → Type 0 = λ h. Clean h.side in
+    let R : NumberedEnd → Type 0 = λ h. IsUicc h.side.role in
+    let C : NumberedEnd → Type 0 = λ h. Clean h.side in
     record {
       clf = tick_clf l ts ending a.clf;
       uicc = subst R (sym (tick_host l ts ending)) a.uicc;
@@ -178,7 +178,7 @@ line_aged l a = record { clf = a.clf; uicc = a.uicc; near = a.near; far = a.far 
 -- a tick may happen, and so may one in which the controller's end is reset in place of its tick, unless it waits
 pub tick_allowed : (l : Link) (c h : Node) → AreNodes c h → IsLine l → IsEvent l (Ticks c [] h)
 tick_allowed l c h send a =
-    let m : Link = ticks_here (aged l) c.turns c.ending in
+    let m : Link = ticks_at_controller (aged l) c.turns c.ending in
     let b : IsLine m = line_tick (aged l) c.turns c.ending (line_aged l a) in (
       (send.controller, can_end l.controller.side.role c.ending (clf_line l.controller.side.role a.clf)),
       tt,
@@ -189,7 +189,7 @@ pub reset_allowed : (l : Link) (c h : Node) → AreNodes c h → IsLine l → is
     → IsEvent l (TicksWithout (Step (AsksReset None) c.turns c.ending ∷ []) h)
 reset_allowed l c h send a q =
     let reset : EndEvent = Step (AsksReset None) c.turns c.ending in
-    let m : Link = happens_here (aged l) reset in
+    let m : Link = happens_at_controller (aged l) reset in
     let b : IsLine m = line_here (aged l) reset (line_aged l a) in (
       q,
       (tt, (tt, (send.controller, can_end l.controller.side.role c.ending (clf_line l.controller.side.role a.clf))), tt),
@@ -203,11 +203,11 @@ ticks_fine l late c h send a = go late (is_waiting l.controller.side.shdlc) refl
     reset = Step (AsksReset None) c.turns c.ending
 
     then_host : Link → Link
-    then_host k = exchanged (ticks_here (exchanged k) h.turns h.ending)
+    then_host k = exchanged (ticks_at_controller (exchanged k) h.turns h.ending)
 
-    plain : IsFineLink (then_host (ticks_here (aged l) c.turns c.ending))
+    plain : IsFineLink (then_host (ticks_at_controller (aged l) c.turns c.ending))
     plain =
-        let m : Link = ticks_here (aged l) c.turns c.ending in
+        let m : Link = ticks_at_controller (aged l) c.turns c.ending in
         record {
           run = run_more l (Ticks c [] h) (tick_allowed l c h send a.line) a.run;
           line = line_ticked m h (line_tick (aged l) c.turns c.ending (line_aged l a.line));
@@ -215,14 +215,14 @@ ticks_fine l late c h send a = go late (is_waiting l.controller.side.shdlc) refl
 
     by_reset : is_waiting l.controller.side.shdlc ≡ false → IsFineLink (then_host (has_input (aged l) (Reset None) c.turns c.ending))
     by_reset q =
-        let m : Link = happens_here (aged l) reset in
+        let m : Link = happens_at_controller (aged l) reset in
         record {
           run = run_more l (TicksWithout (reset ∷ []) h) (reset_allowed l c h send a.line q) a.run;
           line = line_ticked m h (line_here (aged l) reset (line_aged l a.line));
         }
 
     choice : Bool → Bool → Link
-    choice b w = cond (b && not w) (has_input (aged l) (Reset None) c.turns c.ending) (ticks_here (aged l) c.turns c.ending)
+    choice b w = cond (b && not w) (has_input (aged l) (Reset None) c.turns c.ending) (ticks_at_controller (aged l) c.turns c.ending)
 
     go : (b w : Bool) → is_waiting l.controller.side.shdlc ≡ w → IsFineLink (then_host (choice b (is_waiting l.controller.side.shdlc)))
     go false w q = plain

@@ -14,7 +14,7 @@ use Rattle.journal_laws.specs.Planned.{fails_within, after_planned}
 use Rattle.link_machine.specs.Machine.{Turn}
 use Rattle.link_machine.specs.Machine.LinkInput.{Reset}
 use Rattle.link_machine.specs.Machine.Role.{Bare}
-use Rattle.message_link.specs.Links.{Link, Half, Ending, Comes, Loss, Node, new_link, exchanged, aged, has_input, ticks_here, happens, AreSendableTurns, CanCome}
+use Rattle.message_link.specs.Links.{Link, NumberedEnd, Ending, Comes, Loss, Node, new_link, exchanged, aged, has_input, ticks_at_controller, happens, AreSendableTurns, CanCome}
 use Rattle.message_link.specs.Links.Ending.{GoesOut, CutOff}
 use Rattle.message_link.specs.Links.Comes.{NextFrame, AsksReset, Starts, Stops, NoInput}
 use Rattle.message_link.specs.Links.Loss.{OnDemand, Broken, Unread, TooOld, TooMany}
@@ -131,7 +131,7 @@ near_clean sites h a = go (site_at sites h) refl
 pub half_clean : (l : Link) (comes : Comes) → Clean l.controller.side → Clean (half_in l comes).side
 half_clean l NextFrame a = go l.to_controller
   where
-    by : List OnWire → Half
+    by : List OnWire → NumberedEnd
     by [] = l.controller
     by (x ∷ xs) = (half_in (record l { to_controller = x ∷ xs }) NextFrame)
 
@@ -143,7 +143,7 @@ half_clean l (Starts value) a = a
 half_clean l Stops a = a
 half_clean l NoInput a = a
 
-pub ports_fine : (halves : ℕ → Half) → ((h : ℕ) → Clean (halves h).side) → (desks : List Desk) → AreTrueDesks desks
+pub ports_fine : (halves : ℕ → NumberedEnd) → ((h : ℕ) → Clean (halves h).side) → (desks : List Desk) → AreTrueDesks desks
     → AreFinePorts (map (λ (d : Desk). port_for (halves d.host) d) desks)
 ports_fine halves clean [] a = tt
 ports_fine halves clean (d ∷ desks) a =
@@ -451,11 +451,11 @@ controller_ticks_fine w old runs = go w.controller runs
       k.entries ++ flat_map (λ (s : Site). frames_noted Controller s.host s.link k) w.sites,
     )
 
-    halves : ℕ → Half
+    halves : ℕ → NumberedEnd
     halves h = (link_to w.sites h).controller
 
     by : Option Running → NodeWorld × List Entry
-    by None = (record w { sites = map (λ (s : Site). record s { link = ticks_here s.link [] GoesOut }) w.sites }, [])
+    by None = (record w { sites = map (λ (s : Site). record s { link = ticks_at_controller s.link [] GoesOut }) w.sites }, [])
     by (Some r) = after_work (steps TimePasses (work_of r w.memory.plan halves []))
 
     go : (o : Option Running) → IsFineNode o → IsNearWorld (by o).0
@@ -473,7 +473,7 @@ controller_ticks_fine w old runs = go w.controller runs
 pub so_host : (l : Link) (late : Bool) (ts : List Turn) (ending : Ending) → (ticked_so l late ts ending).host ≡ l.host
 so_host l late ts ending = go (late && not (is_waiting l.controller.side.shdlc))
   where
-    go : (b : Bool) → (cond b (has_input l (Reset None) ts ending) (ticks_here l ts ending)).host ≡ l.host
+    go : (b : Bool) → (cond b (has_input l (Reset None) ts ending) (ticks_at_controller l ts ending)).host ≡ l.host
     go true = here_host l (Step (AsksReset None) ts ending)
     go false = tick_host l ts ending
 
@@ -483,7 +483,7 @@ host_ticks_fine s a = go s.node a.node
     after_work : Work → Site × List Entry
     after_work k = (
       record s {
-        link = exchanged (ticks_here (exchanged s.link) (turns_at k s.host) (ending_of k));
+        link = exchanged (ticks_at_controller (exchanged s.link) (turns_at k s.host) (ending_of k));
         memory = after_planned k.writes s.memory;
         node = runs_on k;
       },
@@ -491,18 +491,18 @@ host_ticks_fine s a = go s.node a.node
     )
 
     by : Option Running → Site × List Entry
-    by None = (record s { link = exchanged (ticks_here (exchanged s.link) [] GoesOut) }, [])
+    by None = (record s { link = exchanged (ticks_at_controller (exchanged s.link) [] GoesOut) }, [])
     by (Some r) = after_work (steps TimePasses (work_of r s.memory.plan (λ h. s.link.host) []))
 
     far : Clean s.link.host.side
     far =
         let P : Link → Type 0 = λ l. Clean l.host.side in
-        let Q : Half → Type 0 = λ h. Clean h.side in
+        let Q : NumberedEnd → Type 0 = λ h. Clean h.side in
         subst P (sym a.is) (subst Q (sym (so_host (aged a.base) a.late a.had.turns a.had.ending)) a.fine.line.far)
 
-    link : (h : Node) → AreSendableTurns h.turns → IsFineLink (exchanged (ticks_here (exchanged s.link) h.turns h.ending))
+    link : (h : Node) → AreSendableTurns h.turns → IsFineLink (exchanged (ticks_at_controller (exchanged s.link) h.turns h.ending))
     link h sends =
-        let P : Link → Type 0 = λ l. IsFineLink (exchanged (ticks_here (exchanged l) h.turns h.ending)) in
+        let P : Link → Type 0 = λ l. IsFineLink (exchanged (ticks_at_controller (exchanged l) h.turns h.ending)) in
         subst P (sym a.is) (ticks_fine a.base a.late a.had h (record { controller = a.sends; host = sends }) a.fine)
 
     go : (o : Option Running) → IsFineNode o → IsFineSite (by o).0

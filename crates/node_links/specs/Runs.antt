@@ -7,7 +7,7 @@ use Rattle.trace_model.specs.declared.line.Line.TheVariants as line
 use Rattle.hcp_packet.specs.Packets.{IsSendable}
 use Rattle.link_machine.specs.Machine.{LinkEnd, in_use, spare}
 use Rattle.link_machine.specs.Machine.Role.{Clf, Uicc}
-use Rattle.message_link.specs.Links.{Link, LinkEvent, new_link, after, AllAllowed, IsWindow}
+use Rattle.message_link.specs.Links.{Link, LinkEvent, new_link, after_link_events, AllAllowed, IsWindow}
 
 -- a link with activation on which nothing has happened yet
 abbrev pub new_line : Link
@@ -16,7 +16,7 @@ new_line = new_link (Clf new_clf) (Uicc new_uicc)
 -- a link is what these events make of a new one, and each of them may happen
 pub record IsRunOf (events : List LinkEvent) (l : Link) : Type 0 where
   pub allowed : AllAllowed new_line events
-  pub is : after new_line events ≡ l
+  pub is : after_link_events new_line events ≡ l
 
 -- a link is what some events make of a new one
 pub record IsRun (l : Link) : Type 0 where

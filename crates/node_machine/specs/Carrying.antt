@@ -13,7 +13,7 @@ use Rattle.journal_laws.specs.Planned.{fails_within}
 use Rattle.hci_tables.specs.declared.command.Command.{Command}
 use Rattle.hci_tables.specs.Bodies.{body_of}
 use Rattle.hci_tables.specs.Tables.{apply}
-use Rattle.hci_store.specs.Committing.{fits, commit_writes, committed}
+use Rattle.hci_store.specs.Committing.{record_fits, commit_writes, committed}
 use Rattle.link_machine.specs.Machine.{Turn, turn, need, spare}
 use Rattle.link_machine.specs.Machine.Turn.{Give, SetAside, Release}
 use Rattle.link_entries.specs.Entries.{End as Side, turn_entry}
@@ -83,7 +83,7 @@ notified h about message w =
 
 -- a journal has room for a command: its record fits, or one more generation is there for a snapshot
 abbrev pub has_room_for : State → Command → Bool
-has_room_for s c = if fits s (body_of c) then true else nat_lt s.generation 4294967295
+has_room_for s c = if record_fits s (body_of c) then true else nat_lt s.generation 4294967295
 
 -- a command finds room in the journal of its node
 abbrev pub finds_room : Core → Command → Bool

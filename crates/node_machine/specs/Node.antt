@@ -4,7 +4,7 @@ use Rattle.std.specs.List.{flat_map, filter, filter_map, list_any}
 use Rattle.std.specs.Option.{option_map_or}
 use Rattle.trace_model.specs.declared.entry.Entry.{Entry}
 use Rattle.journal_laws.specs.Journal.{state_of}
-use Rattle.journal_laws.specs.Operations.{start_writes, started}
+use Rattle.journal_laws.specs.Operations.{start_writes, started_state}
 use Rattle.journal_laws.specs.Writes.{Write}
 use Rattle.hci_tables.specs.declared.command.Command.TheVariants.{Sync}
 use Rattle.hci_tables.specs.Tables.{close, is_kept_sync}
@@ -172,7 +172,7 @@ abbrev pub found : ℕ → List ℕ → List ℕ → Running
 found node hosts content = record {
   core = record {
     node = node;
-    journal = started (state_of content);
+    journal = started_state (state_of content);
     tables = close (tables_of content);
     command = None;
     init = None;

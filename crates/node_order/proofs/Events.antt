@@ -13,7 +13,7 @@ use Rattle.journal_laws.specs.Planned.{fails_within, after_planned}
 use Rattle.link_machine.specs.Machine.{LinkEnd, LinkInput, new_link_end}
 use Rattle.link_machine.specs.Machine.LinkInput.{Start}
 use Rattle.link_machine.specs.Machine.Role.{Clf, Uicc}
-use Rattle.message_link.specs.Links.{Half, Link, Comes, Loss, EndEvent, LinkEvent, exchanged, happens_here, happens, IsClf, IsEvent}
+use Rattle.message_link.specs.Links.{NumberedEnd, Link, Comes, Loss, EndEvent, LinkEvent, exchanged, happens_at_controller, happens, IsClf, IsEvent}
 use Rattle.message_link.specs.Links.Ending.{CutOff}
 use Rattle.message_link.specs.Links.Comes.{Starts, NoInput}
 use Rattle.message_link.specs.Links.Loss.{OnDemand, Broken, Unread, TooOld, TooMany}
@@ -54,7 +54,7 @@ pub record IsWell (w : NodeWorld) : Type 0 where
 
 -- what happens at the controller's end leaves the host's
 near_side : (l : Link) (e : EndEvent) → (happens l (AtController e)).host.side ≡ l.host.side
-near_side l e = ap (λ (h : Half). h.side) (here_host l e)
+near_side l e = ap (λ (h : NumberedEnd). h.side) (here_host l e)
 
 -- ## Steps of the controller
 
@@ -67,7 +67,7 @@ module _ (w : NodeWorld) (t : List Entry) (a : IsWell w) (each : Each t w) (k : 
     abbrev u : List Entry
     u = (after_controller w k comes v).1
 
-    abbrev halves : ℕ → Half
+    abbrev halves : ℕ → NumberedEnd
     halves j = half_in (link_to w.sites j) (comes_to k comes j)
 
     desks : AreTrueDesks r.desks
@@ -228,19 +228,19 @@ module _ (w : NodeWorld) (t : List Entry) (a : IsWell w) (each : Each t w) (k : 
         ports_none (d ∷ ds) n = (n.0, ports_none ds n.1)
 
         off : (c : Bool) → worked.cut ≡ c
-            → IfOff (runs_on worked) (new_link_end (Uicc new_uicc)) (happens_here (exchanged s.link) (Step comes (turns_at worked s.host) (ending_of worked))).controller.side
+            → IfOff (runs_on worked) (new_link_end (Uicc new_uicc)) (happens_at_controller (exchanged s.link) (Step comes (turns_at worked s.host) (ending_of worked))).controller.side
         off true e =
             let none : runs_on worked ≡ None = rw e refl in
             let ending : ending_of worked ≡ CutOff = rw e refl in
             let G : Option Running → Type 0 = λ o. IfOff o (new_link_end (Uicc new_uicc))
-            (happens_here (exchanged s.link) (Step comes (turns_at worked s.host) (ending_of worked))).controller.side in
+            (happens_at_controller (exchanged s.link) (Step comes (turns_at worked s.host) (ending_of worked))).controller.side in
             subst G (sym none)
-            (ap (λ x. (happens_here (exchanged s.link) (Step comes (turns_at worked s.host) x)).controller.side) ending
+            (ap (λ x. (happens_at_controller (exchanged s.link) (Step comes (turns_at worked s.host) x)).controller.side) ending
             ∙ cut_uicc (exchanged s.link) comes (turns_at worked s.host) o (q s there) so site_fine.link.line.uicc)
         off false e =
             let some : runs_on worked ≡ Some (record { core = worked.core; desks = map (λ p. p.desk) worked.ports }) = rw e refl in
             let G : Option Running → Type 0 = λ o. IfOff o (new_link_end (Uicc new_uicc))
-            (happens_here (exchanged s.link) (Step comes (turns_at worked s.host) (ending_of worked))).controller.side in
+            (happens_at_controller (exchanged s.link) (Step comes (turns_at worked s.host) (ending_of worked))).controller.side in
             subst G (sym some) tt
 
   pub host_each : Each (t ++ (host_does w k comes f).1) (host_does w k comes f).0

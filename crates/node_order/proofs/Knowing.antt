@@ -7,7 +7,7 @@ use Rattle.trace_model.specs.declared.entry.Entry.{Entry}
 use Rattle.link_machine.specs.Machine.{LinkInput, Turn, Role, LinkEnd, new_link_end, renewed, turned, after_input}
 use Rattle.link_machine.specs.Machine.LinkInput.{Take, Reset, Start, Stop}
 use Rattle.link_machine.specs.Machine.Role.{Bare, Clf, Uicc}
-use Rattle.message_link.specs.Links.{Link, Comes, LinkEvent, happens_here, steps_here, has_taken, happens, after, IsClf, IsUicc, IsEvent}
+use Rattle.message_link.specs.Links.{Link, Comes, LinkEvent, happens_at_controller, steps_at_controller, has_taken, happens, after_link_events, IsClf, IsUicc, IsEvent}
 use Rattle.message_link.specs.Links.Ending.{CutOff}
 use Rattle.message_link.specs.Links.Comes.{NextFrame, AsksReset, Starts, Stops, NoInput}
 use Rattle.message_link.specs.Links.EndEvent.{Step}
@@ -36,8 +36,8 @@ pub told_more : (h : ℕ) (l : Link) (e : LinkEvent) (t u : List Entry) → IsEv
 told_more h l e t u can tells a =
     let O : List Entry → List Entry = of_link h in
     let es : List LinkEvent = a.events in
-    let last : entries (after new_line es) (e ∷ []) ≡ event_entries l e =
-    append-nil (event_entries (after new_line es) e) ∙ ap (λ k. event_entries k e) a.run.is in
+    let last : entries (after_link_events new_line es) (e ∷ []) ≡ event_entries l e =
+    append-nil (event_entries (after_link_events new_line es) e) ∙ ap (λ k. event_entries k e) a.run.is in
     record {
       events = es ++ e ∷ [];
       run = run_of_more es l e can a.run;
@@ -46,7 +46,7 @@ told_more h l e t u can tells a =
           ∙ (ap (λ z. z ++ O u) a.told
           ∙ (ap (λ z. O (entries_for h (entries new_line es)) ++ z) (tells ∙ ap (λ z. O (entries_for h z)) (sym last))
           ∙ sym (ap (λ z. O (entries_for h z)) (entries-append es (e ∷ []) new_line)
-          ∙ notes-append h (entries new_line es) (entries (after new_line es) (e ∷ [])))));
+          ∙ notes-append h (entries new_line es) (entries (after_link_events new_line es) (e ∷ [])))));
     }
 
 pub told_same : (h : ℕ) (l : Link) (t u : List Entry) → of_link h u ≡ [] → IsLinkTold h l t → IsLinkTold h l (t ++ u)
@@ -75,14 +75,14 @@ record IsCutNew (e : LinkEnd) : Type 0 where
   is : e ≡ new_link_end (renewed role)
 
 cut_new : (l : Link) (comes : Comes) (ts : List Turn) (o : Option LinkInput) → input_of l comes ≡ o → IsStep comes o
-    → IsCutNew (happens_here l (Step comes ts CutOff)).controller.side
+    → IsCutNew (happens_at_controller l (Step comes ts CutOff)).controller.side
 cut_new l NextFrame ts None q c = absurd c
 cut_new l NextFrame ts (Some i) q c = go l.to_controller refl
   where
-    go : (w : List OnWire) → l.to_controller ≡ w → IsCutNew (happens_here l (Step NextFrame ts CutOff)).controller.side
+    go : (w : List OnWire) → l.to_controller ≡ w → IsCutNew (happens_at_controller l (Step NextFrame ts CutOff)).controller.side
     go [] e = let z : None ≡ Some i = rw e at q in absurd (cc z)
     go (x ∷ xs) e =
-        let is : steps_here l NextFrame ts CutOff ≡ has_taken l x xs ts CutOff = rw e refl in
+        let is : steps_at_controller l NextFrame ts CutOff ≡ has_taken l x xs ts CutOff = rw e refl in
         record { role = (turned (after_input l.controller.side (Take x.frame)) ts).role; is = ap (λ (k : Link). k.controller.side) is }
 cut_new l (AsksReset window) ts o q c = record { role = (turned (after_input l.controller.side (Reset window)) ts).role; is = refl }
 cut_new l (Starts value) ts o q c = record { role = (turned (after_input l.controller.side (Start value)) ts).role; is = refl }
@@ -90,14 +90,14 @@ cut_new l Stops ts o q c = record { role = (turned (after_input l.controller.sid
 cut_new l NoInput ts o q c = record { role = (turned l.controller.side ts).role; is = refl }
 
 pub cut_clf : (l : Link) (comes : Comes) (ts : List Turn) (o : Option LinkInput) → input_of l comes ≡ o → IsStep comes o → IsClf l.controller.side.role
-    → (happens_here l (Step comes ts CutOff)).controller.side ≡ new_link_end (Clf new_clf)
+    → (happens_at_controller l (Step comes ts CutOff)).controller.side ≡ new_link_end (Clf new_clf)
 cut_clf l comes ts o q c a =
     let z = cut_new l comes ts o q c in
     let P : LinkEnd → Type 0 = λ e. IsClf e.role in
     z.is ∙ renewed_clf z.role (subst P z.is (here_clf l (Step comes ts CutOff) a))
 
 pub cut_uicc : (l : Link) (comes : Comes) (ts : List Turn) (o : Option LinkInput) → input_of l comes ≡ o → IsStep comes o → IsUicc l.controller.side.role
-    → (happens_here l (Step comes ts CutOff)).controller.side ≡ new_link_end (Uicc new_uicc)
+    → (happens_at_controller l (Step comes ts CutOff)).controller.side ≡ new_link_end (Uicc new_uicc)
 cut_uicc l comes ts o q c a =
     let z = cut_new l comes ts o q c in
     let P : LinkEnd → Type 0 = λ e. IsUicc e.role in

@@ -13,7 +13,7 @@ use Rattle.link_entries.specs.Order.{InOrderIn}
 use Rattle.link_entries.proofs.Lasting.{same_number}
 use Rattle.link_entries.proofs.Running.{at_each_moment}
 use Rattle.link_entries.proofs.Chains.{no_chain_noted}
-use Rattle.history.specs.Filters.{Saying, said, at_end, said_of, sent_by, sent_in, got_by, got_in, acked_after, acked_in}
+use Rattle.history.specs.Filters.{Saying, said, at_end, said_of, sent_by, sent_in, got_in_session, got_in, acked_after, acked_in}
 use Rattle.history.specs.Legal.{is_chain_fault}
 use Rattle.history.specs.Steps.{entry_of, entries_for}
 use Rattle.history_laws.proofs.Noted.{fault-all}
@@ -67,8 +67,8 @@ sent_alike t v e n q =
 
 pub got_alike : (t v : List Entry) (e : End) (n : ℕ) → of_link e.link t ≡ of_link e.link v → got_in t e n ≡ got_in v e n
 got_alike t v e n q =
-    filter_kept (got_by n) refl e.link e refl t
-    ∙ (ap (λ x. filter_map (λ y. got_by n (said_of e y)) x) q ∙ sym (filter_kept (got_by n) refl e.link e refl v))
+    filter_kept (got_in_session n) refl e.link e refl t
+    ∙ (ap (λ x. filter_map (λ y. got_in_session n (said_of e y)) x) q ∙ sym (filter_kept (got_in_session n) refl e.link e refl v))
 
 pub acked_alike : (t v : List Entry) (e : End) (n : ℕ) → of_link e.link t ≡ of_link e.link v → acked_in t e n ≡ acked_in v e n
 acked_alike t v e n q =

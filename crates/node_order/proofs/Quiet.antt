@@ -4,7 +4,7 @@ use Rattle.trace_model.specs.declared.entry.Entry.{Entry}
 use Rattle.hcp_packet.specs.Packets.{good_of}
 use Rattle.shdlc_core.specs.declared.answers.LinkState.TheVariants.{Up}
 use Rattle.link_machine.specs.Machine.{Message}
-use Rattle.message_link.specs.Links.{Talk, Half, Link, number_of, talk_now, talk_of, ended_talk}
+use Rattle.message_link.specs.Links.{Talk, NumberedEnd, Link, number_of, talk_now, talk_of, ended_talk}
 use Rattle.message_link.specs.Links.IsStart.{IsLine}
 use Rattle.message_link.specs.Quiet.{AllDelivered}
 use Rattle.message_link.proofs.Whole.{one_number}
@@ -50,7 +50,7 @@ module _ (h : ℕ) (l : Link) (t : List Entry) (a : IsLinkTold h l t) where
   read_off = record { controller = read_controller; host = read_host }
 
   -- the session that goes on at an end
-  talk_up : (k : Half) → k.side.shdlc.phase ≡ Up → talk_of k (number_of k) ≡ talk_now k.side
+  talk_up : (k : NumberedEnd) → k.side.shdlc.phase ≡ Up → talk_of k (number_of k) ≡ talk_now k.side
   talk_up k up =
       up_talk k (number_of k) up
       ∙ ap (λ b. cond b (talk_now k.side) (ended_talk k.past (number_of k))) (same_number (number_of k))

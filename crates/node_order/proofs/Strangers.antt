@@ -10,7 +10,7 @@ use Rattle.journal_laws.specs.Journal.{count_of}
 use Rattle.journal_laws.specs.Planned.{fails_within, after_planned}
 use Rattle.link_machine.specs.Machine.{LinkInput}
 use Rattle.link_machine.specs.Machine.Role.{Bare}
-use Rattle.message_link.specs.Links.{Half, Link, Comes, Loss, new_link, exchanged, aged, ticks_here, happens}
+use Rattle.message_link.specs.Links.{NumberedEnd, Link, Comes, Loss, new_link, exchanged, aged, ticks_at_controller, happens}
 use Rattle.message_link.specs.Links.Comes.{NextFrame, AsksReset, Starts, Stops, NoInput}
 use Rattle.message_link.specs.Links.Ending.{GoesOut, CutOff}
 use Rattle.message_link.specs.Links.EndEvent.{Step, Lose}
@@ -166,7 +166,7 @@ near_kept : (w : NodeWorld) → IsKept w (controller_ticks w).0
 near_kept w = go w.controller refl
   where
     go : (o : Option Running) → w.controller ≡ o → IsKept w (controller_ticks w).0
-    go None e = rw e (hosts_same (λ (s : Site). record s { link = ticks_here s.link [] GoesOut }) (λ s. refl) w.sites)
+    go None e = rw e (hosts_same (λ (s : Site). record s { link = ticks_at_controller s.link [] GoesOut }) (λ s. refl) w.sites)
     go (Some r) e =
         rw e (hosts_same (λ (s : Site). record s {
           link = ticked_so s.link (is_late_at (near_tick w r) s.host) (turns_at (near_tick w r) s.host) (ending_of (near_tick w r));
@@ -200,7 +200,7 @@ no_site : (sites : List Site) (h : ℕ) → IsStrange h (hosts_in sites) → sit
 no_site [] h a = refl
 no_site (s ∷ sites) h a = let off = a.0 in rw off (no_site sites h a.1)
 
-no_port : (halves : ℕ → Half) (desks : List Desk) (hosts : List ℕ) (h : ℕ) → map (λ (d : Desk). d.host) desks ≡ hosts → IsStrange h hosts
+no_port : (halves : ℕ → NumberedEnd) (desks : List Desk) (hosts : List ℕ) (h : ℕ) → map (λ (d : Desk). d.host) desks ≡ hosts → IsStrange h hosts
     → port_at (ports_for halves desks) h ≡ None
 no_port halves [] hosts h e a = refl
 no_port halves (d ∷ desks) [] h e a = absurd (cc e)
@@ -247,7 +247,7 @@ module _ (h : ℕ) (w : NodeWorld) (orderly : IsOrderly w) (strange : IsStrange 
       go : (o : Option Running) → IfItRuns 0 (hosts_in w.sites) o → of_link h (by o).1 ≡ []
       go None n = refl
       go (Some r) n =
-          let halves : ℕ → Half = λ j. half_in (link_to w.sites j) (comes_to k comes j) in
+          let halves : ℕ → NumberedEnd = λ j. half_in (link_to w.sites j) (comes_to k comes j) in
           let v : Work = controller_work w r k comes (steps (AtEnd k i)) in
           let f : Site → List Entry = λ s. frames_noted Controller s.host (wires_for s.link (comes_to k comes s.host)) v in
           let away : Away h v = away_steps h k i (work_of r w.memory.plan halves (entries_for k (arrival Controller (link_to w.sites k) comes)))
@@ -340,7 +340,7 @@ module _ (h : ℕ) (w : NodeWorld) (orderly : IsOrderly w) (strange : IsStrange 
       go : (o : Option Running) → w.controller ≡ o → IfItRuns 0 (hosts_in w.sites) o → of_link h (controller_ticks w).1 ≡ []
       go None e n = ap (of_link h) (none_is e)
       go (Some r) e n =
-          let halves : ℕ → Half = λ j. (link_to w.sites j).controller in
+          let halves : ℕ → NumberedEnd = λ j. (link_to w.sites j).controller in
           let f : Site → List Entry = λ x. frames_noted Controller x.host x.link (near_tick w r) in
           let away : Away h (near_tick w r) = away_tick h (work_of r w.memory.plan halves [])
           (record { none = no_port halves r.desks (hosts_in w.sites) h n.ends strange; told = refl }) in

@@ -11,7 +11,7 @@ use Rattle.journal_laws.specs.Planned.{after_planned}
 use Rattle.link_machine.specs.Machine.{LinkEnd, Turn, is_open, new_link_end, turned, after_input, sent_all}
 use Rattle.link_machine.specs.Machine.LinkInput.{Tick, Reset}
 use Rattle.link_machine.specs.Machine.Role.{Clf, Uicc}
-use Rattle.message_link.specs.Links.{Half, Link, Ending, LinkEvent, exchanged, aged, has_input, ticks_here, AreSendableTurns, IsClf, IsUicc, IsEvent}
+use Rattle.message_link.specs.Links.{NumberedEnd, Link, Ending, LinkEvent, exchanged, aged, has_input, ticks_at_controller, AreSendableTurns, IsClf, IsUicc, IsEvent}
 use Rattle.message_link.specs.Links.Ending.{GoesOut, CutOff}
 use Rattle.message_link.specs.Links.Comes.{AsksReset}
 use Rattle.message_link.specs.Links.EndEvent.{Step}
@@ -50,7 +50,7 @@ none_due (Some r) a = all r.desks a
     all [] n = tt
     all (d ∷ desks) n = (let q = n.0 in rw q refl, all desks n.1)
 
-end_found : (halves : ℕ → Half) (desks : List Desk) (h : ℕ) (d : Desk) → find (λ d. d.host == h) desks ≡ Some d
+end_found : (halves : ℕ → NumberedEnd) (desks : List Desk) (h : ℕ) (d : Desk) → find (λ d. d.host == h) desks ≡ Some d
     → port_at (ports_for halves desks) h ≡ Some (port_for (halves h) d)
 end_found halves [] h d q = absurd (cc q)
 end_found halves (x ∷ desks) h d q = go (x.host == h) refl (end_found halves desks h d)
@@ -91,7 +91,7 @@ timely w t h s up found a =
     due : (o : Option Running) → IfNoticedUp w.sites o → IfDue o h s.link.controller.side
     due None u = tt
     due (Some r) u = λ d there late.
-        let halves : ℕ → Half = λ j. (link_to w.sites j).controller in
+        let halves : ℕ → NumberedEnd = λ j. (link_to w.sites j).controller in
         let here : IsNoticedUp (port_for (halves h) d) = subst (OnFirst IsNoticedUp) (end_found halves r.desks h d there) (u h) in
         let is : s.link.controller.side.shdlc.phase ≡ Up =
         ap (λ (l : Link). l.controller.side.shdlc.phase) (sym (link_is w.sites h s found)) ∙ here (due_some d late) in
@@ -110,7 +110,7 @@ some_desks (Some x) r e b = let one : x ≡ r = cc in let P : Running → Type 0
 near_sends : (w : NodeWorld) (h : ℕ) (o : Option Running) → AreClean w.sites → IsFineNode o → AreSendableTurns (near_turns w h o)
 near_sends w h None clean a = tt
 near_sends w h (Some r) clean a =
-    let halves : ℕ → Half = λ j. (link_to w.sites j).controller in
+    let halves : ℕ → NumberedEnd = λ j. (link_to w.sites j).controller in
     turns_fine (near_tick w r) h
     (steps_fine TimePasses (work_of r w.memory.plan halves []) (ports_fine halves (λ j. near_clean w.sites j clean) r.desks a))
 
@@ -128,7 +128,7 @@ near_cut : (l : Link) (late : Bool) (ts : List Turn) → IsClf l.controller.side
 near_cut l late ts a = go (late && not (is_waiting l.controller.side.shdlc))
   where
     by : Bool → Link
-    by b = cond b (has_input l (Reset None) ts CutOff) (ticks_here l ts CutOff)
+    by b = cond b (has_input l (Reset None) ts CutOff) (ticks_at_controller l ts CutOff)
 
     go : (b : Bool) → (by b).controller.side ≡ new_link_end (Clf new_clf)
     go true = renewed_clf (turned (after_input l.controller.side (Reset None)) ts).role (here_clf l (Step (AsksReset None) ts CutOff) a)
@@ -144,7 +144,7 @@ near_after w clf off h v q = go w.controller refl
     Goal z = site_at z.sites h ≡ Some v → IfOff z.controller (new_link_end (Clf new_clf)) v.link.controller.side
 
     f : Site → Site
-    f s = record s { link = ticks_here s.link [] GoesOut }
+    f s = record s { link = ticks_at_controller s.link [] GoesOut }
 
     g : Running → Site → Site
     g r s = record s { link = ticked_so s.link (is_late_at (near_tick w r) s.host) (turns_at (near_tick w r) s.host) (ending_of (near_tick w r)) }
@@ -216,7 +216,7 @@ far_after x host node uicc off none = go x.node refl node off none
     Q : Site × List Entry → Type 0
     Q z = IfNone z.0.node
 
-    none_is : x.node ≡ None → host_ticks x ≡ (record x { link = exchanged (ticks_here (exchanged x.link) [] GoesOut) }, [])
+    none_is : x.node ≡ None → host_ticks x ≡ (record x { link = exchanged (ticks_at_controller (exchanged x.link) [] GoesOut) }, [])
     none_is q = rw q refl
 
     ports_none : (ds : List Desk) → AllByRecursion (λ (d : Desk). d.notice ≡ None) ds
@@ -241,7 +241,7 @@ far_after x host node uicc off none = go x.node refl node off none
         }
       where
         side : Ending → LinkEnd
-        side ending = (ticks_here (exchanged x.link) (turns_at (host_tick x n) x.host) ending).controller.side
+        side ending = (ticks_at_controller (exchanged x.link) (turns_at (host_tick x n) x.host) ending).controller.side
 
         by : (b : Bool) → (host_tick x n).cut ≡ b → IfOff (runs_on (host_tick x n)) (new_link_end (Uicc new_uicc)) (side (ending_of (host_tick x n)))
         by true c =
@@ -275,7 +275,7 @@ near_none : (w : NodeWorld) (h : ℕ) → site_at w.sites h ≡ None → site_at
 near_none w h q = go w.controller refl
   where
     go : (o : Option Running) → w.controller ≡ o → site_at (controller_ticks w).0.sites h ≡ None
-    go None e = rw e (site_none (λ (s : Site). record s { link = ticks_here s.link [] GoesOut }) (λ s. refl) w.sites h q)
+    go None e = rw e (site_none (λ (s : Site). record s { link = ticks_at_controller s.link [] GoesOut }) (λ s. refl) w.sites h q)
     go (Some r) e =
         rw e (site_none (λ (s : Site). record s {
           link = ticked_so s.link (is_late_at (near_tick w r) s.host) (turns_at (near_tick w r) s.host) (ending_of (near_tick w r));

@@ -8,7 +8,7 @@ use Rattle.trace_model.specs.Lines.{IsHost}
 use Rattle.trace_model.specs.declared.entry.Entry.{Entry}
 use Rattle.shdlc_core.specs.Machine.{is_waiting}
 use Rattle.link_machine.specs.Machine.{Message, Turn, give_refusal}
-use Rattle.message_link.specs.Links.{Link, Half, Ending, exchanged, aged, ticks_here, has_input}
+use Rattle.message_link.specs.Links.{Link, NumberedEnd, Ending, exchanged, aged, ticks_at_controller, has_input}
 use Rattle.message_link.specs.Links.Ending.{GoesOut}
 use Rattle.message_link.specs.Links.Comes.{NoInput, AsksReset}
 use Rattle.message_link.specs.Links.EndEvent.{Step}
@@ -145,7 +145,7 @@ module _ (hosts : List ℕ) (are : AreHosts hosts) where
 
   ticked_host : (l : Link) (late : Bool) (ts : List Turn) (ending : Ending) → (ticked_so l late ts ending).host ≡ l.host
   ticked_host l late ts ending =
-      cond_both (late && not (is_waiting l.controller.side.shdlc)) (has_input l (Reset None) ts ending) (ticks_here l ts ending) (λ (m : Link). m.host ≡ l.host)
+      cond_both (late && not (is_waiting l.controller.side.shdlc)) (has_input l (Reset None) ts ending) (ticks_at_controller l ts ending) (λ (m : Link). m.host ≡ l.host)
       (λ _. here_host l (Step (AsksReset None) ts ending)) (λ _. tick_host l ts ending)
 
   near_ticks : (t : List Entry) (w : NodeWorld) → AllRead hosts t w → AllRead hosts (t ++ (controller_ticks w).1) (controller_ticks w).0
@@ -160,11 +160,11 @@ module _ (hosts : List ℕ) (are : AreHosts hosts) where
     by_node None e zero = subst Fine (sym (off_is e)) (record {
       controller = subst IfZero (sym e) tt;
       hosts_are = hosts_same alone (λ s. refl) w.sites ∙ all.hosts_are;
-      sites = map_reads t [] alone (λ s. refl) (λ s. refl) (λ s. ap (λ (x : Half). x.side) (tick_host s.link [] GoesOut))
+      sites = map_reads t [] alone (λ s. refl) (λ s. refl) (λ s. ap (λ (x : NumberedEnd). x.side) (tick_host s.link [] GoesOut))
           (λ k host. tt) w.sites known all.sites;
     }) where
       alone : Site → Site
-      alone s = record s { link = ticks_here s.link [] GoesOut }
+      alone s = record s { link = ticks_at_controller s.link [] GoesOut }
 
       off_is : w.controller ≡ None → controller_ticks w ≡ (record w { sites = map alone w.sites }, [])
       off_is e = rw e refl
@@ -172,7 +172,7 @@ module _ (hosts : List ℕ) (are : AreHosts hosts) where
       controller = runs_zero k (away 1 (omega arith, omega arith)).number;
       hosts_are = hosts_same ticked (λ s. refl) w.sites ∙ all.hosts_are;
       sites = map_reads t (k.entries ++ frames) ticked (λ s. refl) (λ s. refl)
-          (λ s. ap (λ (x : Half). x.side) (ticked_host s.link (is_late_at k s.host) (turns_at k s.host) (ending_of k)))
+          (λ s. ap (λ (x : NumberedEnd). x.side) (ticked_host s.link (is_late_at k s.host) (turns_at k s.host) (ending_of k)))
           (λ n host. silent-append n k.entries frames (away n host).silent (silent_flat n (λ (s : Site). frames_noted Controller s.host s.link k)
           (λ s. frames_silent n Controller s.host s.link k) w.sites)) w.sites known all.sites;
     }) where

@@ -20,8 +20,8 @@ use Rattle.gate_admin.specs.declared.decision.Decision.{Decision}
 use Rattle.gate_admin.specs.declared.decision.Decision.TheVariants.{Answer, Commit, Ask}
 use Rattle.gate_admin.specs.View.{has, hosts_where}
 use Rattle.gate_admin.specs.Decide.{decided}
-use Rattle.gate_link.specs.Link.{served as link_served}
-use Rattle.gate_identity.specs.Identity.{served as identity_served}
+use Rattle.gate_link.specs.Link.{link_served}
+use Rattle.gate_identity.specs.Identity.{identity_served}
 use Rattle.link_machine.specs.Machine.{Message}
 use Rattle.node_machine.specs.Parts.{Creation, Notice, Init, Core, Port, Deed}
 use Rattle.node_machine.specs.Parts.Deed.{Commits, Sends, SaysOk, Asks, Releases, Tells, IsAnswered, Drops, SetsErrors, Orders, Hears, GoesOn, Ends}

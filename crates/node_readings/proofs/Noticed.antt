@@ -12,7 +12,7 @@ use Rattle.shdlc_core.specs.declared.answers.LinkState.TheVariants.{Up, Waiting,
 use Rattle.shdlc_core.specs.Machine.{EndState, is_waiting, ticked, tick_answer}
 use Rattle.link_machine.specs.Machine.{LinkEnd, LinkInput, Turn, is_open, after_input, had_tick}
 use Rattle.link_machine.specs.Machine.LinkInput.{Tick, Reset}
-use Rattle.message_link.specs.Links.{Link, Half, has_input, ticks_here}
+use Rattle.message_link.specs.Links.{Link, NumberedEnd, has_input, ticks_at_controller}
 use Rattle.message_link.specs.Links.Ending.{GoesOut}
 use Rattle.message_link.proofs.Project.{moved_role}
 use Rattle.node_machine.specs.Parts.{Notice, Desk, Running, Port, Work}
@@ -59,7 +59,7 @@ reset_refused e closed = rw closed refl
 
 -- ## Ends as a step begins
 
-module _ (r : Running) (plan : Option Plan) (halves : ℕ → Half) (es : List Entry) where
+module _ (r : Running) (plan : Option Plan) (halves : ℕ → NumberedEnd) (es : List Entry) where
   abbrev pub starts : List Desk → List Port
   starts desks = map (λ (d : Desk). port_for (halves d.host) d) desks
 
@@ -275,7 +275,7 @@ module _ (r : Running) (plan : Option Plan) (halves : ℕ → Half) (es : List E
       reset_is ups is =
           let not_yet : is_waiting l.controller.side.shdlc ≡ false = not_waiting l.controller.side.shdlc ups in
           let resets : ticked_so l true ts GoesOut ≡ has_input l (Reset None) ts GoesOut =
-          ap (λ b. cond (not b) (has_input l (Reset None) ts GoesOut) (ticks_here l ts GoesOut)) not_yet in
+          ap (λ b. cond (not b) (has_input l (Reset None) ts GoesOut) (ticks_at_controller l ts GoesOut)) not_yet in
           ap (λ (m : Link). is_up m.controller.side.shdlc.phase) resets ∙ (ap is_up (input_phase l (Reset None) ts) ∙ is)
 
       too_late : (q : Port) → q.side ≡ l.controller.side → q.side.shdlc.phase ≡ Up → (after_input q.side Tick).shdlc.phase ≡ Up

@@ -14,7 +14,7 @@ use Rattle.shdlc_core.specs.declared.answers.LinkState.{LinkState}
 use Rattle.shdlc_core.specs.declared.answers.LinkState.TheVariants.{Up}
 use Rattle.link_machine.specs.Machine.{LinkEnd, LinkInput, Turn, after_input}
 use Rattle.link_machine.specs.Machine.LinkInput.{Reset}
-use Rattle.message_link.specs.Links.{Link, Half, Ending, Comes, Loss, EndEvent, exchanged, aged, has_input, steps_here, ticks_here, happens}
+use Rattle.message_link.specs.Links.{Link, NumberedEnd, Ending, Comes, Loss, EndEvent, exchanged, aged, has_input, steps_at_controller, ticks_at_controller, happens}
 use Rattle.message_link.specs.Links.Ending.{GoesOut, CutOff}
 use Rattle.message_link.specs.Links.Comes.{NextFrame, AsksReset, Starts, NoInput}
 use Rattle.message_link.specs.Links.Loss.{OnDemand, Broken, Unread, TooOld, TooMany}
@@ -48,10 +48,10 @@ use Rattle.node_readings.proofs.Noticed.{up_is, not_waiting, CameUp, input_up, t
 -- ## Ends
 
 -- the ends of these desks, by the ends of links
-abbrev ports_of : (ℕ → Half) → List Desk → List Port
+abbrev ports_of : (ℕ → NumberedEnd) → List Desk → List Port
 ports_of halves desks = map (λ (d : Desk). port_for (halves d.host) d) desks
 
-same_sides : (g h : ℕ → Half) → ((n : ℕ) → (h n).side ≡ (g n).side) → (desks : List Desk) (x : ℕ) → OnFirst IsNoticedUp (port_at (ports_of g desks) x)
+same_sides : (g h : ℕ → NumberedEnd) → ((n : ℕ) → (h n).side ≡ (g n).side) → (desks : List Desk) (x : ℕ) → OnFirst IsNoticedUp (port_at (ports_of g desks) x)
     → OnFirst IsNoticedUp (port_at (ports_of h desks) x)
 same_sides g h same [] x a = tt
 same_sides g h same (d ∷ desks) x a = go (cases_Bool (eqb d.host x)) (same_sides g h same desks x) where
@@ -70,7 +70,7 @@ kept v w None same a = tt
 kept v w (Some r) same a = λ x. same_sides (λ n. (link_to w n).controller) (λ n. (link_to v n).controller) same r.desks x (a x)
 
 -- a controller that boots has none
-none_noticed : (halves : ℕ → Half) (hosts : List ℕ) (x : ℕ) → OnFirst IsNoticedUp (port_at (ports_of halves (map new_desk hosts)) x)
+none_noticed : (halves : ℕ → NumberedEnd) (hosts : List ℕ) (x : ℕ) → OnFirst IsNoticedUp (port_at (ports_of halves (map new_desk hosts)) x)
 none_noticed halves [] x = tt
 none_noticed halves (h ∷ hosts) x = go (cases_Bool (eqb h x)) (none_noticed halves hosts x) where
   go : (eqb h x ≡ true) ⊎ (eqb h x ≡ false) → OnFirst IsNoticedUp (port_at (ports_of halves (map new_desk hosts)) x)
@@ -104,10 +104,10 @@ side_with h f host side sites n = side_map (λ (s : Site). changed_if (eqb s.hos
 
 -- what happens at the host's end leaves the controller's
 pub far_side : (l : Link) (e : EndEvent) → (happens l (AtHost e)).controller.side ≡ l.controller.side
-far_side l e = ap (λ (h : Half). h.side) (here_host (exchanged l) e)
+far_side l e = ap (λ (h : NumberedEnd). h.side) (here_host (exchanged l) e)
 
-far_tick : (l : Link) (ts : List Turn) (ending : Ending) → (exchanged (ticks_here (exchanged l) ts ending)).controller.side ≡ l.controller.side
-far_tick l ts ending = ap (λ (h : Half). h.side) (tick_host (exchanged l) ts ending)
+far_tick : (l : Link) (ts : List Turn) (ending : Ending) → (exchanged (ticks_at_controller (exchanged l) ts ending)).controller.side ≡ l.controller.side
+far_tick l ts ending = ap (λ (h : NumberedEnd). h.side) (tick_host (exchanged l) ts ending)
 
 lost_side : (e : End) (why : Loss) (l : Link) → (happens l (at e (Lose why))).controller.side ≡ l.controller.side
 lost_side e why l = go e.at_host refl where
@@ -151,7 +151,7 @@ record HasSite (sites : List Site) (x : ℕ) : Type 0 where
   pub site : Site
   pub there : site_at sites x ≡ Some site
 
-site_there : (halves : ℕ → Half) (desks : List Desk) (sites : List Site) (x : ℕ) (q : Port) → map (λ (d : Desk). d.host) desks ≡ hosts_in sites
+site_there : (halves : ℕ → NumberedEnd) (desks : List Desk) (sites : List Site) (x : ℕ) (q : Port) → map (λ (d : Desk). d.host) desks ≡ hosts_in sites
     → port_at (ports_of halves desks) x ≡ Some q → HasSite sites x
 site_there halves [] sites x q e here = absurd (cc here)
 site_there halves (d ∷ desks) [] x q e here = absurd (cc e)
@@ -174,7 +174,7 @@ ending_is : (k : Work) → k.cut ≡ false → ending_of k ≡ GoesOut
 ending_is k z = rw z refl
 
 step_phase : (l : Link) (b : Bool) (comes : Comes) (i : LinkInput) (ts : List Turn) → (b ≡ true → input_of l comes ≡ Some i)
-    → (steps_here l (cond b comes NoInput) ts GoesOut).controller.side.shdlc.phase ≡ (cond b (after_input l.controller.side i) l.controller.side).shdlc.phase
+    → (steps_at_controller l (cond b comes NoInput) ts GoesOut).controller.side.shdlc.phase ≡ (cond b (after_input l.controller.side i) l.controller.side).shdlc.phase
 step_phase l true comes i ts input = stepped_phase l comes ts i (input refl)
 step_phase l false comes i ts input = sent_phase l.controller.side ts
 
@@ -182,7 +182,7 @@ module _ (w : NodeWorld) (r : Running) (runs : w.controller ≡ Some r) (has : H
   near_step : (h : ℕ) (comes : Comes) (i : LinkInput) → input_of (link_to w.sites h) comes ≡ Some i
       → NoticesAreUp (after_controller w h comes (controller_work w r h comes (steps (AtEnd h i)))).0
   near_step h comes i input = runs_up (map (link_after_controller h comes k) w.sites) k one where
-    halves : ℕ → Half
+    halves : ℕ → NumberedEnd
     halves n = half_in (link_to w.sites n) (comes_to h comes n)
 
     es : List Entry
@@ -204,7 +204,7 @@ module _ (w : NodeWorld) (r : Running) (runs : w.controller ≡ Some r) (has : H
       by_site found_it =
           ap (λ (l : Link). l.controller.side.shdlc.phase) (link_is (map (link_after_controller h comes k) w.sites) x (link_after_controller h comes k s)
           (site_map (link_after_controller h comes k) (λ y. refl) w.sites x s found_it.there))
-          ∙ ap (λ e. (steps_here s.link (comes_to h comes s.host) ts e).controller.side.shdlc.phase) (ending_is k z)
+          ∙ ap (λ e. (steps_at_controller s.link (comes_to h comes s.host) ts e).controller.side.shdlc.phase) (ending_is k z)
           ∙ step_phase s.link (eqb s.host h) comes i ts (λ is. ap (λ l. input_of l comes) (sym (link_of is)) ∙ input)
           ∙ ap (λ n. (cond (eqb n h) (after_input s.link.controller.side i) s.link.controller.side).shdlc.phase) number
           ∙ ap (λ e. (cond (eqb x h) (after_input e i) e).shdlc.phase) (sym side)
@@ -235,7 +235,7 @@ module _ (w : NodeWorld) (r : Running) (runs : w.controller ≡ Some r) (has : H
     }) w.sites;
   })
   near_tick = runs_up (map f w.sites) k one where
-    halves : ℕ → Half
+    halves : ℕ → NumberedEnd
     halves n = (link_to w.sites n).controller
 
     k : Work
@@ -390,7 +390,7 @@ boots_up n w a = by_plan (cases_Bool (fails_within (length (boot_writes (memory_
 -- ## Losses
 
 -- an end whose errors were counted is as it was
-counted : (halves : ℕ → Half) (h : ℕ) (desks : List Desk) (x : ℕ) → OnFirst IsNoticedUp (port_at (ports_of halves desks) x)
+counted : (halves : ℕ → NumberedEnd) (h : ℕ) (desks : List Desk) (x : ℕ) → OnFirst IsNoticedUp (port_at (ports_of halves desks) x)
     → OnFirst IsNoticedUp (port_at (ports_of halves (with_error h desks)) x)
 counted halves h [] x a = tt
 counted halves h (d ∷ desks) x a = by_error (eqb d.host h) (cases_Bool (eqb d.host x)) (counted halves h desks x) where
@@ -524,7 +524,7 @@ pub late_resets : (w : NodeWorld) (r : Running) (h : ℕ) (turns : List Turn) (e
     → is_late_at (steps TimePasses (work_of r w.memory.plan (λ n. (link_to w.sites n).controller) [])) h ≡ true
     → ticked_so (link_to w.sites h) true turns ending ≡ has_input (link_to w.sites h) (Reset None) turns ending
 late_resets w r h turns ending orderly a runs late =
-    ap (λ b. cond (not b) (has_input l (Reset None) turns ending) (ticks_here l turns ending)) (not_waiting l.controller.side.shdlc up)
+    ap (λ b. cond (not b) (has_input l (Reset None) turns ending) (ticks_at_controller l turns ending)) (not_waiting l.controller.side.shdlc up)
   where
     l : Link
     l = link_to w.sites h

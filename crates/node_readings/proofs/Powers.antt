@@ -9,7 +9,7 @@ use Rattle.journal_laws.specs.Planned.{fails_within, after_planned}
 use Rattle.trace_model.specs.Lines.{IsHost}
 use Rattle.trace_model.specs.declared.entry.Entry.{Entry}
 use Rattle.trace_model.specs.declared.entry.Entry.TheVariants as entry
-use Rattle.message_link.specs.Links.{Half, happens}
+use Rattle.message_link.specs.Links.{NumberedEnd, happens}
 use Rattle.message_link.specs.Links.Ending.{CutOff}
 use Rattle.message_link.specs.Links.Comes.{NoInput}
 use Rattle.message_link.specs.Links.EndEvent.{Step}
@@ -47,7 +47,7 @@ module _ (hosts : List ℕ) (are : AreHosts hosts) where
     controller = tt;
     hosts_are = hosts_same cut_here (λ s. refl) w.sites ∙ all.hosts_are;
     sites = map_reads t (entry.Cut 0 ∷ []) cut_here (λ s. refl) (λ s. refl)
-        (λ s. ap (λ (x : Half). x.side) (here_host s.link (Step NoInput [] CutOff))) (λ k host. cut_silent 0 k (none_zero k host)) w.sites
+        (λ s. ap (λ (x : NumberedEnd). x.side) (here_host s.link (Step NoInput [] CutOff))) (λ k host. cut_silent 0 k (none_zero k host)) w.sites
         (known t w all) all.sites;
   } where
     cut_here : Site → Site

@@ -12,7 +12,7 @@ use Rattle.session_laws.proofs.Ties.{after_frames-phase}
 use Rattle.shdlc_core.specs.declared.answers.LinkState.{LinkState}
 use Rattle.link_machine.specs.Machine.{Message, give_refusal, LinkEnd, LinkInput, Turn, turn, turned, after_input, sent_all, ended_by}
 use Rattle.link_machine.specs.Machine.LinkInput.{Take, Tick, Reset, Start, Stop}
-use Rattle.message_link.specs.Links.{Link, Half, Ending, Comes, Loss, exchanged, with_ended, finished, ticks_here, steps_here}
+use Rattle.message_link.specs.Links.{Link, NumberedEnd, Ending, Comes, Loss, exchanged, with_ended, finished, ticks_at_controller, steps_at_controller}
 use Rattle.message_link.specs.Links.Ending.{GoesOut, CutOff}
 use Rattle.message_link.specs.Links.Comes.{NextFrame, AsksReset, Starts, Stops, NoInput}
 use Rattle.link_entries.specs.Entries.{End as Side, first_lost, ending_entries}
@@ -73,10 +73,10 @@ finished_phase l e ts = sent_phase e ts
 
 -- an end after something comes to it, in a step that doesn't lose its power
 pub stepped_phase : (l : Link) (comes : Comes) (ts : List Turn) (i : LinkInput) → input_of l comes ≡ Some i
-    → (steps_here l comes ts GoesOut).controller.side.shdlc.phase ≡ (after_input l.controller.side i).shdlc.phase
+    → (steps_at_controller l comes ts GoesOut).controller.side.shdlc.phase ≡ (after_input l.controller.side i).shdlc.phase
 stepped_phase l NextFrame ts i e = go l.to_controller refl where
   go : (xs : List OnWire) → l.to_controller ≡ xs
-      → (steps_here l NextFrame ts GoesOut).controller.side.shdlc.phase ≡ (after_input l.controller.side i).shdlc.phase
+      → (steps_at_controller l NextFrame ts GoesOut).controller.side.shdlc.phase ≡ (after_input l.controller.side i).shdlc.phase
   go [] q = let z : None ≡ Some i = rw q at e in absurd (cc z)
   go (x ∷ xs) q =
       let z : Some (Take x.frame) ≡ Some i = rw q at e in
@@ -107,7 +107,7 @@ comes_outside l NoInput i e = let z : None ≡ Some i = e in absurd (cc z)
 -- hearing of the number of an RSET leaves the machine of an end
 pub half_side : (l : Link) (comes : Comes) → (half_in l comes).side ≡ l.controller.side
 half_side l NextFrame = go l.to_controller where
-  first : List OnWire → Half
+  first : List OnWire → NumberedEnd
   first [] = l.controller
   first (x ∷ xs) = record l.controller { took = Rattle.session_laws.specs.Sessions.took_with l.controller.took x }
 
@@ -123,7 +123,7 @@ half_side l NoInput = refl
 
 module _ (t : List Entry) (s : Site) (host : IsHost s.host) (r : Running) (so : HostRuns s.host s.link r) (read : order_in t s.host ≡ r.core.command) where
   -- its step begins, over what is noted first
-  begun_stands : (comes : Comes) (half : Half) (es : List Entry) → half.side ≡ s.link.host.side → ((c : Option (List ℕ)) → reads s.host es c ≡ c)
+  begun_stands : (comes : Comes) (half : NumberedEnd) (es : List Entry) → half.side ≡ s.link.host.side → ((c : Option (List ℕ)) → reads s.host es c ≡ c)
       → Runs s.host host t half.side.shdlc.phase (work_of r s.memory.plan (λ k. half) es)
   begun_stands comes half es side silent = record {
     on = refl;
@@ -191,7 +191,7 @@ comes_reads t s r comes i host reads_so node input =
       k : Work
       k = host_work s r comes (steps (AtEnd s.host i))
 
-      half : Half
+      half : NumberedEnd
       half = half_in (exchanged s.link) comes
 
       so : HostRuns s.host s.link r
@@ -228,7 +228,7 @@ comes_reads t s r comes i host reads_so node input =
 
       phase : k.cut ≡ false → (after_host comes k s).link.host.side.shdlc.phase ≡ now
       phase on =
-          ap (λ b. (steps_here (exchanged s.link) comes (turns_at k s.host) (cond b CutOff GoesOut)).controller.side.shdlc.phase) on
+          ap (λ b. (steps_at_controller (exchanged s.link) comes (turns_at k s.host) (cond b CutOff GoesOut)).controller.side.shdlc.phase) on
           ∙ stepped_phase (exchanged s.link) comes (turns_at k s.host) i input
 
 -- a host that runs does deeds of its own
@@ -265,7 +265,7 @@ acts_reads t s r deeds host reads_so node may =
 
       phase : k.cut ≡ false → (after_host NoInput k s).link.host.side.shdlc.phase ≡ now
       phase on =
-          ap (λ b. (steps_here (exchanged s.link) NoInput (turns_at k s.host) (cond b CutOff GoesOut)).controller.side.shdlc.phase) on
+          ap (λ b. (steps_at_controller (exchanged s.link) NoInput (turns_at k s.host) (cond b CutOff GoesOut)).controller.side.shdlc.phase) on
           ∙ sent_phase s.link.host.side (turns_at k s.host)
 
 -- what a host sends or begins may be done, where its end takes it
@@ -294,9 +294,9 @@ ticks_read t s host reads_so = by_node s.node refl where
   by_node : (o : Option Running) → s.node ≡ o → SiteReads (t ++ (host_ticks s).1) (host_ticks s).0
   by_node None e = subst (λ (p : Site × List Entry). SiteReads (t ++ p.1) p.0) (sym (off_is e)) (record {
     order = ap (λ l. order_in l s.host) (append-nil t) ∙ reads_so.order;
-    runs = subst (IfHostRuns s.host (exchanged (ticks_here (exchanged s.link) [] GoesOut))) (sym e) tt;
+    runs = subst (IfHostRuns s.host (exchanged (ticks_at_controller (exchanged s.link) [] GoesOut))) (sym e) tt;
   }) where
-    off_is : s.node ≡ None → host_ticks s ≡ (record s { link = exchanged (ticks_here (exchanged s.link) [] GoesOut) }, [])
+    off_is : s.node ≡ None → host_ticks s ≡ (record s { link = exchanged (ticks_at_controller (exchanged s.link) [] GoesOut) }, [])
     off_is e = rw e refl
   by_node (Some r) e = subst (λ (p : Site × List Entry). SiteReads (t ++ p.1) p.0) (sym (on_is e))
       (done_reads t s v host now k (frames_noted Host s.host (exchanged s.link) k) refl refl phase (frames_read s.host Host s.host (exchanged s.link) k) stands)
@@ -309,7 +309,7 @@ ticks_read t s host reads_so = by_node s.node refl where
 
       v : Site
       v = record s {
-        link = exchanged (ticks_here (exchanged s.link) (turns_at k s.host) (ending_of k));
+        link = exchanged (ticks_at_controller (exchanged s.link) (turns_at k s.host) (ending_of k));
         memory = after_planned k.writes s.memory;
         node = runs_on k;
       }
@@ -338,7 +338,7 @@ ticks_read t s host reads_so = by_node s.node refl where
 
       phase : k.cut ≡ false → v.link.host.side.shdlc.phase ≡ now
       phase on =
-          ap (λ b. (ticks_here (exchanged s.link) (turns_at k s.host) (cond b CutOff GoesOut)).controller.side.shdlc.phase) on
+          ap (λ b. (ticks_at_controller (exchanged s.link) (turns_at k s.host) (cond b CutOff GoesOut)).controller.side.shdlc.phase) on
           ∙ (finished_phase (with_ended (exchanged s.link) (is_some (ended_by s.link.host.side Tick))) (after_input s.link.host.side Tick) (turns_at k s.host))
 
 -- its power is cut

@@ -9,7 +9,7 @@ use Rattle.trace_model.specs.Lines.{IsHost}
 use Rattle.trace_model.specs.declared.entry.Entry.{Entry}
 use Rattle.trace_model.specs.declared.line.End.{End}
 use Rattle.link_machine.specs.Machine.{LinkInput}
-use Rattle.message_link.specs.Links.{Link, Half, Comes, exchanged}
+use Rattle.message_link.specs.Links.{Link, NumberedEnd, Comes, exchanged}
 use Rattle.message_link.specs.Links.Comes.{Starts}
 use Rattle.message_link.specs.Links.EndEvent.{Step}
 use Rattle.link_entries.specs.Entries.{End as Side}
@@ -106,7 +106,7 @@ module _ (t es : List Entry) (h : ℕ) (f : Site → Site) (silent : (k : ℕ) �
 -- ## Nodes
 
 -- a controller begins a step away from each host
-pub controller_away : (r : Running) → r.core.node ≡ 0 → (k : ℕ) (host : IsHost k) (plan : Option Plan) (halves : ℕ → Half) (es : List Entry) → AreSilent k es
+pub controller_away : (r : Running) → r.core.node ≡ 0 → (k : ℕ) (host : IsHost k) (plan : Option Plan) (halves : ℕ → NumberedEnd) (es : List Entry) → AreSilent k es
     → IsAway k 0 (none_zero k host) Controller (work_of r plan halves es)
 controller_away r number k host plan halves es silent = record {
   number = number;
@@ -128,7 +128,7 @@ runs_zero k e = go k.cut refl where
   go false z = subst IfZero (sym (on_is z)) e
 
 -- a host begins a step away from each other one
-pub host_away : (h : ℕ) → IsHost h → (link : Link) (r : Running) → HostRuns h link r → (k : ℕ) (other : eqb h k ≡ false) (plan : Option Plan) (half : Half)
+pub host_away : (h : ℕ) → IsHost h → (link : Link) (r : Running) → HostRuns h link r → (k : ℕ) (other : eqb h k ≡ false) (plan : Option Plan) (half : NumberedEnd)
     (es : List Entry) → AreSilent k es → IsAway k h other Host (work_of r plan (λ n. half) es)
 host_away h host link r so k other plan half es silent = record {
   number = so.number;
@@ -163,7 +163,7 @@ module _ (hosts : List ℕ) (are : AreHosts hosts) where
       controller = runs_zero k (away 1 (omega arith, omega arith)).number;
       hosts_are = hosts_same (link_after_controller h comes k) (λ s. refl) w.sites ∙ all.hosts_are;
       sites = map_reads t (k.entries ++ frames) (link_after_controller h comes k) (λ s. refl) (λ s. refl)
-          (λ s. ap (λ (x : Half). x.side) (here_host s.link (Step (comes_to h comes s.host) (turns_at k s.host) (ending_of k))))
+          (λ s. ap (λ (x : NumberedEnd). x.side) (here_host s.link (Step (comes_to h comes s.host) (turns_at k s.host) (ending_of k))))
           (λ n host. silent-append n k.entries frames (away n host).silent (silent_flat n (λ (s : Site). frames_noted Controller s.host
           (wires_for s.link (comes_to h comes s.host)) k) (λ s. frames_silent n Controller s.host (wires_for s.link (comes_to h comes s.host)) k) w.sites))
           w.sites (all_hosts t w all) all.sites;

@@ -10,7 +10,7 @@ use Rattle.trace_model.specs.declared.line.End.{End}
 use Rattle.journal_laws.specs.Journal.{count_of}
 use Rattle.journal_laws.specs.Planned.{fails_within, after_planned}
 use Rattle.link_machine.specs.Machine.{Message, LinkInput}
-use Rattle.message_link.specs.Links.{Half, Link, Comes, Loss, LinkEvent, exchanged, happens, after}
+use Rattle.message_link.specs.Links.{NumberedEnd, Link, Comes, Loss, LinkEvent, exchanged, happens, after_link_events}
 use Rattle.message_link.specs.Links.Comes.{NextFrame, AsksReset, Starts, NoInput}
 use Rattle.message_link.specs.Links.Ending.{CutOff}
 use Rattle.message_link.specs.Links.Loss.{OnDemand, Broken, Unread, TooOld, TooMany}
@@ -47,28 +47,28 @@ pub tells_one : (h : ℕ) (l : Link) (e : LinkEvent) (t : List Entry) → TellOf
 tells_one h l e t a =
     record { events = e ∷ []; is = refl; told = a ∙ ap (λ z. of_link h (entries_for h z)) (sym (append-nil (event_entries l e))) }
 
-pub after-append : (es fs : List LinkEvent) (l : Link) → after l (es ++ fs) ≡ after (after l es) fs
+pub after-append : (es fs : List LinkEvent) (l : Link) → after_link_events l (es ++ fs) ≡ after_link_events (after_link_events l es) fs
 after-append [] fs l = refl
 after-append (e ∷ es) fs l = after-append es fs (happens l e)
 
-pub entries-append : (es fs : List LinkEvent) (l : Link) → entries l (es ++ fs) ≡ entries l es ++ entries (after l es) fs
+pub entries-append : (es fs : List LinkEvent) (l : Link) → entries l (es ++ fs) ≡ entries l es ++ entries (after_link_events l es) fs
 entries-append [] fs l = refl
 entries-append (e ∷ es) fs l =
     ap (λ z. event_entries l e ++ z) (entries-append es fs (happens l e))
-    ∙ sym (append_assoc (event_entries l e) (entries (happens l e) es) (entries (after (happens l e) es) fs))
+    ∙ sym (append_assoc (event_entries l e) (entries (happens l e) es) (entries (after_link_events (happens l e) es) fs))
 
 tells_then : (h : ℕ) (l m n : Link) (t u : List Entry) → Tells h l m t → Tells h m n u → Tells h l n (t ++ u)
 tells_then h l m n t u a b =
     let first : List Entry = of_link h (entries_for h (entries l a.events)) in
     record {
       events = a.events ++ b.events;
-      is = after-append a.events b.events l ∙ (ap (λ k. after k b.events) a.is ∙ b.is);
+      is = after-append a.events b.events l ∙ (ap (λ k. after_link_events k b.events) a.is ∙ b.is);
       told =
           of-append h t u
           ∙ (ap (λ z. z ++ of_link h u) a.told
           ∙ (ap (λ z. first ++ z) (b.told ∙ ap (λ k. of_link h (entries_for h (entries k b.events))) (sym a.is))
           ∙ sym (ap (λ z. of_link h (entries_for h z)) (entries-append a.events b.events l)
-          ∙ notes-append h (entries l a.events) (entries (after l a.events) b.events))));
+          ∙ notes-append h (entries l a.events) (entries (after_link_events l a.events) b.events))));
     }
 
 -- ## Worlds
@@ -185,7 +185,7 @@ controller_goes w k comes i a q = go w.controller a.controller
     go (Some r) n =
         let v : Work = controller_work w r k comes (steps (AtEnd k i)) in
         let t : List Entry = (after_controller w k comes v).1 in
-        let halves : ℕ → Half = λ j. half_in (link_to w.sites j) (comes_to k comes j) in
+        let halves : ℕ → NumberedEnd = λ j. half_in (link_to w.sites j) (comes_to k comes j) in
         let kept : Keeps 0 (hosts_in w.sites) v =
         steps_keep 0 (hosts_in w.sites) k i (work_of r w.memory.plan halves (entries_for k (arrival Controller (link_to w.sites k) comes)))
         (record { number = n.number; ends = ends_same halves r.desks ∙ n.ends }) in
@@ -226,7 +226,7 @@ module _ (w : NodeWorld) (k : ℕ) (comes : Comes) (f : Work → Work) (a : IsOr
           node_is s.host (s.host ∷ []) s.node r (site_is (λ (x : Site). IfItRuns x.host (x.host ∷ []) x.node) w.sites k s a.nodes found) q in
           let P : ℕ → Type 0 = λ n. HasEnds n (n ∷ []) r in
           let here : HasEnds k (k ∷ []) r = subst P number node in
-          let halves : ℕ → Half = λ j. half_in (exchanged s.link) comes in
+          let halves : ℕ → NumberedEnd = λ j. half_in (exchanged s.link) comes in
           let kept : Keeps k (k ∷ []) v = keeps _ (record { number = here.number; ends = ends_same halves r.desks ∙ here.ends }) in
           let R : ℕ → Type 0 = λ n. IfItRuns n (n ∷ []) (runs_on v) in
           let T : List Entry → Type 0 = λ z. TellOf k s.link (AtHost (Step comes (turns_at v s.host) (ending_of v))) z in

@@ -10,7 +10,7 @@ use Rattle.shdlc_core.specs.declared.answers.Due.TheVariants.{Rset as Rset_due}
 use Rattle.shdlc_core.specs.Machine.{EndState, no_session, runs_timer, timed, Timed, ticked, nothing_ticked, tick_answer}
 use Rattle.shdlc_core.specs.Machine.Timed.{Runs, Over, Spent}
 use Rattle.swp_act.specs.declared.ActOut.{ActOut}
-use Rattle.swp_act.specs.Activation.{nothing}
+use Rattle.swp_act.specs.Activation.{no_act_out}
 use Rattle.link_machine.specs.Machine.{LinkEnd, is_open, in_front, whole_among, whole_acked, after_input, ended_by, act_event, act_out, gave_up_by, report}
 use Rattle.link_machine.specs.Machine.LinkInput.{Tick, Reset}
 use Rattle.link_entries.specs.Entries.{End as Side, Entry as Noted, told, if_so}
@@ -129,8 +129,8 @@ module _ (e : LinkEnd) (a : IsLasting e) where
       let tries : gave_up_by e Tick ≡ None = let on = a.active in rw on (none_given_up e.shdlc a.up) in
       ap (λ c. so c out (gave_up_by e Tick) (whole_acked (after_input e Tick) - whole_acked e)) (none_of (ended_by e Tick) a.goes_on)
       ∙ (ap (λ o. so None (act_out e.role o) (gave_up_by e Tick) (whole_acked (after_input e Tick) - whole_acked e)) event
-      ∙ (ap (λ t. so None nothing t (whole_acked (after_input e Tick) - whole_acked e)) tries
-      ∙ ap (so None nothing None) (ap (λ k. k - whole_acked e) acked_is ∙ minus_self (whole_acked e))))
+      ∙ (ap (λ t. so None no_act_out t (whole_acked (after_input e Tick) - whole_acked e)) tries
+      ∙ ap (so None no_act_out None) (ap (λ k. k - whole_acked e) acked_is ∙ minus_self (whole_acked e))))
 
   -- and of the reset behind it what is told of a reset in its place
   pub reset_told : (who : Side) (n : ℕ)

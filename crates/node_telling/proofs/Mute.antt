@@ -23,8 +23,8 @@ use Rattle.gate_admin.specs.declared.decision.Decision.{Decision}
 use Rattle.gate_admin.specs.declared.decision.Decision.TheVariants.{Answer, Commit, Ask}
 use Rattle.gate_admin.specs.View.{has, hosts_where}
 use Rattle.gate_admin.specs.Decide.{decided}
-use Rattle.gate_link.specs.Link.{served as link_served}
-use Rattle.gate_identity.specs.Identity.{served as identity_served}
+use Rattle.gate_link.specs.Link.{link_served}
+use Rattle.gate_identity.specs.Identity.{identity_served}
 use Rattle.gate_loopback.specs.Loopback.{posts_back}
 use Rattle.history.specs.Filters.{said}
 use Rattle.link_machine.specs.Machine.{Message, LinkInput, report}

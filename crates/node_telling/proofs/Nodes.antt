@@ -8,7 +8,7 @@ use Rattle.trace_model.specs.declared.entry.Entry.{Entry}
 use Rattle.link_entries.proofs.Lasting.{same_number}
 use Rattle.link_machine.specs.Machine.{LinkInput}
 use Rattle.link_machine.specs.Machine.Role.{Bare}
-use Rattle.message_link.specs.Links.{Half, Comes, new_link, exchanged, number_of}
+use Rattle.message_link.specs.Links.{NumberedEnd, Comes, new_link, exchanged, number_of}
 use Rattle.message_link.specs.Links.Comes.{NextFrame, AsksReset, Starts, Stops, NoInput}
 use Rattle.message_link.specs.Links.EndEvent.{Step}
 use Rattle.message_link.specs.Links.LinkEvent.{AtController, AtHost}
@@ -48,19 +48,19 @@ pub link_is : (sites : List Site) (h : ℕ) (s : Site) → site_at sites h ≡ S
 link_is sites h s q = ap (λ o. option_map_or (λ (x : Site). x.link) o (new_link Bare Bare)) q
 
 -- the ends of a node as a step begins
-abbrev pub ports_for : (ℕ → Half) → List Desk → List Port
+abbrev pub ports_for : (ℕ → NumberedEnd) → List Desk → List Port
 ports_for halves desks = map (λ (d : Desk). port_for (halves d.host) d) desks
 
-pub hosts_same : (halves : ℕ → Half) (desks : List Desk) → hosts_of_ends (ports_for halves desks) ≡ map (λ (d : Desk). d.host) desks
+pub hosts_same : (halves : ℕ → NumberedEnd) (desks : List Desk) → hosts_of_ends (ports_for halves desks) ≡ map (λ (d : Desk). d.host) desks
 hosts_same halves [] = refl
 hosts_same halves (d ∷ desks) = ap (λ xs. d.host ∷ xs) (hosts_same halves desks)
 
 -- one of them is on the link with a host
-pub record Stands (halves : ℕ → Half) (desks : List Desk) (h : ℕ) : Type 0 where
+pub record Stands (halves : ℕ → NumberedEnd) (desks : List Desk) (h : ℕ) : Type 0 where
   pub desk : Desk
   pub here : port_at (ports_for halves desks) h ≡ Some (port_for (halves h) desk)
 
-pub stands : (halves : ℕ → Half) (desks : List Desk) (sites : List Site) (h : ℕ) (s : Site) → map (λ (d : Desk). d.host) desks ≡ hosts_in sites
+pub stands : (halves : ℕ → NumberedEnd) (desks : List Desk) (sites : List Site) (h : ℕ) (s : Site) → map (λ (d : Desk). d.host) desks ≡ hosts_in sites
     → site_at sites h ≡ Some s → Stands halves desks h
 stands halves [] [] h s e q = absurd (cc q)
 stands halves (d ∷ desks) [] h s e q = absurd (cc q)
@@ -118,7 +118,7 @@ module _ (w : NodeWorld) (r : Running) (k : ℕ) (comes : Comes) (h : ℕ) (s : 
 
   opened : Opening h Controller s.link (comes_to k comes h) Start
   opened =
-      let halves : ℕ → Half = λ j. half_in (link_to w.sites j) (comes_to k comes j) in
+      let halves : ℕ → NumberedEnd = λ j. half_in (link_to w.sites j) (comes_to k comes j) in
       let one : Stands halves r.desks h = stands halves r.desks w.sites h s node.ends found in
       record {
         side = ap (λ (n : ℕ). if n == 0 then Controller else Host) node.number;
@@ -174,7 +174,7 @@ module _ (s : Site) (r : Running) (comes : Comes) (host : (s.host == 0) ≡ fals
   pub host_opened : Opening s.host Host (exchanged s.link) comes HostStart
   host_opened =
       let here : site_at (s ∷ []) s.host ≡ Some s = let same : (s.host == s.host) ≡ true = same_number s.host in rw same refl in
-      let halves : ℕ → Half = λ j. half_in (exchanged s.link) comes in
+      let halves : ℕ → NumberedEnd = λ j. half_in (exchanged s.link) comes in
       let one : Stands halves r.desks s.host = stands halves r.desks (s ∷ []) s.host s node.ends here in
       record {
         side = ap (λ (n : ℕ). if n == 0 then Controller else Host) node.number ∙ ap (λ (b : Bool). if b then Controller else Host) host;

@@ -5,7 +5,7 @@ use Rattle.std.specs.List.{AllByRecursion, flat_map}
 use Rattle.trace_model.specs.declared.entry.Entry.{Entry}
 use Rattle.trace_model.specs.declared.line.Line.{Line}
 use Rattle.journal_laws.specs.Planned.{after_planned}
-use Rattle.message_link.specs.Links.{Half, exchanged, aged, ticks_here}
+use Rattle.message_link.specs.Links.{NumberedEnd, exchanged, aged, ticks_at_controller}
 use Rattle.message_link.specs.Links.Ending.{GoesOut}
 use Rattle.link_entries.specs.Entries.End.{Controller}
 use Rattle.node_machine.specs.Parts.{Running, Work}
@@ -29,13 +29,13 @@ tick_node : (x : Site) → IfItRuns x.host (x.host ∷ []) x.node → IfItRuns x
 tick_node x a = go x.node a
   where
     by : Option Running → Site × List Entry
-    by None = (record x { link = exchanged (ticks_here (exchanged x.link) [] GoesOut) }, [])
+    by None = (record x { link = exchanged (ticks_at_controller (exchanged x.link) [] GoesOut) }, [])
     by (Some n) = after_tick x (host_tick x n)
 
     go : (o : Option Running) → IfItRuns x.host (x.host ∷ []) o → IfItRuns x.host (x.host ∷ []) (by o).0.node
     go None b = a
     go (Some n) b =
-        let halves : ℕ → Half = λ j. x.link.host in
+        let halves : ℕ → NumberedEnd = λ j. x.link.host in
         let first : Keeps x.host (x.host ∷ []) (work_of n x.memory.plan halves []) = record {
           number = b.number;
           ends = hosts_same halves n.desks ∙ b.ends;
@@ -83,16 +83,16 @@ ticks_orderly w a =
       k.entries ++ flat_map (λ (s : Site). frames_noted Controller s.host s.link k) old.sites,
     )
 
-    halves : ℕ → Half
+    halves : ℕ → NumberedEnd
     halves j = (link_to old.sites j).controller
 
     by : Option Running → NodeWorld × List Entry
-    by None = (record old { sites = map (λ (s : Site). record s { link = ticks_here s.link [] GoesOut }) old.sites }, [])
+    by None = (record old { sites = map (λ (s : Site). record s { link = ticks_at_controller s.link [] GoesOut }) old.sites }, [])
     by (Some r) = after_work (steps TimePasses (work_of r old.memory.plan halves []))
 
     go : (o : Option Running) → IfItRuns 0 (hosts_in old.sites) o → IsOrderly (by o).0
     go None n =
-        orderly_map old old.memory old.controller (λ (s : Site). record s { link = ticks_here s.link [] GoesOut }) (λ x. refl) old_orderly
+        orderly_map old old.memory old.controller (λ (s : Site). record s { link = ticks_at_controller s.link [] GoesOut }) (λ x. refl) old_orderly
         old_orderly.controller (λ x m. m)
     go (Some r) n =
         let begun : Work = work_of r old.memory.plan halves [] in

@@ -5,7 +5,7 @@ use Rattle.swp_base.specs.declared.control_frames.Control.{Control}
 use Rattle.session_laws.specs.Sessions.{OnWire, is_rset, is_up, took_with}
 use Rattle.link_machine.specs.Machine.{LinkEnd, LinkInput, Turn, turned, after_input, ended_by, frames_out}
 use Rattle.link_machine.specs.Machine.LinkInput.{Take, Tick, Reset, Start, Stop}
-use Rattle.message_link.specs.Links.{Half, Link, Ending, Comes, Node, number_of, put, with_ended, silent}
+use Rattle.message_link.specs.Links.{NumberedEnd, Link, Ending, Comes, Node, number_of, put, with_ended, silent}
 use Rattle.message_link.specs.Links.Ending.{GoesOut, CutOff}
 use Rattle.message_link.specs.Links.Comes.{NextFrame, AsksReset, Starts, Stops, NoInput}
 use Rattle.link_entries.specs.Entries.{End as Side, Entry as Noted, far, told_of, turn_entries, pushed_out, wire_with, put_entries, puts_entries, ending_entries, rest_entries, left_after, step_entries, tick_entries}
@@ -72,7 +72,7 @@ after_coming e None = e
 after_coming e (Some i) = after_input e i
 
 -- what is told of that
-abbrev pub told_coming : Side → Half → Option LinkInput → List Noted
+abbrev pub told_coming : Side → NumberedEnd → Option LinkInput → List Noted
 told_coming who h None = []
 told_coming who h (Some i) = told_of who h i
 

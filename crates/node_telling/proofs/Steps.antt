@@ -6,7 +6,7 @@ use Rattle.std.proofs.lemmas.Bool.{eqb-true}
 use Rattle.std.proofs.lemmas.List.Concat.{flat_map-append}
 use Rattle.trace_model.specs.declared.entry.Entry.{Entry}
 use Rattle.link_machine.specs.Machine.{LinkEnd, LinkInput, Turn, turned, after_input, report, whole_acked}
-use Rattle.message_link.specs.Links.{Link, Half, Comes, number_of}
+use Rattle.message_link.specs.Links.{Link, NumberedEnd, Comes, number_of}
 use Rattle.link_entries.specs.Entries.{End as Side, Entry as Noted, told, turn_entries, ending_entries, step_entries}
 use Rattle.history.specs.Steps.{entry_of, entries_for}
 use Rattle.node_machine.specs.Parts.{Core, Port, Work, Deed}
@@ -132,7 +132,7 @@ pub record Opening (h : ℕ) (who : Side) (l : Link) (comes : Comes) (w : Work) 
   pub different : AreDifferent (hosts_of_ends w.ports)
 
 module _ (h : ℕ) (who : Side) (l : Link) (comes : Comes) (o : Option LinkInput) where
-  half : Half
+  half : NumberedEnd
   half = half_in l comes
 
   abbrev pub before : List Entry

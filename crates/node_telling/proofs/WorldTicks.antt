@@ -11,7 +11,7 @@ use Rattle.journal_laws.specs.Planned.{after_planned}
 use Rattle.link_machine.specs.Machine.{LinkEnd, LinkInput, Turn, new_link_end, turned, after_input, ended_by, report, whole_acked, frames_out}
 use Rattle.link_machine.specs.Machine.LinkInput.{Tick, Reset}
 use Rattle.link_machine.specs.Machine.Role.{Clf, Uicc}
-use Rattle.message_link.specs.Links.{Half, Link, Ending, Node, LinkEvent, exchanged, aged, has_input, with_ended, steps_here, ticks_here, happens, number_of}
+use Rattle.message_link.specs.Links.{NumberedEnd, Link, Ending, Node, LinkEvent, exchanged, aged, has_input, with_ended, steps_at_controller, ticks_at_controller, happens, number_of}
 use Rattle.message_link.specs.Links.Ending.{GoesOut}
 use Rattle.message_link.specs.Links.Comes.{AsksReset, NoInput}
 use Rattle.message_link.specs.Links.EndEvent.{Step}
@@ -37,7 +37,7 @@ use Rattle.node_telling.proofs.Worlds.{site_is}
 use Rattle.node_telling.proofs.Events.{tells_one, site_map, orderly_map}
 use Rattle.node_telling.proofs.Ticks.{older, not_late, late_parts, IfLate, Ticked, ticked, away_tick}
 
-young_ports : (halves : ℕ → Half) (desks : List Desk) (h : ℕ) (p : Port) → AllByRecursion (λ (d : Desk). is_due d ≡ false) desks
+young_ports : (halves : ℕ → NumberedEnd) (desks : List Desk) (h : ℕ) (p : Port) → AllByRecursion (λ (d : Desk). is_due d ≡ false) desks
     → port_at (ports_for halves desks) h ≡ Some p → is_due p.desk ≡ false
 young_ports halves [] h p a q = absurd (cc q)
 young_ports halves (d ∷ desks) h p a q = go (d.host == h) refl (young_ports halves desks h p a.1)
@@ -50,7 +50,7 @@ young_ports halves (d ∷ desks) h p a q = go (d.host == h) refl (young_ports ha
     go false e later = later (rw e at q)
 
 -- the desk of an end
-desk_found : (halves : ℕ → Half) (desks : List Desk) (h : ℕ) (p : Port) → port_at (ports_for halves desks) h ≡ Some p
+desk_found : (halves : ℕ → NumberedEnd) (desks : List Desk) (h : ℕ) (p : Port) → port_at (ports_for halves desks) h ≡ Some p
     → find (λ d. d.host == h) desks ≡ Some p.desk
 desk_found halves [] h p q = absurd (cc q)
 desk_found halves (d ∷ desks) h p q = go (d.host == h) refl (desk_found halves desks h p)
@@ -77,7 +77,7 @@ host_tick x n = steps TimePasses (work_of n x.memory.plan (λ j. x.link.host) []
 abbrev pub after_tick : Site → Work → Site × List Entry
 after_tick x k = (
   record x {
-    link = exchanged (ticks_here (exchanged x.link) (turns_at k x.host) (ending_of k));
+    link = exchanged (ticks_at_controller (exchanged x.link) (turns_at k x.host) (ending_of k));
     memory = after_planned k.writes x.memory;
     node = runs_on k;
   },
@@ -91,7 +91,7 @@ pub tick_host : (x : Site) → (host_ticks x).0.host ≡ x.host
 tick_host x = go x.node
   where
     by : Option Running → Site × List Entry
-    by None = (record x { link = exchanged (ticks_here (exchanged x.link) [] GoesOut) }, [])
+    by None = (record x { link = exchanged (ticks_at_controller (exchanged x.link) [] GoesOut) }, [])
     by (Some n) = after_tick x (host_tick x n)
 
     go : (o : Option Running) → (by o).0.host ≡ x.host
@@ -103,7 +103,7 @@ module _ (h : ℕ) where
   other_host x host a q = go x.node a
     where
       by : Option Running → Site × List Entry
-      by None = (record x { link = exchanged (ticks_here (exchanged x.link) [] GoesOut) }, [])
+      by None = (record x { link = exchanged (ticks_at_controller (exchanged x.link) [] GoesOut) }, [])
       by (Some n) = after_tick x (host_tick x n)
 
       go : (o : Option Running) → IfItRuns x.host (x.host ∷ []) o → of_link h (by o).1 ≡ []
@@ -187,7 +187,7 @@ still_far who l q =
 pub record Far (x : Site) : Type 0 where
   pub had : Node
   pub turns : had.turns ≡ host_turns x x.node
-  pub is : (host_ticks x).0.link ≡ exchanged (ticks_here (exchanged x.link) had.turns had.ending)
+  pub is : (host_ticks x).0.link ≡ exchanged (ticks_at_controller (exchanged x.link) had.turns had.ending)
   pub told : of_link x.host (host_ticks x).1 ≡ of_link x.host (entries_for x.host (tick_entries Host (exchanged x.link) had))
 
 -- what a host that runs notes of its own link
@@ -207,7 +207,7 @@ far : (x : Site) → (x.host == 0) ≡ false → IfItRuns x.host (x.host ∷ [])
     → NoneDue x.node → Far x
 far x host node off young = go x.node refl node off young
   where
-    none_is : x.node ≡ None → host_ticks x ≡ (record x { link = exchanged (ticks_here (exchanged x.link) [] GoesOut) }, [])
+    none_is : x.node ≡ None → host_ticks x ≡ (record x { link = exchanged (ticks_at_controller (exchanged x.link) [] GoesOut) }, [])
     none_is q = rw q refl
 
     go : (o : Option Running) → x.node ≡ o → IfItRuns x.host (x.host ∷ []) o → IfOff o (new_link_end (Uicc new_uicc)) x.link.host.side → NoneDue o → Far x
@@ -229,8 +229,8 @@ far x host node off young = go x.node refl node off young
 
 -- a link after the tick of the controller's end, or its reset in place of it
 abbrev pub between : Bool → Link → Node → Link
-between true l c = steps_here l (AsksReset None) c.turns c.ending
-between false l c = ticks_here l c.turns c.ending
+between true l c = steps_at_controller l (AsksReset None) c.turns c.ending
+between false l c = ticks_at_controller l c.turns c.ending
 
 abbrev pub near_notes : Bool → Link → Node → List Noted
 near_notes true l c = step_entries Controller l (AsksReset None) c.turns c.ending ++ []
@@ -267,7 +267,7 @@ module _ (w : NodeWorld) (h : ℕ) (s : Site) (orderly : IsOrderly w) (found : s
 
     opened : Opening h Controller s.link NoInput Begun
     opened =
-        let ends : ℕ → Half = λ j. (link_to w.sites j).controller in
+        let ends : ℕ → NumberedEnd = λ j. (link_to w.sites j).controller in
         let one : Stands ends r.desks h = stands ends r.desks w.sites h s node.ends found in
         record {
           side = ap (λ (n : ℕ). if n == 0 then Controller else Host) node.number;
@@ -356,7 +356,7 @@ module _ (w : NodeWorld) (h : ℕ) (s : Site) (orderly : IsOrderly w) (found : s
   near off due = go w.controller refl orderly.controller off due
     where
       f : Site → Site
-      f x = record x { link = ticks_here x.link [] GoesOut }
+      f x = record x { link = ticks_at_controller x.link [] GoesOut }
 
       none_is : w.controller ≡ None → controller_ticks w ≡ (record w { sites = map f w.sites }, [])
       none_is q = rw q refl
@@ -383,7 +383,7 @@ near_orderly w a = go w.controller refl
         record x { link = ticked_so x.link (is_late_at (near_tick w r) x.host) (turns_at (near_tick w r) x.host) (ending_of (near_tick w r)) }
 
     go : (o : Option Running) → w.controller ≡ o → IsOrderly (record { memory = w.memory; controller = None; sites = (controller_ticks w).0.sites })
-    go None q = rw q (orderly_map w w.memory None (λ (x : Site). record x { link = ticks_here x.link [] GoesOut }) (λ x. refl) a tt (λ x n. n))
+    go None q = rw q (orderly_map w w.memory None (λ (x : Site). record x { link = ticks_at_controller x.link [] GoesOut }) (λ x. refl) a tt (λ x n. n))
     go (Some r) q = rw q (orderly_map w w.memory None (so r) (λ x. refl) a tt (λ x n. n))
 
 -- an input to the controller's end leaves the other one
@@ -393,8 +393,8 @@ host_left l i ts ending =
     ∙ host_ended l (is_some (ended_by l.controller.side i))
 
 pub between_far : (b : Bool) (l : Link) (c : Node) → (between b l c).host.side ≡ l.host.side
-between_far true l c = ap (λ (z : Half). z.side) (host_left l (Reset None) c.turns c.ending)
-between_far false l c = ap (λ (z : Half). z.side) (host_left l Tick c.turns c.ending)
+between_far true l c = ap (λ (z : NumberedEnd). z.side) (host_left l (Reset None) c.turns c.ending)
+between_far false l c = ap (λ (z : NumberedEnd). z.side) (host_left l Tick c.turns c.ending)
 
 -- ## A tick of the world
 
@@ -493,7 +493,7 @@ module _ (w : NodeWorld) (h : ℕ) (s : Site) (orderly : IsOrderly w) (found : s
       (near_notes false (aged l) c ++ tick_entries Host (exchanged (between false (aged l) c)) n))
 
   happens_is : (b : Bool) (l : Link) (c n : Node)
-      → happens l (tick_event b c n) ≡ exchanged (ticks_here (exchanged (between b (aged l) c)) n.turns n.ending)
+      → happens l (tick_event b c n) ≡ exchanged (ticks_at_controller (exchanged (between b (aged l) c)) n.turns n.ending)
   happens_is true l c n = refl
   happens_is false l c n = refl
 

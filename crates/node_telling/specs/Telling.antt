@@ -10,7 +10,7 @@ use Rattle.swp_act.specs.Activation.{new_clf, new_uicc}
 use Rattle.shdlc_core.specs.declared.answers.LinkState.TheVariants.{Up}
 use Rattle.link_machine.specs.Machine.{LinkEnd, is_open, new_link_end}
 use Rattle.link_machine.specs.Machine.Role.{Clf, Uicc}
-use Rattle.message_link.specs.Links.{Link, LinkEvent, after}
+use Rattle.message_link.specs.Links.{Link, LinkEvent, after_link_events}
 use Rattle.link_entries.specs.Entries.{event_entries, entries}
 use Rattle.history.specs.Filters.{Saying, said}
 use Rattle.history.specs.Steps.{entries_for}
@@ -56,7 +56,7 @@ pub record IsOrderly (w : NodeWorld) : Type 0 where
 -- a link becomes another one by events of the law of one link, and what these entries tell of it is what that law notes of them
 pub record Tells (h : ℕ) (l m : Link) (t : List Entry) : Type 0 where
   pub events : List LinkEvent
-  pub is : after l events ≡ m
+  pub is : after_link_events l events ≡ m
   pub told : of_link h t ≡ of_link h (entries_for h (entries l events))
 
 -- so it is with the link of this host as a world becomes another one

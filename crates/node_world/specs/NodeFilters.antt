@@ -11,7 +11,7 @@ use Rattle.hcp_packet.specs.declared.MessageKind.TheVariants.{Response as IsResp
 use Rattle.hcp_packet.specs.declared.MessageFault.{MessageFault}
 use Rattle.hcp_packet.specs.MessageHeader.{header_of}
 use Rattle.hci_tables.specs.declared.command.Command.{Command}
-use Rattle.hci_tables.specs.Tables.{HciTables, no_tables, apply, after, close}
+use Rattle.hci_tables.specs.Tables.{HciTables, no_tables, apply, after_commands, close}
 use Rattle.gate_answers.specs.Answers.{instruction_in}
 use Rattle.gate_admin.specs.Decide.{is_opened}
 use Rattle.link_machine.specs.Machine.{Message, need_of_all}
@@ -36,7 +36,7 @@ with_command c b = record { commands = b.commands ++ c ∷ []; tables = apply b.
 
 -- so many commands were found at a boot: the tables are those that they make, all pipes closed
 abbrev pub with_found : ℕ → Book → Book
-with_found k b = record { commands = take k b.commands; tables = close (after no_tables (take k b.commands)) }
+with_found k b = record { commands = take k b.commands; tables = close (after_commands no_tables (take k b.commands)) }
 
 -- what is read of this node after an entry
 abbrev pub book_after : ℕ → Book → Entry → Book
@@ -87,12 +87,12 @@ order_in t h = fold (awaited_after is_command_message (end_h h) h) None t
 
 -- An end is up: its session began, and neither it nor the power of its node has ended.
 abbrev pub session_now : List Entry → End → ℕ → Option ℕ
-session_now t e node = fold after None t where
-  after : Option ℕ → Entry → Option ℕ
-  after s (entry.Up f n) = if same_end f e then Some n else s
-  after s (entry.Down f cause) = if same_end f e then None else s
-  after s (entry.Cut n) = if n == node then None else s
-  after s _ = s
+session_now t e node = fold after_commands None t where
+  after_commands : Option ℕ → Entry → Option ℕ
+  after_commands s (entry.Up f n) = if same_end f e then Some n else s
+  after_commands s (entry.Down f cause) = if same_end f e then None else s
+  after_commands s (entry.Cut n) = if n == node then None else s
+  after_commands s _ = s
 
 -- a host is connected: its link is up, and its pipe 01 is opened
 abbrev pub is_connected_in : List Entry → ℕ → Bool

@@ -63,8 +63,8 @@ abbrev pub AreFound : List Entry → Type 0
 AreFound t = (front back : List Entry) (n k : ℕ) → t ≡ front ++ (entry.Booted n k ∷ back) → FindsCommands front n k
 
 -- ANY_OK was sent for the last command of a node
-abbrev pub AreCounted : List Entry → Type 0
-AreCounted t = (front back : List Entry) (n k : ℕ) → t ≡ front ++ (entry.AnyOk n k ∷ back) → k ≡ length (commands_in front n)
+abbrev pub AreAllAnswered : List Entry → Type 0
+AreAllAnswered t = (front back : List Entry) (n k : ℕ) → t ≡ front ++ (entry.AnyOk n k ∷ back) → k ≡ length (commands_in front n)
 
 -- no boot behind an answer finds fewer commands than were answered
 abbrev pub AreAnswered : List Entry → Type 0
@@ -82,7 +82,7 @@ AreTold h =
 -- Commands are kept over power cuts.
 pub record Kept (h : NodeHistory) : Type 0 where
   pub found : AreFound (node_entries h)
-  pub counted : AreCounted (node_entries h)
+  pub counted : AreAllAnswered (node_entries h)
   pub answered : AreAnswered (node_entries h)
   pub told : AreTold h
 

@@ -16,7 +16,7 @@ use Rattle.journal_laws.specs.Planned.{fails_within, after_planned}
 use Rattle.link_machine.specs.Machine.{Message, LinkInput, Turn}
 use Rattle.link_machine.specs.Machine.LinkInput.{Take, Reset, Start, Stop}
 use Rattle.link_machine.specs.Machine.Role.{Bare, Clf, Uicc}
-use Rattle.message_link.specs.Links.{Half, Link, Ending, Comes, Loss, new_link, number_of, exchanged, aged, has_input, ticks_here, happens}
+use Rattle.message_link.specs.Links.{NumberedEnd, Link, Ending, Comes, Loss, new_link, number_of, exchanged, aged, has_input, ticks_at_controller, happens}
 use Rattle.message_link.specs.Links.Ending.{GoesOut, CutOff}
 use Rattle.message_link.specs.Links.Comes.{NextFrame, AsksReset, Starts, Stops, NoInput}
 use Rattle.message_link.specs.Links.Loss.{Broken}
@@ -139,9 +139,9 @@ input_of l Stops = Some Stop
 input_of l NoInput = None
 
 -- the near end of a link, as it has heard of the number of an RSET that comes
-abbrev pub half_in : Link → Comes → Half
+abbrev pub half_in : Link → Comes → NumberedEnd
 half_in l NextFrame = first l.to_controller where
-  first : List OnWire → Half
+  first : List OnWire → NumberedEnd
   first [] = l.controller
   first (x ∷ xs) = record l.controller { took = took_with l.controller.took x }
 half_in l _ = l.controller
@@ -161,11 +161,11 @@ wires_for l Stops = record l { to_controller = []; to_host = [] }
 wires_for l _ = l
 
 -- an end as its node sees it
-abbrev pub port_for : Half → Desk → Port
+abbrev pub port_for : NumberedEnd → Desk → Port
 port_for half d = record { desk = d; side = half.side; session = number_of half; late = false; ended = false; turns = [] }
 
 -- a node as a step of it begins, with its ends
-abbrev pub work_of : Running → Option Plan → (ℕ → Half) → List Entry → Work
+abbrev pub work_of : Running → Option Plan → (ℕ → NumberedEnd) → List Entry → Work
 work_of r plan halves entries = record {
   core = r.core;
   ports = map (λ (d : Desk). port_for (halves d.host) d) r.desks;
@@ -353,7 +353,7 @@ is_late_at k h = option_map_or (λ (p : Port). p.late) (port_at k.ports h) false
 -- already; while a notice isn't answered its end is up.
 abbrev pub ticked_so : Link → Bool → List Turn → Ending → Link
 ticked_so l late turns ending =
-    if late && not (is_waiting l.controller.side.shdlc) then has_input l (Reset None) turns ending else ticks_here l turns ending
+    if late && not (is_waiting l.controller.side.shdlc) then has_input l (Reset None) turns ending else ticks_at_controller l turns ending
 
 -- the tick of the controller; where it doesn't run its ends are new
 abbrev pub controller_ticks : NodeWorld → NodeWorld × List Entry
@@ -369,7 +369,7 @@ controller_ticks w = by_node w.controller where
   )
 
   by_node : Option Running → NodeWorld × List Entry
-  by_node None = (record w { sites = map (λ (s : Site). record s { link = ticks_here s.link [] GoesOut }) w.sites }, [])
+  by_node None = (record w { sites = map (λ (s : Site). record s { link = ticks_at_controller s.link [] GoesOut }) w.sites }, [])
   by_node (Some r) = after_work (steps TimePasses (work_of r w.memory.plan (λ h. (link_to w.sites h).controller) []))
 
 -- the tick of a host
@@ -378,7 +378,7 @@ host_ticks s = by_node s.node where
   after_work : Work → Site × List Entry
   after_work k = (
     record s {
-      link = exchanged (ticks_here (exchanged s.link) (turns_at k s.host) (ending_of k));
+      link = exchanged (ticks_at_controller (exchanged s.link) (turns_at k s.host) (ending_of k));
       memory = after_planned k.writes s.memory;
       node = runs_on k;
     },
@@ -386,7 +386,7 @@ host_ticks s = by_node s.node where
   )
 
   by_node : Option Running → Site × List Entry
-  by_node None = (record s { link = exchanged (ticks_here (exchanged s.link) [] GoesOut) }, [])
+  by_node None = (record s { link = exchanged (ticks_at_controller (exchanged s.link) [] GoesOut) }, [])
   by_node (Some r) = after_work (steps TimePasses (work_of r s.memory.plan (λ h. s.link.host) []))
 
 -- the ticks of hosts, one after another

@@ -22,8 +22,8 @@ use Rattle.gate_admin.specs.declared.decision.Decision.TheVariants.{Answer, Comm
 use Rattle.gate_admin.specs.View.{has, hosts_where, mask_of, is_connected, is_noticed}
 use Rattle.gate_admin.specs.Decide.{ends_of, tests_to_set_it, commits, commits_and_tells, unless_refused, far_end_of, dest_in, opening, closing, setting, getting, creation, creating, deleting, clearing, shares, carried_out, decided, is_opened, created, told_of_deletion, told_of_clearing, tests_to_create, tests_to_open, tests_to_delete, tests_to_clear, tests_of_pipe}
 use Rattle.gate_admin.proofs.CreationLemmas.{AllFalse, all_false}
-use Rattle.gate_link.specs.Link.{served as link_served}
-use Rattle.gate_identity.specs.Identity.{served as identity_served}
+use Rattle.gate_link.specs.Link.{link_served}
+use Rattle.gate_identity.specs.Identity.{identity_served}
 use Rattle.link_machine.specs.Machine.{Message}
 use Rattle.node_machine.specs.Parts.{Creation, Notice, Core, Port, Deed}
 use Rattle.node_machine.specs.Parts.Deed.{Sends, Tells, Drops}

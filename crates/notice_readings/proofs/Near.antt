@@ -13,7 +13,7 @@ use Rattle.session_laws.specs.Sessions.{is_up}
 use Rattle.shdlc_core.specs.Machine.{is_waiting}
 use Rattle.link_machine.specs.Machine.{LinkEnd, LinkInput, Turn}
 use Rattle.link_machine.specs.Machine.LinkInput.{Reset}
-use Rattle.message_link.specs.Links.{Link, Half, Comes, Ending, aged, ticks_here, has_input}
+use Rattle.message_link.specs.Links.{Link, NumberedEnd, Comes, Ending, aged, ticks_at_controller, has_input}
 use Rattle.message_link.specs.Links.Ending.{GoesOut}
 use Rattle.message_link.specs.Links.Comes.{AsksReset, Starts}
 use Rattle.message_link.specs.Links.EndEvent.{Step}
@@ -48,28 +48,28 @@ use Rattle.notice_readings.specs.Worlds.{ControllerReads, IfReads, IsRightNotice
 
 -- ## Ends as a step begins
 
-abbrev ports_of : (ℕ → Half) → List Desk → List Port
+abbrev ports_of : (ℕ → NumberedEnd) → List Desk → List Port
 ports_of halves desks = map (λ (d : Desk). port_for (halves d.host) d) desks
 
-hosts_of_ports : (halves : ℕ → Half) (desks : List Desk)
+hosts_of_ports : (halves : ℕ → NumberedEnd) (desks : List Desk)
     → map (λ (p : Port). p.desk.host) (ports_of halves desks) ≡ map (λ (d : Desk). d.host) desks
 hosts_of_ports halves [] = refl
 hosts_of_ports halves (d ∷ desks) = ap (λ l. d.host ∷ l) (hosts_of_ports halves desks)
 
-all_ports : (P : Port → Type 0) (halves : ℕ → Half) → ((d : Desk) → P (port_for (halves d.host) d)) → (desks : List Desk)
+all_ports : (P : Port → Type 0) (halves : ℕ → NumberedEnd) → ((d : Desk) → P (port_for (halves d.host) d)) → (desks : List Desk)
     → AllByRecursion P (ports_of halves desks)
 all_ports P halves one [] = tt
 all_ports P halves one (d ∷ desks) = (one d, all_ports P halves one desks)
 
-right_ports : (halves : ℕ → Half) (desks : List Desk) → AllByRecursion (λ (d : Desk). IsRightNotice d.notice) desks → AreRight (ports_of halves desks)
+right_ports : (halves : ℕ → NumberedEnd) (desks : List Desk) → AllByRecursion (λ (d : Desk). IsRightNotice d.notice) desks → AreRight (ports_of halves desks)
 right_ports halves [] a = tt
 right_ports halves (d ∷ desks) a = (a.0, right_ports halves desks a.1)
 
-host_ports : (halves : ℕ → Half) (desks : List Desk) → AllByRecursion IsHost (map (λ (d : Desk). d.host) desks) → AreHostEnds (ports_of halves desks)
+host_ports : (halves : ℕ → NumberedEnd) (desks : List Desk) → AllByRecursion IsHost (map (λ (d : Desk). d.host) desks) → AreHostEnds (ports_of halves desks)
 host_ports halves [] a = tt
 host_ports halves (d ∷ desks) a = (a.0, host_ports halves desks a.1)
 
-noticed_ports : (halves : ℕ → Half) (desks : List Desk) (x : ℕ) → noticed (ports_of halves desks) x ≡ notice_at desks x
+noticed_ports : (halves : ℕ → NumberedEnd) (desks : List Desk) (x : ℕ) → noticed (ports_of halves desks) x ≡ notice_at desks x
 noticed_ports halves [] x = refl
 noticed_ports halves (d ∷ desks) x = go (cases_Bool (eqb d.host x)) (noticed_ports halves desks x) where
   go : (eqb d.host x ≡ true) ⊎ (eqb d.host x ≡ false) → noticed (ports_of halves desks) x ≡ notice_at desks x
@@ -77,7 +77,7 @@ noticed_ports halves (d ∷ desks) x = go (cases_Bool (eqb d.host x)) (noticed_p
   go (inl is) later = rw is refl
   go (inr off) later = rw off later
 
-up_ports : (g h : ℕ → Half) → ((n : ℕ) → (h n).side ≡ (g n).side) → (desks : List Desk) (x : ℕ) → OnFirst IsNoticedUp (port_at (ports_of g desks) x)
+up_ports : (g h : ℕ → NumberedEnd) → ((n : ℕ) → (h n).side ≡ (g n).side) → (desks : List Desk) (x : ℕ) → OnFirst IsNoticedUp (port_at (ports_of g desks) x)
     → UpAt (port_at (ports_of h desks) x)
 up_ports g h same [] x a = tt
 up_ports g h same (d ∷ desks) x a = go (cases_Bool (eqb d.host x)) (up_ports g h same desks x) where
@@ -111,7 +111,7 @@ right_desks (p ∷ ports) a = (a.0, right_desks ports a.1)
 -- ## A step
 
 module _ (t : List Entry) (w : NodeWorld) (r : Running) (has : HasEnds 0 (hosts_in w.sites) r) (different : AreDifferent (hosts_in w.sites))
-    (ups : IfNoticedUp w.sites (Some r)) (sites : AreGood w.sites) (old : ControllerReads t r) (plan : Option Plan) (halves : ℕ → Half)
+    (ups : IfNoticedUp w.sites (Some r)) (sites : AreGood w.sites) (old : ControllerReads t r) (plan : Option Plan) (halves : ℕ → NumberedEnd)
     (same : (n : ℕ) → (halves n).side ≡ (link_to w.sites n).controller.side) (es : List Entry) (quiet : AreFar es) (input : NodeInput)
     (outside : IsOutside input) where
   abbrev begun : Work
@@ -264,7 +264,7 @@ module _ (t : List Entry) (w : NodeWorld) (orderly : IsOrderly w) (ups : Notices
   ticked_shut : (l : Link) (late : Bool) (ts : List Turn) (ending : Ending) → IsShut l.controller.side
       → IsShut (ticked_so l late ts ending).controller.side
   ticked_shut l late ts ending b =
-      cond_both (late && not (is_waiting l.controller.side.shdlc)) (has_input l (Reset None) ts ending) (ticks_here l ts ending)
+      cond_both (late && not (is_waiting l.controller.side.shdlc)) (has_input l (Reset None) ts ending) (ticks_at_controller l ts ending)
       (λ (m : Link). IsShut m.controller.side) (λ _. here_shut l (Step (AsksReset None) ts ending) b) (λ _. ticks_shut l ts ending b)
 
   near_ticks : Reads (t ++ ((all_aged w).1 ++ (controller_ticks (all_aged w).0).1)) (controller_ticks (all_aged w).0).0
@@ -279,7 +279,7 @@ module _ (t : List Entry) (w : NodeWorld) (orderly : IsOrderly w) (ups : Notices
     Fine p = Reads (t ++ (es ++ p.1)) p.0
 
     alone : Site → Site
-    alone s = record s { link = ticks_here s.link [] GoesOut }
+    alone s = record s { link = ticks_at_controller s.link [] GoesOut }
 
     off_of : (v : NodeWorld) → v.controller ≡ None → controller_ticks v ≡ (record v { sites = map alone v.sites }, [])
     off_of v e = rw e refl

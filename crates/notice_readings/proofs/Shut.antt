@@ -14,7 +14,7 @@ use Rattle.session_laws.proofs.Ties.{fetched-phase}
 use Rattle.link_machine.specs.Machine.{LinkEnd, LinkInput, ActDue, Role, Turn, Refused, is_faulty, is_open, act_answer, role_after, with_act, moved, put_down, activated, heard, had_tick, took, reset_refusal, renewed, new_link_end, sent_all, frame_fetched, after_input, turn, turned}
 use Rattle.link_machine.specs.Machine.LinkInput.{Take, TakeUnknown, TakeBroken, Tick, Reset, Start, Stop, FromNode, Fetch}
 use Rattle.link_machine.specs.Machine.Role.{Bare, Clf, Uicc}
-use Rattle.message_link.specs.Links.{Link, Ending, EndEvent, happens_here, ticks_here}
+use Rattle.message_link.specs.Links.{Link, Ending, EndEvent, happens_at_controller, ticks_at_controller}
 use Rattle.message_link.proofs.Project.{moved_role, turned_role}
 use Rattle.message_link.proofs.Steps.{activated_role, role_closes}
 use Rattle.message_link.proofs.Finishing.{tick_role}
@@ -148,8 +148,8 @@ new_shut (Uicc s) q = refl
 
 -- ## Links
 
-pub here_shut : (l : Link) (x : EndEvent) → IsShut l.controller.side → IsShut (happens_here l x).controller.side
+pub here_shut : (l : Link) (x : EndEvent) → IsShut l.controller.side → IsShut (happens_at_controller l x).controller.side
 here_shut l x a = here_is IsShut input_shut turns_shut sent_shut (λ e b. new_shut e.role) l x a
 
-pub ticks_shut : (l : Link) (ts : List Turn) (ending : Ending) → IsShut l.controller.side → IsShut (ticks_here l ts ending).controller.side
+pub ticks_shut : (l : Link) (ts : List Turn) (ending : Ending) → IsShut l.controller.side → IsShut (ticks_at_controller l ts ending).controller.side
 ticks_shut l ts ending a = tick_is IsShut input_shut turns_shut sent_shut (λ e b. new_shut e.role) l ts ending a

@@ -9,7 +9,7 @@ use Rattle.trace_model.specs.declared.line.End.{End}
 use Rattle.session_laws.specs.Sessions.{OnWire}
 use Rattle.link_machine.specs.Machine.{Message, LinkEnd, LinkInput, new_link_end}
 use Rattle.link_machine.specs.Machine.Role.{Bare}
-use Rattle.message_link.specs.Links.{Link, Half, Comes, Ending, EndEvent, exchanged, happens, ticks_here}
+use Rattle.message_link.specs.Links.{Link, NumberedEnd, Comes, Ending, EndEvent, exchanged, happens, ticks_at_controller}
 use Rattle.message_link.specs.Links.Ending.{GoesOut}
 use Rattle.message_link.specs.Links.Comes.{NextFrame, AsksReset, Starts, Stops, NoInput}
 use Rattle.message_link.specs.Links.EndEvent.{Step}
@@ -90,11 +90,11 @@ link_shut sites n a = go (site_at sites n) refl where
 
 -- what happens at the host's end leaves the controller's
 pub far_shut : (l : Link) (x : EndEvent) → IsShut l.controller.side → IsShut (happens l (AtHost x)).controller.side
-far_shut l x a = subst (λ (h : Half). IsShut h.side) (sym (here_host (exchanged l) x)) a
+far_shut l x a = subst (λ (h : NumberedEnd). IsShut h.side) (sym (here_host (exchanged l) x)) a
 
 far_tick_shut : (l : Link) (ts : List Rattle.link_machine.specs.Machine.Turn) (ending : Ending) → IsShut l.controller.side
-    → IsShut (exchanged (ticks_here (exchanged l) ts ending)).controller.side
-far_tick_shut l ts ending a = subst (λ (h : Half). IsShut h.side) (sym (tick_host (exchanged l) ts ending)) a
+    → IsShut (exchanged (ticks_at_controller (exchanged l) ts ending)).controller.side
+far_tick_shut l ts ending a = subst (λ (h : NumberedEnd). IsShut h.side) (sym (tick_host (exchanged l) ts ending)) a
 
 -- ## Notes
 
@@ -214,13 +214,13 @@ one_tick s good = by_node s.node refl good.node where
   k : Running → Work
   k r = steps TimePasses (work_of r s.memory.plan (λ h. s.link.host) [])
 
-  off_is : s.node ≡ None → host_ticks s ≡ (record s { link = exchanged (ticks_here (exchanged s.link) [] GoesOut) }, [])
+  off_is : s.node ≡ None → host_ticks s ≡ (record s { link = exchanged (ticks_at_controller (exchanged s.link) [] GoesOut) }, [])
   off_is e = rw e refl
 
   on_is : (r : Running) → s.node ≡ Some r → host_ticks s
       ≡ (
         record s {
-          link = exchanged (ticks_here (exchanged s.link) (turns_at (k r) s.host) (ending_of (k r)));
+          link = exchanged (ticks_at_controller (exchanged s.link) (turns_at (k r) s.host) (ending_of (k r)));
           memory = Rattle.journal_laws.specs.Planned.after_planned (k r).writes s.memory;
           node = runs_on (k r);
         },

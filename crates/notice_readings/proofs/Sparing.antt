@@ -6,13 +6,13 @@ use Rattle.trace_model.specs.declared.line.End.{End}
 use Rattle.shdlc_core.specs.declared.answers.LinkState.{LinkState}
 use Rattle.shdlc_core.specs.declared.answers.LinkState.TheVariants.{Up, Waiting, Down}
 use Rattle.link_machine.specs.Machine.{Message, whole_among, need_of_all, in_use, spare}
-use Rattle.message_link.specs.Links.{Half, number_of}
+use Rattle.message_link.specs.Links.{NumberedEnd, number_of}
 use Rattle.node_world.specs.World.{node_of}
 use Rattle.node_world.specs.NodeFilters.{session_now, unacknowledged_in, spare_at}
-use Rattle.link_entries.specs.Sessions.{session_now as own_session}
+use Rattle.link_entries.specs.Sessions.{number_now as own_session}
 use Rattle.notice_readings.specs.Spares.{IsEndRead}
 
-in_use_is : (t : List Entry) (e : End) (half : Half) → IsEndRead t e half
+in_use_is : (t : List Entry) (e : End) (half : NumberedEnd) → IsEndRead t e half
     → need_of_all (unacknowledged_in t e (session_now t e (node_of e))) ≡ in_use half.side
 in_use_is t e half a = ap (λ o. need_of_all (unacknowledged_in t e o)) a.session ∙ go half.side.shdlc.phase refl where
   nothing : (half.side.shdlc.phase ≡ Up → ⊥) → in_use half.side ≡ 0
@@ -29,5 +29,5 @@ in_use_is t e half a = ap (λ o. need_of_all (unacknowledged_in t e o)) a.sessio
       let is : own_session half ≡ None = rw q refl in
       ap (λ o. need_of_all (unacknowledged_in t e o)) is ∙ sym (nothing (λ up. let z : Down ≡ Up = sym q ∙ up in cc))
 
-pub spare_is : (t : List Entry) (e : End) (half : Half) → IsEndRead t e half → spare_at t e ≡ spare half.side
+pub spare_is : (t : List Entry) (e : End) (half : NumberedEnd) → IsEndRead t e half → spare_at t e ≡ spare half.side
 spare_is t e half a = ap₂ (λ n m. 128 - (n + m)) (in_use_is t e half a) a.aside

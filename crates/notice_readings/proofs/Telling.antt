@@ -20,9 +20,9 @@ use Rattle.gate_admin.specs.declared.view.LinkView.{LinkView}
 use Rattle.gate_admin.specs.declared.decision.Decision.{Decision}
 use Rattle.gate_admin.specs.declared.decision.Decision.TheVariants.{Answer, Commit, Ask}
 use Rattle.gate_admin.specs.View.{has, hosts_where}
-use Rattle.gate_admin.specs.Decide.{decided, IsRecordable}
-use Rattle.gate_link.specs.Link.{served as link_served}
-use Rattle.gate_identity.specs.Identity.{served as identity_served}
+use Rattle.gate_admin.specs.Decide.{decided, IsRecordableDecision}
+use Rattle.gate_link.specs.Link.{link_served}
+use Rattle.gate_identity.specs.Identity.{identity_served}
 use Rattle.gate_laws.specs.Rules.{IsAskedFor, AsksAsAllowed}
 use Rattle.gate_laws.proofs.Decisions.{decided_as_allowed}
 use Rattle.link_machine.specs.Machine.{Message}
@@ -208,7 +208,7 @@ module _ (x : ℕ) where
       ),
     )
 
-    decision_may : (core : Core) (v : LinkView) (pipe : ℕ) (d : Decision) → Says h d → IsRecordable d → AsksAsAllowed core.tables v h d
+    decision_may : (core : Core) (v : LinkView) (pipe : ℕ) (d : Decision) → Says h d → IsRecordableDecision d → AsksAsAllowed core.tables v h d
         → May (decision_deeds core h pipe d)
     decision_may core v pipe (Answer answer) says may allowed = answer_may IsShort h pipe answer.items says
     decision_may core v pipe (Commit c answer tell notice) says may allowed =

@@ -4,15 +4,15 @@ use Rattle.trace_model.specs.declared.entry.Entry.{Entry}
 use Rattle.trace_model.specs.declared.line.End.{End}
 use Rattle.shdlc_core.specs.declared.answers.LinkState.TheVariants.{Up}
 use Rattle.link_machine.specs.Machine.{whole_acked}
-use Rattle.message_link.specs.Links.{Half, number_of}
-use Rattle.link_entries.specs.Sessions.{session_now as own_session}
+use Rattle.message_link.specs.Links.{NumberedEnd, number_of}
+use Rattle.link_entries.specs.Sessions.{number_now as own_session}
 use Rattle.history.specs.Filters.{sent_in, acked_in}
 use Rattle.node_world.specs.World.{node_of}
 use Rattle.node_world.specs.NodeFilters.{session_now, aside_in}
 
 -- What is read of an end is what it has: its session, and in it the messages that it sent and how many of them are acknowledged whole;
 -- none in no session; and the block that is set aside.
-pub record IsEndRead (t : List Entry) (e : End) (half : Half) : Type 0 where
+pub record IsEndRead (t : List Entry) (e : End) (half : NumberedEnd) : Type 0 where
   pub session : session_now t e (node_of e) ≡ own_session half
   pub sent : half.side.shdlc.phase ≡ Up → sent_in t e (number_of half) ≡ half.side.sent
   pub acked : half.side.shdlc.phase ≡ Up → acked_in t e (number_of half) ≡ whole_acked half.side

@@ -13,7 +13,7 @@ ghost use Rattle.node_machine.specs.Controller.{controller_deeds, is_asked_at};
 ghost use Rattle.node_world.specs.World.{NodeWorld, Happening, new_world, world_step};
 ghost use Rattle.node_world.specs.NodeFilters.{asking_in, spare_at};
 ghost use Rattle.trace_model.specs.declared.line.End.{End};
-ghost use Rattle.message_link.specs.Links.{Half};
+ghost use Rattle.message_link.specs.Links.{NumberedEnd};
 ghost use Rattle.notice_readings.specs.Spares.{IsEndRead};
 ghost use Rattle.node_world.specs.NodeHistories.{NodeHistory, FollowsNodes, node_entries, world_after};
 ghost use Rattle.kept_laws.specs.Hosts.{AreHosts};
@@ -64,5 +64,5 @@ pub fn no_creation_is_read_while_the_controller_is_off()
 /// Where the session of an end, its messages and the block that is set aside are what is read off the entries, the blocks that it has
 /// to spare are those that are read.
 pub fn blocks_to_spare_are_read_where_the_end_is()
-    ensures { (t : List Entry) (e : End) (half : Half) → IsEndRead t e half → spare_at t e ≡ spare half.side }
+    ensures { (t : List Entry) (e : End) (half : NumberedEnd) → IsEndRead t e half → spare_at t e ≡ spare half.side }
 {}

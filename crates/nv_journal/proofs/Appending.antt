@@ -1,9 +1,9 @@
 -- One more record in a memory that says what a journal keeps of it.
 use Rattle.std.proofs.Common.{◌≡◌, ℕ, List, [], ◌∷◌, ◌++◌, Result, Ok, Err, OnErr, IsSome, sym, ap, subst}
 use Rattle.journal_laws.specs.declared.state.State.{State}
-use Rattle.journal_laws.specs.Writes.{Write, after, IsCut}
+use Rattle.journal_laws.specs.Writes.{Write, after_writes, IsCut}
 use Rattle.journal_laws.specs.Journal.{Journal, records, state_of, IsStarted}
-use Rattle.journal_laws.specs.Operations.{append_writes, HasRoom, appended, IsAllOrNothing, LeftByCut}
+use Rattle.journal_laws.specs.Operations.{append_writes, HasRoomForBody, appended, IsAllOrNothing, LeftByCut}
 use Rattle.journal_laws.proofs.Kept.{append_whole, append_says, append_cut, append_started}
 use Rattle.nv_journal.specs.Kept.{Says}
 
@@ -25,21 +25,21 @@ pub on_err : {T E : Type 0} (r : Result T E) (P : Type 0) → P → OnErr r P
 on_err (Ok x) P p = tt
 on_err (Err e) P p = p
 
-module _ (content body : List ℕ) (state : State) (says : Says content state) (room : HasRoom state body) where
+module _ (content body : List ℕ) (state : State) (says : Says content state) (room : HasRoomForBody state body) where
   started : IsStarted content
   started = started_of content state says room.in_use
 
-  has_room : HasRoom (state_of content) body
-  has_room = subst (λ s. HasRoom s body) (sym says.state_is) room
+  has_room : HasRoomForBody (state_of content) body
+  has_room = subst (λ s. HasRoomForBody s body) (sym says.state_is) room
 
   abbrev then : State → List ℕ
-  then s = after (append_writes s body) content
+  then s = after_writes (append_writes s body) content
 
-  pub says_after : Says (after (append_writes state body) content) (appended state body)
+  pub says_after : Says (after_writes (append_writes state body) content) (appended state body)
   says_after = subst (λ s. Says (then s) (appended s body)) says.state_is
       (says_started (then (state_of content)) (appended (state_of content) body) (append_started content body started has_room) (append_says content body started has_room))
 
-  pub records_after : records (after (append_writes state body) content) ≡ records content ++ body ∷ []
+  pub records_after : records (after_writes (append_writes state body) content) ≡ records content ++ body ∷ []
   records_after = subst (λ s. records (then s) ≡ records content ++ body ∷ []) says.state_is
       (ap (λ (j : Journal). j.found.bodies) (append_whole content body started has_room))
 

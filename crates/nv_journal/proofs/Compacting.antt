@@ -3,8 +3,8 @@ use Rattle.std.proofs.Common.{◌≡◌, ℕ, ◌+◌, Bool, false, List, [], �
 use Rattle.std.specs.Option.{option_map_or}
 use Rattle.journal_laws.specs.declared.banks.Side.{Side}
 use Rattle.journal_laws.specs.declared.state.State.{State}
-use Rattle.journal_laws.specs.Writes.{write, after, AreMade}
-use Rattle.journal_laws.specs.Banks.{other, place}
+use Rattle.journal_laws.specs.Writes.{write, after_writes, AreMade}
+use Rattle.journal_laws.specs.Banks.{other, bank_place}
 use Rattle.journal_laws.specs.Journal.{Journal, records, state_of, count_of, IsStarted}
 use Rattle.journal_laws.specs.Operations.{bank_bytes, open_bank, close_bank, compact_writes, CanCompact, compacted, IsAllOrNothing}
 use Rattle.journal_laws.proofs.Kept.{compact_whole, compact_says, compact_cut, compact_started}
@@ -17,13 +17,13 @@ not_ok (Err e) err = refl
 
 -- the writes, by the bank that is not in use
 pub made_at : {M : Type 0} (writes : M → ℕ → List ℕ → Bool → M → Type 0) (s : State) (side : Side) (bodies : List (List ℕ)) (at : ℕ) (bytes : List ℕ)
-    (old : M) (ok : Bool) (new : M) → s.in_use ≡ Some side → at ≡ place (other side) → bytes ≡ bank_bytes (s.generation + 1) (count_of s) bodies
+    (old : M) (ok : Bool) (new : M) → s.in_use ≡ Some side → at ≡ bank_place (other side) → bytes ≡ bank_bytes (s.generation + 1) (count_of s) bodies
     → AreMade writes (close_bank s.beside at ++ write (at + 1) bytes ∷ write at (90 ∷ []) ∷ []) old ok new
     → AreMade writes (compact_writes s bodies) old ok new
 made_at writes s side bodies at bytes old ok new is at_is bytes_are made =
     subst (λ planned. AreMade writes planned old ok new)
     (ap₂ (λ p b. close_bank s.beside p ++ write (p + 1) b ∷ write p (90 ∷ []) ∷ []) at_is bytes_are
-    ∙ ap (λ o. option_map_or (λ t. close_bank s.beside (place (other t)) ++ open_bank (place (other t)) (s.generation + 1) (count_of s) bodies) o []) (sym is))
+    ∙ ap (λ o. option_map_or (λ t. close_bank s.beside (bank_place (other t)) ++ open_bank (bank_place (other t)) (s.generation + 1) (count_of s) bodies) o []) (sym is))
     made
 
 module _ (content : List ℕ) (bodies : List (List ℕ)) (state : State) (says : Says content state) (can : CanCompact state bodies) where
@@ -34,13 +34,13 @@ module _ (content : List ℕ) (bodies : List (List ℕ)) (state : State) (says :
   can_now = subst (λ s. CanCompact s bodies) (sym says.state_is) can
 
   abbrev then : State → List ℕ
-  then s = after (compact_writes s bodies) content
+  then s = after_writes (compact_writes s bodies) content
 
-  pub says_after : Says (after (compact_writes state bodies) content) (compacted state bodies)
+  pub says_after : Says (after_writes (compact_writes state bodies) content) (compacted state bodies)
   says_after = subst (λ s. Says (then s) (compacted s bodies)) says.state_is
       (says_started (then (state_of content)) (compacted (state_of content) bodies) (compact_started content bodies started can_now) (compact_says content bodies started can_now))
 
-  pub records_after : records (after (compact_writes state bodies) content) ≡ bodies
+  pub records_after : records (after_writes (compact_writes state bodies) content) ≡ bodies
   records_after = subst (λ s. records (then s) ≡ bodies) says.state_is
       (ap (λ (j : Journal). j.found.bodies) (compact_whole content bodies started can_now))
 

@@ -3,7 +3,7 @@ use Rattle.std.proofs.Common.{◌≡◌, ℕ, false, List, Option, Some, None, i
 use Rattle.std.proofs.lemmas.Bool.{true≢false}
 use Rattle.journal_laws.specs.declared.banks.Side.{Side}
 use Rattle.journal_laws.specs.declared.state.State.{State}
-use Rattle.journal_laws.specs.Writes.{after}
+use Rattle.journal_laws.specs.Writes.{after_writes}
 use Rattle.journal_laws.specs.Journal.{Journal, records}
 use Rattle.journal_laws.specs.Operations.{format_writes, formatted, IsUnformatted, IsAllOrNothing}
 use Rattle.journal_laws.proofs.InUse.{no_journal}
@@ -20,12 +20,12 @@ module _ (content : List ℕ) (state : State) (says : Says content state) (none 
   unused : IsUnformatted content
   unused = record { size = says.size; closed = ap (λ (s : State). s.in_use) says.state_is ∙ none }
 
-  pub says_formatted : Says (after format_writes content) formatted
-  says_formatted = says_started (after format_writes content) formatted (format_started content unused) (format_state content unused)
+  pub says_formatted : Says (after_writes format_writes content) formatted
+  says_formatted = says_started (after_writes format_writes content) formatted (format_started content unused) (format_state content unused)
 
   pub format_all_or_nothing : IsAllOrNothing format_writes content
   format_all_or_nothing = format_is_cut content unused
 
-  pub no_records_then : records (after format_writes content) ≡ records content
+  pub no_records_then : records (after_writes format_writes content) ≡ records content
   no_records_then = ap (λ (j : Journal). j.found.bodies) (format_is_whole content unused)
       ∙ ap (λ (j : Journal). j.found.bodies) (sym (no_journal content unused.closed))

@@ -8,7 +8,7 @@ use Rattle.journal_laws.specs.declared.banks.Side.{Side}
 use Rattle.journal_laws.specs.declared.banks.Side.TheVariants.{First, Second}
 use Rattle.journal_laws.specs.declared.state.Head.{Head}
 use Rattle.journal_laws.specs.declared.state.State.{State}
-use Rattle.journal_laws.specs.Banks.{other, bank, is_open, head, newer, current}
+use Rattle.journal_laws.specs.Banks.{other, bank, is_opened_gate, head, newer, current}
 use Rattle.journal_laws.specs.Records.{found_from}
 use Rattle.journal_laws.specs.Journal.{Journal, unformatted, journal, state_by, gate_at, records}
 use Rattle.journal_laws.proofs.Places.{length-bank}
@@ -16,7 +16,7 @@ use Rattle.journal_laws.proofs.Reading.{behind-none}
 use Rattle.journal_laws.proofs.InUse.{journal_in_use, no_journal}
 use Rattle.nv_journal.specs.Faults.{fault}
 use Rattle.nv_journal.specs.Kept.{Says}
-use Rattle.nv_journal.specs.Scanning.{head_at, begun_in, begun, IsPassed, SaysSoFar}
+use Rattle.nv_journal.specs.Scanning.{head_at, begun_in, begun_scan, IsPassed, SaysSoFar}
 
 head_at_side : (c : List ℕ) (side : Side) → head_at (head c First) (head c Second) side ≡ head c side
 head_at_side c First = refl
@@ -24,18 +24,18 @@ head_at_side c Second = refl
 
 module _ (c : List ℕ) (long : 65536 ≤ length c) where
   abbrev state : State
-  state = begun (head c First) (head c Second)
+  state = begun_scan (head c First) (head c Second)
 
   abbrev state_in : Option Side → State
-  state_in o = option_map_or (λ side. begun_in side (head_at (head c First) (head c Second) side) (is_open (head_at (head c First) (head c Second) (other side)).gate))
+  state_in o = option_map_or (λ side. begun_in side (head_at (head c First) (head c Second) side) (is_opened_gate (head_at (head c First) (head c Second) (other side)).gate))
       o (state_by None unformatted false)
 
-  begun_side : (side : Side) → current c ≡ Some side → state ≡ begun_in side (head c side) (is_open (head c (other side)).gate)
+  begun_side : (side : Side) → current c ≡ Some side → state ≡ begun_in side (head c side) (is_opened_gate (head c (other side)).gate)
   begun_side side is =
       ap state_in is
-      ∙ ap₂ (λ (h : Head) (k : Head). begun_in side h (is_open k.gate)) (head_at_side c side) (head_at_side c (other side))
+      ∙ ap₂ (λ (h : Head) (k : Head). begun_in side h (is_opened_gate k.gate)) (head_at_side c side) (head_at_side c (other side))
 
-  passed_side : (side : Side) → current c ≡ Some side → IsPassed c side (begun_in side (head c side) (is_open (head c (other side)).gate)) []
+  passed_side : (side : Side) → current c ≡ Some side → IsPassed c side (begun_in side (head c side) (is_opened_gate (head c (other side)).gate)) []
   passed_side side is = record {
     in_use = is;
     version = refl;
@@ -68,7 +68,7 @@ module _ (c : List ℕ) (long : 65536 ≤ length c) where
   none_begun : current c ≡ None → IsTrue (state.version == 1 || state.version == 2) → Says c state
   none_begun is known = record {
     size = long;
-    state_is = ap₂ (λ o (j : Journal). state_by o j (option_map_or (λ side. is_open (head c (other side)).gate) o false)) is (no_journal c is) ∙ sym (ap state_in is);
+    state_is = ap₂ (λ o (j : Journal). state_by o j (option_map_or (λ side. is_opened_gate (head c (other side)).gate) o false)) is (no_journal c is) ∙ sym (ap state_in is);
     sound = record {
       known = subst (λ v. IsTrue (v == 1 || v == 2)) (sym version_begun) known;
       good = ap (λ (j : Journal). j.found.is_bad) (no_journal c is);
@@ -106,11 +106,11 @@ known_begun v (inl one) = subst (λ n. IsTrue (n == 1 || n == 2)) (sym one) refl
 known_begun v (inr two) = subst (λ n. IsTrue (n == 1 || n == 2)) (sym two) refl
 
 -- a pass begins at the first gate
-pub begun_size : (h k : Head) → ((begun h k).size ≡ 0) × ((begun h k).many ≡ 0)
+pub begun_size : (h k : Head) → ((begun_scan h k).size ≡ 0) × ((begun_scan h k).many ≡ 0)
 begun_size h k = by_bank (newer h k)
   where
     state_in' : Option Side → State
-    state_in' o = option_map_or (λ side. begun_in side (head_at h k side) (is_open (head_at h k (other side)).gate)) o (state_by None unformatted false)
+    state_in' o = option_map_or (λ side. begun_in side (head_at h k side) (is_opened_gate (head_at h k (other side)).gate)) o (state_by None unformatted false)
 
     by_bank : (o : Option Side) → ((state_in' o).size ≡ 0) × ((state_in' o).many ≡ 0)
     by_bank None = (refl, refl)

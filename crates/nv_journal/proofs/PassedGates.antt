@@ -5,7 +5,7 @@ use Rattle.nv_journal.specs.declared.JournalFault.TheVariants.{BadRecord}
 use Rattle.nv_journal.specs.declared.gates.Gate.TheVariants.{Closed, Bad, Record}
 use Rattle.journal_laws.specs.declared.banks.Side.{Side}
 use Rattle.journal_laws.specs.declared.state.State.{State}
-use Rattle.journal_laws.specs.Banks.{place, bank, is_open, current}
+use Rattle.journal_laws.specs.Banks.{bank_place, bank, is_opened_gate, current}
 use Rattle.journal_laws.specs.Records.{index_len, gap, body, is_record, size_in}
 use Rattle.std.specs.Option.{option_map_or}
 use Rattle.journal_laws.specs.Journal.{Journal, journal, records, gate_at, next_gate, next_place, left}
@@ -65,7 +65,7 @@ module _ (c : List ℕ) (state : State) (ahead : List ℕ) (ended : Bool) (says 
   faulty_so_far is = record { fault_is = bad_so_far is; last = bad_is_last is }
 
   module _ (len : ℕ) (is : Record len ≡ gate_of state.version state.many (left state) ahead) (short : len ≤ 61) (fits : 2 + index_len state.version + len < left state) where
-    right : (is_open (slice_index bytes 0) ≡ true) × (is_record state.version state.many (length bytes) bytes ≡ true) × (slice_index bytes 1 ≡ len)
+    right : (is_opened_gate (slice_index bytes 0) ≡ true) × (is_record state.version state.many (length bytes) bytes ≡ true) × (slice_index bytes 1 ≡ len)
     right = record_gate state.version state.many (length bytes) len bytes (sym gate_now ∙ sym is)
 
     within : 2 + index_len state.version + len ≤ length ahead
@@ -126,8 +126,8 @@ next_gate_is c state ahead ended says idle few inside known = by_bank state.in_u
         let says_nothing = no_journal c unused in
         let none : state.size ≡ 0 = ap (λ (s : State). s.size) (sym said.state_is) ∙ ap (λ (j : Journal). j.found.size) says_nothing in
         let no_bodies : records c ≡ [] = ap (λ (j : Journal). j.found.bodies) says_nothing in
-        ap₂ (λ o n. option_map_or place o 0 + (12 + n)) is none
-        ∙ sym (ap₂ (λ o l. option_map_or place o 0 + 12 + size_in (journal c).head.version (take state.many l)) unused no_bodies
+        ap₂ (λ o n. option_map_or bank_place o 0 + (12 + n)) is none
+        ∙ sym (ap₂ (λ o l. option_map_or bank_place o 0 + 12 + size_in (journal c).head.version (take state.many l)) unused no_bodies
         ∙ ap (λ l. 0 + 12 + size_in (journal c).head.version l) (no_part state.many))
       where
         no_part : (m : ℕ) → take {A = List ℕ} m [] ≡ []

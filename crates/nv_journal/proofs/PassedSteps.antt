@@ -9,8 +9,8 @@ use Rattle.nv_journal.specs.declared.gates.Gate.{Gate}
 use Rattle.nv_journal.specs.declared.gates.Gate.TheVariants.{Closed, Bad, Record}
 use Rattle.journal_laws.specs.declared.banks.Side.{Side}
 use Rattle.journal_laws.specs.declared.state.State.{State}
-use Rattle.journal_laws.specs.Banks.{other, place, bank, is_open, head}
-use Rattle.journal_laws.specs.Records.{index_len, gap, body, is_record, Found, nothing, bad, behind, found_from, size_in}
+use Rattle.journal_laws.specs.Banks.{other, bank_place, bank, is_opened_gate, head}
+use Rattle.journal_laws.specs.Records.{index_len, gap, body, is_record, Found, nothing_found, bad, behind, found_from, size_in}
 use Rattle.journal_laws.specs.Journal.{Journal, found_in, journal_at, journal, records, gate_at, next_gate, next_place}
 use Rattle.journal_laws.proofs.Places.{length-bank}
 use Rattle.journal_laws.proofs.Reading.{window, first, is_good_parts, found_good, bad_found, found_closed}
@@ -41,7 +41,7 @@ same_gate version position bytes n enough = by_size (cases_lt n 65)
 
     by : ℕ → ℕ → ℕ → Gate
     by gate len index =
-        cond (is_open gate)
+        cond (is_opened_gate gate)
         (cond (nat_le 1 len && nat_le len 61 && nat_lt (2 + index_len version + len) rest && (version == 1 || index == position)) (Record len) Bad) Closed
 
     by_size : (n < 65) ⊎ (65 ≤ n) → gate_of version position (length bytes) (take n bytes) ≡ gate_of version position (length bytes) bytes
@@ -55,8 +55,8 @@ same_gate version position bytes n enough = by_size (cases_lt n 65)
 
 -- ---- what stands at the gate
 
-pub closed_gate : (version position rest : ℕ) (bytes : List ℕ) → gate_of version position rest bytes ≡ Closed → is_open (slice_index bytes 0) ≡ false
-closed_gate version position rest bytes is = by_tests (is_open (slice_index bytes 0)) (is_record version position rest bytes) is
+pub closed_gate : (version position rest : ℕ) (bytes : List ℕ) → gate_of version position rest bytes ≡ Closed → is_opened_gate (slice_index bytes 0) ≡ false
+closed_gate version position rest bytes is = by_tests (is_opened_gate (slice_index bytes 0)) (is_record version position rest bytes) is
   where
     by_tests : (o r : Bool) → cond o (cond r (Record (slice_index bytes 1)) Bad) Closed ≡ Closed → o ≡ false
     by_tests true true e = cc
@@ -64,8 +64,8 @@ closed_gate version position rest bytes is = by_tests (is_open (slice_index byte
     by_tests false r e = refl
 
 pub bad_gate : (version position rest : ℕ) (bytes : List ℕ) → gate_of version position rest bytes ≡ Bad
-    → (is_open (slice_index bytes 0) ≡ true) × (is_record version position rest bytes ≡ false)
-bad_gate version position rest bytes is = by_tests (is_open (slice_index bytes 0)) (is_record version position rest bytes) is
+    → (is_opened_gate (slice_index bytes 0) ≡ true) × (is_record version position rest bytes ≡ false)
+bad_gate version position rest bytes is = by_tests (is_opened_gate (slice_index bytes 0)) (is_record version position rest bytes) is
   where
     by_tests : (o r : Bool) → cond o (cond r (Record (slice_index bytes 1)) Bad) Closed ≡ Bad → (o ≡ true) × (r ≡ false)
     by_tests true true e = cc
@@ -73,8 +73,8 @@ bad_gate version position rest bytes is = by_tests (is_open (slice_index bytes 0
     by_tests false r e = cc
 
 pub record_gate : (version position rest len : ℕ) (bytes : List ℕ) → gate_of version position rest bytes ≡ Record len
-    → (is_open (slice_index bytes 0) ≡ true) × (is_record version position rest bytes ≡ true) × (slice_index bytes 1 ≡ len)
-record_gate version position rest len bytes is = by_tests (is_open (slice_index bytes 0)) (is_record version position rest bytes) is
+    → (is_opened_gate (slice_index bytes 0) ≡ true) × (is_record version position rest bytes ≡ true) × (slice_index bytes 1 ≡ len)
+record_gate version position rest len bytes is = by_tests (is_opened_gate (slice_index bytes 0)) (is_record version position rest bytes) is
   where
     by_tests : (o r : Bool) → cond o (cond r (Record (slice_index bytes 1)) Bad) Closed ≡ Record len → (o ≡ true) × (r ≡ true) × (slice_index bytes 1 ≡ len)
     by_tests true true e = (refl, refl, cc)
@@ -141,24 +141,24 @@ module _ (c : List ℕ) (side : Side) (state : State) (ahead : List ℕ) (p : Is
 
   pub gate_is : gate_at c state.many ≡ next_place state
   gate_is =
-      ap₂ (λ o v. option_map_or place o 0 + 12 + size_in v (take state.many (records c))) (p.in_use ∙ sym used) version_is
-      ∙ ap (λ l. option_map_or place state.in_use 0 + 12 + size_in state.version (take state.many l)) (ap (λ (f : Found). f.bodies) found_is)
-      ∙ ap (λ l. option_map_or place state.in_use 0 + 12 + size_in state.version l)
+      ap₂ (λ o v. option_map_or bank_place o 0 + 12 + size_in v (take state.many (records c))) (p.in_use ∙ sym used) version_is
+      ∙ ap (λ l. option_map_or bank_place state.in_use 0 + 12 + size_in state.version (take state.many l)) (ap (λ (f : Found). f.bodies) found_is)
+      ∙ ap (λ l. option_map_or bank_place state.in_use 0 + 12 + size_in state.version l)
       (take_at p.passed (found_from state.version (32768 - state.many) state.many bytes).bodies state.many p.many)
-      ∙ regroup (option_map_or place state.in_use 0) p.size
+      ∙ regroup (option_map_or bank_place state.in_use 0) p.size
     where
       regroup : (at : ℕ) → size_in state.version p.passed ≡ state.size → at + 12 + size_in state.version p.passed ≡ at + (12 + state.size)
       regroup at is = omega arith
 
   -- a closed gate
-  pub closed_says : is_open (slice_index bytes 0) ≡ false → Says c state
+  pub closed_says : is_opened_gate (slice_index bytes 0) ≡ false → Says c state
   closed_says closed =
-      let f = found_then nothing (found_closed state.version (suc most) state.many bytes closed) in
+      let f = found_then nothing_found (found_closed state.version (suc most) state.many bytes closed) in
       record {
         size = long;
         state_is = state_at c side p.in_use
             ∙ same_state state (Some side) (journal c).head.version (journal c).head.generation (journal c).head.base (journal c).head.snapshot
-            (length (journal c).found.bodies) (journal c).found.size (is_open (head c (other side)).gate) (sym used) version_is
+            (length (journal c).found.bodies) (journal c).found.size (is_opened_gate (head c (other side)).gate) (sym used) version_is
             (ap (λ (j : Journal). j.head.generation) seen ∙ p.generation) (ap (λ (j : Journal). j.head.base) seen ∙ p.base)
             (ap (λ (j : Journal). j.head.snapshot) seen ∙ p.snapshot)
             (ap (λ (x : Found). length x.bodies) f ∙ ap length (append-nil p.passed) ∙ p.many)
@@ -167,7 +167,7 @@ module _ (c : List ℕ) (side : Side) (state : State) (ahead : List ℕ) (p : Is
       }
 
   -- a bad record
-  pub bad_says : is_open (slice_index bytes 0) ≡ true → is_record state.version state.many (length bytes) bytes ≡ false
+  pub bad_says : is_opened_gate (slice_index bytes 0) ≡ true → is_record state.version state.many (length bytes) bytes ≡ false
       → fault c ≡ Some (BadRecord (next_place state))
   bad_says opened wrong =
       let f = found_then bad (bad_found state.version most state.many bytes opened wrong) in
@@ -177,12 +177,12 @@ module _ (c : List ℕ) (side : Side) (state : State) (ahead : List ℕ) (p : Is
       ∙ ap (λ n. Some (BadRecord (gate_at c n))) (ap (λ (x : Found). length x.bodies) f ∙ ap length (append-nil p.passed) ∙ p.many)
       ∙ ap (λ n. Some (BadRecord n)) gate_is
 
-  pub bad_last : is_open (slice_index bytes 0) ≡ true → is_record state.version state.many (length bytes) bytes ≡ false → length (records c) ≡ state.many
+  pub bad_last : is_opened_gate (slice_index bytes 0) ≡ true → is_record state.version state.many (length bytes) bytes ≡ false → length (records c) ≡ state.many
   bad_last opened wrong =
       ap (λ (x : Found). length x.bodies) (found_then bad (bad_found state.version most state.many bytes opened wrong)) ∙ ap length (append-nil p.passed) ∙ p.many
 
   -- a good one
-  module _ (opened : is_open (slice_index bytes 0) ≡ true) (good : is_record state.version state.many (length bytes) bytes ≡ true) where
+  module _ (opened : is_opened_gate (slice_index bytes 0) ≡ true) (good : is_record state.version state.many (length bytes) bytes ≡ true) where
     abbrev b : List ℕ
     b = body state.version bytes
 
@@ -251,7 +251,7 @@ module _ (c : List ℕ) (side : Side) (state : State) (ahead : List ℕ) (p : Is
         fuel n = omega arith
 
   -- one more piece
-  pub piece_read : (now : List ℕ) (at k : ℕ) → at ≡ place side + (next_gate state + length ahead) → length now ≡ length ahead + k → state.size + length now ≤ 32756
+  pub piece_read : (now : List ℕ) (at k : ℕ) → at ≡ bank_place side + (next_gate state + length ahead) → length now ≡ length ahead + k → state.size + length now ≤ 32756
       → now ≡ ahead ++ slice_range c at (at + k) → IsPassed c side state now
   piece_read now at k at_is size fits is = record {
     in_use = p.in_use;
@@ -275,9 +275,9 @@ module _ (c : List ℕ) (side : Side) (state : State) (ahead : List ℕ) (p : Is
 
       in_bank : slice_range c at (at + k) ≡ take k (drop (length ahead) bytes)
       in_bank =
-          ap₂ (λ m l. take m l) (just at) (ap (λ m. drop m c) at_is ∙ sym (drop_further (place side) (next_gate state + length ahead) c))
-          ∙ window (drop (place side) c) (take 32768 (drop (place side) c)) 32768 (next_gate state + length ahead) k
-          (sym (take-take 32768 32768 (drop (place side) c) (omega arith))) (omega (arith, size, fits))
+          ap₂ (λ m l. take m l) (just at) (ap (λ m. drop m c) at_is ∙ sym (drop_further (bank_place side) (next_gate state + length ahead) c))
+          ∙ window (drop (bank_place side) c) (take 32768 (drop (bank_place side) c)) 32768 (next_gate state + length ahead) k
+          (sym (take-take 32768 32768 (drop (bank_place side) c) (omega arith))) (omega (arith, size, fits))
           ∙ ap (take k) (sym (drop_further (next_gate state) (length ahead) (bank c side)))
 
 pub filled_len : {M : Type 0} (reads : M → Bool → M → Type 0) (left : ℕ) (old : M) (before : List ℕ) (new : M) (now : List ℕ) → IsFilled reads left old before new now
@@ -298,5 +298,5 @@ piece_says c state ahead now ended at says going few inside known at_is more fit
   at_end = λ at_end. absurd (true≢false (sym at_end ∙ going));
 }
   where
-    regroup : (side : Side) → state.in_use ≡ Some side → next_place state + length ahead ≡ place side + (next_gate state + length ahead)
-    regroup side used = ap (λ o. option_map_or place o 0 + next_gate state + length ahead) used ∙ add_assoc (place side) (next_gate state) (length ahead)
+    regroup : (side : Side) → state.in_use ≡ Some side → next_place state + length ahead ≡ bank_place side + (next_gate state + length ahead)
+    regroup side used = ap (λ o. option_map_or bank_place o 0 + next_gate state + length ahead) used ∙ add_assoc (bank_place side) (next_gate state) (length ahead)

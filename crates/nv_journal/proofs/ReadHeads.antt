@@ -3,7 +3,7 @@ use Rattle.std.proofs.Common.{◌≡◌, ℕ, ◌+◌, ◌-◌, List, [], ◌∷
 use Rattle.std.specs.Int.{from_be_bytes}
 use Rattle.journal_laws.specs.declared.banks.Side.{Side}
 use Rattle.journal_laws.specs.declared.state.Head.{Head}
-use Rattle.journal_laws.specs.Banks.{place, bank, head_of}
+use Rattle.journal_laws.specs.Banks.{bank_place, bank, head_of}
 
 -- the head, byte by byte
 abbrev pub head_by_bytes : List ℕ → Head
@@ -32,7 +32,7 @@ head_of_twelve (a ∷ b ∷ c ∷ d ∷ e ∷ f ∷ g ∷ h ∷ i ∷ j ∷ k �
 head_of_twelve (a ∷ b ∷ c ∷ d ∷ e ∷ f ∷ g ∷ h ∷ i ∷ j ∷ k ∷ l ∷ m ∷ n) size = absurd (omega arith)
 
 -- the first bytes of a bank, in the memory
-pub head_bytes : (content : List ℕ) (side : Side) (at : ℕ) → at ≡ place side → slice_range content at (at + 12) ≡ take 12 (bank content side)
+pub head_bytes : (content : List ℕ) (side : Side) (at : ℕ) → at ≡ bank_place side → slice_range content at (at + 12) ≡ take 12 (bank content side)
 head_bytes content side at is =
     ap (λ n. take n (drop at content)) (twelve at)
     ∙ sym (take-take 12 32768 (drop at content) (omega arith))

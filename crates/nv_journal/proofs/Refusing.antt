@@ -9,7 +9,7 @@ use Rattle.nv_journal.specs.Faults.{fault}
 use Rattle.nv_journal.specs.Scanning.{Scanned, IsReadSoFar}
 use Rattle.std.specs.Option.{option_map_or}
 use Rattle.journal_laws.specs.declared.state.State.{State}
-use Rattle.journal_laws.specs.Operations.{format_writes, start_writes, started, LeftByCut}
+use Rattle.journal_laws.specs.Operations.{format_writes, start_writes, started_state, LeftByCut}
 use Rattle.nv_journal.specs.Kept.{Says}
 use Rattle.nv_journal.specs.Refusals.{IsImageFault, IsRefused, IsOpened, IsUnformattable}
 
@@ -38,7 +38,7 @@ module _ {N : Type 0} (reads : N → Bool → N → Type 0) (first : N) where
       (inr (record { fault_is = image.0; read = read image.0; told = λ t. ap fault (sym (kept t)) ∙ image.1 t }), λ t. still t ∙ kept t)
 
   pub opened_by : (writes : N → ℕ → List ℕ → Bool → N → Type 0) (tells : Bool) (content : N → List ℕ) (s : Scanned N) (new : N) (state : State) → IsReadSoFar reads first s
-      → AreMade writes (start_writes s.state) s.nv true new → state ≡ started s.state → (IsTrue tells → content s.nv ≡ content first)
+      → AreMade writes (start_writes s.state) s.nv true new → state ≡ started_state s.state → (IsTrue tells → content s.nv ≡ content first)
       → (IsTrue tells → Says (content s.nv) s.state) → IsOpened reads writes tells content first new state
   opened_by writes tells content s new state r made is kept said = record {
     before = s.state;

@@ -6,8 +6,8 @@ use Rattle.std.proofs.lemmas.List.{drop-drop}
 use Rattle.std.proofs.lemmas.Bool.{cases_Bool, cases_lt, and_parts, leb-true, ltb-true}
 use Rattle.journal_laws.specs.declared.banks.Side.{Side}
 use Rattle.journal_laws.specs.declared.state.State.{State}
-use Rattle.journal_laws.specs.Banks.{place, bank, is_open, head, current}
-use Rattle.journal_laws.specs.Records.{index_len, gap, body, is_good, Found, behind, found_from, size_in}
+use Rattle.journal_laws.specs.Banks.{bank_place, bank, is_opened_gate, head, current}
+use Rattle.journal_laws.specs.Records.{index_len, gap, body, is_good_record, Found, behind, found_from, size_in}
 use Rattle.journal_laws.specs.Journal.{Journal, unformatted, found_in, journal_at, journal, records, gate_at, next_place, left}
 use Rattle.journal_laws.proofs.Places.{length-bank}
 use Rattle.journal_laws.proofs.Reading.{window, first, is_good_parts, found_good, bad_found, found_closed}
@@ -19,12 +19,12 @@ use Rattle.nv_journal.specs.Kept.{Says, IsGateOf}
 
 -- record k of these bodies, whose records stand from these bytes on
 pub record IsThere (version position : ℕ) (bytes : List ℕ) (bodies : List (List ℕ)) (k : ℕ) : Type 0 where
-  pub good : is_good version (position + k) (drop (size_in version (take k bodies)) bytes) ≡ true
+  pub good : is_good_record version (position + k) (drop (size_in version (take k bodies)) bytes) ≡ true
   pub body_there : slice_get bodies k ≡ Some (body version (drop (size_in version (take k bodies)) bytes))
   pub next : size_in version (take k bodies) + gap version (drop (size_in version (take k bodies)) bytes) ≡ size_in version (take (k + 1) bodies)
 
 -- the body of a good record has its length
-body_size : (version position : ℕ) (bytes : List ℕ) → is_good version position bytes ≡ true
+body_size : (version position : ℕ) (bytes : List ℕ) → is_good_record version position bytes ≡ true
     → 2 + index_len version + length (body version bytes) ≡ gap version bytes
 body_size version position bytes good =
     omega (
@@ -34,7 +34,7 @@ body_size version position bytes good =
       length-drop (2 + index_len version) bytes,
     )
 
-module _ (version position : ℕ) (bytes : List ℕ) (bodies : List (List ℕ)) (good : is_good version position bytes ≡ true) where
+module _ (version position : ℕ) (bytes : List ℕ) (bodies : List (List ℕ)) (good : is_good_record version position bytes ≡ true) where
   abbrev b : List ℕ
   b = body version bytes
 
@@ -43,7 +43,7 @@ module _ (version position : ℕ) (bytes : List ℕ) (bodies : List (List ℕ)) 
 
   first_there : IsThere version position bytes (b ∷ bodies) 0
   first_there = record {
-    good = subst (λ p. is_good version p bytes ≡ true) (sym (add-zero position)) good;
+    good = subst (λ p. is_good_record version p bytes ≡ true) (sym (add-zero position)) good;
     body_there = refl;
     next = omega (arith, body_size version position bytes good);
   }
@@ -53,7 +53,7 @@ module _ (version position : ℕ) (bytes : List ℕ) (bodies : List (List ℕ)) 
       let same = moved (size_in version (take k bodies)) in
       let size = body_size version position bytes good in
       record {
-        good = ap₂ (λ p l. is_good version p l) (omega arith) same ∙ there.good;
+        good = ap₂ (λ p l. is_good_record version p l) (omega arith) same ∙ there.good;
         body_there = there.body_there ∙ ap (λ l. Some (body version l)) (sym same);
         next = ap (λ l. n + size_in version (take k bodies) + gap version l) same
             ∙ regroup (size_in version (take k bodies)) (gap version (drop (size_in version (take k bodies)) (drop (gap version bytes) bytes)))
@@ -74,21 +74,21 @@ module _ (version : ℕ) where
   unfolding found_from
   each_there zero position bytes k below = absurd (omega (arith, below))
   each_there (suc most) position bytes k below =
-      by_gate (each_there most (position + 1) (drop (gap version bytes) bytes)) (cases_Bool (is_open (slice_index bytes 0)))
-      (cases_Bool (is_good version position bytes)) below
+      by_gate (each_there most (position + 1) (drop (gap version bytes) bytes)) (cases_Bool (is_opened_gate (slice_index bytes 0)))
+      (cases_Bool (is_good_record version position bytes)) below
     where
       later : Found
       later = found_from version most (position + 1) (drop (gap version bytes) bytes)
 
       step : ((m : ℕ) → m < length later.bodies → IsThere version (position + 1) (drop (gap version bytes) bytes) later.bodies m)
-          → is_good version position bytes ≡ true → (m : ℕ) → m < length (body version bytes ∷ later.bodies)
+          → is_good_record version position bytes ≡ true → (m : ℕ) → m < length (body version bytes ∷ later.bodies)
           → IsThere version position bytes (body version bytes ∷ later.bodies) m
       step more good zero within = first_there version position bytes later.bodies good
       step more good (suc m) within = later_there version position bytes later.bodies good m (more m (omega (arith, within)))
 
       by_gate : ((m : ℕ) → m < length later.bodies → IsThere version (position + 1) (drop (gap version bytes) bytes) later.bodies m)
-          → (is_open (slice_index bytes 0) ≡ true) ⊎ (is_open (slice_index bytes 0) ≡ false)
-          → (is_good version position bytes ≡ true) ⊎ (is_good version position bytes ≡ false)
+          → (is_opened_gate (slice_index bytes 0) ≡ true) ⊎ (is_opened_gate (slice_index bytes 0) ≡ false)
+          → (is_good_record version position bytes ≡ true) ⊎ (is_good_record version position bytes ≡ false)
           → k < length (found_from version (suc most) position bytes).bodies
           → IsThere version position bytes (found_from version (suc most) position bytes).bodies k
       by_gate more (inl opened) (inl good) within =
@@ -106,8 +106,8 @@ module _ (version : ℕ) where
   unfolding found_from
   found_size zero position bytes = refl
   found_size (suc most) position bytes =
-      by_gate (found_size most (position + 1) (drop (gap version bytes) bytes)) (cases_Bool (is_open (slice_index bytes 0)))
-      (cases_Bool (is_good version position bytes))
+      by_gate (found_size most (position + 1) (drop (gap version bytes) bytes)) (cases_Bool (is_opened_gate (slice_index bytes 0)))
+      (cases_Bool (is_good_record version position bytes))
     where
       later : Found
       later = found_from version most (position + 1) (drop (gap version bytes) bytes)
@@ -115,8 +115,8 @@ module _ (version : ℕ) where
       Sized : Found → Type 0
       Sized f = f.size ≡ size_in version f.bodies
 
-      by_gate : Sized later → (is_open (slice_index bytes 0) ≡ true) ⊎ (is_open (slice_index bytes 0) ≡ false)
-          → (is_good version position bytes ≡ true) ⊎ (is_good version position bytes ≡ false) → Sized (found_from version (suc most) position bytes)
+      by_gate : Sized later → (is_opened_gate (slice_index bytes 0) ≡ true) ⊎ (is_opened_gate (slice_index bytes 0) ≡ false)
+          → (is_good_record version position bytes ≡ true) ⊎ (is_good_record version position bytes ≡ false) → Sized (found_from version (suc most) position bytes)
       by_gate more (inl opened) (inl good) =
           subst Sized (sym (found_good version most position bytes opened good)) (ap₂ (λ a b. a + b) (sym (body_size version position bytes good)) more)
       by_gate more (inl opened) (inr wrong) = subst Sized (sym (bad_found version most position bytes opened wrong)) refl
@@ -158,8 +158,8 @@ module _ (c : List ℕ) (state : State) (says : Says c state) where
   version_is : (journal c).head.version ≡ state.version
   version_is = ap (λ (s : State). s.version) says.state_is
 
-  end_is : next_place state ≡ option_map_or place (current c) 0 + (12 + size_in (journal c).head.version (records c))
-  end_is = ap₂ (λ o n. option_map_or place o 0 + (12 + n)) in_use_is (ap (λ (s : State). s.size) (sym says.state_is) ∙ journal_size)
+  end_is : next_place state ≡ option_map_or bank_place (current c) 0 + (12 + size_in (journal c).head.version (records c))
+  end_is = ap₂ (λ o n. option_map_or bank_place o 0 + (12 + n)) in_use_is (ap (λ (s : State). s.size) (sym says.state_is) ∙ journal_size)
 
   -- a gate in front of the last one
   before_end : (k : ℕ) → k < length (records c) → gate_at c k < next_place state
@@ -167,8 +167,8 @@ module _ (c : List ℕ) (state : State) (says : Says c state) where
 
   last_gate : (k : ℕ) → length (records c) ≤ k → gate_at c k ≡ next_place state
   last_gate k all =
-      ap (λ l. option_map_or place (current c) 0 + 12 + size_in (journal c).head.version l) (take_all (records c) k all)
-      ∙ regroup (option_map_or place (current c) 0) (size_in (journal c).head.version (records c)) ∙ sym end_is
+      ap (λ l. option_map_or bank_place (current c) 0 + 12 + size_in (journal c).head.version l) (take_all (records c) k all)
+      ∙ regroup (option_map_or bank_place (current c) 0) (size_in (journal c).head.version (records c)) ∙ sym end_is
     where
       regroup : (at n : ℕ) → at + 12 + n ≡ at + (12 + n)
       regroup at n = omega arith
@@ -185,7 +185,7 @@ module _ (c : List ℕ) (state : State) (says : Says c state) where
     0,
     record {
       within = omega arith;
-      place = is ∙ regroup (option_map_or place state.in_use 0) ∙ ap (λ o. option_map_or place o 0 + 12 + 0) in_use_is;
+      place = is ∙ regroup (option_map_or bank_place state.in_use 0) ∙ ap (λ o. option_map_or bank_place o 0 + 12 + 0) in_use_is;
     },
   )
     where
@@ -228,11 +228,11 @@ module _ (c : List ℕ) (state : State) (says : Says c state) where
     there = subst (λ l. IsThere state.version 0 (drop 12 (bank c side)) l k) (sym records_are)
         (each_there state.version (length (bank c side)) 0 (drop 12 (bank c side)) k (subst (λ (l : List (List ℕ)). k < length l) records_are below))
 
-    gate_is : (m : ℕ) → gate_at c m ≡ place side + 12 + size_in state.version (take m (records c))
-    gate_is m = ap₂ (λ o v. option_map_or place o 0 + 12 + size_in v (take m (records c))) some_bank.1 version_is
+    gate_is : (m : ℕ) → gate_at c m ≡ bank_place side + 12 + size_in state.version (take m (records c))
+    gate_is m = ap₂ (λ o v. option_map_or bank_place o 0 + 12 + size_in v (take m (records c))) some_bank.1 version_is
 
-    end_there : next_place state ≡ place side + (12 + state.size)
-    end_there = ap (λ o. option_map_or place o 0 + (12 + state.size)) (in_use_is ∙ some_bank.1)
+    end_there : next_place state ≡ bank_place side + (12 + state.size)
+    end_there = ap (λ o. option_map_or bank_place o 0 + (12 + state.size)) (in_use_is ∙ some_bank.1)
 
     rest_there : rest ≡ 32768 - (12 + size)
     rest_there = omega (arith, rest_is, before, gate.place, gate_is k, end_there, inside)
@@ -243,8 +243,8 @@ module _ (c : List ℕ) (state : State) (says : Says c state) where
     read_there : read ≡ take n bytes
     read_there =
         read_is
-        ∙ ap₂ (λ m l. take m l) (just at) (ap (λ m. drop m c) (gate.place ∙ gate_is k ∙ regroup (place side)) ∙ sym (drop-drop (12 + size) (place side) c))
-        ∙ window (drop (place side) c) (take 32768 (drop (place side) c)) 32768 (12 + size) n (sym (take-take 32768 32768 (drop (place side) c) (omega arith)))
+        ∙ ap₂ (λ m l. take m l) (just at) (ap (λ m. drop m c) (gate.place ∙ gate_is k ∙ regroup (bank_place side)) ∙ sym (drop-drop (12 + size) (bank_place side) c))
+        ∙ window (drop (bank_place side) c) (take 32768 (drop (bank_place side) c)) 32768 (12 + size) n (sym (take-take 32768 32768 (drop (bank_place side) c) (omega arith)))
         (omega (arith, n_is, rest_there, before, gate.place, gate_is k, end_there, inside))
         ∙ ap (take n) (sym (drop-drop size 12 (bank c side)))
       where

@@ -4,7 +4,7 @@ use Rattle.journal_laws.specs.declared.state.State.{State}
 use Rattle.journal_laws.specs.Journal.{journal, records, state_of, gate_at, IsSound}
 
 -- its memory, what it knows of that, and whether it may be used
-pub record Kept (N : Type 0) : Type 0 where
+pub record KeptMemory (N : Type 0) : Type 0 where
   pub nv : N
   pub state : State
   pub live : Bool
@@ -15,7 +15,7 @@ pub record Says (content : List ℕ) (state : State) : Type 0 where
   pub state_is : state_of content ≡ state
   pub sound : IsSound (journal content)
 
-pub record IsKept {N : Type 0} (tells : Bool) (capacity : N → ℕ) (content : N → List ℕ) (kept : Kept N) : Type 0 where
+pub record IsKept {N : Type 0} (tells : Bool) (capacity : N → ℕ) (content : N → List ℕ) (kept : KeptMemory N) : Type 0 where
   pub size : capacity kept.nv ≡ 65536
   pub inside : kept.state.size < 32756
   pub few : 3 * kept.state.many ≤ kept.state.size

@@ -5,7 +5,7 @@ use Rattle.nv_journal.specs.declared.JournalFault.{JournalFault}
 use Rattle.nv_journal.specs.declared.JournalFault.TheVariants.{NvFault, UnknownFormat, BadRecord, GenerationsSpent}
 use Rattle.journal_laws.specs.declared.state.State.{State}
 use Rattle.journal_laws.specs.Writes.{AreRead, AreCalled}
-use Rattle.journal_laws.specs.Operations.{format_writes, start_writes, started, LeftByCut}
+use Rattle.journal_laws.specs.Operations.{format_writes, start_writes, started_state, LeftByCut}
 use Rattle.nv_journal.specs.Faults.{fault}
 use Rattle.nv_journal.specs.Kept.{Says}
 
@@ -38,7 +38,7 @@ IsRefused reads faults tells content old new f =
 pub record IsOpened {N : Type 0} (reads : N → Bool → N → Type 0) (writes : N → ℕ → List ℕ → Bool → N → Type 0) (tells : Bool) (content : N → List ℕ)
     (old new : N) (state : State) : Type 0 where
   pub before : State
-  pub state_is : state ≡ started before
+  pub state_is : state ≡ started_state before
   pub called : AreCalled reads writes 37 (start_writes before) old true new
   pub said : IsTrue tells → Says (content old) before
 

@@ -6,7 +6,7 @@ use Rattle.journal_laws.specs.declared.banks.Side.TheVariants.{First, Second}
 use Rattle.journal_laws.specs.Writes.{AreRead}
 use Rattle.journal_laws.specs.declared.state.Head.{Head}
 use Rattle.journal_laws.specs.declared.state.State.{State}
-use Rattle.journal_laws.specs.Banks.{other, bank, is_open, head, newer, current}
+use Rattle.journal_laws.specs.Banks.{other, bank, is_opened_gate, head, newer, current}
 use Rattle.journal_laws.specs.Records.{index_len, behind, found_from, size_in}
 use Rattle.journal_laws.specs.Journal.{unformatted, found_in, state_by, next_gate}
 use Rattle.nv_journal.specs.Kept.{Says}
@@ -59,9 +59,9 @@ begun_in side h beside = record {
   beside = beside;
 }
 
-abbrev pub begun : Head → Head → State
-begun first second =
-    option_map_or (λ side. begun_in side (head_at first second side) (is_open (head_at first second (other side)).gate))
+abbrev pub begun_scan : Head → Head → State
+begun_scan first second =
+    option_map_or (λ side. begun_in side (head_at first second side) (is_opened_gate (head_at first second (other side)).gate))
     (newer first second) (state_by None unformatted false)
 
 -- These records of the bank in use were passed, and these bytes of it were read behind them.
@@ -71,7 +71,7 @@ pub record IsPassed (content : List ℕ) (side : Side) (state : State) (ahead : 
   pub generation : (head content side).generation ≡ state.generation
   pub base : (head content side).base ≡ state.base
   pub snapshot : (head content side).snapshot ≡ state.snapshot
-  pub beside : is_open (head content (other side)).gate ≡ state.beside
+  pub beside : is_opened_gate (head content (other side)).gate ≡ state.beside
   pub passed : List (List ℕ)
   pub many : length passed ≡ state.many
   pub size : size_in state.version passed ≡ state.size

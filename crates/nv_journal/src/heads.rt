@@ -4,7 +4,7 @@ ghost use Rattle.swp_base.specs.Outside.{Rose};
 ghost use Rattle.journal_laws.specs.Writes.{AreRead};
 ghost use Rattle.journal_laws.specs.Banks.{head, newer};
 ghost use Rattle.journal_laws.specs.declared.banks.Side.TheVariants.{First, Second};
-ghost use Rattle.nv_journal.specs.Scanning.{begun};
+ghost use Rattle.nv_journal.specs.Scanning.{begun_scan};
 
 use journal_laws::{Head, Side, State};
 use swp_base::{Failed, Nv};
@@ -67,7 +67,7 @@ fn newer(first: &Head, second: &Head) -> Option<Side>
 
 /// What is known of a memory by its heads, in front of its first record.
 pub fn begun(first: &Head, second: &Head) -> State
-    ensures { result ≡ begun first.now second.now }
+    ensures { result ≡ begun_scan first.now second.now }
 {
     let Some(side) = newer(first, second) else {
         return State {

@@ -3,7 +3,7 @@ ghost use Rattle.std.specs.Prelude.{◌≡◌, ◌≢◌, ◌+◌, ◌-◌, ◌�
 ghost use Rattle.swp_base.specs.Outside.{Rose};
 ghost use Rattle.journal_laws.specs.Writes.{AreMade, AreRead};
 ghost use Rattle.journal_laws.specs.Journal.{records, count_of, count, left, next_place, gate_at};
-ghost use Rattle.journal_laws.specs.Operations.{append_writes, compact_writes, HasRoom, appended, compacted, LeftByCut};
+ghost use Rattle.journal_laws.specs.Operations.{append_writes, compact_writes, HasRoomForBody, appended, compacted, LeftByCut};
 
 use crate::gates::read_record;
 use crate::records::write_record;
@@ -23,9 +23,9 @@ pub struct Journal<N: Nv + Drop> {
 }
 
 impl<N: Nv + Drop> Model for Journal<N> {
-    ghost use Rattle.nv_journal.specs.Kept.{Kept, IsKept};
+    ghost use Rattle.nv_journal.specs.Kept.{KeptMemory, IsKept};
 
-    ghost Value = { Kept N };
+    ghost Value = { KeptMemory N };
 
     ghost view = { λ j. record { nv = j.nv; state = j.state; live = j.live } };
 
@@ -84,7 +84,7 @@ impl<N: Nv + Drop> Journal<N> {
     /// journal is not live any more: a start on its memory gives the records from before, or these and the new one.
     pub fn append(&mut self, body: &[u8]) -> Result<(), JournalFault>
         requires live { IsTrue self.old.live }
-        requires room { HasRoom self.old.state body.now }
+        requires room { HasRoomForBody self.old.state body.now }
         ensures made { AreMade N.writes (append_writes self.old.state body.now) self.old.nv (is_ok result) self.new.nv }
         ensures state { OnOk result (self.new.state ≡ appended self.old.state body.now) }
         ensures live { self.new.live ≡ is_ok result }

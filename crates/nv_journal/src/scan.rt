@@ -2,7 +2,7 @@
 ghost use Rattle.std.specs.Prelude.{◌≡◌, ◌≢◌, ◌⊎◌, ◌↔◌, ◌<◌, ◌≤◌, length, min, None, Some, Ok, Err, true, false, IsTrue, IfOk, IfErr, OnOk, OnErr, MatchResult, MatchOption, slice_get};
 ghost use Rattle.swp_base.specs.Outside.{Rose};
 ghost use Rattle.journal_laws.specs.Writes.{AreRead, AreMade};
-ghost use Rattle.journal_laws.specs.Operations.{format_writes, start_writes, started, LeftByCut};
+ghost use Rattle.journal_laws.specs.Operations.{format_writes, start_writes, started_state, LeftByCut};
 ghost use Rattle.journal_laws.specs.Journal.{journal, records, left, next_place, gate_at};
 ghost use Rattle.nv_journal.specs.Faults.{is_known, IsKnown, IsFaulty, fault};
 ghost use Rattle.nv_journal.specs.Scanning.{IsReadSoFar, passed_on, read_to};
@@ -237,7 +237,7 @@ impl<N: Nv + Drop> Scan<N> {
         requires { IsTrue self.ended }
         ensures made { MatchResult result (λ j. AreMade N.writes (start_writes self.state) self.nv true j.nv)
             (λ e. AreMade N.writes (start_writes self.state) self.nv false e.nv) }
-        ensures state { IfOk result (λ j. (j.state ≡ started self.state) × IsTrue j.live) }
+        ensures state { IfOk result (λ j. (j.state ≡ started_state self.state) × IsTrue j.live) }
         ensures none { IfErr result (λ e. (e.fault ≡ JournalFault.NvFault) × (self.state.in_use ≡ None)) }
         ensures count { MatchResult result (λ j. N.faults self.nv ≤ N.faults j.nv) (λ e. Rose (N.faults self.nv) (N.faults e.nv)) }
         ensures said { IsTrue N.tells → Says (N.content self.nv) self.state }

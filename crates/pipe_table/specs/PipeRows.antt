@@ -36,8 +36,8 @@ abbrev pub ends_at : PipeRow → ℕ → ℕ → Bool
 ends_at row host gate = (row.creator == host && row.creator_gate == gate) || (row.dest == host && row.dest_gate == gate)
 
 -- the rows where all pipes of a host are taken out
-abbrev pub without_host : List PipeRow → ℕ → List PipeRow
-without_host rows host = filter (λ row. not (joins_host row host)) rows
+abbrev pub rows_without_host : List PipeRow → ℕ → List PipeRow
+rows_without_host rows host = filter (λ row. not (joins_host row host)) rows
 
 -- a row opened or closed
 abbrev pub as_opened : Bool → PipeRow → PipeRow

@@ -33,7 +33,7 @@ impl Model for PipeTable {
 
 impl PipeTable {
     ghost use Rattle.std.specs.Prelude.{◌≡◌, ◌↔◌, [], IsTrue, IsSome, IsNone, IfSome};
-    ghost use Rattle.pipe_table.specs.PipeRows.{ArePipeRows, IsDynamic, pipe_at, with_pipe, without_pipe, without_host, with_opened, all_closed, opened_on, is_free, lowest_free};
+    ghost use Rattle.pipe_table.specs.PipeRows.{ArePipeRows, IsDynamic, pipe_at, with_pipe, without_pipe, rows_without_host, with_opened, all_closed, opened_on, is_free, lowest_free};
 
     /// No pipes.
     pub fn new() -> PipeTable
@@ -82,7 +82,7 @@ impl PipeTable {
 
     /// Takes all pipes of a host out.
     pub fn clear_host(&mut self, host: u8)
-        ensures { self.new ≡ without_host self.old host }
+        ensures { self.new ≡ rows_without_host self.old host }
     {
         self.rows.retain(|row| !row.joins_host(host));
     }

@@ -6,7 +6,7 @@ use Rattle.std.proofs.lemmas.Bool.{cond_both, and_parts, or_cases, leb-true, eqb
 use Rattle.sorted_rows.specs.Rows.{rows_before, rows_behind, with_row}
 use Rattle.sorted_rows.proofs.RowLemmas.{AreRows-filter, AreRows-with_row}
 use Rattle.registry.specs.declared.value.RegValue.{RegValue}
-use Rattle.registry.specs.Values.{AreValues, IsPresent, is_kept, is_default, place, place_of}
+use Rattle.registry.specs.Values.{AreValues, IsPresent, is_kept, is_default, value_place, place_of_value}
 
 AllByRecursion-filter : {X : Type 0} (P : X → Type 0) (test : X → Bool) (xs : List X) → AllByRecursion P xs → AllByRecursion P (filter test xs)
 AllByRecursion-filter P test [] h = tt
@@ -20,12 +20,12 @@ AllByRecursion-append P (x ∷ xs) ys h k = (h.0, AllByRecursion-append P xs ys 
 
 pub AreValues-filter : (test : RegValue → Bool) (values : List RegValue) → AreValues values → AreValues (filter test values)
 AreValues-filter test values h = record {
-  sorted = AreRows-filter place_of 2 16 test values h.sorted;
+  sorted = AreRows-filter place_of_value 2 16 test values h.sorted;
   present = AllByRecursion-filter IsPresent test values h.present;
 }
 
 -- the place of a parameter that is kept
-pub place-within : (host gate param : ℕ) → IsTrue (is_kept host gate param) → (2 ≤ place host param) × (place host param < 16)
+pub place-within : (host gate param : ℕ) → IsTrue (is_kept host gate param) → (2 ≤ value_place host param) × (value_place host param < 16)
 place-within host gate param kept =
     let parts = and_parts (leb 1 host && leb host 7 && eqb gate 0) (eqb param 1 || eqb param 3) kept in
     let hosts = and_parts (leb 1 host && leb host 7) (eqb gate 0) parts.0 in
@@ -37,14 +37,14 @@ place-within host gate param kept =
       | inr third ↦ let is = eqb-true param 3 third in (omega arith, omega arith)
     ]
 
-pub place_of-within : (v : RegValue) → IsPresent v → (2 ≤ place_of v) × (place_of v < 16)
+pub place_of-within : (v : RegValue) → IsPresent v → (2 ≤ place_of_value v) × (place_of_value v < 16)
 place_of-within v present = place-within v.host v.gate v.param (and_parts (is_kept v.host v.gate v.param) (not (is_default v.param v.value.items)) present).0
 
-pub AreValues-with_row : (v : RegValue) (values : List RegValue) → IsPresent v → AreValues values → AreValues (with_row place_of v values)
+pub AreValues-with_row : (v : RegValue) (values : List RegValue) → IsPresent v → AreValues values → AreValues (with_row place_of_value v values)
 AreValues-with_row v values present h =
     let within = place_of-within v present in
     record {
-      sorted = AreRows-with_row place_of 2 16 v values h.sorted within.0 within.1;
-      present = AllByRecursion-append IsPresent (rows_before place_of (place_of v) values) (v ∷ rows_behind place_of (place_of v) values)
+      sorted = AreRows-with_row place_of_value 2 16 v values h.sorted within.0 within.1;
+      present = AllByRecursion-append IsPresent (rows_before place_of_value (place_of_value v) values) (v ∷ rows_behind place_of_value (place_of_value v) values)
           (AllByRecursion-filter IsPresent _ values h.present) (present, AllByRecursion-filter IsPresent _ values h.present);
     }

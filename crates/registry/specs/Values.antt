@@ -17,11 +17,11 @@ abbrev pub is_default : ℕ → List ℕ → Bool
 is_default param value = if param == 1 then length value == 8 && list_all (λ byte. byte == 255) value else length value == 0
 
 -- the place of a kept parameter: by host, and then by parameter
-abbrev pub place : ℕ → ℕ → ℕ
-place host param = 2 * host + param / 2
+abbrev pub value_place : ℕ → ℕ → ℕ
+value_place host param = 2 * host + param / 2
 
-abbrev pub place_of : RegValue → ℕ
-place_of v = place v.host v.param
+abbrev pub place_of_value : RegValue → ℕ
+place_of_value v = value_place v.host v.param
 
 -- A value that may stand in a registry: its parameter is one of those that are kept, and it isn't its default.
 abbrev pub IsPresent : RegValue → Type 0
@@ -29,19 +29,19 @@ IsPresent v = IsTrue (is_kept v.host v.gate v.param && not (is_default v.param v
 
 -- a finite map from (host, gate, parameter) to bytes, as the list of its values in their places
 pub record AreValues (values : List RegValue) : Type 0 where
-  pub sorted : AreRows place_of 2 16 values
+  pub sorted : AreRows place_of_value 2 16 values
   pub present : AllByRecursion IsPresent values
 
 -- what a parameter reads as: its default where it is absent
 abbrev pub value_at : List RegValue → ℕ → ℕ → ℕ → List ℕ
-value_at values host gate param = option_map_or (λ (v : RegValue). v.value.items) (row_of place_of (place host param) values) (default_of param)
+value_at values host gate param = option_map_or (λ (v : RegValue). v.value.items) (row_of place_of_value (value_place host param) values) (default_of param)
 
 -- the registry where a parameter is set: a value equal to its default is absent
 abbrev pub with_value : List RegValue → ℕ → ℕ → ℕ → List ℕ → List RegValue
 with_value values host gate param value =
-    if is_default param value then without_row place_of (place host param) values
-    else with_row place_of (record { host = host; gate = gate; param = param; value = record { items = value } }) values
+    if is_default param value then without_row place_of_value (value_place host param) values
+    else with_row place_of_value (record { host = host; gate = gate; param = param; value = record { items = value } }) values
 
 -- the registry where all parameters of a host are at their defaults
-abbrev pub without_host : List RegValue → ℕ → List RegValue
-without_host values host = filter (λ v. not (v.host == host)) values
+abbrev pub values_without_host : List RegValue → ℕ → List RegValue
+values_without_host values host = filter (λ v. not (v.host == host)) values

@@ -2,7 +2,7 @@
 ghost use Rattle.std.specs.Prelude.{◌≡◌, ◌≤◌, ◌==◌, nat_lt, length};
 ghost use Rattle.std.specs.List.{list_all, prefix_len};
 ghost use Rattle.sorted_rows.specs.Rows.{without_row};
-ghost use Rattle.registry.specs.Values.{place_of, is_default};
+ghost use Rattle.registry.specs.Values.{place_of_value, is_default};
 
 use crate::value::{RegValue, SESSION_IDENTITY, place};
 use arrayvec::ArrayVec;
@@ -38,7 +38,7 @@ impl Registry {
     ghost use Rattle.std.specs.Prelude.{◌≡◌, ◌≤◌, [], IsTrue, length};
     ghost use Rattle.std.specs.Option.{option_copied};
     ghost use Rattle.sorted_rows.specs.Rows.{row_of, with_row};
-    ghost use Rattle.registry.specs.Values.{AreValues, IsPresent, place_of, is_kept, value_at, with_value, without_host};
+    ghost use Rattle.registry.specs.Values.{AreValues, IsPresent, place_of_value, is_kept, value_at, with_value, values_without_host};
 
     /// All parameters are at their defaults.
     pub fn new() -> Registry
@@ -89,14 +89,14 @@ impl Registry {
     }
 
     fn find(&self, place: u16) -> Option<&RegValue>
-        ensures { option_copied result ≡ row_of place_of place self.now }
+        ensures { option_copied result ≡ row_of place_of_value place self.now }
     {
         self.values.iter().find(|value| value.place() == place)
     }
 
     fn put(&mut self, value: RegValue)
         requires { IsPresent value }
-        ensures { self.new ≡ with_row place_of value self.old }
+        ensures { self.new ≡ with_row place_of_value value self.old }
     {
         let place = value.place();
         take_out(&mut self.values, place);
@@ -106,7 +106,7 @@ impl Registry {
 
     /// Sets all parameters of a host to their defaults.
     pub fn clear_host(&mut self, host: u8)
-        ensures { self.new ≡ without_host self.old host }
+        ensures { self.new ≡ values_without_host self.old host }
     {
         self.values.retain(|value| value.host != host);
     }
@@ -154,7 +154,7 @@ fn all_ones(value: &[u8]) -> bool
 
 // How many values stand before a place.
 fn place_in(values: &[RegValue], place: u16) -> usize
-    ensures { result ≡ prefix_len (λ v. nat_lt (place_of v) place) values.now }
+    ensures { result ≡ prefix_len (λ v. nat_lt (place_of_value v) place) values.now }
 {
     values
         .iter()
@@ -163,7 +163,7 @@ fn place_in(values: &[RegValue], place: u16) -> usize
 }
 
 fn take_out(values: &mut ArrayVec<RegValue, 14>, place: u16)
-    ensures { values.new.items ≡ without_row place_of place values.old.items }
+    ensures { values.new.items ≡ without_row place_of_value place values.old.items }
 {
     values.retain(|value| value.place() != place);
 }

@@ -29,10 +29,10 @@ pub struct RegValue {
 
 impl RegValue {
     ghost use Rattle.std.specs.Prelude.{◌≡◌};
-    ghost use Rattle.registry.specs.Values.{place_of};
+    ghost use Rattle.registry.specs.Values.{place_of_value};
 
     pub(crate) fn place(&self) -> u16
-        ensures { result ≡ place_of self.now }
+        ensures { result ≡ place_of_value self.now }
     {
         place(self.host, self.param)
     }

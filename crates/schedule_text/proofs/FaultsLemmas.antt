@@ -8,10 +8,10 @@ use Rattle.schedule_text.specs.declared.read.Read.{Read}
 use Rattle.schedule_text.specs.declared.read.Read.TheVariants as read
 use Rattle.schedule_text.specs.declared.forms.Kind.{Kind}
 use Rattle.schedule_text.specs.declared.forms.Kind.TheVariants as kind
-use Rattle.schedule_text.specs.Forms.{Row, rows, row_for, header_row, send_row, deliver_row, lose_row, damage_row, tick_row, reset_row, busy_row, ready_row}
+use Rattle.schedule_text.specs.Forms.{FormRow, rows, row_for, header_row, send_row, deliver_row, lose_row, damage_row, tick_row, reset_row, busy_row, ready_row}
 use Rattle.schedule_text.specs.Rules.{Slot, slots, rising, digits_fault, first_digits_fault, first_host_fault, is_well_formed, words_fault}
 use Rattle.schedule_text.specs.Lines.{read_of, may_stand, has_nodes, hosts_of, unless_fault, by_row, is_comment}
-use Rattle.schedule_text.specs.Answers.{IsRead, IsBareForm, IsOutOfOrder}
+use Rattle.schedule_text.specs.Answers.{IsReadOrNoMemory, IsBareForm, IsOutOfOrder}
 use Rattle.schedule_text.proofs.RowsLemmas.{row_cases}
 
 -- a fault of the words behind the first
@@ -54,7 +54,7 @@ later_host : (o : Option ℕ) → AreLater (option_map fault.Host o)
 later_host None = tt
 later_host (Some h) = tt
 
-later_words : (hci : Bool) (hosts : List ℕ) (row : Row) (ws : List (List ℕ)) → AreLater (words_fault hci hosts row ws)
+later_words : (hci : Bool) (hosts : List ℕ) (row : FormRow) (ws : List (List ℕ)) → AreLater (words_fault hci hosts row ws)
 later_words hci hosts row ws = go (is_well_formed hci row ws)
   where
     go : (t : Bool) → AreLater (cond t (option_or (first_digits_fault 2 0 (slots row.kinds ws)) (option_map fault.Host (first_host_fault hosts 0 (slots row.kinds ws)))) (Some fault.Word))
@@ -67,7 +67,7 @@ later_said None (Some r) f h e = cc
 later_said None None f h e = let same : fault.Word ≡ f = cc in subst IsLater same tt
 
 -- no row makes a line too long
-pub not_too_long : (header : Option Header) (o : Option Row) (ws : List (List ℕ)) → by_row header o ws ≡ Err fault.TooLong → ⊥
+pub not_too_long : (header : Option Header) (o : Option FormRow) (ws : List (List ℕ)) → by_row header o ws ≡ Err fault.TooLong → ⊥
 not_too_long None None ws h = cc
 not_too_long (Some header) None ws h = cc
 not_too_long header (Some row) ws h = go (may_stand row.place header) h
@@ -77,14 +77,14 @@ not_too_long header (Some row) ws h = go (may_stand row.place header) h
     go false e = cc
 
 -- a line is out of order where its row may not stand there
-not_standing : (header : Option Header) (row : Row) (ws : List (List ℕ)) → by_row header (Some row) ws ≡ Err fault.Order → may_stand row.place header ≡ false
+not_standing : (header : Option Header) (row : FormRow) (ws : List (List ℕ)) → by_row header (Some row) ws ≡ Err fault.Order → may_stand row.place header ≡ false
 not_standing header row ws h = go (may_stand row.place header) h
   where
     go : (t : Bool) → cond t (unless_fault (words_fault (has_nodes header) (hosts_of header) row ws) (read_of row.name ws)) (Err fault.Order) ≡ Err fault.Order → t ≡ false
     go true e = absurd (later_said _ _ fault.Order (later_words (has_nodes header) (hosts_of header) row ws) e)
     go false e = refl
 
-allowed : (header : Option Header) (row : Row) (ws : List (List ℕ)) → may_stand row.place header ≡ true → by_row header (Some row) ws ≡ Err fault.Order → ⊥
+allowed : (header : Option Header) (row : FormRow) (ws : List (List ℕ)) → may_stand row.place header ≡ true → by_row header (Some row) ws ≡ Err fault.Order → ⊥
 allowed header row ws stands h = let not = not_standing header row ws h in cc
 
 not_bare : (hci : Bool) → not hci ≡ false → IsTrue hci
@@ -96,7 +96,7 @@ first_order first ws other =
     row_cases (λ o. by_row None o ws ≡ Err fault.Order) rows first
     (λ e. absurd (other e), (λ e. refl, (λ e. refl, (λ e. refl, (λ e. refl, (λ e. refl, (λ e. refl, (λ e. refl, (λ e. refl, tt))))))))) (λ e. refl)
 
-bare_forbidden : (header : Header) (row : Row) (ws : List (List ℕ)) → may_stand row.place (Some header) ≡ not header.hci
+bare_forbidden : (header : Header) (row : FormRow) (ws : List (List ℕ)) → may_stand row.place (Some header) ≡ not header.hci
     → by_row (Some header) (Some row) ws ≡ Err fault.Order → IsTrue header.hci
 bare_forbidden header row ws stands h = not_bare header.hci (sym stands ∙ not_standing (Some header) row ws h)
 
@@ -145,18 +145,18 @@ order_iff None first ws letter = (λ h. (λ t. cc, header_stands first ws h), λ
 order_iff (Some header) first ws letter = (later_order header first ws, order_later header first ws)
 
 -- want of memory is no fault
-pub same_fault : (answer said : Result Read LineFault) (f : LineFault) → IsRead answer said → (answer ≡ Err f) ↔ (said ≡ Err f)
+pub same_fault : (answer said : Result Read LineFault) (f : LineFault) → IsReadOrNoMemory answer said → (answer ≡ Err f) ↔ (said ≡ Err f)
 same_fault answer said f (inl e) = (λ h. sym e ∙ h, λ h. e ∙ h)
 same_fault answer (Ok r) f (inr m) = (λ h. cc (m.0), λ h. cc)
 same_fault answer (Err g) f (inr m) = absurd m.1
 
 -- nor is a line skipped for it
-pub same_skip : (answer said : Result Read LineFault) → IsRead answer said → answer ≡ Ok read.Skip → said ≡ Ok read.Skip
+pub same_skip : (answer said : Result Read LineFault) → IsReadOrNoMemory answer said → answer ≡ Ok read.Skip → said ≡ Ok read.Skip
 same_skip answer said (inl e) h = sym e ∙ h
 same_skip answer said (inr m) h = cc (m.0)
 
 -- what holds of what is read holds of what is answered, if it holds of want of memory
-pub answer_fits : (P : Read → Type 0) (answer said : Result Read LineFault) → IsRead answer said → ((r : Read) → said ≡ Ok r → P r) → P read.NoMemory → IfOk answer P
+pub answer_fits : (P : Read → Type 0) (answer said : Result Read LineFault) → IsReadOrNoMemory answer said → ((r : Read) → said ≡ Ok r → P r) → P read.NoMemory → IfOk answer P
 answer_fits P (Ok r) said (inl e) h m = h r (sym e)
 answer_fits P (Err f) said (inl e) h m = tt
 answer_fits P (Ok r) said (inr e) h m = let same : read.NoMemory ≡ r = cc (e.0) in subst P same m

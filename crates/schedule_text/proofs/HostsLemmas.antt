@@ -9,7 +9,7 @@ use Rattle.schedule_text.specs.declared.read.Read.{Read}
 use Rattle.schedule_text.specs.declared.forms.Kind.{Kind}
 use Rattle.schedule_text.specs.declared.forms.Kind.TheVariants as kind
 use Rattle.schedule_text.specs.Values.{byte_value, bytes_value, number_in, end_value}
-use Rattle.schedule_text.specs.Forms.{Row, rows, row_for, send_row, deliver_row, lose_row, damage_row, tick_row, reset_row, busy_row, ready_row}
+use Rattle.schedule_text.specs.Forms.{FormRow, rows, row_for, send_row, deliver_row, lose_row, damage_row, tick_row, reset_row, busy_row, ready_row}
 use Rattle.schedule_text.specs.Rules.{Slot, slots, later, rising, stranger, has_byte, has_bytes, digits_fault, host_fault, first_digits_fault, first_host_fault, is_well_formed, words_fault}
 use Rattle.schedule_text.specs.Lines.{read_of, may_stand, unless_fault, by_row}
 use Rattle.schedule_text.proofs.RowsLemmas.{row_cases, both}
@@ -103,7 +103,7 @@ unless_some (Some g) said id h = cc
 unless_some None (Some r) id h = cc
 unless_some None None id h = cc
 
-line_unknown : (header : Header) (row : Row) (ws : List (List ℕ)) (id : ℕ) → list_all is_old row.kinds ≡ true
+line_unknown : (header : Header) (row : FormRow) (ws : List (List ℕ)) (id : ℕ) → list_all is_old row.kinds ≡ true
     → by_row (Some header) (Some row) ws ≡ Err (fault.Host id) → list_any (λ host. host == id) header.hosts.items ≡ false
 line_unknown header row ws id old h = go (may_stand row.place (Some header)) h
   where

@@ -17,7 +17,7 @@ use Rattle.schedule_text.specs.declared.read.Read.{Read}
 use Rattle.schedule_text.specs.declared.read.Read.TheVariants as read
 use Rattle.schedule_text.specs.Words.{words}
 use Rattle.schedule_text.specs.Values.{bytes_value, number_in}
-use Rattle.schedule_text.specs.Forms.{Row, rows, row_for, header_row, send_row, deliver_row, lose_row, damage_row, tick_row, reset_row, busy_row, ready_row}
+use Rattle.schedule_text.specs.Forms.{FormRow, rows, row_for, header_row, send_row, deliver_row, lose_row, damage_row, tick_row, reset_row, busy_row, ready_row}
 use Rattle.schedule_text.specs.Rules.{words_fault}
 use Rattle.schedule_text.specs.Lines.{◌>>=◌, number_at, read_of, unless_fault, by_row, by_words, is_comment, line_of}
 use Rattle.schedule_text.specs.Answers.{CanBeRead, IsInGrammar}
@@ -58,7 +58,7 @@ number_ranges high None = tt
 number_ranges high (Some word) = number_bounds high word (number_in 1 high word) refl
 
 -- what the words of a line say that have no fault
-abbrev pub Says : Header → Row → List (List ℕ) → Type 0
+abbrev pub Says : Header → FormRow → List (List ℕ) → Type 0
 Says header row ws = Right header.hci header.hosts.items row ws → (said : Line) × (read_of row.name ws ≡ Some (read.Line said)) × IsLineOf header said
 
 pub says_send : (header : Header) (ws : List (List ℕ)) → Says header send_row ws
@@ -159,7 +159,7 @@ same_read a b h = cc
 ok_is : (a b : Read) → Ok a ≡ (let r : Result Read LineFault = Ok b in r) → a ≡ b
 ok_is a b h = cc
 
-whole_line : (header : Header) (row : Row) (ws : List (List ℕ)) (r : Read) → Says header row ws
+whole_line : (header : Header) (row : FormRow) (ws : List (List ℕ)) (r : Read) → Says header row ws
     → unless_fault (words_fault header.hci header.hosts.items row ws) (read_of row.name ws) ≡ Ok r → IsWhole (Some header) r
 whole_line header row ws r says h =
     let right = unless_ok _ _ _ h in
@@ -172,7 +172,7 @@ whole_header ws r h =
     let said = says_header ws (no_fault false [] header_row ws right.0) in
     subst (IsWhole None) (same_read _ _ (sym said.1 ∙ right.1)) said.2
 
-whole_bare : (header : Header) (row : Row) (ws : List (List ℕ)) (r : Read) (t : Bool) → header.hci ≡ t → (header.hci ≡ false → Says header row ws)
+whole_bare : (header : Header) (row : FormRow) (ws : List (List ℕ)) (r : Read) (t : Bool) → header.hci ≡ t → (header.hci ≡ false → Says header row ws)
     → cond (not t) (unless_fault (words_fault header.hci header.hosts.items row ws) (read_of row.name ws)) (Err fault.Order) ≡ Ok r → IsWhole (Some header) r
 whole_bare header row ws r true e says h = cc
 whole_bare header row ws r false e says h = whole_line header row ws r (says e) h
@@ -262,7 +262,7 @@ pub IsHeader-line_of : (bytes : List ℕ) (header : Header) → line_of None byt
 IsHeader-line_of bytes header h = line_fits None bytes (read.Header header) h
 
 -- a message is read, and no more places than a line has
-abbrev Ready : Bool → List ℕ → List (List ℕ) → Option Row → Type 0
+abbrev Ready : Bool → List ℕ → List (List ℕ) → Option FormRow → Type 0
 Ready hci hosts ws None = Unit {0}
 Ready hci hosts ws (Some row) = Right hci hosts row ws → CanBeRead row.name ws
 
@@ -278,6 +278,6 @@ ready hci hosts first ws =
     (λ e r. tt, (λ e. ready_send hci hosts ws, (λ e r. tt, (λ e r. tt, (λ e r. r.most, (λ e r. tt, (λ e r. tt, (λ e r. tt, (λ e r. tt, tt)))))))))
     (λ e. tt)
 
-pub can_be_read : (hci : Bool) (hosts : List ℕ) (first : List ℕ) (row : Row) (ws : List (List ℕ)) → Some row ≡ row_for first
+pub can_be_read : (hci : Bool) (hosts : List ℕ) (first : List ℕ) (row : FormRow) (ws : List (List ℕ)) → Some row ≡ row_for first
     → words_fault hci hosts row ws ≡ None → CanBeRead row.name ws
 can_be_read hci hosts first row ws e h = subst (Ready hci hosts ws) (sym e) (ready hci hosts first ws) (no_fault hci hosts row ws h)

@@ -6,12 +6,12 @@ use Rattle.std.proofs.lemmas.Bool.{leb-true, le-leb}
 use Rattle.schedule_text.specs.declared.forms.Kind.TheVariants as kind
 use Rattle.schedule_text.specs.Values.{number_value, number_in, option_if}
 use Rattle.schedule_text.specs.Rules.{slots}
-use Rattle.schedule_text.specs.Lines.{◌>>=◌, places_of}
+use Rattle.schedule_text.specs.Lines.{◌>>=◌, bit_places}
 use Rattle.schedule_text.proofs.RowsLemmas.{AllFit, both}
 
 -- the places of these words, behind others
 abbrev pub places_behind : List ℕ → List (List ℕ) → Option (List ℕ)
-places_behind front ws = option_map (λ more. front ++ more) (places_of ws)
+places_behind front ws = option_map (λ more. front ++ more) (bit_places ws)
 
 pub places-none : (front : List ℕ) → places_behind front [] ≡ Some front
 places-none front = ap Some (append-nil front)
@@ -21,7 +21,7 @@ places-wrong front word ws h = rw h refl
 
 pub places-more : (front word : List ℕ) (ws : List (List ℕ)) (n : ℕ) → number_in 0 399 word ≡ Some n
     → places_behind front (word ∷ ws) ≡ places_behind (front ++ n ∷ []) ws
-places-more front word ws n h = rw h (go (places_of ws))
+places-more front word ws n h = rw h (go (bit_places ws))
   where
     go : (o : Option (List ℕ)) → option_map (λ more. front ++ more) (o >>= (λ more. Some (n ∷ more))) ≡ option_map (λ more. (front ++ n ∷ []) ++ more) o
     go None = refl
@@ -49,7 +49,7 @@ number-in low high n word e a b = rw (e, le-leb low n a, le-leb n high b) refl
 
 -- words of places are read
 pub places-read : (hci : Bool) (hosts : List ℕ) (from : ℕ) (ws : List (List ℕ)) → AllFit hci hosts from (slots (kind.Rising 399 ∷ []) ws)
-    → (ps : List ℕ) × (places_of ws ≡ Some ps) × (length ps ≡ length ws) × RiseFrom from ps
+    → (ps : List ℕ) × (bit_places ws ≡ Some ps) × (length ps ≡ length ws) × RiseFrom from ps
 places-read hci hosts from [] h = ([], refl, refl, tt)
 places-read hci hosts from (w ∷ ws) h =
     let range = number-range from 399 h.0.0 w h.0.1 in

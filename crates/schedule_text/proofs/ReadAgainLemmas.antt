@@ -19,9 +19,9 @@ use Rattle.schedule_text.specs.declared.read.Read.{Read}
 use Rattle.schedule_text.specs.declared.read.Read.TheVariants as read
 use Rattle.schedule_text.specs.Words.{spaced}
 use Rattle.schedule_text.specs.Values.{number_value, number_in, end_value}
-use Rattle.schedule_text.specs.Forms.{Row, header_row, send_row, deliver_row, lose_row, damage_row, tick_row, reset_row, busy_row, ready_row}
+use Rattle.schedule_text.specs.Forms.{FormRow, header_row, send_row, deliver_row, lose_row, damage_row, tick_row, reset_row, busy_row, ready_row}
 use Rattle.schedule_text.specs.Rules.{slots, words_fault}
-use Rattle.schedule_text.specs.Lines.{◌>>=◌, read_of, places_of, unless_fault, by_words, line_of}
+use Rattle.schedule_text.specs.Lines.{◌>>=◌, read_of, bit_places, unless_fault, by_words, line_of}
 use Rattle.schedule_text.specs.Entries.{byte_text, end_text, number_words, header_words, line_words, line_text}
 use Rattle.schedule_text.proofs.AgainLemmas.{IsWord, words-spaced, byte_again, end_again, bytes_again, number_again, hex_word, end_word, number_word, length-hex}
 use Rattle.schedule_text.proofs.RowsLemmas.{IsKnown, Fits, AllFit, Right, right_words}
@@ -93,7 +93,7 @@ places_are_words : (from : ℕ) (ps : List ℕ) → RiseFrom from ps → AllByRe
 places_are_words from [] h = tt
 places_are_words from (p ∷ ps) h = let high : p ≤ 399 = h.1 in (number_word p (omega arith), places_are_words (p + 1) ps h.2)
 
-places_come_back : (from : ℕ) (ps : List ℕ) → RiseFrom from ps → places_of (map decimal ps) ≡ Some ps
+places_come_back : (from : ℕ) (ps : List ℕ) → RiseFrom from ps → bit_places (map decimal ps) ≡ Some ps
 places_come_back from [] h = refl
 places_come_back from (p ∷ ps) h =
     rw (number_back 0 399 p (omega arith) h.1 (omega arith), places_come_back (p + 1) ps h.2) refl
@@ -125,11 +125,11 @@ by_its_words : (header : Option Header) (ws : List (List ℕ)) (r : Read) → le
     → line_of header (spaced ws) ≡ Ok r
 by_its_words header ws r short each h = rw (le-ltb 9000 (length (spaced ws)) short, words-spaced ws each) h
 
-again : (hci : Bool) (hosts : List ℕ) (row : Row) (ws : List (List ℕ)) (r : Read) → Right hci hosts row ws → read_of row.name ws ≡ Some r
+again : (hci : Bool) (hosts : List ℕ) (row : FormRow) (ws : List (List ℕ)) (r : Read) → Right hci hosts row ws → read_of row.name ws ≡ Some r
     → unless_fault (words_fault hci hosts row ws) (read_of row.name ws) ≡ Ok r
 again hci hosts row ws r right reads = rw (right_words hci hosts row ws right, reads) refl
 
-again_bare : (header : Header) (row : Row) (ws : List (List ℕ)) (r : Read) → header.hci ≡ false → Right header.hci header.hosts.items row ws
+again_bare : (header : Header) (row : FormRow) (ws : List (List ℕ)) (r : Read) → header.hci ≡ false → Right header.hci header.hosts.items row ws
     → read_of row.name ws ≡ Some r
     → cond (not header.hci) (unless_fault (words_fault header.hci header.hosts.items row ws) (read_of row.name ws)) (Err fault.Order) ≡ Ok r
 again_bare header row ws r bare right reads =

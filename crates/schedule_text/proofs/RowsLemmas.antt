@@ -11,7 +11,7 @@ use Rattle.schedule_text.specs.declared.fault.LineFault.TheVariants as fault
 use Rattle.schedule_text.specs.declared.forms.Kind.{Kind}
 use Rattle.schedule_text.specs.declared.forms.Kind.TheVariants as kind
 use Rattle.schedule_text.specs.Values.{byte_value, bytes_value, number_in, end_value, option_if}
-use Rattle.schedule_text.specs.Forms.{Row, row_in}
+use Rattle.schedule_text.specs.Forms.{FormRow, row_in}
 use Rattle.schedule_text.specs.Rules.{Slot, slots, is_sender, has_byte, has_bytes, has_shape, rising, stranger, digits_fault, host_fault, is_well_formed, first_digits_fault, first_host_fault, words_fault}
 
 pub both : (a b : Bool) → (a && b) ≡ true → (a ≡ true) × (b ≡ true)
@@ -144,12 +144,12 @@ all_right hci hosts at from (s ∷ ss) h =
     )
 
 -- words of a row without fault
-pub record Right (hci : Bool) (hosts : List ℕ) (row : Row) (ws : List (List ℕ)) : Type 0 where
+pub record Right (hci : Bool) (hosts : List ℕ) (row : FormRow) (ws : List (List ℕ)) : Type 0 where
   pub least : row.least ≤ length ws
   pub most : length ws ≤ row.most
   pub words : AllFit hci hosts 0 (slots row.kinds ws)
 
-pub no_fault : (hci : Bool) (hosts : List ℕ) (row : Row) (ws : List (List ℕ)) → words_fault hci hosts row ws ≡ None → Right hci hosts row ws
+pub no_fault : (hci : Bool) (hosts : List ℕ) (row : FormRow) (ws : List (List ℕ)) → words_fault hci hosts row ws ≡ None → Right hci hosts row ws
 no_fault hci hosts row ws h =
     let parts = unless_word (is_well_formed hci row ws) _ h in
     let sized = both _ _ parts.0 in
@@ -161,13 +161,13 @@ no_fault hci hosts row ws h =
       words = all_fit hci hosts 2 0 (slots row.kinds ws) shaped.1 right.0 (map_none _ _ right.1);
     }
 
-pub right_words : (hci : Bool) (hosts : List ℕ) (row : Row) (ws : List (List ℕ)) → Right hci hosts row ws → words_fault hci hosts row ws ≡ None
+pub right_words : (hci : Bool) (hosts : List ℕ) (row : FormRow) (ws : List (List ℕ)) → Right hci hosts row ws → words_fault hci hosts row ws ≡ None
 right_words hci hosts row ws h =
     let all = all_right hci hosts 2 0 (slots row.kinds ws) h.words in
     rw (le-leb row.least (length ws) h.least, le-leb (length ws) row.most h.most, all.0, all.1, all.2) refl
 
 -- what holds of each row of a table, and where no row is there, holds of the row of a word
-pub row_cases : (P : Option Row → Type 0) (table : List Row) (first : List ℕ) → AllByRecursion (λ row. first ≡ row.first → P (Some row)) table
+pub row_cases : (P : Option FormRow → Type 0) (table : List FormRow) (first : List ℕ) → AllByRecursion (λ row. first ≡ row.first → P (Some row)) table
     → (row_in table first ≡ None → P None) → P (row_in table first)
 row_cases P [] first each none = none refl
 row_cases P (row ∷ table) first each none = go (bytes_eq row.first first) refl (row_cases P table first each.1) none

@@ -5,7 +5,7 @@ use Rattle.schedule_text.specs.declared.forms.Name.{Name}
 use Rattle.schedule_text.specs.declared.forms.Name.TheVariants as name
 use Rattle.schedule_text.specs.declared.read.Read.{Read}
 use Rattle.schedule_text.specs.declared.read.Read.TheVariants as read
-use Rattle.schedule_text.specs.Lines.{bytes_at, is_comment}
+use Rattle.schedule_text.specs.Lines.{bytes_in_word, is_comment}
 use Rattle.trace_model.specs.declared.line.Header.{Header}
 use Rattle.trace_model.specs.declared.line.Line.TheVariants as line
 use Rattle.trace_model.specs.Lines.{IsHeader, IsLineOf}
@@ -13,7 +13,7 @@ use Rattle.trace_model.specs.Lines.{IsHeader, IsLineOf}
 -- what must be known of the words of a line before they are read: the third of `send` is a message, and `damage` has no more
 -- than 16 places
 abbrev pub CanBeRead : Name → List (List ℕ) → Type 0
-CanBeRead name.Send ws = IsSome (bytes_at ws 2)
+CanBeRead name.Send ws = IsSome (bytes_in_word ws 2)
 CanBeRead name.Damage ws = length ws ≤ 17
 CanBeRead name.Header ws = Unit {0}
 CanBeRead name.Deliver ws = Unit {0}
@@ -29,12 +29,12 @@ TakesMemory (read.Line (line.Send at pid message)) = Unit {0}
 TakesMemory r = ⊥
 
 -- what was said, or want of memory for a line with a message
-abbrev pub IsSaid : Option Read → Option Read → Type 0
-IsSaid answer said = (answer ≡ said) ⊎ ((answer ≡ Some read.NoMemory) × IsSomeAnd said TakesMemory)
+abbrev pub IsSaidOrNoMemory : Option Read → Option Read → Type 0
+IsSaidOrNoMemory answer said = (answer ≡ said) ⊎ ((answer ≡ Some read.NoMemory) × IsSomeAnd said TakesMemory)
 
 -- what was read, or want of memory for a line with a message
-abbrev pub IsRead : Result Read LineFault → Result Read LineFault → Type 0
-IsRead answer said = (answer ≡ said) ⊎ ((answer ≡ Ok read.NoMemory) × IsOkAnd said TakesMemory)
+abbrev pub IsReadOrNoMemory : Result Read LineFault → Result Read LineFault → Type 0
+IsReadOrNoMemory answer said = (answer ≡ said) ⊎ ((answer ≡ Ok read.NoMemory) × IsOkAnd said TakesMemory)
 
 -- what may come of a line: first a header, below it lines of that world
 abbrev pub IsInGrammar : Option Header → Read → Type 0

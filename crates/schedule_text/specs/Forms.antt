@@ -11,7 +11,7 @@ use Rattle.schedule_text.specs.declared.forms.Kind.TheVariants as kind
 
 -- the first word, which line it is, where it may stand, the kinds of the words behind the first one (the last kind is that
 -- of all further words), and how many of them there are at least and at most
-pub record Row : Type 0 where
+pub record FormRow : Type 0 where
   pub first : List ℕ
   pub name : Name
   pub place : Place
@@ -20,54 +20,54 @@ pub record Row : Type 0 where
   pub most : ℕ
 
 -- a row as the program keeps it
-abbrev pub row_of : Form → Row
-row_of form =
+abbrev pub row_of_form : Form → FormRow
+row_of_form form =
     record { first = form.first.now; name = form.name; place = form.place; kinds = form.kinds.now; least = form.least; most = form.most }
 
-abbrev row : List ℕ → Name → Place → List Kind → ℕ → ℕ → Row
-row first name place kinds least most = record { first = first; name = name; place = place; kinds = kinds; least = least; most = most }
+abbrev form_row : List ℕ → Name → Place → List Kind → ℕ → ℕ → FormRow
+form_row first name place kinds least most = record { first = first; name = name; place = place; kinds = kinds; least = least; most = most }
 
 -- `swp 1 bare H`
-abbrev pub header_row : Row
-header_row = row (codes "swp") name.Header place.First (kind.Version ∷ kind.Bare ∷ kind.NewHost ∷ []) 3 3
+abbrev pub header_row : FormRow
+header_row = form_row (codes "swp") name.Header place.First (kind.Version ∷ kind.Bare ∷ kind.NewHost ∷ []) 3 3
 
 -- `send E PID HEX`
-abbrev pub send_row : Row
-send_row = row (codes "send") name.Send place.Below (kind.Sender ∷ kind.Byte 112 ∷ kind.Bytes 1 4500 ∷ []) 3 3
+abbrev pub send_row : FormRow
+send_row = form_row (codes "send") name.Send place.Below (kind.Sender ∷ kind.Byte 112 ∷ kind.Bytes 1 4500 ∷ []) 3 3
 
 -- `deliver E`, `deliver E N`
-abbrev pub deliver_row : Row
-deliver_row = row (codes "deliver") name.Deliver place.Below (kind.End ∷ kind.Number 1 64 ∷ []) 1 2
+abbrev pub deliver_row : FormRow
+deliver_row = form_row (codes "deliver") name.Deliver place.Below (kind.End ∷ kind.Number 1 64 ∷ []) 1 2
 
 -- `lose E`
-abbrev pub lose_row : Row
-lose_row = row (codes "lose") name.Lose place.Below (kind.End ∷ []) 1 1
+abbrev pub lose_row : FormRow
+lose_row = form_row (codes "lose") name.Lose place.Below (kind.End ∷ []) 1 1
 
 -- `damage E P..`
-abbrev pub damage_row : Row
-damage_row = row (codes "damage") name.Damage place.Below (kind.End ∷ kind.Rising 399 ∷ []) 2 17
+abbrev pub damage_row : FormRow
+damage_row = form_row (codes "damage") name.Damage place.Below (kind.End ∷ kind.Rising 399 ∷ []) 2 17
 
 -- `tick`, `tick N`
-abbrev pub tick_row : Row
-tick_row = row (codes "tick") name.Tick place.Below (kind.Number 1 100 ∷ []) 0 1
+abbrev pub tick_row : FormRow
+tick_row = form_row (codes "tick") name.Tick place.Below (kind.Number 1 100 ∷ []) 0 1
 
 -- `reset E`, `reset E W`
-abbrev pub reset_row : Row
-reset_row = row (codes "reset") name.Reset place.Below (kind.End ∷ kind.Number 1 4 ∷ []) 1 2
+abbrev pub reset_row : FormRow
+reset_row = form_row (codes "reset") name.Reset place.Below (kind.End ∷ kind.Number 1 4 ∷ []) 1 2
 
 -- `busy E`, `ready E`
-abbrev pub busy_row : Row
-busy_row = row (codes "busy") name.Busy place.BelowBare (kind.End ∷ []) 1 1
+abbrev pub busy_row : FormRow
+busy_row = form_row (codes "busy") name.Busy place.BelowBare (kind.End ∷ []) 1 1
 
-abbrev pub ready_row : Row
-ready_row = row (codes "ready") name.Ready place.BelowBare (kind.End ∷ []) 1 1
+abbrev pub ready_row : FormRow
+ready_row = form_row (codes "ready") name.Ready place.BelowBare (kind.End ∷ []) 1 1
 
-abbrev pub rows : List Row
+abbrev pub rows : List FormRow
 rows = header_row ∷ send_row ∷ deliver_row ∷ lose_row ∷ damage_row ∷ tick_row ∷ reset_row ∷ busy_row ∷ ready_row ∷ []
 
 -- the row of a first word
-abbrev pub row_in : List Row → List ℕ → Option Row
+abbrev pub row_in : List FormRow → List ℕ → Option FormRow
 row_in table first = find (λ r. bytes_eq r.first first) table
 
-abbrev pub row_for : List ℕ → Option Row
+abbrev pub row_for : List ℕ → Option FormRow
 row_for first = row_in rows first

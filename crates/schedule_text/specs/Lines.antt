@@ -14,7 +14,7 @@ use Rattle.schedule_text.specs.declared.forms.Place.{Place}
 use Rattle.schedule_text.specs.declared.forms.Place.TheVariants as place
 use Rattle.schedule_text.specs.Words.{words}
 use Rattle.schedule_text.specs.Values.{byte_value, bytes_value, number_in, end_value}
-use Rattle.schedule_text.specs.Forms.{Row, row_for}
+use Rattle.schedule_text.specs.Forms.{FormRow, row_for}
 use Rattle.schedule_text.specs.Rules.{words_fault}
 
 infixl 10 ◌>>=◌
@@ -25,33 +25,33 @@ o >>= f = option_and_then f o
 abbrev pub end_at : List (List ℕ) → ℕ → Option End
 end_at ws k = slice_get ws k >>= end_value
 
-abbrev pub byte_at : List (List ℕ) → ℕ → Option ℕ
-byte_at ws k = slice_get ws k >>= byte_value
+abbrev pub byte_in_word : List (List ℕ) → ℕ → Option ℕ
+byte_in_word ws k = slice_get ws k >>= byte_value
 
-abbrev pub bytes_at : List (List ℕ) → ℕ → Option (List ℕ)
-bytes_at ws k = slice_get ws k >>= bytes_value
+abbrev pub bytes_in_word : List (List ℕ) → ℕ → Option (List ℕ)
+bytes_in_word ws k = slice_get ws k >>= bytes_value
 
 -- a number from 1 to `high`; none also where there is no such word
 abbrev pub number_at : ℕ → List (List ℕ) → ℕ → Option ℕ
 number_at high ws k = slice_get ws k >>= number_in 1 high
 
 -- places of bits
-abbrev pub places_of : List (List ℕ) → Option (List ℕ)
-places_of [] = Some []
-places_of (word ∷ ws) = do
+abbrev pub bit_places : List (List ℕ) → Option (List ℕ)
+bit_places [] = Some []
+bit_places (word ∷ ws) = do
   place ← number_in 0 399 word
-  places ← places_of ws
+  places ← bit_places ws
   Some (place ∷ places)
 
 -- what the words behind the first say
 abbrev pub read_of : Name → List (List ℕ) → Option Read
 read_of name.Header ws = do
-  host ← byte_at ws 2
+  host ← byte_in_word ws 2
   Some (read.Header (record { hci = false; hosts = record { items = host ∷ [] } }))
 read_of name.Send ws = do
   at ← end_at ws 0
-  pid ← byte_at ws 1
-  message ← bytes_at ws 2
+  pid ← byte_in_word ws 1
+  message ← bytes_in_word ws 2
   Some (read.Line (line.Send at pid message))
 read_of name.Deliver ws = do
   at ← end_at ws 0
@@ -61,7 +61,7 @@ read_of name.Lose ws = do
   Some (read.Line (line.Lose at))
 read_of name.Damage ws = do
   at ← end_at ws 0
-  places ← places_of (drop 1 ws)
+  places ← bit_places (drop 1 ws)
   Some (read.Line (line.Damage at (record { items = places })))
 read_of name.Tick ws = Some (read.Line (line.Tick (number_at 100 ws 0)))
 read_of name.Reset ws = do
@@ -93,7 +93,7 @@ unless_fault (Some f) said = Err f
 unless_fault None said = ok_or said fault.Word
 
 -- a line by the row of its first word
-abbrev pub by_row : Option Header → Option Row → List (List ℕ) → Result Read LineFault
+abbrev pub by_row : Option Header → Option FormRow → List (List ℕ) → Result Read LineFault
 by_row header None ws = Err (if is_some header then fault.Word else fault.Order)
 by_row header (Some row) ws =
     if may_stand row.place header

@@ -9,7 +9,7 @@ use Rattle.schedule_text.specs.declared.fault.LineFault.TheVariants as fault
 use Rattle.schedule_text.specs.declared.forms.Kind.{Kind}
 use Rattle.schedule_text.specs.declared.forms.Kind.TheVariants as kind
 use Rattle.schedule_text.specs.Values.{byte_value, bytes_value, number_in, end_value, option_if}
-use Rattle.schedule_text.specs.Forms.{Row}
+use Rattle.schedule_text.specs.Forms.{FormRow}
 
 -- a word and what it may be
 pub record Slot : Type 0 where
@@ -107,12 +107,12 @@ first_host_fault hosts from (s ∷ ss) =
     option_or (host_fault hosts from s.kind s.word) (first_host_fault hosts (rising from s.kind s.word) ss)
 
 -- the number of words and their shapes
-abbrev pub is_well_formed : Bool → Row → List (List ℕ) → Bool
+abbrev pub is_well_formed : Bool → FormRow → List (List ℕ) → Bool
 is_well_formed hci row ws =
     nat_le row.least (length ws) && (nat_le (length ws) row.most && list_all (λ s. has_shape hci s.kind s.word) (slots row.kinds ws))
 
 -- what is wrong with the words behind the first one, in this order: number and shapes, digits, hosts
-abbrev pub words_fault : Bool → List ℕ → Row → List (List ℕ) → Option LineFault
+abbrev pub words_fault : Bool → List ℕ → FormRow → List (List ℕ) → Option LineFault
 words_fault hci hosts row ws =
     if is_well_formed hci row ws
     then option_or (first_digits_fault 2 0 (slots row.kinds ws)) (option_map fault.Host (first_host_fault hosts 0 (slots row.kinds ws)))

@@ -3,7 +3,7 @@
 ghost use Rattle.std.specs.Prelude.{◌≡◌, map, find};
 ghost use Rattle.std.specs.Str.{bytes_eq};
 ghost use Rattle.std.specs.Option.{option_map};
-ghost use Rattle.schedule_text.specs.Forms.{row_of, row_in, row_for};
+ghost use Rattle.schedule_text.specs.Forms.{row_of_form, row_in, row_for};
 
 /// What a word of a line may be.
 #[derive(Clone, Copy)]
@@ -148,13 +148,13 @@ const FORMS: [Form; 9] = [
 
 /// The form of the lines that begin with a word.
 pub(crate) fn form_of(first: &[u8]) -> Option<Form>
-    ensures { option_map row_of result ≡ row_for first.now }
+    ensures { option_map row_of_form result ≡ row_for first.now }
 {
     form_in(&FORMS, first)
 }
 
 fn form_in(forms: &[Form], first: &[u8]) -> Option<Form>
-    ensures { option_map row_of result ≡ row_in (map row_of forms.now) first.now }
+    ensures { option_map row_of_form result ≡ row_in (map row_of_form forms.now) first.now }
 {
     found(forms, first)
 }

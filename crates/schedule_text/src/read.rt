@@ -4,9 +4,9 @@ ghost use Rattle.std.specs.Option.{option_copied, option_map};
 ghost use Rattle.schedule_text.specs.declared.forms.Name.TheVariants as name;
 ghost use Rattle.schedule_text.specs.declared.read.Read.TheVariants as read;
 ghost use Rattle.schedule_text.specs.Words.{words};
-ghost use Rattle.schedule_text.specs.Lines.{is_comment, may_stand, has_nodes, hosts_of, by_row, end_at, byte_at, number_at, places_of, read_of, line_of};
+ghost use Rattle.schedule_text.specs.Lines.{is_comment, may_stand, has_nodes, hosts_of, by_row, end_at, byte_in_word, number_at, bit_places, read_of, line_of};
 ghost use Rattle.schedule_text.specs.Forms.{row_for};
-ghost use Rattle.schedule_text.specs.Answers.{IsSaid, IsRead, CanBeRead, IsInGrammar, IsSkipped, IsOutOfOrder};
+ghost use Rattle.schedule_text.specs.Answers.{IsSaidOrNoMemory, IsReadOrNoMemory, CanBeRead, IsInGrammar, IsSkipped, IsOutOfOrder};
 
 use crate::LineFault;
 use crate::forms::{Name, Place, form_of};
@@ -38,7 +38,7 @@ pub enum Read {
 /// where there is no header yet. The texts are this project's own.
 pub fn read_line(alloc: Global, header: Option<&Header>, bytes: &[u8]) -> Result<Read, LineFault>
     // A line is what its text says, unless there is no memory for the bytes of a line that has no fault.
-    ensures said { IsRead result (line_of (option_copied header.entry) bytes.now) }
+    ensures said { IsReadOrNoMemory result (line_of (option_copied header.entry) bytes.now) }
 
     // A header comes first, and below it lines of its world.
     ensures fits { IfOk result (IsInGrammar (option_copied header.entry)) }
@@ -74,7 +74,7 @@ fn read_words(
     rest: &[u8],
 ) -> Result<Read, LineFault>
     requires { length rest.now ≤ 9000 }
-    ensures { IsRead result (by_row (option_copied header.entry) (row_for first.now) (words rest.now)) }
+    ensures { IsReadOrNoMemory result (by_row (option_copied header.entry) (row_for first.now) (words rest.now)) }
 {
     let Some(form) = form_of(first) else {
         return Err(if header.is_some() {
@@ -126,7 +126,7 @@ fn hosts(header: Option<&Header>) -> &[u8]
 // What the words behind the first one say.
 fn said(alloc: Global, name: Name, rest: &[u8]) -> Option<Read>
     requires { CanBeRead name (words rest.now) }
-    ensures { IsSaid result (read_of name (words rest.now)) }
+    ensures { IsSaidOrNoMemory result (read_of name (words rest.now)) }
 {
     let line = match name {
         Name::Header => return header(rest),
@@ -160,7 +160,7 @@ fn end_at(rest: &[u8], k: usize) -> Option<End>
 }
 
 fn byte_at(rest: &[u8], k: usize) -> Option<u8>
-    ensures { result ≡ byte_at (words rest.now) k }
+    ensures { result ≡ byte_in_word (words rest.now) k }
 {
     byte_of(word_at(rest, k)?)
 }
@@ -183,7 +183,7 @@ fn header(rest: &[u8]) -> Option<Read>
 
 fn send(alloc: Global, rest: &[u8]) -> Option<Read>
     requires { CanBeRead name.Send (words rest.now) }
-    ensures { IsSaid result (read_of name.Send (words rest.now)) }
+    ensures { IsSaidOrNoMemory result (read_of name.Send (words rest.now)) }
 {
     let (first, more) = next_word(rest)?;
     let (second, more) = next_word(more)?;
@@ -224,7 +224,7 @@ fn damage(rest: &[u8]) -> Option<Line>
 
 fn places_in(rest: &[u8]) -> Option<ArrayVec<u16, 16>>
     requires { length (words rest.now) ≤ 16 }
-    ensures { option_map (λ places. places.items) result ≡ places_of (words rest.now) }
+    ensures { option_map (λ places. places.items) result ≡ bit_places (words rest.now) }
 {
     let mut places = ArrayVec::new();
     let mut left = rest;

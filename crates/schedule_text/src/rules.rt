@@ -3,7 +3,7 @@ ghost use Rattle.std.specs.Prelude.{◌≡◌, ◌+◌, ◌<◌, ◌≤◌, ◌&
 ghost use Rattle.std.specs.List.{list_all};
 ghost use Rattle.std.specs.Option.{option_map, option_or};
 ghost use Rattle.schedule_text.specs.Words.{words};
-ghost use Rattle.schedule_text.specs.Forms.{row_of};
+ghost use Rattle.schedule_text.specs.Forms.{row_of_form};
 ghost use Rattle.schedule_text.specs.Rules.{slots, has_shape, rising, digits_fault, first_digits_fault, host_fault, first_host_fault, words_fault, has_byte, has_bytes};
 ghost use Rattle.schedule_text.specs.Values.{byte_value, bytes_value, number_in};
 ghost use Rattle.hex.specs.Hex.{is_hex_digit};
@@ -17,7 +17,7 @@ use crate::words::next_word;
 /// unknown hosts.
 pub(crate) fn fault_in(hci: bool, hosts: &[u8], form: &Form, rest: &[u8]) -> Option<LineFault>
     requires { length rest.now ≤ 9000 }
-    ensures { result ≡ words_fault hci hosts.now (row_of form.now) (words rest.now) }
+    ensures { result ≡ words_fault hci hosts.now (row_of_form form.now) (words rest.now) }
 {
     let seen = look_over(hci, hosts, form.kinds, rest);
     if seen.count < form.least || form.most < seen.count || !seen.shaped {

@@ -3,7 +3,7 @@ ghost use Rattle.std.specs.Prelude.{◌≡◌, true, false, List, ℕ, [], ◌�
 ghost use Rattle.std.specs.Fmt.{decimal};
 ghost use Rattle.hex.specs.Hex.{encode_upper};
 ghost use Rattle.schedule_text.specs.Entries.{end_text, byte_text, two_bytes_text, number_words};
-ghost use Rattle.schedule_text.specs.Growth.{Holds, HoldsWords, IsFront};
+ghost use Rattle.schedule_text.specs.Growth.{HoldsText, HoldsWords, IsFront};
 ghost use Rattle.schedule_text.specs.Parts.{part_words, parts_words};
 
 use arrayvec::ArrayVec;
@@ -52,8 +52,8 @@ impl Text {
     /// Appends bytes.
     #[inline(always)]
     pub(crate) fn push(&mut self, bytes: &[u8])
-        ensures { (start text : List ℕ) → Holds start text self.old
-            → Holds start (text ++ bytes.now) self.new }
+        ensures { (start text : List ℕ) → HoldsText start text self.old
+            → HoldsText start (text ++ bytes.now) self.new }
     {
         if self.waiting.try_extend_from_slice(bytes).is_err() {
             self.push_behind(bytes);
@@ -63,8 +63,8 @@ impl Text {
     /// Appends lines, or nothing.
     #[inline(always)]
     pub(crate) fn lines(&mut self, bytes: &[u8])
-        ensures { (start text : List ℕ) → Holds start text self.old
-            → Holds start (text ++ bytes.now) self.new }
+        ensures { (start text : List ℕ) → HoldsText start text self.old
+            → HoldsText start (text ++ bytes.now) self.new }
     {
         if bytes.is_empty() {
             return;
@@ -76,8 +76,8 @@ impl Text {
     #[cold]
     #[inline(never)]
     fn push_behind(&mut self, bytes: &[u8])
-        ensures { (start text : List ℕ) → Holds start text self.old
-            → Holds start (text ++ bytes.now) self.new }
+        ensures { (start text : List ℕ) → HoldsText start text self.old
+            → HoldsText start (text ++ bytes.now) self.new }
     {
         self.flush();
         if self.short {
@@ -91,7 +91,7 @@ impl Text {
 
     /// Appends what waits to the vector.
     fn flush(&mut self)
-        ensures same { (start text : List ℕ) → Holds start text self.old → Holds start text self.new }
+        ensures same { (start text : List ℕ) → HoldsText start text self.old → HoldsText start text self.new }
         ensures none { self.new.short ≡ false → self.new.waiting.items ≡ [] }
     {
         if self.short {
@@ -106,8 +106,8 @@ impl Text {
     /// Appends what waits to the vector, behind which nothing more comes.
     #[inline(always)]
     pub(crate) fn finish(&mut self)
-        ensures all { self.new.short ≡ false → (start text : List ℕ) → Holds start text self.old → self.new.bytes.items ≡ start ++ text }
-        ensures front { self.new.short ≡ true → (start text : List ℕ) → Holds start text self.old → IsFront start text self.new.bytes.items }
+        ensures all { self.new.short ≡ false → (start text : List ℕ) → HoldsText start text self.old → self.new.bytes.items ≡ start ++ text }
+        ensures front { self.new.short ≡ true → (start text : List ℕ) → HoldsText start text self.old → IsFront start text self.new.bytes.items }
     {
         if self.short {
             return;
@@ -120,7 +120,7 @@ impl Text {
 
     /// Appends a word and behind it parts, as the first ones of a line.
     pub(crate) fn entry(&mut self, word: &[u8], parts: &[Part<'_>])
-        ensures { (start : List ℕ) → Holds start [] self.old
+        ensures { (start : List ℕ) → HoldsText start [] self.old
             → HoldsWords start (word.now ∷ parts_words parts.now) self.new }
     {
         self.push(word);
@@ -246,8 +246,8 @@ impl Text {
 
     /// Appends bytes as pairs of hexadecimal digits, two bytes at once.
     fn pairs(&mut self, bytes: &[u8])
-        ensures { (start text : List ℕ) → Holds start text self.old
-            → Holds start (text ++ encode_upper bytes.now) self.new }
+        ensures { (start text : List ℕ) → HoldsText start text self.old
+            → HoldsText start (text ++ encode_upper bytes.now) self.new }
     {
         let mut left = bytes;
         'twos: while let Some(([first, second], more)) = left.split_first_chunk::<2>() {
@@ -285,8 +285,8 @@ impl Text {
     }
 
     fn digits(&mut self, number: u64)
-        ensures { (start text : List ℕ) → Holds start text self.old
-            → Holds start (text ++ decimal number) self.new }
+        ensures { (start text : List ℕ) → HoldsText start text self.old
+            → HoldsText start (text ++ decimal number) self.new }
     {
         if number < 10 {
             self.push(&[b'0' + number as u8]);

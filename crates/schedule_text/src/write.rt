@@ -5,7 +5,7 @@ ghost use Rattle.hex.specs.Hex.{encode_upper};
 ghost use Rattle.tables_text.specs.Tables.{hex_or_dash};
 ghost use Rattle.schedule_text.specs.Parts.{part_words};
 ghost use Rattle.schedule_text.specs.Entries.{end_text, byte_text, number_words, header_words, line_words, down_word, lost_word, cause_words, command_words, count_words, entry_words, lines_behind, entry_line};
-ghost use Rattle.schedule_text.specs.Growth.{Holds, HoldsWords, IsFront};
+ghost use Rattle.schedule_text.specs.Growth.{HoldsText, HoldsWords, IsFront};
 
 use crate::text::Part::{
     self, Byte, Bytes, Count, EachByte, EachThree, End, Maybe, Number, Numbers, TwoBytes, Word,
@@ -50,7 +50,7 @@ fn lines_behind(alloc: Global, entry: &Entry) -> Result<Vec<u8>, AllocError>
 }
 
 fn write_words(text: &mut Text, entry: &Entry)
-    ensures { (start : List ℕ) → Holds start [] text.old
+    ensures { (start : List ℕ) → HoldsText start [] text.old
         → HoldsWords start (entry_words entry.now) text.new }
 {
     match entry {
@@ -114,7 +114,7 @@ fn write_words(text: &mut Text, entry: &Entry)
 
 #[inline(never)]
 fn write_at(text: &mut Text, word: &[u8], at: At)
-    ensures { (start : List ℕ) → Holds start [] text.old
+    ensures { (start : List ℕ) → HoldsText start [] text.old
         → HoldsWords start (word.now ∷ end_text at ∷ []) text.new }
 {
     text.entry(word, &[End(at)]);
@@ -122,7 +122,7 @@ fn write_at(text: &mut Text, word: &[u8], at: At)
 
 #[inline(never)]
 fn write_at_word(text: &mut Text, word: &[u8], at: At, other: &[u8])
-    ensures { (start : List ℕ) → Holds start [] text.old
+    ensures { (start : List ℕ) → HoldsText start [] text.old
         → HoldsWords start (word.now ∷ end_text at ∷ other.now ∷ []) text.new }
 {
     text.entry(word, &[End(at), Word(other)]);
@@ -130,7 +130,7 @@ fn write_at_word(text: &mut Text, word: &[u8], at: At, other: &[u8])
 
 #[inline(never)]
 fn write_at_byte(text: &mut Text, word: &[u8], at: At, byte: u8)
-    ensures { (start : List ℕ) → Holds start [] text.old
+    ensures { (start : List ℕ) → HoldsText start [] text.old
         → HoldsWords start (word.now ∷ end_text at ∷ byte_text byte ∷ []) text.new }
 {
     text.entry(word, &[End(at), Byte(byte)]);
@@ -138,7 +138,7 @@ fn write_at_byte(text: &mut Text, word: &[u8], at: At, byte: u8)
 
 #[inline(never)]
 fn write_at_number(text: &mut Text, word: &[u8], at: At, number: u32)
-    ensures { (start : List ℕ) → Holds start [] text.old
+    ensures { (start : List ℕ) → HoldsText start [] text.old
         → HoldsWords start (word.now ∷ end_text at ∷ decimal number ∷ []) text.new }
 {
     text.entry(word, &[End(at), Number(number)]);
@@ -146,7 +146,7 @@ fn write_at_number(text: &mut Text, word: &[u8], at: At, number: u32)
 
 #[inline(always)]
 fn write_at_numbers(text: &mut Text, word: &[u8], at: At, first: u32, second: u32)
-    ensures { (start : List ℕ) → Holds start [] text.old
+    ensures { (start : List ℕ) → HoldsText start [] text.old
         → HoldsWords start (word.now ∷ end_text at ∷ decimal first ∷ decimal second ∷ []) text.new }
 {
     text.push(word);
@@ -157,7 +157,7 @@ fn write_at_numbers(text: &mut Text, word: &[u8], at: At, first: u32, second: u3
 
 #[inline(always)]
 fn write_frame(text: &mut Text, word: &[u8], at: At, bytes: &[u8])
-    ensures { (start : List ℕ) → Holds start [] text.old
+    ensures { (start : List ℕ) → HoldsText start [] text.old
         → HoldsWords start (word.now ∷ end_text at ∷ encode_upper bytes.now ∷ []) text.new }
 {
     text.push(word);
@@ -167,7 +167,7 @@ fn write_frame(text: &mut Text, word: &[u8], at: At, bytes: &[u8])
 
 #[inline(always)]
 fn write_message(text: &mut Text, word: &[u8], at: At, session: u32, pid: u8, message: &[u8])
-    ensures { (start : List ℕ) → Holds start [] text.old
+    ensures { (start : List ℕ) → HoldsText start [] text.old
         → HoldsWords start (word.now ∷ end_text at ∷ decimal session ∷ byte_text pid ∷ encode_upper message.now ∷ []) text.new }
 {
     text.push(word);
@@ -179,7 +179,7 @@ fn write_message(text: &mut Text, word: &[u8], at: At, session: u32, pid: u8, me
 
 #[inline(never)]
 fn write_node(text: &mut Text, word: &[u8], node: u8)
-    ensures { (start : List ℕ) → Holds start [] text.old
+    ensures { (start : List ℕ) → HoldsText start [] text.old
         → HoldsWords start (word.now ∷ byte_text node ∷ []) text.new }
 {
     text.entry(word, &[Byte(node)]);
@@ -187,7 +187,7 @@ fn write_node(text: &mut Text, word: &[u8], node: u8)
 
 #[inline(never)]
 fn write_node_number(text: &mut Text, word: &[u8], node: u8, number: u32)
-    ensures { (start : List ℕ) → Holds start [] text.old
+    ensures { (start : List ℕ) → HoldsText start [] text.old
         → HoldsWords start (word.now ∷ byte_text node ∷ decimal number ∷ []) text.new }
 {
     text.entry(word, &[Byte(node), Number(number)]);
@@ -195,7 +195,7 @@ fn write_node_number(text: &mut Text, word: &[u8], node: u8, number: u32)
 
 #[inline(never)]
 fn write_loss(text: &mut Text, at: At, bytes: &[u8], cause: LostCause)
-    ensures { (start : List ℕ) → Holds start [] text.old
+    ensures { (start : List ℕ) → HoldsText start [] text.old
         → HoldsWords start (codes "lost" ∷ end_text at ∷ encode_upper bytes.now ∷ lost_word cause ∷ []) text.new }
 {
     text.entry(
@@ -206,7 +206,7 @@ fn write_loss(text: &mut Text, at: At, bytes: &[u8], cause: LostCause)
 
 #[inline(never)]
 fn write_turn(text: &mut Text, at: At, pid: u8, message: &[u8])
-    ensures { (start : List ℕ) → Holds start [] text.old
+    ensures { (start : List ℕ) → HoldsText start [] text.old
         → HoldsWords start (codes "turn" ∷ end_text at ∷ byte_text pid ∷ encode_upper message.now ∷ []) text.new }
 {
     text.entry(b"turn", &[End(at), Byte(pid), Bytes(message)]);
@@ -214,7 +214,7 @@ fn write_turn(text: &mut Text, at: At, pid: u8, message: &[u8])
 
 #[inline(never)]
 fn write_ask(text: &mut Text, host: u8, message: &[u8])
-    ensures { (start : List ℕ) → Holds start [] text.old
+    ensures { (start : List ℕ) → HoldsText start [] text.old
         → HoldsWords start (codes "ask" ∷ byte_text host ∷ encode_upper message.now ∷ []) text.new }
 {
     text.entry(b"ask", &[Byte(host), Bytes(message)]);
@@ -222,7 +222,7 @@ fn write_ask(text: &mut Text, host: u8, message: &[u8])
 
 #[inline(never)]
 fn write_init_made(text: &mut Text, at: At, count: u32)
-    ensures { (start : List ℕ) → Holds start [] text.old
+    ensures { (start : List ℕ) → HoldsText start [] text.old
         → HoldsWords start (codes "init" ∷ end_text at ∷ codes "made" ∷ decimal count ∷ []) text.new }
 {
     text.entry(b"init", &[End(at), Word(b"made"), Number(count)]);
@@ -230,7 +230,7 @@ fn write_init_made(text: &mut Text, at: At, count: u32)
 
 #[inline(never)]
 fn write_init_failed(text: &mut Text, at: At, code: u8)
-    ensures { (start : List ℕ) → Holds start [] text.old
+    ensures { (start : List ℕ) → HoldsText start [] text.old
         → HoldsWords start (codes "init" ∷ end_text at ∷ codes "failed" ∷ byte_text code ∷ []) text.new }
 {
     text.entry(b"init", &[End(at), Word(b"failed"), Byte(code)]);
@@ -238,7 +238,7 @@ fn write_init_failed(text: &mut Text, at: At, code: u8)
 
 #[inline(never)]
 fn write_counts(text: &mut Text, node: u8, tables: &Tables)
-    ensures { (start : List ℕ) → Holds start [] text.old
+    ensures { (start : List ℕ) → HoldsText start [] text.old
         → HoldsWords start (count_words node tables.now) text.new }
 {
     text.entry(

@@ -16,7 +16,7 @@ use Rattle.link_laws.proofs.Numbers.{place_found, ahead_other}
 use Rattle.link_laws.proofs.Flows.{front_accept}
 use Rattle.link_laws.proofs.Joined.{received_cases, taken_I, taken_S, answer_I, answer_S}
 use Rattle.link_laws.proofs.Marks.{reduced, Carries, Counts, NoneBelow, Places, counts_le, counts_lower, counts_higher, counts_push, counts_lost, places_grow, places_reach, places_accepted, places_lost, places_push, places_push_S}
-use Rattle.session_laws.specs.Sessions.{OnWire, Half, older, number_of, session_of, ended_session}
+use Rattle.session_laws.specs.Sessions.{OnWire, NumberedShdlc, older, shdlc_number_of, shdlc_session_of, ended_session}
 use Rattle.session_laws.proofs.Wire.{IsData, add_rset, no_rset_step, rsets}
 
 -- one end's session as the sender's, and the other's of the same number as the receiver's
@@ -69,44 +69,44 @@ none_ended b n (x ∷ xs) i h =
     let other : (n == x.0) ≡ false = ne_eqb n x.0 (λ e. let g = h.0 in absurd (omega arith)) in
     rw other (none_ended b n xs i h.1)
 
-abbrev pub bound : Half → ℕ
+abbrev pub bound : NumberedShdlc → ℕ
 bound h = by_phase h.side.phase where
   by_phase : LinkState → ℕ
-  by_phase Up = number_of h
+  by_phase Up = shdlc_number_of h
   by_phase Waiting = h.emitted
-  by_phase Down = number_of h + 1
+  by_phase Down = shdlc_number_of h + 1
 
 -- an end that is Up
-pub of_up : (h : Half) → h.side.phase ≡ Up → session_of h (number_of h) ≡ h.side.session
+pub of_up : (h : NumberedShdlc) → h.side.phase ≡ Up → shdlc_session_of h (shdlc_number_of h) ≡ h.side.session
 of_up h up =
-    let same : (number_of h == number_of h) ≡ true = eq-eqb (number_of h) (number_of h) refl in
+    let same : (shdlc_number_of h == shdlc_number_of h) ≡ true = eq-eqb (shdlc_number_of h) (shdlc_number_of h) refl in
     rw (up, same) refl
 
 -- its session goes on with other fragments
-pub of_update : (P : ℕ → Session → Type 0) (h g : Half) → h.side.phase ≡ Up → g.side.phase ≡ Up → number_of g ≡ number_of h → g.past ≡ h.past
-    → ((k : ℕ) → P k (session_of h k)) → P (number_of h) g.side.session → (k : ℕ) → P k (session_of g k)
-of_update P h g up up' num past all new k = go (k == number_of h) refl
+pub of_update : (P : ℕ → Session → Type 0) (h g : NumberedShdlc) → h.side.phase ≡ Up → g.side.phase ≡ Up → shdlc_number_of g ≡ shdlc_number_of h → g.past ≡ h.past
+    → ((k : ℕ) → P k (shdlc_session_of h k)) → P (shdlc_number_of h) g.side.session → (k : ℕ) → P k (shdlc_session_of g k)
+of_update P h g up up' num past all new k = go (k == shdlc_number_of h) refl
   where
-    go : (b : Bool) → (k == number_of h) ≡ b → P k (session_of g k)
-    go true q = rw (up', num, q) (rw (← eqb-true k (number_of h) q) at new)
-    go false q = rw (up', num, q, past) (let a : P k (session_of h k) = all k in rw (up, q) at a)
+    go : (b : Bool) → (k == shdlc_number_of h) ≡ b → P k (shdlc_session_of g k)
+    go true q = rw (up', num, q) (rw (← eqb-true k (shdlc_number_of h) q) at new)
+    go false q = rw (up', num, q, past) (let a : P k (shdlc_session_of h k) = all k in rw (up, q) at a)
 
 -- its session ends and is kept
-pub of_end : (P : ℕ → Session → Type 0) (h g : Half) → h.side.phase ≡ Up → (g.side.phase ≡ Up → ⊥) → g.past ≡ (number_of h, h.side.session) ∷ h.past
-    → ((k : ℕ) → P k (session_of h k)) → (k : ℕ) → P k (session_of g k)
+pub of_end : (P : ℕ → Session → Type 0) (h g : NumberedShdlc) → h.side.phase ≡ Up → (g.side.phase ≡ Up → ⊥) → g.past ≡ (shdlc_number_of h, h.side.session) ∷ h.past
+    → ((k : ℕ) → P k (shdlc_session_of h k)) → (k : ℕ) → P k (shdlc_session_of g k)
 of_end P h g up down past all k = go g.side.phase refl (all k)
   where
-    go : (p : LinkState) → g.side.phase ≡ p → P k (session_of h k) → P k (session_of g k)
+    go : (p : LinkState) → g.side.phase ≡ p → P k (shdlc_session_of h k) → P k (shdlc_session_of g k)
     go Up q a = absurd (down q)
     go Waiting q a = rw (q, past) (rw up at a)
     go Down q a = rw (q, past) (rw up at a)
 
 -- an end without a session stays so
-pub of_none : (P : ℕ → Session → Type 0) (h g : Half) → (h.side.phase ≡ Up → ⊥) → (g.side.phase ≡ Up → ⊥) → g.past ≡ h.past
-    → ((k : ℕ) → P k (session_of h k)) → (k : ℕ) → P k (session_of g k)
+pub of_none : (P : ℕ → Session → Type 0) (h g : NumberedShdlc) → (h.side.phase ≡ Up → ⊥) → (g.side.phase ≡ Up → ⊥) → g.past ≡ h.past
+    → ((k : ℕ) → P k (shdlc_session_of h k)) → (k : ℕ) → P k (shdlc_session_of g k)
 of_none P h g down down' past all k = go h.side.phase g.side.phase refl refl (all k)
   where
-    go : (p q : LinkState) → h.side.phase ≡ p → g.side.phase ≡ q → P k (session_of h k) → P k (session_of g k)
+    go : (p q : LinkState) → h.side.phase ≡ p → g.side.phase ≡ q → P k (shdlc_session_of h k) → P k (shdlc_session_of g k)
     go Up q a b c = absurd (down a)
     go Waiting Up a b c = absurd (down' b)
     go Waiting Waiting a b c = rw (b, past) (rw a at c)
@@ -116,12 +116,12 @@ of_none P h g down down' past all k = go h.side.phase g.side.phase refl refl (al
     go Down Down a b c = rw (b, past) (rw a at c)
 
 -- a session begins at an end that has none
-pub of_begin : (P : ℕ → Session → Type 0) (h g : Half) → (h.side.phase ≡ Up → ⊥) → g.side.phase ≡ Up → g.past ≡ h.past
-    → ((k : ℕ) → P k (session_of h k)) → P (number_of g) g.side.session → (k : ℕ) → P k (session_of g k)
-of_begin P h g down up past all new k = go (k == number_of g) refl h.side.phase refl (all k)
+pub of_begin : (P : ℕ → Session → Type 0) (h g : NumberedShdlc) → (h.side.phase ≡ Up → ⊥) → g.side.phase ≡ Up → g.past ≡ h.past
+    → ((k : ℕ) → P k (shdlc_session_of h k)) → P (shdlc_number_of g) g.side.session → (k : ℕ) → P k (shdlc_session_of g k)
+of_begin P h g down up past all new k = go (k == shdlc_number_of g) refl h.side.phase refl (all k)
   where
-    go : (b : Bool) → (k == number_of g) ≡ b → (p : LinkState) → h.side.phase ≡ p → P k (session_of h k) → P k (session_of g k)
-    go true q p a c = rw (up, q) (rw (← eqb-true k (number_of g) q) at new)
+    go : (b : Bool) → (k == shdlc_number_of g) ≡ b → (p : LinkState) → h.side.phase ≡ p → P k (shdlc_session_of h k) → P k (shdlc_session_of g k)
+    go true q p a c = rw (up, q) (rw (← eqb-true k (shdlc_number_of g) q) at new)
     go false q Up a c = absurd (down a)
     go false q Waiting a c = rw (up, q, past) (rw a at c)
     go false q Down a c = rw (up, q, past) (rw a at c)

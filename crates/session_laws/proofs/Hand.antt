@@ -3,7 +3,7 @@ use Rattle.std.proofs.Common.{◌≡◌, ℕ, ◌+◌, ◌<◌, ◌≤◌, List,
 use Rattle.swp_base.specs.declared.control_frames.Control.TheVariants.{Rset, Ua}
 use Rattle.shdlc_core.specs.declared.answers.LinkState.{LinkState}
 use Rattle.shdlc_core.specs.declared.answers.LinkState.TheVariants.{Down, Waiting, Up}
-use Rattle.session_laws.specs.Sessions.{OnWire, Half, older}
+use Rattle.session_laws.specs.Sessions.{OnWire, NumberedShdlc, older}
 use Rattle.session_laws.proofs.Wire.{IsData, data_not_rset, data_not_ua, not_rset_adds, not_ua_adds, data_behind, not_rset_tail, rset_young, ua_young, after_rset_empty, rsets, uas, NumberOk, Numbered, Tail, AfterRset, behind_ua, live, Young, rsets-append, uas-append, numbered-append, numbered_none, tail_none, tail_push, tail_push_ua, behind_none, behind_push, behind_push_none, behind_new, behind_rsets, plus_one, rsets-older, uas-older, numbered_older, tail_older, behind_ua-older, live-older, older_part, young_push, young_later}
 
 -- what of an end the handshake knows
@@ -13,7 +13,7 @@ pub record Peer : Type 0 where
   pub emitted : ℕ
   pub took : ℕ
 
-abbrev pub peer_of : Half → Peer
+abbrev pub peer_of : NumberedShdlc → Peer
 peer_of h = record { phase = h.side.phase; timer = h.side.timer; emitted = h.emitted; took = h.took }
 
 abbrev pub number : Peer → ℕ

@@ -10,16 +10,16 @@ use Rattle.shdlc_core.specs.declared.answers.LinkState.TheVariants.{Down, Waitin
 use Rattle.shdlc_core.specs.declared.answers.Due.{Due}
 use Rattle.shdlc_core.specs.declared.answers.Due.TheVariants.{Rr as Rr_due, Rej as Rej_due, Rnr as Rnr_due, Rset as Rset_due, Ua as Ua_due}
 use Rattle.shdlc_core.specs.Machine.{EndState, Session, begun, new_end, new_session, no_session, frame_due, taken, take_answer, ticked, tick_answer, is_waiting, waiting_from, up_with, given_up, asked_again, reset_with, stopped, runs_timer}
-use Rattle.link_laws.specs.Order.{AllDelivered}
+use Rattle.link_laws.specs.Order.{FragmentsDelivered}
 use Rattle.link_laws.proofs.Delivered.{delivered}
 use Rattle.link_laws.proofs.Whole.{AnswersOnly}
 use Rattle.link_laws.proofs.Joined.{Joined, joined_ticked, joined_taken, tick_cases}
-use Rattle.session_laws.specs.Sessions.{OnWire, Half, Link, fits, start_down, IsStart, exchanged, number_of, session_of, put, put_all, becomes, with_controller, with_ended, silent, took_with, is_up, act_frame, happens_here, ticks_here, aged, EndEvent, IsTurn, AreTurns, all_here, ticks_or_cut, ticks_if_waiting, LinkEvent, AllAllowed, happens, after, Turn, turn, turned}
-use Rattle.session_laws.specs.Sessions.Turn.{Offer, SetReady}
-use Rattle.session_laws.specs.Sessions.EndEvent.{Turns, Deliver, Ignore, Acts, Lose, Reset, Cut, Stop}
-use Rattle.session_laws.specs.Sessions.LinkEvent.{AtController, AtHost, Tick, TickWithout}
-use Rattle.session_laws.specs.Sessions.IsStart.{BothUp, BothDown}
-use Rattle.session_laws.specs.Losses.{is_act, sans, Losses, no_losses, counts_first, overflows, noted, noted_all, noted_out, is_up_with, came_up, noted_here, noted_turns, noted_tick, noted_if_waiting, loses_aged, noted_aged, noted_event, losses_after, IsQuiet}
+use Rattle.session_laws.specs.Sessions.{OnWire, NumberedShdlc, ShdlcLink, fits, start_down, IsShdlcStart, shdlc_exchanged, shdlc_number_of, shdlc_session_of, shdlc_put, shdlc_put_all, shdlc_becomes, with_shdlc_controller, with_shdlc_ended, shdlc_silent, took_with, is_up, act_frame, shdlc_happens_at_controller, shdlc_ticks_at_controller, shdlc_aged, ShdlcEndEvent, IsTurn, AreTurns, shdlc_all_at_controller, ticks_or_cut, ticks_if_waiting, ShdlcLinkEvent, AllShdlcAllowed, shdlc_happens, shdlc_after, ShdlcTurn, shdlc_turn, shdlc_turned}
+use Rattle.session_laws.specs.Sessions.ShdlcTurn.{Offer, SetReady}
+use Rattle.session_laws.specs.Sessions.ShdlcEndEvent.{Turns, Deliver, Ignore, Acts, Lose, Reset, Cut, Stop}
+use Rattle.session_laws.specs.Sessions.ShdlcLinkEvent.{AtController, AtHost, Tick, TickWithout}
+use Rattle.session_laws.specs.Sessions.IsShdlcStart.{BothUp, BothDown}
+use Rattle.session_laws.specs.Losses.{is_act, sans, Losses, no_losses, counts_first, overflows, noted_loss, noted_all, noted_out, is_up_with, came_up, noted_here, noted_turns, noted_tick, noted_if_waiting, loses_aged, noted_aged, noted_event, losses_after, IsShdlcQuiet}
 use Rattle.session_laws.proofs.Wire.{IsData, rsets, uas, behind_ua, live, behind_none, data_behind, AfterRset, after_rset_empty}
 use Rattle.session_laws.proofs.Hand.{peer_of, none_out, one_ua, rset_tells, nothing_out}
 use Rattle.session_laws.proofs.Data.{IsAnswer, taken_up}
@@ -41,7 +41,7 @@ one_answer due before none (inr a) = rw (a.2, none) (answer a.0 a.1, omega arith
     answer Ua_due h = absurd h
 
 -- what an RSET tells that comes first
-pub record Tells (l : Link) (xs : List OnWire) (v : ℕ) : Type 0 where
+pub record Tells (l : ShdlcLink) (xs : List OnWire) (v : ℕ) : Type 0 where
   pub wide : 0 < v
   pub waiting : l.host.side.phase ≡ Waiting
   pub uas : uas l.to_host ≡ []
@@ -49,7 +49,7 @@ pub record Tells (l : Link) (xs : List OnWire) (v : ℕ) : Type 0 where
 
 -- A frame is taken: one of its session; one of a session, in none; an RSET that begins a session; an RSET while it waits; the
 -- UA that it waits for.
-pub takes_by : (P : Type 0) (l : Link) (x : OnWire) (xs : List OnWire) → Safe 0 0 l.controller l.host (x ∷ xs) l.to_host l.resets
+pub takes_by : (P : Type 0) (l : ShdlcLink) (x : OnWire) (xs : List OnWire) → Safe 0 0 l.controller l.host (x ∷ xs) l.to_host l.resets
     → (let e : EndState = l.controller.side in
     (IsData x.frame → e.phase ≡ Up → (taken e x.frame).phase ≡ Up → AnswersOnly (taken e x.frame).due → length (taken e x.frame).due ≤ 1 → P)
     → (IsData x.frame → (e.phase ≡ Up → ⊥) → taken e x.frame ≡ e → P)
@@ -64,7 +64,7 @@ takes_by P l x xs h session passed new waits confirmed = go (frame_cases x) e.ph
     in_session : IsData x.frame → e.phase ≡ Up → P
     in_session d up =
         let pair = pair_from 0 0 l.controller l.host (x ∷ xs) l.to_host l.resets up h in
-        let k = (taken_up e (session_of l.host (number_of l.controller)) x xs (live l.host.side.phase l.to_host) up d pair).0 in
+        let k = (taken_up e (shdlc_session_of l.host (shdlc_number_of l.controller)) x xs (live l.host.side.phase l.to_host) up d pair).0 in
         let due = one_answer (taken e x.frame).due e.due h.n_due k.due in
         session d up k.up due.0 due.1
 
@@ -112,7 +112,7 @@ takes_by P l x xs h session passed new waits confirmed = go (frame_cases x) e.ph
 -- ## The controller's end is up
 
 -- what joins it to the other end
-meets_up : (n : Losses) (l : Link) → l.controller.side.phase ≡ Up → TiedLink n l → IsWhole n → (b : List OnWire)
+meets_up : (n : Losses) (l : ShdlcLink) → l.controller.side.phase ≡ Up → TiedLink n l → IsWhole n → (b : List OnWire)
     → live l.host.side.phase (sans l.to_host) ≡ Some b
     → Meets l.controller.side (as_up l.host.side.phase l.host.side) (sans l.to_controller) b
 meets_up n l up t w b q =
@@ -122,11 +122,11 @@ pub few_room : (e : EndState) → length e.due ≤ 1 → room e ≤ 2
 few_room e i = omega (arith, i, at_most_one e.session.answered_rnr)
 
 -- the link after it became e, had its turns and sent what is due
-abbrev Goes : Losses → Link → List Turn → EndState → Type 0
-Goes n l ts e = TiedLink (noted_out n l (turned e ts)) (becomes l (turned e ts))
+abbrev Goes : Losses → ShdlcLink → List ShdlcTurn → EndState → Type 0
+Goes n l ts e = TiedLink (noted_out n l (shdlc_turned e ts)) (shdlc_becomes l (shdlc_turned e ts))
 
 -- it becomes e, and what joins them is kept
-up_becomes : (n : Losses) (ts : List Turn) (l : Link) (e : EndState) → l.controller.side.phase ≡ Up → e.phase ≡ Up → AnswersOnly e.due → length e.due ≤ 1
+up_becomes : (n : Losses) (ts : List ShdlcTurn) (l : ShdlcLink) (e : EndState) → l.controller.side.phase ≡ Up → e.phase ≡ Up → AnswersOnly e.due → length e.due ≤ 1
     → ((f : EndState) (w : List OnWire) → Joined (Unit {0}) l.controller.side f (sans l.to_controller) w
     → Joined (Unit {0}) e f (sans l.to_controller) w)
     → TiedLink n l → Goes n l ts e
@@ -135,7 +135,7 @@ up_becomes n ts l e up eup answers few step t =
     (λ w b q. let m = meets_up n l up t w b q in (step (as_up l.host.side.phase l.host.side) b m.joined, m.far, tt))
 
 -- it is in no session, and has nothing to send
-tied_down : (n : Losses) (l : Link) → l.controller.side.phase ≡ Down → TiedLink n l
+tied_down : (n : Losses) (l : ShdlcLink) → l.controller.side.phase ≡ Down → TiedLink n l
 tied_down n l down w a b p q = absurd (let z : None ≡ Some a = rw down at p in cc)
 
 -- an end without a session has nothing to send
@@ -150,13 +150,13 @@ pub record Idle (e f : EndState) : Type 0 where
   pub own : f.own_window ≡ e.own_window
   pub peer : f.peer_window ≡ e.peer_window
 
-turn_idle : (e : EndState) (t : Turn) → (e.phase ≡ Up → ⊥) → e.session ≡ no_session → Idle e (turn e t)
+turn_idle : (e : EndState) (t : ShdlcTurn) → (e.phase ≡ Up → ⊥) → e.session ≡ no_session → Idle e (shdlc_turn e t)
 turn_idle e (Offer fragments) no_up none = go e.phase refl
   where
-    same : turn e (Offer fragments) ≡ e → Idle e (turn e (Offer fragments))
+    same : shdlc_turn e (Offer fragments) ≡ e → Idle e (shdlc_turn e (Offer fragments))
     same q = subst (Idle e) (sym q) (record { phase = refl; due = refl; session = none; own = refl; peer = refl })
 
-    go : (p : LinkState) → e.phase ≡ p → Idle e (turn e (Offer fragments))
+    go : (p : LinkState) → e.phase ≡ p → Idle e (shdlc_turn e (Offer fragments))
     go Up q = absurd (no_up q)
     go Waiting q = same (rw q refl)
     go Down q = same (rw q refl)
@@ -165,17 +165,17 @@ turn_idle e (SetReady r) no_up none =
     (record { phase = refl; due = refl; session = ap (λ (s : Session). record s { answered_rnr = false }) none; own = refl; peer = refl })
     (λ up. absurd (no_up up))
 
-pub turned_idle : (ts : List Turn) (e : EndState) → (e.phase ≡ Up → ⊥) → e.session ≡ no_session → Idle e (turned e ts)
+pub turned_idle : (ts : List ShdlcTurn) (e : EndState) → (e.phase ≡ Up → ⊥) → e.session ≡ no_session → Idle e (shdlc_turned e ts)
 turned_idle [] e no_up none = record { phase = refl; due = refl; session = none; own = refl; peer = refl }
 turned_idle (t ∷ ts) e no_up none =
     let a = turn_idle e t no_up none in
-    let b = turned_idle ts (turn e t) (λ u. no_up (sym a.phase ∙ u)) a.session in
+    let b = turned_idle ts (shdlc_turn e t) (λ u. no_up (sym a.phase ∙ u)) a.session in
     record { phase = b.phase ∙ a.phase; due = b.due ∙ a.due; session = b.session; own = b.own ∙ a.own; peer = b.peer ∙ a.peer }
 
 -- it waits, and waits on
-waits_on : (n : Losses) (l : Link) (e : EndState)
+waits_on : (n : Losses) (l : ShdlcLink) (e : EndState)
     → l.controller.side.phase ≡ Waiting → e.phase ≡ Waiting → e.own_window ≡ l.controller.side.own_window → e.peer_window ≡ l.controller.side.peer_window
-    → TiedLink n l → TiedLink n (with_controller l e)
+    → TiedLink n l → TiedLink n (with_shdlc_controller l e)
 waits_on n l e waiting ewait own peer t w a b p q =
     let f : EndState = as_up l.host.side.phase l.host.side in
     let P : LinkState → Type 0 = λ s. Meets (as_up s l.controller.side) f a b in
@@ -195,16 +195,16 @@ waits_on n l e waiting ewait own peer t w a b p q =
     before (inl u) = inl (waiting, u.1)
     before (inr u) = inr u
 
-waits_turned : (n : Losses) (ts : List Turn) (l : Link) (e : EndState)
+waits_turned : (n : Losses) (ts : List ShdlcTurn) (l : ShdlcLink) (e : EndState)
     → l.controller.side.phase ≡ Waiting → e.phase ≡ Waiting → e.own_window ≡ l.controller.side.own_window → e.peer_window ≡ l.controller.side.peer_window
     → e.due ≡ [] → e.session ≡ no_session → TiedLink n l → Goes n l ts e
 waits_turned n ts l e waiting ewait own peer due none t =
     let g = turned_idle ts e (λ u. let z = sym ewait ∙ u in let y : Waiting ≡ Up = z in cc) none in
-    sends_nothing 12 n l (turned e ts) (idle_end (turned e ts) (g.due ∙ due) g.session)
-    (waits_on n l (turned e ts) waiting (g.phase ∙ ewait) (g.own ∙ own) (g.peer ∙ peer) t)
+    sends_nothing 12 n l (shdlc_turned e ts) (idle_end (shdlc_turned e ts) (g.due ∙ due) g.session)
+    (waits_on n l (shdlc_turned e ts) waiting (g.phase ∙ ewait) (g.own ∙ own) (g.peer ∙ peer) t)
 
 -- it has turns, and nothing else
-stays : (n : Losses) (ts : List Turn) (l : Link) → l.controller.side.due ≡ [] → ((l.controller.side.phase ≡ Up → ⊥) → l.controller.side.session ≡ no_session)
+stays : (n : Losses) (ts : List ShdlcTurn) (l : ShdlcLink) → l.controller.side.due ≡ [] → ((l.controller.side.phase ≡ Up → ⊥) → l.controller.side.session ≡ no_session)
     → TiedLink n l → Goes n l ts l.controller.side
 stays n ts l due none t = go e.phase refl
   where
@@ -214,56 +214,56 @@ stays n ts l due none t = go e.phase refl
     go : (p : LinkState) → e.phase ≡ p → Goes n l ts e
     go Up q = up_becomes n ts l e q q (rw due tt) (rw due (omega arith)) (λ f w j. j) t
     go Waiting q = waits_turned n ts l e q q refl refl due (none (λ u. let g = sym q ∙ u in cc)) t
-    go Down q = tied_none 12 n l (turned e ts) (rw (turned-phase ts e ∙ q) refl)
+    go Down q = tied_none 12 n l (shdlc_turned e ts) (rw (turned-phase ts e ∙ q) refl)
 
 -- it has sent an RSET and waits
-asks : (n : Losses) (ts : List Turn) (l : Link) (e : EndState) (ends : Bool)
-    → e.phase ≡ Waiting → uas (sans l.to_controller) ≡ [] → Goes n (with_ended l ends) ts e
-asks n ts l e true waiting none = tied_none 12 n (with_ended l true) (turned e ts) (rw (turned-phase ts e ∙ waiting) (behind_none (sans l.to_controller) none))
-asks n ts l e false waiting none = tied_none 12 n l (turned e ts) (rw (turned-phase ts e ∙ waiting) (behind_none (sans l.to_controller) none))
+asks : (n : Losses) (ts : List ShdlcTurn) (l : ShdlcLink) (e : EndState) (ends : Bool)
+    → e.phase ≡ Waiting → uas (sans l.to_controller) ≡ [] → Goes n (with_shdlc_ended l ends) ts e
+asks n ts l e true waiting none = tied_none 12 n (with_shdlc_ended l true) (shdlc_turned e ts) (rw (turned-phase ts e ∙ waiting) (behind_none (sans l.to_controller) none))
+asks n ts l e false waiting none = tied_none 12 n l (shdlc_turned e ts) (rw (turned-phase ts e ∙ waiting) (behind_none (sans l.to_controller) none))
 
-resets : (kf : ℕ) (n : Losses) (ts : List Turn) (l : Link) (w : ℕ) → SafeLink 0 kf l → TiedLink n l
-    → TiedLink (noted_here n l (Reset w ts)) (happens_here l (Reset w ts))
+resets : (kf : ℕ) (n : Losses) (ts : List ShdlcTurn) (l : ShdlcLink) (w : ℕ) → SafeLink 0 kf l → TiedLink n l
+    → TiedLink (noted_here n l (Reset w ts)) (shdlc_happens_at_controller l (Reset w ts))
 resets kf n ts l w h t = go l.controller.side.phase refl
   where
     e : EndState
     e = record l.controller.side { own_window = w }
 
-    by_parts : (b : Bool) (q : EndState) → is_up l.controller.side.phase ≡ b → reset_with l.controller.side w ≡ q → Goes n (with_ended l b) ts q
-        → TiedLink (noted_here n l (Reset w ts)) (happens_here l (Reset w ts))
+    by_parts : (b : Bool) (q : EndState) → is_up l.controller.side.phase ≡ b → reset_with l.controller.side w ≡ q → Goes n (with_shdlc_ended l b) ts q
+        → TiedLink (noted_here n l (Reset w ts)) (shdlc_happens_at_controller l (Reset w ts))
     by_parts b q up is a =
-        let P : Bool → EndState → Type 0 = λ c f. Goes n (with_ended l c) ts f in
+        let P : Bool → EndState → Type 0 = λ c f. Goes n (with_shdlc_ended l c) ts f in
         subst (λ c. P c (reset_with l.controller.side w)) (sym up) (subst (P b) (sym is) a)
 
     none : (l.controller.side.phase ≡ Waiting → ⊥) → uas (sans l.to_controller) ≡ []
     none wait = (none_out 0 e.phase e.timer (rsets (sans l.to_host)) (uas (sans l.to_controller)) wait h.hand.n_out).1
 
-    go : (p : LinkState) → l.controller.side.phase ≡ p → TiedLink (noted_here n l (Reset w ts)) (happens_here l (Reset w ts))
+    go : (p : LinkState) → l.controller.side.phase ≡ p → TiedLink (noted_here n l (Reset w ts)) (shdlc_happens_at_controller l (Reset w ts))
     go Waiting q = by_parts false l.controller.side (rw q refl) (rw q refl) (stays n ts l h.n_due h.n_none t)
     go Up q = by_parts true (waiting_from e) (rw q refl) (rw q refl) (asks n ts l (waiting_from e) true refl (none (λ v. let g = sym q ∙ v in cc)))
     go Down q = by_parts false (waiting_from e) (rw q refl) (rw q refl) (asks n ts l (waiting_from e) false refl (none (λ v. let g = sym q ∙ v in cc)))
 
-silences : (n : Losses) (l : Link) (q : EndState) → q.phase ≡ Down → TiedLink n (silent l q)
-silences n l q down = tied_down n (silent l q) (go l.controller.side.phase refl)
+silences : (n : Losses) (l : ShdlcLink) (q : EndState) → q.phase ≡ Down → TiedLink n (shdlc_silent l q)
+silences n l q down = tied_down n (shdlc_silent l q) (go l.controller.side.phase refl)
   where
-    go : (p : LinkState) → l.controller.side.phase ≡ p → (silent l q).controller.side.phase ≡ Down
+    go : (p : LinkState) → l.controller.side.phase ≡ p → (shdlc_silent l q).controller.side.phase ≡ Down
     go Up e = rw e down
     go Waiting e = rw e down
     go Down e = rw e down
 
 -- a tick
-ticks : (kf : ℕ) (n : Losses) (ts : List Turn) (l : Link) → SafeLink 1 kf l → TiedLink n l → TiedLink (noted_tick n (Some ts) l) (ticks_here l ts)
+ticks : (kf : ℕ) (n : Losses) (ts : List ShdlcTurn) (l : ShdlcLink) → SafeLink 1 kf l → TiedLink n l → TiedLink (noted_tick n (Some ts) l) (shdlc_ticks_at_controller l ts)
 ticks kf n ts l h t = go e.phase (runs_timer e.session) (nat_lt (e.timer + 1) 10) (nat_lt e.tries 5) refl refl refl refl
   where
     e : EndState
     e = l.controller.side
 
     Q : Type 0
-    Q = TiedLink (noted_tick n (Some ts) l) (ticks_here l ts)
+    Q = TiedLink (noted_tick n (Some ts) l) (shdlc_ticks_at_controller l ts)
 
-    by_parts : (b : Bool) (q : EndState) → is_some (tick_answer e).ended ≡ b → ticked e ≡ q → Goes n (with_ended l b) ts q → Q
+    by_parts : (b : Bool) (q : EndState) → is_some (tick_answer e).ended ≡ b → ticked e ≡ q → Goes n (with_shdlc_ended l b) ts q → Q
     by_parts b q ends is a =
-        let P : Bool → EndState → Type 0 = λ c f. Goes n (with_ended l c) ts f in
+        let P : Bool → EndState → Type 0 = λ c f. Goes n (with_shdlc_ended l c) ts f in
         subst (λ c. P c (ticked e)) (sym ends) (subst (P b) (sym is) a)
 
     on : e.phase ≡ Up → (tick_answer e).ended ≡ None → Q
@@ -280,7 +280,7 @@ ticks kf n ts l h t = go e.phase (runs_timer e.session) (nat_lt (e.timer + 1) 10
         (let g = ltb-false (e.timer + 1) 10 r in omega arith) h.hand
 
     go : (p : LinkState) (a b c : Bool) → e.phase ≡ p → runs_timer e.session ≡ a → nat_lt (e.timer + 1) 10 ≡ b → nat_lt e.tries 5 ≡ c → Q
-    go Down a b c p q r s = by_parts false e (rw p refl) (rw p refl) (tied_none 12 n l (turned e ts) (rw (turned-phase ts e ∙ p) refl))
+    go Down a b c p q r s = by_parts false e (rw p refl) (rw p refl) (tied_none 12 n l (shdlc_turned e ts) (rw (turned-phase ts e ∙ p) refl))
     go Up false b c p q r s = on p (rw (p, q) refl)
     go Up true true c p q r s = on p (rw (p, q, r) refl)
     go Up true false true p q r s = on p (rw (p, q, r, s) refl)
@@ -292,20 +292,20 @@ ticks kf n ts l h t = go e.phase (runs_timer e.session) (nat_lt (e.timer + 1) 10
         (waits_turned n ts l (record e { timer = e.timer + 1 }) p p refl refl h.n_due (h.n_none (λ u. let g = sym p ∙ u in cc)) t)
     go Waiting a false true p q r s = by_parts false (asked_again e) (rw (p, r, s) refl) (rw (p, r, s) refl) (asks n ts l (asked_again e) false p (late r).1)
     go Waiting a false false p q r s =
-        by_parts false (given_up e) (rw (p, r, s) refl) (rw (p, r, s) refl) (tied_none 12 n l (turned (given_up e) ts) (rw (turned-phase ts (given_up e)) refl))
+        by_parts false (given_up e) (rw (p, r, s) refl) (rw (p, r, s) refl) (tied_none 12 n l (shdlc_turned (given_up e) ts) (rw (turned-phase ts (given_up e)) refl))
 
 -- ## It takes a frame
 
-abbrev noted_took : Losses → Link → List Turn → OnWire → List OnWire → Losses
+abbrev noted_took : Losses → ShdlcLink → List ShdlcTurn → OnWire → List OnWire → Losses
 noted_took n l ts x xs =
-    let m : Link = with_ended (record l { to_controller = xs }) (is_some (take_answer l.controller.side x.frame).ended) in
-    let t : Link = record m { controller = record m.controller { took = took_with l.controller.took x } } in
-    noted_out (came_up n t (take_answer l.controller.side x.frame).began) t (turned (taken l.controller.side x.frame) ts)
+    let m : ShdlcLink = with_shdlc_ended (record l { to_controller = xs }) (is_some (take_answer l.controller.side x.frame).ended) in
+    let t : ShdlcLink = record m { controller = record m.controller { took = took_with l.controller.took x } } in
+    noted_out (came_up n t (take_answer l.controller.side x.frame).began) t (shdlc_turned (taken l.controller.side x.frame) ts)
 
 -- the link after it took x, where it is q then, and a session began or didn't
-took_tied : (n : Losses) (l : Link) (ts : List Turn) (x : OnWire) (xs : List OnWire) (q : EndState) (began : Bool)
+took_tied : (n : Losses) (l : ShdlcLink) (ts : List ShdlcTurn) (x : OnWire) (xs : List OnWire) (q : EndState) (began : Bool)
     → taken l.controller.side x.frame ≡ q → (take_answer l.controller.side x.frame).began ≡ began
-    → ((c : Half) → c.side ≡ l.controller.side → number_of c ≡ max l.controller.emitted (took_with l.controller.took x)
+    → ((c : NumberedShdlc) → c.side ≡ l.controller.side → shdlc_number_of c ≡ max l.controller.emitted (took_with l.controller.took x)
     → Goes (came_up n (record l { to_controller = xs; controller = c }) began) (record l { to_controller = xs; controller = c }) ts q)
     → TiedLink (noted_took n l ts x xs) (took l ts x xs)
 took_tied n l ts x xs q began a b h = rw (a, b) (go (is_some (take_answer l.controller.side x.frame).ended))
@@ -313,10 +313,10 @@ took_tied n l ts x xs q began a b h = rw (a, b) (go (is_some (take_answer l.cont
     t : ℕ
     t = took_with l.controller.took x
 
-    go : (ends : Bool) → (let m : Link = with_ended (record l { to_controller = xs }) ends in
-        let k : Link = record m { controller = record m.controller { took = t } } in
+    go : (ends : Bool) → (let m : ShdlcLink = with_shdlc_ended (record l { to_controller = xs }) ends in
+        let k : ShdlcLink = record m { controller = record m.controller { took = t } } in
         Goes (came_up n k began) k ts q)
-    go true = h (record l.controller { took = t; past = (number_of l.controller, l.controller.side.session) ∷ l.controller.past }) refl refl
+    go true = h (record l.controller { took = t; past = (shdlc_number_of l.controller, l.controller.side.session) ∷ l.controller.past }) refl refl
     go false = h (record l.controller { took = t }) refl refl
 
 pub began_data : (e : EndState) (c : Control) → IsData c → (take_answer e c).began ≡ false
@@ -338,11 +338,11 @@ began_data e c d = go e.phase refl c d
     go Down q (Act _ _) d = rw q refl
     go Down q Clt d = rw q refl
 
-takes : (n : Losses) (l : Link) (ts : List Turn) (x : OnWire) (xs : List OnWire) → Safe 0 0 l.controller l.host (x ∷ sans xs) (sans l.to_host) l.resets
+takes : (n : Losses) (l : ShdlcLink) (ts : List ShdlcTurn) (x : OnWire) (xs : List OnWire) → Safe 0 0 l.controller l.host (x ∷ sans xs) (sans l.to_host) l.resets
     → Tied (IsWhole n) l.controller.side l.host.side (x ∷ sans xs) (sans l.to_host) → TiedLink (noted_took n l ts x xs) (took l ts x xs)
 takes n l ts x xs h t = takes_by (TiedLink (noted_took n l ts x xs) (took l ts x xs)) v x (sans xs) h in_session passed anew waits (λ is p none. confirmed is p)
   where
-    v : Link
+    v : ShdlcLink
     v = record l { to_host = sans l.to_host }
 
     e : EndState
@@ -365,7 +365,7 @@ takes n l ts x xs h t = takes_by (TiedLink (noted_took n l ts x xs) (took l ts x
     passed d no_up same =
         took_tied n l ts x xs e false same (began_data e x.frame d)
         (λ c side k.
-        let m : Link = record l { to_controller = xs; controller = c } in
+        let m : ShdlcLink = record l { to_controller = xs; controller = c } in
         let P : EndState → Type 0 = λ s. Tied (IsWhole n) s l.host.side (sans xs) (sans l.to_host) in
         let Q : EndState → Type 0 = λ s. (s.due ≡ []) × ((s.phase ≡ Up → ⊥) → s.session ≡ no_session) in
         let g = subst Q (sym side) (h.n_due, h.n_none) in
@@ -381,8 +381,8 @@ takes n l ts x xs h t = takes_by (TiedLink (noted_took n l ts x xs) (took l ts x
     far_new u s = waiting_new l.host.side s.waiting h.f_windows
 
     -- what stands on the wire to the other end once the UA is there
-    far_empty : (u : ℕ) → Tells v (sans xs) u → (c : Half) (b : List OnWire)
-        → live l.host.side.phase (sans (put (record l { to_controller = xs; controller = c }) Ua).to_host) ≡ Some b → b ≡ []
+    far_empty : (u : ℕ) → Tells v (sans xs) u → (c : NumberedShdlc) (b : List OnWire)
+        → live l.host.side.phase (sans (shdlc_put (record l { to_controller = xs; controller = c }) Ua).to_host) ≡ Some b → b ≡ []
     far_empty u s c b p = behind_fits l.to_host (record { frame = Ua; age = 0; number = 0 }) refl s.uas b (rw s.waiting at p)
 
     anew : (u : ℕ) → Tells v (sans xs) u → sans xs ≡ [] → taken e x.frame ≡ up_with (record e { due = Ua_due ∷ [] }) (min e.own_window (min u 4))
@@ -398,10 +398,10 @@ takes n l ts x xs h t = takes_by (TiedLink (noted_took n l ts x xs) (took l ts x
         } in
         took_tied n l ts x xs (up_with (record e { due = Ua_due ∷ [] }) w) (take_answer e x.frame).began to refl
         (λ c side k.
-        let m : Link = record l { to_controller = xs; controller = c } in
+        let m : ShdlcLink = record l { to_controller = xs; controller = c } in
         let z : Losses = came_up n m (take_answer e x.frame).began in
         sends_ua 11 z ts m (up_end e w)
-        (drains 11 (omega arith) (noted z m Ua) ts (put m Ua) (up_end e w) refl tt (omega arith)
+        (drains 11 (omega arith) (noted_loss z m Ua) ts (shdlc_put m Ua) (up_end e w) refl tt (omega arith)
         (λ y b q.
         let g = new_meets (up_end e w) f new (far_new u s) in
         let empty : b ≡ [] = far_empty u s c b q in
@@ -414,15 +414,15 @@ takes n l ts x xs h t = takes_by (TiedLink (noted_took n l ts x xs) (took l ts x
     waits u s p none to =
         let q : EndState = record e { due = []; peer_window = min u 4 } in
         let g = turned_idle ts q (λ y. let z = sym p ∙ y in let o : Waiting ≡ Up = z in cc) none in
-        let d : EndState = turned q ts in
+        let d : EndState = shdlc_turned q ts in
         let waiting : d.phase ≡ Waiting = g.phase ∙ p in
         took_tied n l ts x xs (record e { due = Ua_due ∷ []; peer_window = min u 4 }) (take_answer e x.frame).began to refl
         (λ c side k.
-        let m : Link = record l { to_controller = xs; controller = c } in
+        let m : ShdlcLink = record l { to_controller = xs; controller = c } in
         let z : Losses = came_up n m (take_answer e x.frame).began in
         sends_ua 11 z ts m q
-        (sends_nothing 11 (noted z m Ua) (put m Ua) d (idle_end d g.due g.session)
-        (tied_new (IsWhole (noted z m Ua)) d l.host.side (sans xs) (sans (put m Ua).to_host)
+        (sends_nothing 11 (noted_loss z m Ua) (shdlc_put m Ua) d (idle_end d g.due g.session)
+        (tied_new (IsWhole (noted_loss z m Ua)) d l.host.side (sans xs) (sans (shdlc_put m Ua).to_host)
         (waiting_new d waiting (record { own = rw g.own h.n_windows.own; peer = rw g.peer (omega (arith, s.wide), omega arith) }))
         (far_new u s) (λ a r. behind (sans xs) s.behind a (rw waiting at r)) (λ b r. far_empty u s c b r))))
       where
@@ -436,9 +436,9 @@ takes n l ts x xs h t = takes_by (TiedLink (noted_took n l ts x xs) (took l ts x
     confirmed is p =
         took_tied n l ts x xs (up_with e w) true (rw (is, p) refl) (rw (is, p) refl)
         (λ c side k.
-        let m : Link = record l { to_controller = xs; controller = c } in
+        let m : ShdlcLink = record l { to_controller = xs; controller = c } in
         drains 12 (omega arith) (came_up n m true) ts m (up_with e w) refl (rw h.n_due tt) (few_room (up_with e w) (rw h.n_due (omega arith)))
-        (first c (k ∙ ap (max l.controller.emitted) (took_other l.controller.took x (not_rset x.frame (inr is)))) (is_up_with l.host (number_of c)) refl))
+        (first c (k ∙ ap (max l.controller.emitted) (took_other l.controller.took x (not_rset x.frame (inr is)))) (is_up_with l.host (shdlc_number_of c)) refl))
       where
         w : ℕ
         w = min e.own_window e.peer_window
@@ -456,7 +456,7 @@ takes n l ts x xs h t = takes_by (TiedLink (noted_took n l ts x xs) (took l ts x
             (m.joined, m.far, tt)
 
         -- where nothing is noted yet, both waited
-        both : (c : Half) → number_of c ≡ number_of l.controller → is_up_with l.host (number_of c) ≡ false → (b : List OnWire)
+        both : (c : NumberedShdlc) → shdlc_number_of c ≡ shdlc_number_of l.controller → is_up_with l.host (shdlc_number_of c) ≡ false → (b : List OnWire)
             → live l.host.side.phase (sans l.to_host) ≡ Some b
             → l.host.side.phase ≡ Waiting
         both c n off b r = by l.host.side.phase refl
@@ -465,13 +465,13 @@ takes n l ts x xs h t = takes_by (TiedLink (noted_took n l ts x xs) (took l ts x
             by Waiting q = q
             by Down q = absurd (let z : None ≡ Some b = rw q at r in cc)
             by Up q =
-                let same : number_of l.controller ≡ number_of l.host =
-                agreed (live e.phase (x ∷ sans xs)) (live l.host.side.phase (sans l.to_host)) (sans xs) b (number_of l.controller ≡ number_of l.host)
+                let same : shdlc_number_of l.controller ≡ shdlc_number_of l.host =
+                agreed (live e.phase (x ∷ sans xs)) (live l.host.side.phase (sans l.to_host)) (sans xs) b (shdlc_number_of l.controller ≡ shdlc_number_of l.host)
                 lives r h.hand.agree in
-                let z : (number_of l.host == number_of c) ≡ false = rw q at off in
-                absurd (eqb-false (number_of l.host) (number_of c) z (sym same ∙ sym n))
+                let z : (shdlc_number_of l.host == shdlc_number_of c) ≡ false = rw q at off in
+                absurd (eqb-false (shdlc_number_of l.host) (shdlc_number_of c) z (sym same ∙ sym n))
 
-        first : (c : Half) → number_of c ≡ number_of l.controller → (o : Bool) → is_up_with l.host (number_of c) ≡ o
+        first : (c : NumberedShdlc) → shdlc_number_of c ≡ shdlc_number_of l.controller → (o : Bool) → is_up_with l.host (shdlc_number_of c) ≡ o
             → Rests (Unit {0}) (IsWhole (came_up n (record l { to_controller = xs; controller = c }) true)) (up_with e w) l.host.side (sans xs) (sans l.to_host)
         first c k true q = rw q (λ u b r. meets (inr u) b r)
         first c k false q = rw q (λ u b r. meets (inl (p, both c k q b r)) b r)
@@ -484,7 +484,7 @@ act_data (Rset _ _) a = absurd (let z : false ≡ true = a in cc)
 act_data Ua a = absurd (let z : false ≡ true = a in cc)
 act_data Clt a = tt
 
-delivers : (n : Losses) (ts : List Turn) (l : Link) → SafeLink 0 0 l → TiedLink n l → TiedLink (noted_here n l (Deliver ts)) (happens_here l (Deliver ts))
+delivers : (n : Losses) (ts : List ShdlcTurn) (l : ShdlcLink) → SafeLink 0 0 l → TiedLink n l → TiedLink (noted_here n l (Deliver ts)) (shdlc_happens_at_controller l (Deliver ts))
 delivers n ts l h t = go l.to_controller h t
   where
     e : EndState
@@ -497,14 +497,14 @@ delivers n ts l h t = go l.to_controller h t
     first x xs true q g t =
         took_tied n (record l { to_controller = x ∷ xs }) ts x xs e false (passes_act e x.frame q).0 (began_data e x.frame (act_data x.frame q))
         (λ c side k.
-        let m : Link = record l { to_controller = xs; controller = c } in
+        let m : ShdlcLink = record l { to_controller = xs; controller = c } in
         let P : EndState → Type 0 = λ s. Tied (IsWhole n) s l.host.side (sans xs) (sans l.to_host) in
         let Q : EndState → Type 0 = λ s. (s.due ≡ []) × ((s.phase ≡ Up → ⊥) → s.session ≡ no_session) in
         let z = subst Q (sym side) (h.n_due, h.n_none) in
         subst (λ s. Goes n m ts s) side (stays n ts m z.0 z.1 (subst P (sym side) (rw q at t))))
 
     go : (wire : List OnWire) → Safe 0 0 l.controller l.host (sans wire) (sans l.to_host) l.resets → Tied (IsWhole n) e l.host.side (sans wire) (sans l.to_host)
-        → TiedLink (noted_here n (record l { to_controller = wire }) (Deliver ts)) (happens_here (record l { to_controller = wire }) (Deliver ts))
+        → TiedLink (noted_here n (record l { to_controller = wire }) (Deliver ts)) (shdlc_happens_at_controller (record l { to_controller = wire }) (Deliver ts))
     go [] g t = t
     go (x ∷ xs) g t = first x xs (is_act x.frame) refl g t
 
@@ -514,7 +514,7 @@ tied_weaker : (W V : Type 0) (n f : EndState) (to_n to_f : List OnWire) → (V �
 tied_weaker W V n f to_n to_f weak t (inl u) = t (inl u)
 tied_weaker W V n f to_n to_f weak t (inr v) = t (inr (weak v))
 
-tied_lose : (kn : ℕ) (W V : Type 0) (n f : Half) (x : OnWire) (to_n to_f : List OnWire) (r : ℕ) → (V → ⊥) → Safe kn 0 n f (x ∷ to_n) to_f r
+tied_lose : (kn : ℕ) (W V : Type 0) (n f : NumberedShdlc) (x : OnWire) (to_n to_f : List OnWire) (r : ℕ) → (V → ⊥) → Safe kn 0 n f (x ∷ to_n) to_f r
     → Tied W n.side f.side (x ∷ to_n) to_f → Tied V n.side f.side to_n to_f
 tied_lose kn W V n f x to_n to_f r lossy h t (inr v) a b p q = absurd (lossy v)
 tied_lose kn W V n f x to_n to_f r lossy h t (inl u) a b p q = go (frame_cases x)
@@ -529,7 +529,7 @@ tied_lose kn W V n f x to_n to_f r lossy h t (inl u) a b p q = go (frame_cases x
         let out = one_ua kn n.side.phase n.side.timer x.age (rsets to_f) (uas to_n) (rw e at h.hand.n_out) in
         absurd (let z : behind_ua to_n ≡ Some a = rw u.0 at p in let y : None ≡ Some a = sym (behind_none to_n out.1) ∙ z in cc)
 
-loses : (n : Losses) (l : Link) → SafeLink 0 0 l → TiedLink n l → TiedLink (noted_here n l Lose) (happens_here l Lose)
+loses : (n : Losses) (l : ShdlcLink) → SafeLink 0 0 l → TiedLink n l → TiedLink (noted_here n l Lose) (shdlc_happens_at_controller l Lose)
 loses n l h t = go l.to_controller h t
   where
     f : EndState
@@ -537,7 +537,7 @@ loses n l h t = go l.to_controller h t
 
     go : (wire : List OnWire) → Safe 0 0 l.controller l.host (sans wire) (sans l.to_host) l.resets
         → Tied (IsWhole n) l.controller.side f (sans wire) (sans l.to_host)
-        → TiedLink (noted_here n (record l { to_controller = wire }) Lose) (happens_here (record l { to_controller = wire }) Lose)
+        → TiedLink (noted_here n (record l { to_controller = wire }) Lose) (shdlc_happens_at_controller (record l { to_controller = wire }) Lose)
     go [] g t =
         tied_weaker (IsWhole n) (IsWhole (record n { lost = n.lost || false })) l.controller.side f [] (sans l.to_host)
         (λ v. ((or_parts n.lost false v.0).0, v.1)) t
@@ -554,7 +554,7 @@ loses n l h t = go l.to_controller h t
             (λ v. let z : true ≡ false = rw q at ((or_parts n.lost (counts_first (x ∷ xs)) v.0).1) in true≢false z) (rw q at g) (rw q at t)
 
 -- a wire that is full loses its first frame
-fits_tied : (kf : ℕ) (W V : Type 0) (n f : Half) (to_n w : List OnWire) (r : ℕ) → (V → W) → (V → overflows w ≡ false) → Safe 0 kf n f to_n (sans w) r
+fits_tied : (kf : ℕ) (W V : Type 0) (n f : NumberedShdlc) (to_n w : List OnWire) (r : ℕ) → (V → W) → (V → overflows w ≡ false) → Safe 0 kf n f to_n (sans w) r
     → Tied W n.side f.side to_n (sans w) → Tied V n.side f.side to_n (sans (fits w))
 fits_tied kf W V n f to_n w r weak over h t = go (nat_lt 64 (length w)) w over h t
   where
@@ -575,8 +575,8 @@ fits_tied kf W V n f to_n w r weak over h t = go (nat_lt 64 (length w)) w over h
     go true (x ∷ xs) over g t = first x xs (is_act x.frame) refl over g t
 
 -- frames of activation stand beside the others
-acts_then : (kf : ℕ) (ts : List Turn) (acts : List Activation) (n : Losses) (l : Link) → SafeLink 0 kf l → TiedLink n l
-    → Goes (noted_all n l (map act_frame acts)) (put_all l (map act_frame acts)) ts l.controller.side
+acts_then : (kf : ℕ) (ts : List ShdlcTurn) (acts : List Activation) (n : Losses) (l : ShdlcLink) → SafeLink 0 kf l → TiedLink n l
+    → Goes (noted_all n l (map act_frame acts)) (shdlc_put_all l (map act_frame acts)) ts l.controller.side
 acts_then kf ts [] n l h t = stays n ts l h.n_due h.n_none t
 acts_then kf ts (a ∷ acts) n l h t =
     let x : OnWire = record { frame = act_frame a; age = 0; number = 0 } in
@@ -585,29 +585,29 @@ acts_then kf ts (a ∷ acts) n l h t =
     let P : List OnWire → Type 0 = λ v. Safe 0 kf l.controller l.host (sans l.to_controller) v l.resets in
     let g : Safe 0 kf l.controller l.host (sans l.to_controller) (sans w) l.resets = subst P same h in
     let Q : List OnWire → Type 0 = λ v. Tied (IsWhole n) l.controller.side l.host.side (sans l.to_controller) v in
-    let u : TiedLink (noted n l (act_frame a)) (put l (act_frame a)) =
-    fits_tied kf (IsWhole n) (IsWhole (noted n l (act_frame a))) l.controller l.host (sans l.to_controller) w l.resets
+    let u : TiedLink (noted_loss n l (act_frame a)) (shdlc_put l (act_frame a)) =
+    fits_tied kf (IsWhole n) (IsWhole (noted_loss n l (act_frame a))) l.controller l.host (sans l.to_controller) w l.resets
     (λ v. ((or_parts n.lost (overflows w) v.0).0, (or_parts n.rnr false v.1).0)) (λ v. (or_parts n.lost (overflows w) v.0).1) g (subst Q same t) in
-    acts_then kf ts acts (noted n l (act_frame a)) (put l (act_frame a)) (fits_keeps kf l.controller l.host (sans l.to_controller) w l.resets g) u
+    acts_then kf ts acts (noted_loss n l (act_frame a)) (shdlc_put l (act_frame a)) (fits_keeps kf l.controller l.host (sans l.to_controller) w l.resets g) u
 
-ignores : (n : Losses) (ts : List Turn) (l : Link) → TiedLink n l → TiedLink (noted_here n l (Ignore ts)) (happens_here l (Ignore ts))
+ignores : (n : Losses) (ts : List ShdlcTurn) (l : ShdlcLink) → TiedLink n l → TiedLink (noted_here n l (Ignore ts)) (shdlc_happens_at_controller l (Ignore ts))
 ignores n ts l t = go l.controller.side.phase refl l.to_controller refl
   where
-    by_parts : (k : Losses) (m : Link) → noted_here n l (Ignore ts) ≡ k → happens_here l (Ignore ts) ≡ m → TiedLink k m
-        → TiedLink (noted_here n l (Ignore ts)) (happens_here l (Ignore ts))
-    by_parts k m p q g = subst (λ i. TiedLink i (happens_here l (Ignore ts))) (sym p) (subst (TiedLink k) (sym q) g)
+    by_parts : (k : Losses) (m : ShdlcLink) → noted_here n l (Ignore ts) ≡ k → shdlc_happens_at_controller l (Ignore ts) ≡ m → TiedLink k m
+        → TiedLink (noted_here n l (Ignore ts)) (shdlc_happens_at_controller l (Ignore ts))
+    by_parts k m p q g = subst (λ i. TiedLink i (shdlc_happens_at_controller l (Ignore ts))) (sym p) (subst (TiedLink k) (sym q) g)
 
     go : (p : LinkState) → l.controller.side.phase ≡ p → (wire : List OnWire)
-        → l.to_controller ≡ wire → TiedLink (noted_here n l (Ignore ts)) (happens_here l (Ignore ts))
+        → l.to_controller ≡ wire → TiedLink (noted_here n l (Ignore ts)) (shdlc_happens_at_controller l (Ignore ts))
     go Up q wire w = by_parts n l (rw q refl) (rw q refl) t
     go Waiting q wire w = by_parts n l (rw q refl) (rw q refl) t
     go Down q [] w = by_parts n l (rw (q, w) refl) (rw (q, w) refl) t
     go Down q (x ∷ xs) w =
-        let m : Link = record l { to_controller = xs; controller = record l.controller { took = took_with l.controller.took x } } in
-        by_parts (noted_out n m (turned l.controller.side ts)) (becomes m (turned l.controller.side ts)) (rw (q, w) refl) (rw (q, w) refl)
-        (tied_none 12 n m (turned l.controller.side ts) (rw (turned-phase ts l.controller.side ∙ q) refl))
+        let m : ShdlcLink = record l { to_controller = xs; controller = record l.controller { took = took_with l.controller.took x } } in
+        by_parts (noted_out n m (shdlc_turned l.controller.side ts)) (shdlc_becomes m (shdlc_turned l.controller.side ts)) (rw (q, w) refl) (rw (q, w) refl)
+        (tied_none 12 n m (shdlc_turned l.controller.side ts) (rw (turned-phase ts l.controller.side ∙ q) refl))
 
-tied_fresh : (W V : Type 0) (n f : Half) (to_n to_f : List OnWire) (r : ℕ) → (V → W) → (V → loses_aged to_n ≡ false) → Safe 0 0 n f to_n to_f r
+tied_fresh : (W V : Type 0) (n f : NumberedShdlc) (to_n to_f : List OnWire) (r : ℕ) → (V → W) → (V → loses_aged to_n ≡ false) → Safe 0 0 n f to_n to_f r
     → Tied W n.side f.side to_n to_f → Tied V n.side f.side (fresh to_n) to_f
 tied_fresh W V n f [] to_f r weak fit h t = tied_weaker W V n.side f.side [] to_f weak t
 tied_fresh W V n f (x ∷ xs) to_f r weak fit h t = go (nat_lt x.age 4) refl (tied_fresh V V n f xs to_f r (λ v. v))
@@ -620,7 +620,7 @@ tied_fresh W V n f (x ∷ xs) to_f r weak fit h t = go (nat_lt x.age 4) refl (ti
         let lossy : V → ⊥ = λ v. true≢false (rw q at (fit v)) in
         rw q (later (λ v. absurd (lossy v)) (safe_lose 0 n f x xs to_f r h) (tied_lose 0 W V n f x xs to_f r lossy h t))
 
-ages : (n : Losses) (l : Link) → SafeLink 0 0 l → TiedLink n l → TiedLink (noted_aged n l) (aged l)
+ages : (n : Losses) (l : ShdlcLink) → SafeLink 0 0 l → TiedLink n l → TiedLink (noted_aged n l) (shdlc_aged l)
 ages i l h t =
     let n = l.controller in
     let f = l.host in
@@ -644,10 +644,10 @@ ages i l h t =
 
 -- ## All events
 
-swaps : (n : Losses) (l : Link) → TiedLink n l → TiedLink n (exchanged l)
+swaps : (n : Losses) (l : ShdlcLink) → TiedLink n l → TiedLink n (shdlc_exchanged l)
 swaps n l t = tied_swap (IsWhole n) l.controller.side l.host.side (sans l.to_controller) (sans l.to_host) t
 
-tied_turn : (kf : ℕ) (n : Losses) (l : Link) (e : EndEvent) → IsTurn e → SafeLink 0 kf l → TiedLink n l → TiedLink (noted_here n l e) (happens_here l e)
+tied_turn : (kf : ℕ) (n : Losses) (l : ShdlcLink) (e : ShdlcEndEvent) → IsTurn e → SafeLink 0 kf l → TiedLink n l → TiedLink (noted_here n l e) (shdlc_happens_at_controller l e)
 tied_turn kf n l (Turns ts) a h t = stays n ts l h.n_due h.n_none t
 tied_turn kf n l (Deliver ts) a h t = absurd a
 tied_turn kf n l (Ignore ts) a h t = absurd a
@@ -657,12 +657,12 @@ tied_turn kf n l (Reset w ts) a h t = resets kf n ts l w h t
 tied_turn kf n l Cut a h t = silences n l (new_end 4) refl
 tied_turn kf n l Stop a h t = silences n l (stopped l.controller.side) refl
 
-tied_turns : (kf : ℕ) (es : List EndEvent) (n : Losses) (l : Link) → AreTurns es → SafeLink 0 kf l → TiedLink n l
-    → TiedLink (noted_turns n l es) (all_here l es)
+tied_turns : (kf : ℕ) (es : List ShdlcEndEvent) (n : Losses) (l : ShdlcLink) → AreTurns es → SafeLink 0 kf l → TiedLink n l
+    → TiedLink (noted_turns n l es) (shdlc_all_at_controller l es)
 tied_turns kf [] n l a h t = t
-tied_turns kf (e ∷ es) n l a h t = tied_turns kf es (noted_here n l e) (happens_here l e) a.1 (safe_turn kf l e a.0 h) (tied_turn kf n l e a.0 h t)
+tied_turns kf (e ∷ es) n l a h t = tied_turns kf es (noted_here n l e) (shdlc_happens_at_controller l e) a.1 (safe_turn kf l e a.0 h) (tied_turn kf n l e a.0 h t)
 
-tied_at : (n : Losses) (l : Link) (e : EndEvent) → SafeLink 0 0 l → TiedLink n l → TiedLink (noted_here n l e) (happens_here l e)
+tied_at : (n : Losses) (l : ShdlcLink) (e : ShdlcEndEvent) → SafeLink 0 0 l → TiedLink n l → TiedLink (noted_here n l e) (shdlc_happens_at_controller l e)
 tied_at n l (Turns ts) h t = stays n ts l h.n_due h.n_none t
 tied_at n l (Deliver ts) h t = delivers n ts l h t
 tied_at n l (Ignore ts) h t = ignores n ts l t
@@ -672,11 +672,11 @@ tied_at n l (Reset w ts) h t = resets 0 n ts l w h t
 tied_at n l Cut h t = silences n l (new_end 4) refl
 tied_at n l Stop h t = silences n l (stopped l.controller.side) refl
 
-tied_tick : (kf : ℕ) (n : Losses) (b : Option (List Turn)) (l : Link) → SafeLink 1 kf l → TiedLink n l → TiedLink (noted_tick n b l) (ticks_or_cut b l)
+tied_tick : (kf : ℕ) (n : Losses) (b : Option (List ShdlcTurn)) (l : ShdlcLink) → SafeLink 1 kf l → TiedLink n l → TiedLink (noted_tick n b l) (ticks_or_cut b l)
 tied_tick kf n (Some ts) l h t = ticks kf n ts l h t
 tied_tick kf n None l h t = silences n l (new_end 4) refl
 
-tied_if_waiting : (kf : ℕ) (n : Losses) (l : Link) → SafeLink 1 kf l → TiedLink n l → TiedLink (noted_if_waiting n l) (ticks_if_waiting l)
+tied_if_waiting : (kf : ℕ) (n : Losses) (l : ShdlcLink) → SafeLink 1 kf l → TiedLink n l → TiedLink (noted_if_waiting n l) (ticks_if_waiting l)
 tied_if_waiting kf n l h t = go (is_waiting l.controller.side) refl
   where
     go : (b : Bool) → is_waiting l.controller.side ≡ b → TiedLink (noted_if_waiting n l) (ticks_if_waiting l)
@@ -684,59 +684,59 @@ tied_if_waiting kf n l h t = go (is_waiting l.controller.side) refl
     go false q = rw q t
 
 -- a tick of the host's end, where these things have happened at the controller's
-tied_there : (turns : List EndEvent) (d : Option (List Turn)) (i : Losses) (near : Link) → AreTurns turns → SafeLink 0 1 near → TiedLink i near
-    → TiedLink (noted_tick (noted_turns i near turns) d (exchanged (all_here near turns))) (exchanged (ticks_or_cut d (exchanged (all_here near turns))))
+tied_there : (turns : List ShdlcEndEvent) (d : Option (List ShdlcTurn)) (i : Losses) (near : ShdlcLink) → AreTurns turns → SafeLink 0 1 near → TiedLink i near
+    → TiedLink (noted_tick (noted_turns i near turns) d (shdlc_exchanged (shdlc_all_at_controller near turns))) (shdlc_exchanged (ticks_or_cut d (shdlc_exchanged (shdlc_all_at_controller near turns))))
 tied_there turns d i near a one t =
-    let m : Link = all_here near turns in
+    let m : ShdlcLink = shdlc_all_at_controller near turns in
     let j : Losses = noted_turns i near turns in
-    let two : SafeLink 1 0 (exchanged m) = safe_exchanged 0 1 m (safe_turns 1 turns near a one) in
-    swaps (noted_tick j d (exchanged m)) (ticks_or_cut d (exchanged m))
-    (tied_tick 0 j d (exchanged m) two (swaps j m (tied_turns 1 turns i near a one t)))
+    let two : SafeLink 1 0 (shdlc_exchanged m) = safe_exchanged 0 1 m (safe_turns 1 turns near a one) in
+    swaps (noted_tick j d (shdlc_exchanged m)) (ticks_or_cut d (shdlc_exchanged m))
+    (tied_tick 0 j d (shdlc_exchanged m) two (swaps j m (tied_turns 1 turns i near a one t)))
 
-tied_event : (n : Losses) (l : Link) (e : LinkEvent) (es : List LinkEvent) → AllAllowed (e ∷ es) → SafeLink 0 0 l → TiedLink n l
-    → TiedLink (noted_event n l e) (happens l e)
+tied_event : (n : Losses) (l : ShdlcLink) (e : ShdlcLinkEvent) (es : List ShdlcLinkEvent) → AllShdlcAllowed (e ∷ es) → SafeLink 0 0 l → TiedLink n l
+    → TiedLink (noted_event n l e) (shdlc_happens l e)
 tied_event n l (AtController e) es a h t = tied_at n l e h t
 tied_event n l (AtHost e) es a h t =
-    swaps (noted_here n (exchanged l) e) (happens_here (exchanged l) e) (tied_at n (exchanged l) e (safe_exchanged 0 0 l h) (swaps n l t))
+    swaps (noted_here n (shdlc_exchanged l) e) (shdlc_happens_at_controller (shdlc_exchanged l) e) (tied_at n (shdlc_exchanged l) e (safe_exchanged 0 0 l h) (swaps n l t))
 tied_event n l (Tick c turns d) es a h t =
-    tied_there turns d (noted_tick (noted_aged n l) c (aged l)) (ticks_or_cut c (aged l)) a.0 (tick_or_cut 1 c (aged l) (safe_aged l h))
-    (tied_tick 1 (noted_aged n l) c (aged l) (safe_aged l h) (ages n l h t))
+    tied_there turns d (noted_tick (noted_aged n l) c (shdlc_aged l)) (ticks_or_cut c (shdlc_aged l)) a.0 (tick_or_cut 1 c (shdlc_aged l) (safe_aged l h))
+    (tied_tick 1 (noted_aged n l) c (shdlc_aged l) (safe_aged l h) (ages n l h t))
 tied_event n l (TickWithout turns d) es a h t =
-    tied_there turns d (noted_if_waiting (noted_aged n l) (aged l)) (ticks_if_waiting (aged l)) a.0 (tick_if_waiting 1 (aged l) (safe_aged l h))
-    (tied_if_waiting 1 (noted_aged n l) (aged l) (safe_aged l h) (ages n l h t))
+    tied_there turns d (noted_if_waiting (noted_aged n l) (shdlc_aged l)) (ticks_if_waiting (shdlc_aged l)) a.0 (tick_if_waiting 1 (shdlc_aged l) (safe_aged l h))
+    (tied_if_waiting 1 (noted_aged n l) (shdlc_aged l) (safe_aged l h) (ages n l h t))
 
-tied_from : (events : List LinkEvent) (n : Losses) (l : Link) → AllAllowed events → SafeLink 0 0 l → TiedLink n l
-    → TiedLink (losses_after n l events) (after l events)
+tied_from : (events : List ShdlcLinkEvent) (n : Losses) (l : ShdlcLink) → AllShdlcAllowed events → SafeLink 0 0 l → TiedLink n l
+    → TiedLink (losses_after n l events) (shdlc_after l events)
 tied_from [] n l a h t = t
-tied_from (e ∷ es) n l a h t = let s = safe_event l e es a h in tied_from es (noted_event n l e) (happens l e) s.1 s.0 (tied_event n l e es a h t)
+tied_from (e ∷ es) n l a h t = let s = safe_event l e es a h in tied_from es (noted_event n l e) (shdlc_happens l e) s.1 s.0 (tied_event n l e es a h t)
 
-tied_start : (l : Link) → IsStart l → TiedLink no_losses l
+tied_start : (l : ShdlcLink) → IsShdlcStart l → TiedLink no_losses l
 tied_start l BothDown = tied_down no_losses start_down refl
 tied_start l BothUp = tied_new (IsWhole no_losses) (begun (new_end 4)) (begun (new_end 4)) [] [] new new (λ a p. cc) (λ a p. cc)
   where
     new : IsNew (begun (new_end 4))
     new = record { up = refl; due = refl; window = 4; fits = (omega arith, omega arith); session = refl }
 
-tied : (l : Link) → IsStart l → (events : List LinkEvent) → AllAllowed events → TiedLink (losses_after no_losses l events) (after l events)
+tied : (l : ShdlcLink) → IsShdlcStart l → (events : List ShdlcLinkEvent) → AllShdlcAllowed events → TiedLink (losses_after no_losses l events) (shdlc_after l events)
 tied l s events a = tied_from events no_losses l a (safe_start l s) (tied_start l s)
 
 -- ## What follows
 
-all_delivered : (n : Losses) (l : Link) → TiedLink n l → IsQuiet l n → AllDelivered l.controller.side.session l.host.side.session
+all_delivered : (n : Losses) (l : ShdlcLink) → TiedLink n l → IsShdlcQuiet l n → FragmentsDelivered l.controller.side.session l.host.side.session
 all_delivered n l t q =
     let m = meets_up n l q.controller t (q.lost, q.rnr) (sans l.to_host) (rw q.host refl) in
     let k = to_up (λ e. Meets l.controller.side e (sans l.to_controller) (sans l.to_host)) l.host.side q.host m in
     delivered (Unit {0}) l.controller.side l.host.side (sans l.to_controller) (sans l.to_host) k.joined tt k.near k.far
     q.to_controller q.to_host
 
-pub delivered_here : (l : Link) → IsStart l → (events : List LinkEvent) → AllAllowed events → IsQuiet (after l events) (losses_after no_losses l events)
-    → AllDelivered (after l events).controller.side.session (after l events).host.side.session
-delivered_here l s events a q = all_delivered (losses_after no_losses l events) (after l events) (tied l s events a) q
+pub delivered_here : (l : ShdlcLink) → IsShdlcStart l → (events : List ShdlcLinkEvent) → AllShdlcAllowed events → IsShdlcQuiet (shdlc_after l events) (losses_after no_losses l events)
+    → FragmentsDelivered (shdlc_after l events).controller.side.session (shdlc_after l events).host.side.session
+delivered_here l s events a q = all_delivered (losses_after no_losses l events) (shdlc_after l events) (tied l s events a) q
 
-pub delivered_there : (l : Link) → IsStart l → (events : List LinkEvent) → AllAllowed events → IsQuiet (after l events) (losses_after no_losses l events)
-    → AllDelivered (after l events).host.side.session (after l events).controller.side.session
+pub delivered_there : (l : ShdlcLink) → IsShdlcStart l → (events : List ShdlcLinkEvent) → AllShdlcAllowed events → IsShdlcQuiet (shdlc_after l events) (losses_after no_losses l events)
+    → FragmentsDelivered (shdlc_after l events).host.side.session (shdlc_after l events).controller.side.session
 delivered_there l s events a q =
-    let m = after l events in
+    let m = shdlc_after l events in
     let n = losses_after no_losses l events in
-    all_delivered n (exchanged m) (swaps n m (tied l s events a))
+    all_delivered n (shdlc_exchanged m) (swaps n m (tied l s events a))
     (record { controller = q.host; host = q.controller; lost = q.lost; rnr = q.rnr; to_controller = q.to_host; to_host = q.to_controller })

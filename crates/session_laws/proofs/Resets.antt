@@ -14,12 +14,12 @@ use Rattle.shdlc_core.specs.Machine.{EndState, no_session, fetched, frame_due, f
 use Rattle.link_laws.proofs.Whole.{AnswersOnly}
 use Rattle.link_laws.proofs.Joined.{tick_cases, ready_cases}
 use Rattle.link_laws.proofs.Idle.{fetched_idle, after_frames_idle}
-use Rattle.session_laws.specs.Sessions.{OnWire, Half, Link, IsStart, exchanged, number_of, fits, put, put_all, becomes, with_controller, with_ended, took_with, is_up, act_frame, happens_here, ticks_here, older, aged_wire, aged, EndEvent, IsTurn, AreTurns, all_here, ticks_or_cut, ticks_if_waiting, LinkEvent, AllAllowed, happens, after, Turn, turn, turned}
-use Rattle.session_laws.specs.Sessions.Turn.{Offer, SetReady}
-use Rattle.session_laws.specs.Sessions.EndEvent.{Turns, Deliver, Ignore, Acts, Lose, Reset, Cut, Stop}
-use Rattle.session_laws.specs.Sessions.LinkEvent.{AtController, AtHost, Tick, TickWithout}
+use Rattle.session_laws.specs.Sessions.{OnWire, NumberedShdlc, ShdlcLink, IsShdlcStart, shdlc_exchanged, shdlc_number_of, fits, shdlc_put, shdlc_put_all, shdlc_becomes, with_shdlc_controller, with_shdlc_ended, took_with, is_up, act_frame, shdlc_happens_at_controller, shdlc_ticks_at_controller, older, aged_wire, shdlc_aged, ShdlcEndEvent, IsTurn, AreTurns, shdlc_all_at_controller, ticks_or_cut, ticks_if_waiting, ShdlcLinkEvent, AllShdlcAllowed, shdlc_happens, shdlc_after, ShdlcTurn, shdlc_turn, shdlc_turned}
+use Rattle.session_laws.specs.Sessions.ShdlcTurn.{Offer, SetReady}
+use Rattle.session_laws.specs.Sessions.ShdlcEndEvent.{Turns, Deliver, Ignore, Acts, Lose, Reset, Cut, Stop}
+use Rattle.session_laws.specs.Sessions.ShdlcLinkEvent.{AtController, AtHost, Tick, TickWithout}
 use Rattle.session_laws.specs.Losses.{is_act, sans, counts_first, overflows, loses_aged}
-use Rattle.session_laws.specs.Settled.{sure_put, sure_all, sure_out, sure_here, sure_turns, sure_tick, sure_if_waiting, sure_aged, sure_event, sure_after, IsSettled, AreUpTogether}
+use Rattle.session_laws.specs.Settled.{sure_put, sure_all, sure_out, sure_here, sure_turns, sure_tick, sure_if_waiting, sure_aged, sure_event, sure_after, IsShdlcSettled, AreShdlcUpTogether}
 use Rattle.session_laws.proofs.Wire.{IsData, data_not_rset, data_not_ua, not_rset_adds, not_ua_adds, rsets, uas, rsets-append, uas-append, plus_one, rsets-older, uas-older}
 use Rattle.session_laws.proofs.Hand.{peer_of, nothing_out}
 use Rattle.session_laws.proofs.Safe.{Safe, up_end}
@@ -36,10 +36,10 @@ abbrev pub States : LinkState → LinkState → List OnWire → List OnWire → 
 States p q to_n to_f = Asks p q to_n to_f ⊎ (Asks q p to_f to_n ⊎ ((p ≡ Up) × (q ≡ Up)))
 
 -- the controller's end is e, or as it stands
-abbrev pub SureAt : Bool → Link → EndState → Type 0
+abbrev pub SureAt : Bool → ShdlcLink → EndState → Type 0
 SureAt s l e = s ≡ true → States e.phase l.host.side.phase (sans l.to_controller) (sans l.to_host)
 
-abbrev pub SureLink : Bool → Link → Type 0
+abbrev pub SureLink : Bool → ShdlcLink → Type 0
 SureLink s l = SureAt s l l.controller.side
 
 -- ## Wires
@@ -103,10 +103,10 @@ rset_stands w x v c is = go w (nat_lt 64 (length (w ++ x ∷ []))) refl
 
 -- ## Sending
 
-abbrev Sends : Bool → EndState → Link → Type 0
+abbrev Sends : Bool → EndState → ShdlcLink → Type 0
 Sends s e v = AnswersOnly e.due × SureAt s v e
 
-sends_each : (s : Bool) (e : EndState) (v : Link) (c : Control) → frame_due e ≡ Some c → Sends s e v → Sends (sure_put s v c) (fetched e) (put v c)
+sends_each : (s : Bool) (e : EndState) (v : ShdlcLink) (c : Control) → frame_due e ≡ Some c → Sends s e v → Sends (sure_put s v c) (fetched e) (shdlc_put v c)
 sends_each s e v c is k =
     let d = data_due e c k.0 is in
     let x : OnWire = record { frame = c; age = 0; number = 0 } in
@@ -118,45 +118,45 @@ sends_each s e v c is k =
     rw (fetched-phase e, same) (states_push e.phase v.host.side.phase (sans v.to_controller) (sans v.to_host) x (k.1 parts.0)) in
     (fetched_answers e k.0, rw (not_rset c (inl d.0)) a)
 
-sends_sure : (P : Bool → EndState → Link → Type 0)
-    → ((s : Bool) (e : EndState) (l : Link) (c : Control) → frame_due e ≡ Some c → P s e l → P (sure_put s l c) (fetched e) (put l c))
-    → (m : ℕ) (s : Bool) (e : EndState) (l : Link) → P s e l → P (sure_all s l (frames_of m e)) (after_frames m e) (put_all l (frames_of m e))
+sends_sure : (P : Bool → EndState → ShdlcLink → Type 0)
+    → ((s : Bool) (e : EndState) (l : ShdlcLink) (c : Control) → frame_due e ≡ Some c → P s e l → P (sure_put s l c) (fetched e) (shdlc_put l c))
+    → (m : ℕ) (s : Bool) (e : EndState) (l : ShdlcLink) → P s e l → P (sure_all s l (frames_of m e)) (after_frames m e) (shdlc_put_all l (frames_of m e))
 sends_sure P each zero s e l h = h
 sends_sure P each (suc m) s e l h = go (frame_due e) refl (λ k. sends_sure P each m k (fetched e))
   where
     go : (o : Option Control) → frame_due e ≡ o
-        → ((k : Bool) (v : Link) → P k (fetched e) v
-        → P (sure_all k v (frames_of m (fetched e))) (after_frames m (fetched e)) (put_all v (frames_of m (fetched e))))
-        → P (sure_all s l (frames_of (suc m) e)) (after_frames (suc m) e) (put_all l (frames_of (suc m) e))
+        → ((k : Bool) (v : ShdlcLink) → P k (fetched e) v
+        → P (sure_all k v (frames_of m (fetched e))) (after_frames m (fetched e)) (shdlc_put_all v (frames_of m (fetched e))))
+        → P (sure_all s l (frames_of (suc m) e)) (after_frames (suc m) e) (shdlc_put_all l (frames_of (suc m) e))
     go None q later = rw q (rw (fetched_idle e q, after_frames_idle m e q) h)
-    go (Some c) q later = rw q (later (sure_put s l c) (put l c) (each s e l c q h))
+    go (Some c) q later = rw q (later (sure_put s l c) (shdlc_put l c) (each s e l c q h))
 
-sends_all : (m : ℕ) (s : Bool) (e : EndState) (l : Link) → Sends s e l → Sends (sure_all s l (frames_of m e)) (after_frames m e) (put_all l (frames_of m e))
+sends_all : (m : ℕ) (s : Bool) (e : EndState) (l : ShdlcLink) → Sends s e l → Sends (sure_all s l (frames_of m e)) (after_frames m e) (shdlc_put_all l (frames_of m e))
 sends_all m s e l h = sends_sure Sends sends_each m s e l h
 
-turn_answers : (e : EndState) (t : Turn) → AnswersOnly e.due → AnswersOnly (turn e t).due
+turn_answers : (e : EndState) (t : ShdlcTurn) → AnswersOnly e.due → AnswersOnly (shdlc_turn e t).due
 turn_answers e (SetReady r) a = ready_cases (λ f. AnswersOnly f.due) e r a a (answers_more e.due a)
 turn_answers e (Offer fragments) a = go e.phase refl
   where
-    go : (p : LinkState) → e.phase ≡ p → AnswersOnly (turn e (Offer fragments)).due
+    go : (p : LinkState) → e.phase ≡ p → AnswersOnly (shdlc_turn e (Offer fragments)).due
     go Up q = rw q a
     go Waiting q = rw q a
     go Down q = rw q a
 
-turned_answers : (ts : List Turn) (e : EndState) → AnswersOnly e.due → AnswersOnly (turned e ts).due
+turned_answers : (ts : List ShdlcTurn) (e : EndState) → AnswersOnly e.due → AnswersOnly (shdlc_turned e ts).due
 turned_answers [] e a = a
-turned_answers (t ∷ ts) e a = turned_answers ts (turn e t) (turn_answers e t a)
+turned_answers (t ∷ ts) e a = turned_answers ts (shdlc_turn e t) (turn_answers e t a)
 
 -- the link after it became e, had its turns and sent what is due
-abbrev Goes : Bool → Link → List Turn → EndState → Type 0
-Goes s l ts e = SureLink (sure_out s l (turned e ts)) (becomes l (turned e ts))
+abbrev Goes : Bool → ShdlcLink → List ShdlcTurn → EndState → Type 0
+Goes s l ts e = SureLink (sure_out s l (shdlc_turned e ts)) (shdlc_becomes l (shdlc_turned e ts))
 
-sure_drains : (m : ℕ) (s : Bool) (ts : List Turn) (e : EndState) (l : Link) → AnswersOnly e.due → SureAt s l e
-    → SureLink (sure_all s l (frames_of m (turned e ts))) (with_controller (put_all l (frames_of m (turned e ts))) (after_frames m (turned e ts)))
+sure_drains : (m : ℕ) (s : Bool) (ts : List ShdlcTurn) (e : EndState) (l : ShdlcLink) → AnswersOnly e.due → SureAt s l e
+    → SureLink (sure_all s l (frames_of m (shdlc_turned e ts))) (with_shdlc_controller (shdlc_put_all l (frames_of m (shdlc_turned e ts))) (after_frames m (shdlc_turned e ts)))
 sure_drains m s ts e l a h =
-    (sends_all m s (turned e ts) l (turned_answers ts e a, λ n. rw (turned-phase ts e) (h n))).1
+    (sends_all m s (shdlc_turned e ts) l (turned_answers ts e a, λ n. rw (turned-phase ts e) (h n))).1
 
-sure_put_tells : (s : Bool) (l : Link) (c : Control) → sure_put s l c ≡ true → s ≡ true
+sure_put_tells : (s : Bool) (l : ShdlcLink) (c : Control) → sure_put s l c ≡ true → s ≡ true
 sure_put_tells s l (Rset w v) e = absurd (true≢false (sym e))
 sure_put_tells s l (I _ _ _) e = (and_parts s _ e).0
 sure_put_tells s l (S _ _) e = (and_parts s _ e).0
@@ -164,89 +164,89 @@ sure_put_tells s l Ua e = (and_parts s _ e).0
 sure_put_tells s l (Act _ _) e = (and_parts s _ e).0
 sure_put_tells s l Clt e = (and_parts s _ e).0
 
-sure_all_tells : (cs : List Control) (s : Bool) (l : Link) → sure_all s l cs ≡ true → s ≡ true
+sure_all_tells : (cs : List Control) (s : Bool) (l : ShdlcLink) → sure_all s l cs ≡ true → s ≡ true
 sure_all_tells [] s l e = e
-sure_all_tells (c ∷ cs) s l e = sure_put_tells s l c (sure_all_tells cs (sure_put s l c) (put l c) e)
+sure_all_tells (c ∷ cs) s l e = sure_put_tells s l c (sure_all_tells cs (sure_put s l c) (shdlc_put l c) e)
 
 -- what is due first stays so
 abbrev with_first : Due → EndState → EndState
 with_first d e = record e { due = d ∷ e.due }
 
-turn-first : (d : Due) (e : EndState) (t : Turn) → turn (with_first d e) t ≡ with_first d (turn e t)
+turn-first : (d : Due) (e : EndState) (t : ShdlcTurn) → shdlc_turn (with_first d e) t ≡ with_first d (shdlc_turn e t)
 turn-first d e (Offer fragments) = go e.phase refl
   where
-    go : (p : LinkState) → e.phase ≡ p → turn (with_first d e) (Offer fragments) ≡ with_first d (turn e (Offer fragments))
+    go : (p : LinkState) → e.phase ≡ p → shdlc_turn (with_first d e) (Offer fragments) ≡ with_first d (shdlc_turn e (Offer fragments))
     go Up q = rw q refl
     go Waiting q = rw q refl
     go Down q = rw q refl
 turn-first d e (SetReady r) = go e.ready r e.session.answered_rnr refl refl
   where
-    go : (a b c : Bool) → e.ready ≡ a → e.session.answered_rnr ≡ c → turn (with_first d e) (SetReady b) ≡ with_first d (turn e (SetReady b))
+    go : (a b c : Bool) → e.ready ≡ a → e.session.answered_rnr ≡ c → shdlc_turn (with_first d e) (SetReady b) ≡ with_first d (shdlc_turn e (SetReady b))
     go true true c p q = rw p refl
     go false false c p q = rw p refl
     go true false c p q = rw p refl
     go false true true p q = rw (p, q) refl
     go false true false p q = rw (p, q) refl
 
-turned-first : (d : Due) (ts : List Turn) (e : EndState) → turned (with_first d e) ts ≡ with_first d (turned e ts)
+turned-first : (d : Due) (ts : List ShdlcTurn) (e : EndState) → shdlc_turned (with_first d e) ts ≡ with_first d (shdlc_turned e ts)
 turned-first d [] e = refl
-turned-first d (t ∷ ts) e = ap (λ f. turned f ts) (turn-first d e t) ∙ turned-first d ts (turn e t)
+turned-first d (t ∷ ts) e = ap (λ f. shdlc_turned f ts) (turn-first d e t) ∙ turned-first d ts (shdlc_turn e t)
 
 -- an end that has an RSET to send, and had its turns
-rset_first : (m : ℕ) (ts : List Turn) (e : EndState) → e.due ≡ Rset_due ∷ []
-    → (let q : EndState = turned (record e { due = [] }) ts in frames_of (suc m) (turned e ts) ≡ Rset q.own_window 0 ∷ frames_of m q)
+rset_first : (m : ℕ) (ts : List ShdlcTurn) (e : EndState) → e.due ≡ Rset_due ∷ []
+    → (let q : EndState = shdlc_turned (record e { due = [] }) ts in frames_of (suc m) (shdlc_turned e ts) ≡ Rset q.own_window 0 ∷ frames_of m q)
 rset_first m ts e due =
     let is : e ≡ with_first Rset_due (record e { due = [] }) = ap (λ ds. record e { due = ds }) due in
-    ap (λ f. frames_of (suc m) (turned f ts)) is ∙ ap (frames_of (suc m)) (turned-first Rset_due ts (record e { due = [] }))
+    ap (λ f. frames_of (suc m) (shdlc_turned f ts)) is ∙ ap (frames_of (suc m)) (turned-first Rset_due ts (record e { due = [] }))
 
 -- an RSET that no reset asked for
-unsure : (m : ℕ) (s : Bool) (l k : Link) (ts : List Turn) (e : EndState) → e.due ≡ Rset_due ∷ [] → SureLink (sure_all s l (frames_of (suc m) (turned e ts))) k
+unsure : (m : ℕ) (s : Bool) (l k : ShdlcLink) (ts : List ShdlcTurn) (e : EndState) → e.due ≡ Rset_due ∷ [] → SureLink (sure_all s l (frames_of (suc m) (shdlc_turned e ts))) k
 unsure m s l k ts e due n =
-    let q : EndState = turned (record e { due = [] }) ts in
-    let z : sure_all false (put l (Rset q.own_window 0)) (frames_of m q) ≡ true = ap (sure_all s l) (sym (rset_first m ts e due)) ∙ n in
-    absurd (true≢false (sym (sure_all_tells (frames_of m q) false (put l (Rset q.own_window 0)) z)))
+    let q : EndState = shdlc_turned (record e { due = [] }) ts in
+    let z : sure_all false (shdlc_put l (Rset q.own_window 0)) (frames_of m q) ≡ true = ap (sure_all s l) (sym (rset_first m ts e due)) ∙ n in
+    absurd (true≢false (sym (sure_all_tells (frames_of m q) false (shdlc_put l (Rset q.own_window 0)) z)))
 
 -- ## What happens at the controller's end
 
-stays : (s : Bool) (ts : List Turn) (l : Link) → l.controller.side.due ≡ [] → SureLink s l → Goes s l ts l.controller.side
+stays : (s : Bool) (ts : List ShdlcTurn) (l : ShdlcLink) → l.controller.side.due ≡ [] → SureLink s l → Goes s l ts l.controller.side
 stays s ts l due t = sure_drains 12 s ts l.controller.side l (rw due tt) t
 
 not_waiting : (p : EndState) → not (is_waiting p) ≡ true → p.phase ≡ Waiting → ⊥
 not_waiting p e w = true≢false (sym (rw w at e))
 
-resets : (kf : ℕ) (s : Bool) (ts : List Turn) (l : Link) (w : ℕ) → SafeLink 0 kf l → SureLink s l
-    → SureLink (sure_here s l (Reset w ts)) (happens_here l (Reset w ts))
+resets : (kf : ℕ) (s : Bool) (ts : List ShdlcTurn) (l : ShdlcLink) (w : ℕ) → SafeLink 0 kf l → SureLink s l
+    → SureLink (sure_here s l (Reset w ts)) (shdlc_happens_at_controller l (Reset w ts))
 resets kf s ts l w h t = go l.controller.side.phase refl
   where
     e : EndState
     e = waiting_from (record l.controller.side { own_window = w })
 
     by_parts : (k b : Bool) (q : EndState) → sure_here s l (Reset w ts) ≡ k → is_up l.controller.side.phase ≡ b → reset_with l.controller.side w ≡ q
-        → SureLink k (becomes (with_ended l b) (turned q ts)) → SureLink (sure_here s l (Reset w ts)) (happens_here l (Reset w ts))
+        → SureLink k (shdlc_becomes (with_shdlc_ended l b) (shdlc_turned q ts)) → SureLink (sure_here s l (Reset w ts)) (shdlc_happens_at_controller l (Reset w ts))
     by_parts k b q sure up is a =
-        let P : Bool → Bool → EndState → Type 0 = λ i c f. SureLink i (becomes (with_ended l c) (turned f ts)) in
+        let P : Bool → Bool → EndState → Type 0 = λ i c f. SureLink i (shdlc_becomes (with_shdlc_ended l c) (shdlc_turned f ts)) in
         subst (λ i. P i (is_up l.controller.side.phase) (reset_with l.controller.side w)) (sym sure)
         (subst (λ c. P k c (reset_with l.controller.side w)) (sym up) (subst (P k b) (sym is) a))
 
-    same : (ends : Bool) → (with_ended l ends).host.side.phase ≡ l.host.side.phase
+    same : (ends : Bool) → (with_shdlc_ended l ends).host.side.phase ≡ l.host.side.phase
     same true = refl
     same false = refl
 
-    asked : (m : Link) → m.host.side.phase ≡ l.host.side.phase → e.due ≡ Rset_due ∷ [] → SureLink (not (is_waiting l.host.side)) (becomes m (turned e ts))
+    asked : (m : ShdlcLink) → m.host.side.phase ≡ l.host.side.phase → e.due ≡ Rset_due ∷ [] → SureLink (not (is_waiting l.host.side)) (shdlc_becomes m (shdlc_turned e ts))
     asked m host due n =
-        let q : EndState = turned (record e { due = [] }) ts in
+        let q : EndState = shdlc_turned (record e { due = [] }) ts in
         let g = turned_idle ts (record e { due = [] }) (λ u. let z : Waiting ≡ Up = u in cc) refl in
         let x : OnWire = record { frame = Rset q.own_window 0; age = 0; number = m.resets + 1 } in
         let none : frames_of 11 q ≡ [] = rw (idle_end q g.due g.session) refl in
-        let frames : frames_of 12 (turned e ts) ≡ Rset q.own_window 0 ∷ [] = rset_first 11 ts e due ∙ ap (λ cs. Rset q.own_window 0 ∷ cs) none in
-        let waits : (after_frames 12 (turned e ts)).phase ≡ Waiting = after_frames-phase 12 (turned e ts) ∙ turned-phase ts e in
-        let P : List Control → Type 0 = λ cs. States (after_frames 12 (turned e ts)).phase (put_all m cs).host.side.phase
-        (sans (put_all m cs).to_controller) (sans (put_all m cs).to_host) in
+        let frames : frames_of 12 (shdlc_turned e ts) ≡ Rset q.own_window 0 ∷ [] = rset_first 11 ts e due ∙ ap (λ cs. Rset q.own_window 0 ∷ cs) none in
+        let waits : (after_frames 12 (shdlc_turned e ts)).phase ≡ Waiting = after_frames-phase 12 (shdlc_turned e ts) ∙ turned-phase ts e in
+        let P : List Control → Type 0 = λ cs. States (after_frames 12 (shdlc_turned e ts)).phase (shdlc_put_all m cs).host.side.phase
+        (sans (shdlc_put_all m cs).to_controller) (sans (shdlc_put_all m cs).to_host) in
         subst P (sym frames) (inl (waits, (λ u. not_waiting l.host.side n (sym host ∙ u)), inl (rset_stands m.to_host x q.own_window 0 refl)))
 
-    go : (p : LinkState) → l.controller.side.phase ≡ p → SureLink (sure_here s l (Reset w ts)) (happens_here l (Reset w ts))
-    go Waiting q = by_parts (sure_out s l (turned l.controller.side ts)) false l.controller.side (rw q refl) (rw q refl) (rw q refl) (stays s ts l h.n_due t)
-    go Up q = by_parts (not (is_waiting l.host.side)) true e (rw q refl) (rw q refl) (rw q refl) (asked (with_ended l true) refl (rw q refl))
+    go : (p : LinkState) → l.controller.side.phase ≡ p → SureLink (sure_here s l (Reset w ts)) (shdlc_happens_at_controller l (Reset w ts))
+    go Waiting q = by_parts (sure_out s l (shdlc_turned l.controller.side ts)) false l.controller.side (rw q refl) (rw q refl) (rw q refl) (stays s ts l h.n_due t)
+    go Up q = by_parts (not (is_waiting l.host.side)) true e (rw q refl) (rw q refl) (rw q refl) (asked (with_shdlc_ended l true) refl (rw q refl))
     go Down q = by_parts (not (is_waiting l.host.side)) false e (rw q refl) (rw q refl) (rw q refl) (asked l refl (rw (q, h.n_due) refl))
 
 -- an end that gives up had nothing out
@@ -256,18 +256,18 @@ no_asks q to_n to_f P none empty (inl (w, v, inr u)) = absurd (u.1 empty)
 no_asks q to_n to_f P none empty (inr (inl (w, v, r))) = absurd (v refl)
 no_asks q to_n to_f P none empty (inr (inr u)) = absurd (let z : Waiting ≡ Up = u.0 in cc)
 
-ticks : (kf : ℕ) (s : Bool) (ts : List Turn) (l : Link) → SafeLink 1 kf l → SureLink s l → SureLink (sure_tick s (Some ts) l) (ticks_here l ts)
+ticks : (kf : ℕ) (s : Bool) (ts : List ShdlcTurn) (l : ShdlcLink) → SafeLink 1 kf l → SureLink s l → SureLink (sure_tick s (Some ts) l) (shdlc_ticks_at_controller l ts)
 ticks kf s ts l h t = go e.phase (runs_timer e.session) (nat_lt (e.timer + 1) 10) (nat_lt e.tries 5) refl refl refl refl
   where
     e : EndState
     e = l.controller.side
 
     Q : Type 0
-    Q = SureLink (sure_tick s (Some ts) l) (ticks_here l ts)
+    Q = SureLink (sure_tick s (Some ts) l) (shdlc_ticks_at_controller l ts)
 
-    by_parts : (b : Bool) (q : EndState) → is_some (tick_answer e).ended ≡ b → ticked e ≡ q → Goes s (with_ended l b) ts q → Q
+    by_parts : (b : Bool) (q : EndState) → is_some (tick_answer e).ended ≡ b → ticked e ≡ q → Goes s (with_shdlc_ended l b) ts q → Q
     by_parts b q ends is a =
-        let P : Bool → EndState → Type 0 = λ c f. Goes s (with_ended l c) ts f in
+        let P : Bool → EndState → Type 0 = λ c f. Goes s (with_shdlc_ended l c) ts f in
         subst (λ c. P c (ticked e)) (sym ends) (subst (P b) (sym is) a)
 
     on : e.phase ≡ Up → (tick_answer e).ended ≡ None → Q
@@ -288,13 +288,13 @@ ticks kf s ts l h t = go e.phase (runs_timer e.session) (nat_lt (e.timer + 1) 10
     go Up true false true p q r o = on p (rw (p, q, r, o) refl)
     go Up true false false p q r o =
         by_parts true (waiting_from e) (rw (p, q, r, o) refl) (rw (p, q, r, o) refl)
-        (unsure 11 s (with_ended l true) (becomes (with_ended l true) (turned (waiting_from e) ts)) ts (waiting_from e) (rw p refl))
+        (unsure 11 s (with_shdlc_ended l true) (shdlc_becomes (with_shdlc_ended l true) (shdlc_turned (waiting_from e) ts)) ts (waiting_from e) (rw p refl))
     go Waiting a true c p q r o =
         by_parts false (record e { timer = e.timer + 1 }) (rw (p, r) refl) (rw (p, r) refl)
         (sure_drains 12 s ts (record e { timer = e.timer + 1 }) l (rw h.n_due tt) t)
     go Waiting a false true p q r o =
         by_parts false (asked_again e) (rw (p, r, o) refl) (rw (p, r, o) refl)
-        (unsure 11 s l (becomes l (turned (asked_again e) ts)) ts (asked_again e) (rw h.n_due refl))
+        (unsure 11 s l (shdlc_becomes l (shdlc_turned (asked_again e) ts)) ts (asked_again e) (rw h.n_due refl))
     go Waiting a false false p q r o =
         by_parts false (given_up e) (rw (p, r, o) refl) (rw (p, r, o) refl)
         (sure_drains 12 s ts (given_up e) l (rw h.n_due tt)
@@ -304,32 +304,32 @@ ticks kf s ts l h t = go e.phase (runs_timer e.session) (nat_lt (e.timer + 1) 10
 
 -- ## It takes a frame
 
-abbrev sure_took : Bool → Link → List Turn → OnWire → List OnWire → Bool
+abbrev sure_took : Bool → ShdlcLink → List ShdlcTurn → OnWire → List OnWire → Bool
 sure_took s l ts x xs =
-    let m : Link = with_ended (record l { to_controller = xs }) (is_some (take_answer l.controller.side x.frame).ended) in
-    let t : Link = record m { controller = record m.controller { took = took_with l.controller.took x } } in
-    sure_out s t (turned (taken l.controller.side x.frame) ts)
+    let m : ShdlcLink = with_shdlc_ended (record l { to_controller = xs }) (is_some (take_answer l.controller.side x.frame).ended) in
+    let t : ShdlcLink = record m { controller = record m.controller { took = took_with l.controller.took x } } in
+    sure_out s t (shdlc_turned (taken l.controller.side x.frame) ts)
 
 -- the link after it took x, where it is q then
-took_sure : (s : Bool) (l : Link) (ts : List Turn) (x : OnWire) (xs : List OnWire) (q : EndState) → taken l.controller.side x.frame ≡ q
-    → ((c : Half) → Goes s (record l { to_controller = xs; controller = c }) ts q) → SureLink (sure_took s l ts x xs) (took l ts x xs)
+took_sure : (s : Bool) (l : ShdlcLink) (ts : List ShdlcTurn) (x : OnWire) (xs : List OnWire) (q : EndState) → taken l.controller.side x.frame ≡ q
+    → ((c : NumberedShdlc) → Goes s (record l { to_controller = xs; controller = c }) ts q) → SureLink (sure_took s l ts x xs) (took l ts x xs)
 took_sure s l ts x xs q a h = rw a (go (is_some (take_answer l.controller.side x.frame).ended))
   where
     t : ℕ
     t = took_with l.controller.took x
 
-    go : (ends : Bool) → (let m : Link = with_ended (record l { to_controller = xs }) ends in
+    go : (ends : Bool) → (let m : ShdlcLink = with_shdlc_ended (record l { to_controller = xs }) ends in
         Goes s (record m { controller = record m.controller { took = t } }) ts q)
-    go true = h (record l.controller { took = t; past = (number_of l.controller, l.controller.side.session) ∷ l.controller.past })
+    go true = h (record l.controller { took = t; past = (shdlc_number_of l.controller, l.controller.side.session) ∷ l.controller.past })
     go false = h (record l.controller { took = t })
 
-takes : (s : Bool) (l : Link) (ts : List Turn) (x : OnWire) (xs : List OnWire) → Safe 0 0 l.controller l.host (x ∷ sans xs) (sans l.to_host) l.resets
+takes : (s : Bool) (l : ShdlcLink) (ts : List ShdlcTurn) (x : OnWire) (xs : List OnWire) → Safe 0 0 l.controller l.host (x ∷ sans xs) (sans l.to_host) l.resets
     → (s ≡ true → States l.controller.side.phase l.host.side.phase (x ∷ sans xs) (sans l.to_host)) → SureLink (sure_took s l ts x xs) (took l ts x xs)
 takes s l ts x xs h t =
     takes_by (SureLink (sure_took s l ts x xs) (took l ts x xs)) v x (sans xs) h (λ d up still answers few. passed d (still ∙ sym up) answers)
     (λ d no_up same. passed d (ap (λ (f : EndState). f.phase) same) (rw same (rw h.n_due tt))) anew waits confirmed
   where
-    v : Link
+    v : ShdlcLink
     v = record l { to_host = sans l.to_host }
 
     e : EndState
@@ -349,12 +349,12 @@ takes s l ts x xs h t =
     answers q to due then =
         took_sure s l ts x xs (with_first Ua_due q) to
         (λ c.
-        let m : Link = record l { to_controller = xs; controller = c } in
+        let m : ShdlcLink = record l { to_controller = xs; controller = c } in
         let y : OnWire = record { frame = Ua; age = 0; number = 0 } in
         let w : List OnWire = l.to_host ++ y ∷ [] in
-        let P : EndState → Type 0 = λ g. SureLink (sure_all s m (frames_of 12 g)) (with_controller (put_all m (frames_of 12 g)) (after_frames 12 g)) in
+        let P : EndState → Type 0 = λ g. SureLink (sure_all s m (frames_of 12 g)) (with_shdlc_controller (shdlc_put_all m (frames_of 12 g)) (after_frames 12 g)) in
         subst P (sym (turned-first Ua_due ts q))
-        (sure_drains 11 (sure_put s m Ua) ts q (put m Ua) (rw due tt)
+        (sure_drains 11 (sure_put s m Ua) ts q (shdlc_put m Ua) (rw due tt)
         (λ n. let parts = and_parts s (not (overflows w)) n in
         let same : sans (fits w) ≡ sans l.to_host ++ y ∷ [] = fits_sans w (not-true (overflows w) parts.1) ∙ sans-push l.to_host y refl in
         let R : List OnWire → Type 0 = λ u. States q.phase l.host.side.phase (sans xs) u in
@@ -394,7 +394,7 @@ takes s l ts x xs h t =
         up (inr (inl (a, b, k))) = absurd (b p)
         up (inr (inr u)) = u.1
 
-delivers : (s : Bool) (ts : List Turn) (l : Link) → SafeLink 0 0 l → SureLink s l → SureLink (sure_here s l (Deliver ts)) (happens_here l (Deliver ts))
+delivers : (s : Bool) (ts : List ShdlcTurn) (l : ShdlcLink) → SafeLink 0 0 l → SureLink s l → SureLink (sure_here s l (Deliver ts)) (shdlc_happens_at_controller l (Deliver ts))
 delivers s ts l h t = go l.to_controller h t
   where
     e : EndState
@@ -410,15 +410,15 @@ delivers s ts l h t = go l.to_controller h t
 
     go : (wire : List OnWire) → Safe 0 0 l.controller l.host (sans wire) (sans l.to_host) l.resets
         → (s ≡ true → States e.phase l.host.side.phase (sans wire) (sans l.to_host))
-        → SureLink (sure_here s (record l { to_controller = wire }) (Deliver ts)) (happens_here (record l { to_controller = wire }) (Deliver ts))
+        → SureLink (sure_here s (record l { to_controller = wire }) (Deliver ts)) (shdlc_happens_at_controller (record l { to_controller = wire }) (Deliver ts))
     go [] g t = t
     go (x ∷ xs) g t = first x xs (is_act x.frame) refl g t
 
-loses : (s : Bool) (l : Link) → SureLink s l → SureLink (sure_here s l Lose) (happens_here l Lose)
+loses : (s : Bool) (l : ShdlcLink) → SureLink s l → SureLink (sure_here s l Lose) (shdlc_happens_at_controller l Lose)
 loses s l t = go l.to_controller t
   where
     go : (wire : List OnWire) → (s ≡ true → States l.controller.side.phase l.host.side.phase (sans wire) (sans l.to_host))
-        → SureLink (sure_here s (record l { to_controller = wire }) Lose) (happens_here (record l { to_controller = wire }) Lose)
+        → SureLink (sure_here s (record l { to_controller = wire }) Lose) (shdlc_happens_at_controller (record l { to_controller = wire }) Lose)
     go [] t n = t (and_parts s true n).0
     go (x ∷ xs) t n = first (is_act x.frame) refl
       where
@@ -427,27 +427,27 @@ loses s l t = go l.to_controller t
         first false q = absurd (let z : false ≡ true = rw q at ((and_parts s (not (counts_first (x ∷ xs))) n).1) in true≢false (sym z))
 
 -- frames of activation stand beside the others
-acts_then : (ts : List Turn) (acts : List Activation) (s : Bool) (l : Link) → l.controller.side.due ≡ [] → SureLink s l
-    → Goes (sure_all s l (map act_frame acts)) (put_all l (map act_frame acts)) ts l.controller.side
+acts_then : (ts : List ShdlcTurn) (acts : List Activation) (s : Bool) (l : ShdlcLink) → l.controller.side.due ≡ [] → SureLink s l
+    → Goes (sure_all s l (map act_frame acts)) (shdlc_put_all l (map act_frame acts)) ts l.controller.side
 acts_then ts [] s l due t = stays s ts l due t
 acts_then ts (a ∷ acts) s l due t =
     let x : OnWire = record { frame = act_frame a; age = 0; number = 0 } in
     let w : List OnWire = l.to_host ++ x ∷ [] in
-    acts_then ts acts (sure_put s l (act_frame a)) (put l (act_frame a)) due
+    acts_then ts acts (sure_put s l (act_frame a)) (shdlc_put l (act_frame a)) due
     (λ n. let parts = and_parts s (not (overflows w)) n in
     let same : sans (fits w) ≡ sans l.to_host = fits_sans w (not-true (overflows w) parts.1) ∙ sans-push_act l.to_host x refl in
     let R : List OnWire → Type 0 = λ u. States l.controller.side.phase l.host.side.phase (sans l.to_controller) u in
     subst R (sym same) (t parts.0))
 
-ignores : (s : Bool) (ts : List Turn) (l : Link) → SureLink s l → SureLink (sure_here s l (Ignore ts)) (happens_here l (Ignore ts))
+ignores : (s : Bool) (ts : List ShdlcTurn) (l : ShdlcLink) → SureLink s l → SureLink (sure_here s l (Ignore ts)) (shdlc_happens_at_controller l (Ignore ts))
 ignores s ts l t = go l.controller.side.phase refl l.to_controller refl
   where
-    by_parts : (k : Bool) (m : Link) → sure_here s l (Ignore ts) ≡ k → happens_here l (Ignore ts) ≡ m → SureLink k m
-        → SureLink (sure_here s l (Ignore ts)) (happens_here l (Ignore ts))
-    by_parts k m p q g = subst (λ i. SureLink i (happens_here l (Ignore ts))) (sym p) (subst (SureLink k) (sym q) g)
+    by_parts : (k : Bool) (m : ShdlcLink) → sure_here s l (Ignore ts) ≡ k → shdlc_happens_at_controller l (Ignore ts) ≡ m → SureLink k m
+        → SureLink (sure_here s l (Ignore ts)) (shdlc_happens_at_controller l (Ignore ts))
+    by_parts k m p q g = subst (λ i. SureLink i (shdlc_happens_at_controller l (Ignore ts))) (sym p) (subst (SureLink k) (sym q) g)
 
     go : (p : LinkState) → l.controller.side.phase ≡ p → (wire : List OnWire)
-        → l.to_controller ≡ wire → SureLink (sure_here s l (Ignore ts)) (happens_here l (Ignore ts))
+        → l.to_controller ≡ wire → SureLink (sure_here s l (Ignore ts)) (shdlc_happens_at_controller l (Ignore ts))
     go Up q wire w = by_parts s l (rw q refl) (rw q refl) t
     go Waiting q wire w = by_parts s l (rw q refl) (rw q refl) t
     go Down q [] w = by_parts s l (rw (q, w) refl) (rw (q, w) refl) t
@@ -461,7 +461,7 @@ none_lost (x ∷ xs) e = go (nat_lt x.age 4) refl e (none_lost xs)
     go true q e more = rw q (ap (λ v. record x { age = x.age + 1 } ∷ v) (more (rw q at e)))
     go false q e more = absurd (true≢false (rw q at e))
 
-ages : (s : Bool) (l : Link) → SureLink s l → SureLink (sure_aged s l) (aged l)
+ages : (s : Bool) (l : ShdlcLink) → SureLink s l → SureLink (sure_aged s l) (shdlc_aged l)
 ages s l t n =
     let a : Bool = loses_aged (sans l.to_controller) in
     let b : Bool = loses_aged (sans l.to_host) in
@@ -470,7 +470,7 @@ ages s l t n =
     rw (sans-aged l.to_controller ∙ none_lost (sans l.to_controller) none.0, sans-aged l.to_host ∙ none_lost (sans l.to_host) none.1)
     (states_older l.controller.side.phase l.host.side.phase (sans l.to_controller) (sans l.to_host) (t parts.0))
 
-swaps : (s : Bool) (l : Link) → SureLink s l → SureLink s (exchanged l)
+swaps : (s : Bool) (l : ShdlcLink) → SureLink s l → SureLink s (shdlc_exchanged l)
 swaps s l t n = swapped (t n)
   where
     swapped : States l.controller.side.phase l.host.side.phase (sans l.to_controller) (sans l.to_host)
@@ -481,7 +481,7 @@ swaps s l t n = swapped (t n)
 
 -- ## All events
 
-sure_turn : (kf : ℕ) (s : Bool) (l : Link) (e : EndEvent) → IsTurn e → SafeLink 0 kf l → SureLink s l → SureLink (sure_here s l e) (happens_here l e)
+sure_turn : (kf : ℕ) (s : Bool) (l : ShdlcLink) (e : ShdlcEndEvent) → IsTurn e → SafeLink 0 kf l → SureLink s l → SureLink (sure_here s l e) (shdlc_happens_at_controller l e)
 sure_turn kf s l (Turns ts) a h t = stays s ts l h.n_due t
 sure_turn kf s l (Deliver ts) a h t = absurd a
 sure_turn kf s l (Ignore ts) a h t = absurd a
@@ -491,11 +491,11 @@ sure_turn kf s l (Reset w ts) a h t = resets kf s ts l w h t
 sure_turn kf s l Cut a h t = λ n. absurd (true≢false (sym n))
 sure_turn kf s l Stop a h t = λ n. absurd (true≢false (sym n))
 
-turns_sure : (kf : ℕ) (es : List EndEvent) (s : Bool) (l : Link) → AreTurns es → SafeLink 0 kf l → SureLink s l → SureLink (sure_turns s l es) (all_here l es)
+turns_sure : (kf : ℕ) (es : List ShdlcEndEvent) (s : Bool) (l : ShdlcLink) → AreTurns es → SafeLink 0 kf l → SureLink s l → SureLink (sure_turns s l es) (shdlc_all_at_controller l es)
 turns_sure kf [] s l a h t = t
-turns_sure kf (e ∷ es) s l a h t = turns_sure kf es (sure_here s l e) (happens_here l e) a.1 (safe_turn kf l e a.0 h) (sure_turn kf s l e a.0 h t)
+turns_sure kf (e ∷ es) s l a h t = turns_sure kf es (sure_here s l e) (shdlc_happens_at_controller l e) a.1 (safe_turn kf l e a.0 h) (sure_turn kf s l e a.0 h t)
 
-sure_at : (s : Bool) (l : Link) (e : EndEvent) → SafeLink 0 0 l → SureLink s l → SureLink (sure_here s l e) (happens_here l e)
+sure_at : (s : Bool) (l : ShdlcLink) (e : ShdlcEndEvent) → SafeLink 0 0 l → SureLink s l → SureLink (sure_here s l e) (shdlc_happens_at_controller l e)
 sure_at s l (Turns ts) h t = stays s ts l h.n_due t
 sure_at s l (Deliver ts) h t = delivers s ts l h t
 sure_at s l (Ignore ts) h t = ignores s ts l t
@@ -505,11 +505,11 @@ sure_at s l (Reset w ts) h t = resets 0 s ts l w h t
 sure_at s l Cut h t = λ n. absurd (true≢false (sym n))
 sure_at s l Stop h t = λ n. absurd (true≢false (sym n))
 
-tick_sure : (kf : ℕ) (s : Bool) (b : Option (List Turn)) (l : Link) → SafeLink 1 kf l → SureLink s l → SureLink (sure_tick s b l) (ticks_or_cut b l)
+tick_sure : (kf : ℕ) (s : Bool) (b : Option (List ShdlcTurn)) (l : ShdlcLink) → SafeLink 1 kf l → SureLink s l → SureLink (sure_tick s b l) (ticks_or_cut b l)
 tick_sure kf s (Some ts) l h t = ticks kf s ts l h t
 tick_sure kf s None l h t = λ n. absurd (true≢false (sym n))
 
-sure_waiting : (kf : ℕ) (s : Bool) (l : Link) → SafeLink 1 kf l → SureLink s l → SureLink (sure_if_waiting s l) (ticks_if_waiting l)
+sure_waiting : (kf : ℕ) (s : Bool) (l : ShdlcLink) → SafeLink 1 kf l → SureLink s l → SureLink (sure_if_waiting s l) (ticks_if_waiting l)
 sure_waiting kf s l h t = go (is_waiting l.controller.side) refl
   where
     go : (b : Bool) → is_waiting l.controller.side ≡ b → SureLink (sure_if_waiting s l) (ticks_if_waiting l)
@@ -517,35 +517,35 @@ sure_waiting kf s l h t = go (is_waiting l.controller.side) refl
     go false q = rw q t
 
 -- a tick of the host's end, where these things have happened at the controller's
-sure_there : (turns : List EndEvent) (d : Option (List Turn)) (i : Bool) (near : Link) → AreTurns turns → SafeLink 0 1 near → SureLink i near
-    → SureLink (sure_tick (sure_turns i near turns) d (exchanged (all_here near turns))) (exchanged (ticks_or_cut d (exchanged (all_here near turns))))
+sure_there : (turns : List ShdlcEndEvent) (d : Option (List ShdlcTurn)) (i : Bool) (near : ShdlcLink) → AreTurns turns → SafeLink 0 1 near → SureLink i near
+    → SureLink (sure_tick (sure_turns i near turns) d (shdlc_exchanged (shdlc_all_at_controller near turns))) (shdlc_exchanged (ticks_or_cut d (shdlc_exchanged (shdlc_all_at_controller near turns))))
 sure_there turns d i near a one t =
-    let m : Link = all_here near turns in
+    let m : ShdlcLink = shdlc_all_at_controller near turns in
     let j : Bool = sure_turns i near turns in
-    let two : SafeLink 1 0 (exchanged m) = safe_exchanged 0 1 m (safe_turns 1 turns near a one) in
-    swaps (sure_tick j d (exchanged m)) (ticks_or_cut d (exchanged m))
-    (tick_sure 0 j d (exchanged m) two (swaps j m (turns_sure 1 turns i near a one t)))
+    let two : SafeLink 1 0 (shdlc_exchanged m) = safe_exchanged 0 1 m (safe_turns 1 turns near a one) in
+    swaps (sure_tick j d (shdlc_exchanged m)) (ticks_or_cut d (shdlc_exchanged m))
+    (tick_sure 0 j d (shdlc_exchanged m) two (swaps j m (turns_sure 1 turns i near a one t)))
 
-event_sure : (s : Bool) (l : Link) (e : LinkEvent) (es : List LinkEvent) → AllAllowed (e ∷ es) → SafeLink 0 0 l → SureLink s l
-    → SureLink (sure_event s l e) (happens l e)
+event_sure : (s : Bool) (l : ShdlcLink) (e : ShdlcLinkEvent) (es : List ShdlcLinkEvent) → AllShdlcAllowed (e ∷ es) → SafeLink 0 0 l → SureLink s l
+    → SureLink (sure_event s l e) (shdlc_happens l e)
 event_sure s l (AtController e) es a h t = sure_at s l e h t
 event_sure s l (AtHost e) es a h t =
-    swaps (sure_here s (exchanged l) e) (happens_here (exchanged l) e) (sure_at s (exchanged l) e (safe_exchanged 0 0 l h) (swaps s l t))
+    swaps (sure_here s (shdlc_exchanged l) e) (shdlc_happens_at_controller (shdlc_exchanged l) e) (sure_at s (shdlc_exchanged l) e (safe_exchanged 0 0 l h) (swaps s l t))
 event_sure s l (Tick c turns d) es a h t =
-    sure_there turns d (sure_tick (sure_aged s l) c (aged l)) (ticks_or_cut c (aged l)) a.0 (tick_or_cut 1 c (aged l) (safe_aged l h))
-    (tick_sure 1 (sure_aged s l) c (aged l) (safe_aged l h) (ages s l t))
+    sure_there turns d (sure_tick (sure_aged s l) c (shdlc_aged l)) (ticks_or_cut c (shdlc_aged l)) a.0 (tick_or_cut 1 c (shdlc_aged l) (safe_aged l h))
+    (tick_sure 1 (sure_aged s l) c (shdlc_aged l) (safe_aged l h) (ages s l t))
 event_sure s l (TickWithout turns d) es a h t =
-    sure_there turns d (sure_if_waiting (sure_aged s l) (aged l)) (ticks_if_waiting (aged l)) a.0 (tick_if_waiting 1 (aged l) (safe_aged l h))
-    (sure_waiting 1 (sure_aged s l) (aged l) (safe_aged l h) (ages s l t))
+    sure_there turns d (sure_if_waiting (sure_aged s l) (shdlc_aged l)) (ticks_if_waiting (shdlc_aged l)) a.0 (tick_if_waiting 1 (shdlc_aged l) (safe_aged l h))
+    (sure_waiting 1 (sure_aged s l) (shdlc_aged l) (safe_aged l h) (ages s l t))
 
-sure_from : (events : List LinkEvent) (s : Bool) (l : Link) → AllAllowed events → SafeLink 0 0 l → SureLink s l
-    → SureLink (sure_after s l events) (after l events)
+sure_from : (events : List ShdlcLinkEvent) (s : Bool) (l : ShdlcLink) → AllShdlcAllowed events → SafeLink 0 0 l → SureLink s l
+    → SureLink (sure_after s l events) (shdlc_after l events)
 sure_from [] s l a h t = t
-sure_from (e ∷ es) s l a h t = let k = safe_event l e es a h in sure_from es (sure_event s l e) (happens l e) k.1 k.0 (event_sure s l e es a h t)
+sure_from (e ∷ es) s l a h t = let k = safe_event l e es a h in sure_from es (sure_event s l e) (shdlc_happens l e) k.1 k.0 (event_sure s l e es a h t)
 
 -- ## What follows
 
-both_up : (l : Link) → States l.controller.side.phase l.host.side.phase (sans l.to_controller) (sans l.to_host)
+both_up : (l : ShdlcLink) → States l.controller.side.phase l.host.side.phase (sans l.to_controller) (sans l.to_host)
     → sans l.to_controller ≡ [] → sans l.to_host ≡ []
     → (l.controller.side.phase ≡ Up) × (l.host.side.phase ≡ Up)
 both_up l (inl (w, v, inl r)) a b = absurd (r (rw b refl))
@@ -554,9 +554,9 @@ both_up l (inr (inl (w, v, inl r))) a b = absurd (r (rw a refl))
 both_up l (inr (inl (w, v, inr u))) a b = absurd (u.1 (rw b refl))
 both_up l (inr (inr u)) a b = u
 
-pub up_together : (l : Link) → IsStart l → (events : List LinkEvent) → AllAllowed events → IsSettled (after l events) (sure_after false l events)
-    → AreUpTogether (after l events)
+pub up_together : (l : ShdlcLink) → IsShdlcStart l → (events : List ShdlcLinkEvent) → AllShdlcAllowed events → IsShdlcSettled (shdlc_after l events) (sure_after false l events)
+    → AreShdlcUpTogether (shdlc_after l events)
 up_together l b events a q =
-    let s : SureLink (sure_after false l events) (after l events) = sure_from events false l a (safe_start l b) (λ n. absurd (true≢false (sym n))) in
-    let up = both_up (after l events) (s q.sure) q.to_controller q.to_host in
+    let s : SureLink (sure_after false l events) (shdlc_after l events) = sure_from events false l a (safe_start l b) (λ n. absurd (true≢false (sym n))) in
+    let up = both_up (shdlc_after l events) (s q.sure) q.to_controller q.to_host in
     record { controller = up.0; host = up.1; number = agree l b events a up.0 up.1 }

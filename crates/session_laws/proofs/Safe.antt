@@ -6,7 +6,7 @@ use Rattle.shdlc_core.specs.declared.answers.LinkState.{LinkState}
 use Rattle.shdlc_core.specs.declared.answers.LinkState.TheVariants.{Down, Waiting, Up}
 use Rattle.shdlc_core.specs.Machine.{EndState, Session, new_session, no_session}
 use Rattle.std.proofs.lemmas.Bool.{eqb-true}
-use Rattle.session_laws.specs.Sessions.{OnWire, Half, older, number_of, session_of, ended_session}
+use Rattle.session_laws.specs.Sessions.{OnWire, NumberedShdlc, older, shdlc_number_of, shdlc_session_of, ended_session}
 use Rattle.session_laws.proofs.Wire.{IsData, rsets, uas, AfterRset, behind_ua, live, Young, behind_none, behind_push, behind_push_none, behind_new, behind_rsets, data_behind, after_rset_empty, live-older, older_part}
 use Rattle.session_laws.proofs.Hand.{peer_of, Hand, Agrees, hand_swap, hand_empty, none_out, one_ua, rset_tells, hand_past, hand_ask, hand_down, hand_up_ua, hand_up_rset, hand_wait_rset, hand_lose_rset, hand_lose_ua, hand_ignore, hand_older}
 use Rattle.session_laws.proofs.Data.{Base, Active, OnLive, active_empty, active_lost, Below, below_more, none_ended, bound, of_up, of_update, of_none, base_begins, base_begins_there, Pair, shows_push_rset, shows_older}
@@ -16,12 +16,12 @@ pub record HasWindows (e : EndState) : Type 0 where
   pub own : (0 < e.own_window) × (e.own_window ≤ 4)
   pub peer : (0 < e.peer_window) × (e.peer_window ≤ 4)
 
-pub record Safe (kn kf : ℕ) (n f : Half) (to_n to_f : List OnWire) (r : ℕ) : Type 0 where
+pub record Safe (kn kf : ℕ) (n f : NumberedShdlc) (to_n to_f : List OnWire) (r : ℕ) : Type 0 where
   pub hand : Hand kn kf (peer_of n) (peer_of f) to_n to_f r
-  pub n_base : (k : ℕ) → Base (session_of n k) (session_of f k)
-  pub f_base : (k : ℕ) → Base (session_of f k) (session_of n k)
-  pub n_live : OnLive (live n.side.phase to_n) (session_of n (number_of n)) (session_of f (number_of n))
-  pub f_live : OnLive (live f.side.phase to_f) (session_of f (number_of f)) (session_of n (number_of f))
+  pub n_base : (k : ℕ) → Base (shdlc_session_of n k) (shdlc_session_of f k)
+  pub f_base : (k : ℕ) → Base (shdlc_session_of f k) (shdlc_session_of n k)
+  pub n_live : OnLive (live n.side.phase to_n) (shdlc_session_of n (shdlc_number_of n)) (shdlc_session_of f (shdlc_number_of n))
+  pub f_live : OnLive (live f.side.phase to_f) (shdlc_session_of f (shdlc_number_of f)) (shdlc_session_of n (shdlc_number_of f))
   pub n_past : Below (bound n) n.past
   pub f_past : Below (bound f) f.past
   pub n_none : (n.side.phase ≡ Up → ⊥) → n.side.session ≡ no_session
@@ -31,7 +31,7 @@ pub record Safe (kn kf : ℕ) (n f : Half) (to_n to_f : List OnWire) (r : ℕ) :
   pub n_windows : HasWindows n.side
   pub f_windows : HasWindows f.side
 
-pub safe_swap : (kn kf : ℕ) (n f : Half) (to_n to_f : List OnWire) (r : ℕ) → Safe kn kf n f to_n to_f r → Safe kf kn f n to_f to_n r
+pub safe_swap : (kn kf : ℕ) (n f : NumberedShdlc) (to_n to_f : List OnWire) (r : ℕ) → Safe kn kf n f to_n to_f r → Safe kf kn f n to_f to_n r
 safe_swap kn kf n f to_n to_f r h =
     record {
       hand = hand_swap kn kf (peer_of n) (peer_of f) to_n to_f r h.hand;
@@ -76,45 +76,45 @@ up_not_waiting p a b = let e = sym a ∙ b in cc
 
 -- ## The near end is Up
 
-pub pair_from : (kn kf : ℕ) (n f : Half) (to_n to_f : List OnWire) (r : ℕ) → n.side.phase ≡ Up → Safe kn kf n f to_n to_f r
-    → Pair n.side.session (session_of f (number_of n)) to_n (live f.side.phase to_f)
+pub pair_from : (kn kf : ℕ) (n f : NumberedShdlc) (to_n to_f : List OnWire) (r : ℕ) → n.side.phase ≡ Up → Safe kn kf n f to_n to_f r
+    → Pair n.side.session (shdlc_session_of f (shdlc_number_of n)) to_n (live f.side.phase to_f)
 pair_from kn kf n f to_n to_f r up h =
     record {
-      mine = rw (of_up n up) at (h.n_base (number_of n));
-      theirs = rw (of_up n up) at (h.f_base (number_of n));
+      mine = rw (of_up n up) at (h.n_base (shdlc_number_of n));
+      theirs = rw (of_up n up) at (h.f_base (shdlc_number_of n));
       comes =
-          let a : OnLive (live Up to_n) (session_of n (number_of n)) (session_of f (number_of n)) =
-          live_to n.side.phase Up to_n (session_of n (number_of n)) (session_of f (number_of n)) up h.n_live in
-          on_live_same (Some to_n) (session_of n (number_of n)) n.side.session (session_of f (number_of n)) (session_of f (number_of n))
+          let a : OnLive (live Up to_n) (shdlc_session_of n (shdlc_number_of n)) (shdlc_session_of f (shdlc_number_of n)) =
+          live_to n.side.phase Up to_n (shdlc_session_of n (shdlc_number_of n)) (shdlc_session_of f (shdlc_number_of n)) up h.n_live in
+          on_live_same (Some to_n) (shdlc_session_of n (shdlc_number_of n)) n.side.session (shdlc_session_of f (shdlc_number_of n)) (shdlc_session_of f (shdlc_number_of n))
           (sym (of_up n up)) refl a;
       goes = goes (live f.side.phase to_f) refl h.f_live;
     }
   where
-    moved : (k m : ℕ) (w : List OnWire) → k ≡ m → OnLive (Some w) (session_of f k) (session_of n k) → OnLive (Some w) (session_of f m) (session_of n m)
-    moved k m w e g = let P : ℕ → Type 0 = λ j. OnLive (Some w) (session_of f j) (session_of n j) in subst P e g
+    moved : (k m : ℕ) (w : List OnWire) → k ≡ m → OnLive (Some w) (shdlc_session_of f k) (shdlc_session_of n k) → OnLive (Some w) (shdlc_session_of f m) (shdlc_session_of n m)
+    moved k m w e g = let P : ℕ → Type 0 = λ j. OnLive (Some w) (shdlc_session_of f j) (shdlc_session_of n j) in subst P e g
 
-    goes : (o : Option (List OnWire)) → live f.side.phase to_f ≡ o → OnLive o (session_of f (number_of f)) (session_of n (number_of f))
-        → OnLive o (session_of f (number_of n)) n.side.session
+    goes : (o : Option (List OnWire)) → live f.side.phase to_f ≡ o → OnLive o (shdlc_session_of f (shdlc_number_of f)) (shdlc_session_of n (shdlc_number_of f))
+        → OnLive o (shdlc_session_of f (shdlc_number_of n)) n.side.session
     goes None e g = tt
     goes (Some w) e g =
         let lives : live n.side.phase to_n ≡ Some to_n = rw up refl in
-        let same : number_of n ≡ number_of f = agreed (live n.side.phase to_n) (live f.side.phase to_f) to_n w (number_of n ≡ number_of f) lives e
+        let same : shdlc_number_of n ≡ shdlc_number_of f = agreed (live n.side.phase to_n) (live f.side.phase to_f) to_n w (shdlc_number_of n ≡ shdlc_number_of f) lives e
         h.hand.agree in
-        let b : OnLive (Some w) (session_of f (number_of n)) (session_of n (number_of n)) = moved (number_of f) (number_of n) w (sym same) g in
-        on_live_same (Some w) (session_of f (number_of n)) (session_of f (number_of n)) (session_of n (number_of n)) n.side.session refl (sym (of_up n up)) b
+        let b : OnLive (Some w) (shdlc_session_of f (shdlc_number_of n)) (shdlc_session_of n (shdlc_number_of n)) = moved (shdlc_number_of f) (shdlc_number_of n) w (sym same) g in
+        on_live_same (Some w) (shdlc_session_of f (shdlc_number_of n)) (shdlc_session_of f (shdlc_number_of n)) (shdlc_session_of n (shdlc_number_of n)) n.side.session refl (sym (of_up n up)) b
 
 -- the near end goes on in its session
-pub safe_up : (kn kn' kf : ℕ) (n f : Half) (q : EndState) (to_n to_f to_n' to_f' : List OnWire) (r : ℕ) → n.side.phase ≡ Up → q.phase ≡ Up → q.due ≡ []
+pub safe_up : (kn kn' kf : ℕ) (n f : NumberedShdlc) (q : EndState) (to_n to_f to_n' to_f' : List OnWire) (r : ℕ) → n.side.phase ≡ Up → q.phase ≡ Up → q.due ≡ []
     → q.own_window ≡ n.side.own_window → q.peer_window ≡ n.side.peer_window
     → Hand kn' kf (peer_of (record n { side = q })) (peer_of f) to_n' to_f' r
-    → Pair q.session (session_of f (number_of n)) to_n' (live f.side.phase to_f')
+    → Pair q.session (shdlc_session_of f (shdlc_number_of n)) to_n' (live f.side.phase to_f')
     → Safe kn kf n f to_n to_f r → Safe kn' kf (record n { side = q }) f to_n' to_f' r
 safe_up kn kn' kf n f q to_n to_f to_n' to_f' r up qup due own peer hand pair h =
-    let g : Half = record n { side = q } in
+    let g : NumberedShdlc = record n { side = q } in
     record {
       hand = hand;
-      n_base = of_update (λ k t. Base t (session_of f k)) n g up qup refl refl h.n_base pair.mine;
-      f_base = of_update (λ k t. Base (session_of f k) t) n g up qup refl refl h.f_base pair.theirs;
+      n_base = of_update (λ k t. Base t (shdlc_session_of f k)) n g up qup refl refl h.n_base pair.mine;
+      f_base = of_update (λ k t. Base (shdlc_session_of f k) t) n g up qup refl refl h.f_base pair.theirs;
       n_live = n_live;
       f_live = f_live (live f.side.phase to_f') refl pair.goes;
       n_past = past;
@@ -127,32 +127,32 @@ safe_up kn kn' kf n f q to_n to_f to_n' to_f' r up qup due own peer hand pair h 
       f_windows = h.f_windows;
     }
   where
-    n_live : OnLive (live q.phase to_n') (session_of (record n { side = q }) (number_of n)) (session_of f (number_of n))
+    n_live : OnLive (live q.phase to_n') (shdlc_session_of (record n { side = q }) (shdlc_number_of n)) (shdlc_session_of f (shdlc_number_of n))
     n_live =
-        let is : session_of (record n { side = q }) (number_of n) ≡ q.session = of_up (record n { side = q }) qup in
-        let a : OnLive (live Up to_n') (session_of (record n { side = q }) (number_of n)) (session_of f (number_of n)) =
-        on_live_same (Some to_n') q.session (session_of (record n { side = q }) (number_of n)) (session_of f (number_of n))
-        (session_of f (number_of n)) is refl pair.comes in
-        live_to Up q.phase to_n' (session_of (record n { side = q }) (number_of n)) (session_of f (number_of n)) (sym qup) a
+        let is : shdlc_session_of (record n { side = q }) (shdlc_number_of n) ≡ q.session = of_up (record n { side = q }) qup in
+        let a : OnLive (live Up to_n') (shdlc_session_of (record n { side = q }) (shdlc_number_of n)) (shdlc_session_of f (shdlc_number_of n)) =
+        on_live_same (Some to_n') q.session (shdlc_session_of (record n { side = q }) (shdlc_number_of n)) (shdlc_session_of f (shdlc_number_of n))
+        (shdlc_session_of f (shdlc_number_of n)) is refl pair.comes in
+        live_to Up q.phase to_n' (shdlc_session_of (record n { side = q }) (shdlc_number_of n)) (shdlc_session_of f (shdlc_number_of n)) (sym qup) a
 
     past : Below (bound (record n { side = q })) n.past
-    past = let a : Below (number_of n) n.past = rw up at h.n_past in rw qup a
+    past = let a : Below (shdlc_number_of n) n.past = rw up at h.n_past in rw qup a
 
-    moved : (k m : ℕ) (w : List OnWire) → k ≡ m → OnLive (Some w) (session_of f k) (session_of (record n { side = q }) k)
-        → OnLive (Some w) (session_of f m) (session_of (record n { side = q }) m)
-    moved k m w e g = let P : ℕ → Type 0 = λ j. OnLive (Some w) (session_of f j) (session_of (record n { side = q }) j) in subst P e g
+    moved : (k m : ℕ) (w : List OnWire) → k ≡ m → OnLive (Some w) (shdlc_session_of f k) (shdlc_session_of (record n { side = q }) k)
+        → OnLive (Some w) (shdlc_session_of f m) (shdlc_session_of (record n { side = q }) m)
+    moved k m w e g = let P : ℕ → Type 0 = λ j. OnLive (Some w) (shdlc_session_of f j) (shdlc_session_of (record n { side = q }) j) in subst P e g
 
-    f_live : (o : Option (List OnWire)) → live f.side.phase to_f' ≡ o → OnLive o (session_of f (number_of n)) q.session
-        → OnLive o (session_of f (number_of f)) (session_of (record n { side = q }) (number_of f))
+    f_live : (o : Option (List OnWire)) → live f.side.phase to_f' ≡ o → OnLive o (shdlc_session_of f (shdlc_number_of n)) q.session
+        → OnLive o (shdlc_session_of f (shdlc_number_of f)) (shdlc_session_of (record n { side = q }) (shdlc_number_of f))
     f_live None e g = tt
     f_live (Some w) e g =
         let lives : live q.phase to_n' ≡ Some to_n' = rw qup refl in
-        let same : number_of n ≡ number_of f = agreed (live q.phase to_n') (live f.side.phase to_f') to_n' w (number_of n ≡ number_of f) lives e hand.agree in
-        let is : session_of (record n { side = q }) (number_of n) ≡ q.session = of_up (record n { side = q }) qup in
-        let a : OnLive (Some w) (session_of f (number_of n)) (session_of (record n { side = q }) (number_of n)) =
-        on_live_same (Some w) (session_of f (number_of n)) (session_of f (number_of n)) q.session (session_of (record n { side = q }) (number_of n))
+        let same : shdlc_number_of n ≡ shdlc_number_of f = agreed (live q.phase to_n') (live f.side.phase to_f') to_n' w (shdlc_number_of n ≡ shdlc_number_of f) lives e hand.agree in
+        let is : shdlc_session_of (record n { side = q }) (shdlc_number_of n) ≡ q.session = of_up (record n { side = q }) qup in
+        let a : OnLive (Some w) (shdlc_session_of f (shdlc_number_of n)) (shdlc_session_of (record n { side = q }) (shdlc_number_of n)) =
+        on_live_same (Some w) (shdlc_session_of f (shdlc_number_of n)) (shdlc_session_of f (shdlc_number_of n)) q.session (shdlc_session_of (record n { side = q }) (shdlc_number_of n))
         refl is g in
-        moved (number_of n) (number_of f) w same a
+        moved (shdlc_number_of n) (shdlc_number_of f) w same a
 
 -- ## Parts of wires with one frame more or less
 
@@ -191,31 +191,31 @@ live_after_rset Waiting (z ∷ []) mine theirs no_up a b = let e : behind_ua (z 
 live_after_rset Waiting (z ∷ v ∷ w) mine theirs no_up a b = absurd a
 
 -- what is said of one session by its number
-at_number : (Q : Session → Type 0) (m : ℕ) (g h : Half) → (((P : ℕ → Session → Type 0) → ((k : ℕ) → P k (session_of h k)) → (k : ℕ) → P k (session_of g k)))
-    → Q (session_of h m) → Q (session_of g m)
+at_number : (Q : Session → Type 0) (m : ℕ) (g h : NumberedShdlc) → (((P : ℕ → Session → Type 0) → ((k : ℕ) → P k (shdlc_session_of h k)) → (k : ℕ) → P k (shdlc_session_of g k)))
+    → Q (shdlc_session_of h m) → Q (shdlc_session_of g m)
 at_number Q m g h move given = move (λ k t. k ≡ m → Q t) (λ k e. rw e given) m refl
 
 -- ## The near end isn't Up
 
 -- it goes on as it is, and a frame of a session on its way to it is passed over
-pub safe_idle : (kn kn' kf : ℕ) (n f : Half) (q : EndState) (to_n to_f to_n' : List OnWire) (r : ℕ) → (n.side.phase ≡ Up → ⊥)
+pub safe_idle : (kn kn' kf : ℕ) (n f : NumberedShdlc) (q : EndState) (to_n to_f to_n' : List OnWire) (r : ℕ) → (n.side.phase ≡ Up → ⊥)
     → q.phase ≡ n.side.phase → q.due ≡ []
     → q.own_window ≡ n.side.own_window → q.peer_window ≡ n.side.peer_window → q.session ≡ no_session
     → live n.side.phase to_n' ≡ live n.side.phase to_n
     → Hand kn' kf (peer_of (record n { side = q })) (peer_of f) to_n' to_f r
     → Safe kn kf n f to_n to_f r → Safe kn' kf (record n { side = q }) f to_n' to_f r
 safe_idle kn kn' kf n f q to_n to_f to_n' r no_up same due own peer none lives hand h =
-    let g : Half = record n { side = q } in
+    let g : NumberedShdlc = record n { side = q } in
     let no_up' : q.phase ≡ Up → ⊥ = λ e. no_up (sym same ∙ e) in
-    let m : (P : ℕ → Session → Type 0) → ((k : ℕ) → P k (session_of n k)) → (k : ℕ) → P k (session_of g k) = λ P all k. of_none P n g no_up no_up' refl all k in
+    let m : (P : ℕ → Session → Type 0) → ((k : ℕ) → P k (shdlc_session_of n k)) → (k : ℕ) → P k (shdlc_session_of g k) = λ P all k. of_none P n g no_up no_up' refl all k in
     record {
       hand = hand;
-      n_base = m (λ k t. Base t (session_of f k)) h.n_base;
-      f_base = m (λ k t. Base (session_of f k) t) h.f_base;
-      n_live = live_to n.side.phase q.phase to_n' (session_of g (number_of n)) (session_of f (number_of n)) (sym same)
-          (on_live_part (live n.side.phase to_n) (live n.side.phase to_n') (session_of g (number_of n)) (session_of f (number_of n)) lives
-          (at_number (λ t. OnLive (live n.side.phase to_n) t (session_of f (number_of n))) (number_of n) g n m h.n_live));
-      f_live = at_number (λ t. OnLive (live f.side.phase to_f) (session_of f (number_of f)) t) (number_of f) g n m h.f_live;
+      n_base = m (λ k t. Base t (shdlc_session_of f k)) h.n_base;
+      f_base = m (λ k t. Base (shdlc_session_of f k) t) h.f_base;
+      n_live = live_to n.side.phase q.phase to_n' (shdlc_session_of g (shdlc_number_of n)) (shdlc_session_of f (shdlc_number_of n)) (sym same)
+          (on_live_part (live n.side.phase to_n) (live n.side.phase to_n') (shdlc_session_of g (shdlc_number_of n)) (shdlc_session_of f (shdlc_number_of n)) lives
+          (at_number (λ t. OnLive (live n.side.phase to_n) t (shdlc_session_of f (shdlc_number_of n))) (shdlc_number_of n) g n m h.n_live));
+      f_live = at_number (λ t. OnLive (live f.side.phase to_f) (shdlc_session_of f (shdlc_number_of f)) t) (shdlc_number_of f) g n m h.f_live;
       n_past = rw same h.n_past;
       f_past = h.f_past;
       n_none = λ _. none;
@@ -230,37 +230,37 @@ safe_idle kn kn' kf n f q to_n to_f to_n' r no_up same due own peer none lives h
 abbrev pub waiting_end : EndState → EndState
 waiting_end e = record e { phase = Waiting; due = []; timer = 0; session = no_session }
 
-abbrev pub Moves : Half → List (ℕ × Session) → Type 1
-Moves n past = (P : ℕ → Session → Type 0) → ((k : ℕ) → P k (session_of n k)) → (k : ℕ) → P k (ended_session past k)
+abbrev pub Moves : NumberedShdlc → List (ℕ × Session) → Type 1
+Moves n past = (P : ℕ → Session → Type 0) → ((k : ℕ) → P k (shdlc_session_of n k)) → (k : ℕ) → P k (ended_session past k)
 
 -- the session that goes on ends and is kept
-pub moves_end : (n : Half) → n.side.phase ≡ Up → Moves n ((number_of n, n.side.session) ∷ n.past)
-moves_end n up P all k = let a : P k (session_of n k) = all k in rw up at a
+pub moves_end : (n : NumberedShdlc) → n.side.phase ≡ Up → Moves n ((shdlc_number_of n, n.side.session) ∷ n.past)
+moves_end n up P all k = let a : P k (shdlc_session_of n k) = all k in rw up at a
 
 -- an end without a session keeps what has ended
-pub moves_none : (n : Half) → (n.side.phase ≡ Up → ⊥) → Moves n n.past
+pub moves_none : (n : NumberedShdlc) → (n.side.phase ≡ Up → ⊥) → Moves n n.past
 moves_none n no_up P all k = go n.side.phase refl (all k)
   where
-    go : (p : LinkState) → n.side.phase ≡ p → P k (session_of n k) → P k (ended_session n.past k)
+    go : (p : LinkState) → n.side.phase ≡ p → P k (shdlc_session_of n k) → P k (ended_session n.past k)
     go Up e a = absurd (no_up e)
     go Waiting e a = rw e at a
     go Down e a = rw e at a
 
-pub safe_asks : (kn kf : ℕ) (n f : Half) (e : EndState) (x : OnWire) (w c : ℕ) (past : List (ℕ × Session)) (to_n to_f : List OnWire) (r : ℕ)
+pub safe_asks : (kn kf : ℕ) (n f : NumberedShdlc) (e : EndState) (x : OnWire) (w c : ℕ) (past : List (ℕ × Session)) (to_n to_f : List OnWire) (r : ℕ)
     → rsets to_f ≡ [] → uas to_n ≡ [] → x.frame ≡ Rset w c → 0 < w → x.age ≡ 0 → x.number ≡ r + 1 → HasWindows e → Moves n past → Below (r + 1) past
     → Safe kn kf n f to_n to_f r
     → Safe 0 kf (record { side = waiting_end e; emitted = r + 1; took = n.took; past = past }) f to_n (to_f ++ x ∷ []) (r + 1)
 safe_asks kn kf n f e x w c past to_n to_f r none empty frame wide age num windows move below h =
-    let g : Half = record { side = waiting_end e; emitted = r + 1; took = n.took; past = past } in
+    let g : NumberedShdlc = record { side = waiting_end e; emitted = r + 1; took = n.took; past = past } in
     let l : List OnWire = to_f ++ x ∷ [] in
     record {
       hand = hand_ask kn kf (peer_of n) (peer_of f) x w c to_n to_f r none empty frame wide age num h.hand;
-      n_base = move (λ k t. Base t (session_of f k)) h.n_base;
-      f_base = move (λ k t. Base (session_of f k) t) h.f_base;
-      n_live = on_live_part None (behind_ua to_n) (session_of g (number_of g)) (session_of f (number_of g)) (behind_none to_n empty) tt;
-      f_live = move (λ k t. k ≡ number_of f → OnLive (live f.side.phase l) (session_of f (number_of f)) t)
-          (λ k q. at k q (live_push_rset f.side.phase to_f x w c (session_of f (number_of f)) (session_of n (number_of f)) frame none h.f_live))
-          (number_of f) refl;
+      n_base = move (λ k t. Base t (shdlc_session_of f k)) h.n_base;
+      f_base = move (λ k t. Base (shdlc_session_of f k) t) h.f_base;
+      n_live = on_live_part None (behind_ua to_n) (shdlc_session_of g (shdlc_number_of g)) (shdlc_session_of f (shdlc_number_of g)) (behind_none to_n empty) tt;
+      f_live = move (λ k t. k ≡ shdlc_number_of f → OnLive (live f.side.phase l) (shdlc_session_of f (shdlc_number_of f)) t)
+          (λ k q. at k q (live_push_rset f.side.phase to_f x w c (shdlc_session_of f (shdlc_number_of f)) (shdlc_session_of n (shdlc_number_of f)) frame none h.f_live))
+          (shdlc_number_of f) refl;
       n_past = below;
       f_past = h.f_past;
       n_none = λ _. refl;
@@ -271,12 +271,12 @@ safe_asks kn kf n f e x w c past to_n to_f r none empty frame wide age num windo
       f_windows = h.f_windows;
     }
   where
-    at : (k : ℕ) → k ≡ number_of f → OnLive (live f.side.phase (to_f ++ x ∷ [])) (session_of f (number_of f)) (session_of n (number_of f))
-        → OnLive (live f.side.phase (to_f ++ x ∷ [])) (session_of f (number_of f)) (session_of n k)
-    at k q a = let P : ℕ → Type 0 = λ j. OnLive (live f.side.phase (to_f ++ x ∷ [])) (session_of f (number_of f)) (session_of n j) in subst P (sym q) a
+    at : (k : ℕ) → k ≡ shdlc_number_of f → OnLive (live f.side.phase (to_f ++ x ∷ [])) (shdlc_session_of f (shdlc_number_of f)) (shdlc_session_of n (shdlc_number_of f))
+        → OnLive (live f.side.phase (to_f ++ x ∷ [])) (shdlc_session_of f (shdlc_number_of f)) (shdlc_session_of n k)
+    at k q a = let P : ℕ → Type 0 = λ j. OnLive (live f.side.phase (to_f ++ x ∷ [])) (shdlc_session_of f (shdlc_number_of f)) (shdlc_session_of n j) in subst P (sym q) a
 
 -- it waited, and gives up
-pub safe_down : (kn kf : ℕ) (n f : Half) (e : EndState) (to_n to_f : List OnWire) (r : ℕ)
+pub safe_down : (kn kf : ℕ) (n f : NumberedShdlc) (e : EndState) (to_n to_f : List OnWire) (r : ℕ)
     → n.side.phase ≡ Waiting → rsets to_f ≡ [] → uas to_n ≡ [] → 4 < n.side.timer + kn
     → HasWindows e → Safe kn kf n f to_n to_f r
     → Safe 0 kf (record n { side = record e { phase = Down; due = []; timer = 0; session = no_session } }) f to_n to_f r
@@ -284,11 +284,11 @@ safe_down kn kf n f e to_n to_f r waiting none empty late windows h =
     let move : Moves n n.past = moves_none n (not_up n.side.phase waiting) in
     record {
       hand = hand_down kn kf (peer_of n) (peer_of f) to_n to_f r none empty late h.hand;
-      n_base = move (λ k t. Base t (session_of f k)) h.n_base;
-      f_base = move (λ k t. Base (session_of f k) t) h.f_base;
+      n_base = move (λ k t. Base t (shdlc_session_of f k)) h.n_base;
+      f_base = move (λ k t. Base (shdlc_session_of f k) t) h.f_base;
       n_live = tt;
-      f_live = move (λ k t. k ≡ number_of f → OnLive (live f.side.phase to_f) (session_of f (number_of f)) t) (λ k q. at k q h.f_live) (number_of f) refl;
-      n_past = let a : Below n.emitted n.past = rw waiting at h.n_past in below_more n.emitted (number_of n + 1) n.past (omega arith) a;
+      f_live = move (λ k t. k ≡ shdlc_number_of f → OnLive (live f.side.phase to_f) (shdlc_session_of f (shdlc_number_of f)) t) (λ k q. at k q h.f_live) (shdlc_number_of f) refl;
+      n_past = let a : Below n.emitted n.past = rw waiting at h.n_past in below_more n.emitted (shdlc_number_of n + 1) n.past (omega arith) a;
       f_past = h.f_past;
       n_none = λ _. refl;
       f_none = h.f_none;
@@ -298,9 +298,9 @@ safe_down kn kf n f e to_n to_f r waiting none empty late windows h =
       f_windows = h.f_windows;
     }
   where
-    at : (k : ℕ) → k ≡ number_of f → OnLive (live f.side.phase to_f) (session_of f (number_of f)) (session_of n (number_of f))
-        → OnLive (live f.side.phase to_f) (session_of f (number_of f)) (session_of n k)
-    at k q a = let P : ℕ → Type 0 = λ j. OnLive (live f.side.phase to_f) (session_of f (number_of f)) (session_of n j) in subst P (sym q) a
+    at : (k : ℕ) → k ≡ shdlc_number_of f → OnLive (live f.side.phase to_f) (shdlc_session_of f (shdlc_number_of f)) (shdlc_session_of n (shdlc_number_of f))
+        → OnLive (live f.side.phase to_f) (shdlc_session_of f (shdlc_number_of f)) (shdlc_session_of n k)
+    at k q a = let P : ℕ → Type 0 = λ j. OnLive (live f.side.phase to_f) (shdlc_session_of f (shdlc_number_of f)) (shdlc_session_of n j) in subst P (sym q) a
 
 -- ## A session begins at the near end
 
@@ -311,37 +311,37 @@ on_live_begins : (o : Option (List OnWire)) (m : Session) (w : ℕ) → OnLive o
 on_live_begins None m w h = tt
 on_live_begins (Some l) m w h = record { marks = h.marks; shows = h.shows; places = h.places; counts = h.counts }
 
-begins_at : (P : ℕ → Session → Type 0) (g : Half) → g.side.phase ≡ Up → ((k : ℕ) → P k (ended_session g.past k)) → P (number_of g) g.side.session
-    → (k : ℕ) → P k (session_of g k)
-begins_at P g up all new k = go (k == number_of g) refl
+begins_at : (P : ℕ → Session → Type 0) (g : NumberedShdlc) → g.side.phase ≡ Up → ((k : ℕ) → P k (ended_session g.past k)) → P (shdlc_number_of g) g.side.session
+    → (k : ℕ) → P k (shdlc_session_of g k)
+begins_at P g up all new k = go (k == shdlc_number_of g) refl
   where
-    go : (b : Bool) → (k == number_of g) ≡ b → P k (session_of g k)
-    go true q = rw (up, q) (rw (← eqb-true k (number_of g) q) at new)
+    go : (b : Bool) → (k == shdlc_number_of g) ≡ b → P k (shdlc_session_of g k)
+    go true q = rw (up, q) (rw (← eqb-true k (shdlc_number_of g) q) at new)
     go false q = rw (up, q) (all k)
 
-pub safe_begins : (kn kf : ℕ) (f g : Half) (w : ℕ) (to_n to_f : List OnWire) (r : ℕ)
+pub safe_begins : (kn kf : ℕ) (f g : NumberedShdlc) (w : ℕ) (to_n to_f : List OnWire) (r : ℕ)
     → g.side.phase ≡ Up → g.side.session ≡ new_session w → g.side.due ≡ [] → HasWindows g.side → w ≤ 4
     → Hand kn kf (peer_of g) (peer_of f) to_n to_f r
-    → ((k : ℕ) → Base (ended_session g.past k) (session_of f k)) → ((k : ℕ) → Base (session_of f k) (ended_session g.past k))
-    → Below (number_of g) g.past → Below (bound f) f.past → ((f.side.phase ≡ Up → ⊥) → f.side.session ≡ no_session) → f.side.due ≡ [] → HasWindows f.side
-    → Active to_n no_session (session_of f (number_of g))
-    → OnLive (live f.side.phase to_f) (session_of f (number_of f)) (ended_session g.past (number_of f))
+    → ((k : ℕ) → Base (ended_session g.past k) (shdlc_session_of f k)) → ((k : ℕ) → Base (shdlc_session_of f k) (ended_session g.past k))
+    → Below (shdlc_number_of g) g.past → Below (bound f) f.past → ((f.side.phase ≡ Up → ⊥) → f.side.session ≡ no_session) → f.side.due ≡ [] → HasWindows f.side
+    → Active to_n no_session (shdlc_session_of f (shdlc_number_of g))
+    → OnLive (live f.side.phase to_f) (shdlc_session_of f (shdlc_number_of f)) (ended_session g.past (shdlc_number_of f))
     → Safe kn kf g f to_n to_f r
 safe_begins kn kf f g w to_n to_f r up new due windows fits hand n_base f_base below f_past f_none f_due f_windows active there =
-    let gone : ended_session g.past (number_of g) ≡ no_session = none_ended (number_of g) (number_of g) g.past (omega arith) below in
-    let mine : Base (new_session w) (session_of f (number_of g)) = base_begins (session_of f (number_of g)) w fits (rw gone at (n_base (number_of g))) in
-    let theirs : Base (session_of f (number_of g)) (new_session w) = base_begins_there (session_of f (number_of g)) w (rw gone at (f_base (number_of g))) in
+    let gone : ended_session g.past (shdlc_number_of g) ≡ no_session = none_ended (shdlc_number_of g) (shdlc_number_of g) g.past (omega arith) below in
+    let mine : Base (new_session w) (shdlc_session_of f (shdlc_number_of g)) = base_begins (shdlc_session_of f (shdlc_number_of g)) w fits (rw gone at (n_base (shdlc_number_of g))) in
+    let theirs : Base (shdlc_session_of f (shdlc_number_of g)) (new_session w) = base_begins_there (shdlc_session_of f (shdlc_number_of g)) w (rw gone at (f_base (shdlc_number_of g))) in
     record {
       hand = hand;
-      n_base = begins_at (λ k t. Base t (session_of f k)) g up n_base (rw new mine);
-      f_base = begins_at (λ k t. Base (session_of f k) t) g up f_base (rw new theirs);
-      n_live = live_to Up g.side.phase to_n (session_of g (number_of g)) (session_of f (number_of g)) (sym up)
-          (on_live_same (Some to_n) (new_session w) (session_of g (number_of g)) (session_of f (number_of g)) (session_of f (number_of g))
+      n_base = begins_at (λ k t. Base t (shdlc_session_of f k)) g up n_base (rw new mine);
+      f_base = begins_at (λ k t. Base (shdlc_session_of f k) t) g up f_base (rw new theirs);
+      n_live = live_to Up g.side.phase to_n (shdlc_session_of g (shdlc_number_of g)) (shdlc_session_of f (shdlc_number_of g)) (sym up)
+          (on_live_same (Some to_n) (new_session w) (shdlc_session_of g (shdlc_number_of g)) (shdlc_session_of f (shdlc_number_of g)) (shdlc_session_of f (shdlc_number_of g))
           (of_up g up ∙ new) refl
           (record { marks = active.marks; shows = active.shows; places = active.places; counts = active.counts }));
-      f_live = begins_at (λ k t. k ≡ number_of f → OnLive (live f.side.phase to_f) (session_of f (number_of f)) t) g up (λ k q. at k q there)
-          (λ q. rw new (on_live_begins (live f.side.phase to_f) (session_of f (number_of f)) w
-          (rw (sym (ap (ended_session g.past) q) ∙ gone) at there))) (number_of f) refl;
+      f_live = begins_at (λ k t. k ≡ shdlc_number_of f → OnLive (live f.side.phase to_f) (shdlc_session_of f (shdlc_number_of f)) t) g up (λ k q. at k q there)
+          (λ q. rw new (on_live_begins (live f.side.phase to_f) (shdlc_session_of f (shdlc_number_of f)) w
+          (rw (sym (ap (ended_session g.past) q) ∙ gone) at there))) (shdlc_number_of f) refl;
       n_past = rw up below;
       f_past = f_past;
       n_none = λ no. absurd (no up);
@@ -352,82 +352,82 @@ safe_begins kn kf f g w to_n to_f r up new due windows fits hand n_base f_base b
       f_windows = f_windows;
     }
   where
-    at : (k : ℕ) → k ≡ number_of f → OnLive (live f.side.phase to_f) (session_of f (number_of f)) (ended_session g.past (number_of f))
-        → OnLive (live f.side.phase to_f) (session_of f (number_of f)) (ended_session g.past k)
-    at k q a = let P : ℕ → Type 0 = λ j. OnLive (live f.side.phase to_f) (session_of f (number_of f)) (ended_session g.past j) in subst P (sym q) a
+    at : (k : ℕ) → k ≡ shdlc_number_of f → OnLive (live f.side.phase to_f) (shdlc_session_of f (shdlc_number_of f)) (ended_session g.past (shdlc_number_of f))
+        → OnLive (live f.side.phase to_f) (shdlc_session_of f (shdlc_number_of f)) (ended_session g.past k)
+    at k q a = let P : ℕ → Type 0 = λ j. OnLive (live f.side.phase to_f) (shdlc_session_of f (shdlc_number_of f)) (ended_session g.past j) in subst P (sym q) a
 
 -- by the UA that it waited for
-pub safe_up_ua : (kn kf : ℕ) (n f : Half) (w : ℕ) (x : OnWire) (to_n to_f : List OnWire) (r : ℕ) → x.frame ≡ Ua → n.side.phase ≡ Waiting → w ≤ 4
+pub safe_up_ua : (kn kf : ℕ) (n f : NumberedShdlc) (w : ℕ) (x : OnWire) (to_n to_f : List OnWire) (r : ℕ) → x.frame ≡ Ua → n.side.phase ≡ Waiting → w ≤ 4
     → Safe kn kf n f (x ∷ to_n) to_f r → Safe kn kf (record n { side = up_end n.side w }) f to_n to_f r
 safe_up_ua kn kf n f w x to_n to_f r frame waiting fits h =
-    let g : Half = record n { side = up_end n.side w } in
+    let g : NumberedShdlc = record n { side = up_end n.side w } in
     let move : Moves n n.past = moves_none n (not_up n.side.phase waiting) in
     let early : Below n.emitted n.past = rw waiting at h.n_past in
-    let below : Below (number_of n) n.past = below_more n.emitted (number_of n) n.past (omega arith) early in
-    let gone : ended_session n.past (number_of n) ≡ no_session = none_ended (number_of n) (number_of n) n.past (omega arith) below in
+    let below : Below (shdlc_number_of n) n.past = below_more n.emitted (shdlc_number_of n) n.past (omega arith) early in
+    let gone : ended_session n.past (shdlc_number_of n) ≡ no_session = none_ended (shdlc_number_of n) (shdlc_number_of n) n.past (omega arith) below in
     let c : behind_ua (x ∷ to_n) ≡ Some to_n = rw frame refl in
-    let a : OnLive (behind_ua (x ∷ to_n)) (session_of n (number_of n)) (session_of f (number_of n)) =
-    live_to n.side.phase Waiting (x ∷ to_n) (session_of n (number_of n)) (session_of f (number_of n)) waiting h.n_live in
-    let b : OnLive (Some to_n) (session_of n (number_of n)) (session_of f (number_of n)) =
-    on_live_part (behind_ua (x ∷ to_n)) (Some to_n) (session_of n (number_of n)) (session_of f (number_of n)) (sym c) a in
-    let d : OnLive (Some to_n) (ended_session n.past (number_of n)) (session_of f (number_of n)) =
-    move (λ k t. k ≡ number_of n → OnLive (Some to_n) t (session_of f (number_of n))) (λ k q. at k q b) (number_of n) refl in
+    let a : OnLive (behind_ua (x ∷ to_n)) (shdlc_session_of n (shdlc_number_of n)) (shdlc_session_of f (shdlc_number_of n)) =
+    live_to n.side.phase Waiting (x ∷ to_n) (shdlc_session_of n (shdlc_number_of n)) (shdlc_session_of f (shdlc_number_of n)) waiting h.n_live in
+    let b : OnLive (Some to_n) (shdlc_session_of n (shdlc_number_of n)) (shdlc_session_of f (shdlc_number_of n)) =
+    on_live_part (behind_ua (x ∷ to_n)) (Some to_n) (shdlc_session_of n (shdlc_number_of n)) (shdlc_session_of f (shdlc_number_of n)) (sym c) a in
+    let d : OnLive (Some to_n) (ended_session n.past (shdlc_number_of n)) (shdlc_session_of f (shdlc_number_of n)) =
+    move (λ k t. k ≡ shdlc_number_of n → OnLive (Some to_n) t (shdlc_session_of f (shdlc_number_of n))) (λ k q. at k q b) (shdlc_number_of n) refl in
     safe_begins kn kf f g w to_n to_f r refl refl refl (record { own = h.n_windows.own; peer = h.n_windows.peer }) fits
     (hand_up_ua kn kf (peer_of n) (peer_of f) x to_n to_f r frame h.hand)
-    (move (λ k t. Base t (session_of f k)) h.n_base) (move (λ k t. Base (session_of f k) t) h.f_base) below h.f_past h.f_none h.f_due h.f_windows
-    (on_live_same (Some to_n) (ended_session n.past (number_of n)) no_session (session_of f (number_of n)) (session_of f (number_of n)) (sym gone) refl d)
-    (move (λ k t. k ≡ number_of f → OnLive (live f.side.phase to_f) (session_of f (number_of f)) t) (λ k q. there k q h.f_live) (number_of f) refl)
+    (move (λ k t. Base t (shdlc_session_of f k)) h.n_base) (move (λ k t. Base (shdlc_session_of f k) t) h.f_base) below h.f_past h.f_none h.f_due h.f_windows
+    (on_live_same (Some to_n) (ended_session n.past (shdlc_number_of n)) no_session (shdlc_session_of f (shdlc_number_of n)) (shdlc_session_of f (shdlc_number_of n)) (sym gone) refl d)
+    (move (λ k t. k ≡ shdlc_number_of f → OnLive (live f.side.phase to_f) (shdlc_session_of f (shdlc_number_of f)) t) (λ k q. there k q h.f_live) (shdlc_number_of f) refl)
   where
-    at : (k : ℕ) → k ≡ number_of n → OnLive (Some to_n) (session_of n (number_of n)) (session_of f (number_of n))
-        → OnLive (Some to_n) (session_of n k) (session_of f (number_of n))
-    at k q a = let P : ℕ → Type 0 = λ j. OnLive (Some to_n) (session_of n j) (session_of f (number_of n)) in subst P (sym q) a
+    at : (k : ℕ) → k ≡ shdlc_number_of n → OnLive (Some to_n) (shdlc_session_of n (shdlc_number_of n)) (shdlc_session_of f (shdlc_number_of n))
+        → OnLive (Some to_n) (shdlc_session_of n k) (shdlc_session_of f (shdlc_number_of n))
+    at k q a = let P : ℕ → Type 0 = λ j. OnLive (Some to_n) (shdlc_session_of n j) (shdlc_session_of f (shdlc_number_of n)) in subst P (sym q) a
 
-    there : (k : ℕ) → k ≡ number_of f → OnLive (live f.side.phase to_f) (session_of f (number_of f)) (session_of n (number_of f))
-        → OnLive (live f.side.phase to_f) (session_of f (number_of f)) (session_of n k)
-    there k q a = let P : ℕ → Type 0 = λ j. OnLive (live f.side.phase to_f) (session_of f (number_of f)) (session_of n j) in subst P (sym q) a
+    there : (k : ℕ) → k ≡ shdlc_number_of f → OnLive (live f.side.phase to_f) (shdlc_session_of f (shdlc_number_of f)) (shdlc_session_of n (shdlc_number_of f))
+        → OnLive (live f.side.phase to_f) (shdlc_session_of f (shdlc_number_of f)) (shdlc_session_of n k)
+    there k q a = let P : ℕ → Type 0 = λ j. OnLive (live f.side.phase to_f) (shdlc_session_of f (shdlc_number_of f)) (shdlc_session_of n j) in subst P (sym q) a
 
 -- by an RSET, which it answers by UA; where a session went on it has ended and is kept
-pub safe_up_rset : (n f : Half) (w v c : ℕ) (x y : OnWire) (past : List (ℕ × Session)) (to_n to_f : List OnWire) (r : ℕ) → x.frame ≡ Rset v c
+pub safe_up_rset : (n f : NumberedShdlc) (w v c : ℕ) (x y : OnWire) (past : List (ℕ × Session)) (to_n to_f : List OnWire) (r : ℕ) → x.frame ≡ Rset v c
     → (n.side.phase ≡ Waiting → ⊥)
     → y.frame ≡ Ua → y.age ≡ 0 → w ≤ 4 → Moves n past → Below f.emitted past
     → Safe 0 0 n f (x ∷ to_n) to_f r
     → Safe 0 0 (record { side = up_end n.side w; emitted = n.emitted; took = f.emitted; past = past }) f to_n (to_f ++ y ∷ []) r
 safe_up_rset n f w v c x y past to_n to_f r frame no_wait ua age fits move below h =
-    let g : Half = record { side = up_end n.side w; emitted = n.emitted; took = f.emitted; past = past } in
+    let g : NumberedShdlc = record { side = up_end n.side w; emitted = n.emitted; took = f.emitted; past = past } in
     let t = rset_tells 0 (peer_of n) (peer_of f) x v c to_n to_f r frame h.hand in
     let b : uas (x ∷ to_n) ≡ uas to_n = rw frame refl in
     let mine = none_out 0 n.side.phase n.side.timer (rsets to_f) (uas (x ∷ to_n)) no_wait h.hand.n_out in
     let gone : to_n ≡ [] = after_rset_empty to_n (sym b ∙ mine.1) t.6 in
-    let n_base : (k : ℕ) → Base (ended_session past k) (session_of f k) = move (λ k s. Base s (session_of f k)) h.n_base in
-    let f_base : (k : ℕ) → Base (session_of f k) (ended_session past k) = move (λ k s. Base (session_of f k) s) h.f_base in
-    let low : Below (number_of g) past = below_more f.emitted (number_of g) past (omega arith) below in
-    let none : ended_session past (number_of g) ≡ no_session = none_ended (number_of g) (number_of g) past (omega arith) low in
-    let first : Base no_session (session_of f (number_of g)) = rw none at (n_base (number_of g)) in
-    let act : Active to_n no_session (session_of f (number_of g)) = rw gone (active_empty no_session (session_of f (number_of g)) first) in
+    let n_base : (k : ℕ) → Base (ended_session past k) (shdlc_session_of f k) = move (λ k s. Base s (shdlc_session_of f k)) h.n_base in
+    let f_base : (k : ℕ) → Base (shdlc_session_of f k) (ended_session past k) = move (λ k s. Base (shdlc_session_of f k) s) h.f_base in
+    let low : Below (shdlc_number_of g) past = below_more f.emitted (shdlc_number_of g) past (omega arith) below in
+    let none : ended_session past (shdlc_number_of g) ≡ no_session = none_ended (shdlc_number_of g) (shdlc_number_of g) past (omega arith) low in
+    let first : Base no_session (shdlc_session_of f (shdlc_number_of g)) = rw none at (n_base (shdlc_number_of g)) in
+    let act : Active to_n no_session (shdlc_session_of f (shdlc_number_of g)) = rw gone (active_empty no_session (shdlc_session_of f (shdlc_number_of g)) first) in
     safe_begins 0 0 f g w to_n (to_f ++ y ∷ []) r refl refl refl (record { own = h.n_windows.own; peer = h.n_windows.peer }) fits
     (hand_up_rset (peer_of n) (peer_of f) x y v c to_n to_f r frame no_wait ua age h.hand)
     n_base f_base low h.f_past h.f_none h.f_due h.f_windows act
-    (live_push_ua f.side.phase to_f y (session_of f (number_of f)) (ended_session past (number_of f)) ua t.1 t.2 (f_base (number_of f)))
+    (live_push_ua f.side.phase to_f y (shdlc_session_of f (shdlc_number_of f)) (ended_session past (shdlc_number_of f)) ua t.1 t.2 (f_base (shdlc_number_of f)))
 
 -- an end that waits answers an RSET by UA, and goes on waiting
-pub safe_wait_rset : (n f : Half) (e : EndState) (v c : ℕ) (x y : OnWire) (to_n to_f : List OnWire) (r : ℕ) → x.frame ≡ Rset v c → n.side.phase ≡ Waiting
+pub safe_wait_rset : (n f : NumberedShdlc) (e : EndState) (v c : ℕ) (x y : OnWire) (to_n to_f : List OnWire) (r : ℕ) → x.frame ≡ Rset v c → n.side.phase ≡ Waiting
     → y.frame ≡ Ua → y.age ≡ 0 → e.phase ≡ Waiting → e.timer ≡ n.side.timer → e.session ≡ no_session → e.due ≡ [] → HasWindows e
     → Safe 0 0 n f (x ∷ to_n) to_f r
     → Safe 0 0 (record { side = e; emitted = n.emitted; took = f.emitted; past = n.past }) f to_n (to_f ++ y ∷ []) r
 safe_wait_rset n f e v c x y to_n to_f r frame waiting ua age ewait timer none due windows h =
-    let g : Half = record { side = e; emitted = n.emitted; took = f.emitted; past = n.past } in
+    let g : NumberedShdlc = record { side = e; emitted = n.emitted; took = f.emitted; past = n.past } in
     let t = rset_tells 0 (peer_of n) (peer_of f) x v c to_n to_f r frame h.hand in
     let no_up : e.phase ≡ Up → ⊥ = not_up e.phase ewait in
-    let m : (P : ℕ → Session → Type 0) → ((k : ℕ) → P k (session_of n k)) → (k : ℕ) → P k (session_of g k) =
+    let m : (P : ℕ → Session → Type 0) → ((k : ℕ) → P k (shdlc_session_of n k)) → (k : ℕ) → P k (shdlc_session_of g k) =
     λ P all k. of_none P n g (not_up n.side.phase waiting) no_up refl all k in
-    let n_base : (k : ℕ) → Base (session_of g k) (session_of f k) = m (λ k s. Base s (session_of f k)) h.n_base in
-    let f_base : (k : ℕ) → Base (session_of f k) (session_of g k) = m (λ k s. Base (session_of f k) s) h.f_base in
+    let n_base : (k : ℕ) → Base (shdlc_session_of g k) (shdlc_session_of f k) = m (λ k s. Base s (shdlc_session_of f k)) h.n_base in
+    let f_base : (k : ℕ) → Base (shdlc_session_of f k) (shdlc_session_of g k) = m (λ k s. Base (shdlc_session_of f k) s) h.f_base in
     record {
       hand = rw (ewait, timer) (hand_wait_rset (peer_of n) (peer_of f) x y v c to_n to_f r frame waiting ua age h.hand);
       n_base = n_base;
       f_base = f_base;
-      n_live = live_after_rset e.phase to_n (session_of g (number_of g)) (session_of f (number_of g)) no_up t.6 (n_base (number_of g));
-      f_live = live_push_ua f.side.phase to_f y (session_of f (number_of f)) (session_of g (number_of f)) ua t.1 t.2 (f_base (number_of f));
+      n_live = live_after_rset e.phase to_n (shdlc_session_of g (shdlc_number_of g)) (shdlc_session_of f (shdlc_number_of g)) no_up t.6 (n_base (shdlc_number_of g));
+      f_live = live_push_ua f.side.phase to_f y (shdlc_session_of f (shdlc_number_of f)) (shdlc_session_of g (shdlc_number_of f)) ua t.1 t.2 (f_base (shdlc_number_of f));
       n_past = let a : Below n.emitted n.past = rw waiting at h.n_past in rw ewait a;
       f_past = h.f_past;
       n_none = λ _. none;
@@ -453,10 +453,10 @@ frame_cases x = go x.frame refl
     go Clt e = inl (rw e tt)
 
 -- the first frame on its way to the near end
-pub safe_lose : (kn : ℕ) (n f : Half) (x : OnWire) (to_n to_f : List OnWire) (r : ℕ) → Safe kn 0 n f (x ∷ to_n) to_f r → Safe kn 0 n f to_n to_f r
+pub safe_lose : (kn : ℕ) (n f : NumberedShdlc) (x : OnWire) (to_n to_f : List OnWire) (r : ℕ) → Safe kn 0 n f (x ∷ to_n) to_f r → Safe kn 0 n f to_n to_f r
 safe_lose kn n f x to_n to_f r h = go (frame_cases x)
   where
-    with : Hand kn 0 (peer_of n) (peer_of f) to_n to_f r → OnLive (live n.side.phase to_n) (session_of n (number_of n)) (session_of f (number_of n))
+    with : Hand kn 0 (peer_of n) (peer_of f) to_n to_f r → OnLive (live n.side.phase to_n) (shdlc_session_of n (shdlc_number_of n)) (shdlc_session_of f (shdlc_number_of n))
         → Safe kn 0 n f to_n to_f r
     with hand lives =
         record {
@@ -476,15 +476,15 @@ safe_lose kn n f x to_n to_f r h = go (frame_cases x)
         }
 
     s : Session
-    s = session_of n (number_of n)
+    s = shdlc_session_of n (shdlc_number_of n)
 
     t : Session
-    t = session_of f (number_of n)
+    t = shdlc_session_of f (shdlc_number_of n)
 
     up : n.side.phase ≡ Up → OnLive (live n.side.phase to_n) s t
     up e =
         let a : OnLive (live Up (x ∷ to_n)) s t = live_to n.side.phase Up (x ∷ to_n) s t e h.n_live in
-        live_to Up n.side.phase to_n s t (sym e) (active_lost x to_n s t (h.n_base (number_of n)) a)
+        live_to Up n.side.phase to_n s t (sym e) (active_lost x to_n s t (h.n_base (shdlc_number_of n)) a)
 
     data_live : IsData x.frame → (p : LinkState) → n.side.phase ≡ p → OnLive (live n.side.phase to_n) s t
     data_live d Up e = up e
@@ -499,7 +499,7 @@ safe_lose kn n f x to_n to_f r h = go (frame_cases x)
     rset_live w c q Down e = live_to Down n.side.phase to_n s t (sym e) tt
     rset_live w c q Waiting e =
         live_after_rset n.side.phase to_n s t (not_up n.side.phase e) (rset_tells kn (peer_of n) (peer_of f) x w c to_n to_f r q h.hand).6
-        (h.n_base (number_of n))
+        (h.n_base (shdlc_number_of n))
 
     go : IsData x.frame ⊎ (((w : ℕ) × (c : ℕ) × (x.frame ≡ Rset w c)) ⊎ (x.frame ≡ Ua)) → Safe kn 0 n f to_n to_f r
     go (inl d) = with (hand_past kn 0 (peer_of n) (peer_of f) x to_n to_f r d h.hand) (data_live d n.side.phase refl)
@@ -511,22 +511,22 @@ safe_lose kn n f x to_n to_f r h = go (frame_cases x)
         (live_to Waiting n.side.phase to_n s t (sym out.2) (on_live_part None (behind_ua to_n) s t (behind_none to_n out.1) tt))
 
 -- an end that is Down takes an RSET, and stays as it is
-pub safe_ignore : (n f : Half) (x : OnWire) (v c : ℕ) (to_n to_f : List OnWire) (r : ℕ) → x.frame ≡ Rset v c → n.side.phase ≡ Down
+pub safe_ignore : (n f : NumberedShdlc) (x : OnWire) (v c : ℕ) (to_n to_f : List OnWire) (r : ℕ) → x.frame ≡ Rset v c → n.side.phase ≡ Down
     → Safe 0 0 n f (x ∷ to_n) to_f r → Safe 0 0 (record n { took = f.emitted }) f to_n to_f r
 safe_ignore n f x v c to_n to_f r frame down h =
-    let g : Half = record n { took = f.emitted } in
+    let g : NumberedShdlc = record n { took = f.emitted } in
     let t = rset_tells 0 (peer_of n) (peer_of f) x v c to_n to_f r frame h.hand in
     let s : Safe 0 0 n f to_n to_f r = safe_lose 0 n f x to_n to_f r h in
     let no_up : n.side.phase ≡ Up → ⊥ = down_not_up n.side.phase down in
-    let m : (P : ℕ → Session → Type 0) → ((k : ℕ) → P k (session_of n k)) → (k : ℕ) → P k (session_of g k) = λ P all k. of_none P n g no_up no_up refl all k in
-    let early : Below (number_of n + 1) n.past = rw down at s.n_past in
+    let m : (P : ℕ → Session → Type 0) → ((k : ℕ) → P k (shdlc_session_of n k)) → (k : ℕ) → P k (shdlc_session_of g k) = λ P all k. of_none P n g no_up no_up refl all k in
+    let early : Below (shdlc_number_of n + 1) n.past = rw down at s.n_past in
     record {
       hand = hand_ignore 0 0 (peer_of n) (peer_of f) to_n to_f r down t.0 t.1 s.hand;
-      n_base = m (λ k t. Base t (session_of f k)) s.n_base;
-      f_base = m (λ k t. Base (session_of f k) t) s.f_base;
-      n_live = live_to Down n.side.phase to_n (session_of g (number_of g)) (session_of f (number_of g)) (sym down) tt;
-      f_live = at_number (λ t. OnLive (live f.side.phase to_f) (session_of f (number_of f)) t) (number_of f) g n m s.f_live;
-      n_past = rw down (below_more (number_of n + 1) (number_of g + 1) n.past (omega (arith, h.hand.n_took)) early);
+      n_base = m (λ k t. Base t (shdlc_session_of f k)) s.n_base;
+      f_base = m (λ k t. Base (shdlc_session_of f k) t) s.f_base;
+      n_live = live_to Down n.side.phase to_n (shdlc_session_of g (shdlc_number_of g)) (shdlc_session_of f (shdlc_number_of g)) (sym down) tt;
+      f_live = at_number (λ t. OnLive (live f.side.phase to_f) (shdlc_session_of f (shdlc_number_of f)) t) (shdlc_number_of f) g n m s.f_live;
+      n_past = rw down (below_more (shdlc_number_of n + 1) (shdlc_number_of g + 1) n.past (omega (arith, h.hand.n_took)) early);
       f_past = s.f_past;
       n_none = s.n_none;
       f_none = s.f_none;
@@ -537,15 +537,15 @@ safe_ignore n f x v c to_n to_f r frame down h =
     }
 
 -- all frames grow older
-pub safe_older : (n f : Half) (to_n to_f : List OnWire) (r : ℕ) → Young 4 (older to_n) → Young 4 (older to_f)
+pub safe_older : (n f : NumberedShdlc) (to_n to_f : List OnWire) (r : ℕ) → Young 4 (older to_n) → Young 4 (older to_f)
     → Safe 0 0 n f to_n to_f r → Safe 1 1 n f (older to_n) (older to_f) r
 safe_older n f to_n to_f r yn yf h =
     record {
       hand = hand_older (peer_of n) (peer_of f) to_n to_f r yn yf h.hand;
       n_base = h.n_base;
       f_base = h.f_base;
-      n_live = part n.side.phase to_n (session_of n (number_of n)) (session_of f (number_of n)) h.n_live;
-      f_live = part f.side.phase to_f (session_of f (number_of f)) (session_of n (number_of f)) h.f_live;
+      n_live = part n.side.phase to_n (shdlc_session_of n (shdlc_number_of n)) (shdlc_session_of f (shdlc_number_of n)) h.n_live;
+      f_live = part f.side.phase to_f (shdlc_session_of f (shdlc_number_of f)) (shdlc_session_of n (shdlc_number_of f)) h.f_live;
       n_past = h.n_past;
       f_past = h.f_past;
       n_none = h.n_none;
@@ -575,20 +575,20 @@ agrees_down Up P = tt
 agrees_down Waiting P = tt
 agrees_down Down P = tt
 
-pub safe_silent : (kn kn' kf : ℕ) (n f : Half) (q : EndState) (past : List (ℕ × Session)) (to_n to_f : List OnWire) (r : ℕ)
-    → q.due ≡ [] → HasWindows q → Moves n past → Below (number_of n + 1) past → Safe kn kf n f to_n to_f r
+pub safe_silent : (kn kn' kf : ℕ) (n f : NumberedShdlc) (q : EndState) (past : List (ℕ × Session)) (to_n to_f : List OnWire) (r : ℕ)
+    → q.due ≡ [] → HasWindows q → Moves n past → Below (shdlc_number_of n + 1) past → Safe kn kf n f to_n to_f r
     → Safe kn' kf (record { side = record q { phase = Down; session = no_session }; emitted = n.emitted; took = n.took; past = past }) f [] [] r
 safe_silent kn kn' kf n f q past to_n to_f r due windows move below h =
-    let g : Half = record { side = record q { phase = Down; session = no_session }; emitted = n.emitted; took = n.took; past = past } in
-    let base : (k : ℕ) → Base (session_of f k) (session_of g k) = move (λ k t. Base (session_of f k) t) h.f_base in
+    let g : NumberedShdlc = record { side = record q { phase = Down; session = no_session }; emitted = n.emitted; took = n.took; past = past } in
+    let base : (k : ℕ) → Base (shdlc_session_of f k) (shdlc_session_of g k) = move (λ k t. Base (shdlc_session_of f k) t) h.f_base in
     record {
       hand =
           hand_empty kn' kf (peer_of g) (peer_of f) r h.hand.n_took h.hand.f_took h.hand.n_bound h.hand.f_bound
-          (agrees_down f.side.phase (number_of g ≡ number_of f));
-      n_base = move (λ k t. Base t (session_of f k)) h.n_base;
+          (agrees_down f.side.phase (shdlc_number_of g ≡ shdlc_number_of f));
+      n_base = move (λ k t. Base t (shdlc_session_of f k)) h.n_base;
       f_base = base;
       n_live = tt;
-      f_live = live_empty f.side.phase (session_of f (number_of f)) (session_of g (number_of f)) (base (number_of f));
+      f_live = live_empty f.side.phase (shdlc_session_of f (shdlc_number_of f)) (shdlc_session_of g (shdlc_number_of f)) (base (shdlc_number_of f));
       n_past = below;
       f_past = h.f_past;
       n_none = λ _. refl;

@@ -14,18 +14,18 @@ use Rattle.shdlc_core.specs.declared.answers.Due.TheVariants.{Rr as Rr_due, Rej 
 use Rattle.shdlc_core.specs.Machine.{EndState, Session, Fragment, no_session, sent_next, fetched, frame_due, fragment_due, control_due, expected, frames_of, after_frames, put_out, with_ready}
 use Rattle.link_laws.proofs.Idle.{fetched_idle, after_frames_idle}
 use Rattle.link_laws.proofs.Joined.{fetch_cases, fragment_due_tells, changed}
-use Rattle.session_laws.specs.Sessions.{OnWire, Half, Link, number_of, session_of, fits, put, put_all, with_controller, becomes, Turn, turn, turned}
+use Rattle.session_laws.specs.Sessions.{OnWire, NumberedShdlc, ShdlcLink, shdlc_number_of, shdlc_session_of, fits, shdlc_put, shdlc_put_all, with_shdlc_controller, shdlc_becomes, ShdlcTurn, shdlc_turn, shdlc_turned}
 use Rattle.session_laws.specs.Losses.{is_act, sans}
-use Rattle.session_laws.specs.Sessions.Turn.{Offer, SetReady}
+use Rattle.session_laws.specs.Sessions.ShdlcTurn.{Offer, SetReady}
 use Rattle.session_laws.proofs.Wire.{IsData, rsets, uas, behind_ua, live, behind_push, behind_push_none, behind_rsets, data_not_ua}
 use Rattle.session_laws.proofs.Hand.{peer_of, none_out, hand_send, hand_timer}
 use Rattle.session_laws.proofs.Data.{Pair, pair_same, pair_put, Plain, pushed, pair_send, pair_send_S, IsAnswer}
 use Rattle.session_laws.proofs.Safe.{Safe, safe_swap, pair_from, safe_up, safe_idle, safe_lose}
 
-abbrev pub SafeAt : ℕ → ℕ → Link → EndState → Type 0
+abbrev pub SafeAt : ℕ → ℕ → ShdlcLink → EndState → Type 0
 SafeAt kn kf l q = Safe kn kf (record l.controller { side = q }) l.host (sans l.to_controller) (sans l.to_host) l.resets
 
-abbrev pub SafeLink : ℕ → ℕ → Link → Type 0
+abbrev pub SafeLink : ℕ → ℕ → ShdlcLink → Type 0
 SafeLink kn kf l = Safe kn kf l.controller l.host (sans l.to_controller) (sans l.to_host) l.resets
 
 -- ## Sending
@@ -47,7 +47,7 @@ sans-push_act (y ∷ w) x q = go (is_act y.frame) refl (sans-push_act w x q)
     go false p more = rw p (ap (λ v. y ∷ v) more)
 
 -- a wire that is full loses its first frame
-pub fits_keeps : (kf : ℕ) (n f : Half) (to_n w : List OnWire) (r : ℕ) → Safe 0 kf n f to_n (sans w) r → Safe 0 kf n f to_n (sans (fits w)) r
+pub fits_keeps : (kf : ℕ) (n f : NumberedShdlc) (to_n w : List OnWire) (r : ℕ) → Safe 0 kf n f to_n (sans w) r → Safe 0 kf n f to_n (sans (fits w)) r
 fits_keeps kf n f to_n w r h = go (nat_lt 64 (length w)) w h
   where
     first : (x : OnWire) (xs : List OnWire) (b : Bool) → is_act x.frame ≡ b → Safe 0 kf n f to_n (sans (x ∷ xs)) r → Safe 0 kf n f to_n (sans xs) r
@@ -62,7 +62,7 @@ fits_keeps kf n f to_n w r h = go (nat_lt 64 (length w)) w h
     go true (x ∷ xs) g = first x xs (is_act x.frame) refl g
 
 -- one frame more
-pub safe_fits : (kf : ℕ) (n f : Half) (to_n w : List OnWire) (x : OnWire) (r : ℕ) → is_act x.frame ≡ false → Safe 0 kf n f to_n (sans w ++ x ∷ []) r
+pub safe_fits : (kf : ℕ) (n f : NumberedShdlc) (to_n w : List OnWire) (x : OnWire) (r : ℕ) → is_act x.frame ≡ false → Safe 0 kf n f to_n (sans w ++ x ∷ []) r
     → Safe 0 kf n f to_n (sans (fits (w ++ x ∷ []))) r
 safe_fits kf n f to_n w x r q h =
     fits_keeps kf n f to_n (w ++ x ∷ []) r (let P : List OnWire → Type 0 = λ v. Safe 0 kf n f to_n v r in subst P (sym (sans-push w x q)) h)
@@ -85,7 +85,7 @@ plain_live Waiting w e = go (behind_ua w) refl
     go None q = rw q tt
     go (Some ys) q = rw q (sym (behind_rsets w ys q).0 ∙ e)
 
-pub no_rset_out : (k : ℕ) (n f : Half) (to_n to_f : List OnWire) (r kf : ℕ) → n.side.phase ≡ Up → Safe k kf n f to_n to_f r
+pub no_rset_out : (k : ℕ) (n f : NumberedShdlc) (to_n to_f : List OnWire) (r kf : ℕ) → n.side.phase ≡ Up → Safe k kf n f to_n to_f r
     → (rsets to_f ≡ []) × (uas to_n ≡ [])
 no_rset_out k n f to_n to_f r kf up h = none_out k n.side.phase n.side.timer (rsets to_f) (uas to_n) (λ w. let e = sym up ∙ w in cc) h.hand.n_out
 
@@ -93,21 +93,21 @@ pub pair_part : (s t : Session) (here : List OnWire) (o p : Option (List OnWire)
 pair_part s t here o p e h = rw e h
 
 -- an answer of an end that is Up
-pub safe_answer : (kf : ℕ) (n f : Half) (k : Kind) (to_n to_f : List OnWire) (r : ℕ) → n.side.phase ≡ Up → Safe 0 kf n f to_n to_f r
+pub safe_answer : (kf : ℕ) (n f : NumberedShdlc) (k : Kind) (to_n to_f : List OnWire) (r : ℕ) → n.side.phase ≡ Up → Safe 0 kf n f to_n to_f r
     → Safe 0 kf n f to_n (to_f ++ record { frame = S k (expected n.side.session); age = 0; number = 0 } ∷ []) r
 safe_answer kf n f k to_n to_f r up h =
     let x : OnWire = record { frame = S k (expected n.side.session); age = 0; number = 0 } in
     let none = (no_rset_out 0 n f to_n to_f r kf up h).0 in
     safe_up 0 0 kf n f n.side to_n to_f to_n (to_f ++ x ∷ []) r up up h.n_due refl refl
     (hand_send 0 kf (peer_of n) (peer_of f) x to_n to_f r up tt refl h.hand)
-    (pair_part n.side.session (session_of f (number_of n)) to_n (pushed (live f.side.phase to_f) x) (live f.side.phase (to_f ++ x ∷ []))
+    (pair_part n.side.session (shdlc_session_of f (shdlc_number_of n)) to_n (pushed (live f.side.phase to_f) x) (live f.side.phase (to_f ++ x ∷ []))
     (live-push f.side.phase to_f x tt)
-    (pair_send_S n.side.session (session_of f (number_of n)) x k to_n (live f.side.phase to_f) refl (plain_live f.side.phase to_f none)
+    (pair_send_S n.side.session (shdlc_session_of f (shdlc_number_of n)) x k to_n (live f.side.phase to_f) refl (plain_live f.side.phase to_f none)
     (pair_from 0 kf n f to_n to_f r up h)))
     h
 
 -- a fragment of an end that is Up
-pub safe_fragment : (kf : ℕ) (n f : Half) (info : Fragment) (to_n to_f : List OnWire) (r : ℕ) → n.side.phase ≡ Up → fragment_due n.side.session ≡ Some info
+pub safe_fragment : (kf : ℕ) (n f : NumberedShdlc) (info : Fragment) (to_n to_f : List OnWire) (r : ℕ) → n.side.phase ≡ Up → fragment_due n.side.session ≡ Some info
     → Safe 0 kf n f to_n to_f r
     → Safe 0 kf (record n { side = record n.side { session = sent_next n.side.session } }) f to_n
     (to_f ++ record { frame = I (n.side.session.next % 8) (expected n.side.session) info; age = 0; number = 0 } ∷ []) r
@@ -118,26 +118,26 @@ safe_fragment kf n f info to_n to_f r up is h =
     let tells = fragment_due_tells s info is in
     safe_up 0 0 kf n f (record n.side { session = sent_next s }) to_n to_f to_n (to_f ++ x ∷ []) r up up h.n_due refl refl
     (hand_send 0 kf (peer_of n) (peer_of f) x to_n to_f r up tt refl h.hand)
-    (pair_part (sent_next s) (session_of f (number_of n)) to_n (pushed (live f.side.phase to_f) x) (live f.side.phase (to_f ++ x ∷ []))
+    (pair_part (sent_next s) (shdlc_session_of f (shdlc_number_of n)) to_n (pushed (live f.side.phase to_f) x) (live f.side.phase (to_f ++ x ∷ []))
     (live-push f.side.phase to_f x tt)
-    (pair_send s (session_of f (number_of n)) x info to_n (live f.side.phase to_f) tells.0 tells.1 refl (plain_live f.side.phase to_f none)
+    (pair_send s (shdlc_session_of f (shdlc_number_of n)) x info to_n (live f.side.phase to_f) tells.0 tells.1 refl (plain_live f.side.phase to_f none)
     (pair_from 0 kf n f to_n to_f r up h)))
     h
 
 -- what each frame that is due keeps, as the end sends it, all of them keep
-pub sends_keeps : (P : EndState → Link → Type 0)
-    → ((e : EndState) (l : Link) (c : Control) → frame_due e ≡ Some c → P e l → P (fetched e) (put l c))
-    → (n : ℕ) (e : EndState) (l : Link) → P e l → P (after_frames n e) (put_all l (frames_of n e))
+pub sends_keeps : (P : EndState → ShdlcLink → Type 0)
+    → ((e : EndState) (l : ShdlcLink) (c : Control) → frame_due e ≡ Some c → P e l → P (fetched e) (shdlc_put l c))
+    → (n : ℕ) (e : EndState) (l : ShdlcLink) → P e l → P (after_frames n e) (shdlc_put_all l (frames_of n e))
 sends_keeps P each zero e l h = h
 sends_keeps P each (suc n) e l h = go (frame_due e) refl (sends_keeps P each n (fetched e))
   where
     go : (o : Option Control) → frame_due e ≡ o
-        → ((m : Link) → P (fetched e) m → P (after_frames n (fetched e)) (put_all m (frames_of n (fetched e))))
-        → P (after_frames (suc n) e) (put_all l (frames_of (suc n) e))
+        → ((m : ShdlcLink) → P (fetched e) m → P (after_frames n (fetched e)) (shdlc_put_all m (frames_of n (fetched e))))
+        → P (after_frames (suc n) e) (shdlc_put_all l (frames_of (suc n) e))
     go None q later = rw q (rw (fetched_idle e q, after_frames_idle n e q) h)
-    go (Some c) q later = rw q (later (put l c) (each e l c q h))
+    go (Some c) q later = rw q (later (shdlc_put l c) (each e l c q h))
 
-pub safe_drains : (kf m : ℕ) (q : EndState) (l : Link) → SafeAt 0 kf l q → SafeLink 0 kf (with_controller (put_all l (frames_of m q)) (after_frames m q))
+pub safe_drains : (kf m : ℕ) (q : EndState) (l : ShdlcLink) → SafeAt 0 kf l q → SafeLink 0 kf (with_shdlc_controller (shdlc_put_all l (frames_of m q)) (after_frames m q))
 safe_drains kf m q l h = sends_keeps (λ e v. SafeAt 0 kf v e) each m q l h
   where
     is_up : (e : EndState) (info : Fragment) → ((e.phase ≡ Up → ⊥) → e.session ≡ no_session) → fragment_due e.session ≡ Some info → e.phase ≡ Up
@@ -151,25 +151,25 @@ safe_drains kf m q l h = sends_keeps (λ e v. SafeAt 0 kf v e) each m q l h
         go Waiting p = absurd (absent (λ u. let g = sym p ∙ u in cc))
         go Down p = absurd (absent (λ u. let g = sym p ∙ u in cc))
 
-    each : (e : EndState) (v : Link) (c : Control) → frame_due e ≡ Some c → SafeAt 0 kf v e → SafeAt 0 kf (put v c) (fetched e)
+    each : (e : EndState) (v : ShdlcLink) (c : Control) → frame_due e ≡ Some c → SafeAt 0 kf v e → SafeAt 0 kf (shdlc_put v c) (fetched e)
     each e v c is g =
-        fetch_cases (λ f o. o ≡ Some c → SafeAt 0 kf (put v c) f) e
+        fetch_cases (λ f o. o ≡ Some c → SafeAt 0 kf (shdlc_put v c) f) e
         (λ d ds p n. absurd (let z = sym p ∙ g.n_due in cc))
         (λ p q n. cc)
         (λ info p q n.
         let frame : Control = I (e.session.next % 8) (expected e.session) info in
         let same : frame ≡ c = cc in
-        let a : SafeAt 0 kf (put v frame) (record e { session = sent_next e.session }) =
+        let a : SafeAt 0 kf (shdlc_put v frame) (record e { session = sent_next e.session }) =
         safe_fits kf (record v.controller { side = record e { session = sent_next e.session } }) v.host (sans v.to_controller)
         v.to_host (record { frame = frame; age = 0; number = 0 }) v.resets refl
         (safe_fragment kf (record v.controller { side = e }) v.host info (sans v.to_controller) (sans v.to_host) v.resets (is_up e info g.n_none q) q g) in
-        let P : Control → Type 0 = λ k. SafeAt 0 kf (put v k) (record e { session = sent_next e.session }) in
+        let P : Control → Type 0 = λ k. SafeAt 0 kf (shdlc_put v k) (record e { session = sent_next e.session }) in
         subst P same a)
         is
 
-pub up_step : (kn kf : ℕ) (l : Link) (q : EndState) → l.controller.side.phase ≡ Up → q.phase ≡ Up → q.due ≡ [] → q.own_window ≡ l.controller.side.own_window
+pub up_step : (kn kf : ℕ) (l : ShdlcLink) (q : EndState) → l.controller.side.phase ≡ Up → q.phase ≡ Up → q.due ≡ [] → q.own_window ≡ l.controller.side.own_window
     → q.peer_window ≡ l.controller.side.peer_window
-    → Pair q.session (session_of l.host (number_of l.controller)) (sans l.to_controller) (live l.host.side.phase (sans l.to_host))
+    → Pair q.session (shdlc_session_of l.host (shdlc_number_of l.controller)) (sans l.to_controller) (live l.host.side.phase (sans l.to_host))
     → SafeLink kn kf l → SafeAt 0 kf l q
 up_step kn kf l q up qup due own peer pair h =
     safe_up kn 0 kf l.controller l.host q (sans l.to_controller) (sans l.to_host) (sans l.to_controller) (sans l.to_host) l.resets up qup due own peer
@@ -178,8 +178,8 @@ up_step kn kf l q up qup due own peer pair h =
     (λ w. absurd (let e = sym up ∙ w in let f : Up ≡ Waiting = e in cc)) h.hand)
     pair h
 
-pub pair_now : (kn kf : ℕ) (l : Link) → l.controller.side.phase ≡ Up → SafeLink kn kf l
-    → Pair l.controller.side.session (session_of l.host (number_of l.controller)) (sans l.to_controller) (live l.host.side.phase (sans l.to_host))
+pub pair_now : (kn kf : ℕ) (l : ShdlcLink) → l.controller.side.phase ≡ Up → SafeLink kn kf l
+    → Pair l.controller.side.session (shdlc_session_of l.host (shdlc_number_of l.controller)) (sans l.to_controller) (live l.host.side.phase (sans l.to_host))
 pair_now kn kf l up h = pair_from kn kf l.controller l.host (sans l.to_controller) (sans l.to_host) l.resets up h
 
 -- it becomes ready or not ready
@@ -208,7 +208,7 @@ phase_known Waiting = inl (λ e. cc)
 phase_known Down = inl (λ e. cc)
 
 -- an answer goes out
-pub put_answer : (kf : ℕ) (l : Link) (e : EndState) (k : Kind) → e.phase ≡ Up → SafeAt 0 kf l e → SafeAt 0 kf (put l (S k (expected e.session))) e
+pub put_answer : (kf : ℕ) (l : ShdlcLink) (e : EndState) (k : Kind) → e.phase ≡ Up → SafeAt 0 kf l e → SafeAt 0 kf (shdlc_put l (S k (expected e.session))) e
 put_answer kf l e k up h =
     safe_fits kf (record l.controller { side = e }) l.host (sans l.to_controller) l.to_host
     (record { frame = S k (expected e.session); age = 0; number = 0 }) l.resets refl
@@ -224,8 +224,8 @@ abbrev pub room : EndState → ℕ
 room e = length e.due + cond e.session.answered_rnr 1 0
 
 -- the end has become e: with its control frames on the wire the link is as it should be
-pub record Pending (kf : ℕ) (l : Link) (e : EndState) : Type 0 where
-  pub safe : SafeAt 0 kf (put_all l (controls e)) (record e { due = [] })
+pub record Pending (kf : ℕ) (l : ShdlcLink) (e : EndState) : Type 0 where
+  pub safe : SafeAt 0 kf (shdlc_put_all l (controls e)) (record e { due = [] })
   pub few : room e ≤ 2
 
 pub controls_same : (e f : EndState) (ds : List Due) → f.session.acc ≡ e.session.acc → f.own_window ≡ e.own_window → map (control_due f) ds
@@ -240,18 +240,18 @@ controls_same e f (d ∷ ds) a w = let more = controls_same e f ds a w in let on
     go Rset_due = rw w refl
     go Ua_due = refl
 
-pub put_all-append : (l : Link) (cs ds : List Control) → put_all l (cs ++ ds) ≡ put_all (put_all l cs) ds
+pub put_all-append : (l : ShdlcLink) (cs ds : List Control) → shdlc_put_all l (cs ++ ds) ≡ shdlc_put_all (shdlc_put_all l cs) ds
 put_all-append l [] ds = refl
-put_all-append l (c ∷ cs) ds = put_all-append (put l c) cs ds
+put_all-append l (c ∷ cs) ds = put_all-append (shdlc_put l c) cs ds
 
-pub offer_at : (kf : ℕ) (l : Link) (fragments : List Fragment) → l.controller.side.phase ≡ Up → SafeLink 0 kf l
+pub offer_at : (kf : ℕ) (l : ShdlcLink) (fragments : List Fragment) → l.controller.side.phase ≡ Up → SafeLink 0 kf l
     → SafeAt 0 kf l (put_out l.controller.side fragments)
 offer_at kf l fragments q h =
     up_step 0 kf l (put_out l.controller.side fragments) q q h.n_due refl refl
-    (pair_put l.controller.side.session (session_of l.host (number_of l.controller)) fragments (sans l.to_controller)
+    (pair_put l.controller.side.session (shdlc_session_of l.host (shdlc_number_of l.controller)) fragments (sans l.to_controller)
     (live l.host.side.phase (sans l.to_host)) (pair_now 0 kf l q h)) h
 
-pub ready_at : (kf : ℕ) (l : Link) (r : Bool) → SafeLink 0 kf l → SafeAt 0 kf l (changed l.controller.side r l.controller.side.due)
+pub ready_at : (kf : ℕ) (l : ShdlcLink) (r : Bool) → SafeLink 0 kf l → SafeAt 0 kf l (changed l.controller.side r l.controller.side.due)
 ready_at kf l r h = other (phase_known e.phase)
   where
     e : EndState
@@ -260,7 +260,7 @@ ready_at kf l r h = other (phase_known e.phase)
     other : (e.phase ≡ Up → ⊥) ⊎ (e.phase ≡ Up) → SafeAt 0 kf l (changed e r e.due)
     other (inr up) =
         up_step 0 kf l (changed e r e.due) up up h.n_due refl refl
-        (pair_same e.session (changed e r e.due).session (session_of l.host (number_of l.controller)) (sans l.to_controller)
+        (pair_same e.session (changed e r e.due).session (shdlc_session_of l.host (shdlc_number_of l.controller)) (sans l.to_controller)
         (live l.host.side.phase (sans l.to_host))
         refl refl refl refl refl refl (pair_now 0 kf l up h)) h
     other (inl no_up) =
@@ -268,26 +268,26 @@ ready_at kf l r h = other (phase_known e.phase)
         h.n_due refl refl
         (ap (λ (s : Session). record s { answered_rnr = false }) (h.n_none no_up)) refl h.hand h
 
-pub turn_pending : (kf : ℕ) (l : Link) (e : EndState) (t : Turn) → Pending kf l e → Pending kf l (turn e t)
+pub turn_pending : (kf : ℕ) (l : ShdlcLink) (e : EndState) (t : ShdlcTurn) → Pending kf l e → Pending kf l (shdlc_turn e t)
 turn_pending kf l e (Offer fragments) h = go e.phase refl
   where
-    other : turn e (Offer fragments) ≡ e → Pending kf l (turn e (Offer fragments))
+    other : shdlc_turn e (Offer fragments) ≡ e → Pending kf l (shdlc_turn e (Offer fragments))
     other q = let P : EndState → Type 0 = λ f. Pending kf l f in subst P (sym q) h
 
-    up_is : e.phase ≡ Up → turn e (Offer fragments) ≡ put_out e fragments
+    up_is : e.phase ≡ Up → shdlc_turn e (Offer fragments) ≡ put_out e fragments
     up_is p = rw p refl
 
     up : e.phase ≡ Up → Pending kf l (put_out e fragments)
     up p =
-        let m : Link = with_controller (put_all l (controls e)) (record e { due = [] }) in
+        let m : ShdlcLink = with_shdlc_controller (shdlc_put_all l (controls e)) (record e { due = [] }) in
         let s : SafeAt 0 kf m (put_out m.controller.side fragments) = offer_at kf m fragments p h.safe in
         record {
-          safe = let P : List Control → Type 0 = λ cs. SafeAt 0 kf (put_all l cs) (record (put_out e fragments) { due = [] }) in
+          safe = let P : List Control → Type 0 = λ cs. SafeAt 0 kf (shdlc_put_all l cs) (record (put_out e fragments) { due = [] }) in
               subst P (sym (controls_same e (put_out e fragments) e.due refl refl)) s;
           few = h.few;
         }
 
-    go : (p : LinkState) → e.phase ≡ p → Pending kf l (turn e (Offer fragments))
+    go : (p : LinkState) → e.phase ≡ p → Pending kf l (shdlc_turn e (Offer fragments))
     go Up p = let P : EndState → Type 0 = λ f. Pending kf l f in subst P (sym (up_is p)) (up p)
     go Waiting p = other (rw p refl)
     go Down p = other (rw p refl)
@@ -300,29 +300,29 @@ turn_pending kf l e (SetReady r) h =
           omega arith;
     })
   where
-    m : Link
-    m = with_controller (put_all l (controls e)) (record e { due = [] })
+    m : ShdlcLink
+    m = with_shdlc_controller (shdlc_put_all l (controls e)) (record e { due = [] })
 
     s : SafeAt 0 kf m (changed (record e { due = [] }) r [])
     s = ready_at kf m r h.safe
 
     as_changed : (ds : List Due) → map (control_due (changed e r ds)) e.due ≡ controls e
-        → SafeAt 0 kf (put_all l (map (control_due (changed e r ds)) e.due)) (changed e r [])
-    as_changed ds q = let P : List Control → Type 0 = λ cs. SafeAt 0 kf (put_all l cs) (changed e r []) in subst P (sym q) s
+        → SafeAt 0 kf (shdlc_put_all l (map (control_due (changed e r ds)) e.due)) (changed e r [])
+    as_changed ds q = let P : List Control → Type 0 = λ cs. SafeAt 0 kf (shdlc_put_all l cs) (changed e r []) in subst P (sym q) s
 
-    answered : e.phase ≡ Up → SafeAt 0 kf (put_all l (controls (changed e r (e.due ++ Rr_due ∷ [])))) (changed e r [])
+    answered : e.phase ≡ Up → SafeAt 0 kf (shdlc_put_all l (controls (changed e r (e.due ++ Rr_due ∷ [])))) (changed e r [])
     answered up =
         let f : EndState = changed e r (e.due ++ Rr_due ∷ []) in
-        let a : SafeAt 0 kf (put (put_all l (controls e)) (S Rr (expected e.session))) (changed e r []) = put_answer kf (put_all l (controls e))
+        let a : SafeAt 0 kf (shdlc_put (shdlc_put_all l (controls e)) (S Rr (expected e.session))) (changed e r []) = put_answer kf (shdlc_put_all l (controls e))
         (changed e r []) Rr up s in
         let q : controls f ≡ controls e ++ S Rr (expected e.session) ∷ [] =
         map-append (control_due f) e.due (Rr_due ∷ []) ∙ ap (λ cs. cs ++ S Rr (expected e.session) ∷ []) (controls_same e f e.due refl refl) in
-        let P : Link → Type 0 = λ k. SafeAt 0 kf k (changed e r []) in
-        subst P (sym (ap (put_all l) q ∙ put_all-append l (controls e) (S Rr (expected e.session) ∷ []))) a
+        let P : ShdlcLink → Type 0 = λ k. SafeAt 0 kf k (changed e r []) in
+        subst P (sym (ap (shdlc_put_all l) q ∙ put_all-append l (controls e) (S Rr (expected e.session) ∷ []))) a
 
-pub turned_pending : (kf : ℕ) (ts : List Turn) (l : Link) (e : EndState) → Pending kf l e → Pending kf l (turned e ts)
+pub turned_pending : (kf : ℕ) (ts : List ShdlcTurn) (l : ShdlcLink) (e : EndState) → Pending kf l e → Pending kf l (shdlc_turned e ts)
 turned_pending kf [] l e h = h
-turned_pending kf (t ∷ ts) l e h = turned_pending kf ts l (turn e t) (turn_pending kf l e t h)
+turned_pending kf (t ∷ ts) l e h = turned_pending kf ts l (shdlc_turn e t) (turn_pending kf l e t h)
 
 -- the control frames go first
 pub frames_in_order : (ds : List Due) (n : ℕ) (e : EndState) → e.due ≡ ds → length ds ≤ n
@@ -335,43 +335,43 @@ frames_in_order (d ∷ ds) (suc n) e q i =
     let next : fetched e ≡ record e { due = ds } = rw q refl in
     (more.0, rw (frame, next) (ap (λ cs. control_due e d ∷ cs) more.1), rw next more.2)
 
-pub pending_goes : (kf : ℕ) (l : Link) (e : EndState) → Pending kf l e → SafeLink 0 kf (becomes l e)
+pub pending_goes : (kf : ℕ) (l : ShdlcLink) (e : EndState) → Pending kf l e → SafeLink 0 kf (shdlc_becomes l e)
 pending_goes kf l e h =
     let f = frames_in_order e.due 12 e refl (omega (arith, h.few)) in
-    let s = safe_drains kf f.0 (record e { due = [] }) (put_all l (controls e)) h.safe in
-    let q : put_all l (frames_of 12 e) ≡ put_all (put_all l (controls e)) (frames_of f.0 (record e { due = [] })) =
-    ap (put_all l) f.1 ∙ put_all-append l (controls e) (frames_of f.0 (record e { due = [] })) in
-    let P : Link → EndState → Type 0 = λ k g. SafeLink 0 kf (with_controller k g) in
-    subst (λ k. P k (after_frames 12 e)) (sym q) (subst (P (put_all (put_all l (controls e)) (frames_of f.0 (record e { due = [] })))) (sym f.2) s)
+    let s = safe_drains kf f.0 (record e { due = [] }) (shdlc_put_all l (controls e)) h.safe in
+    let q : shdlc_put_all l (frames_of 12 e) ≡ shdlc_put_all (shdlc_put_all l (controls e)) (frames_of f.0 (record e { due = [] })) =
+    ap (shdlc_put_all l) f.1 ∙ put_all-append l (controls e) (frames_of f.0 (record e { due = [] })) in
+    let P : ShdlcLink → EndState → Type 0 = λ k g. SafeLink 0 kf (with_shdlc_controller k g) in
+    subst (λ k. P k (after_frames 12 e)) (sym q) (subst (P (shdlc_put_all (shdlc_put_all l (controls e)) (frames_of f.0 (record e { due = [] })))) (sym f.2) s)
 
 pub at_most_one : (b : Bool) → cond b 1 0 ≤ 1
 at_most_one true = omega arith
 at_most_one false = omega arith
 
 -- an end with nothing to answer
-pub becomes_none : (kf : ℕ) (ts : List Turn) (l : Link) (e : EndState) → SafeAt 0 kf l e → SafeLink 0 kf (becomes l (turned e ts))
+pub becomes_none : (kf : ℕ) (ts : List ShdlcTurn) (l : ShdlcLink) (e : EndState) → SafeAt 0 kf l e → SafeLink 0 kf (shdlc_becomes l (shdlc_turned e ts))
 becomes_none kf ts l e h =
-    pending_goes kf l (turned e ts)
+    pending_goes kf l (shdlc_turned e ts)
     (turned_pending kf ts l e
     (record {
-      safe = let due : e.due ≡ [] = h.n_due in let P : List Due → Type 0 = λ ds. SafeAt 0 kf (put_all l (map (control_due e) ds)) (record e { due = [] }) in
+      safe = let due : e.due ≡ [] = h.n_due in let P : List Due → Type 0 = λ ds. SafeAt 0 kf (shdlc_put_all l (map (control_due e) ds)) (record e { due = [] }) in
           let Q : List Due → Type 0 = λ ds. SafeAt 0 kf l (record e { due = ds }) in subst P (sym due) (subst Q due h);
       few = let due : length e.due ≡ 0 = ap (length {A = Due}) h.n_due in omega (arith, due, at_most_one e.session.answered_rnr);
     }))
 
 -- an end with one control frame to send, which goes first
-pub becomes_one : (kf : ℕ) (ts : List Turn) (l : Link) (e : EndState) (d : Due) → e.due ≡ d ∷ [] → SafeAt 0 kf (put l (control_due e d)) (record e { due = [] })
-    → SafeLink 0 kf (becomes l (turned e ts))
+pub becomes_one : (kf : ℕ) (ts : List ShdlcTurn) (l : ShdlcLink) (e : EndState) (d : Due) → e.due ≡ d ∷ [] → SafeAt 0 kf (shdlc_put l (control_due e d)) (record e { due = [] })
+    → SafeLink 0 kf (shdlc_becomes l (shdlc_turned e ts))
 becomes_one kf ts l e d is h =
-    pending_goes kf l (turned e ts)
+    pending_goes kf l (shdlc_turned e ts)
     (turned_pending kf ts l e
     (record {
-      safe = let P : List Due → Type 0 = λ ds. SafeAt 0 kf (put_all l (map (control_due e) ds)) (record e { due = [] }) in subst P (sym is) h;
+      safe = let P : List Due → Type 0 = λ ds. SafeAt 0 kf (shdlc_put_all l (map (control_due e) ds)) (record e { due = [] }) in subst P (sym is) h;
       few = let due : length e.due ≡ 1 = ap (length {A = Due}) is in omega (arith, due, at_most_one e.session.answered_rnr);
     }))
 
-pub becomes_answer : (kf : ℕ) (ts : List Turn) (l : Link) (e : EndState) (d : Due) → IsAnswer d
-    → e.due ≡ d ∷ [] → e.phase ≡ Up → SafeAt 0 kf l (record e { due = [] }) → SafeLink 0 kf (becomes l (turned e ts))
+pub becomes_answer : (kf : ℕ) (ts : List ShdlcTurn) (l : ShdlcLink) (e : EndState) (d : Due) → IsAnswer d
+    → e.due ≡ d ∷ [] → e.phase ≡ Up → SafeAt 0 kf l (record e { due = [] }) → SafeLink 0 kf (shdlc_becomes l (shdlc_turned e ts))
 becomes_answer kf ts l e Rr_due a is up h = becomes_one kf ts l e Rr_due is (put_answer kf l (record e { due = [] }) Rr up h)
 becomes_answer kf ts l e Rej_due a is up h = becomes_one kf ts l e Rej_due is (put_answer kf l (record e { due = [] }) Rej up h)
 becomes_answer kf ts l e Rnr_due a is up h = becomes_one kf ts l e Rnr_due is (put_answer kf l (record e { due = [] }) Rnr up h)
@@ -379,8 +379,8 @@ becomes_answer kf ts l e Rset_due a is up h = absurd a
 becomes_answer kf ts l e Ua_due a is up h = absurd a
 
 -- the end has become e, with an answer to send or none
-pub becomes_taken : (kf : ℕ) (ts : List Turn) (l : Link) (e : EndState) → e.phase ≡ Up → (e.due ≡ []) ⊎ ((d : Due) × IsAnswer d × (e.due ≡ d ∷ []))
-    → SafeAt 0 kf l (record e { due = [] }) → SafeLink 0 kf (becomes l (turned e ts))
+pub becomes_taken : (kf : ℕ) (ts : List ShdlcTurn) (l : ShdlcLink) (e : EndState) → e.phase ≡ Up → (e.due ≡ []) ⊎ ((d : Due) × IsAnswer d × (e.due ≡ d ∷ []))
+    → SafeAt 0 kf l (record e { due = [] }) → SafeLink 0 kf (shdlc_becomes l (shdlc_turned e ts))
 becomes_taken kf ts l e up (inl is) h = becomes_none kf ts l e (let P : List Due → Type 0 = λ d. SafeAt 0 kf l (record e { due = d }) in subst P (sym is) h)
 becomes_taken kf ts l e up (inr a) h = becomes_answer kf ts l e a.0 a.1 a.2 up h
 

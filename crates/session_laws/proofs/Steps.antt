@@ -9,13 +9,13 @@ use Rattle.shdlc_core.specs.declared.answers.LinkState.TheVariants.{Down, Waitin
 use Rattle.shdlc_core.specs.declared.answers.Due.{Due}
 use Rattle.shdlc_core.specs.declared.answers.Due.TheVariants.{Rset as Rset_due, Ua as Ua_due}
 use Rattle.shdlc_core.specs.Machine.{EndState, Session, begun, new_session, no_session, taken, take_answer, ticked, tick_answer, reset_with, stopped, new_end, waiting_from, runs_timer, sent_again, asked_again, given_up, up_with, is_waiting}
-use Rattle.link_laws.specs.Order.{InOrder}
-use Rattle.session_laws.specs.Sessions.{OnWire, Half, new_half, Link, bare, IsStart, exchanged, number_of, session_of, ended_session, is_rset, put, put_all, becomes, with_ended, Turn, turned, is_up, EndEvent, IsAllowed, silent, took_with, act_frame, happens_here, ticks_here, older, aged_wire, aged, LinkEvent, IsTurn, AreTurns, all_here, ticks_or_cut, ticks_if_waiting, AllAllowed, happens, after}
+use Rattle.link_laws.specs.Order.{FragmentsInOrder}
+use Rattle.session_laws.specs.Sessions.{OnWire, NumberedShdlc, new_numbered_shdlc, ShdlcLink, bare, IsShdlcStart, shdlc_exchanged, shdlc_number_of, shdlc_session_of, ended_session, is_rset, shdlc_put, shdlc_put_all, shdlc_becomes, with_shdlc_ended, ShdlcTurn, shdlc_turned, is_up, ShdlcEndEvent, IsShdlcAllowed, shdlc_silent, took_with, act_frame, shdlc_happens_at_controller, shdlc_ticks_at_controller, older, aged_wire, shdlc_aged, ShdlcLinkEvent, IsTurn, AreTurns, shdlc_all_at_controller, ticks_or_cut, ticks_if_waiting, AllShdlcAllowed, shdlc_happens, shdlc_after}
 use Rattle.session_laws.specs.Losses.{is_act, sans}
-use Rattle.session_laws.specs.Sessions.IsStart.{BothUp, BothDown}
+use Rattle.session_laws.specs.Sessions.IsShdlcStart.{BothUp, BothDown}
 use Rattle.swp_base.specs.declared.control_frames.Act.{Act as Activation}
-use Rattle.session_laws.specs.Sessions.EndEvent.{Turns, Deliver, Ignore, Acts, Lose, Reset, Cut, Stop}
-use Rattle.session_laws.specs.Sessions.LinkEvent.{AtController, AtHost, Tick, TickWithout}
+use Rattle.session_laws.specs.Sessions.ShdlcEndEvent.{Turns, Deliver, Ignore, Acts, Lose, Reset, Cut, Stop}
+use Rattle.session_laws.specs.Sessions.ShdlcLinkEvent.{AtController, AtHost, Tick, TickWithout}
 use Rattle.session_laws.proofs.Wire.{IsData, rsets, uas, behind_ua, live, Young, data_behind, young_later, young_older}
 use Rattle.session_laws.proofs.Hand.{peer_of, hand_empty, agrees_from, none_out, rset_tells, ahead_not_waiting, hand_past, hand_timer, nothing_out}
 use Rattle.session_laws.proofs.Data.{Base, Below, below_more, none_ended, bound, OnLive, Pair, pair_again, IsAnswer, taken_up}
@@ -25,9 +25,9 @@ use Rattle.session_laws.proofs.Sending.{SafeAt, SafeLink, sans-push_act, fits_ke
 -- ## It sends an RSET and waits
 
 -- the link after the RSET of an end that has become e
-put_rset : (kn kf : ℕ) (l : Link) (e : EndState) (past : List (ℕ × Session)) → rsets (sans l.to_host) ≡ [] → uas (sans l.to_controller) ≡ [] → HasWindows e
+put_rset : (kn kf : ℕ) (l : ShdlcLink) (e : EndState) (past : List (ℕ × Session)) → rsets (sans l.to_host) ≡ [] → uas (sans l.to_controller) ≡ [] → HasWindows e
     → Moves l.controller past → Below (l.resets + 1) past → SafeLink kn kf l
-    → SafeAt 0 kf (put (record l { controller = record l.controller { past = past } }) (Rset e.own_window 0)) (waiting_end e)
+    → SafeAt 0 kf (shdlc_put (record l { controller = record l.controller { past = past } }) (Rset e.own_window 0)) (waiting_end e)
 put_rset kn kf l e past none empty windows move below h =
     let x : OnWire = record { frame = Rset e.own_window 0; age = 0; number = l.resets + 1 } in
     safe_fits kf (record { side = waiting_end e; emitted = l.resets + 1; took = l.controller.took; past = past }) l.host (sans l.to_controller)
@@ -36,34 +36,34 @@ put_rset kn kf l e past none empty windows move below h =
     refl windows move below h)
 
 -- a session that goes on has a number below that of the next RSET
-ended_below : (kn kf : ℕ) (l : Link) → l.controller.side.phase ≡ Up → SafeLink kn kf l
-    → Below (l.resets + 1) ((number_of l.controller, l.controller.side.session) ∷ l.controller.past)
+ended_below : (kn kf : ℕ) (l : ShdlcLink) → l.controller.side.phase ≡ Up → SafeLink kn kf l
+    → Below (l.resets + 1) ((shdlc_number_of l.controller, l.controller.side.session) ∷ l.controller.past)
 ended_below kn kf l up h =
-    let a : Below (number_of l.controller) l.controller.past = rw up at h.n_past in
-    let low : number_of l.controller ≤ l.resets = omega (arith, h.hand.n_bound, h.hand.n_took, h.hand.f_bound) in
-    (omega arith, below_more (number_of l.controller) (l.resets + 1) l.controller.past (omega arith) a)
+    let a : Below (shdlc_number_of l.controller) l.controller.past = rw up at h.n_past in
+    let low : shdlc_number_of l.controller ≤ l.resets = omega (arith, h.hand.n_bound, h.hand.n_took, h.hand.f_bound) in
+    (omega arith, below_more (shdlc_number_of l.controller) (l.resets + 1) l.controller.past (omega arith) a)
 
-up_asks : (kn kf : ℕ) (ts : List Turn) (l : Link) (e : EndState)
+up_asks : (kn kf : ℕ) (ts : List ShdlcTurn) (l : ShdlcLink) (e : EndState)
     → l.controller.side.phase ≡ Up → e.phase ≡ Up → e.due ≡ [] → HasWindows (waiting_from e) → SafeLink kn kf l
-    → SafeLink 0 kf (becomes (with_ended l true) (turned (waiting_from e) ts))
+    → SafeLink 0 kf (shdlc_becomes (with_shdlc_ended l true) (shdlc_turned (waiting_from e) ts))
 up_asks kn kf ts l e up eup due windows h =
     let out = no_rset_out kn l.controller l.host (sans l.to_controller) (sans l.to_host) l.resets kf up h in
     let is : (waiting_from e).due ≡ Rset_due ∷ [] = rw eup refl in
-    becomes_one kf ts (with_ended l true) (waiting_from e) Rset_due is
-    (put_rset kn kf l (waiting_from e) ((number_of l.controller, l.controller.side.session) ∷ l.controller.past) out.0 out.1 windows
+    becomes_one kf ts (with_shdlc_ended l true) (waiting_from e) Rset_due is
+    (put_rset kn kf l (waiting_from e) ((shdlc_number_of l.controller, l.controller.side.session) ∷ l.controller.past) out.0 out.1 windows
     (moves_end l.controller up) (ended_below kn kf l up h) h)
 
-past_below : (l : Link) → l.controller.side.phase ≡ Waiting → (kn kf : ℕ) → SafeLink kn kf l → Below (l.resets + 1) l.controller.past
+past_below : (l : ShdlcLink) → l.controller.side.phase ≡ Waiting → (kn kf : ℕ) → SafeLink kn kf l → Below (l.resets + 1) l.controller.past
 past_below l waiting kn kf h =
     let a : Below l.controller.emitted l.controller.past = rw waiting at h.n_past in
     below_more l.controller.emitted (l.resets + 1) l.controller.past (omega (arith, h.hand.n_bound)) a
 
-past_below_down : (l : Link) → l.controller.side.phase ≡ Down → (kn kf : ℕ) → SafeLink kn kf l → Below (l.resets + 1) l.controller.past
+past_below_down : (l : ShdlcLink) → l.controller.side.phase ≡ Down → (kn kf : ℕ) → SafeLink kn kf l → Below (l.resets + 1) l.controller.past
 past_below_down l down kn kf h =
-    let a : Below (number_of l.controller + 1) l.controller.past = rw down at h.n_past in
-    below_more (number_of l.controller + 1) (l.resets + 1) l.controller.past (omega (arith, h.hand.n_bound, h.hand.n_took, h.hand.f_bound)) a
+    let a : Below (shdlc_number_of l.controller + 1) l.controller.past = rw down at h.n_past in
+    below_more (shdlc_number_of l.controller + 1) (l.resets + 1) l.controller.past (omega (arith, h.hand.n_bound, h.hand.n_took, h.hand.f_bound)) a
 
-resets : (kf : ℕ) (ts : List Turn) (l : Link) (w : ℕ) → (0 < w) × (w ≤ 4) → SafeLink 0 kf l → SafeLink 0 kf (happens_here l (Reset w ts))
+resets : (kf : ℕ) (ts : List ShdlcTurn) (l : ShdlcLink) (w : ℕ) → (0 < w) × (w ≤ 4) → SafeLink 0 kf l → SafeLink 0 kf (shdlc_happens_at_controller l (Reset w ts))
 resets kf ts l w ok h = go l.controller.side.phase refl
   where
     e : EndState
@@ -73,13 +73,13 @@ resets kf ts l w ok h = go l.controller.side.phase refl
     windows = record { own = ok; peer = (omega arith, omega arith) }
 
     by_parts : (b : Bool) (q : EndState) → is_up l.controller.side.phase ≡ b → reset_with l.controller.side w
-        ≡ q → SafeLink 0 kf (becomes (with_ended l b) (turned q ts))
-        → SafeLink 0 kf (happens_here l (Reset w ts))
+        ≡ q → SafeLink 0 kf (shdlc_becomes (with_shdlc_ended l b) (shdlc_turned q ts))
+        → SafeLink 0 kf (shdlc_happens_at_controller l (Reset w ts))
     by_parts b q up is a =
-        let P : Bool → EndState → Type 0 = λ c f. SafeLink 0 kf (becomes (with_ended l c) (turned f ts)) in
+        let P : Bool → EndState → Type 0 = λ c f. SafeLink 0 kf (shdlc_becomes (with_shdlc_ended l c) (shdlc_turned f ts)) in
         subst (λ c. P c (reset_with l.controller.side w)) (sym up) (subst (P b) (sym is) a)
 
-    go : (p : LinkState) → l.controller.side.phase ≡ p → SafeLink 0 kf (happens_here l (Reset w ts))
+    go : (p : LinkState) → l.controller.side.phase ≡ p → SafeLink 0 kf (shdlc_happens_at_controller l (Reset w ts))
     go Waiting q = by_parts false l.controller.side (rw q refl) (rw q refl) (becomes_none kf ts l l.controller.side h)
     go Up q = by_parts true (waiting_from e) (rw q refl) (rw q refl) (up_asks 0 kf ts l e q q h.n_due windows h)
     go Down q =
@@ -93,59 +93,59 @@ resets kf ts l w ok h = go l.controller.side.phase refl
 
 -- ## It is Down, and nothing stands on either wire
 
-silences : (kn kf : ℕ) (l : Link) (q : EndState) → q.phase ≡ Down → q.session ≡ no_session → q.due ≡ [] → HasWindows q → SafeLink kn kf l
-    → SafeLink 0 kf (silent l q)
+silences : (kn kf : ℕ) (l : ShdlcLink) (q : EndState) → q.phase ≡ Down → q.session ≡ no_session → q.due ≡ [] → HasWindows q → SafeLink kn kf l
+    → SafeLink 0 kf (shdlc_silent l q)
 silences kn kf l q down none due windows h = go l.controller.side.phase refl
   where
     is : record q { phase = Down; session = no_session } ≡ q
     is = rw (← down, ← none) refl
 
-    made : (past : List (ℕ × Session)) → Moves l.controller past → Below (number_of l.controller + 1) past
+    made : (past : List (ℕ × Session)) → Moves l.controller past → Below (shdlc_number_of l.controller + 1) past
         → Safe 0 kf (record { side = q; emitted = l.controller.emitted; took = l.controller.took; past = past }) l.host [] [] l.resets
     made past move below =
         let P : EndState → Type 0 = λ v. Safe 0 kf (record { side = v; emitted = l.controller.emitted; took = l.controller.took; past = past }) l.host
         [] [] l.resets in
         subst P is (safe_silent kn 0 kf l.controller l.host q past (sans l.to_controller) (sans l.to_host) l.resets due windows move below h)
 
-    go : (p : LinkState) → l.controller.side.phase ≡ p → SafeLink 0 kf (silent l q)
+    go : (p : LinkState) → l.controller.side.phase ≡ p → SafeLink 0 kf (shdlc_silent l q)
     go Up e =
-        let a : Below (number_of l.controller) l.controller.past = rw e at h.n_past in
-        let s = made ((number_of l.controller, l.controller.side.session) ∷ l.controller.past) (moves_end l.controller e)
-        (omega arith, below_more (number_of l.controller) (number_of l.controller + 1) l.controller.past (omega arith) a) in
+        let a : Below (shdlc_number_of l.controller) l.controller.past = rw e at h.n_past in
+        let s = made ((shdlc_number_of l.controller, l.controller.side.session) ∷ l.controller.past) (moves_end l.controller e)
+        (omega arith, below_more (shdlc_number_of l.controller) (shdlc_number_of l.controller + 1) l.controller.past (omega arith) a) in
         rw e s
     go Waiting e =
         let a : Below l.controller.emitted l.controller.past = rw e at h.n_past in
         let s = made l.controller.past (moves_none l.controller (λ u. let g = sym e ∙ u in cc))
-        (below_more l.controller.emitted (number_of l.controller + 1) l.controller.past (omega arith) a) in
+        (below_more l.controller.emitted (shdlc_number_of l.controller + 1) l.controller.past (omega arith) a) in
         rw e s
     go Down e =
-        let a : Below (number_of l.controller + 1) l.controller.past = rw e at h.n_past in
+        let a : Below (shdlc_number_of l.controller + 1) l.controller.past = rw e at h.n_past in
         let s = made l.controller.past (moves_none l.controller (λ u. let g = sym e ∙ u in cc)) a in
         rw e s
 
-cuts : (kn kf : ℕ) (l : Link) → SafeLink kn kf l → SafeLink 0 kf (silent l (new_end 4))
+cuts : (kn kf : ℕ) (l : ShdlcLink) → SafeLink kn kf l → SafeLink 0 kf (shdlc_silent l (new_end 4))
 cuts kn kf l h =
     silences kn kf l (new_end 4) refl refl refl (record { own = (omega arith, omega arith); peer = (omega arith, omega arith) }) h
 
-stops : (kn kf : ℕ) (l : Link) → SafeLink kn kf l → SafeLink 0 kf (silent l (stopped l.controller.side))
+stops : (kn kf : ℕ) (l : ShdlcLink) → SafeLink kn kf l → SafeLink 0 kf (shdlc_silent l (stopped l.controller.side))
 stops kn kf l h =
     silences kn kf l (stopped l.controller.side) refl refl refl (record { own = h.n_windows.own; peer = h.n_windows.peer }) h
 
 -- ## A tick of the controller's end
 
-ticks : (kf : ℕ) (ts : List Turn) (l : Link) → SafeLink 1 kf l → SafeLink 0 kf (ticks_here l ts)
+ticks : (kf : ℕ) (ts : List ShdlcTurn) (l : ShdlcLink) → SafeLink 1 kf l → SafeLink 0 kf (shdlc_ticks_at_controller l ts)
 ticks kf ts l h = go e.phase (runs_timer e.session) (nat_lt (e.timer + 1) 10) (nat_lt e.tries 5) refl refl refl refl
   where
     e : EndState
     e = l.controller.side
 
     -- what happens where no session ends
-    plain : (q : EndState) → ticked e ≡ q → is_some (tick_answer e).ended ≡ false → SafeLink 0 kf (becomes l (turned q ts)) → SafeLink 0 kf (ticks_here l ts)
+    plain : (q : EndState) → ticked e ≡ q → is_some (tick_answer e).ended ≡ false → SafeLink 0 kf (shdlc_becomes l (shdlc_turned q ts)) → SafeLink 0 kf (shdlc_ticks_at_controller l ts)
     plain q a b s = rw (b, a) s
 
     up : (q : EndState) → e.phase ≡ Up → q.phase ≡ Up → q.due ≡ e.due → q.own_window ≡ e.own_window → q.peer_window ≡ e.peer_window
-        → Pair q.session (session_of l.host (number_of l.controller)) (sans l.to_controller) (live l.host.side.phase (sans l.to_host))
-        → SafeLink 0 kf (becomes l (turned q ts))
+        → Pair q.session (shdlc_session_of l.host (shdlc_number_of l.controller)) (sans l.to_controller) (live l.host.side.phase (sans l.to_host))
+        → SafeLink 0 kf (shdlc_becomes l (shdlc_turned q ts))
     up q p qup due own peer pair = becomes_none kf ts l q (up_step 1 kf l q p qup (due ∙ h.n_due) own peer pair h)
 
     late : nat_lt (e.timer + 1) 10 ≡ false → (rsets (sans l.to_host) ≡ []) × (uas (sans l.to_controller) ≡ [])
@@ -154,7 +154,7 @@ ticks kf ts l h = go e.phase (runs_timer e.session) (nat_lt (e.timer + 1) 10) (n
         (let g = ltb-false (e.timer + 1) 10 r in omega arith) h.hand
 
     go : (p : LinkState) (a b c : Bool) → e.phase ≡ p → runs_timer e.session ≡ a → nat_lt (e.timer + 1) 10 ≡ b → nat_lt e.tries 5
-        ≡ c → SafeLink 0 kf (ticks_here l ts)
+        ≡ c → SafeLink 0 kf (shdlc_ticks_at_controller l ts)
     go Down a b c p q r t =
         plain e (rw p refl) (rw p refl)
         (becomes_none kf ts l e (safe_idle 1 0 kf l.controller l.host e (sans l.to_controller) (sans l.to_host) (sans l.to_controller) l.resets
@@ -169,7 +169,7 @@ ticks kf ts l h = go e.phase (runs_timer e.session) (nat_lt (e.timer + 1) 10) (n
     go Up true false true p q r t =
         plain (sent_again e) (rw (p, q, r, t) refl) (rw (p, q, r, t) refl)
         (up (sent_again e) p p refl refl refl
-        (pair_again e.session (sent_again e).session (session_of l.host (number_of l.controller)) (sans l.to_controller)
+        (pair_again e.session (sent_again e).session (shdlc_session_of l.host (shdlc_number_of l.controller)) (sans l.to_controller)
         (live l.host.side.phase (sans l.to_host))
         refl refl refl refl refl refl (pair_now 1 kf l p h)))
     go Up true false false p q r t =
@@ -191,12 +191,12 @@ ticks kf ts l h = go e.phase (runs_timer e.session) (nat_lt (e.timer + 1) 10) (n
         let none : e.session ≡ no_session = h.n_none (λ u. let g = sym p ∙ u in cc) in
         let due : (asked_again e).due ≡ Rset_due ∷ [] = rw h.n_due refl in
         let same : waiting_end f ≡ record (asked_again e) { due = [] } = rw (← p, ← none) refl in
-        let s : SafeAt 0 kf (put l (Rset e.own_window 0)) (waiting_end f) =
+        let s : SafeAt 0 kf (shdlc_put l (Rset e.own_window 0)) (waiting_end f) =
         put_rset 1 kf l f l.controller.past out.0 out.1 (record { own = h.n_windows.own; peer = h.n_windows.peer })
         (moves_none l.controller (λ u. let g = sym p ∙ u in cc)) (past_below l p 1 kf h) h in
         plain (asked_again e) (rw (p, r, t) refl) (rw (p, r, t) refl)
         (becomes_one kf ts l (asked_again e) Rset_due due
-        (let P : EndState → Type 0 = λ v. SafeAt 0 kf (put l (Rset e.own_window 0)) v in subst P same s))
+        (let P : EndState → Type 0 = λ v. SafeAt 0 kf (shdlc_put l (Rset e.own_window 0)) v in subst P same s))
     go Waiting a false false p q r t =
         let out = late r in
         let f : EndState = record e { tries = 0 } in
@@ -212,7 +212,7 @@ ticks kf ts l h = go e.phase (runs_timer e.session) (nat_lt (e.timer + 1) 10) (n
 -- ## The controller's end takes a frame
 
 -- an RSET counts, whatever the end does with it
-took_rset : (l : Link) (x : OnWire) (w c m : ℕ) → x.frame ≡ Rset w c → x.number ≡ m → l.controller.took ≤ m → took_with l.controller.took x ≡ m
+took_rset : (l : ShdlcLink) (x : OnWire) (w c m : ℕ) → x.frame ≡ Rset w c → x.number ≡ m → l.controller.took ≤ m → took_with l.controller.took x ≡ m
 took_rset l x w c m e n i = rw (e, n) (let a : max l.controller.took m ≡ m = omega arith in a)
 
 pub took_other : (t : ℕ) (x : OnWire) → is_rset x.frame ≡ false → took_with t x ≡ t
@@ -247,27 +247,27 @@ passes e c d no_up = go e.phase refl c d
     go Down p (Rset _ _) d = absurd d
 
 -- the link after the controller's end took x
-abbrev pub took : Link → List Turn → OnWire → List OnWire → Link
+abbrev pub took : ShdlcLink → List ShdlcTurn → OnWire → List OnWire → ShdlcLink
 took l ts x xs =
-    let m : Link = with_ended (record l { to_controller = xs }) (is_some (take_answer l.controller.side x.frame).ended) in
-    becomes (record m { controller = record m.controller { took = took_with l.controller.took x } }) (turned (taken l.controller.side x.frame) ts)
+    let m : ShdlcLink = with_shdlc_ended (record l { to_controller = xs }) (is_some (take_answer l.controller.side x.frame).ended) in
+    shdlc_becomes (record m { controller = record m.controller { took = took_with l.controller.took x } }) (shdlc_turned (taken l.controller.side x.frame) ts)
 
 -- it, where these are what came of it
-took_is : (ts : List Turn) (l : Link) (x : OnWire) (xs : List OnWire) (ends : Bool) (number : ℕ) (q : EndState)
+took_is : (ts : List ShdlcTurn) (l : ShdlcLink) (x : OnWire) (xs : List OnWire) (ends : Bool) (number : ℕ) (q : EndState)
     → is_some (take_answer l.controller.side x.frame).ended ≡ ends → took_with l.controller.took x ≡ number → taken l.controller.side x.frame ≡ q
-    → SafeLink 0 0 (let m : Link = with_ended (record l { to_controller = xs }) ends in
-    becomes (record m { controller = record m.controller { took = number } }) (turned q ts))
+    → SafeLink 0 0 (let m : ShdlcLink = with_shdlc_ended (record l { to_controller = xs }) ends in
+    shdlc_becomes (record m { controller = record m.controller { took = number } }) (shdlc_turned q ts))
     → SafeLink 0 0 (took l ts x xs)
 took_is ts l x xs ends number q a b c h = rw (a, b, c) h
 
-takes : (ts : List Turn) (l : Link) (x : OnWire) (xs : List OnWire) → Safe 0 0 l.controller l.host (x ∷ sans xs) (sans l.to_host) l.resets
+takes : (ts : List ShdlcTurn) (l : ShdlcLink) (x : OnWire) (xs : List OnWire) → Safe 0 0 l.controller l.host (x ∷ sans xs) (sans l.to_host) l.resets
     → SafeLink 0 0 (took l ts x xs)
 takes ts l x xs h = go (frame_cases x) e.phase refl
   where
     e : EndState
     e = l.controller.side
 
-    next : Link
+    next : ShdlcLink
     next = record l { to_controller = xs }
 
     no_ua : x.frame ≡ Ua → (e.phase ≡ Waiting → ⊥) → ⊥
@@ -281,7 +281,7 @@ takes ts l x xs h = go (frame_cases x) e.phase refl
     in_session : e.phase ≡ Up → IsData x.frame → SafeLink 0 0 (took l ts x xs)
     in_session up d =
         let pair = pair_from 0 0 l.controller l.host (x ∷ sans xs) (sans l.to_host) l.resets up h in
-        let t = taken_up e (session_of l.host (number_of l.controller)) x (sans xs) (live l.host.side.phase (sans l.to_host)) up d pair in
+        let t = taken_up e (shdlc_session_of l.host (shdlc_number_of l.controller)) x (sans xs) (live l.host.side.phase (sans l.to_host)) up d pair in
         let q : EndState = taken e x.frame in
         let s : SafeAt 0 0 next (record q { due = [] }) =
         safe_up 0 0 0 l.controller l.host (record q { due = [] }) (x ∷ sans xs) (sans l.to_host) (sans xs) (sans l.to_host) l.resets up t.0.up refl
@@ -322,18 +322,18 @@ takes ts l x xs h = go (frame_cases x) e.phase refl
     anew : (v c : ℕ) → x.frame ≡ Rset v c → (past : List (ℕ × Session)) (ends : Bool) → (e.phase ≡ Waiting → ⊥) → Moves l.controller past
         → taken e x.frame ≡ up_with (record e { due = Ua_due ∷ [] }) (min e.own_window (min v 4)) → is_some (take_answer e x.frame).ended ≡ ends
         → Below l.host.emitted past
-        → (SafeLink 0 0 (becomes (record l { to_controller = xs; controller = record l.controller { took = l.host.emitted; past = past } })
-        (turned (up_with (record e { due = Ua_due ∷ [] }) (min e.own_window (min v 4))) ts))
-        → SafeLink 0 0 (let m : Link = with_ended (record l { to_controller = xs }) ends in
-        becomes (record m { controller = record m.controller { took = l.host.emitted } })
-        (turned (up_with (record e { due = Ua_due ∷ [] }) (min e.own_window (min v 4))) ts)))
+        → (SafeLink 0 0 (shdlc_becomes (record l { to_controller = xs; controller = record l.controller { took = l.host.emitted; past = past } })
+        (shdlc_turned (up_with (record e { due = Ua_due ∷ [] }) (min e.own_window (min v 4))) ts))
+        → SafeLink 0 0 (let m : ShdlcLink = with_shdlc_ended (record l { to_controller = xs }) ends in
+        shdlc_becomes (record m { controller = record m.controller { took = l.host.emitted } })
+        (shdlc_turned (up_with (record e { due = Ua_due ∷ [] }) (min e.own_window (min v 4))) ts)))
         → SafeLink 0 0 (took l ts x xs)
     anew v c q past ends n move is ended below kept =
         let t = rset_tells 0 (peer_of l.controller) (peer_of l.host) x v c (sans xs) (sans l.to_host) l.resets q h.hand in
         let w : ℕ = min e.own_window (min v 4) in
         let b : EndState = up_with (record e { due = Ua_due ∷ [] }) w in
         let y : OnWire = record { frame = Ua; age = 0; number = 0 } in
-        let m : Link = record l { to_controller = xs; controller = record l.controller { took = l.host.emitted; past = past } } in
+        let m : ShdlcLink = record l { to_controller = xs; controller = record l.controller { took = l.host.emitted; past = past } } in
         took_is ts l x xs ends l.host.emitted b ended (took_rset l x v c l.host.emitted q t.4 h.hand.n_took) is
         (kept (becomes_one 0 ts m b Ua_due refl
         (safe_fits 0 (record { side = up_end e w; emitted = l.controller.emitted; took = l.host.emitted; past = past }) l.host (sans xs) l.to_host y
@@ -351,25 +351,25 @@ takes ts l x xs h = go (frame_cases x) e.phase refl
     go (inl d) Waiting p = passed d (λ u. let g = sym p ∙ u in cc) (rw p (sym (data_behind x.frame (sans xs) (behind_ua (sans xs)) d)))
     go (inl d) Down p = passed d (λ u. let g = sym p ∙ u in cc) (rw p refl)
     go (inr (inl q)) Up p =
-        anew q.0 q.1 q.2 ((number_of l.controller, e.session) ∷ l.controller.past) true (λ w. let g = sym p ∙ w in cc) (moves_end l.controller p)
+        anew q.0 q.1 q.2 ((shdlc_number_of l.controller, e.session) ∷ l.controller.past) true (λ w. let g = sym p ∙ w in cc) (moves_end l.controller p)
         (rw (q.2, p, zero q.0 q.1 q.2) refl) (rw (q.2, p, zero q.0 q.1 q.2) refl)
-        (let a : Below (number_of l.controller) l.controller.past = rw p at h.n_past in
+        (let a : Below (shdlc_number_of l.controller) l.controller.past = rw p at h.n_past in
         let g = ahead q.0 q.1 q.2 (λ w. let g = sym p ∙ w in cc) in
-        (omega arith, below_more (number_of l.controller) l.host.emitted l.controller.past (omega arith) a))
+        (omega arith, below_more (shdlc_number_of l.controller) l.host.emitted l.controller.past (omega arith) a))
         (λ s. s)
     go (inr (inl q)) Down p =
         anew q.0 q.1 q.2 l.controller.past false (λ w. let g = sym p ∙ w in cc) (moves_none l.controller (λ w. let g = sym p ∙ w in cc))
         (rw (q.2, p, zero q.0 q.1 q.2, h.n_due) refl) (rw (q.2, p, zero q.0 q.1 q.2) refl)
-        (let a : Below (number_of l.controller + 1) l.controller.past = rw p at h.n_past in
+        (let a : Below (shdlc_number_of l.controller + 1) l.controller.past = rw p at h.n_past in
         let g = ahead q.0 q.1 q.2 (λ w. let g = sym p ∙ w in cc) in
-        below_more (number_of l.controller + 1) l.host.emitted l.controller.past (omega arith) a)
+        below_more (shdlc_number_of l.controller + 1) l.host.emitted l.controller.past (omega arith) a)
         (λ s. s)
     go (inr (inl q)) Waiting p =
         let t = rset_tells 0 (peer_of l.controller) (peer_of l.host) x q.0 q.1 (sans xs) (sans l.to_host) l.resets q.2 h.hand in
         let b : EndState = record e { due = Ua_due ∷ []; peer_window = min q.0 4 } in
         let f : EndState = record e { due = []; peer_window = min q.0 4 } in
         let y : OnWire = record { frame = Ua; age = 0; number = 0 } in
-        let m : Link = record l { to_controller = xs; controller = record l.controller { took = l.host.emitted } } in
+        let m : ShdlcLink = record l { to_controller = xs; controller = record l.controller { took = l.host.emitted } } in
         let none : e.session ≡ no_session = h.n_none (λ u. let g = sym p ∙ u in cc) in
         took_is ts l x xs false l.host.emitted b (rw (q.2, p) refl) (took_rset l x q.0 q.1 l.host.emitted q.2 t.4 h.hand.n_took)
         (waits q.0 q.1 q.2 p)
@@ -412,24 +412,24 @@ act_not_rset (Rset _ _) a = absurd (let z : false ≡ true = a in cc)
 act_not_rset Ua a = refl
 act_not_rset Clt a = refl
 
-delivers : (ts : List Turn) (l : Link) → SafeLink 0 0 l → SafeLink 0 0 (happens_here l (Deliver ts))
+delivers : (ts : List ShdlcTurn) (l : ShdlcLink) → SafeLink 0 0 l → SafeLink 0 0 (shdlc_happens_at_controller l (Deliver ts))
 delivers ts l h = go l.to_controller h
   where
     first : (x : OnWire) (xs : List OnWire) (b : Bool) → is_act x.frame ≡ b → Safe 0 0 l.controller l.host (sans (x ∷ xs)) (sans l.to_host) l.resets
         → SafeLink 0 0 (took (record l { to_controller = x ∷ xs }) ts x xs)
     first x xs false q g = takes ts (record l { to_controller = x ∷ xs }) x xs (rw q at g)
     first x xs true q g =
-        let m : Link = record l { to_controller = x ∷ xs } in
+        let m : ShdlcLink = record l { to_controller = x ∷ xs } in
         let t = passes_act l.controller.side x.frame q in
         took_is ts m x xs false l.controller.took l.controller.side t.1 (took_other l.controller.took x (act_not_rset x.frame q)) t.0
         (becomes_none 0 ts (record l { to_controller = xs }) l.controller.side (rw q at g))
 
     go : (wire : List OnWire) → Safe 0 0 l.controller l.host (sans wire) (sans l.to_host) l.resets
-        → SafeLink 0 0 (happens_here (record l { to_controller = wire }) (Deliver ts))
+        → SafeLink 0 0 (shdlc_happens_at_controller (record l { to_controller = wire }) (Deliver ts))
     go [] g = g
     go (x ∷ xs) g = first x xs (is_act x.frame) refl g
 
-loses : (l : Link) → SafeLink 0 0 l → SafeLink 0 0 (happens_here l Lose)
+loses : (l : ShdlcLink) → SafeLink 0 0 l → SafeLink 0 0 (shdlc_happens_at_controller l Lose)
 loses l h = go l.to_controller h
   where
     first : (x : OnWire) (xs : List OnWire) (b : Bool) → is_act x.frame ≡ b → Safe 0 0 l.controller l.host (sans (x ∷ xs)) (sans l.to_host) l.resets
@@ -438,12 +438,12 @@ loses l h = go l.to_controller h
     first x xs false q g = safe_lose 0 l.controller l.host x (sans xs) (sans l.to_host) l.resets (rw q at g)
 
     go : (wire : List OnWire) → Safe 0 0 l.controller l.host (sans wire) (sans l.to_host) l.resets
-        → SafeLink 0 0 (happens_here (record l { to_controller = wire }) Lose)
+        → SafeLink 0 0 (shdlc_happens_at_controller (record l { to_controller = wire }) Lose)
     go [] g = g
     go (x ∷ xs) g = first x xs (is_act x.frame) refl g
 
 -- an end that is Down has taken a frame, and its RSET counts
-pub counts : (l : Link) (x : OnWire) (xs : List OnWire)
+pub counts : (l : ShdlcLink) (x : OnWire) (xs : List OnWire)
     → l.controller.side.phase ≡ Down → Safe 0 0 l.controller l.host (sans (x ∷ xs)) (sans l.to_host) l.resets
     → Safe 0 0 (record l.controller { took = took_with l.controller.took x }) l.host (sans xs) (sans l.to_host) l.resets
 counts l x xs down g = first (is_act x.frame) refl
@@ -463,56 +463,56 @@ counts l x xs down g = first (is_act x.frame) refl
     first true q = rw (took_other l.controller.took x (act_not_rset x.frame q)) (rw q at g)
     first false q = frame (rw q at g) (frame_cases x)
 
-ignores : (ts : List Turn) (l : Link) → SafeLink 0 0 l → SafeLink 0 0 (happens_here l (Ignore ts))
+ignores : (ts : List ShdlcTurn) (l : ShdlcLink) → SafeLink 0 0 l → SafeLink 0 0 (shdlc_happens_at_controller l (Ignore ts))
 ignores ts l h = go l.controller.side.phase refl l.to_controller refl
   where
-    by_parts : (m : Link) → happens_here l (Ignore ts) ≡ m → SafeLink 0 0 m → SafeLink 0 0 (happens_here l (Ignore ts))
-    by_parts m q g = let P : Link → Type 0 = λ k. SafeLink 0 0 k in subst P (sym q) g
+    by_parts : (m : ShdlcLink) → shdlc_happens_at_controller l (Ignore ts) ≡ m → SafeLink 0 0 m → SafeLink 0 0 (shdlc_happens_at_controller l (Ignore ts))
+    by_parts m q g = let P : ShdlcLink → Type 0 = λ k. SafeLink 0 0 k in subst P (sym q) g
 
-    go : (p : LinkState) → l.controller.side.phase ≡ p → (wire : List OnWire) → l.to_controller ≡ wire → SafeLink 0 0 (happens_here l (Ignore ts))
+    go : (p : LinkState) → l.controller.side.phase ≡ p → (wire : List OnWire) → l.to_controller ≡ wire → SafeLink 0 0 (shdlc_happens_at_controller l (Ignore ts))
     go Up q wire w = by_parts l (rw q refl) h
     go Waiting q wire w = by_parts l (rw q refl) h
     go Down q [] w = by_parts l (rw (q, w) refl) h
     go Down q (x ∷ xs) w =
         let P : List OnWire → Type 0 = λ v. Safe 0 0 l.controller l.host (sans v) (sans l.to_host) l.resets in
-        let m : Link = record l { to_controller = xs; controller = record l.controller { took = took_with l.controller.took x } } in
-        by_parts (becomes m (turned l.controller.side ts)) (rw (q, w) refl) (becomes_none 0 ts m l.controller.side (counts l x xs q (subst P w h)))
+        let m : ShdlcLink = record l { to_controller = xs; controller = record l.controller { took = took_with l.controller.took x } } in
+        by_parts (shdlc_becomes m (shdlc_turned l.controller.side ts)) (rw (q, w) refl) (becomes_none 0 ts m l.controller.side (counts l x xs q (subst P w h)))
 
 -- frames of activation stand beside the others
-pub acts_keep : (kf : ℕ) (acts : List Activation) (l : Link) → SafeLink 0 kf l → SafeAt 0 kf (put_all l (map act_frame acts)) l.controller.side
+pub acts_keep : (kf : ℕ) (acts : List Activation) (l : ShdlcLink) → SafeLink 0 kf l → SafeAt 0 kf (shdlc_put_all l (map act_frame acts)) l.controller.side
 acts_keep kf [] l h = h
 acts_keep kf (a ∷ acts) l h =
     let x : OnWire = record { frame = act_frame a; age = 0; number = 0 } in
     let P : List OnWire → Type 0 = λ v. Safe 0 kf l.controller l.host (sans l.to_controller) v l.resets in
-    acts_keep kf acts (put l (act_frame a))
+    acts_keep kf acts (shdlc_put l (act_frame a))
     (fits_keeps kf l.controller l.host (sans l.to_controller) (l.to_host ++ x ∷ []) l.resets (subst P (sym (sans-push_act l.to_host x refl)) h))
 
-pub safe_here : (l : Link) (e : EndEvent) → IsAllowed e → SafeLink 0 0 l → SafeLink 0 0 (happens_here l e)
+pub safe_here : (l : ShdlcLink) (e : ShdlcEndEvent) → IsShdlcAllowed e → SafeLink 0 0 l → SafeLink 0 0 (shdlc_happens_at_controller l e)
 safe_here l (Turns ts) a h = becomes_none 0 ts l l.controller.side h
 safe_here l (Deliver ts) a h = delivers ts l h
 safe_here l (Ignore ts) a h = ignores ts l h
-safe_here l (Acts acts ts) a h = becomes_none 0 ts (put_all l (map act_frame acts)) l.controller.side (acts_keep 0 acts l h)
+safe_here l (Acts acts ts) a h = becomes_none 0 ts (shdlc_put_all l (map act_frame acts)) l.controller.side (acts_keep 0 acts l h)
 safe_here l Lose a h = loses l h
 safe_here l (Reset w ts) a h = resets 0 ts l w a h
 safe_here l Cut a h = cuts 0 0 l h
 safe_here l Stop a h = stops 0 0 l h
 
 -- what the turns of a node do, also where the other end has its tick still to come
-pub safe_turn : (kf : ℕ) (l : Link) (e : EndEvent) → IsTurn e → SafeLink 0 kf l → SafeLink 0 kf (happens_here l e)
+pub safe_turn : (kf : ℕ) (l : ShdlcLink) (e : ShdlcEndEvent) → IsTurn e → SafeLink 0 kf l → SafeLink 0 kf (shdlc_happens_at_controller l e)
 safe_turn kf l (Turns ts) a h = becomes_none kf ts l l.controller.side h
 safe_turn kf l (Deliver ts) a h = absurd a
 safe_turn kf l (Ignore ts) a h = absurd a
-safe_turn kf l (Acts acts ts) a h = becomes_none kf ts (put_all l (map act_frame acts)) l.controller.side (acts_keep kf acts l h)
+safe_turn kf l (Acts acts ts) a h = becomes_none kf ts (shdlc_put_all l (map act_frame acts)) l.controller.side (acts_keep kf acts l h)
 safe_turn kf l Lose a h = absurd a
 safe_turn kf l (Reset w ts) a h = resets kf ts l w a h
 safe_turn kf l Cut a h = cuts 0 kf l h
 safe_turn kf l Stop a h = stops 0 kf l h
 
-pub safe_turns : (kf : ℕ) (es : List EndEvent) (l : Link) → AreTurns es → SafeLink 0 kf l → SafeLink 0 kf (all_here l es)
+pub safe_turns : (kf : ℕ) (es : List ShdlcEndEvent) (l : ShdlcLink) → AreTurns es → SafeLink 0 kf l → SafeLink 0 kf (shdlc_all_at_controller l es)
 safe_turns kf [] l a h = h
-safe_turns kf (e ∷ es) l a h = safe_turns kf es (happens_here l e) a.1 (safe_turn kf l e a.0 h)
+safe_turns kf (e ∷ es) l a h = safe_turns kf es (shdlc_happens_at_controller l e) a.1 (safe_turn kf l e a.0 h)
 
-pub safe_exchanged : (kn kf : ℕ) (l : Link) → SafeLink kn kf l → SafeLink kf kn (exchanged l)
+pub safe_exchanged : (kn kf : ℕ) (l : ShdlcLink) → SafeLink kn kf l → SafeLink kf kn (shdlc_exchanged l)
 safe_exchanged kn kf l h = safe_swap kn kf l.controller l.host (sans l.to_controller) (sans l.to_host) l.resets h
 
 -- what is left of a wire once the frames that are too old are lost
@@ -550,7 +550,7 @@ sans-aged (x ∷ xs) = go (nat_lt x.age 4) (is_act x.frame) refl refl (sans-aged
     go false true p q later = rw (p, q) later
     go false false p q later = rw (p, q, p) later
 
-pub safe_fresh : (n f : Half) (to_n to_f : List OnWire) (r : ℕ) → Safe 0 0 n f to_n to_f r → Safe 0 0 n f (fresh to_n) to_f r
+pub safe_fresh : (n f : NumberedShdlc) (to_n to_f : List OnWire) (r : ℕ) → Safe 0 0 n f to_n to_f r → Safe 0 0 n f (fresh to_n) to_f r
 safe_fresh n f [] to_f r h = h
 safe_fresh n f (x ∷ xs) to_f r h = go (nat_lt x.age 4) refl (safe_fresh n f xs to_f r (safe_lose 0 n f x xs to_f r h))
   where
@@ -558,7 +558,7 @@ safe_fresh n f (x ∷ xs) to_f r h = go (nat_lt x.age 4) refl (safe_fresh n f xs
     go true q later = rw q h
     go false q later = rw q later
 
-pub safe_aged : (l : Link) → SafeLink 0 0 l → SafeLink 1 1 (aged l)
+pub safe_aged : (l : ShdlcLink) → SafeLink 0 0 l → SafeLink 1 1 (shdlc_aged l)
 safe_aged l h =
     let n = l.controller in
     let f = l.host in
@@ -571,12 +571,12 @@ safe_aged l h =
     (safe_older n f (fresh (sans l.to_controller)) (fresh (sans l.to_host)) l.resets near.1 far.1
     (safe_swap 0 0 f n (fresh (sans l.to_host)) (fresh (sans l.to_controller)) l.resets two))
 
-pub tick_or_cut : (kf : ℕ) (b : Option (List Turn)) (l : Link) → SafeLink 1 kf l → SafeLink 0 kf (ticks_or_cut b l)
+pub tick_or_cut : (kf : ℕ) (b : Option (List ShdlcTurn)) (l : ShdlcLink) → SafeLink 1 kf l → SafeLink 0 kf (ticks_or_cut b l)
 tick_or_cut kf (Some ts) l h = ticks kf ts l h
 tick_or_cut kf None l h = cuts 1 kf l h
 
 -- an end that doesn't wait may do without its tick
-not_ticked : (kf : ℕ) (l : Link) → is_waiting l.controller.side ≡ false → SafeLink 1 kf l → SafeLink 0 kf l
+not_ticked : (kf : ℕ) (l : ShdlcLink) → is_waiting l.controller.side ≡ false → SafeLink 1 kf l → SafeLink 0 kf l
 not_ticked kf l q h =
     record {
       hand = hand_timer 1 0 kf (peer_of l.controller) (peer_of l.controller) (peer_of l.host) (sans l.to_controller) (sans l.to_host) l.resets refl refl
@@ -598,7 +598,7 @@ not_ticked kf l q h =
     waits : l.controller.side.phase ≡ Waiting → ⊥
     waits w = let z : true ≡ false = rw w at q in cc
 
-pub tick_if_waiting : (kf : ℕ) (l : Link) → SafeLink 1 kf l → SafeLink 0 kf (ticks_if_waiting l)
+pub tick_if_waiting : (kf : ℕ) (l : ShdlcLink) → SafeLink 1 kf l → SafeLink 0 kf (ticks_if_waiting l)
 tick_if_waiting kf l h = go (is_waiting l.controller.side) refl
   where
     go : (b : Bool) → is_waiting l.controller.side ≡ b → SafeLink 0 kf (ticks_if_waiting l)
@@ -606,23 +606,23 @@ tick_if_waiting kf l h = go (is_waiting l.controller.side) refl
     go false q = rw q (not_ticked kf l q h)
 
 -- a tick of the host's end, where these things have happened at the controller's
-ticked_there : (turns : List EndEvent) (d : Option (List Turn)) (near : Link) → AreTurns turns → SafeLink 0 1 near
-    → SafeLink 0 0 (exchanged (ticks_or_cut d (exchanged (all_here near turns))))
+ticked_there : (turns : List ShdlcEndEvent) (d : Option (List ShdlcTurn)) (near : ShdlcLink) → AreTurns turns → SafeLink 0 1 near
+    → SafeLink 0 0 (shdlc_exchanged (ticks_or_cut d (shdlc_exchanged (shdlc_all_at_controller near turns))))
 ticked_there turns d near a one =
-    let m : Link = exchanged (all_here near turns) in
-    safe_exchanged 0 0 (ticks_or_cut d m) (tick_or_cut 0 d m (safe_exchanged 0 1 (all_here near turns) (safe_turns 1 turns near a one)))
+    let m : ShdlcLink = shdlc_exchanged (shdlc_all_at_controller near turns) in
+    safe_exchanged 0 0 (ticks_or_cut d m) (tick_or_cut 0 d m (safe_exchanged 0 1 (shdlc_all_at_controller near turns) (safe_turns 1 turns near a one)))
 
-pub safe_event : (l : Link) (e : LinkEvent) (es : List LinkEvent) → AllAllowed (e ∷ es) → SafeLink 0 0 l → SafeLink 0 0 (happens l e) × AllAllowed es
+pub safe_event : (l : ShdlcLink) (e : ShdlcLinkEvent) (es : List ShdlcLinkEvent) → AllShdlcAllowed (e ∷ es) → SafeLink 0 0 l → SafeLink 0 0 (shdlc_happens l e) × AllShdlcAllowed es
 safe_event l (AtController e) es a h = (safe_here l e a.0 h, a.1)
-safe_event l (AtHost e) es a h = (safe_exchanged 0 0 (happens_here (exchanged l) e) (safe_here (exchanged l) e a.0 (safe_exchanged 0 0 l h)), a.1)
+safe_event l (AtHost e) es a h = (safe_exchanged 0 0 (shdlc_happens_at_controller (shdlc_exchanged l) e) (safe_here (shdlc_exchanged l) e a.0 (safe_exchanged 0 0 l h)), a.1)
 safe_event l (Tick c turns d) es a h =
-    (ticked_there turns d (ticks_or_cut c (aged l)) a.0 (tick_or_cut 1 c (aged l) (safe_aged l h)), a.1)
+    (ticked_there turns d (ticks_or_cut c (shdlc_aged l)) a.0 (tick_or_cut 1 c (shdlc_aged l) (safe_aged l h)), a.1)
 safe_event l (TickWithout turns d) es a h =
-    (ticked_there turns d (ticks_if_waiting (aged l)) a.0 (tick_if_waiting 1 (aged l) (safe_aged l h)), a.1)
+    (ticked_there turns d (ticks_if_waiting (shdlc_aged l)) a.0 (tick_if_waiting 1 (shdlc_aged l) (safe_aged l h)), a.1)
 
-safe_after : (events : List LinkEvent) (l : Link) → AllAllowed events → SafeLink 0 0 l → SafeLink 0 0 (after l events)
+safe_after : (events : List ShdlcLinkEvent) (l : ShdlcLink) → AllShdlcAllowed events → SafeLink 0 0 l → SafeLink 0 0 (shdlc_after l events)
 safe_after [] l a h = h
-safe_after (e ∷ es) l a h = let s = safe_event l e es a h in safe_after es (happens l e) s.1 s.0
+safe_after (e ∷ es) l a h = let s = safe_event l e es a h in safe_after es (shdlc_happens l e) s.1 s.0
 
 base_new : (w : ℕ) → w ≤ 4 → Base (new_session w) (new_session w)
 base_new w i =
@@ -638,10 +638,10 @@ base_new w i =
     }
 
 safe_bare : (e : EndState) → e.due ≡ [] → HasWindows e → ((e.phase ≡ Up → ⊥) → e.session ≡ no_session)
-    → ((k : ℕ) → Base (session_of (new_half e) k) (session_of (new_half e) k)) → SafeLink 0 0 (bare e)
+    → ((k : ℕ) → Base (shdlc_session_of (new_numbered_shdlc e) k) (shdlc_session_of (new_numbered_shdlc e) k)) → SafeLink 0 0 (bare e)
 safe_bare e due windows none base =
     record {
-      hand = hand_empty 0 0 (peer_of (new_half e)) (peer_of (new_half e)) 0 (omega arith) (omega arith) (omega arith) (omega arith)
+      hand = hand_empty 0 0 (peer_of (new_numbered_shdlc e)) (peer_of (new_numbered_shdlc e)) 0 (omega arith) (omega arith) (omega arith) (omega arith)
           (agrees_from (live e.phase []) (live e.phase []) (0 ≡ 0) refl);
       n_base = base;
       f_base = base;
@@ -657,66 +657,66 @@ safe_bare e due windows none base =
       f_windows = windows;
     }
   where
-    lives : OnLive (live e.phase []) (session_of (new_half e) 0) (session_of (new_half e) 0)
-    lives = live_empty e.phase (session_of (new_half e) 0) (session_of (new_half e) 0) (base 0)
+    lives : OnLive (live e.phase []) (shdlc_session_of (new_numbered_shdlc e) 0) (shdlc_session_of (new_numbered_shdlc e) 0)
+    lives = live_empty e.phase (shdlc_session_of (new_numbered_shdlc e) 0) (shdlc_session_of (new_numbered_shdlc e) 0) (base 0)
 
-pub safe_start : (l : Link) → IsStart l → SafeLink 0 0 l
+pub safe_start : (l : ShdlcLink) → IsShdlcStart l → SafeLink 0 0 l
 safe_start l BothDown =
     safe_bare (new_end 4) refl (record { own = (omega arith, omega arith); peer = (omega arith, omega arith) }) (λ _. refl) (λ k. base_new 0 (omega arith))
 safe_start l BothUp =
     safe_bare (begun (new_end 4)) refl (record { own = (omega arith, omega arith); peer = (omega arith, omega arith) }) (λ no. absurd (no refl))
     (λ k. go k (k == 0) refl)
   where
-    h : Half
-    h = new_half (begun (new_end 4))
+    h : NumberedShdlc
+    h = new_numbered_shdlc (begun (new_end 4))
 
-    go : (k : ℕ) (b : Bool) → (k == 0) ≡ b → Base (session_of h k) (session_of h k)
+    go : (k : ℕ) (b : Bool) → (k == 0) ≡ b → Base (shdlc_session_of h k) (shdlc_session_of h k)
     go k true q = rw q (base_new 4 (omega arith))
     go k false q = rw q (base_new 0 (omega arith))
 
-pub safe : (l : Link) → IsStart l → (events : List LinkEvent) → AllAllowed events → SafeLink 0 0 (after l events)
+pub safe : (l : ShdlcLink) → IsShdlcStart l → (events : List ShdlcLinkEvent) → AllShdlcAllowed events → SafeLink 0 0 (shdlc_after l events)
 safe l s events a = safe_after events l a (safe_start l s)
 
 -- ## What follows
 
-in_order : (s r : Session) → Base s r → InOrder s r
+in_order : (s r : Session) → Base s r → FragmentsInOrder s r
 in_order s r b = record { front = b.front; acked = b.acked; offered = omega (arith, b.from, b.sent, b.offered) }
 
-pub in_order_here : (l : Link) → IsStart l → (events : List LinkEvent) → AllAllowed events → (n : ℕ)
-    → InOrder (session_of (after l events).controller n) (session_of (after l events).host n)
+pub in_order_here : (l : ShdlcLink) → IsShdlcStart l → (events : List ShdlcLinkEvent) → AllShdlcAllowed events → (n : ℕ)
+    → FragmentsInOrder (shdlc_session_of (shdlc_after l events).controller n) (shdlc_session_of (shdlc_after l events).host n)
 in_order_here l s events a n =
-    let m = after l events in
-    in_order (session_of m.controller n) (session_of m.host n) ((safe l s events a).n_base n)
+    let m = shdlc_after l events in
+    in_order (shdlc_session_of m.controller n) (shdlc_session_of m.host n) ((safe l s events a).n_base n)
 
-pub in_order_there : (l : Link) → IsStart l → (events : List LinkEvent) → AllAllowed events → (n : ℕ)
-    → InOrder (session_of (after l events).host n) (session_of (after l events).controller n)
+pub in_order_there : (l : ShdlcLink) → IsShdlcStart l → (events : List ShdlcLinkEvent) → AllShdlcAllowed events → (n : ℕ)
+    → FragmentsInOrder (shdlc_session_of (shdlc_after l events).host n) (shdlc_session_of (shdlc_after l events).controller n)
 in_order_there l s events a n =
-    let m = after l events in
-    in_order (session_of m.host n) (session_of m.controller n) ((safe l s events a).f_base n)
+    let m = shdlc_after l events in
+    in_order (shdlc_session_of m.host n) (shdlc_session_of m.controller n) ((safe l s events a).f_base n)
 
-pub agree : (l : Link) → IsStart l → (events : List LinkEvent) → AllAllowed events
-    → (after l events).controller.side.phase ≡ Up → (after l events).host.side.phase ≡ Up
-    → number_of (after l events).controller ≡ number_of (after l events).host
+pub agree : (l : ShdlcLink) → IsShdlcStart l → (events : List ShdlcLinkEvent) → AllShdlcAllowed events
+    → (shdlc_after l events).controller.side.phase ≡ Up → (shdlc_after l events).host.side.phase ≡ Up
+    → shdlc_number_of (shdlc_after l events).controller ≡ shdlc_number_of (shdlc_after l events).host
 agree l s events a p q =
-    let m = after l events in
+    let m = shdlc_after l events in
     let one : live m.controller.side.phase (sans m.to_controller) ≡ Some (sans m.to_controller) = rw p refl in
     let two : live m.host.side.phase (sans m.to_host) ≡ Some (sans m.to_host) = rw q refl in
     agreed (live m.controller.side.phase (sans m.to_controller)) (live m.host.side.phase (sans m.to_host)) (sans m.to_controller) (sans m.to_host)
-    (number_of m.controller ≡ number_of m.host) one two (safe l s events a).hand.agree
+    (shdlc_number_of m.controller ≡ shdlc_number_of m.host) one two (safe l s events a).hand.agree
 
 -- the session that goes on has a number that no ended one has
-new_number : (h : Half) → h.side.phase ≡ Up → Below (bound h) h.past → ended_session h.past (number_of h) ≡ no_session
-new_number h up b = none_ended (number_of h) (number_of h) h.past (omega arith) (rw up at b)
+new_number : (h : NumberedShdlc) → h.side.phase ≡ Up → Below (bound h) h.past → ended_session h.past (shdlc_number_of h) ≡ no_session
+new_number h up b = none_ended (shdlc_number_of h) (shdlc_number_of h) h.past (omega arith) (rw up at b)
 
-pub new_number_here : (l : Link) → IsStart l → (events : List LinkEvent) → AllAllowed events → (after l events).controller.side.phase ≡ Up
-    → ended_session (after l events).controller.past (number_of (after l events).controller) ≡ no_session
-new_number_here l s events a up = new_number (after l events).controller up (safe l s events a).n_past
+pub new_number_here : (l : ShdlcLink) → IsShdlcStart l → (events : List ShdlcLinkEvent) → AllShdlcAllowed events → (shdlc_after l events).controller.side.phase ≡ Up
+    → ended_session (shdlc_after l events).controller.past (shdlc_number_of (shdlc_after l events).controller) ≡ no_session
+new_number_here l s events a up = new_number (shdlc_after l events).controller up (safe l s events a).n_past
 
-pub new_number_there : (l : Link) → IsStart l → (events : List LinkEvent) → AllAllowed events → (after l events).host.side.phase ≡ Up
-    → ended_session (after l events).host.past (number_of (after l events).host) ≡ no_session
-new_number_there l s events a up = new_number (after l events).host up (safe l s events a).f_past
+pub new_number_there : (l : ShdlcLink) → IsShdlcStart l → (events : List ShdlcLinkEvent) → AllShdlcAllowed events → (shdlc_after l events).host.side.phase ≡ Up
+    → ended_session (shdlc_after l events).host.past (shdlc_number_of (shdlc_after l events).host) ≡ no_session
+new_number_there l s events a up = new_number (shdlc_after l events).host up (safe l s events a).f_past
 
 -- events happen one after another
-pub after-append : (l : Link) (events later : List LinkEvent) → after l (events ++ later) ≡ after (after l events) later
+pub after-append : (l : ShdlcLink) (events later : List ShdlcLinkEvent) → shdlc_after l (events ++ later) ≡ shdlc_after (shdlc_after l events) later
 after-append l [] later = refl
-after-append l (e ∷ events) later = after-append (happens l e) events later
+after-append l (e ∷ events) later = after-append (shdlc_happens l e) events later

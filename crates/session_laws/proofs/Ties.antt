@@ -15,9 +15,9 @@ use Rattle.link_laws.proofs.Flows.{flows_new}
 use Rattle.link_laws.proofs.Whole.{AnswersOnly, Whole}
 use Rattle.link_laws.proofs.Joined.{Joined, joined_exchanged, joined_older, joined_fetched, joined_put, joined_ready, ready_cases, fetch_cases}
 use Rattle.link_laws.proofs.Idle.{fetched_idle, after_frames_idle, left, idle_after}
-use Rattle.session_laws.specs.Sessions.{OnWire, Link, fits, put, put_all, with_controller, older, Turn, turn, turned}
-use Rattle.session_laws.specs.Sessions.Turn.{Offer, SetReady}
-use Rattle.session_laws.specs.Losses.{is_act, sans, Losses, counts_first, overflows, noted, noted_all}
+use Rattle.session_laws.specs.Sessions.{OnWire, ShdlcLink, fits, shdlc_put, shdlc_put_all, with_shdlc_controller, older, ShdlcTurn, shdlc_turn, shdlc_turned}
+use Rattle.session_laws.specs.Sessions.ShdlcTurn.{Offer, SetReady}
+use Rattle.session_laws.specs.Losses.{is_act, sans, Losses, counts_first, overflows, noted_loss, noted_all}
 use Rattle.session_laws.proofs.Wire.{IsData, rsets, uas, behind_ua, live, no_ua_step, behind_new, live-older, older_part}
 use Rattle.session_laws.proofs.Data.{pushed}
 use Rattle.session_laws.proofs.Safe.{HasWindows, up_end}
@@ -51,17 +51,17 @@ Tied W n f to_n to_f =
 abbrev pub IsWhole : Losses → Type 0
 IsWhole n = (n.lost ≡ false) × (n.rnr ≡ false)
 
-abbrev pub TiedLink : Losses → Link → Type 0
+abbrev pub TiedLink : Losses → ShdlcLink → Type 0
 TiedLink n l = Tied (IsWhole n) l.controller.side l.host.side (sans l.to_controller) (sans l.to_host)
 
 pub tied_swap : (W : Type 0) (n f : EndState) (to_n to_f : List OnWire) → Tied W n f to_n to_f → Tied W f n to_f to_n
 tied_swap W n f to_n to_f h w a b p q =
-    let m = h (turned w) b a q p in
+    let m = h (shdlc_turned w) b a q p in
     record { joined = joined_exchanged (Unit {0}) (as_up n.phase n) (as_up f.phase f) b a m.joined; near = m.far; far = m.near }
   where
-    turned : (((f.phase ≡ Waiting) × (n.phase ≡ Waiting)) ⊎ W) → ((n.phase ≡ Waiting) × (f.phase ≡ Waiting)) ⊎ W
-    turned (inl e) = inl (e.1, e.0)
-    turned (inr v) = inr v
+    shdlc_turned : (((f.phase ≡ Waiting) × (n.phase ≡ Waiting)) ⊎ W) → ((n.phase ≡ Waiting) × (f.phase ≡ Waiting)) ⊎ W
+    shdlc_turned (inl e) = inl (e.1, e.0)
+    shdlc_turned (inr v) = inr v
 
 -- only what an end notes of itself has changed
 pub meets_like : (n m f : EndState) (to_n to_f : List OnWire) → m.phase ≡ n.phase → m.due ≡ n.due → m.session ≡ n.session → frame_due m ≡ None
@@ -257,11 +257,11 @@ rests_put G W V e f c to_n w is d no_act weak over rnr h v b p =
         (subst (Joined (Unit {0}) (fetched e) (as_up f.phase f) to_n) same one, g.1, g.2)
 
 -- what the near end keeps as it sends
-abbrev pub Keeps : Type 0 → Losses → EndState → Link → Type 0
+abbrev pub Keeps : Type 0 → Losses → EndState → ShdlcLink → Type 0
 Keeps G n e v = (e.phase ≡ Up) × AnswersOnly e.due × Rests G (IsWhole n) e v.host.side (sans v.to_controller) (sans v.to_host)
 
-keeps_each : (G : Type 0) (n : Losses) (e : EndState) (v : Link) (c : Control) → frame_due e ≡ Some c → Keeps G n e v
-    → Keeps G (noted n v c) (fetched e) (put v c)
+keeps_each : (G : Type 0) (n : Losses) (e : EndState) (v : ShdlcLink) (c : Control) → frame_due e ≡ Some c → Keeps G n e v
+    → Keeps G (noted_loss n v c) (fetched e) (shdlc_put v c)
 keeps_each G n e v c is k =
     let d = data_due e c k.1 is in
     let over : Bool = overflows (with_frame v.to_host c) in
@@ -273,26 +273,26 @@ keeps_each G n e v c is k =
     (fetched-phase e ∙ k.0, fetched_answers e k.1, rw (not_rset c (inl d.0)) r)
 
 -- what each frame that is due keeps, as the end sends it, all of them keep
-pub sends_noted : (P : Losses → EndState → Link → Type 0)
-    → ((n : Losses) (e : EndState) (l : Link) (c : Control) → frame_due e ≡ Some c → P n e l → P (noted n l c) (fetched e) (put l c))
-    → (m : ℕ) (n : Losses) (e : EndState) (l : Link) → P n e l → P (noted_all n l (frames_of m e)) (after_frames m e) (put_all l (frames_of m e))
+pub sends_noted : (P : Losses → EndState → ShdlcLink → Type 0)
+    → ((n : Losses) (e : EndState) (l : ShdlcLink) (c : Control) → frame_due e ≡ Some c → P n e l → P (noted_loss n l c) (fetched e) (shdlc_put l c))
+    → (m : ℕ) (n : Losses) (e : EndState) (l : ShdlcLink) → P n e l → P (noted_all n l (frames_of m e)) (after_frames m e) (shdlc_put_all l (frames_of m e))
 sends_noted P each zero n e l h = h
 sends_noted P each (suc m) n e l h = go (frame_due e) refl (λ k. sends_noted P each m k (fetched e))
   where
     go : (o : Option Control) → frame_due e ≡ o
-        → ((k : Losses) (v : Link) → P k (fetched e) v
-        → P (noted_all k v (frames_of m (fetched e))) (after_frames m (fetched e)) (put_all v (frames_of m (fetched e))))
-        → P (noted_all n l (frames_of (suc m) e)) (after_frames (suc m) e) (put_all l (frames_of (suc m) e))
+        → ((k : Losses) (v : ShdlcLink) → P k (fetched e) v
+        → P (noted_all k v (frames_of m (fetched e))) (after_frames m (fetched e)) (shdlc_put_all v (frames_of m (fetched e))))
+        → P (noted_all n l (frames_of (suc m) e)) (after_frames (suc m) e) (shdlc_put_all l (frames_of (suc m) e))
     go None q later = rw q (rw (fetched_idle e q, after_frames_idle m e q) h)
-    go (Some c) q later = rw q (later (noted n l c) (put l c) (each n e l c q h))
+    go (Some c) q later = rw q (later (noted_loss n l c) (shdlc_put l c) (each n e l c q h))
 
-tied_drains : (m : ℕ) (n : Losses) (e : EndState) (l : Link) → Keeps (left e ≤ m) n e l
-    → TiedLink (noted_all n l (frames_of m e)) (with_controller (put_all l (frames_of m e)) (after_frames m e))
+tied_drains : (m : ℕ) (n : Losses) (e : EndState) (l : ShdlcLink) → Keeps (left e ≤ m) n e l
+    → TiedLink (noted_all n l (frames_of m e)) (with_shdlc_controller (shdlc_put_all l (frames_of m e)) (after_frames m e))
 tied_drains m n e l h w a b p q =
     let k = sends_noted (Keeps (left e ≤ m)) (keeps_each (left e ≤ m)) m n e l h in
-    go (noted_all n l (frames_of m e)) (after_frames m e) (put_all l (frames_of m e)) k (λ i. idle_after m e i) w p q
+    go (noted_all n l (frames_of m e)) (after_frames m e) (shdlc_put_all l (frames_of m e)) k (λ i. idle_after m e i) w p q
   where
-    go : (k : Losses) (z : EndState) (v : Link) → Keeps (left e ≤ m) k z v → (left e ≤ m → frame_due z ≡ None)
+    go : (k : Losses) (z : EndState) (v : ShdlcLink) → Keeps (left e ≤ m) k z v → (left e ≤ m → frame_due z ≡ None)
         → (((z.phase ≡ Waiting) × (v.host.side.phase ≡ Waiting)) ⊎ IsWhole k) → live z.phase (sans v.to_controller) ≡ Some a
         → live v.host.side.phase (sans v.to_host) ≡ Some b
         → Meets (as_up z.phase z) (as_up v.host.side.phase v.host.side) a b
@@ -318,30 +318,30 @@ answers_more (Rset_due ∷ ds) a = absurd a
 answers_more (Ua_due ∷ ds) a = absurd a
 
 -- an end that is up is given fragments
-pub offer_up : (e : EndState) (fragments : List Fragment) → e.phase ≡ Up → turn e (Offer fragments) ≡ put_out e fragments
+pub offer_up : (e : EndState) (fragments : List Fragment) → e.phase ≡ Up → shdlc_turn e (Offer fragments) ≡ put_out e fragments
 offer_up e fragments up = rw up refl
 
-pub turn-phase : (e : EndState) (t : Turn) → (turn e t).phase ≡ e.phase
+pub turn-phase : (e : EndState) (t : ShdlcTurn) → (shdlc_turn e t).phase ≡ e.phase
 turn-phase e (SetReady r) = ready-phase e r
 turn-phase e (Offer fragments) = go e.phase refl
   where
-    go : (p : LinkState) → e.phase ≡ p → (turn e (Offer fragments)).phase ≡ e.phase
+    go : (p : LinkState) → e.phase ≡ p → (shdlc_turn e (Offer fragments)).phase ≡ e.phase
     go Up q = rw q refl
     go Waiting q = rw q refl
     go Down q = rw q refl
 
 -- turns leave few answers to send
-few_turn : (e : EndState) (t : Turn) → e.phase ≡ Up → room e ≤ 2 → room (turn e t) ≤ 2
+few_turn : (e : EndState) (t : ShdlcTurn) → e.phase ≡ Up → room e ≤ 2 → room (shdlc_turn e t) ≤ 2
 few_turn e (Offer fragments) up few = let P : EndState → Type 0 = λ f. room f ≤ 2 in subst P (sym (offer_up e fragments up)) few
 few_turn e (SetReady r) up few =
     ready_by (λ f. room f ≤ 2) e r (inr up) (λ no. absurd (no up)) few (omega (arith, few))
-    (λ up noted. let j : length (e.due ++ Rr_due ∷ []) ≡ length e.due + 1 = length-append e.due (Rr_due ∷ []) in let i = rw noted at few in omega arith)
+    (λ up noted_loss. let j : length (e.due ++ Rr_due ∷ []) ≡ length e.due + 1 = length-append e.due (Rr_due ∷ []) in let i = rw noted_loss at few in omega arith)
 
-pub few_turns : (ts : List Turn) (e : EndState) → e.phase ≡ Up → room e ≤ 2 → room (turned e ts) ≤ 2
+pub few_turns : (ts : List ShdlcTurn) (e : EndState) → e.phase ≡ Up → room e ≤ 2 → room (shdlc_turned e ts) ≤ 2
 few_turns [] e up few = few
-few_turns (t ∷ ts) e up few = few_turns ts (turn e t) (turn-phase e t ∙ up) (few_turn e t up few)
+few_turns (t ∷ ts) e up few = few_turns ts (shdlc_turn e t) (turn-phase e t ∙ up) (few_turn e t up few)
 
-turn_keeps : (n : Losses) (e : EndState) (t : Turn) (l : Link) → Keeps (Unit {0}) n e l → Keeps (Unit {0}) n (turn e t) l
+turn_keeps : (n : Losses) (e : EndState) (t : ShdlcTurn) (l : ShdlcLink) → Keeps (Unit {0}) n e l → Keeps (Unit {0}) n (shdlc_turn e t) l
 turn_keeps n e (Offer fragments) l k =
     let P : EndState → Type 0 = λ f. Keeps (Unit {0}) n f l in
     subst P (sym (offer_up e fragments k.0)) (
@@ -357,18 +357,18 @@ turn_keeps n e (SetReady r) l k = (
       (joined_ready (Unit {0}) e (as_up l.host.side.phase l.host.side) (sans l.to_controller) b r g.0, g.1, tt),
 )
 
-turns_keep : (n : Losses) (ts : List Turn) (e : EndState) (l : Link) → Keeps (Unit {0}) n e l → Keeps (Unit {0}) n (turned e ts) l
+turns_keep : (n : Losses) (ts : List ShdlcTurn) (e : EndState) (l : ShdlcLink) → Keeps (Unit {0}) n e l → Keeps (Unit {0}) n (shdlc_turned e ts) l
 turns_keep n [] e l k = k
-turns_keep n (t ∷ ts) e l k = turns_keep n ts (turn e t) l (turn_keeps n e t l k)
+turns_keep n (t ∷ ts) e l k = turns_keep n ts (shdlc_turn e t) l (turn_keeps n e t l k)
 
 -- an end that is up, and has few answers to send, has its turns
-pub drains : (m : ℕ) → 6 ≤ m → (n : Losses) (ts : List Turn) (l : Link) (e : EndState) → e.phase ≡ Up → AnswersOnly e.due → room e ≤ 2
+pub drains : (m : ℕ) → 6 ≤ m → (n : Losses) (ts : List ShdlcTurn) (l : ShdlcLink) (e : EndState) → e.phase ≡ Up → AnswersOnly e.due → room e ≤ 2
     → Rests (Unit {0}) (IsWhole n) e l.host.side (sans l.to_controller) (sans l.to_host)
-    → TiedLink (noted_all n l (frames_of m (turned e ts))) (with_controller (put_all l (frames_of m (turned e ts))) (after_frames m (turned e ts)))
+    → TiedLink (noted_all n l (frames_of m (shdlc_turned e ts))) (with_shdlc_controller (shdlc_put_all l (frames_of m (shdlc_turned e ts))) (after_frames m (shdlc_turned e ts)))
 drains m i n ts l e up answers few h =
     let k = turns_keep n ts e l (up, answers, h) in
     let f = few_turns ts e up few in
-    tied_drains m n (turned e ts) l
+    tied_drains m n (shdlc_turned e ts) l
     (k.0, k.1, λ w b q. let r = k.2 w b q in (r.0, r.1, omega (arith, i, f, r.0.near_sends.acked_next, r.0.near_sends.window)))
 
 -- an end with nothing to send
@@ -376,42 +376,42 @@ nothing_sent : (m : ℕ) (e : EndState) → frame_due e ≡ None → frames_of m
 nothing_sent zero e none = refl
 nothing_sent (suc m) e none = rw none refl
 
-pub sends_nothing : (m : ℕ) (n : Losses) (l : Link) (e : EndState) → frame_due e ≡ None → TiedLink n (with_controller l e)
-    → TiedLink (noted_all n l (frames_of m e)) (with_controller (put_all l (frames_of m e)) (after_frames m e))
+pub sends_nothing : (m : ℕ) (n : Losses) (l : ShdlcLink) (e : EndState) → frame_due e ≡ None → TiedLink n (with_shdlc_controller l e)
+    → TiedLink (noted_all n l (frames_of m e)) (with_shdlc_controller (shdlc_put_all l (frames_of m e)) (after_frames m e))
 sends_nothing m n l e none h = rw (nothing_sent m e none, after_frames_idle m e none) h
 
 -- a UA goes first
 abbrev pub with_ua : EndState → EndState
 with_ua e = record e { due = Ua_due ∷ e.due }
 
-turn-ua : (e : EndState) (t : Turn) → turn (with_ua e) t ≡ with_ua (turn e t)
+turn-ua : (e : EndState) (t : ShdlcTurn) → shdlc_turn (with_ua e) t ≡ with_ua (shdlc_turn e t)
 turn-ua e (Offer fragments) = go e.phase refl
   where
-    go : (p : LinkState) → e.phase ≡ p → turn (with_ua e) (Offer fragments) ≡ with_ua (turn e (Offer fragments))
+    go : (p : LinkState) → e.phase ≡ p → shdlc_turn (with_ua e) (Offer fragments) ≡ with_ua (shdlc_turn e (Offer fragments))
     go Up q = rw q refl
     go Waiting q = rw q refl
     go Down q = rw q refl
 turn-ua e (SetReady r) = go e.ready r e.session.answered_rnr refl refl
   where
-    go : (a b c : Bool) → e.ready ≡ a → e.session.answered_rnr ≡ c → turn (with_ua e) (SetReady b) ≡ with_ua (turn e (SetReady b))
+    go : (a b c : Bool) → e.ready ≡ a → e.session.answered_rnr ≡ c → shdlc_turn (with_ua e) (SetReady b) ≡ with_ua (shdlc_turn e (SetReady b))
     go true true c p q = rw p refl
     go false false c p q = rw p refl
     go true false c p q = rw p refl
     go false true true p q = rw (p, q) refl
     go false true false p q = rw (p, q) refl
 
-turned-ua : (ts : List Turn) (e : EndState) → turned (with_ua e) ts ≡ with_ua (turned e ts)
+turned-ua : (ts : List ShdlcTurn) (e : EndState) → shdlc_turned (with_ua e) ts ≡ with_ua (shdlc_turned e ts)
 turned-ua [] e = refl
-turned-ua (t ∷ ts) e = ap (λ f. turned f ts) (turn-ua e t) ∙ turned-ua ts (turn e t)
+turned-ua (t ∷ ts) e = ap (λ f. shdlc_turned f ts) (turn-ua e t) ∙ turned-ua ts (shdlc_turn e t)
 
-pub sends_ua : (m : ℕ) (n : Losses) (ts : List Turn) (l : Link) (e : EndState)
-    → TiedLink (noted_all (noted n l Ua) (put l Ua) (frames_of m (turned e ts)))
-    (with_controller (put_all (put l Ua) (frames_of m (turned e ts))) (after_frames m (turned e ts)))
-    → TiedLink (noted_all n l (frames_of (suc m) (turned (with_ua e) ts)))
-    (with_controller (put_all l (frames_of (suc m) (turned (with_ua e) ts))) (after_frames (suc m) (turned (with_ua e) ts)))
+pub sends_ua : (m : ℕ) (n : Losses) (ts : List ShdlcTurn) (l : ShdlcLink) (e : EndState)
+    → TiedLink (noted_all (noted_loss n l Ua) (shdlc_put l Ua) (frames_of m (shdlc_turned e ts)))
+    (with_shdlc_controller (shdlc_put_all (shdlc_put l Ua) (frames_of m (shdlc_turned e ts))) (after_frames m (shdlc_turned e ts)))
+    → TiedLink (noted_all n l (frames_of (suc m) (shdlc_turned (with_ua e) ts)))
+    (with_shdlc_controller (shdlc_put_all l (frames_of (suc m) (shdlc_turned (with_ua e) ts))) (after_frames (suc m) (shdlc_turned (with_ua e) ts)))
 sends_ua m n ts l e h =
     let P : EndState → Type 0 = λ f. TiedLink (noted_all n l (frames_of (suc m) f))
-    (with_controller (put_all l (frames_of (suc m) f)) (after_frames (suc m) f)) in
+    (with_shdlc_controller (shdlc_put_all l (frames_of (suc m) f)) (after_frames (suc m) f)) in
     subst P (sym (turned-ua ts e)) h
 
 -- an end that is in no session
@@ -419,7 +419,7 @@ pub after_frames-phase : (m : ℕ) (e : EndState) → (after_frames m e).phase �
 after_frames-phase zero e = refl
 after_frames-phase (suc m) e = after_frames-phase m (fetched e) ∙ fetched-phase e
 
-put-to_controller : (l : Link) (c : Control) → (put l c).to_controller ≡ l.to_controller
+put-to_controller : (l : ShdlcLink) (c : Control) → (shdlc_put l c).to_controller ≡ l.to_controller
 put-to_controller l (Rset _ _) = refl
 put-to_controller l (I _ _ _) = refl
 put-to_controller l (S _ _) = refl
@@ -427,17 +427,17 @@ put-to_controller l Ua = refl
 put-to_controller l (Act _ _) = refl
 put-to_controller l Clt = refl
 
-pub put_all-to_controller : (cs : List Control) (l : Link) → (put_all l cs).to_controller ≡ l.to_controller
+pub put_all-to_controller : (cs : List Control) (l : ShdlcLink) → (shdlc_put_all l cs).to_controller ≡ l.to_controller
 put_all-to_controller [] l = refl
-put_all-to_controller (c ∷ cs) l = put_all-to_controller cs (put l c) ∙ put-to_controller l c
+put_all-to_controller (c ∷ cs) l = put_all-to_controller cs (shdlc_put l c) ∙ put-to_controller l c
 
-pub tied_none : (m : ℕ) (n : Losses) (l : Link) (e : EndState) → live e.phase (sans l.to_controller) ≡ None
-    → TiedLink (noted_all n l (frames_of m e)) (with_controller (put_all l (frames_of m e)) (after_frames m e))
+pub tied_none : (m : ℕ) (n : Losses) (l : ShdlcLink) (e : EndState) → live e.phase (sans l.to_controller) ≡ None
+    → TiedLink (noted_all n l (frames_of m e)) (with_shdlc_controller (shdlc_put_all l (frames_of m e)) (after_frames m e))
 tied_none m n l e none w a b p q = absurd (let z : None ≡ Some a = sym (rw (after_frames-phase m e, put_all-to_controller (frames_of m e) l) none) ∙ p in cc)
 
-pub turned-phase : (ts : List Turn) (e : EndState) → (turned e ts).phase ≡ e.phase
+pub turned-phase : (ts : List ShdlcTurn) (e : EndState) → (shdlc_turned e ts).phase ≡ e.phase
 turned-phase [] e = refl
-turned-phase (t ∷ ts) e = turned-phase ts (turn e t) ∙ turn-phase e t
+turned-phase (t ∷ ts) e = turned-phase ts (shdlc_turn e t) ∙ turn-phase e t
 
 -- ## Older wires
 

@@ -6,13 +6,13 @@ use Rattle.trace_model.specs.declared.entry.Entry.{Entry}
 use Rattle.trace_model.specs.declared.entry.Entry.TheVariants as entry
 use Rattle.trace_model.specs.declared.line.End.{End}
 use Rattle.shdlc_core.specs.declared.answers.LinkState.TheVariants.{Up as IsUp}
-use Rattle.message_link.specs.Links.{Half, Link, number_of}
+use Rattle.message_link.specs.Links.{NumberedEnd, Link, number_of}
 use Rattle.message_link.specs.Links.IsStart.{IsLine}
 use Rattle.link_entries.specs.Entries.{End as Side, Entry as Noted, entries}
 use Rattle.link_entries.specs.Entries.End.{Controller, Host}
 use Rattle.link_entries.specs.Entries.Entry.{Up, Down, Active, GaveUp, Acked, Got, Sent, Emit, Took, Lost, Tick, Restarted, Cut}
-use Rattle.link_entries.specs.Filters.{same_end as same_side}
-use Rattle.link_entries.specs.Sessions.{session_in, session_now as link_session}
+use Rattle.link_entries.specs.Filters.{same_link_end as same_side}
+use Rattle.link_entries.specs.Sessions.{session_in, number_now as link_session}
 use Rattle.link_entries.proofs.Hearing.{heard, up_session}
 use Rattle.link_entries.proofs.Heard.{controller_heard, host_heard}
 use Rattle.history.specs.Filters.{Saying, same_end, said, said_of}
@@ -165,7 +165,7 @@ module _ (h : ℕ) (l : Link) (t : List Entry) (a : IsLinkTold h l t) where
   abbrev notes : List Noted
   notes = entries new_line a.events
 
-  numbered : (who : Side) (node : ℕ) (k : Half) → (end_of h who).link ≡ h → session_in notes who ≡ link_session k → IsNumbered t (end_of h who) node k
+  numbered : (who : Side) (node : ℕ) (k : NumberedEnd) → (end_of h who).link ≡ h → session_in notes who ≡ link_session k → IsNumbered t (end_of h who) node k
   numbered who node k here is = record {
     noted = noted;
     read = λ n up q. let one : Some (number_of k) ≡ Some n = sym (noted up) ∙ read_then (end_of h who) node t n q in cc;

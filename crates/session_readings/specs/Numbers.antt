@@ -5,7 +5,7 @@ use Rattle.trace_model.specs.declared.entry.Entry.{Entry}
 use Rattle.trace_model.specs.declared.entry.Entry.TheVariants.{Cut}
 use Rattle.trace_model.specs.declared.line.End.{End}
 use Rattle.shdlc_core.specs.declared.answers.LinkState.TheVariants.{Up}
-use Rattle.message_link.specs.Links.{Half, Link, number_of}
+use Rattle.message_link.specs.Links.{NumberedEnd, Link, number_of}
 use Rattle.history.specs.Filters.{Saying, said_of}
 use Rattle.history.specs.Filters.Saying.{Begins, Ends}
 use Rattle.node_world.specs.World.{end_c, end_h}
@@ -28,7 +28,7 @@ is_cut node _ = false
 
 -- Where an end is up, the session that was noted last is the one that it has. Where a session is read off the entries, with the cuts
 -- of the power of its node, it is this one, and it is read where that power was never cut.
-pub record IsNumbered (t : List Entry) (e : End) (node : ℕ) (h : Half) : Type 0 where
+pub record IsNumbered (t : List Entry) (e : End) (node : ℕ) (h : NumberedEnd) : Type 0 where
   pub noted : h.side.shdlc.phase ≡ Up → session_noted t e ≡ Some (number_of h)
   pub read : (n : ℕ) → h.side.shdlc.phase ≡ Up → session_now t e node ≡ Some n → number_of h ≡ n
   pub uncut : h.side.shdlc.phase ≡ Up → list_any (is_cut node) t ≡ false → session_now t e node ≡ Some (number_of h)

@@ -14,10 +14,10 @@ use Rattle.shdlc_core.specs.declared.answers.LinkState.{LinkState}
 use Rattle.shdlc_core.specs.declared.answers.LinkState.TheVariants.{Down, Waiting, Up}
 use Rattle.shdlc_core.specs.declared.answers.Due.{Due}
 use Rattle.shdlc_core.specs.declared.answers.Due.TheVariants.{Rr as Due_rr, Rej as Due_rej, Rnr as Due_rnr, Rset as Due_rset, Ua as Due_ua}
-use Rattle.shdlc_core.specs.Machine.{begun, stopped, after_inputs, fragment_due, sent_next, Timed, timed, runs_timer, up_with, waiting_from, given_up, sent_again, EndState, EndInput, EndOutput, Fragment, Session, end_step, new_session, no_session, new_end, place_of, received, acknowledged, fragment_accepted, ready_again, rejected, made_busy}
+use Rattle.shdlc_core.specs.Machine.{begun, stopped, shdlc_after_inputs, fragment_due, sent_next, Timed, timed, runs_timer, up_with, waiting_from, given_up, sent_again, EndState, EndInput, EndOutput, Fragment, Session, end_step, new_session, no_session, new_end, place_of, received, acknowledged, fragment_accepted, ready_again, rejected, made_busy}
 use Rattle.shdlc_core.specs.Machine.Timed.{Runs, Over, Spent}
 use Rattle.shdlc_core.specs.Machine.EndInput.{Begin, Offer, Take, Tick, Reset, Stop, SetReady, NextOut}
-use Rattle.shdlc_core.specs.Histories.{History, no_history, with_answer, history_after, IsNextFragment, IsOneSession, Begins, accepted_at}
+use Rattle.shdlc_core.specs.Histories.{SessionHistory, no_history, with_answer, history_after, IsNextFragment, IsOneSession, Begins, accepted_at}
 
 -- an end that isn't Up has nothing of a session
 abbrev pub IsIdle : LinkState → Session → Type 0
@@ -33,7 +33,7 @@ pub record IsOrdered (s : Session) : Type 0 where
   pub window : s.reached ≤ s.acked + s.window
 
 -- what is true of an end in this phase, whose session s has this history
-pub record HoldsFor (phase : LinkState) (s : Session) (h : History) : Type 0 where
+pub record HoldsFor (phase : LinkState) (s : Session) (h : SessionHistory) : Type 0 where
   pub accepted : s.acc ≡ h.accepted
   pub offered : s.out ≡ h.offered
   pub acked : s.acked ≡ h.acked
@@ -41,11 +41,11 @@ pub record HoldsFor (phase : LinkState) (s : Session) (h : History) : Type 0 whe
   pub sent : (p : ℕ) → Contains h.sent p ↔ (p < s.reached)
   pub idle : IsIdle phase s
 
-abbrev pub Holds : EndState → History → Type 0
+abbrev pub Holds : EndState → SessionHistory → Type 0
 Holds e h = HoldsFor e.phase e.session h
 
 -- what is true after an input with this answer
-abbrev Along : EndState → History → EndInput → EndState × EndOutput → Type 0
+abbrev Along : EndState → SessionHistory → EndInput → EndState × EndOutput → Type 0
 Along e h i r = Holds r.0 (with_answer e.session h i r.1)
 
 none_sent : (p : ℕ) → Contains {X = ℕ} [] p ↔ (p < 0)
@@ -63,10 +63,10 @@ fresh e w q idle = record {
 }
 
 -- nothing that a history tells happens
-abbrev same_history : History → History
+abbrev same_history : SessionHistory → SessionHistory
 same_history h = record { accepted = h.accepted ++ []; offered = h.offered ++ []; acked = h.acked + 0; sent = h.sent ++ [] }
 
-same : (h : History) → same_history h ≡ h
+same : (h : SessionHistory) → same_history h ≡ h
 same h = rw (append-nil h.accepted, append-nil h.offered, append-nil h.sent) (ap (λ n. record h { acked = n }) (omega arith))
 
 -- numbers below the place that a taken N(R) means
@@ -98,11 +98,11 @@ record Moves (s t : Session) (x : ℕ) (more : List Fragment) : Type 0 where
   high : t.next ≤ s.reached
   acc : t.acc ≡ s.acc ++ more
 
-abbrev moved_history : History → Session → ℕ → List Fragment → History
+abbrev moved_history : SessionHistory → Session → ℕ → List Fragment → SessionHistory
 moved_history h s x more =
     record { accepted = h.accepted ++ more; offered = h.offered ++ []; acked = h.acked + (x - s.acked); sent = h.sent ++ [] }
 
-moved : (e f : EndState) (h : History) (x : ℕ) (more : List Fragment) → Holds e h → f.phase ≡ Up →
+moved : (e f : EndState) (h : SessionHistory) (x : ℕ) (more : List Fragment) → Holds e h → f.phase ≡ Up →
     e.session.acked ≤ x → x ≤ e.session.reached → Moves e.session f.session x more → Holds f (moved_history h e.session x more)
 moved e f h x more k up low high m = record {
   accepted = m.acc ∙ ap (λ l. l ++ more) k.accepted;
@@ -118,17 +118,17 @@ moved e f h x more k up low high m = record {
   idle = subst (λ phase. IsIdle phase f.session) (sym up) tt;
 }
 
-unchanged : (e : EndState) (h : History) → Holds e h → Holds e (same_history h)
+unchanged : (e : EndState) (h : SessionHistory) → Holds e h → Holds e (same_history h)
 unchanged e h k = subst (Holds e) (sym (same h)) k
 
 -- the end, with this phase
 abbrev pub in_phase : LinkState → EndState → EndState
 in_phase p e = record e { phase = p }
 
-abbrev Keeps : EndState → History → EndInput → Type 0
+abbrev Keeps : EndState → SessionHistory → EndInput → Type 0
 Keeps e h i = Holds e h → Along e h i (end_step e i)
 
-fragment-up : (e : EndState) (h : History) (ns nr : ℕ) (info : Fragment) (o : Option ℕ) → place_of e.session nr ≡ o →
+fragment-up : (e : EndState) (h : SessionHistory) (ns nr : ℕ) (info : Fragment) (o : Option ℕ) → place_of e.session nr ≡ o →
     Keeps (in_phase Up e) h (Take (I ns nr info))
 fragment-up e h ns nr info None q k = rw q (unchanged (in_phase Up e) h k)
 fragment-up e h ns nr info (Some x) q k =
@@ -148,7 +148,7 @@ fragment-up e h ns nr info (Some x) q k =
       acc = received-accepted f ns info;
     }))
 
-supervised-up : (e : EndState) (h : History) (kind : Kind) (nr : ℕ) (o : Option ℕ) → place_of e.session nr ≡ o →
+supervised-up : (e : EndState) (h : SessionHistory) (kind : Kind) (nr : ℕ) (o : Option ℕ) → place_of e.session nr ≡ o →
     Keeps (in_phase Up e) h (Take (S kind nr))
 supervised-up e h Srej nr o q k = unchanged (in_phase Up e) h k
 supervised-up e h Rr nr None q k = rw q (unchanged (in_phase Up e) h k)
@@ -194,19 +194,19 @@ supervised-up e h Rnr nr (Some x) q k =
       acc = sym (append-nil e.session.acc);
     }))
 
-reset-up : (e : EndState) (h : History) (w caps : ℕ) (b : Bool) → (w == 0) ≡ b → Keeps (in_phase Up e) h (Take (Rset w caps))
+reset-up : (e : EndState) (h : SessionHistory) (w caps : ℕ) (b : Bool) → (w == 0) ≡ b → Keeps (in_phase Up e) h (Take (Rset w caps))
 reset-up e h w caps true q k = rw q (unchanged (in_phase Up e) h k)
 reset-up e h w caps false q k = rw q (fresh (up_with e (min e.own_window (min w 4))) (min e.own_window (min w 4)) refl tt)
 
-reset-down : (e : EndState) (h : History) (w caps : ℕ) (b : Bool) → (w == 0) ≡ b → Keeps (in_phase Down e) h (Take (Rset w caps))
+reset-down : (e : EndState) (h : SessionHistory) (w caps : ℕ) (b : Bool) → (w == 0) ≡ b → Keeps (in_phase Down e) h (Take (Rset w caps))
 reset-down e h w caps true q k = rw q (unchanged (in_phase Down e) h k)
 reset-down e h w caps false q k = rw q (fresh (up_with e (min e.own_window (min w 4))) (min e.own_window (min w 4)) refl tt)
 
-reset-waiting : (e : EndState) (h : History) (w caps : ℕ) (b : Bool) → (w == 0) ≡ b → Keeps (in_phase Waiting e) h (Take (Rset w caps))
+reset-waiting : (e : EndState) (h : SessionHistory) (w caps : ℕ) (b : Bool) → (w == 0) ≡ b → Keeps (in_phase Waiting e) h (Take (Rset w caps))
 reset-waiting e h w caps true q k = rw q (unchanged (in_phase Waiting e) h k)
 reset-waiting e h w caps false q k = rw q (unchanged (in_phase Waiting e) h k)
 
-take-up : (e : EndState) (h : History) (c : Control) → Keeps (in_phase Up e) h (Take c)
+take-up : (e : EndState) (h : SessionHistory) (c : Control) → Keeps (in_phase Up e) h (Take c)
 take-up e h (I ns nr info) k = fragment-up e h ns nr info _ refl k
 take-up e h (S kind nr) k = supervised-up e h kind nr _ refl k
 take-up e h (Rset w caps) k = reset-up e h w caps _ refl k
@@ -214,7 +214,7 @@ take-up e h Ua k = unchanged (in_phase Up e) h k
 take-up e h (Act act again) k = unchanged (in_phase Up e) h k
 take-up e h Clt k = unchanged (in_phase Up e) h k
 
-take-down : (e : EndState) (h : History) (c : Control) → Keeps (in_phase Down e) h (Take c)
+take-down : (e : EndState) (h : SessionHistory) (c : Control) → Keeps (in_phase Down e) h (Take c)
 take-down e h (I ns nr info) k = unchanged (in_phase Down e) h k
 take-down e h (S kind nr) k = unchanged (in_phase Down e) h k
 take-down e h (Rset w caps) k = reset-down e h w caps _ refl k
@@ -222,7 +222,7 @@ take-down e h Ua k = unchanged (in_phase Down e) h k
 take-down e h (Act act again) k = unchanged (in_phase Down e) h k
 take-down e h Clt k = unchanged (in_phase Down e) h k
 
-take-waiting : (e : EndState) (h : History) (c : Control) → Keeps (in_phase Waiting e) h (Take c)
+take-waiting : (e : EndState) (h : SessionHistory) (c : Control) → Keeps (in_phase Waiting e) h (Take c)
 take-waiting e h (I ns nr info) k = unchanged (in_phase Waiting e) h k
 take-waiting e h (S kind nr) k = unchanged (in_phase Waiting e) h k
 take-waiting e h (Rset w caps) k = reset-waiting e h w caps _ refl k
@@ -236,7 +236,7 @@ sent_again-ordered s o =
     let a = o.next in let b = o.reached in
     record { next = omega arith; reached = omega arith; offered = o.offered; window = o.window }
 
-tick-up : (e : EndState) (h : History) (runs : Bool) (t : Timed) → runs_timer e.session ≡ runs → timed e ≡ t → Keeps (in_phase Up e) h Tick
+tick-up : (e : EndState) (h : SessionHistory) (runs : Bool) (t : Timed) → runs_timer e.session ≡ runs → timed e ≡ t → Keeps (in_phase Up e) h Tick
 tick-up e h false t r q k = rw r (unchanged (in_phase Up e) h k)
 tick-up e h true Runs r q k = rw (r, q) (unchanged (in_phase Up e) h k)
 tick-up e h true Over r q k =
@@ -251,7 +251,7 @@ tick-up e h true Over r q k =
     }))
 tick-up e h true Spent r q k = rw (r, q) (fresh (waiting_from (in_phase Up e)) 0 refl refl)
 
-tick-waiting : (e : EndState) (h : History) (t : Timed) → timed e ≡ t → Keeps (in_phase Waiting e) h Tick
+tick-waiting : (e : EndState) (h : SessionHistory) (t : Timed) → timed e ≡ t → Keeps (in_phase Waiting e) h Tick
 tick-waiting e h Runs q k = rw q (unchanged (in_phase Waiting e) h k)
 tick-waiting e h Over q k = rw q (unchanged (in_phase Waiting e) h k)
 tick-waiting e h Spent q k =
@@ -265,7 +265,7 @@ tick-waiting e h Spent q k =
       idle = k.idle;
     }))
 
-offer-up : (e : EndState) (h : History) (info : Fragment) (b : Bool) → nat_lt (length e.session.out) (e.session.acked + 4) ≡ b →
+offer-up : (e : EndState) (h : SessionHistory) (info : Fragment) (b : Bool) → nat_lt (length e.session.out) (e.session.acked + 4) ≡ b →
     Keeps (in_phase Up e) h (Offer info)
 offer-up e h info false q k = rw q (unchanged (in_phase Up e) h k)
 offer-up e h info true q k =
@@ -284,13 +284,13 @@ offer-up e h info true q k =
       idle = tt;
     })
 
-reset-asked : (e : EndState) (h : History) (w : ℕ) (p : LinkState) → Keeps (in_phase p e) h (Reset w)
+reset-asked : (e : EndState) (h : SessionHistory) (w : ℕ) (p : LinkState) → Keeps (in_phase p e) h (Reset w)
 reset-asked e h w Waiting k = unchanged (in_phase Waiting e) h k
 reset-asked e h w Up k = fresh (waiting_from (in_phase Up e)) 0 refl refl
 reset-asked e h w Down k = fresh (waiting_from (in_phase Down e)) 0 refl refl
 
 -- that RNR was answered is forgotten
-forgotten : (p : LinkState) (s : Session) (h : History) → HoldsFor p s h → HoldsFor p (record s { answered_rnr = false }) h
+forgotten : (p : LinkState) (s : Session) (h : SessionHistory) → HoldsFor p s h → HoldsFor p (record s { answered_rnr = false }) h
 forgotten p s h k = record {
   accepted = k.accepted;
   offered = k.offered;
@@ -304,7 +304,7 @@ forgotten p s h k = record {
   idle Down i = ap (λ (s : Session). record s { answered_rnr = false }) i
   idle Waiting i = ap (λ (s : Session). record s { answered_rnr = false }) i
 
-set_ready : (e : EndState) (h : History) (p : LinkState) (r was answered : Bool) → e.ready ≡ was → e.session.answered_rnr ≡ answered →
+set_ready : (e : EndState) (h : SessionHistory) (p : LinkState) (r was answered : Bool) → e.ready ≡ was → e.session.answered_rnr ≡ answered →
     Keeps (in_phase p e) h (SetReady r)
 set_ready e h p true true a q w k = rw q (unchanged (in_phase p e) h k)
 set_ready e h p false false a q w k = rw q (unchanged (in_phase p e) h k)
@@ -332,7 +332,7 @@ sent_place xs n m p l k = (there, back) where
     cases (inr a) = let c : n ≡ p = omega arith in Contains-append_right xs (n ∷ []) p (0, omega arith, c)
 
 -- a fragment goes out of an end that is Up
-sent_out : (p : LinkState) (s : Session) (h : History) (info : Fragment) → fragment_due s ≡ Some info → HoldsFor p s h →
+sent_out : (p : LinkState) (s : Session) (h : SessionHistory) (info : Fragment) → fragment_due s ≡ Some info → HoldsFor p s h →
     HoldsFor p (sent_next s) (record h { sent = h.sent ++ s.next ∷ [] })
 sent_out p s h info q k = record {
   accepted = k.accepted;
@@ -356,7 +356,7 @@ sent_out p s h info q k = record {
   idle Down i = absurd (none i)
   idle Waiting i = absurd (none i)
 
-fragment_out : (e : EndState) (h : History) (p : LinkState) (o : Option Fragment) → e.due ≡ [] → fragment_due e.session ≡ o →
+fragment_out : (e : EndState) (h : SessionHistory) (p : LinkState) (o : Option Fragment) → e.due ≡ [] → fragment_due e.session ≡ o →
     Keeps (in_phase p e) h NextOut
 fragment_out e h p None d q k = rw (d, q) (unchanged (in_phase p e) h k)
 fragment_out e h p (Some info) d q k =
@@ -372,7 +372,7 @@ fragment_out e h p (Some info) d q k =
       out : HoldsFor p (sent_next e.session) (record h { sent = h.sent ++ e.session.next ∷ [] })
       out = sent_out p e.session h info q k
 
-next_out : (e : EndState) (h : History) (p : LinkState) (ds : List Due) → e.due ≡ ds → Keeps (in_phase p e) h NextOut
+next_out : (e : EndState) (h : SessionHistory) (p : LinkState) (ds : List Due) → e.due ≡ ds → Keeps (in_phase p e) h NextOut
 next_out e h p [] d k = fragment_out e h p _ d refl k
 next_out e h p (Due_rr ∷ ds) d k = rw d (unchanged (in_phase p e) h k)
 next_out e h p (Due_rej ∷ ds) d k = rw d (unchanged (in_phase p e) h k)
@@ -380,7 +380,7 @@ next_out e h p (Due_rnr ∷ ds) d k = rw d (unchanged (in_phase p e) h k)
 next_out e h p (Due_rset ∷ ds) d k = rw d (unchanged (in_phase p e) h k)
 next_out e h p (Due_ua ∷ ds) d k = rw d (unchanged (in_phase p e) h k)
 
-step-phase : (e : EndState) (h : History) (i : EndInput) (p : LinkState) → Keeps (in_phase p e) h i
+step-phase : (e : EndState) (h : SessionHistory) (i : EndInput) (p : LinkState) → Keeps (in_phase p e) h i
 step-phase e h Begin p k = fresh (begun (in_phase p e)) e.own_window refl tt
 step-phase e h Stop p k = fresh (stopped (in_phase p e)) 0 refl refl
 step-phase e h (Reset w) p k = reset-asked e h w p k
@@ -397,15 +397,15 @@ step-phase e h Tick Down k = unchanged (in_phase Down e) h k
 step-phase e h Tick Waiting k = tick-waiting e h _ refl k
 
 -- a step keeps it
-pub step-Holds : (e : EndState) (h : History) (i : EndInput) → Holds e h → Along e h i (end_step e i)
+pub step-Holds : (e : EndState) (h : SessionHistory) (i : EndInput) → Holds e h → Along e h i (end_step e i)
 step-Holds e h i k = step-phase e h i e.phase k
 
-pub run-Holds : (e : EndState) (h : History) (inputs : List EndInput) → Holds e h → Holds (after_inputs e inputs) (history_after e h inputs)
+pub run-Holds : (e : EndState) (h : SessionHistory) (inputs : List EndInput) → Holds e h → Holds (shdlc_after_inputs e inputs) (history_after e h inputs)
 run-Holds e h [] k = k
 run-Holds e h (i ∷ inputs) k = run-Holds (end_step e i).0 (with_answer e.session h i (end_step e i).1) inputs (step-Holds e h i k)
 
 -- from a new end on
-pub new-Holds : (w : ℕ) (inputs : List EndInput) → Holds (after_inputs (new_end w) inputs) (history_after (new_end w) no_history inputs)
+pub new-Holds : (w : ℕ) (inputs : List EndInput) → Holds (shdlc_after_inputs (new_end w) inputs) (history_after (new_end w) no_history inputs)
 new-Holds w inputs = run-Holds (new_end w) no_history inputs (fresh (new_end w) 0 refl refl)
 
 -- ## What follows for each law
@@ -420,7 +420,7 @@ idle-session Up s n i = absurd (n refl)
 idle-session Down s n i = i
 idle-session Waiting s n i = i
 
-pub idle-history : (p : LinkState) (s : Session) (h : History) → HoldsFor p s h → p ≢ Up →
+pub idle-history : (p : LinkState) (s : Session) (h : SessionHistory) → HoldsFor p s h → p ≢ Up →
     (h.accepted ≡ []) × (h.offered ≡ []) × (h.sent ≡ [])
 idle-history p s h k n =
     let i = idle-session p s n k.idle in (
@@ -429,14 +429,14 @@ idle-history p s h k n =
       no_elements h.sent (λ q w. let b = subst (λ (s : Session). q < s.reached) i ((k.sent q).0 w) in omega arith),
     )
 
-pub idle-fragment : (p : LinkState) (s : Session) (h : History) (info : Fragment) → HoldsFor p s h → p ≢ Up →
+pub idle-fragment : (p : LinkState) (s : Session) (h : SessionHistory) (info : Fragment) → HoldsFor p s h → p ≢ Up →
     fragment_due s ≡ Some info → ⊥
 idle-fragment p s h info k n f =
     let i = idle-session p s n k.idle in
     let w = subst (λ (s : Session). s.next < s.acked + s.window) i (fragment_due-within s info f).0 in omega arith
 
 -- the fragment that is sent next
-pub next-fragment : (p : LinkState) (s : Session) (h : History) (ns : ℕ) (info : Fragment) → HoldsFor p s h →
+pub next-fragment : (p : LinkState) (s : Session) (h : SessionHistory) (ns : ℕ) (info : Fragment) → HoldsFor p s h →
     fragment_due s ≡ Some info → ns ≡ s.next % 8 → IsNextFragment h s.window ns info
 next-fragment p s h ns info k f n =
     let within = fragment_due-within s info f in
@@ -450,7 +450,7 @@ next-fragment p s h ns info k f n =
       no_hole = λ q l. let o = k.ordered.reached in (k.sent q).1 (omega arith);
     }
 
-one_session-grows : (e : EndState) (h : History) (inputs : List EndInput) → IsOneSession e inputs →
+one_session-grows : (e : EndState) (h : SessionHistory) (inputs : List EndInput) → IsOneSession e inputs →
     Begins (history_after e h inputs).accepted h.accepted
 one_session-grows e h [] one = ([], sym (append-nil h.accepted))
 one_session-grows e h (i ∷ inputs) one =
@@ -460,8 +460,8 @@ one_session-grows e h (i ∷ inputs) one =
       later.1 ∙ ap (λ l. l ++ later.0) grown ∙ append_assoc h.accepted (accepted_at (end_step e i).1) later.0,
     )
 
-pub accepted-grows : (e : EndState) (h : History) (inputs : List EndInput) → Holds e h → IsOneSession e inputs →
-    Begins (after_inputs e inputs).session.acc e.session.acc
+pub accepted-grows : (e : EndState) (h : SessionHistory) (inputs : List EndInput) → Holds e h → IsOneSession e inputs →
+    Begins (shdlc_after_inputs e inputs).session.acc e.session.acc
 accepted-grows e h inputs k one =
     let after = run-Holds e h inputs k in
     let grown = one_session-grows e h inputs one in

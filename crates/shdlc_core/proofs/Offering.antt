@@ -14,7 +14,7 @@ use Rattle.shdlc_core.specs.declared.answers.Taken.{Taken}
 use Rattle.shdlc_core.specs.declared.answers.Due.{Due}
 use Rattle.shdlc_core.specs.declared.answers.Due.TheVariants.{Rr as Rr_due, Rej as Rej_due, Rnr as Rnr_due, Rset as Rset_due, Ua as Ua_due}
 use Rattle.shdlc_core.specs.Machine.{EndState, Session, Fragment, runs_timer, taken, take_answer, ticked, tick_answer, reset_with, with_ready, fetched, frame_due, fragment_due, sent_next, sent_again, asked_again, given_up, place_of, ahead, accepted, repeated, discarded, acknowledged, ready_again, rejected, made_busy, received, fragment_accepted, is_waiting, up_with, offered, put_out, stopped, no_session}
-use Rattle.shdlc_core.specs.Kept.{Kept, StandsFor}
+use Rattle.shdlc_core.specs.Kept.{KeptEnd, ShdlcStandsFor}
 use Rattle.shdlc_core.specs.Offering.{with_out, left_waiting, IsNarrow, HasSession, StandsBefore, StandsWith}
 use Rattle.std.specs.Option.{option_to_list}
 use Rattle.shdlc_core.proofs.Histories.{in_phase, place_of-within}
@@ -391,8 +391,8 @@ left_append : (b : Bool) (o waiting : List Fragment) → left_waiting b (o ++ wa
 left_append true o waiting = refl
 left_append false o waiting = refl
 
-stands_after : (k : Kept) (waiting : List Fragment) (e new : EndState) (h_offered : List Fragment) (b : Bool) → e.session.out ≡ h_offered ++ waiting
-    → new.session.out ≡ left_waiting b e.session.out → StandsFor k (with_out new (left_waiting b h_offered)) → IsNarrow new → HasSession new.phase new.session
+stands_after : (k : KeptEnd) (waiting : List Fragment) (e new : EndState) (h_offered : List Fragment) (b : Bool) → e.session.out ≡ h_offered ++ waiting
+    → new.session.out ≡ left_waiting b e.session.out → ShdlcStandsFor k (with_out new (left_waiting b h_offered)) → IsNarrow new → HasSession new.phase new.session
     → StandsBefore k (left_waiting b waiting) new
 stands_after k waiting e new o b out left kept narrow session = record {
   offered = left_waiting b o;
@@ -402,51 +402,51 @@ stands_after k waiting e new o b out left kept narrow session = record {
   session = session;
 }
 
-pub stands_taken : (k new : Kept) (waiting : List Fragment) (e : EndState) (c : Control) (h : StandsBefore k waiting e)
-    → StandsFor new (taken (with_out e h.offered) c) → StandsBefore new (left_waiting (take_answer e c).began waiting) (taken e c)
+pub stands_taken : (k new : KeptEnd) (waiting : List Fragment) (e : EndState) (c : Control) (h : StandsBefore k waiting e)
+    → ShdlcStandsFor new (taken (with_out e h.offered) c) → StandsBefore new (left_waiting (take_answer e c).began waiting) (taken e c)
 stands_taken k new waiting e c h kept =
     let a = taken_alike e h.offered c in
-    stands_after new waiting e (taken e c) h.offered (take_answer e c).began h.out a.out (subst (StandsFor new) a.same kept) (a.narrow h.narrow) (a.session h.session)
+    stands_after new waiting e (taken e c) h.offered (take_answer e c).began h.out a.out (subst (ShdlcStandsFor new) a.same kept) (a.narrow h.narrow) (a.session h.session)
 
-pub stands_ticked : (k new : Kept) (waiting : List Fragment) (e : EndState) (h : StandsWith k waiting e)
-    → StandsFor new (ticked (with_out e h.stands.offered)) → StandsBefore new (left_waiting (is_some (tick_answer e).ended) waiting) (ticked e)
+pub stands_ticked : (k new : KeptEnd) (waiting : List Fragment) (e : EndState) (h : StandsWith k waiting e)
+    → ShdlcStandsFor new (ticked (with_out e h.stands.offered)) → StandsBefore new (left_waiting (is_some (tick_answer e).ended) waiting) (ticked e)
 stands_ticked k new waiting e h kept =
     let s = h.stands in
     let next = s.kept.sender.next in
     let a = ticked_alike e s.offered waiting s.out h.full (omega arith) in
-    stands_after new waiting e (ticked e) s.offered (is_some (tick_answer e).ended) s.out a.out (subst (StandsFor new) a.same kept) (a.narrow s.narrow) (a.session s.session)
+    stands_after new waiting e (ticked e) s.offered (is_some (tick_answer e).ended) s.out a.out (subst (ShdlcStandsFor new) a.same kept) (a.narrow s.narrow) (a.session s.session)
 
-pub stands_reset : (k new : Kept) (waiting : List Fragment) (e : EndState) (w : ℕ) (h : StandsBefore k waiting e) → w ≤ 4
-    → StandsFor new (reset_with (with_out e h.offered) w) → StandsBefore new (left_waiting (not (is_waiting e)) waiting) (reset_with e w)
+pub stands_reset : (k new : KeptEnd) (waiting : List Fragment) (e : EndState) (w : ℕ) (h : StandsBefore k waiting e) → w ≤ 4
+    → ShdlcStandsFor new (reset_with (with_out e h.offered) w) → StandsBefore new (left_waiting (not (is_waiting e)) waiting) (reset_with e w)
 stands_reset k new waiting e w h l kept =
     let a = reset_alike_with e h.offered w in
-    stands_after new waiting e (reset_with e w) h.offered (not (is_waiting e)) h.out a.out (subst (StandsFor new) a.same kept) (a.narrow h.narrow l) (a.session h.session)
+    stands_after new waiting e (reset_with e w) h.offered (not (is_waiting e)) h.out a.out (subst (ShdlcStandsFor new) a.same kept) (a.narrow h.narrow l) (a.session h.session)
 
-pub stands_ready : (k new : Kept) (waiting : List Fragment) (e : EndState) (r : Bool) (h : StandsWith k waiting e)
-    → StandsFor new (with_ready (with_out e h.stands.offered) r) → StandsWith new waiting (with_ready e r)
+pub stands_ready : (k new : KeptEnd) (waiting : List Fragment) (e : EndState) (r : Bool) (h : StandsWith k waiting e)
+    → ShdlcStandsFor new (with_ready (with_out e h.stands.offered) r) → StandsWith new waiting (with_ready e r)
 stands_ready k new waiting e r h kept =
     let s = h.stands in
     let a = ready_alike e s.offered r in
     record {
-      stands = record { offered = s.offered; out = a.out ∙ s.out; kept = subst (StandsFor new) a.same kept; narrow = a.narrow s.narrow; session = a.session s.session };
+      stands = record { offered = s.offered; out = a.out ∙ s.out; kept = subst (ShdlcStandsFor new) a.same kept; narrow = a.narrow s.narrow; session = a.session s.session };
       full = elim h.full [ inl none ↦ inl none | inr four ↦ inr (four ∙ ap (λ n. n + 4) (sym a.acked)) ];
     }
 
-pub stands_fetched : (k new : Kept) (waiting : List Fragment) (e : EndState) (h : StandsWith k waiting e)
-    → StandsFor new (fetched (with_out e h.stands.offered)) → StandsWith new waiting (fetched e)
+pub stands_fetched : (k new : KeptEnd) (waiting : List Fragment) (e : EndState) (h : StandsWith k waiting e)
+    → ShdlcStandsFor new (fetched (with_out e h.stands.offered)) → StandsWith new waiting (fetched e)
 stands_fetched k new waiting e h kept =
     let s = h.stands in
     let a = fetched_alike e s.offered waiting s.out s.narrow.session h.full in
     record {
-      stands = record { offered = s.offered; out = a.out ∙ s.out; kept = subst (StandsFor new) a.same kept; narrow = a.narrow s.narrow; session = a.session s.session };
+      stands = record { offered = s.offered; out = a.out ∙ s.out; kept = subst (ShdlcStandsFor new) a.same kept; narrow = a.narrow s.narrow; session = a.session s.session };
       full = elim h.full [ inl none ↦ inl none | inr four ↦ inr (four ∙ ap (λ n. n + 4) (sym a.acked)) ];
     }
 
-pub frame_with : (k : Kept) (waiting : List Fragment) (e : EndState) (h : StandsWith k waiting e) → frame_due (with_out e h.stands.offered) ≡ frame_due e
+pub frame_with : (k : KeptEnd) (waiting : List Fragment) (e : EndState) (h : StandsWith k waiting e) → frame_due (with_out e h.stands.offered) ≡ frame_due e
 frame_with k waiting e h = let s = h.stands in (fetched_alike e s.offered waiting s.out s.narrow.session h.full).frame
 
-pub stands_stopped : (k new : Kept) (waiting : List Fragment) (e : EndState) (h : StandsBefore k waiting e)
-    → StandsFor new (stopped (with_out e h.offered)) → StandsWith new [] (stopped e)
+pub stands_stopped : (k new : KeptEnd) (waiting : List Fragment) (e : EndState) (h : StandsBefore k waiting e)
+    → ShdlcStandsFor new (stopped (with_out e h.offered)) → StandsWith new [] (stopped e)
 stands_stopped k new waiting e h kept =
     let n = h.narrow in
     record {
@@ -457,7 +457,7 @@ stands_stopped k new waiting e h kept =
 -- ## Offering what waits
 
 -- more fragments wait behind the others
-pub stands_put : (k : Kept) (waiting more : List Fragment) (e : EndState) → e.phase ≡ Up → StandsBefore k waiting e → StandsBefore k (waiting ++ more) (put_out e more)
+pub stands_put : (k : KeptEnd) (waiting more : List Fragment) (e : EndState) → e.phase ≡ Up → StandsBefore k waiting e → StandsBefore k (waiting ++ more) (put_out e more)
 stands_put k waiting more e up h =
     let n = h.narrow in
     record {
@@ -469,8 +469,8 @@ stands_put k waiting more e up h =
     }
 
 -- the first that waits is offered where there is room
-pub stands_offered : (k new : Kept) (info : Fragment) (waiting : List Fragment) (e : EndState) (h : StandsBefore k (info ∷ waiting) e)
-    → k.phase ≡ Up → length k.sender.queue < 4 → StandsFor new (offered (with_out e h.offered) info) → StandsBefore new waiting e
+pub stands_offered : (k new : KeptEnd) (info : Fragment) (waiting : List Fragment) (e : EndState) (h : StandsBefore k (info ∷ waiting) e)
+    → k.phase ≡ Up → length k.sender.queue < 4 → ShdlcStandsFor new (offered (with_out e h.offered) info) → StandsBefore new waiting e
 stands_offered k new info waiting e h up room kept =
     let len = h.kept.sender.offered in
     let few : nat_lt (length h.offered) (e.session.acked + 4) ≡ true = lt-ltb (length h.offered) (e.session.acked + 4) (omega arith) in
@@ -479,7 +479,7 @@ stands_offered k new info waiting e h up room kept =
     record {
       offered = h.offered ++ info ∷ [];
       out = h.out ∙ sym (append_assoc h.offered (info ∷ []) waiting);
-      kept = subst (StandsFor new) taken_is kept;
+      kept = subst (ShdlcStandsFor new) taken_is kept;
       narrow = h.narrow;
       session = h.session;
     }
@@ -494,18 +494,18 @@ idle_waiting Down s o waiting other h out = no_more o waiting (sym (ap (λ (x : 
 idle_waiting Waiting s o waiting other h out = no_more o waiting (sym (ap (λ (x : Session). x.out) h) ∙ out)
 
 -- nothing waits at an end that isn't Up
-pub stands_idle : (k : Kept) (waiting : List Fragment) (e : EndState) (h : StandsBefore k waiting e) → (k.phase ≡ Up → ⊥) → waiting ≡ []
+pub stands_idle : (k : KeptEnd) (waiting : List Fragment) (e : EndState) (h : StandsBefore k waiting e) → (k.phase ≡ Up → ⊥) → waiting ≡ []
 stands_idle k waiting e h other = idle_waiting e.phase e.session h.offered waiting (λ up. other (h.kept.phase ∙ up)) h.session h.out
 
-pub stands_full : (k : Kept) (waiting : List Fragment) (e : EndState) → StandsBefore k waiting e → length k.sender.queue ≡ 4 → StandsWith k waiting e
+pub stands_full : (k : KeptEnd) (waiting : List Fragment) (e : EndState) → StandsBefore k waiting e → length k.sender.queue ≡ 4 → StandsWith k waiting e
 stands_full k waiting e h four = record { stands = h; full = inr (h.kept.sender.offered ∙ ap (λ n. e.session.acked + n) four) }
 
-pub stands_empty : (k : Kept) (waiting : List Fragment) (e : EndState) → StandsBefore k waiting e → waiting ≡ [] → StandsWith k waiting e
+pub stands_empty : (k : KeptEnd) (waiting : List Fragment) (e : EndState) → StandsBefore k waiting e → waiting ≡ [] → StandsWith k waiting e
 stands_empty k waiting e h none = record { stands = h; full = inl none }
 
 -- control frames that are dropped
-pub stands_dropped : (k new : Kept) (waiting : List Fragment) (e : EndState) (h : StandsBefore k waiting e)
-    → StandsFor new (record (with_out e h.offered) { due = [] }) → StandsBefore new waiting (record e { due = [] })
+pub stands_dropped : (k new : KeptEnd) (waiting : List Fragment) (e : EndState) (h : StandsBefore k waiting e)
+    → ShdlcStandsFor new (record (with_out e h.offered) { due = [] }) → StandsBefore new waiting (record e { due = [] })
 stands_dropped k new waiting e h kept =
     let n = h.narrow in
     record { offered = h.offered; out = h.out; kept = kept; narrow = record { own = n.own; peer = n.peer; session = n.session }; session = h.session }

@@ -9,10 +9,10 @@ use Rattle.swp_base.specs.declared.control_frames.Kind.TheVariants.{Rr, Rej, Rnr
 use Rattle.shdlc_core.specs.declared.answers.LinkState.{LinkState}
 use Rattle.shdlc_core.specs.declared.answers.LinkState.TheVariants.{Down, Waiting, Up}
 use Rattle.shdlc_core.specs.declared.answers.Due.{Due}
-use Rattle.shdlc_core.specs.Machine.{Timed, timed, runs_timer, EndState, EndInput, Fragment, Session, end_step, new_session, new_end, place_of, received, acknowledged, fragment_due, sent_next, after_inputs}
+use Rattle.shdlc_core.specs.Machine.{Timed, timed, runs_timer, EndState, EndInput, Fragment, Session, end_step, new_session, new_end, place_of, received, acknowledged, fragment_due, sent_next, shdlc_after_inputs}
 use Rattle.shdlc_core.specs.Machine.Timed.{Runs, Over, Spent}
 use Rattle.shdlc_core.specs.Machine.EndInput.{Begin, Offer, Take, Tick, Reset, Stop, SetReady, NextOut}
-use Rattle.shdlc_core.specs.Histories.{History, AskForWindows, no_history}
+use Rattle.shdlc_core.specs.Histories.{SessionHistory, AskForWindows, no_history}
 use Rattle.shdlc_core.proofs.Histories.{IsOrdered, Holds, new-Holds, step-Holds, place_of-within, in_phase, received-phase, received-sending}
 
 abbrev pub IsWindow : ℕ → Type 0
@@ -333,14 +333,14 @@ first_named (Offer info) is a = (tt, a)
 first_named (Take c) is a = (tt, a)
 first_named Tick is a = (tt, a)
 
-run-timed : (e : EndState) (h : History) (inputs : List EndInput) → Holds e h → IsTimed e → AskForWindows inputs → IsTimed (after_inputs e inputs)
+run-timed : (e : EndState) (h : SessionHistory) (inputs : List EndInput) → Holds e h → IsTimed e → AskForWindows inputs → IsTimed (shdlc_after_inputs e inputs)
 run-timed e h [] k t a = t
 run-timed e h (i ∷ inputs) k t a =
     let named = first_named i inputs a in
     run-timed (end_step e i).0 _ inputs (step-Holds e h i k) (step-phase e i e.phase named.0 k.ordered t) named.1
 
 -- from a new end on
-pub new-timed : (w : ℕ) (inputs : List EndInput) → IsWindow w → AskForWindows inputs → IsTimed (after_inputs (new_end w) inputs)
+pub new-timed : (w : ℕ) (inputs : List EndInput) → IsWindow w → AskForWindows inputs → IsTimed (shdlc_after_inputs (new_end w) inputs)
 new-timed w inputs i a =
     run-timed (new_end w) no_history inputs (new-Holds w []) (record {
       own_window = i;

@@ -2,7 +2,7 @@
 use Rattle.std.specs.Prelude.{ℕ, ◌+◌, ◌<◌, ◌≤◌, ◌≡◌, ◌%◌, ◌||◌, Bool, true, false, if◌then◌else◌, List, [], ◌∷◌, ◌++◌, Some, is_some, option_to_list, slice_get, Contains}
 use Rattle.swp_base.specs.declared.control_frames.Control.{Control}
 use Rattle.swp_base.specs.declared.control_frames.Control.TheVariants.{I, S}
-use Rattle.shdlc_core.specs.Machine.{EndState, EndInput, EndOutput, Fragment, Session, after_inputs, end_step, new_end}
+use Rattle.shdlc_core.specs.Machine.{EndState, EndInput, EndOutput, Fragment, Session, shdlc_after_inputs, end_step, new_end}
 use Rattle.shdlc_core.specs.Machine.EndInput.{Begin, Offer, Reset, Stop}
 use Rattle.shdlc_core.specs.Machine.EndOutput.{OfferTaken, TookFrame, TookTick, TookReset, FetchedFrame}
 
@@ -36,7 +36,7 @@ sent_at (FetchedFrame (Some (I ns nr info))) s = s.next ∷ []
 sent_at _ s = []
 
 -- What has happened in the session of the moment.
-pub record History : Type 0 where
+pub record SessionHistory : Type 0 where
   -- the fragments that were accepted
   pub accepted : List Fragment
   -- the fragments that were taken for sending
@@ -46,12 +46,12 @@ pub record History : Type 0 where
   -- the places of those that were sent, as often as they were sent
   pub sent : List ℕ
 
-abbrev pub no_history : History
+abbrev pub no_history : SessionHistory
 no_history = record { accepted = []; offered = []; acked = 0; sent = [] }
 
 -- The history after one more input to an end in this session, with this answer. Where a session begins or ends, what was
 -- before is over.
-abbrev pub with_answer : Session → History → EndInput → EndOutput → History
+abbrev pub with_answer : Session → SessionHistory → EndInput → EndOutput → SessionHistory
 with_answer s h i a =
     if is_break i a
     then no_history
@@ -64,7 +64,7 @@ with_answer s h i a =
     }
 
 -- the history after these inputs
-abbrev pub history_after : EndState → History → List EndInput → History
+abbrev pub history_after : EndState → SessionHistory → List EndInput → SessionHistory
 history_after e h [] = h
 history_after e h (i ∷ is) = history_after (end_step e i).0 (with_answer e.session h i (end_step e i).1) is
 
@@ -84,16 +84,16 @@ CarriesNr n (S kind nr) = nr ≡ n
 CarriesNr n _ = Unit {0}
 
 -- a new end that asks for window w, after these inputs
-abbrev pub end_after : ℕ → List EndInput → EndState
-end_after w inputs = after_inputs (new_end w) inputs
+abbrev pub shdlc_end_after : ℕ → List EndInput → EndState
+shdlc_end_after w inputs = shdlc_after_inputs (new_end w) inputs
 
 -- the history of its session of the moment
-abbrev pub history_of : ℕ → List EndInput → History
+abbrev pub history_of : ℕ → List EndInput → SessionHistory
 history_of w inputs = history_after (new_end w) no_history inputs
 
 -- The I frame of a fragment that is sent now: its place is from the first unacknowledged fragment on, within the window, and
 -- all before it were sent. Its N(S) is the place modulo 8.
-pub record IsNextFragment (h : History) (window ns : ℕ) (info : Fragment) : Type 0 where
+pub record IsNextFragment (h : SessionHistory) (window ns : ℕ) (info : Fragment) : Type 0 where
   pub place : ℕ
   pub number : ns ≡ place % 8
   pub fragment : slice_get h.offered place ≡ Some info

@@ -27,7 +27,7 @@ pub record KeptReceiver : Type 0 where
   pub answered_rnr : Bool
 
 -- what is kept of an end
-pub record Kept : Type 0 where
+pub record KeptEnd : Type 0 where
   pub phase : LinkState
   pub own_window : ℕ
   pub ready : Bool
@@ -46,7 +46,7 @@ pub record IsSender (k : KeptSender) : Type 0 where
   pub queue : length k.queue ≤ 4
 
 -- what is true of all that is kept of an end
-pub record IsKept (k : Kept) : Type 0 where
+pub record IsSoundEnd (k : KeptEnd) : Type 0 where
   pub due : length k.due ≤ 8
   pub timer : k.timer < 10
   pub tries : k.tries ≤ 5
@@ -55,7 +55,7 @@ pub record IsKept (k : Kept) : Type 0 where
 
 -- What is kept for sending stands for a session with this window w, these offered fragments, these places a, n and m of the
 -- first unacknowledged one, of the next one and one past the last that was ever sent, and these flags of the other end.
-pub record Sends (k : KeptSender) (w : ℕ) (fragments : List Fragment) (a n m : ℕ) (busy once : Bool) : Type 0 where
+pub record SenderStandsFor (k : KeptSender) (w : ℕ) (fragments : List Fragment) (a n m : ℕ) (busy once : Bool) : Type 0 where
   pub window : k.window ≡ w
   pub queue : k.queue ≡ drop a fragments
   pub offered : length fragments ≡ a + length k.queue
@@ -66,20 +66,20 @@ pub record Sends (k : KeptSender) (w : ℕ) (fragments : List Fragment) (a n m :
   pub probe : k.probe ≡ once
 
 abbrev pub SendsFor : KeptSender → Session → Type 0
-SendsFor k s = Sends k s.window s.out s.acked s.next s.reached s.peer_busy s.probe
+SendsFor k s = SenderStandsFor k s.window s.out s.acked s.next s.reached s.peer_busy s.probe
 
 -- What is kept for receiving stands for a session with these accepted fragments, with a gap that is open or not, in which RNR
 -- was answered or not.
-pub record Receives (k : KeptReceiver) (fragments : List Fragment) (gap answered : Bool) : Type 0 where
+pub record ReceiverStandsFor (k : KeptReceiver) (fragments : List Fragment) (gap answered : Bool) : Type 0 where
   pub awaited : k.awaited ≡ length fragments % 8
   pub gap_open : k.gap_open ≡ gap
   pub answered_rnr : k.answered_rnr ≡ answered
 
 abbrev pub ReceivesFor : KeptReceiver → Session → Type 0
-ReceivesFor k s = Receives k s.acc s.gap_open s.answered_rnr
+ReceivesFor k s = ReceiverStandsFor k s.acc s.gap_open s.answered_rnr
 
 -- what is kept stands for this state of the machine
-pub record StandsFor (k : Kept) (e : EndState) : Type 0 where
+pub record ShdlcStandsFor (k : KeptEnd) (e : EndState) : Type 0 where
   pub phase : k.phase ≡ e.phase
   pub own_window : k.own_window ≡ e.own_window
   pub ready : k.ready ≡ e.ready
@@ -91,5 +91,5 @@ pub record StandsFor (k : Kept) (e : EndState) : Type 0 where
   pub receiver : ReceivesFor k.receiver e.session
 
 -- at most so many frames are fetched before something else comes to the end
-abbrev pub frames_left : Kept → ℕ
+abbrev pub frames_left : KeptEnd → ℕ
 frames_left k = length k.due + (length k.sender.queue - k.sender.sent)

@@ -490,9 +490,9 @@ end_step e (SetReady r) = (with_ready e r, NoAnswerDue)
 end_step e NextOut = (fetched e, FetchedFrame (frame_due e))
 
 -- the end after these inputs, one after another
-abbrev pub after_inputs : EndState → List EndInput → EndState
-after_inputs e [] = e
-after_inputs e (i ∷ is) = after_inputs (end_step e i).0 is
+abbrev pub shdlc_after_inputs : EndState → List EndInput → EndState
+shdlc_after_inputs e [] = e
+shdlc_after_inputs e (i ∷ is) = shdlc_after_inputs (end_step e i).0 is
 
 -- what it answered to each of them
 abbrev pub answers_to : EndState → List EndInput → List EndOutput

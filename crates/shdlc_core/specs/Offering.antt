@@ -4,7 +4,7 @@ use Rattle.std.specs.Prelude.{◌≡◌, ◌+◌, ◌≤◌, Bool, true, false, 
 use Rattle.shdlc_core.specs.declared.answers.LinkState.{LinkState}
 use Rattle.shdlc_core.specs.declared.answers.LinkState.TheVariants.{Down, Waiting, Up}
 use Rattle.shdlc_core.specs.Machine.{EndState, Fragment, Session, no_session}
-use Rattle.shdlc_core.specs.Kept.{Kept, StandsFor}
+use Rattle.shdlc_core.specs.Kept.{KeptEnd, ShdlcStandsFor}
 
 -- the machine of an end to which only these fragments were offered
 abbrev pub with_out : EndState → List Fragment → EndState
@@ -24,15 +24,15 @@ HasSession Waiting s = s ≡ no_session
 
 -- What is kept, with these fragments that wait behind it, stands for this state of the machine, whose fragments are those that
 -- were offered and then those that wait.
-pub record StandsBefore (k : Kept) (waiting : List Fragment) (m : EndState) : Type 0 where
+pub record StandsBefore (k : KeptEnd) (waiting : List Fragment) (m : EndState) : Type 0 where
   pub offered : List Fragment
   pub out : m.session.out ≡ offered ++ waiting
-  pub kept : StandsFor k (with_out m offered)
+  pub kept : ShdlcStandsFor k (with_out m offered)
   pub narrow : IsNarrow m
   pub session : HasSession m.phase m.session
 
 -- The same, and as many were offered as an end keeps: where any wait, four are offered and not acknowledged.
-pub record StandsWith (k : Kept) (waiting : List Fragment) (m : EndState) : Type 0 where
+pub record StandsWith (k : KeptEnd) (waiting : List Fragment) (m : EndState) : Type 0 where
   pub stands : StandsBefore k waiting m
   pub full : (waiting ≡ []) ⊎ (length stands.offered ≡ m.session.acked + 4)
 

@@ -1,7 +1,7 @@
 //! One end of a link.
 ghost use Rattle.std.specs.Prelude.{◌≡◌, ◌≢◌, ◌⊎◌, ◌+◌, ◌<◌, ◌≤◌, ◌↔◌, [], length, IsTrue, OnSome, option_map, min, ℕ, ◌++◌, ◌∷◌, OnErr, IfNone, IfSome, MatchResult, false, true};
 ghost use Rattle.std.specs.Bool.{OnFalse};
-ghost use Rattle.shdlc_core.specs.Kept.{StandsFor, ReceivesFor, frames_left};
+ghost use Rattle.shdlc_core.specs.Kept.{ShdlcStandsFor, ReceivesFor, frames_left};
 ghost use Rattle.shdlc_core.specs.Machine.{EndState, new_end, begun, up_with, offered, offer_refusal, control_due, frame_due, fetched, acknowledged, received, fragment_accepted, with_timer, place_of, gap_found, due_left, taken, take_answer, ticked, tick_answer, sent_again, asked_again, waiting_from, no_session, reset_with, stopped, with_ready};
 
 use crate::answers::{Due, LinkState, OfferRefused, Taken, Ticked};
@@ -27,9 +27,9 @@ pub struct Shdlc {
 
 impl Model for Shdlc {
     ghost use Rattle.std.specs.Prelude.{◌<◌, ◌≤◌};
-    ghost use Rattle.shdlc_core.specs.Kept.{Kept};
+    ghost use Rattle.shdlc_core.specs.Kept.{KeptEnd};
 
-    ghost Value = { Kept };
+    ghost Value = { KeptEnd };
 
     ghost view = { λ a. record {
       phase = a.phase;
@@ -59,7 +59,7 @@ impl Shdlc {
     pub fn new(window: u8) -> Self
         requires low { 1 ≤ window }
         requires high { window ≤ 4 }
-        ensures { StandsFor result (new_end window) }
+        ensures { ShdlcStandsFor result (new_end window) }
     {
         Self {
             phase: LinkState::Down,
@@ -76,7 +76,7 @@ impl Shdlc {
 
     /// The end is Up in a given session, with its own window: both ends of a bare link begin so.
     pub fn begin(&mut self)
-        ensures { (e : EndState) → StandsFor self.old e → StandsFor self.new (begun e) }
+        ensures { (e : EndState) → ShdlcStandsFor self.old e → ShdlcStandsFor self.new (begun e) }
     {
         let window = self.own_window;
         self.due.clear();
@@ -85,7 +85,7 @@ impl Shdlc {
 
     // A session begins with this window.
     fn start(&mut self, window: u8)
-        ensures stands { (e : EndState) → StandsFor self.old e → StandsFor self.new (up_with e window) }
+        ensures stands { (e : EndState) → ShdlcStandsFor self.old e → ShdlcStandsFor self.new (up_with e window) }
         ensures due { self.new.due ≡ self.old.due }
     {
         self.phase = LinkState::Up;
@@ -98,7 +98,7 @@ impl Shdlc {
     /// The state of the end.
     pub fn state(&self) -> LinkState
         ensures value { result ≡ self.now.phase }
-        ensures stands { (e : EndState) → StandsFor self.now e → result ≡ e.phase }
+        ensures stands { (e : EndState) → ShdlcStandsFor self.now e → result ≡ e.phase }
     {
         self.phase
     }
@@ -106,7 +106,7 @@ impl Shdlc {
     /// How many control frames were made and not yet fetched: 0 to 8. `next_out` gives these before any fragment.
     pub fn controls_due(&self) -> u8
         ensures value { result ≡ length self.now.due }
-        ensures stands { (e : EndState) → StandsFor self.now e → result ≡ length e.due }
+        ensures stands { (e : EndState) → ShdlcStandsFor self.now e → result ≡ length e.due }
     {
         self.due.len() as u8
     }
@@ -126,8 +126,8 @@ impl Shdlc {
     /// `NotUp` where the end isn't Up, and `QueueFull` where four fragments that were offered aren't acknowledged yet. Nothing
     /// changes then.
     pub fn offer(&mut self, info: &Info) -> Result<(), OfferRefused>
-        ensures stands { (e : EndState) → StandsFor self.old e → StandsFor self.new (offered e info.now) }
-        ensures answer { (e : EndState) → StandsFor self.old e →
+        ensures stands { (e : EndState) → ShdlcStandsFor self.old e → ShdlcStandsFor self.new (offered e info.now) }
+        ensures answer { (e : EndState) → ShdlcStandsFor self.old e →
             MatchResult result (λ _. offer_refusal e ≡ None) (λ why. offer_refusal e ≡ Some why) }
         ensures not_up { (result ≡ Err OfferRefused.NotUp) ↔ (self.old.phase ≢ LinkState.Up) }
         ensures queue_full { (result ≡ Err (OfferRefused.QueueFull 4))
@@ -150,8 +150,8 @@ impl Shdlc {
     /// Fetches the frame that is to be sent now: first the control frames in the order in which they were made, then the
     /// fragments. None where nothing is to be sent.
     pub fn next_out(&mut self) -> Option<Control>
-        ensures frame { (e : EndState) → StandsFor self.old e → result ≡ frame_due e }
-        ensures stands { (e : EndState) → StandsFor self.old e → StandsFor self.new (fetched e) }
+        ensures frame { (e : EndState) → ShdlcStandsFor self.old e → result ≡ frame_due e }
+        ensures stands { (e : EndState) → ShdlcStandsFor self.old e → ShdlcStandsFor self.new (fetched e) }
         ensures fewer { OnSome result (frames_left self.new < frames_left self.old) }
         ensures none { IfNone result (self.new ≡ self.old) }
         ensures drained { IfNone result (self.new.due ≡ []) }
@@ -190,8 +190,8 @@ impl Shdlc {
     // The frame of the fragment that is to be sent next, where there is one.
     fn fragment_out(&mut self) -> Option<Control>
         requires { self.old.due ≡ [] }
-        ensures frame { (e : EndState) → StandsFor self.old e → result ≡ frame_due e }
-        ensures stands { (e : EndState) → StandsFor self.old e → StandsFor self.new (fetched e) }
+        ensures frame { (e : EndState) → ShdlcStandsFor self.old e → result ≡ frame_due e }
+        ensures stands { (e : EndState) → ShdlcStandsFor self.old e → ShdlcStandsFor self.new (fetched e) }
         ensures fewer { OnSome result (frames_left self.new < frames_left self.old) }
         ensures none { IfNone result (self.new ≡ self.old) }
         ensures due { self.new.due ≡ self.old.due }
@@ -205,8 +205,8 @@ impl Shdlc {
     /// Takes a frame from the other end. At most seven control frames wait to be fetched before.
     pub fn take(&mut self, control: &Control) -> Taken
         requires { length self.old.due < 8 }
-        ensures stands { (e : EndState) → StandsFor self.old e → StandsFor self.new (taken e control.now) }
-        ensures answer { (e : EndState) → StandsFor self.old e → result ≡ take_answer e control.now }
+        ensures stands { (e : EndState) → ShdlcStandsFor self.old e → ShdlcStandsFor self.new (taken e control.now) }
+        ensures answer { (e : EndState) → ShdlcStandsFor self.old e → result ≡ take_answer e control.now }
         ensures added { length self.new.due ≤ length self.old.due + 1 }
     {
         match control {
@@ -221,8 +221,8 @@ impl Shdlc {
     // Takes an I frame.
     fn take_fragment(&mut self, ns: u8, nr: u8, info: &Info) -> Taken
         requires { length self.old.due < 8 }
-        ensures stands { (e : EndState) → StandsFor self.old e → StandsFor self.new (taken e (Control.I ns nr info.now)) }
-        ensures answer { (e : EndState) → StandsFor self.old e → result ≡ take_answer e (Control.I ns nr info.now) }
+        ensures stands { (e : EndState) → ShdlcStandsFor self.old e → ShdlcStandsFor self.new (taken e (Control.I ns nr info.now)) }
+        ensures answer { (e : EndState) → ShdlcStandsFor self.old e → result ≡ take_answer e (Control.I ns nr info.now) }
         ensures added { length self.new.due ≤ length self.old.due + 1 }
     {
         let Some(count) = self.place_of(nr) else {
@@ -239,7 +239,7 @@ impl Shdlc {
 
     // How many fragments a number newly acknowledges. None where it isn't valid, and where the end isn't Up.
     fn place_of(&self, nr: u8) -> Option<u8>
-        ensures up { (e : EndState) → StandsFor self.now e → e.phase ≡ LinkState.Up →
+        ensures up { (e : EndState) → ShdlcStandsFor self.now e → e.phase ≡ LinkState.Up →
             option_map (λ n. e.session.acked + n) result ≡ place_of e.session nr }
         ensures other { OnSome result (self.now.phase ≡ LinkState.Up) }
         ensures within { IfSome result (λ n. n ≤ self.now.sender.reach) }
@@ -253,7 +253,7 @@ impl Shdlc {
     // The first `count` fragments are acknowledged. Where there are any, T2 starts again and the tries are 0.
     fn acknowledge(&mut self, count: u8)
         requires { count ≤ self.old.sender.reach }
-        ensures stands { (e : EndState) → StandsFor self.old e → StandsFor self.new (acknowledged e (e.session.acked + count)) }
+        ensures stands { (e : EndState) → ShdlcStandsFor self.old e → ShdlcStandsFor self.new (acknowledged e (e.session.acked + count)) }
         ensures due { self.new.due ≡ self.old.due }
     {
         self.sender.acknowledge(count);
@@ -266,8 +266,8 @@ impl Shdlc {
     // What the end does with the fragment of an I frame, and the fragment where it accepts it.
     fn receive(&mut self, ns: u8, info: &Info) -> Option<Info>
         requires { length self.old.due < 8 }
-        ensures stands { (e : EndState) → StandsFor self.old e → StandsFor self.new (received e ns info.now) }
-        ensures accepted { (e : EndState) → StandsFor self.old e → result ≡ fragment_accepted e ns info.now }
+        ensures stands { (e : EndState) → ShdlcStandsFor self.old e → ShdlcStandsFor self.new (received e ns info.now) }
+        ensures accepted { (e : EndState) → ShdlcStandsFor self.old e → result ≡ fragment_accepted e ns info.now }
         ensures added { length self.new.due ≤ length self.old.due + 1 }
     {
         if !self.ready {
@@ -295,7 +295,7 @@ impl Shdlc {
     // A gap is answered by REJ, once while it is open.
     fn reject_gap(&mut self)
         requires { length self.old.due < 8 }
-        ensures stands { (e : EndState) → StandsFor self.old e → StandsFor self.new (gap_found e) }
+        ensures stands { (e : EndState) → ShdlcStandsFor self.old e → ShdlcStandsFor self.new (gap_found e) }
         ensures added { length self.new.due ≤ length self.old.due + 1 }
     {
         if !self.receiver.gap_is_open() {
@@ -306,8 +306,8 @@ impl Shdlc {
 
     // Takes an S frame.
     fn take_supervisory(&mut self, kind: Kind, nr: u8) -> Taken
-        ensures stands { (e : EndState) → StandsFor self.old e → StandsFor self.new (taken e (Control.S kind nr)) }
-        ensures answer { (e : EndState) → StandsFor self.old e → result ≡ take_answer e (Control.S kind nr) }
+        ensures stands { (e : EndState) → ShdlcStandsFor self.old e → ShdlcStandsFor self.new (taken e (Control.S kind nr)) }
+        ensures answer { (e : EndState) → ShdlcStandsFor self.old e → result ≡ take_answer e (Control.S kind nr) }
         ensures due { self.new.due ≡ self.old.due }
     {
         if kind == Kind::Srej {
@@ -331,7 +331,7 @@ impl Shdlc {
 
     // The other end isn't busy any more; where T2 doesn't run it stands at 0.
     fn end_busy(&mut self)
-        ensures stands { (e : EndState) → StandsFor self.old e → StandsFor self.new (
+        ensures stands { (e : EndState) → ShdlcStandsFor self.old e → ShdlcStandsFor self.new (
             with_timer (record e { session = record e.session { peer_busy = false; probe = false } })) }
         ensures due { self.new.due ≡ self.old.due }
     {
@@ -344,7 +344,7 @@ impl Shdlc {
 
     // All fragments are to be sent again, and T2 starts again.
     fn send_again(&mut self)
-        ensures stands { (e : EndState) → StandsFor self.old e → StandsFor self.new (
+        ensures stands { (e : EndState) → ShdlcStandsFor self.old e → ShdlcStandsFor self.new (
             record e { timer = 0; session = record e.session { next = e.session.acked; peer_busy = false; probe = false } }) }
         ensures due { self.new.due ≡ self.old.due }
     {
@@ -354,7 +354,7 @@ impl Shdlc {
 
     // The other end is busy, all fragments count as not sent, T2 starts again and the tries are 0.
     fn hold_back(&mut self)
-        ensures stands { (e : EndState) → StandsFor self.old e → StandsFor self.new (
+        ensures stands { (e : EndState) → ShdlcStandsFor self.old e → ShdlcStandsFor self.new (
             record e { timer = 0; tries = 0; session = record e.session { next = e.session.acked; peer_busy = true; probe = false } }) }
         ensures due { self.new.due ≡ self.old.due }
     {
@@ -366,8 +366,8 @@ impl Shdlc {
     // Takes an RSET.
     fn take_reset(&mut self, window: u8) -> Taken
         requires { length self.old.due < 8 }
-        ensures stands { (e : EndState) (caps : ℕ) → StandsFor self.old e → StandsFor self.new (taken e (Control.Rset window caps)) }
-        ensures answer { (e : EndState) (caps : ℕ) → StandsFor self.old e → result ≡ take_answer e (Control.Rset window caps) }
+        ensures stands { (e : EndState) (caps : ℕ) → ShdlcStandsFor self.old e → ShdlcStandsFor self.new (taken e (Control.Rset window caps)) }
+        ensures answer { (e : EndState) (caps : ℕ) → ShdlcStandsFor self.old e → result ≡ take_answer e (Control.Rset window caps) }
         ensures added { length self.new.due ≤ length self.old.due + 1 }
     {
         if window == 0 {
@@ -401,7 +401,7 @@ impl Shdlc {
     // A new session begins, with the lesser of both windows, and UA is answered.
     fn restart(&mut self, peer_window: u8)
         requires { length self.old.due < 8 }
-        ensures stands { (e : EndState) → StandsFor self.old e → StandsFor self.new (
+        ensures stands { (e : EndState) → ShdlcStandsFor self.old e → ShdlcStandsFor self.new (
             up_with (record e { due = due_left e.phase e.due ++ Due.Ua ∷ [] }) (min e.own_window peer_window)) }
         ensures added { length self.new.due ≤ length self.old.due + 1 }
     {
@@ -414,7 +414,7 @@ impl Shdlc {
     // A control frame is to be sent.
     fn make(&mut self, due: Due)
         requires { length self.old.due < 8 }
-        ensures stands { (e : EndState) → StandsFor self.old e → StandsFor self.new (record e { due = e.due ++ due ∷ [] }) }
+        ensures stands { (e : EndState) → ShdlcStandsFor self.old e → ShdlcStandsFor self.new (record e { due = e.due ++ due ∷ [] }) }
         ensures added { length self.new.due ≤ length self.old.due + 1 }
     {
         self.due.push(due);
@@ -422,8 +422,8 @@ impl Shdlc {
 
     // A session ends here, where there is one: its frames that wait to be fetched are dropped.
     fn drop_frames(&mut self)
-        ensures stands { (e : EndState) → StandsFor self.old e →
-            StandsFor self.new (record e { due = due_left e.phase e.due }) }
+        ensures stands { (e : EndState) → ShdlcStandsFor self.old e →
+            ShdlcStandsFor self.new (record e { due = due_left e.phase e.due }) }
         ensures room { length self.new.due ≤ length self.old.due }
     {
         if self.phase == LinkState::Up {
@@ -433,8 +433,8 @@ impl Shdlc {
 
     // Takes a UA.
     fn take_acceptance(&mut self) -> Taken
-        ensures stands { (e : EndState) → StandsFor self.old e → StandsFor self.new (taken e Control.Ua) }
-        ensures answer { (e : EndState) → StandsFor self.old e → result ≡ take_answer e Control.Ua }
+        ensures stands { (e : EndState) → ShdlcStandsFor self.old e → ShdlcStandsFor self.new (taken e Control.Ua) }
+        ensures answer { (e : EndState) → ShdlcStandsFor self.old e → result ≡ take_answer e Control.Ua }
         ensures due { self.new.due ≡ self.old.due }
     {
         if self.phase != LinkState::Waiting {
@@ -451,8 +451,8 @@ impl Shdlc {
     /// One tick of time. At most seven control frames wait to be fetched before.
     pub fn tick(&mut self) -> Ticked
         requires { length self.old.due < 8 }
-        ensures stands { (e : EndState) → StandsFor self.old e → StandsFor self.new (ticked e) }
-        ensures answer { (e : EndState) → StandsFor self.old e → result ≡ tick_answer e }
+        ensures stands { (e : EndState) → ShdlcStandsFor self.old e → ShdlcStandsFor self.new (ticked e) }
+        ensures answer { (e : EndState) → ShdlcStandsFor self.old e → result ≡ tick_answer e }
         ensures added { length self.new.due ≤ length self.old.due + 1 }
     {
         match self.phase {
@@ -466,8 +466,8 @@ impl Shdlc {
     fn tick_up(&mut self) -> Ticked
         requires up { self.old.phase ≡ LinkState.Up }
         requires room { length self.old.due < 8 }
-        ensures stands { (e : EndState) → StandsFor self.old e → StandsFor self.new (ticked e) }
-        ensures answer { (e : EndState) → StandsFor self.old e → result ≡ tick_answer e }
+        ensures stands { (e : EndState) → ShdlcStandsFor self.old e → ShdlcStandsFor self.new (ticked e) }
+        ensures answer { (e : EndState) → ShdlcStandsFor self.old e → result ≡ tick_answer e }
         ensures added { length self.new.due ≤ length self.old.due + 1 }
     {
         if !self.sender.runs_timer() {
@@ -492,8 +492,8 @@ impl Shdlc {
     fn tick_waiting(&mut self) -> Ticked
         requires waits { self.old.phase ≡ LinkState.Waiting }
         requires room { length self.old.due < 8 }
-        ensures stands { (e : EndState) → StandsFor self.old e → StandsFor self.new (ticked e) }
-        ensures answer { (e : EndState) → StandsFor self.old e → result ≡ tick_answer e }
+        ensures stands { (e : EndState) → ShdlcStandsFor self.old e → ShdlcStandsFor self.new (ticked e) }
+        ensures answer { (e : EndState) → ShdlcStandsFor self.old e → result ≡ tick_answer e }
         ensures added { length self.new.due ≤ length self.old.due + 1 }
     {
         if self.timer + 1 < Self::TICKS {
@@ -517,7 +517,7 @@ impl Shdlc {
     // All unacknowledged fragments are to be sent again, and where the other end is busy the first of them alone.
     fn repeat_fragments(&mut self)
         requires { self.old.tries < 5 }
-        ensures stands { (e : EndState) → StandsFor self.old e → StandsFor self.new (sent_again e) }
+        ensures stands { (e : EndState) → ShdlcStandsFor self.old e → ShdlcStandsFor self.new (sent_again e) }
         ensures due { self.new.due ≡ self.old.due }
     {
         let busy = self.sender.peer_is_busy();
@@ -530,7 +530,7 @@ impl Shdlc {
     fn repeat_reset(&mut self)
         requires tried { self.old.tries < 5 }
         requires room { length self.old.due < 8 }
-        ensures stands { (e : EndState) → StandsFor self.old e → StandsFor self.new (asked_again e) }
+        ensures stands { (e : EndState) → ShdlcStandsFor self.old e → ShdlcStandsFor self.new (asked_again e) }
         ensures added { length self.new.due ≤ length self.old.due + 1 }
     {
         self.due.push(Due::Rset);
@@ -541,7 +541,7 @@ impl Shdlc {
     // A session ends here, where there is one, RSET is sent for the first time, and the end waits.
     fn wait(&mut self)
         requires { length self.old.due < 8 }
-        ensures stands { (e : EndState) → StandsFor self.old e → StandsFor self.new (waiting_from e) }
+        ensures stands { (e : EndState) → ShdlcStandsFor self.old e → ShdlcStandsFor self.new (waiting_from e) }
         ensures added { length self.new.due ≤ length self.old.due + 1 }
     {
         self.drop_frames();
@@ -553,7 +553,7 @@ impl Shdlc {
 
     // The end is Down or Waiting: nothing of a session is kept.
     fn enter(&mut self, phase: LinkState)
-        ensures stands { (e : EndState) → StandsFor self.old e → StandsFor self.new (
+        ensures stands { (e : EndState) → ShdlcStandsFor self.old e → ShdlcStandsFor self.new (
             record e { phase = phase; timer = 0; tries = 0; session = no_session }) }
         ensures due { self.new.due ≡ self.old.due }
     {
@@ -571,7 +571,7 @@ impl Shdlc {
         requires low { 1 ≤ window }
         requires high { window ≤ 4 }
         requires room { length self.old.due < 8 }
-        ensures stands { (e : EndState) → StandsFor self.old e → StandsFor self.new (reset_with e window) }
+        ensures stands { (e : EndState) → ShdlcStandsFor self.old e → ShdlcStandsFor self.new (reset_with e window) }
         ensures answer { IsTrue result ↔ (self.old.phase ≢ LinkState.Waiting) }
         ensures refused { OnFalse result (self.new ≡ self.old) }
         ensures added { length self.new.due ≤ length self.old.due + 1 }
@@ -587,7 +587,7 @@ impl Shdlc {
     /// A reset of the link is asked for with the end's own window: as `reset` with this window.
     pub fn reset_again(&mut self) -> bool
         requires { length self.old.due < 8 }
-        ensures stands { (e : EndState) → StandsFor self.old e → StandsFor self.new (reset_with e e.own_window) }
+        ensures stands { (e : EndState) → ShdlcStandsFor self.old e → ShdlcStandsFor self.new (reset_with e e.own_window) }
         ensures answer { IsTrue result ↔ (self.old.phase ≢ LinkState.Waiting) }
         ensures refused { OnFalse result (self.new ≡ self.old) }
         ensures added { length self.new.due ≤ length self.old.due + 1 }
@@ -601,7 +601,7 @@ impl Shdlc {
 
     /// The end is Down, and nothing of a session is kept. Its own window and its readiness stay.
     pub fn stop(&mut self)
-        ensures stands { (e : EndState) → StandsFor self.old e → StandsFor self.new (stopped e) }
+        ensures stands { (e : EndState) → ShdlcStandsFor self.old e → ShdlcStandsFor self.new (stopped e) }
         ensures due { self.new.due ≡ [] }
     {
         self.due.clear();
@@ -610,7 +610,7 @@ impl Shdlc {
 
     /// The control frames that were made and not yet fetched are dropped. Nothing else changes.
     pub fn drop_controls(&mut self)
-        ensures stands { (e : EndState) → StandsFor self.old e → StandsFor self.new (record e { due = [] }) }
+        ensures stands { (e : EndState) → ShdlcStandsFor self.old e → ShdlcStandsFor self.new (record e { due = [] }) }
         ensures due { self.new.due ≡ [] }
     {
         self.due.clear();
@@ -620,7 +620,7 @@ impl Shdlc {
     /// since it became not ready sends RR. At most seven control frames wait to be fetched before.
     pub fn set_ready(&mut self, ready: bool)
         requires { length self.old.due < 8 }
-        ensures stands { (e : EndState) → StandsFor self.old e → StandsFor self.new (with_ready e ready) }
+        ensures stands { (e : EndState) → ShdlcStandsFor self.old e → ShdlcStandsFor self.new (with_ready e ready) }
         ensures added { length self.new.due ≤ length self.old.due + 1 }
     {
         if self.ready == ready {

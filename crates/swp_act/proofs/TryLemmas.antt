@@ -12,7 +12,7 @@ use Rattle.swp_act.specs.declared.Phase.{Phase}
 use Rattle.swp_act.specs.declared.Phase.TheVariants.{Inactive, Awaiting, Active}
 use Rattle.swp_act.specs.declared.uicc.UiccAct.{UiccAct}
 use Rattle.swp_act.specs.declared.clf.ClfAct.{ClfAct}
-use Rattle.swp_act.specs.Activation.{uicc_step, clf_step, phase_ticked, out_ticked, uicc_powered, clf_synced, clf_readied, nothing}
+use Rattle.swp_act.specs.Activation.{uicc_step, clf_step, phase_ticked, out_ticked, uicc_powered, clf_synced, clf_readied, no_act_out}
 use Rattle.swp_act.specs.Tries.{uicc_after, clf_after, ticks_in, IsNoPowerMode, IsNoReady, ticks_from, answer_to_tick}
 
 -- a phase after n ticks
@@ -156,7 +156,7 @@ uicc_gives_up s (Start value) n some = absurd (none_is_not n some)
 uicc_gives_up s (Take act true) n some = absurd (none_is_not n some)
 uicc_gives_up s (Take (PowerMode code) false) n some = by_code (leb code 1) s.phase refl some
   where
-    by_code : (b : Bool) (p : Phase) → leb code 1 ≡ b → (cond b (uicc_powered p s) (s, nothing)).1.gave_up ≡ Some n → (n ≡ 3) × (Take (PowerMode code) false ≡ Tick) × (tries ticks : ℕ) × (s.phase ≡ Awaiting tries ticks) × (3 ≤ tries) × (9 ≤ ticks)
+    by_code : (b : Bool) (p : Phase) → leb code 1 ≡ b → (cond b (uicc_powered p s) (s, no_act_out)).1.gave_up ≡ Some n → (n ≡ 3) × (Take (PowerMode code) false ≡ Tick) × (tries ticks : ℕ) × (s.phase ≡ Awaiting tries ticks) × (3 ≤ tries) × (9 ≤ ticks)
     by_code true Inactive e some = absurd (none_is_not n some)
     by_code true (Awaiting tries ticks) e some = absurd (none_is_not n some)
     by_code true Active e some = absurd (none_is_not n some)

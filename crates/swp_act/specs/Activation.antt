@@ -25,8 +25,8 @@ is_active (Awaiting tries ticks) = false
 is_active Active = true
 
 -- an answer that says nothing
-abbrev pub nothing : ActOut
-nothing = record { send = None; became_active = false; ended_link = false; sync = None; gave_up = None }
+abbrev pub no_act_out : ActOut
+no_act_out = record { send = None; became_active = false; ended_link = false; sync = None; gave_up = None }
 
 -- a frame is sent, and nothing else
 abbrev pub sends : Option Act → ActOut
@@ -47,18 +47,18 @@ phase_ticked Active = Active
 
 -- an end that waits sends its last frame again at the tenth tick, or tells that it gave up after the third try
 abbrev pub out_ticked : Phase → Option Act → ActOut
-out_ticked Inactive last = nothing
+out_ticked Inactive last = no_act_out
 out_ticked (Awaiting tries ticks) last =
     if nat_le 10 (ticks + 1)
     then (if nat_le 3 tries
     then record { send = None; became_active = false; ended_link = false; sync = None; gave_up = Some 3 }
     else sends last)
-    else nothing
-out_ticked Active last = nothing
+    else no_act_out
+out_ticked Active last = no_act_out
 
 -- ACT_POWER_MODE of low or full power comes to a UICC: it answers ACT_READY where it waits for it or is active
 abbrev pub uicc_powered : Phase → UiccAct → UiccAct × ActOut
-uicc_powered Inactive s = (s, nothing)
+uicc_powered Inactive s = (s, no_act_out)
 uicc_powered (Awaiting tries ticks) s = (
   record { phase = Active; last = Some Ready },
   record { send = Some Ready; became_active = true; ended_link = false; sync = None; gave_up = None },
@@ -72,9 +72,9 @@ uicc_step s (Start value) = (
   record { send = Some (SyncId value); became_active = false; ended_link = true; sync = None; gave_up = None },
 )
 uicc_step s (Take act true) = (s, sends s.last)
-uicc_step s (Take (PowerMode code) false) = if nat_le code 1 then uicc_powered s.phase s else (s, nothing)
-uicc_step s (Take Ready false) = (s, nothing)
-uicc_step s (Take (SyncId id) false) = (s, nothing)
+uicc_step s (Take (PowerMode code) false) = if nat_le code 1 then uicc_powered s.phase s else (s, no_act_out)
+uicc_step s (Take Ready false) = (s, no_act_out)
+uicc_step s (Take (SyncId id) false) = (s, no_act_out)
 uicc_step s Tick = (record { phase = phase_ticked s.phase; last = s.last }, out_ticked s.phase s.last)
 uicc_step s Stop = (record { phase = Inactive; last = s.last }, ends_link)
 
@@ -96,12 +96,12 @@ clf_synced Active s id = (
 
 -- ACT_READY comes to a CLF
 abbrev pub clf_readied : Phase → ClfAct → ClfAct × ActOut
-clf_readied Inactive s = (s, nothing)
+clf_readied Inactive s = (s, no_act_out)
 clf_readied (Awaiting tries ticks) s = (
   record { phase = Active; last = s.last; power = s.power },
   record { send = None; became_active = true; ended_link = false; sync = None; gave_up = None },
 )
-clf_readied Active s = (s, nothing)
+clf_readied Active s = (s, no_act_out)
 
 -- what a CLF does at one event
 abbrev pub clf_step : ClfAct → ActEvent → ClfAct × ActOut
@@ -109,7 +109,7 @@ clf_step s (Start value) = (record { phase = Inactive; last = s.last; power = va
 clf_step s (Take act true) = (s, sends s.last)
 clf_step s (Take (SyncId id) false) = clf_synced s.phase s id
 clf_step s (Take Ready false) = clf_readied s.phase s
-clf_step s (Take (PowerMode code) false) = (s, nothing)
+clf_step s (Take (PowerMode code) false) = (s, no_act_out)
 clf_step s Tick = (record { phase = phase_ticked s.phase; last = s.last; power = s.power }, out_ticked s.phase s.last)
 clf_step s Stop = (record { phase = Inactive; last = s.last; power = s.power }, ends_link)
 

@@ -7,7 +7,7 @@ use Rattle.swp_act.specs.declared.ActEvent.TheVariants.{Start, Take, Tick, Stop}
 use Rattle.swp_act.specs.declared.ActOut.{ActOut}
 use Rattle.swp_act.specs.declared.uicc.UiccAct.{UiccAct}
 use Rattle.swp_act.specs.declared.clf.ClfAct.{ClfAct}
-use Rattle.swp_act.specs.Activation.{uicc_step, clf_step, nothing, sends}
+use Rattle.swp_act.specs.Activation.{uicc_step, clf_step, no_act_out, sends}
 
 -- an end after these events
 abbrev pub uicc_after : UiccAct → List ActEvent → UiccAct
@@ -58,4 +58,4 @@ answer_to_tick last tries n =
     then (if n == ticks_from tries
     then record { send = None; became_active = false; ended_link = false; sync = None; gave_up = Some 3 }
     else sends last)
-    else nothing
+    else no_act_out

@@ -3,7 +3,7 @@
 #![tactic(auto)]
 
 ghost use Rattle.std.specs.Prelude.{◌≡◌};
-ghost use Rattle.swp_act.specs.Activation.{nothing, sends, ends_link, is_active, phase_ticked, out_ticked};
+ghost use Rattle.swp_act.specs.Activation.{no_act_out, sends, ends_link, is_active, phase_ticked, out_ticked};
 
 use swp_base::Act;
 
@@ -44,7 +44,7 @@ pub struct ActOut {
 
 impl ActOut {
     fn nothing() -> ActOut
-        ensures { result ≡ nothing }
+        ensures { result ≡ no_act_out }
     {
         ActOut::sends(None)
     }

@@ -3,8 +3,8 @@ use Rattle.std.proofs.Common.{◌≡◌, ℕ, ◌+◌, ◌*◌, ◌/◌, ◌%◌
 use Rattle.std.proofs.Math.ListN.{length-replicate}
 use Rattle.std.specs.Int.Bits.{bit_xor}
 use Rattle.swp_base.specs.Bits.{bits_of, bits_of_byte}
-use Rattle.swp_crc.specs.Division.{sum_from_front, divided, number_of}
-use Rattle.swp_crc.specs.Crc.{zeros, remainder_of, entry_of, entry_before}
+use Rattle.swp_crc.specs.Division.{sum_from_front, divided, spelled_number}
+use Rattle.swp_crc.specs.Crc.{zeros, remainder_of, table_entry, entry_before}
 use Rattle.swp_crc.specs.Running.{running_of}
 use Rattle.swp_crc.proofs.DivisionLemmas.{sum_comm, sum_zeros, length-sum, divided_sum, divided-+, divided-zeros, length-divided}
 use Rattle.swp_crc.proofs.Numbers.{number_of-append, number_of-injective, number_of-sum, number_of-lt}
@@ -70,10 +70,10 @@ added high low first second behind h l a b =
     ∙ ap (λ xs. sum_from_front high first ++ xs) (sum-append low [] second behind (l ∙ sym b))
 
 -- the bits of a byte that is added to another
-bits_of_sum : (bits : List Bool) (n b : ℕ) → length bits ≡ 8 → n ≡ number_of bits → b < 256 → bits_of_byte (bit_xor n b) ≡ sum_from_front bits (bits_of_byte b)
+bits_of_sum : (bits : List Bool) (n b : ℕ) → length bits ≡ 8 → n ≡ spelled_number bits → b < 256 → bits_of_byte (bit_xor n b) ≡ sum_from_front bits (bits_of_byte b)
 bits_of_sum bits n b eight is small =
     ap bits_of_byte index
-    ∙ number_of-injective (bits_of_byte (number_of top)) top (length-byte (number_of top) ∙ sym long) (number_of_byte (number_of top) within)
+    ∙ number_of-injective (bits_of_byte (spelled_number top)) top (length-byte (spelled_number top) ∙ sym long) (number_of_byte (spelled_number top) within)
   where
     top : List Bool
     top = sum_from_front bits (bits_of_byte b)
@@ -81,27 +81,27 @@ bits_of_sum bits n b eight is small =
     long : length top ≡ 8
     long = length-sum bits (bits_of_byte b) (omega (arith, length-byte b, eight)) ∙ length-byte b
 
-    index : bit_xor n b ≡ number_of top
+    index : bit_xor n b ≡ spelled_number top
     index =
-        ap (λ m. bit_xor m b) is ∙ ap (bit_xor (number_of bits)) (sym (number_of_byte b small))
+        ap (λ m. bit_xor m b) is ∙ ap (bit_xor (spelled_number bits)) (sym (number_of_byte b small))
         ∙ sym (number_of-sum bits (bits_of_byte b) (eight ∙ sym (length-byte b)))
 
-    within : number_of top < 256
-    within = subst (λ m. number_of top < 2 ^ m) long (number_of-lt top)
+    within : spelled_number top < 256
+    within = subst (λ m. spelled_number top < 2 ^ m) long (number_of-lt top)
 
 -- the halves of a number whose bits are two halves
-upper_half : (r : ℕ) (high low : List Bool) → length low ≡ 8 → r ≡ number_of (high ++ low) → r / 256 ≡ number_of high
+upper_half : (r : ℕ) (high low : List Bool) → length low ≡ 8 → r ≡ spelled_number (high ++ low) → r / 256 ≡ spelled_number high
 upper_half r high low l is =
     let power : 2 ^ length low ≡ 256 = ap (λ n. 2 ^ n) l in
-    let parts : r ≡ number_of high * 256 + number_of low = is ∙ number_of-append high low ∙ ap (λ n. number_of high * n + number_of low) power in
-    let small : number_of low < 256 = subst (λ n. number_of low < n) power (number_of-lt low) in
+    let parts : r ≡ spelled_number high * 256 + spelled_number low = is ∙ number_of-append high low ∙ ap (λ n. spelled_number high * n + spelled_number low) power in
+    let small : spelled_number low < 256 = subst (λ n. spelled_number low < n) power (number_of-lt low) in
     omega (arith, parts, small)
 
-lower_half : (r : ℕ) (high low : List Bool) → length low ≡ 8 → r ≡ number_of (high ++ low) → r % 256 ≡ number_of low
+lower_half : (r : ℕ) (high low : List Bool) → length low ≡ 8 → r ≡ spelled_number (high ++ low) → r % 256 ≡ spelled_number low
 lower_half r high low l is =
     let power : 2 ^ length low ≡ 256 = ap (λ n. 2 ^ n) l in
-    let parts : r ≡ number_of high * 256 + number_of low = is ∙ number_of-append high low ∙ ap (λ n. number_of high * n + number_of low) power in
-    let small : number_of low < 256 = subst (λ n. number_of low < n) power (number_of-lt low) in
+    let parts : r ≡ spelled_number high * 256 + spelled_number low = is ∙ number_of-append high low ∙ ap (λ n. spelled_number high * n + spelled_number low) power in
+    let small : spelled_number low < 256 = subst (λ n. spelled_number low < n) power (number_of-lt low) in
     omega (arith, parts, small)
 
 length-high : (bytes : List ℕ) → length (take 8 (remainder_of bytes)) ≡ 8
@@ -115,11 +115,11 @@ long_sum bits b eight = length-sum bits (bits_of_byte b) (omega (arith, length-b
 
 -- four remainders of sixteen bits, added as numbers
 four_numbers : (ws xs ys zs : List Bool) → length ws ≡ 16 → length xs ≡ 16 → length ys ≡ 16 → length zs ≡ 16
-    → number_of (sum_from_front ws (sum_from_front xs (sum_from_front ys zs)))
-    ≡ bit_xor (number_of ws) (bit_xor (number_of xs) (bit_xor (number_of ys) (number_of zs)))
+    → spelled_number (sum_from_front ws (sum_from_front xs (sum_from_front ys zs)))
+    ≡ bit_xor (spelled_number ws) (bit_xor (spelled_number xs) (bit_xor (spelled_number ys) (spelled_number zs)))
 four_numbers ws xs ys zs a b c d =
     number_of-sum ws (sum_from_front xs (sum_from_front ys zs)) (a ∙ sym outer)
-    ∙ ap (bit_xor (number_of ws)) (number_of-sum xs (sum_from_front ys zs) (b ∙ sym inner) ∙ ap (bit_xor (number_of xs)) (number_of-sum ys zs (c ∙ sym d)))
+    ∙ ap (bit_xor (spelled_number ws)) (number_of-sum xs (sum_from_front ys zs) (b ∙ sym inner) ∙ ap (bit_xor (spelled_number xs)) (number_of-sum ys zs (c ∙ sym d)))
   where
     inner : length (sum_from_front ys zs) ≡ 16
     inner = length-sum ys zs (omega (arith, c, d)) ∙ d
@@ -171,16 +171,16 @@ goes_on_by_four bytes b0 b1 b2 b3 high low h l whole =
         ∙ ap (λ xs. bits_of_byte b2 ++ xs) (ap (λ xs. xs ++ zeros) (append-nil (bits_of_byte b3)))))
 
 pub push_four_step : (r b0 b1 b2 b3 e0 e1 e2 e3 : ℕ) (bytes : List ℕ) → b0 < 256 → b1 < 256 → r ≡ running_of bytes
-    → e0 ≡ entry_before 3 (bit_xor (r / 256) b0) → e1 ≡ entry_before 2 (bit_xor (r % 256) b1) → e2 ≡ entry_before 1 b2 → e3 ≡ entry_of b3
+    → e0 ≡ entry_before 3 (bit_xor (r / 256) b0) → e1 ≡ entry_before 2 (bit_xor (r % 256) b1) → e2 ≡ entry_before 1 b2 → e3 ≡ table_entry b3
     → bit_xor e0 (bit_xor e1 (bit_xor e2 e3)) ≡ running_of (bytes ++ b0 ∷ b1 ∷ b2 ∷ b3 ∷ [])
 push_four_step r b0 b1 b2 b3 e0 e1 e2 e3 bytes small0 small1 is is0 is1 is2 is3 =
-    ap (λ n. bit_xor n (bit_xor e1 (bit_xor e2 e3))) (is0 ∙ ap (λ xs. number_of (alone 3 xs)) (bits_of_sum high (r / 256) b0 h upper small0))
-    ∙ ap (λ n. bit_xor (number_of (alone 3 top0)) (bit_xor n (bit_xor e2 e3))) (is1 ∙ ap (λ xs. number_of (alone 2 xs)) (bits_of_sum low (r % 256) b1 l lower small1))
-    ∙ ap (λ n. bit_xor (number_of (alone 3 top0)) (bit_xor (number_of (alone 2 top1)) (bit_xor n e3))) is2
-    ∙ ap (λ n. bit_xor (number_of (alone 3 top0)) (bit_xor (number_of (alone 2 top1)) (bit_xor (number_of (alone 1 (bits_of_byte b2))) n))) is3
+    ap (λ n. bit_xor n (bit_xor e1 (bit_xor e2 e3))) (is0 ∙ ap (λ xs. spelled_number (alone 3 xs)) (bits_of_sum high (r / 256) b0 h upper small0))
+    ∙ ap (λ n. bit_xor (spelled_number (alone 3 top0)) (bit_xor n (bit_xor e2 e3))) (is1 ∙ ap (λ xs. spelled_number (alone 2 xs)) (bits_of_sum low (r % 256) b1 l lower small1))
+    ∙ ap (λ n. bit_xor (spelled_number (alone 3 top0)) (bit_xor (spelled_number (alone 2 top1)) (bit_xor n e3))) is2
+    ∙ ap (λ n. bit_xor (spelled_number (alone 3 top0)) (bit_xor (spelled_number (alone 2 top1)) (bit_xor (spelled_number (alone 1 (bits_of_byte b2))) n))) is3
     ∙ sym (four_numbers (alone 3 top0) (alone 2 top1) (alone 1 (bits_of_byte b2)) (alone 0 (bits_of_byte b3))
     (length-alone 3 top0 (long_sum high b0 h)) (length-alone 2 top1 (long_sum low b1 l)) (length-alone 1 (bits_of_byte b2) (length-byte b2)) (length-alone 0 (bits_of_byte b3) (length-byte b3)))
-    ∙ ap number_of (sym (goes_on_by_four bytes b0 b1 b2 b3 high low h l whole))
+    ∙ ap spelled_number (sym (goes_on_by_four bytes b0 b1 b2 b3 high low h l whole))
   where
     high : List Bool
     high = take 8 (remainder_of bytes)
@@ -203,11 +203,11 @@ push_four_step r b0 b1 b2 b3 e0 e1 e2 e3 bytes small0 small1 is is0 is1 is2 is3 
     l : length low ≡ 8
     l = length-low bytes
 
-    upper : r / 256 ≡ number_of high
-    upper = upper_half r high low l (is ∙ ap number_of (sym whole))
+    upper : r / 256 ≡ spelled_number high
+    upper = upper_half r high low l (is ∙ ap spelled_number (sym whole))
 
-    lower : r % 256 ≡ number_of low
-    lower = lower_half r high low l (is ∙ ap number_of (sym whole))
+    lower : r % 256 ≡ spelled_number low
+    lower = lower_half r high low l (is ∙ ap spelled_number (sym whole))
 
 -- a list of four by its places
 pub four_of : (xs : List ℕ) → length xs ≡ 4 → xs ≡ get_or xs 0 0 ∷ get_or xs 1 0 ∷ get_or xs 2 0 ∷ get_or xs 3 0 ∷ []

@@ -4,7 +4,7 @@ use Rattle.std.proofs.lemmas.List.{length-map}
 use Rattle.std.proofs.Math.Nat.{pow-suc}
 use Rattle.std.specs.Int.Bits.{bit_xor}
 use Rattle.std.proofs.lemmas.Nat.{xor_block, pow-add}
-use Rattle.swp_crc.specs.Division.{sum_of_bits, sum_from_front, number_of}
+use Rattle.swp_crc.specs.Division.{sum_of_bits, sum_from_front, spelled_number}
 use Rattle.swp_crc.proofs.DivisionLemmas.{length-sum}
 
 -- the number of one bit
@@ -12,28 +12,28 @@ abbrev bit_number : Bool → ℕ
 bit_number true = 1
 bit_number false = 0
 
-number_of-cons : (b : Bool) (bs : List Bool) → number_of (b ∷ bs) ≡ bit_number b * 2 ^ length bs + number_of bs
+number_of-cons : (b : Bool) (bs : List Bool) → spelled_number (b ∷ bs) ≡ bit_number b * 2 ^ length bs + spelled_number bs
 number_of-cons true bs = omega arith
 number_of-cons false bs = omega arith
 
-pub number_of-lt : (bs : List Bool) → number_of bs < 2 ^ length bs
+pub number_of-lt : (bs : List Bool) → spelled_number bs < 2 ^ length bs
 number_of-lt [] = omega arith
 number_of-lt (true ∷ bs) = omega (arith, number_of-lt bs, pow-suc 2 (length bs))
 number_of-lt (false ∷ bs) = omega (arith, number_of-lt bs, pow-suc 2 (length bs))
 
-pub number_of-append : (xs ys : List Bool) → number_of (xs ++ ys) ≡ number_of xs * 2 ^ length ys + number_of ys
+pub number_of-append : (xs ys : List Bool) → spelled_number (xs ++ ys) ≡ spelled_number xs * 2 ^ length ys + spelled_number ys
 number_of-append [] ys = omega arith
 number_of-append (true ∷ xs) ys =
     let power : 2 ^ length (xs ++ ys) ≡ 2 ^ length xs * 2 ^ length ys = ap (λ n. 2 ^ n) (length-append xs ys) ∙ pow-add 2 (length xs) (length ys) in
     omega (arith, power, number_of-append xs ys)
 number_of-append (false ∷ xs) ys = number_of-append xs ys
 
-pub number_of-zeros : (n : ℕ) → number_of (replicate n false) ≡ 0
+pub number_of-zeros : (n : ℕ) → spelled_number (replicate n false) ≡ 0
 number_of-zeros zero = refl
 number_of-zeros (suc n) = number_of-zeros n
 
 -- lists of one length that spell one number are equal
-pub number_of-injective : (xs ys : List Bool) → length xs ≡ length ys → number_of xs ≡ number_of ys → xs ≡ ys
+pub number_of-injective : (xs ys : List Bool) → length xs ≡ length ys → spelled_number xs ≡ spelled_number ys → xs ≡ ys
 number_of-injective [] [] h e = refl
 number_of-injective [] (y ∷ ys) h e = absurd (omega arith)
 number_of-injective (x ∷ xs) [] h e = absurd (omega arith)
@@ -57,7 +57,7 @@ xor-bit_number true false = refl
 xor-bit_number false true = refl
 xor-bit_number false false = refl
 
-pub number_of-sum : (xs ys : List Bool) → length xs ≡ length ys → number_of (sum_from_front xs ys) ≡ bit_xor (number_of xs) (number_of ys)
+pub number_of-sum : (xs ys : List Bool) → length xs ≡ length ys → spelled_number (sum_from_front xs ys) ≡ bit_xor (spelled_number xs) (spelled_number ys)
 number_of-sum [] [] h = refl
 number_of-sum [] (y ∷ ys) h = absurd (omega arith)
 number_of-sum (x ∷ xs) [] h = absurd (omega arith)
@@ -66,10 +66,10 @@ number_of-sum (x ∷ xs) (y ∷ ys) h =
     let power : 2 ^ length xs ≡ 2 ^ length ys = ap (λ n. 2 ^ n) same in
     number_of-cons (sum_of_bits x y) (sum_from_front xs ys)
     ∙ rw (length-sum xs ys (omega arith), number_of-sum xs ys same, xor-bit_number x y) refl
-    ∙ sym (xor_block (length ys) (bit_number x) (bit_number y) (number_of xs) (number_of ys) (rw (← power) (number_of-lt xs)) (number_of-lt ys))
+    ∙ sym (xor_block (length ys) (bit_number x) (bit_number y) (spelled_number xs) (spelled_number ys) (rw (← power) (number_of-lt xs)) (number_of-lt ys))
     ∙ rw (number_of-cons x xs, number_of-cons y ys, power) refl
 
-pub number_of-not : (xs : List Bool) → number_of (map not xs) + number_of xs + 1 ≡ 2 ^ length xs
+pub number_of-not : (xs : List Bool) → spelled_number (map not xs) + spelled_number xs + 1 ≡ 2 ^ length xs
 number_of-not [] = refl
 number_of-not (true ∷ xs) = omega (arith, number_of-not xs, pow-suc 2 (length xs))
 number_of-not (false ∷ xs) =

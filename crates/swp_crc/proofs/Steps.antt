@@ -3,8 +3,8 @@ use Rattle.std.proofs.Common.{◌≡◌, ℕ, suc, zero, ◌+◌, ◌-◌, ◌*�
 use Rattle.std.proofs.Math.ListN.{length-replicate}
 use Rattle.std.specs.Int.Bits.{bit_xor}
 use Rattle.swp_base.specs.Bits.{bits_of, bits_of_byte}
-use Rattle.swp_crc.specs.Division.{sum_of_bits, sum_from_front, divided, number_of}
-use Rattle.swp_crc.specs.Crc.{zeros, complement_first, remainder_of, crc_of, entry_of}
+use Rattle.swp_crc.specs.Division.{sum_of_bits, sum_from_front, divided, spelled_number}
+use Rattle.swp_crc.specs.Crc.{zeros, complement_first, remainder_of, crc_of, table_entry}
 use Rattle.swp_crc.specs.Running.{running_of}
 use Rattle.swp_crc.proofs.DivisionLemmas.{sum_comm, sum_assoc, sum_zeros, length-sum, divided_sum, divided-+, divided-zeros, length-divided}
 use Rattle.swp_crc.proofs.Numbers.{number_of-append, number_of-injective, number_of-sum, number_of-not, number_of-lt}
@@ -117,14 +117,14 @@ by_halves high low byte a b c =
         ∙ ap (λ xs. xs ++ replicate 8 false) (sum_comm low (replicate 8 false) ∙ sum_zeros 8 low (omega arith))
 
 -- the same in numbers
-numbers_step : (r b e : ℕ) (high low : List Bool) → b < 256 → length high ≡ 8 → length low ≡ 8 → r ≡ number_of (high ++ low)
-    → e ≡ entry_of (bit_xor (r / 256) b)
-    → bit_xor (r * 256 % 65536) e ≡ number_of (divided 8 (sum_from_front (high ++ low) (bits_of_byte b ++ zeros)))
+numbers_step : (r b e : ℕ) (high low : List Bool) → b < 256 → length high ≡ 8 → length low ≡ 8 → r ≡ spelled_number (high ++ low)
+    → e ≡ table_entry (bit_xor (r / 256) b)
+    → bit_xor (r * 256 % 65536) e ≡ spelled_number (divided 8 (sum_from_front (high ++ low) (bits_of_byte b ++ zeros)))
 numbers_step r b e high low small h l is entry =
     ap (λ n. bit_xor n e) moved
-    ∙ ap (bit_xor (number_of (low ++ replicate 8 false))) (entry ∙ ap (λ xs. number_of (divided 8 (xs ++ zeros))) same)
+    ∙ ap (bit_xor (spelled_number (low ++ replicate 8 false))) (entry ∙ ap (λ xs. spelled_number (divided 8 (xs ++ zeros))) same)
     ∙ sym (number_of-sum (low ++ replicate 8 false) (divided 8 (top ++ zeros)) lengths)
-    ∙ ap number_of (sym (by_halves high low (bits_of_byte b) h l (length-byte b)))
+    ∙ ap spelled_number (sym (by_halves high low (bits_of_byte b) h l (length-byte b)))
   where
     top : List Bool
     top = sum_from_front high (bits_of_byte b)
@@ -135,44 +135,44 @@ numbers_step r b e high low small h l is entry =
     low_power : 2 ^ length low ≡ 256
     low_power = ap (λ n. 2 ^ n) l
 
-    parts : r ≡ number_of high * 256 + number_of low
-    parts = is ∙ number_of-append high low ∙ ap (λ n. number_of high * n + number_of low) low_power
+    parts : r ≡ spelled_number high * 256 + spelled_number low
+    parts = is ∙ number_of-append high low ∙ ap (λ n. spelled_number high * n + spelled_number low) low_power
 
-    low_small : number_of low < 256
-    low_small = subst (λ n. number_of low < n) low_power (number_of-lt low)
+    low_small : spelled_number low < 256
+    low_small = subst (λ n. spelled_number low < n) low_power (number_of-lt low)
 
-    upper : r / 256 ≡ number_of high
+    upper : r / 256 ≡ spelled_number high
     upper = omega (arith, parts, low_small)
 
-    moved : r * 256 % 65536 ≡ number_of (low ++ replicate 8 false)
+    moved : r * 256 % 65536 ≡ spelled_number (low ++ replicate 8 false)
     moved = omega (arith, parts, low_small, number_of-append low (replicate 8 false))
 
-    index : bit_xor (r / 256) b ≡ number_of top
+    index : bit_xor (r / 256) b ≡ spelled_number top
     index =
-        ap (λ n. bit_xor n b) upper ∙ ap (bit_xor (number_of high)) (sym (number_of_byte b small))
+        ap (λ n. bit_xor n b) upper ∙ ap (bit_xor (spelled_number high)) (sym (number_of_byte b small))
         ∙ sym (number_of-sum high (bits_of_byte b) (h ∙ sym (length-byte b)))
 
-    within : number_of top < 256
-    within = subst (λ n. number_of top < 2 ^ n) eight (number_of-lt top)
+    within : spelled_number top < 256
+    within = subst (λ n. spelled_number top < 2 ^ n) eight (number_of-lt top)
 
     same : bits_of_byte (bit_xor (r / 256) b) ≡ top
     same =
         ap bits_of_byte index
-        ∙ number_of-injective (bits_of_byte (number_of top)) top (length-byte (number_of top) ∙ sym eight) (number_of_byte (number_of top) within)
+        ∙ number_of-injective (bits_of_byte (spelled_number top)) top (length-byte (spelled_number top) ∙ sym eight) (number_of_byte (spelled_number top) within)
 
     lengths : length (low ++ replicate 8 false) ≡ length (divided 8 (top ++ zeros))
     lengths =
         omega (arith, length-append low (replicate 8 false), l, length-append top zeros, eight, length-divided 8 (top ++ zeros) (omega (arith, length-append top zeros, eight)))
 
-pub push_step : (r b e : ℕ) (bytes : List ℕ) → b < 256 → r ≡ running_of bytes → e ≡ entry_of (bit_xor (r / 256) b)
+pub push_step : (r b e : ℕ) (bytes : List ℕ) → b < 256 → r ≡ running_of bytes → e ≡ table_entry (bit_xor (r / 256) b)
     → bit_xor (r * 256 % 65536) e ≡ running_of (bytes ++ b ∷ [])
 push_step r b e bytes small is entry =
     numbers_step r b e (take 8 (remainder_of bytes)) (drop 8 (remainder_of bytes)) small
     (omega (arith, length-take 8 (remainder_of bytes), length-remainder bytes))
     (omega (arith, length-drop 8 (remainder_of bytes), length-remainder bytes))
-    (is ∙ ap number_of (sym whole)) entry
-    ∙ ap (λ xs. number_of (divided 8 (sum_from_front xs (bits_of_byte b ++ zeros)))) whole
-    ∙ ap number_of (sym (goes_on bytes b))
+    (is ∙ ap spelled_number (sym whole)) entry
+    ∙ ap (λ xs. spelled_number (divided 8 (sum_from_front xs (bits_of_byte b ++ zeros)))) whole
+    ∙ ap spelled_number (sym (goes_on bytes b))
   where
     whole : take 8 (remainder_of bytes) ++ drop 8 (remainder_of bytes) ≡ remainder_of bytes
     whole = take-append-drop 8 (remainder_of bytes)

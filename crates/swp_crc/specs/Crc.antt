@@ -1,7 +1,7 @@
 -- The CRC of a frame, by division.
 use Rattle.std.specs.Prelude.{ℕ, suc, zero, ◌+◌, ◌*◌, Bool, false, not, List, [], ◌∷◌, ◌++◌, length, map, replicate}
 use Rattle.swp_base.specs.Bits.{bits_of, bits_of_byte}
-use Rattle.swp_crc.specs.Division.{divided, number_of}
+use Rattle.swp_crc.specs.Division.{divided, spelled_number}
 
 -- sixteen zeros
 abbrev pub zeros : List Bool
@@ -19,12 +19,12 @@ remainder_of bytes = divided (length (bits_of bytes)) (complement_first 16 (bits
 
 -- the CRC of these bytes: the complement of that remainder
 abbrev pub crc_of : List ℕ → ℕ
-crc_of bytes = number_of (map not (remainder_of bytes))
+crc_of bytes = spelled_number (map not (remainder_of bytes))
 
 -- what division leaves of the bits of one byte before sixteen zeros, nothing complemented
-abbrev pub entry_of : ℕ → ℕ
-entry_of byte = number_of (divided 8 (bits_of_byte byte ++ zeros))
+abbrev pub table_entry : ℕ → ℕ
+table_entry byte = spelled_number (divided 8 (bits_of_byte byte ++ zeros))
 
 -- the same with this many more bytes 0 behind the byte
 abbrev pub entry_before : ℕ → ℕ → ℕ
-entry_before more byte = number_of (divided (8 + 8 * more) (bits_of_byte byte ++ replicate (8 * more + 16) false))
+entry_before more byte = spelled_number (divided (8 + 8 * more) (bits_of_byte byte ++ replicate (8 * more + 16) false))

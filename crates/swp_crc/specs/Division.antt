@@ -25,7 +25,7 @@ divided (suc n) (true ∷ bits) = divided n (drop 1 (sum_from_front divisor (tru
 divided (suc n) (false ∷ bits) = divided n bits
 
 -- the number that a list of bits spells, most significant first
-abbrev pub number_of : List Bool → ℕ
-number_of [] = 0
-number_of (true ∷ bits) = 2 ^ length bits + number_of bits
-number_of (false ∷ bits) = number_of bits
+abbrev pub spelled_number : List Bool → ℕ
+spelled_number [] = 0
+spelled_number (true ∷ bits) = 2 ^ length bits + spelled_number bits
+spelled_number (false ∷ bits) = spelled_number bits

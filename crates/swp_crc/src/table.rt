@@ -1,6 +1,6 @@
 //! The tables by which a CRC goes on, byte by byte or four bytes at once.
 ghost use Rattle.std.specs.Prelude.{◌≡◌};
-ghost use Rattle.swp_crc.specs.Crc.{entry_of, entry_before};
+ghost use Rattle.swp_crc.specs.Crc.{table_entry, entry_before};
 
 /// What is left of each byte before 16 zeros.
 static ENTRIES: [u16; 256] = [
@@ -109,7 +109,7 @@ static ENTRIES_BEFORE_THREE: [u16; 256] = [
 /// What is left of the eight bits of a byte before 16 zeros, divided by the polynomial: nothing is complemented.
 #[inline]
 pub fn entry(byte: u8) -> u16
-    ensures { result ≡ entry_of byte }
+    ensures { result ≡ table_entry byte }
 {
     ENTRIES[byte as usize]
 }

@@ -3,7 +3,7 @@ use Rattle.std.proofs.Common.{◌≡◌, ℕ, suc, zero, ◌+◌, ◌-◌, ◌*�
 use Rattle.std.proofs.lemmas.List.{length-take-le, take_more}
 use Rattle.std.proofs.lemmas.Nat.{mod-pow-add, shr-shr}
 use Rattle.swp_base.specs.Bits.{bit}
-use Rattle.swp_crc.specs.Division.{number_of}
+use Rattle.swp_crc.specs.Division.{spelled_number}
 use Rattle.swp_frame.specs.Signal.{Symbol, symbol_of, run_of, no_mark, mark_of, since_start, read_on, HasNoMark}
 use Rattle.swp_frame.specs.Words.{low_bits, places_of_marks, run_after, word_bits, IsWordBehind}
 use Rattle.swp_frame.specs.declared.word.Word.{Word}
@@ -13,16 +13,16 @@ use Rattle.swp_frame.proofs.LowBits.{length-low_bits, low_bits-at, drop-low_bits
 use Rattle.swp_frame.proofs.FurtherBits.{run_of-read_on}
 use Rattle.swp_frame.proofs.Places.{EndsIn, all_ones, last_zero, run_at_end, marks_between, no_marks}
 use Rattle.swp_decode.specs.declared.line.Wire.{Wire}
-use Rattle.swp_decode.specs.Readings.{Reading, with_reading, readings_on, symbols, front_after, front_of, start_after, start_of}
-use Rattle.swp_decode.specs.Texts.{line_of}
+use Rattle.swp_decode.specs.Readings.{ReadSymbol, with_reading, readings_on, symbols, front_after, front_of, start_after, start_of}
+use Rattle.swp_decode.specs.Texts.{verdict_line}
 use Rattle.swp_decode.specs.Decoded.{line_with, lines_on}
-use Rattle.swp_decode.specs.Kept.{IsQuiet}
+use Rattle.swp_decode.specs.Kept.{NoMarkEnds}
 
-pub symbols-readings_on : (place : ℕ) (bits : List Bool) (older : List Reading) → symbols (readings_on place bits older) ≡ read_on (symbols older) bits
+pub symbols-readings_on : (place : ℕ) (bits : List Bool) (older : List ReadSymbol) → symbols (readings_on place bits older) ≡ read_on (symbols older) bits
 symbols-readings_on place [] older = refl
 symbols-readings_on place (bit ∷ bits) older = symbols-readings_on (place + 1) bits (with_reading (Some (symbol_of bit)) place older)
 
-pub readings_on-append : (place : ℕ) (bits more : List Bool) (older : List Reading)
+pub readings_on-append : (place : ℕ) (bits more : List Bool) (older : List ReadSymbol)
     → readings_on place (bits ++ more) older ≡ readings_on (place + length bits) more (readings_on place bits older)
 readings_on-append place [] more older = ap (λ n. readings_on n more older) (omega arith)
 readings_on-append place (bit ∷ bits) more older =
@@ -30,7 +30,7 @@ readings_on-append place (bit ∷ bits) more older =
     ∙ ap (λ n. readings_on n more (readings_on place (bit ∷ bits) older)) (omega arith)
 
 -- bits that end no mark move no start
-pub start_of-readings_on : (place : ℕ) (bits : List Bool) (older : List Reading) → HasNoMark (symbols older) bits → start_of (readings_on place bits older) ≡ start_of older
+pub start_of-readings_on : (place : ℕ) (bits : List Bool) (older : List ReadSymbol) → HasNoMark (symbols older) bits → start_of (readings_on place bits older) ≡ start_of older
 start_of-readings_on place [] older quiet = refl
 start_of-readings_on place (bit ∷ bits) older quiet =
     start_of-readings_on (place + 1) bits (with_reading (Some (symbol_of bit)) place older) quiet.1
@@ -41,14 +41,14 @@ quiet_verdict None = refl
 quiet_verdict (Some since) = refl
 
 -- no line comes with bits that end no mark
-pub lines_on-quiet : (wire : Wire) (place : ℕ) (bits : List Bool) (older : List Reading) → HasNoMark (symbols older) bits → lines_on wire place bits older ≡ []
+pub lines_on-quiet : (wire : Wire) (place : ℕ) (bits : List Bool) (older : List ReadSymbol) → HasNoMark (symbols older) bits → lines_on wire place bits older ≡ []
 lines_on-quiet wire place [] older quiet = refl
 lines_on-quiet wire place (bit ∷ bits) older quiet =
     let seen = symbols older in
     let nothing : verdict_after (mark_of (symbol_of bit ∷ seen)) (since_start seen) ≡ Nothing =
     ap (λ mark. verdict_after mark (since_start seen)) quiet.0 ∙ quiet_verdict (since_start seen) in
     let rest = lines_on wire (place + 1) bits (with_reading (Some (symbol_of bit)) place older) in
-    ap (λ fed. line_of wire (start_of older) fed ++ rest) nothing
+    ap (λ fed. verdict_line wire (start_of older) fed ++ rest) nothing
     ∙ lines_on-quiet wire (place + 1) bits (with_reading (Some (symbol_of bit)) place older) quiet.1
 
 -- the front after further bits
@@ -56,7 +56,7 @@ abbrev pub front_on : ℕ → List Bool → Option ℕ → Option ℕ
 front_on place [] before = before
 front_on place (bit ∷ bits) before = front_on (place + 1) bits (front_after (symbol_of bit) place before)
 
-pub front_of-readings_on : (place : ℕ) (bits : List Bool) (older : List Reading) → front_of (readings_on place bits older) ≡ front_on place bits (front_of older)
+pub front_of-readings_on : (place : ℕ) (bits : List Bool) (older : List ReadSymbol) → front_of (readings_on place bits older) ≡ front_on place bits (front_of older)
 front_of-readings_on place [] older = refl
 front_of-readings_on place (bit ∷ bits) older = front_of-readings_on (place + 1) bits (with_reading (Some (symbol_of bit)) place older)
 
@@ -93,7 +93,7 @@ front_first : (place n : ℕ) (before : Option ℕ) → 0 < n → front_on place
 front_first place zero before some = absurd (omega arith)
 front_first place (suc n) before some = front_kept (place + 1) (unwrap_or before place) n
 
-pub front_at_end : (place w n ones : ℕ) (older : List Reading) → 0 < w → EndsIn w n ones
+pub front_at_end : (place w n ones : ℕ) (older : List ReadSymbol) → 0 < w → EndsIn w n ones
     → (w ≤ ones → front_of (readings_on place (low_bits w n) older) ≡ Some (unwrap_or (front_of older) place))
     × (ones < w → front_of (readings_on place (low_bits w n) older) ≡ Some (place + w - 1 - ones))
 front_at_end place w n ones older some (all_ones over is) = (
@@ -110,7 +110,7 @@ front_at_end place w n ones older some (last_zero lt is) = (
 -- ---- a word
 
 -- further bits, in two parts
-pub readings_further : (place from to n x : ℕ) (older : List Reading) → from ≤ to → to ≤ n
+pub readings_further : (place from to n x : ℕ) (older : List ReadSymbol) → from ≤ to → to ≤ n
     → readings_on (place + from) (take (to - from) (drop from (low_bits n x))) (readings_on place (take from (low_bits n x)) older) ≡ readings_on place (take to (low_bits n x)) older
 readings_further place from to n x older order within =
     let bits = low_bits n x in
@@ -120,23 +120,23 @@ readings_further place from to n x older order within =
     ∙ ap (λ xs. readings_on place xs older) (sym (take-add from (to - from) bits) ∙ ap (λ k. take k bits) (omega (arith, order)))
 
 -- the run behind the first bits
-pub run_behind_readings : (place : ℕ) (bits : List Bool) (older : List Reading) → run_of (symbols (readings_on place bits older)) ≡ run_after (run_of (symbols older)) bits
+pub run_behind_readings : (place : ℕ) (bits : List Bool) (older : List ReadSymbol) → run_of (symbols (readings_on place bits older)) ≡ run_after (run_of (symbols older)) bits
 run_behind_readings place bits older = ap run_of (symbols-readings_on place bits older) ∙ run_of-read_on (symbols older) bits
 
 -- no mark ends where the word has none
-pub quiet_between : (word : Word) (place from to : ℕ) (older : List Reading) → from ≤ to → to ≤ 64 → IsWordBehind word (run_of (symbols older)) → IsQuiet word from to
+pub quiet_between : (word : Word) (place from to : ℕ) (older : List ReadSymbol) → from ≤ to → to ≤ 64 → IsWordBehind word (run_of (symbols older)) → NoMarkEnds word from to
     → HasNoMark (symbols (readings_on place (take from (word_bits word)) older)) (take (to - from) (drop from (word_bits word)))
 quiet_between word place from to older order within behind quiet =
     let bits = word_bits word in
     let part = take (to - from) (drop from bits) in
     let sum : from + (to - from) ≡ to = omega (arith, order) in
     no_marks (symbols (readings_on place (take from bits) older)) part
-    (ap (λ ones. number_of (places_of_marks ones part)) (run_behind_readings place (take from bits) older)
+    (ap (λ ones. spelled_number (places_of_marks ones part)) (run_behind_readings place (take from bits) older)
     ∙ sym (marks_between 64 from (to - from) (run_of (symbols older)) word.bits word.marks (omega (arith, order, within)) behind.marks)
     ∙ ap (λ k. word.marks / 2 ^ (64 - k) % 2 ^ (to - from)) sum ∙ quiet)
 
 -- nor does one where a further bit has none
-pub quiet_more : (word : Word) (from last : ℕ) → from ≤ last → last < 64 → IsQuiet word from last → word.marks / 2 ^ (63 - last) % 2 ≡ 0 → IsQuiet word from (last + 1)
+pub quiet_more : (word : Word) (from last : ℕ) → from ≤ last → last < 64 → NoMarkEnds word from last → word.marks / 2 ^ (63 - last) % 2 ≡ 0 → NoMarkEnds word from (last + 1)
 quiet_more word from last order within quiet none =
     let n : ℕ = word.marks / 2 ^ (63 - last) in
     let half : n / 2 ^ 1 ≡ word.marks / 2 ^ (64 - last) = shr-shr word.marks (63 - last) 1 ∙ ap (λ k. word.marks / 2 ^ k) (omega (arith, within)) in
@@ -145,7 +145,7 @@ quiet_more word from last order within quiet none =
     ∙ ap₂ (λ a b. a * 2 ^ 1 + b) (ap (λ m. m % 2 ^ (last - from)) half ∙ quiet) none
 
 -- nor does one where no mark ends up to a bit, nor from there on
-pub quiet_further : (word : Word) (from mid to : ℕ) → from ≤ mid → mid ≤ to → to ≤ 64 → IsQuiet word from mid → IsQuiet word mid to → IsQuiet word from to
+pub quiet_further : (word : Word) (from mid to : ℕ) → from ≤ mid → mid ≤ to → to ≤ 64 → NoMarkEnds word from mid → NoMarkEnds word mid to → NoMarkEnds word from to
 quiet_further word from mid to order further within quiet none =
     let n : ℕ = word.marks / 2 ^ (64 - to) in
     let upper : n / 2 ^ (to - mid) ≡ word.marks / 2 ^ (64 - mid) = shr-shr word.marks (64 - to) (to - mid) ∙ ap (λ k. word.marks / 2 ^ k) (omega (arith, further, within)) in
@@ -158,7 +158,7 @@ quiet_further word from mid to order further within quiet none =
     nothing n = omega arith
 
 -- no mark ends with none of its bits
-pub quiet_none : (word : Word) (at : ℕ) → IsQuiet word at at
+pub quiet_none : (word : Word) (at : ℕ) → NoMarkEnds word at at
 quiet_none word at =
     let none : at - at ≡ 0 = omega arith in
     ap (λ k. word.marks / 2 ^ (64 - at) % 2 ^ k) none ∙ whole (word.marks / 2 ^ (64 - at))
@@ -172,7 +172,7 @@ word_bits-more x last h =
     take_more (low_bits 64 x) last false (omega (arith, h, length-low_bits 64 x))
     ∙ ap (λ b. take last (low_bits 64 x) ++ b ∷ []) (low_bits-at 64 last x h ∙ ap (bit x) (omega arith))
 
-pub readings_more : (place x last : ℕ) (older : List Reading) → last < 64
+pub readings_more : (place x last : ℕ) (older : List ReadSymbol) → last < 64
     → with_reading (Some (symbol_of (bit x (63 - last)))) (place + last) (readings_on place (take last (low_bits 64 x)) older) ≡ readings_on place (take (last + 1) (low_bits 64 x)) older
 readings_more place x last older h =
     let bits = take last (low_bits 64 x) in
@@ -182,9 +182,9 @@ readings_more place x last older h =
     ∙ ap (λ xs. readings_on place xs older) (sym (word_bits-more x last h))
 
 -- no line comes with a bit that ends no mark
-pub quiet_line : (wire : Wire) (bit : Bool) (older : List Reading) → mark_of (symbol_of bit ∷ symbols older) ≡ no_mark → line_with wire (Some (symbol_of bit)) older ≡ []
+pub quiet_line : (wire : Wire) (bit : Bool) (older : List ReadSymbol) → mark_of (symbol_of bit ∷ symbols older) ≡ no_mark → line_with wire (Some (symbol_of bit)) older ≡ []
 quiet_line wire b older none =
-    ap (λ fed. line_of wire (start_of older) fed) (ap (λ mark. verdict_after mark (since_start (symbols older))) none ∙ quiet_verdict (since_start (symbols older)))
+    ap (λ fed. verdict_line wire (start_of older) fed) (ap (λ mark. verdict_after mark (since_start (symbols older))) none ∙ quiet_verdict (since_start (symbols older)))
 
 one_there : (x last : ℕ) → last < 64 → take (last + 1 - last) (drop last (low_bits 64 x)) ≡ bit x (63 - last) ∷ []
 unfolding low_bits
@@ -194,13 +194,13 @@ one_there x last h =
     ap₂ (λ k xs. take k xs) one left
 
 -- no line comes with a bit of a word that ends no mark
-pub quiet_line_at : (word : Word) (wire : Wire) (place last : ℕ) (older : List Reading) → last < 64 → IsWordBehind word (run_of (symbols older)) → word.marks / 2 ^ (63 - last) % 2 ≡ 0
+pub quiet_line_at : (word : Word) (wire : Wire) (place last : ℕ) (older : List ReadSymbol) → last < 64 → IsWordBehind word (run_of (symbols older)) → word.marks / 2 ^ (63 - last) % 2 ≡ 0
     → line_with wire (Some (symbol_of (bit word.bits (63 - last)))) (readings_on place (take last (word_bits word)) older) ≡ []
 quiet_line_at word wire place last older h behind none =
     let before = readings_on place (take last (word_bits word)) older in
     let place_is : 64 - (last + 1) ≡ 63 - last = omega (arith, h) in
     let one : last + 1 - last ≡ 1 = omega arith in
-    let quiet : IsQuiet word last (last + 1) = ap₂ (λ k j. word.marks / 2 ^ k % 2 ^ j) place_is one ∙ none in
+    let quiet : NoMarkEnds word last (last + 1) = ap₂ (λ k j. word.marks / 2 ^ k % 2 ^ j) place_is one ∙ none in
     let marks : HasNoMark (symbols before) (bit word.bits (63 - last) ∷ []) =
     subst (HasNoMark (symbols before)) (one_there word.bits last h) (quiet_between word place last (last + 1) older (omega arith) (omega (arith, h)) behind quiet) in
     quiet_line wire (bit word.bits (63 - last)) before marks.0

@@ -6,39 +6,39 @@ use Rattle.swp_decode.specs.declared.line.Wire.{Wire}
 use Rattle.swp_decode.specs.declared.line.Wire.TheVariants.{S1, S2}
 use Rattle.swp_decode.specs.Readings.{with_reading, readings_on, AreBits, signal, symbols}
 use Rattle.swp_decode.specs.declared.decoder.Decoder.{Decoder}
-use Rattle.swp_decode.specs.Kept.{ReadsSignal, StandsFor}
+use Rattle.swp_decode.specs.Kept.{ReadsSignal, DecoderStandsFor}
 use Rattle.swp_decode.proofs.FurtherBits.{lines_on-quiet}
 use Rattle.swp_decode.proofs.Gathering.{AreBits-take, AreBits-drop, AreBits-at}
-use Rattle.swp_decode.specs.Decoded.{line_with, line_at, lines_on, lines_behind, transcript, record_lines}
+use Rattle.swp_decode.specs.Decoded.{line_with, line_at, lines_on, lines_with, transcript, record_lines}
 
 -- older bytes with one more behind them
 reverse_onto : (byte : ℕ) (bytes older : List ℕ) → reverse (byte ∷ bytes) ++ older ≡ reverse bytes ++ (byte ∷ older)
 reverse_onto byte bytes older = ap (λ xs. xs ++ older) (reverse-append (byte ∷ []) bytes) ∙ append_assoc (reverse bytes) (byte ∷ []) older
 
 -- the lines of older bytes and of further ones
-pub transcript-append : (older bytes : List ℕ) → transcript (reverse bytes ++ older) ≡ transcript older ++ lines_behind older bytes
+pub transcript-append : (older bytes : List ℕ) → transcript (reverse bytes ++ older) ≡ transcript older ++ lines_with older bytes
 transcript-append older [] = sym (append-nil (transcript older))
 transcript-append older (byte ∷ bytes) =
     let new = line_at S1 (byte ∷ older) in
     let newer = line_at S2 (byte ∷ older) in
     ap transcript (reverse_onto byte bytes older) ∙ transcript-append (byte ∷ older) bytes
-    ∙ regrouped (transcript older) new newer (lines_behind (byte ∷ older) bytes)
+    ∙ regrouped (transcript older) new newer (lines_with (byte ∷ older) bytes)
   where
     regrouped : (a b c d : List ℕ) → ((a ++ b) ++ c) ++ d ≡ a ++ ((b ++ c) ++ d)
     regrouped a b c d = simp append_assoc
 
 -- the lines of a record and of what follows it
-pub record_lines-append : (bytes more : List ℕ) → record_lines (bytes ++ more) ≡ record_lines bytes ++ lines_behind (reverse bytes) more
+pub record_lines-append : (bytes more : List ℕ) → record_lines (bytes ++ more) ≡ record_lines bytes ++ lines_with (reverse bytes) more
 record_lines-append bytes more = ap transcript (reverse-append bytes more) ∙ transcript-append (reverse bytes) more
 
 -- the lines of further bytes and of those behind them
-pub lines_behind-append : (older bytes more : List ℕ) → lines_behind older (bytes ++ more) ≡ lines_behind older bytes ++ lines_behind (reverse bytes ++ older) more
+pub lines_behind-append : (older bytes more : List ℕ) → lines_with older (bytes ++ more) ≡ lines_with older bytes ++ lines_with (reverse bytes ++ older) more
 lines_behind-append older [] more = refl
 lines_behind-append older (byte ∷ bytes) more =
     let new = line_at S1 (byte ∷ older) ++ line_at S2 (byte ∷ older) in
     ap (λ lines. new ++ lines) (lines_behind-append (byte ∷ older) bytes more)
-    ∙ sym (append_assoc new (lines_behind (byte ∷ older) bytes) (lines_behind (reverse bytes ++ (byte ∷ older)) more))
-    ∙ ap (λ seen. (new ++ lines_behind (byte ∷ older) bytes) ++ lines_behind seen more) (sym (reverse_onto byte bytes older))
+    ∙ sym (append_assoc new (lines_with (byte ∷ older) bytes) (lines_with (reverse bytes ++ (byte ∷ older)) more))
+    ∙ ap (λ seen. (new ++ lines_with (byte ∷ older) bytes) ++ lines_with seen more) (sym (reverse_onto byte bytes older))
 
 -- one more of the further bytes
 pub reverse-more : (older bytes : List ℕ) (i : ℕ) → i < length bytes → get_or bytes i 0 ∷ (reverse (take i bytes) ++ older) ≡ reverse (take (i + 1) bytes) ++ older
@@ -47,13 +47,13 @@ reverse-more older bytes i h =
 
 pub lines_behind-more : (text older bytes : List ℕ) (i : ℕ) → i < length bytes
     → let seen = get_or bytes i 0 ∷ (reverse (take i bytes) ++ older) in
-    ((text ++ lines_behind older (take i bytes)) ++ line_at S1 seen) ++ line_at S2 seen ≡ text ++ lines_behind older (take (i + 1) bytes)
+    ((text ++ lines_with older (take i bytes)) ++ line_at S1 seen) ++ line_at S2 seen ≡ text ++ lines_with older (take (i + 1) bytes)
 lines_behind-more text older bytes i h =
     let before = take i bytes in
     let byte = get_or bytes i 0 in
     let seen = byte ∷ (reverse before ++ older) in
-    regrouped text (lines_behind older before) (line_at S1 seen) (line_at S2 seen)
-    ∙ ap (λ lines. text ++ lines) (sym (lines_behind-append older before (byte ∷ [])) ∙ ap (lines_behind older) (sym (take_more bytes i 0 h)))
+    regrouped text (lines_with older before) (line_at S1 seen) (line_at S2 seen)
+    ∙ ap (λ lines. text ++ lines) (sym (lines_behind-append older before (byte ∷ [])) ∙ ap (lines_with older) (sym (take_more bytes i 0 h)))
   where
     regrouped : (a b c d : List ℕ) → ((a ++ b) ++ c) ++ d ≡ a ++ (b ++ ((c ++ d) ++ []))
     regrouped a b c d = simp (append_assoc, append-nil)
@@ -89,17 +89,17 @@ no_parts : (xs ys : List ℕ) → xs ++ ys ≡ [] → (xs ≡ []) × (ys ≡ [])
 no_parts [] ys e = (refl, e)
 no_parts (x ∷ xs) ys e = absurd (cc)
 
-s1_silent : (bytes older : List ℕ) → wire_lines S1 older bytes ≡ [] → lines_behind older bytes ≡ wire_lines S2 older bytes
+s1_silent : (bytes older : List ℕ) → wire_lines S1 older bytes ≡ [] → lines_with older bytes ≡ wire_lines S2 older bytes
 s1_silent [] older e = refl
 s1_silent (byte ∷ bytes) older e =
     let none = no_parts (line_at S1 (byte ∷ older)) (wire_lines S1 (byte ∷ older) bytes) e in
-    ap (λ lines. (lines ++ line_at S2 (byte ∷ older)) ++ lines_behind (byte ∷ older) bytes) none.0
+    ap (λ lines. (lines ++ line_at S2 (byte ∷ older)) ++ lines_with (byte ∷ older) bytes) none.0
     ∙ ap (λ lines. line_at S2 (byte ∷ older) ++ lines) (s1_silent bytes (byte ∷ older) none.1)
 
 -- Where both readers have read the bits of further bytes, the decoder stands for these too.
-pub stands_behind : (old new : Decoder) (bytes older : List ℕ) (first second : List Bool) → AreBits S1 bytes first → AreBits S2 bytes second → StandsFor old older
+pub stands_behind : (old new : Decoder) (bytes older : List ℕ) (first second : List Bool) → AreBits S1 bytes first → AreBits S2 bytes second → DecoderStandsFor old older
     → new.count ≡ old.count + length bytes → ReadsSignal new.s1 (readings_on old.count first (signal S1 older)) → ReadsSignal new.s2 (readings_on old.count second (signal S2 older))
-    → StandsFor new (reverse bytes ++ older)
+    → DecoderStandsFor new (reverse bytes ++ older)
 stands_behind old new bytes older first second s1 s2 stands count reads_s1 reads_s2 = record {
   count = omega (arith, count, stands.count, length-append (reverse bytes) older, length-reverse bytes);
   s1 = subst (ReadsSignal new.s1) (ap (λ n. readings_on n first (signal S1 older)) stands.count ∙ sym (signal-bits S1 bytes first older s1)) reads_s1;
@@ -114,7 +114,7 @@ signal_at wire bytes older bits n are = signal-bits wire (take n bytes) (take n 
 
 -- no line comes where no mark ends on either wire
 no_lines : (bytes older : List ℕ) (first second : List Bool) → AreBits S1 bytes first → AreBits S2 bytes second
-    → HasNoMark (symbols (signal S1 older)) first → HasNoMark (symbols (signal S2 older)) second → lines_behind older bytes ≡ []
+    → HasNoMark (symbols (signal S1 older)) first → HasNoMark (symbols (signal S2 older)) second → lines_with older bytes ≡ []
 no_lines bytes older first second s1 s2 quiet_s1 quiet_s2 =
     s1_silent bytes older (wire_lines-bits S1 bytes first older s1 ∙ lines_on-quiet S1 (length older) first (signal S1 older) quiet_s1)
     ∙ wire_lines-bits S2 bytes second older s2 ∙ lines_on-quiet S2 (length older) second (signal S2 older) quiet_s2
@@ -122,21 +122,21 @@ no_lines bytes older first second s1 s2 quiet_s1 quiet_s2 =
 pub lines_between : (bytes older : List ℕ) (first second : List Bool) (from to : ℕ) → AreBits S1 bytes first → AreBits S2 bytes second → from ≤ to
     → HasNoMark (symbols (readings_on (length older) (take from first) (signal S1 older))) (take (to - from) (drop from first))
     → HasNoMark (symbols (readings_on (length older) (take from second) (signal S2 older))) (take (to - from) (drop from second))
-    → lines_behind older (take to bytes) ≡ lines_behind older (take from bytes)
+    → lines_with older (take to bytes) ≡ lines_with older (take from bytes)
 lines_between bytes older first second from to s1 s2 order quiet_s1 quiet_s2 =
     let part = take (to - from) (drop from bytes) in
     let seen = reverse (take from bytes) ++ older in
     let sum : to ≡ from + (to - from) = omega (arith, order) in
-    ap (λ k. lines_behind older (take k bytes)) sum
-    ∙ ap (lines_behind older) (take-add from (to - from) bytes)
+    ap (λ k. lines_with older (take k bytes)) sum
+    ∙ ap (lines_with older) (take-add from (to - from) bytes)
     ∙ lines_behind-append older (take from bytes) part
-    ∙ ap (λ lines. lines_behind older (take from bytes) ++ lines)
+    ∙ ap (λ lines. lines_with older (take from bytes) ++ lines)
     (no_lines part seen (take (to - from) (drop from first)) (take (to - from) (drop from second))
     (AreBits-take S1 (to - from) (drop from bytes) (drop from first) (AreBits-drop S1 from bytes first s1))
     (AreBits-take S2 (to - from) (drop from bytes) (drop from second) (AreBits-drop S2 from bytes second s2))
     (subst (λ readings. HasNoMark (symbols readings) (take (to - from) (drop from first))) (sym (signal_at S1 bytes older first from s1)) quiet_s1)
     (subst (λ readings. HasNoMark (symbols readings) (take (to - from) (drop from second))) (sym (signal_at S2 bytes older second from s2)) quiet_s2))
-    ∙ append-nil (lines_behind older (take from bytes))
+    ∙ append-nil (lines_with older (take from bytes))
 
 line_there : (wire : Wire) (bytes older : List ℕ) (bits : List Bool) (i : ℕ) → AreBits wire bytes bits → i < length bytes
     → line_at wire (get_or bytes i 0 ∷ (reverse (take i bytes) ++ older)) ≡ line_with wire (Some (symbol_of (get_or bits i false))) (readings_on (length older) (take i bits) (signal wire older))
@@ -146,12 +146,12 @@ line_there wire bytes older bits i are h = ap₂ (line_with wire) (AreBits-at wi
 pub lines_through : (text bytes older : List ℕ) (first second : List Bool) (from last : ℕ) → AreBits S1 bytes first → AreBits S2 bytes second → from ≤ last → last < length bytes
     → HasNoMark (symbols (readings_on (length older) (take from first) (signal S1 older))) (take (last - from) (drop from first))
     → HasNoMark (symbols (readings_on (length older) (take from second) (signal S2 older))) (take (last - from) (drop from second))
-    → ((text ++ lines_behind older (take from bytes))
+    → ((text ++ lines_with older (take from bytes))
     ++ line_with S1 (Some (symbol_of (get_or first last false))) (readings_on (length older) (take last first) (signal S1 older)))
     ++ line_with S2 (Some (symbol_of (get_or second last false))) (readings_on (length older) (take last second) (signal S2 older))
-    ≡ text ++ lines_behind older (take (last + 1) bytes)
+    ≡ text ++ lines_with older (take (last + 1) bytes)
 lines_through text bytes older first second from last s1 s2 order h quiet_s1 quiet_s2 =
-    ap₂ (λ a b. ((text ++ lines_behind older (take from bytes)) ++ a) ++ b) (sym (line_there S1 bytes older first last s1 h)) (sym (line_there S2 bytes older second last s2 h))
+    ap₂ (λ a b. ((text ++ lines_with older (take from bytes)) ++ a) ++ b) (sym (line_there S1 bytes older first last s1 h)) (sym (line_there S2 bytes older second last s2 h))
     ∙ ap (λ lines. ((text ++ lines) ++ line_at S1 (get_or bytes last 0 ∷ (reverse (take last bytes) ++ older))) ++ line_at S2 (get_or bytes last 0 ∷ (reverse (take last bytes) ++ older)))
     (sym (lines_between bytes older first second from last s1 s2 order quiet_s1 quiet_s2))
     ∙ lines_behind-more text older bytes last h

@@ -8,7 +8,7 @@ use Rattle.std.specs.Simd.Lanes.{mask_l, zip2, top}
 use Rattle.swp_line.specs.declared.period.Period.{Period}
 use Rattle.swp_line.specs.declared.period.Period.TheVariants.{Bits, Suspended, ResumeAsked, Deactivated}
 use Rattle.swp_line.specs.Periods.{period_at}
-use Rattle.swp_crc.specs.Division.{number_of}
+use Rattle.swp_crc.specs.Division.{spelled_number}
 use Rattle.swp_crc.proofs.Numbers.{number_of-lt}
 use Rattle.swp_frame.specs.Signal.{symbol_of}
 use Rattle.swp_frame.specs.Words.{low_bits}
@@ -19,7 +19,7 @@ use Rattle.swp_decode.proofs.Gathering.{bits_there}
 
 -- ---- the mask of the lanes in reverse is the number of the bits
 
-mask_more : (ms bits : List Bool) (m : Bool) → length ms ≡ length bits → mask_l ms ≡ number_of bits → mask_l (ms ++ m ∷ []) ≡ number_of (m ∷ bits)
+mask_more : (ms bits : List Bool) (m : Bool) → length ms ≡ length bits → mask_l ms ≡ spelled_number bits → mask_l (ms ++ m ∷ []) ≡ spelled_number (m ∷ bits)
 mask_more ms bits true long is = mask_with_one ms ∙ ap₂ (λ n k. 2 ^ n + k) long is
   where
     mask_with_one : (xs : List Bool) → mask_l (xs ++ true ∷ []) ≡ 2 ^ length xs + mask_l xs
@@ -31,7 +31,7 @@ mask_more ms bits false long is = mask_with_none ms ∙ is
     mask_with_none [] = refl
     mask_with_none (x ∷ xs) = omega (arith, mask_with_none xs)
 
-mask_reversed : (p : ℕ → Bool) (xs : List ℕ) → mask_l (map p (reverse xs)) ≡ number_of (map p xs)
+mask_reversed : (p : ℕ → Bool) (xs : List ℕ) → mask_l (map p (reverse xs)) ≡ spelled_number (map p xs)
 mask_reversed p [] = refl
 mask_reversed p (x ∷ xs) =
     ap (λ ys. mask_l (map p ys)) (reverse-append (x ∷ []) xs)
@@ -70,26 +70,26 @@ picked_reversed : (xs : List ℕ) → length xs ≡ 16 → picked xs ≡ reverse
 picked_reversed = for_sixteen (λ xs. picked xs ≡ reverse xs) (λ a b c d e f g h i j k l m n o p. refl)
 
 pub places_number : (xs : List ℕ) (byte : ℕ) → length xs ≡ 16
-    → mask_l (map (top 7) (zip2 (λ a b. cond (eqb a b) 255 0) (picked xs) (replicate 16 byte))) % 2 ^ 64 ≡ number_of (map (λ x. eqb x byte) xs)
+    → mask_l (map (top 7) (zip2 (λ a b. cond (eqb a b) 255 0) (picked xs) (replicate 16 byte))) % 2 ^ 64 ≡ spelled_number (map (λ x. eqb x byte) xs)
 places_number xs byte sixteen =
     bitmask_splat w8 eqb (picked xs) 16 byte refl (omega arith)
     ∙ ap (λ ys. mask_l (map (λ x. eqb x byte) ys)) (picked_reversed xs sixteen)
     ∙ mask_reversed (λ x. eqb x byte) xs
 
-pub places_small : (xs : List ℕ) (p : ℕ → Bool) → length xs ≡ 16 → number_of (map p xs) < 2 ^ 16
-places_small xs p sixteen = subst (λ n. number_of (map p xs) < 2 ^ n) (length-map xs p ∙ sixteen) (number_of-lt (map p xs))
+pub places_small : (xs : List ℕ) (p : ℕ → Bool) → length xs ≡ 16 → spelled_number (map p xs) < 2 ^ 16
+places_small xs p sixteen = subst (λ n. spelled_number (map p xs) < 2 ^ n) (length-map xs p ∙ sixteen) (number_of-lt (map p xs))
 
 -- ---- places of one kind or another
 
 either_more : (a b : Bool) (ps qs rs : List Bool) → (a && b) ≡ false → length ps ≡ length rs → length qs ≡ length rs
-    → number_of ps + number_of qs ≡ number_of rs → number_of (a ∷ ps) + number_of (b ∷ qs) ≡ number_of ((a || b) ∷ rs)
+    → spelled_number ps + spelled_number qs ≡ spelled_number rs → spelled_number (a ∷ ps) + spelled_number (b ∷ qs) ≡ spelled_number ((a || b) ∷ rs)
 either_more true true ps qs rs apart long1 long2 sum = absurd (cc)
 either_more true false ps qs rs apart long1 long2 sum = omega (arith, ap (λ n. 2 ^ n) long1, sum)
 either_more false true ps qs rs apart long1 long2 sum = omega (arith, ap (λ n. 2 ^ n) long2, sum)
 either_more false false ps qs rs apart long1 long2 sum = sum
 
 pub either_places : (p q : ℕ → Bool) → ((x : ℕ) → (p x && q x) ≡ false) → (xs : List ℕ)
-    → number_of (map p xs) + number_of (map q xs) ≡ number_of (map (λ x. p x || q x) xs)
+    → spelled_number (map p xs) + spelled_number (map q xs) ≡ spelled_number (map (λ x. p x || q x) xs)
 either_places p q apart [] = refl
 either_places p q apart (x ∷ xs) =
     either_more (p x) (q x) (map p xs) (map q xs) (map (λ x. p x || q x) xs) (apart x)
@@ -97,7 +97,7 @@ either_places p q apart (x ∷ xs) =
     (either_places p q apart xs)
 
 -- where every bit is 1
-all_more : (b : Bool) (bs : List Bool) → number_of (b ∷ bs) + 1 ≡ 2 ^ length (b ∷ bs) → (b ≡ true) × (number_of bs + 1 ≡ 2 ^ length bs)
+all_more : (b : Bool) (bs : List Bool) → spelled_number (b ∷ bs) + 1 ≡ 2 ^ length (b ∷ bs) → (b ≡ true) × (spelled_number bs + 1 ≡ 2 ^ length bs)
 all_more true bs all = (refl, omega (arith, all, pow-suc 2 (length bs)))
 all_more false bs all = absurd (omega (arith, all, number_of-lt bs, pow-suc 2 (length bs)))
 
@@ -136,17 +136,17 @@ apart x a b p not_b = go (eqb x b) refl
     go true is = ap₂ (λ c d. c && d) (ap p (eqb-true x b is) ∙ not_b) is
     go false is = ap (λ d. p x && d) is ∙ and_none (p x)
 
-pub number_s1 : (xs : List ℕ) → number_of (map has_first xs) + number_of (map has_both xs) ≡ number_of (map is_s1 xs)
+pub number_s1 : (xs : List ℕ) → spelled_number (map has_first xs) + spelled_number (map has_both xs) ≡ spelled_number (map is_s1 xs)
 number_s1 xs = either_places has_first has_both (λ x. apart x 0 0xFC has_first refl) xs
 
-pub number_s2 : (xs : List ℕ) → number_of (map has_second xs) + number_of (map has_both xs) ≡ number_of (map is_s2 xs)
+pub number_s2 : (xs : List ℕ) → spelled_number (map has_second xs) + spelled_number (map has_both xs) ≡ spelled_number (map is_s2 xs)
 number_s2 xs = either_places has_second has_both (λ x. apart x 0 0xFC has_second refl) xs
 
 pub number_some : (xs : List ℕ)
-    → number_of (map has_neither xs) + number_of (map has_first xs) + number_of (map has_second xs) + number_of (map has_both xs) ≡ number_of (map is_some xs)
+    → spelled_number (map has_neither xs) + spelled_number (map has_first xs) + spelled_number (map has_second xs) + spelled_number (map has_both xs) ≡ spelled_number (map is_some xs)
 number_some xs =
-    ap (λ n. n + number_of (map has_second xs) + number_of (map has_both xs)) (either_places has_neither has_first (λ x. apart x 0 0x54 has_neither refl) xs)
-    ∙ ap (λ n. n + number_of (map has_both xs)) (either_places (λ x. has_neither x || has_first x) has_second (λ x. apart x 0 0xC0 (λ y. has_neither y || has_first y) refl) xs)
+    ap (λ n. n + spelled_number (map has_second xs) + spelled_number (map has_both xs)) (either_places has_neither has_first (λ x. apart x 0 0x54 has_neither refl) xs)
+    ∙ ap (λ n. n + spelled_number (map has_both xs)) (either_places (λ x. has_neither x || has_first x) has_second (λ x. apart x 0 0xC0 (λ y. has_neither y || has_first y) refl) xs)
     ∙ either_places (λ x. (has_neither x || has_first x) || has_second x) has_both (λ x. apart x 0 0xFC (λ y. (has_neither y || has_first y) || has_second y) refl) xs
 
 -- what holds of the four periods holds of a byte that is one of them
@@ -169,11 +169,11 @@ symbol_s1 = for_some (λ x. symbol_on S1 (period_at x) ≡ Some (symbol_of (is_s
 symbol_s2 : (x : ℕ) → is_some x ≡ true → symbol_on S2 (period_at x) ≡ Some (symbol_of (is_s2 x))
 symbol_s2 = for_some (λ x. symbol_on S2 (period_at x) ≡ Some (symbol_of (is_s2 x))) refl refl refl refl
 
-pub are_s1 : (xs : List ℕ) → number_of (map is_some xs) + 1 ≡ 2 ^ length (map is_some xs) → AreBits S1 xs (map is_s1 xs)
+pub are_s1 : (xs : List ℕ) → spelled_number (map is_some xs) + 1 ≡ 2 ^ length (map is_some xs) → AreBits S1 xs (map is_s1 xs)
 are_s1 [] all = tt
 are_s1 (x ∷ xs) all = let more = all_more (is_some x) (map is_some xs) all in (symbol_s1 x more.0, are_s1 xs more.1)
 
-pub are_s2 : (xs : List ℕ) → number_of (map is_some xs) + 1 ≡ 2 ^ length (map is_some xs) → AreBits S2 xs (map is_s2 xs)
+pub are_s2 : (xs : List ℕ) → spelled_number (map is_some xs) + 1 ≡ 2 ^ length (map is_some xs) → AreBits S2 xs (map is_s2 xs)
 are_s2 [] all = tt
 are_s2 (x ∷ xs) all = let more = all_more (is_some x) (map is_some xs) all in (symbol_s2 x more.0, are_s2 xs more.1)
 
@@ -190,13 +190,13 @@ has_bits None = false
 some_checks : agree_below is_some (λ x. has_bits (period_at x)) 256 ≡ true
 some_checks = refl
 
-pub all_some : (xs : List ℕ) (bits : List Bool) → ((i : ℕ) → get_or xs i 0 < 256) → AreBits S1 xs bits → number_of (map is_some xs) + 1 ≡ 2 ^ length (map is_some xs)
+pub all_some : (xs : List ℕ) (bits : List Bool) → ((i : ℕ) → get_or xs i 0 < 256) → AreBits S1 xs bits → spelled_number (map is_some xs) + 1 ≡ 2 ^ length (map is_some xs)
 all_some [] bits small are = refl
 all_some (x ∷ xs) [] small are = absurd are
 all_some (x ∷ xs) (bit ∷ bits) small are =
     let there = bits_there (x ∷ xs) (bit ∷ bits) 0 are (omega arith) in
     let some : is_some x ≡ true = agree_below_at is_some (λ n. has_bits (period_at n)) 256 x some_checks (small 0) ∙ ap has_bits there.1.1 in
-    ap (λ b. number_of (b ∷ map is_some xs) + 1) some
+    ap (λ b. spelled_number (b ∷ map is_some xs) + 1) some
     ∙ omega (arith, all_some xs bits (λ i. small (suc i)) are.1, pow-suc 2 (length (map is_some xs)))
 
 -- ---- what is computed of sixteen bytes
@@ -204,23 +204,23 @@ all_some (x ∷ xs) (bit ∷ bits) small are =
 power_of_sixteen : (xs : List ℕ) (p : ℕ → Bool) → length xs ≡ 16 → 2 ^ length (map p xs) ≡ 65536
 power_of_sixteen xs p sixteen = ap (λ n. 2 ^ n) (length-map xs p ∙ sixteen)
 
-pub all_where : (xs : List ℕ) (a b c d : ℕ) → length xs ≡ 16 → a ≡ number_of (map has_neither xs) → b ≡ number_of (map has_first xs) → c ≡ number_of (map has_second xs)
-    → d ≡ number_of (map has_both xs) → a + b + c + d ≡ 65535 → number_of (map is_some xs) + 1 ≡ 2 ^ length (map is_some xs)
+pub all_where : (xs : List ℕ) (a b c d : ℕ) → length xs ≡ 16 → a ≡ spelled_number (map has_neither xs) → b ≡ spelled_number (map has_first xs) → c ≡ spelled_number (map has_second xs)
+    → d ≡ spelled_number (map has_both xs) → a + b + c + d ≡ 65535 → spelled_number (map is_some xs) + 1 ≡ 2 ^ length (map is_some xs)
 all_where xs a b c d sixteen is_a is_b is_c is_d sum = omega (arith, number_some xs, power_of_sixteen xs is_some sixteen, is_a, is_b, is_c, is_d, sum)
 
-pub sum_where : (xs : List ℕ) (a b c d : ℕ) → length xs ≡ 16 → a ≡ number_of (map has_neither xs) → b ≡ number_of (map has_first xs) → c ≡ number_of (map has_second xs)
-    → d ≡ number_of (map has_both xs) → number_of (map is_some xs) + 1 ≡ 2 ^ length (map is_some xs) → a + b + c + d ≡ 65535
+pub sum_where : (xs : List ℕ) (a b c d : ℕ) → length xs ≡ 16 → a ≡ spelled_number (map has_neither xs) → b ≡ spelled_number (map has_first xs) → c ≡ spelled_number (map has_second xs)
+    → d ≡ spelled_number (map has_both xs) → spelled_number (map is_some xs) + 1 ≡ 2 ^ length (map is_some xs) → a + b + c + d ≡ 65535
 sum_where xs a b c d sixteen is_a is_b is_c is_d all = omega (arith, number_some xs, power_of_sixteen xs is_some sixteen, is_a, is_b, is_c, is_d, all)
 
-spelled : (xs : List ℕ) (p : ℕ → Bool) (n : ℕ) → length xs ≡ 16 → n ≡ number_of (map p xs) → low_bits 16 n ≡ map p xs
+spelled : (xs : List ℕ) (p : ℕ → Bool) (n : ℕ) → length xs ≡ 16 → n ≡ spelled_number (map p xs) → low_bits 16 n ≡ map p xs
 spelled xs p n sixteen is = ap (low_bits 16) is ∙ low_bits-number_of (map p xs) 16 (length-map xs p ∙ sixteen)
 
-pub bits_s1 : (xs : List ℕ) (b d : ℕ) → length xs ≡ 16 → b ≡ number_of (map has_first xs) → d ≡ number_of (map has_both xs)
-    → number_of (map is_some xs) + 1 ≡ 2 ^ length (map is_some xs) → AreBits S1 xs (low_bits 16 (b + d))
+pub bits_s1 : (xs : List ℕ) (b d : ℕ) → length xs ≡ 16 → b ≡ spelled_number (map has_first xs) → d ≡ spelled_number (map has_both xs)
+    → spelled_number (map is_some xs) + 1 ≡ 2 ^ length (map is_some xs) → AreBits S1 xs (low_bits 16 (b + d))
 bits_s1 xs b d sixteen is_b is_d all =
     subst (AreBits S1 xs) (sym (spelled xs is_s1 (b + d) sixteen (ap₂ (λ m n. m + n) is_b is_d ∙ number_s1 xs))) (are_s1 xs all)
 
-pub bits_s2 : (xs : List ℕ) (c d : ℕ) → length xs ≡ 16 → c ≡ number_of (map has_second xs) → d ≡ number_of (map has_both xs)
-    → number_of (map is_some xs) + 1 ≡ 2 ^ length (map is_some xs) → AreBits S2 xs (low_bits 16 (c + d))
+pub bits_s2 : (xs : List ℕ) (c d : ℕ) → length xs ≡ 16 → c ≡ spelled_number (map has_second xs) → d ≡ spelled_number (map has_both xs)
+    → spelled_number (map is_some xs) + 1 ≡ 2 ^ length (map is_some xs) → AreBits S2 xs (low_bits 16 (c + d))
 bits_s2 xs c d sixteen is_c is_d all =
     subst (AreBits S2 xs) (sym (spelled xs is_s2 (c + d) sixteen (ap₂ (λ m n. m + n) is_c is_d ∙ number_s2 xs))) (are_s2 xs all)

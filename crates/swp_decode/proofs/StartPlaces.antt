@@ -3,11 +3,11 @@ use Rattle.std.proofs.Common.{◌≡◌, ◌≢◌, ℕ, suc, zero, List, [], �
 use Rattle.std.specs.Prelude.{unwrap_or}
 use Rattle.std.proofs.lemmas.Bool.{eqb-true}
 use Rattle.swp_frame.specs.Signal.{Symbol, bit_0, bit_1, break, run_of, Mark, no_mark, start_mark, end_mark, break_mark, mark_of}
-use Rattle.swp_decode.specs.Readings.{Reading, symbols, front_after, front_of, start_after, start_of}
+use Rattle.swp_decode.specs.Readings.{ReadSymbol, symbols, front_after, front_of, start_after, start_of}
 use Rattle.swp_decode.specs.Starts.{place_in_front, first_bit, IsSinceStart}
 
 -- the first 1 bit of a run
-front_of_one : (r : Reading) (older : List Reading) → r.symbol ≡ bit_1 → run_of (symbols older) ≡ 0 → front_of (r ∷ older) ≡ Some (place_in_front (r ∷ older))
+front_of_one : (r : ReadSymbol) (older : List ReadSymbol) → r.symbol ≡ bit_1 → run_of (symbols older) ≡ 0 → front_of (r ∷ older) ≡ Some (place_in_front (r ∷ older))
 front_of_one r [] is e = ap (λ s. front_after s r.place None) is
 front_of_one r (f ∷ older) is e = ap (λ s. front_after s r.place (front_of (f ∷ older))) is ∙ by_symbol f.symbol refl
   where
@@ -16,7 +16,7 @@ front_of_one r (f ∷ older) is e = ap (λ s. front_after s r.place (front_of (f
     by_symbol bit_1 same = let longer = ap (λ s. run_of (s ∷ symbols older)) same in absurd (omega (arith, longer, e))
     by_symbol break same = rw same refl
 
-front_of_run : (n : ℕ) (readings : List Reading) → run_of (symbols readings) ≡ suc n → front_of readings ≡ Some (place_in_front (drop n readings))
+front_of_run : (n : ℕ) (readings : List ReadSymbol) → run_of (symbols readings) ≡ suc n → front_of readings ≡ Some (place_in_front (drop n readings))
 front_of_run n [] e = absurd (omega (arith, e))
 front_of_run n (r ∷ older) e = by_symbol r.symbol refl n e (λ m run. front_of_run m older run)
   where
@@ -32,7 +32,7 @@ front_of_run n (r ∷ older) e = by_symbol r.symbol refl n e (λ m run. front_of
         ap (λ s. front_after s r.place (front_of older)) same
         ∙ ap (λ f. Some (unwrap_or f r.place)) (further m (omega (arith, longer, e)))
 
-pub start_at_first_bit : (readings : List Reading) → mark_of (symbols readings) ≡ start_mark → start_of readings ≡ first_bit readings
+pub start_at_first_bit : (readings : List ReadSymbol) → mark_of (symbols readings) ≡ start_mark → start_of readings ≡ first_bit readings
 start_at_first_bit [] h = absurd (cc)
 start_at_first_bit (r ∷ older) h =
     ap (λ m. start_after m (front_of older) (start_of older)) h ∙ ap (λ f. unwrap_or f 0) (front_of_run 5 older (six r.symbol h))
@@ -50,7 +50,7 @@ start_at_first_bit (r ∷ older) h =
     six bit_1 h = absurd (never (eqb (run_of (symbols older)) 6) h)
     six break h = absurd (cc)
 
-pub start_since : (since front : List Reading) → IsSinceStart since front → start_of (since ++ front) ≡ first_bit front
+pub start_since : (since front : List ReadSymbol) → IsSinceStart since front → start_of (since ++ front) ≡ first_bit front
 start_since [] front is = start_at_first_bit front is.starts
 start_since (r ∷ since) front is =
     other (mark_of (symbols (r ∷ since ++ front))) (is.later 0 (omega arith))

@@ -5,16 +5,16 @@ use Rattle.swp_frame.specs.Signal.{Symbol, symbol_of}
 use Rattle.swp_frame.specs.Verdicts.{verdict}
 use Rattle.swp_decode.specs.declared.line.Wire.{Wire}
 use Rattle.swp_decode.specs.declared.line.Wire.TheVariants.{S1, S2}
-use Rattle.swp_decode.specs.Readings.{Reading, symbol_on, with_reading, signal, symbols, start_of}
-use Rattle.swp_decode.specs.Texts.{line_of, line_feed}
+use Rattle.swp_decode.specs.Readings.{ReadSymbol, symbol_on, with_reading, signal, symbols, start_of}
+use Rattle.swp_decode.specs.Texts.{verdict_line, line_feed}
 
 -- the line that comes with a new reading on a wire, after the older ones
-abbrev pub line_with : Wire → Option Symbol → List Reading → List ℕ
+abbrev pub line_with : Wire → Option Symbol → List ReadSymbol → List ℕ
 line_with wire None older = []
-line_with wire (Some symbol) older = line_of wire (start_of older) (verdict (symbol ∷ symbols older))
+line_with wire (Some symbol) older = verdict_line wire (start_of older) (verdict (symbol ∷ symbols older))
 
 -- the lines that come with further bits on a wire, the oldest first, at this place and those behind it
-abbrev pub lines_on : Wire → ℕ → List Bool → List Reading → List ℕ
+abbrev pub lines_on : Wire → ℕ → List Bool → List ReadSymbol → List ℕ
 lines_on wire place [] older = []
 lines_on wire place (bit ∷ bits) older =
     line_with wire (Some (symbol_of bit)) older ++ lines_on wire (place + 1) bits (with_reading (Some (symbol_of bit)) place older)
@@ -30,9 +30,9 @@ transcript [] = []
 transcript (byte ∷ older) = transcript older ++ line_at S1 (byte ∷ older) ++ line_at S2 (byte ∷ older)
 
 -- the lines that come with further bytes, the oldest first, after the older ones, the newest first
-abbrev pub lines_behind : List ℕ → List ℕ → List ℕ
-lines_behind older [] = []
-lines_behind older (byte ∷ bytes) = line_at S1 (byte ∷ older) ++ line_at S2 (byte ∷ older) ++ lines_behind (byte ∷ older) bytes
+abbrev pub lines_with : List ℕ → List ℕ → List ℕ
+lines_with older [] = []
+lines_with older (byte ∷ bytes) = line_at S1 (byte ∷ older) ++ line_at S2 (byte ∷ older) ++ lines_with (byte ∷ older) bytes
 
 -- the lines of a record, its oldest byte first
 abbrev pub record_lines : List ℕ → List ℕ

@@ -8,7 +8,7 @@ use Rattle.swp_decode.specs.declared.line.Wire.{Wire}
 use Rattle.swp_decode.specs.declared.line.Wire.TheVariants.{S1, S2}
 
 -- a symbol, and the place of the byte that it was read from
-pub record Reading : Type 0 where
+pub record ReadSymbol : Type 0 where
   pub place : ℕ
   pub symbol : Symbol
 
@@ -21,12 +21,12 @@ symbol_on wire (Some ResumeAsked) = None
 symbol_on wire (Some Deactivated) = Some break
 symbol_on wire None = Some break
 
-abbrev pub with_reading : Option Symbol → ℕ → List Reading → List Reading
+abbrev pub with_reading : Option Symbol → ℕ → List ReadSymbol → List ReadSymbol
 with_reading None place older = older
 with_reading (Some symbol) place older = record { place = place; symbol = symbol } ∷ older
 
 -- what is read in one direction with further bits, the oldest first, at this place and those behind it
-abbrev pub readings_on : ℕ → List Bool → List Reading → List Reading
+abbrev pub readings_on : ℕ → List Bool → List ReadSymbol → List ReadSymbol
 readings_on place [] older = older
 readings_on place (bit ∷ bits) older = readings_on (place + 1) bits (with_reading (Some (symbol_of bit)) place older)
 
@@ -38,11 +38,11 @@ AreBits wire (byte ∷ bytes) [] = ⊥
 AreBits wire (byte ∷ bytes) (bit ∷ bits) = (symbol_on wire (period_at byte) ≡ Some (symbol_of bit)) × AreBits wire bytes bits
 
 -- what the bytes of a record, the newest first, are in one direction
-abbrev pub signal : Wire → List ℕ → List Reading
+abbrev pub signal : Wire → List ℕ → List ReadSymbol
 signal wire [] = []
 signal wire (byte ∷ older) = with_reading (symbol_on wire (period_at byte)) (length older) (signal wire older)
 
-abbrev pub symbols : List Reading → List Symbol
+abbrev pub symbols : List ReadSymbol → List Symbol
 symbols [] = []
 symbols (reading ∷ older) = reading.symbol ∷ symbols older
 
@@ -53,7 +53,7 @@ front_after break place before = None
 
 -- Where the run of 1 bits read last begins with the 0 in front of it: the place of this 0, or of the first 1 where the 0 was
 -- only read in, at the beginning or behind a break.
-abbrev pub front_of : List Reading → Option ℕ
+abbrev pub front_of : List ReadSymbol → Option ℕ
 front_of [] = None
 front_of (reading ∷ older) = front_after reading.symbol reading.place (front_of older)
 
@@ -64,6 +64,6 @@ start_after break_mark front before = before
 start_after no_mark front before = before
 
 -- the place of the first bit of the last start of frame
-abbrev pub start_of : List Reading → ℕ
+abbrev pub start_of : List ReadSymbol → ℕ
 start_of [] = 0
 start_of (reading ∷ older) = start_after (mark_of (symbols (reading ∷ older))) (front_of older) (start_of older)

@@ -50,11 +50,11 @@ control_words (Act act again) = act_words act
 control_words Clt = codes "clt"
 
 -- what an LPDU says, in words
-abbrev pub words : Result Control LpduFault → List ℕ
-words (Ok control) = control_words control
-words (Err (Unknown byte)) = codes "unknown"
-words (Err (Short need got)) = codes "short"
-words (Err (TooLong got)) = codes "toolong"
+abbrev pub lpdu_words : Result Control LpduFault → List ℕ
+lpdu_words (Ok control) = control_words control
+lpdu_words (Err (Unknown byte)) = codes "unknown"
+lpdu_words (Err (Short need got)) = codes "short"
+lpdu_words (Err (TooLong got)) = codes "toolong"
 
 abbrev pub fault_words : FrameFault → List ℕ
 fault_words (Length bits) = codes "length " ++ decimal bits
@@ -65,7 +65,7 @@ fault_words Broken = codes "broken"
 -- what stands behind the wire and the place
 abbrev pub verdict_words : Fed → List ℕ
 verdict_words Nothing = []
-verdict_words (Frame lpdu) = hex_of lpdu ++ codes " " ++ words (control_of lpdu)
+verdict_words (Frame lpdu) = hex_of lpdu ++ codes " " ++ lpdu_words (control_of lpdu)
 verdict_words (Refused fault) = fault_words fault
 
 abbrev pub line_feed : List ℕ
@@ -75,7 +75,7 @@ abbrev pub whole_line : Wire → ℕ → Fed → List ℕ
 whole_line wire start fed = wire_name wire ++ decimal start ++ codes " " ++ verdict_words fed ++ line_feed
 
 -- what a verdict on one wire gives, of a frame that starts at this place: its line, or nothing
-abbrev pub line_of : Wire → ℕ → Fed → List ℕ
-line_of wire start Nothing = []
-line_of wire start (Frame lpdu) = whole_line wire start (Frame lpdu)
-line_of wire start (Refused fault) = whole_line wire start (Refused fault)
+abbrev pub verdict_line : Wire → ℕ → Fed → List ℕ
+verdict_line wire start Nothing = []
+verdict_line wire start (Frame lpdu) = whole_line wire start (Frame lpdu)
+verdict_line wire start (Refused fault) = whole_line wire start (Refused fault)

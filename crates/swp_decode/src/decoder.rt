@@ -19,9 +19,9 @@ pub struct Decoder {
 
 impl Decoder {
     ghost use Rattle.swp_frame.specs.Signal.{break};
-    ghost use Rattle.swp_decode.specs.Readings.{Reading, with_reading, AreBits};
-    ghost use Rattle.swp_decode.specs.Decoded.{line_at, line_with, lines_behind, last_line};
-    ghost use Rattle.swp_decode.specs.Kept.{ReadsSignal, StandsFor};
+    ghost use Rattle.swp_decode.specs.Readings.{ReadSymbol, with_reading, AreBits};
+    ghost use Rattle.swp_decode.specs.Decoded.{line_at, line_with, lines_with, last_line};
+    ghost use Rattle.swp_decode.specs.Kept.{ReadsSignal, DecoderStandsFor};
 
     /// The most bytes of a record.
     pub const MAX_BYTES: u32 = 16_777_216;
@@ -37,7 +37,7 @@ impl Decoder {
 
     /// A decoder that has read nothing.
     pub fn new() -> Self
-        ensures { StandsFor result [] }
+        ensures { DecoderStandsFor result [] }
     {
         Self {
             count: 0,
@@ -54,8 +54,8 @@ impl Decoder {
         requires few { self.old.count < Self.MAX_BYTES }
         requires room { length text.old.items + Self.ROOM ≤ 8192 }
         ensures count { self.new.count ≡ self.old.count + 1 }
-        ensures stands { (bytes : List ℕ) → StandsFor self.old bytes → StandsFor self.new (byte ∷ bytes) }
-        ensures lines { (bytes : List ℕ) → StandsFor self.old bytes
+        ensures stands { (bytes : List ℕ) → DecoderStandsFor self.old bytes → DecoderStandsFor self.new (byte ∷ bytes) }
+        ensures lines { (bytes : List ℕ) → DecoderStandsFor self.old bytes
             → text.new.items ≡ text.old.items ++ line_at Wire.S1 (byte ∷ bytes) ++ line_at Wire.S2 (byte ∷ bytes) }
         ensures sized { length text.new.items ≤ length text.old.items + Self.ROOM }
     {
@@ -81,8 +81,8 @@ impl Decoder {
         ensures some { 0 < result }
         ensures within { result ≤ 64 }
         ensures count { self.new.count ≡ self.old.count + result }
-        ensures stands { (older : List ℕ) → StandsFor self.old older → StandsFor self.new (reverse (take result bytes.now) ++ older) }
-        ensures lines { (older : List ℕ) → StandsFor self.old older → text.new.items ≡ text.old.items ++ lines_behind older (take result bytes.now) }
+        ensures stands { (older : List ℕ) → DecoderStandsFor self.old older → DecoderStandsFor self.new (reverse (take result bytes.now) ++ older) }
+        ensures lines { (older : List ℕ) → DecoderStandsFor self.old older → text.new.items ≡ text.old.items ++ lines_with older (take result bytes.now) }
         ensures sized { length text.new.items ≤ length text.old.items + Self.ROOM_OF_MANY }
     {
         match many_bits(bytes) {
@@ -105,8 +105,8 @@ impl Decoder {
         ensures some { 0 < result }
         ensures within { result ≤ 64 }
         ensures count { self.new.count ≡ self.old.count + result }
-        ensures stands { (older : List ℕ) → StandsFor self.old older → StandsFor self.new (reverse (take result bytes.now) ++ older) }
-        ensures lines { (older : List ℕ) → StandsFor self.old older → text.new.items ≡ text.old.items ++ lines_behind older (take result bytes.now) }
+        ensures stands { (older : List ℕ) → DecoderStandsFor self.old older → DecoderStandsFor self.new (reverse (take result bytes.now) ++ older) }
+        ensures lines { (older : List ℕ) → DecoderStandsFor self.old older → text.new.items ≡ text.old.items ++ lines_with older (take result bytes.now) }
         ensures sized { length text.new.items ≤ length text.old.items + Self.ROOM_OF_MANY }
     {
         let place = self.count;
@@ -141,8 +141,8 @@ impl Decoder {
         requires few { self.old.count + length bytes.now ≤ Self.MAX_BYTES }
         requires room { length text.old.items + Self.ROOM_OF_MANY ≤ 8192 }
         ensures count { self.new.count ≡ self.old.count + length bytes.now }
-        ensures stands { (older : List ℕ) → StandsFor self.old older → StandsFor self.new (reverse bytes.now ++ older) }
-        ensures lines { (older : List ℕ) → StandsFor self.old older → text.new.items ≡ text.old.items ++ lines_behind older bytes.now }
+        ensures stands { (older : List ℕ) → DecoderStandsFor self.old older → DecoderStandsFor self.new (reverse bytes.now ++ older) }
+        ensures lines { (older : List ℕ) → DecoderStandsFor self.old older → text.new.items ≡ text.old.items ++ lines_with older bytes.now }
         ensures sized { length text.new.items ≤ length text.old.items + Self.ROOM_OF_MANY }
     {
         for byte in bytes {
@@ -164,9 +164,9 @@ impl Decoder {
     fn read_breaks(&mut self, text: &mut Text)
         requires { length text.old.items + Self.ROOM ≤ 8192 }
         ensures count { self.new.count ≡ self.old.count }
-        ensures reads_s1 { (place : ℕ) (older : List Reading) → ReadsSignal self.old.s1 older → ReadsSignal self.new.s1 (with_reading (Some break) place older) }
-        ensures reads_s2 { (place : ℕ) (older : List Reading) → ReadsSignal self.old.s2 older → ReadsSignal self.new.s2 (with_reading (Some break) place older) }
-        ensures lines { (first second : List Reading) → ReadsSignal self.old.s1 first → ReadsSignal self.old.s2 second
+        ensures reads_s1 { (place : ℕ) (older : List ReadSymbol) → ReadsSignal self.old.s1 older → ReadsSignal self.new.s1 (with_reading (Some break) place older) }
+        ensures reads_s2 { (place : ℕ) (older : List ReadSymbol) → ReadsSignal self.old.s2 older → ReadsSignal self.new.s2 (with_reading (Some break) place older) }
+        ensures lines { (first second : List ReadSymbol) → ReadsSignal self.old.s1 first → ReadsSignal self.old.s2 second
             → text.new.items ≡ text.old.items ++ line_with Wire.S1 (Some break) first ++ line_with Wire.S2 (Some break) second }
         ensures sized { length text.new.items ≤ length text.old.items + Self.ROOM }
     {

@@ -1,6 +1,6 @@
 //! A line of text.
 ghost use Rattle.std.specs.Prelude.{◌≡◌, ◌+◌, ◌≤◌, ◌++◌, length};
-ghost use Rattle.swp_decode.specs.Texts.{wire_name, whole_line, line_of};
+ghost use Rattle.swp_decode.specs.Texts.{wire_name, whole_line, verdict_line};
 
 use crate::words::{Text, push_decimal, push_text, push_verdict};
 use swp_frame::Fed;
@@ -18,7 +18,7 @@ pub enum Wire {
 #[inline]
 pub fn push_line(text: &mut Text, wire: Wire, start: u32, fed: &Fed)
     requires { length text.old.items + 128 ≤ 8192 }
-    ensures items { text.new.items ≡ text.old.items ++ line_of wire start fed.now }
+    ensures items { text.new.items ≡ text.old.items ++ verdict_line wire start fed.now }
     ensures sized { length text.new.items ≤ length text.old.items + 128 }
 {
     match fed {

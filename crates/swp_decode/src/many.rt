@@ -1,6 +1,6 @@
 //! The bits of many periods at once.
 ghost use Rattle.std.specs.Prelude.{Bool, List, IfSome, IfNone, ◌≡◌, ◌<◌, ◌^◌, ◌==◌, map};
-ghost use Rattle.swp_crc.specs.Division.{number_of};
+ghost use Rattle.swp_crc.specs.Division.{spelled_number};
 ghost use Rattle.swp_frame.specs.Words.{low_bits};
 ghost use Rattle.swp_decode.specs.Readings.{AreBits};
 
@@ -65,7 +65,7 @@ fn sixteen_bits(bytes: &[u8; 16]) -> Option<SixteenBits>
 /// Which of sixteen bytes are this one, as a number, the first byte the most significant.
 #[inline(always)]
 fn places_of(bytes: &[u8; 16], byte: u8) -> u64
-    ensures value { result ≡ number_of (map (λ x. x == byte) bytes.now) }
+    ensures value { result ≡ spelled_number (map (λ x. x == byte) bytes.now) }
     ensures small { result < 2 ^ 16 }
 {
     let lanes = u8x16::from_array(*bytes).reverse();

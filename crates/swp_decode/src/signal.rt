@@ -20,9 +20,9 @@ impl SignalReader {
     ghost use Rattle.swp_frame.specs.Signal.{break, bit_0, bit_1, symbol_of, run_of, HasNoMark};
     ghost use Rattle.swp_frame.specs.Words.{word_bits, part_bits, IsWordBehind, IsPartBehind};
     ghost use Rattle.swp_frame.specs.Verdicts.{verdict};
-    ghost use Rattle.swp_decode.specs.Readings.{Reading, symbols, with_reading, readings_on};
+    ghost use Rattle.swp_decode.specs.Readings.{ReadSymbol, symbols, with_reading, readings_on};
     ghost use Rattle.swp_decode.specs.Decoded.{line_with};
-    ghost use Rattle.swp_decode.specs.Kept.{ReadsSignal, IsQuiet};
+    ghost use Rattle.swp_decode.specs.Kept.{ReadsSignal, NoMarkEnds};
 
     pub fn new() -> Self
         ensures { ReadsSignal result [] }
@@ -37,8 +37,8 @@ impl SignalReader {
     /// Reads a bit at a place.
     #[inline(always)]
     pub fn read_bit(&mut self, bit: bool, place: u32) -> Fed
-        ensures reads { (older : List Reading) → ReadsSignal self.old older → ReadsSignal self.new (with_reading (Some (symbol_of bit)) place older) }
-        ensures answer { (older : List Reading) → ReadsSignal self.old older → result ≡ verdict (symbol_of bit ∷ symbols older) }
+        ensures reads { (older : List ReadSymbol) → ReadsSignal self.old older → ReadsSignal self.new (with_reading (Some (symbol_of bit)) place older) }
+        ensures answer { (older : List ReadSymbol) → ReadsSignal self.old older → result ≡ verdict (symbol_of bit ∷ symbols older) }
     {
         if !bit && self.deframer.is_before_start() {
             self.start = self.front.unwrap_or(0);
@@ -52,7 +52,7 @@ impl SignalReader {
     #[inline(always)]
     pub fn word(&self, bits: u64) -> Word
         ensures bits { result.bits ≡ bits }
-        ensures behind { (older : List Reading) → ReadsSignal self.now older → IsWordBehind result (run_of (symbols older)) }
+        ensures behind { (older : List ReadSymbol) → ReadsSignal self.now older → IsWordBehind result (run_of (symbols older)) }
     {
         self.deframer.word(bits)
     }
@@ -62,7 +62,7 @@ impl SignalReader {
     fn read_part(&mut self, part: Part, place: u32)
         requires some { 0 < part.width }
         requires place { place + part.width < 2 ^ 32 }
-        ensures { (older : List Reading) → ReadsSignal self.old older → IsPartBehind part (run_of (symbols older)) → HasNoMark (symbols older) (part_bits part)
+        ensures { (older : List ReadSymbol) → ReadsSignal self.old older → IsPartBehind part (run_of (symbols older)) → HasNoMark (symbols older) (part_bits part)
             → ReadsSignal self.new (readings_on place (part_bits part) older) }
     {
         self.deframer.feed_part(part);
@@ -81,7 +81,7 @@ impl SignalReader {
         requires order { from ≤ to }
         requires within { to ≤ 64 }
         requires place { place + 64 < 2 ^ 32 }
-        ensures { (older : List Reading) → IsWordBehind word.now (run_of (symbols older)) → IsQuiet word.now from to
+        ensures { (older : List ReadSymbol) → IsWordBehind word.now (run_of (symbols older)) → NoMarkEnds word.now from to
             → ReadsSignal self.old (readings_on place (take from (word_bits word.now)) older)
             → ReadsSignal self.new (readings_on place (take to (word_bits word.now)) older) }
     {
@@ -108,11 +108,11 @@ impl SignalReader {
         requires room { length text.old.items + 128 ≤ 8192 }
         ensures order { from ≤ result }
         ensures within { result ≤ last + 1 }
-        ensures quiet { IsQuiet word.now from last → IsQuiet word.now result (last + 1) }
-        ensures reads { (older : List Reading) → IsWordBehind word.now (run_of (symbols older)) → IsQuiet word.now from last
+        ensures quiet { NoMarkEnds word.now from last → NoMarkEnds word.now result (last + 1) }
+        ensures reads { (older : List ReadSymbol) → IsWordBehind word.now (run_of (symbols older)) → NoMarkEnds word.now from last
             → ReadsSignal self.old (readings_on place (take from (word_bits word.now)) older)
             → ReadsSignal self.new (readings_on place (take result (word_bits word.now)) older) }
-        ensures items { (older : List Reading) → IsWordBehind word.now (run_of (symbols older)) → IsQuiet word.now from last
+        ensures items { (older : List ReadSymbol) → IsWordBehind word.now (run_of (symbols older)) → NoMarkEnds word.now from last
             → ReadsSignal self.old (readings_on place (take from (word_bits word.now)) older)
             → text.new.items ≡ text.old.items ++ line_with wire (Some (symbol_of (bit word.now.bits (63 - last)))) (readings_on place (take last (word_bits word.now)) older) }
         ensures sized { length text.new.items ≤ length text.old.items + 128 }
@@ -129,8 +129,8 @@ impl SignalReader {
     /// Reads a break.
     #[inline]
     pub fn read_break(&mut self) -> Fed
-        ensures reads { (place : ℕ) (older : List Reading) → ReadsSignal self.old older → ReadsSignal self.new (with_reading (Some break) place older) }
-        ensures answer { (older : List Reading) → ReadsSignal self.old older → result ≡ verdict (break ∷ symbols older) }
+        ensures reads { (place : ℕ) (older : List ReadSymbol) → ReadsSignal self.old older → ReadsSignal self.new (with_reading (Some break) place older) }
+        ensures answer { (older : List ReadSymbol) → ReadsSignal self.old older → result ≡ verdict (break ∷ symbols older) }
     {
         self.front = None;
         self.deframer.break_off()
@@ -140,8 +140,8 @@ impl SignalReader {
     #[inline(always)]
     pub fn decode_bit(&mut self, text: &mut Text, wire: Wire, bit: bool, place: u32)
         requires { length text.old.items + 128 ≤ 8192 }
-        ensures reads { (older : List Reading) → ReadsSignal self.old older → ReadsSignal self.new (with_reading (Some (symbol_of bit)) place older) }
-        ensures items { (older : List Reading) → ReadsSignal self.old older
+        ensures reads { (older : List ReadSymbol) → ReadsSignal self.old older → ReadsSignal self.new (with_reading (Some (symbol_of bit)) place older) }
+        ensures items { (older : List ReadSymbol) → ReadsSignal self.old older
             → text.new.items ≡ text.old.items ++ line_with wire (Some (symbol_of bit)) older }
         ensures sized { length text.new.items ≤ length text.old.items + 128 }
     {
@@ -157,8 +157,8 @@ impl SignalReader {
     #[inline(always)]
     fn decode_mark(&mut self, text: &mut Text, wire: Wire, bit: bool, place: u32)
         requires { length text.old.items + 128 ≤ 8192 }
-        ensures reads { (older : List Reading) → ReadsSignal self.old older → ReadsSignal self.new (with_reading (Some (symbol_of bit)) place older) }
-        ensures items { (older : List Reading) → ReadsSignal self.old older
+        ensures reads { (older : List ReadSymbol) → ReadsSignal self.old older → ReadsSignal self.new (with_reading (Some (symbol_of bit)) place older) }
+        ensures items { (older : List ReadSymbol) → ReadsSignal self.old older
             → text.new.items ≡ text.old.items ++ line_with wire (Some (symbol_of bit)) older }
         ensures sized { length text.new.items ≤ length text.old.items + 128 }
     {
@@ -174,8 +174,8 @@ impl SignalReader {
     #[inline(never)]
     fn decode_end(&mut self, text: &mut Text, wire: Wire, place: u32)
         requires { length text.old.items + 128 ≤ 8192 }
-        ensures reads { (older : List Reading) → ReadsSignal self.old older → ReadsSignal self.new (with_reading (Some bit_1) place older) }
-        ensures items { (older : List Reading) → ReadsSignal self.old older
+        ensures reads { (older : List ReadSymbol) → ReadsSignal self.old older → ReadsSignal self.new (with_reading (Some bit_1) place older) }
+        ensures items { (older : List ReadSymbol) → ReadsSignal self.old older
             → text.new.items ≡ text.old.items ++ line_with wire (Some bit_1) older }
         ensures sized { length text.new.items ≤ length text.old.items + 128 }
     {
@@ -189,8 +189,8 @@ impl SignalReader {
     #[inline(never)]
     fn decode_start(&mut self, text: &mut Text, wire: Wire, place: u32)
         requires { length text.old.items + 128 ≤ 8192 }
-        ensures reads { (older : List Reading) → ReadsSignal self.old older → ReadsSignal self.new (with_reading (Some bit_0) place older) }
-        ensures items { (older : List Reading) → ReadsSignal self.old older
+        ensures reads { (older : List ReadSymbol) → ReadsSignal self.old older → ReadsSignal self.new (with_reading (Some bit_0) place older) }
+        ensures items { (older : List ReadSymbol) → ReadsSignal self.old older
             → text.new.items ≡ text.old.items ++ line_with wire (Some bit_0) older }
         ensures sized { length text.new.items ≤ length text.old.items + 128 }
     {
@@ -203,8 +203,8 @@ impl SignalReader {
     #[inline]
     pub fn decode_break(&mut self, text: &mut Text, wire: Wire)
         requires { length text.old.items + 128 ≤ 8192 }
-        ensures reads { (place : ℕ) (older : List Reading) → ReadsSignal self.old older → ReadsSignal self.new (with_reading (Some break) place older) }
-        ensures items { (older : List Reading) → ReadsSignal self.old older
+        ensures reads { (place : ℕ) (older : List ReadSymbol) → ReadsSignal self.old older → ReadsSignal self.new (with_reading (Some break) place older) }
+        ensures items { (older : List ReadSymbol) → ReadsSignal self.old older
             → text.new.items ≡ text.old.items ++ line_with wire (Some break) older }
         ensures sized { length text.new.items ≤ length text.old.items + 128 }
     {

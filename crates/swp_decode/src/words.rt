@@ -1,7 +1,7 @@
 //! The words of a line.
 ghost use Rattle.std.specs.Prelude.{ℕ, List, [], ◌∷◌, ◌++◌, ◌≡◌, ◌+◌, ◌*◌, ◌/◌, ◌%◌, ◌<◌, ◌≤◌, length, decimal, codes, true};
 ghost use Rattle.swp_lpdu.specs.Controls.{control_of};
-ghost use Rattle.swp_decode.specs.Texts.{hex_of, hex_word, words, kind_word, act_words, control_words, fault_words, verdict_words};
+ghost use Rattle.swp_decode.specs.Texts.{hex_of, hex_word, lpdu_words, kind_word, act_words, control_words, fault_words, verdict_words};
 
 use arrayvec::ArrayVec;
 use swp_base::{Act, Control, FrameFault, Kind, Lpdu};
@@ -275,7 +275,7 @@ pub fn push_verdict(text: &mut Text, fed: &Fed)
 /// Appends what an LPDU says. What an I frame carries isn't written, so it isn't read.
 fn push_words(text: &mut Text, lpdu: &Lpdu)
     requires { length text.old.items + 30 ≤ 8192 }
-    ensures items { text.new.items ≡ text.old.items ++ words (control_of lpdu.now) }
+    ensures items { text.new.items ≡ text.old.items ++ lpdu_words (control_of lpdu.now) }
     ensures sized { length text.new.items ≤ length text.old.items + 30 }
 {
     let bytes = lpdu.bytes();

@@ -6,7 +6,7 @@ use Rattle.std.proofs.Math.Seq.{take-append_seam}
 use Rattle.std.proofs.lemmas.List.{length-take-le}
 use Rattle.std.proofs.lemmas.Nat.{div-mul-add, mod-mul-add, shl-shr}
 use Rattle.swp_base.specs.Bits.{bits_of, bits_of_byte}
-use Rattle.swp_crc.specs.Division.{number_of}
+use Rattle.swp_crc.specs.Division.{spelled_number}
 use Rattle.swp_crc.proofs.Numbers.{number_of-append, number_of-lt}
 use Rattle.swp_crc.proofs.Entries.{number_of_byte}
 use Rattle.swp_crc.proofs.Steps.{length-byte}
@@ -19,7 +19,7 @@ use Rattle.std.proofs.lemmas.Bool.{le-ltb, eq-eqb, ne_eqb}
 use Rattle.swp_crc.specs.Crc.{crc_of}
 use Rattle.swp_base.specs.declared.link_terms.FrameFault.TheVariants.{Crc}
 use Rattle.swp_frame.specs.declared.fed.Fed.TheVariants.{Frame, Refused}
-use Rattle.swp_frame.specs.Content.{bytes_from, bytes_of, judged_bytes, judged}
+use Rattle.swp_frame.specs.Content.{bytes_from, bytes_of_bits, judged_bytes, judged}
 use Rattle.swp_frame.specs.Kept.{AreBytes, KeepsBits, run_bits}
 
 pub length-bits_of : (bytes : List ℕ) → length (bits_of bytes) ≡ 8 * length bytes
@@ -40,7 +40,7 @@ length-rest bytes partial bits kept =
 
 -- more bits that stay in the word under way
 pub more_within : (bytes : List ℕ) (partial : ℕ) (bits more : List Bool) (value width : ℕ) → KeepsBits bytes partial bits
-    → length more ≡ width → number_of more ≡ value → length bits % 64 + width < 64
+    → length more ≡ width → spelled_number more ≡ value → length bits % 64 + width < 64
     → KeepsBits bytes (partial * 2 ^ width + value) (bits ++ more)
 more_within bytes partial bits more value width kept l n h = record {
   rest = kept.rest ++ more;
@@ -99,7 +99,7 @@ AreBytes-take (suc n) (x ∷ xs) h = (h.0, AreBytes-take n xs h.1)
 
 -- more bits that make the word under way whole
 pub more_than_word : (bytes : List ℕ) (partial : ℕ) (bits more : List Bool) (value width surplus : ℕ) → KeepsBits bytes partial bits
-    → length more ≡ width → number_of more ≡ value → length bits % 64 + width ≡ 64 + surplus → surplus < 64
+    → length more ≡ width → spelled_number more ≡ value → length bits % 64 + width ≡ 64 + surplus → surplus < 64
     → KeepsBits (bytes ++ to_be_bytes w64 (partial * 2 ^ (64 - length bits % 64) + value / 2 ^ surplus)) (value % 2 ^ surplus) (bits ++ more)
 more_than_word bytes partial bits more value width surplus kept l n h few = record {
   rest = low;
@@ -145,21 +145,21 @@ more_than_word bytes partial bits more value width surplus kept l n h few = reco
     low_length : length low ≡ surplus
     low_length = omega (arith, length-drop 64 queue, queue_length)
 
-    low_small : number_of low < 2 ^ surplus
-    low_small = subst (λ x. number_of low < 2 ^ x) low_length (number_of-lt low)
+    low_small : spelled_number low < 2 ^ surplus
+    low_small = subst (λ x. spelled_number low < 2 ^ x) low_length (number_of-lt low)
 
-    parts : joined ≡ number_of high * 2 ^ surplus + number_of low
+    parts : joined ≡ spelled_number high * 2 ^ surplus + spelled_number low
     parts =
         ap (λ x. x * 2 ^ width + value) kept.number
         ∙ rw (← l, ← n) (sym (number_of-append kept.rest more))
-        ∙ ap number_of (sym (take-append-drop 64 queue))
+        ∙ ap spelled_number (sym (take-append-drop 64 queue))
         ∙ number_of-append high low
-        ∙ ap (λ x. number_of high * 2 ^ x + number_of low) low_length
+        ∙ ap (λ x. spelled_number high * 2 ^ x + spelled_number low) low_length
 
-    quotient_and_rest : (number_of high ≡ joined / 2 ^ surplus) × (number_of low ≡ joined % 2 ^ surplus)
+    quotient_and_rest : (spelled_number high ≡ joined / 2 ^ surplus) × (spelled_number low ≡ joined % 2 ^ surplus)
     quotient_and_rest = (
-      sym (ap (λ x. x / 2 ^ surplus) parts ∙ div-mul-add (number_of high) (2 ^ surplus) (number_of low) low_small),
-      sym (ap (λ x. x % 2 ^ surplus) parts ∙ mod-mul-add (number_of high) (2 ^ surplus) (number_of low) low_small),
+      sym (ap (λ x. x / 2 ^ surplus) parts ∙ div-mul-add (spelled_number high) (2 ^ surplus) (spelled_number low) low_small),
+      sym (ap (λ x. x % 2 ^ surplus) parts ∙ mod-mul-add (spelled_number high) (2 ^ surplus) (spelled_number low) low_small),
     )
 
     value_fits : value < 2 ^ width
@@ -178,7 +178,7 @@ bytes_from-bits_of (b ∷ bytes) h = ap (λ x. x ∷ bytes_from (length bytes) (
 
 -- bytes whose bits begin with these are these, as far as they go
 pub bytes_in_front : (bytes : List ℕ) (bits junk : List Bool) (n : ℕ) → AreBytes bytes → bits_of bytes ≡ bits ++ junk → length bits ≡ 8 * n → n ≤ length bytes
-    → bytes_of bits ≡ take n bytes
+    → bytes_of_bits bits ≡ take n bytes
 bytes_in_front bytes bits junk n are same l h =
     let front = take n bytes in
     let count : length front ≡ n = length-take-le n bytes h in
@@ -193,7 +193,7 @@ bytes_in_front bytes bits junk n are same l h =
 
 -- the bytes of a content, from those of the whole words and of the word under way, which is moved to the top
 pub content_bytes : (bytes : List ℕ) (partial last n : ℕ) (bits end : List Bool) → KeepsBits bytes partial (bits ++ end) → length bits ≡ 8 * n → length end < 8 → 0 < length end
-    → last ≡ partial * 2 ^ (64 - length (bits ++ end) % 64) % 2 ^ 64 → bytes_of bits ≡ take n (bytes ++ to_be_bytes w64 last)
+    → last ≡ partial * 2 ^ (64 - length (bits ++ end) % 64) % 2 ^ 64 → bytes_of_bits bits ≡ take n (bytes ++ to_be_bytes w64 last)
 content_bytes bytes partial last n bits end kept l short some is =
     bytes_in_front (bytes ++ to_be_bytes w64 last) bits (end ++ zeros) n (AreBytes-append bytes (to_be_bytes w64 last) kept.in_range (word_in_range last))
     (bits_of-append bytes (to_be_bytes w64 last)
@@ -237,7 +237,7 @@ length-end true = (length-run_bits true 6, omega (arith, length-run_bits true 6)
 length-end false = (length-run_bits false 6, omega (arith, length-run_bits false 6))
 
 -- the verdict on a content of a right length
-pub judged_whole : (bits : List Bool) → 24 ≤ length bits → length bits ≤ 256 → length bits % 8 ≡ 0 → judged bits ≡ judged_bytes (bytes_of bits)
+pub judged_whole : (bits : List Bool) → 24 ≤ length bits → length bits ≤ 256 → length bits % 8 ≡ 0 → judged bits ≡ judged_bytes (bytes_of_bits bits)
 judged_whole bits low high whole =
     rw (le-ltb (length bits) 24 low, le-ltb 256 (length bits) high, eq-eqb (length bits % 8) 0 whole) refl
 

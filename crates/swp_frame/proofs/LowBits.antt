@@ -4,7 +4,7 @@ use Rattle.std.specs.Int.{bit_at}
 use Rattle.std.proofs.Math.Nat.{mod-eq_of_lt}
 use Rattle.std.proofs.lemmas.Nat.{mod-pow-add, shr-shr, field_of, shl_below, mod_low, shr_split, mod_below, pow_pos, pow-add, shl-shr}
 use Rattle.swp_base.specs.Bits.{bit, bits_of_byte}
-use Rattle.swp_crc.specs.Division.{number_of}
+use Rattle.swp_crc.specs.Division.{spelled_number}
 use Rattle.swp_crc.proofs.Numbers.{number_of-injective, number_of-lt}
 use Rattle.swp_frame.specs.Words.{low_bits}
 
@@ -14,12 +14,12 @@ length-low_bits zero x = refl
 length-low_bits (suc n) x = ap suc (length-low_bits n x)
 
 -- a bit in front
-number_of-front : (b : Bool) (bits : List Bool) (d n : ℕ) → d < 2 → length bits ≡ n → b ≡ eqb d 1 → number_of (b ∷ bits) ≡ d * 2 ^ n + number_of bits
+number_of-front : (b : Bool) (bits : List Bool) (d n : ℕ) → d < 2 → length bits ≡ n → b ≡ eqb d 1 → spelled_number (b ∷ bits) ≡ d * 2 ^ n + spelled_number bits
 number_of-front b bits zero n h l e = rw e (omega arith)
 number_of-front b bits (suc zero) n h l e = rw (e, l) (omega arith)
 number_of-front b bits (suc (suc d)) n h l e = absurd (omega arith)
 
-pub number_of-low_bits : (n x : ℕ) → number_of (low_bits n x) ≡ x % 2 ^ n
+pub number_of-low_bits : (n x : ℕ) → spelled_number (low_bits n x) ≡ x % 2 ^ n
 unfolding low_bits
 number_of-low_bits zero x = omega arith
 number_of-low_bits (suc n) x =
@@ -29,10 +29,10 @@ number_of-low_bits (suc n) x =
     ∙ ap (λ m. bit_at x n * 2 ^ n + m) (number_of-low_bits n x) ∙ sym one ∙ ap (λ k. x % 2 ^ k) same
 
 -- bits are those of their number
-pub low_bits-number_of : (bits : List Bool) (n : ℕ) → length bits ≡ n → low_bits n (number_of bits) ≡ bits
+pub low_bits-number_of : (bits : List Bool) (n : ℕ) → length bits ≡ n → low_bits n (spelled_number bits) ≡ bits
 low_bits-number_of bits n l =
-    number_of-injective (low_bits n (number_of bits)) bits (length-low_bits n (number_of bits) ∙ sym l)
-    (number_of-low_bits n (number_of bits) ∙ mod-eq_of_lt (subst (λ k. number_of bits < 2 ^ k) l (number_of-lt bits)))
+    number_of-injective (low_bits n (spelled_number bits)) bits (length-low_bits n (spelled_number bits) ∙ sym l)
+    (number_of-low_bits n (spelled_number bits) ∙ mod-eq_of_lt (subst (λ k. spelled_number bits < 2 ^ k) l (number_of-lt bits)))
 
 -- numbers that end with the same bits
 pub low_bits-same : (n x y : ℕ) → x % 2 ^ n ≡ y % 2 ^ n → low_bits n x ≡ low_bits n y

@@ -12,7 +12,7 @@ use Rattle.std.proofs.lemmas.Nat.{mod-pow-add, mod_below, pow_pos, shr-shr, shr_
 use Rattle.std.proofs.lemmas.Nat.Bits.{bit_at-trailing_zeros, bit_at-trailing_ones, bit_at_above, bit_at-zero, bit_at_ones}
 use lib.Count.{count_trailing_zeros}
 use Rattle.swp_base.specs.Bits.{bit}
-use Rattle.swp_crc.specs.Division.{number_of}
+use Rattle.swp_crc.specs.Division.{spelled_number}
 use Rattle.swp_crc.proofs.Numbers.{number_of-append, number_of-lt}
 use Rattle.swp_frame.specs.Signal.{Symbol, bit_0, bit_1, start_mark, end_mark, no_mark, run_of, unstuffed, read_on, HasNoMark}
 use Rattle.swp_frame.specs.Kept.{CountsLastZero}
@@ -58,32 +58,32 @@ drop-marks (suc n) ones (true ∷ bits) = drop-marks n (suc ones) bits
 drop-marks (suc n) ones (false ∷ bits) = drop-marks n 0 bits
 
 -- the places put in of a part, from those of the whole
-pub put_in_between : (w from width ones x given : ℕ) → from + width ≤ w → given ≡ number_of (places_put_in ones (low_bits w x))
-    → given / 2 ^ (w - (from + width)) % 2 ^ width ≡ number_of (places_put_in (run_after ones (take from (low_bits w x))) (take width (drop from (low_bits w x))))
+pub put_in_between : (w from width ones x given : ℕ) → from + width ≤ w → given ≡ spelled_number (places_put_in ones (low_bits w x))
+    → given / 2 ^ (w - (from + width)) % 2 ^ width ≡ spelled_number (places_put_in (run_after ones (take from (low_bits w x))) (take width (drop from (low_bits w x))))
 put_in_between w from width ones x given h is =
     let bits = low_bits w x in
     let places = places_put_in ones bits in
     let field : ℕ = given / 2 ^ (w - (from + width)) in
     let same : low_bits w given ≡ places = ap (low_bits w) is ∙ low_bits-number_of places w (length-put_in ones bits ∙ length-low_bits w x) in
     sym (number_of-low_bits width (field % 2 ^ width) ∙ mod-eq_of_lt (mod_below field (2 ^ width) (pow_pos width)))
-    ∙ ap number_of (low_bits-between w from width given h)
-    ∙ ap (λ xs. number_of (take width (drop from xs))) same
-    ∙ ap (λ xs. number_of (take width xs)) (drop-put_in from ones bits)
-    ∙ ap number_of (take-put_in width (run_after ones (take from bits)) (drop from bits))
+    ∙ ap spelled_number (low_bits-between w from width given h)
+    ∙ ap (λ xs. spelled_number (take width (drop from xs))) same
+    ∙ ap (λ xs. spelled_number (take width xs)) (drop-put_in from ones bits)
+    ∙ ap spelled_number (take-put_in width (run_after ones (take from bits)) (drop from bits))
 
 -- the marks in a part, from those of the whole
-pub marks_between : (w from width ones x given : ℕ) → from + width ≤ w → given ≡ number_of (places_of_marks ones (low_bits w x))
-    → given / 2 ^ (w - (from + width)) % 2 ^ width ≡ number_of (places_of_marks (run_after ones (take from (low_bits w x))) (take width (drop from (low_bits w x))))
+pub marks_between : (w from width ones x given : ℕ) → from + width ≤ w → given ≡ spelled_number (places_of_marks ones (low_bits w x))
+    → given / 2 ^ (w - (from + width)) % 2 ^ width ≡ spelled_number (places_of_marks (run_after ones (take from (low_bits w x))) (take width (drop from (low_bits w x))))
 marks_between w from width ones x given h is =
     let bits = low_bits w x in
     let places = places_of_marks ones bits in
     let field : ℕ = given / 2 ^ (w - (from + width)) in
     let same : low_bits w given ≡ places = ap (low_bits w) is ∙ low_bits-number_of places w (length-marks ones bits ∙ length-low_bits w x) in
     sym (number_of-low_bits width (field % 2 ^ width) ∙ mod-eq_of_lt (mod_below field (2 ^ width) (pow_pos width)))
-    ∙ ap number_of (low_bits-between w from width given h)
-    ∙ ap (λ xs. number_of (take width (drop from xs))) same
-    ∙ ap (λ xs. number_of (take width xs)) (drop-marks from ones bits)
-    ∙ ap number_of (take-marks width (run_after ones (take from bits)) (drop from bits))
+    ∙ ap spelled_number (low_bits-between w from width given h)
+    ∙ ap (λ xs. spelled_number (take width (drop from xs))) same
+    ∙ ap (λ xs. spelled_number (take width xs)) (drop-marks from ones bits)
+    ∙ ap spelled_number (take-marks width (run_after ones (take from bits)) (drop from bits))
 
 -- a great run is counted as 7
 same_five : (r s : ℕ) → min 7 r ≡ min 7 s → eqb r 5 ≡ eqb s 5
@@ -113,12 +113,12 @@ same_run r s [] h = h
 same_run r s (true ∷ bits) h = same_run (suc r) (suc s) bits (omega (arith, h))
 same_run r s (false ∷ bits) h = refl
 
-none_first : (place : Bool) (places : List Bool) → number_of (place ∷ places) ≡ 0 → (place ≡ false) × (number_of places ≡ 0)
+none_first : (place : Bool) (places : List Bool) → spelled_number (place ∷ places) ≡ 0 → (place ≡ false) × (spelled_number places ≡ 0)
 none_first true places h = absurd (omega (arith, h, pow_pos (length places)))
 none_first false places h = (refl, h)
 
 -- where none of these places is one of a mark, no mark ends there
-pub no_marks : (seen : List Symbol) (bits : List Bool) → number_of (places_of_marks (run_of seen) bits) ≡ 0 → HasNoMark seen bits
+pub no_marks : (seen : List Symbol) (bits : List Bool) → spelled_number (places_of_marks (run_of seen) bits) ≡ 0 → HasNoMark seen bits
 no_marks seen [] h = tt
 no_marks seen (true ∷ bits) h =
     let first = none_first (eqb (run_of seen) 6) (places_of_marks (suc (run_of seen)) bits) h in
@@ -331,14 +331,14 @@ put_in-zero ones k (true ∷ bits) = ap (λ xs. false ∷ xs) (put_in-zero (suc 
 put_in-zero ones k (false ∷ bits) = ap (λ xs. eqb ones 5 ∷ xs) (put_in-zero 0 k bits)
 
 -- the bit at a place of a number in three parts
-middle : (xs ys : List Bool) (b : Bool) (k : ℕ) → length ys ≡ k → eqb (number_of (xs ++ b ∷ ys) / 2 ^ k % 2) 0 ≡ not b
+middle : (xs ys : List Bool) (b : Bool) (k : ℕ) → length ys ≡ k → eqb (spelled_number (xs ++ b ∷ ys) / 2 ^ k % 2) 0 ≡ not b
 middle xs ys b k l =
-    let low : number_of ys < 2 ^ k = subst (λ n. number_of ys < 2 ^ n) l (number_of-lt ys) in
-    let split : number_of (xs ++ b ∷ ys) ≡ (number_of xs * 2 + bool_byte b) * 2 ^ k + number_of ys =
-    number_of-append xs (b ∷ ys) ∙ ap₂ (λ p n. number_of xs * p + n) (ap (λ n. 2 ^ suc n) l ∙ pow-suc 2 k) (front b ys k l) ∙ spread (number_of xs) (2 ^ k) (bool_byte b) (number_of ys) in
-    ap (λ n. eqb (n % 2) 0) (ap (λ n. n / 2 ^ k) split ∙ shr_high (number_of xs * 2 + bool_byte b) k (number_of ys) low) ∙ parity (number_of xs) b
+    let low : spelled_number ys < 2 ^ k = subst (λ n. spelled_number ys < 2 ^ n) l (number_of-lt ys) in
+    let split : spelled_number (xs ++ b ∷ ys) ≡ (spelled_number xs * 2 + bool_byte b) * 2 ^ k + spelled_number ys =
+    number_of-append xs (b ∷ ys) ∙ ap₂ (λ p n. spelled_number xs * p + n) (ap (λ n. 2 ^ suc n) l ∙ pow-suc 2 k) (front b ys k l) ∙ spread (spelled_number xs) (2 ^ k) (bool_byte b) (spelled_number ys) in
+    ap (λ n. eqb (n % 2) 0) (ap (λ n. n / 2 ^ k) split ∙ shr_high (spelled_number xs * 2 + bool_byte b) k (spelled_number ys) low) ∙ parity (spelled_number xs) b
   where
-    front : (b : Bool) (ys : List Bool) (k : ℕ) → length ys ≡ k → number_of (b ∷ ys) ≡ bool_byte b * 2 ^ k + number_of ys
+    front : (b : Bool) (ys : List Bool) (k : ℕ) → length ys ≡ k → spelled_number (b ∷ ys) ≡ bool_byte b * 2 ^ k + spelled_number ys
     front true ys k l = rw l (omega arith)
     front false ys k l = omega arith
 
@@ -349,7 +349,7 @@ middle xs ys b k l =
     parity q true = ne_eqb _ _ (λ e. absurd (omega (arith, e)))
     parity q false = eq-eqb _ _ (omega arith)
 
-pub zero_at_end : (w n ones before given : ℕ) (z : Bool) → EndsIn w n ones → given ≡ number_of (places_put_in before (low_bits w n))
+pub zero_at_end : (w n ones before given : ℕ) (z : Bool) → EndsIn w n ones → given ≡ spelled_number (places_put_in before (low_bits w n))
     → (w ≤ ones → zero_of z before (low_bits w n) ≡ z) × (ones < w → zero_of z before (low_bits w n) ≡ eqb (given / 2 ^ ones % 2) 0)
 zero_at_end w n ones before given z (all_ones over is) e =
     ((λ _. ap (zero_of z before) is ∙ zero_of-ones w before z), (λ lt. absurd (omega (arith, lt, over))))
@@ -359,5 +359,5 @@ zero_at_end w n ones before given z (last_zero lt is) e =
       (λ over. absurd (omega (arith, lt, over))),
       (λ _. ap (zero_of z before) is ∙ zero_of-zero before ones z upper
           ∙ sym (middle (places_put_in before upper) tail (eqb (run_after before upper) 5) ones (length-put_in 0 (replicate ones true) ∙ length-replicate ones true))
-          ∙ ap (λ m. eqb (m / 2 ^ ones % 2) 0) (sym (e ∙ ap (λ xs. number_of (places_put_in before xs)) is ∙ ap number_of (put_in-zero before ones upper)))),
+          ∙ ap (λ m. eqb (m / 2 ^ ones % 2) 0) (sym (e ∙ ap (λ xs. spelled_number (places_put_in before xs)) is ∙ ap spelled_number (put_in-zero before ones upper)))),
     )

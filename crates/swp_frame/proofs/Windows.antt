@@ -6,7 +6,7 @@ use Rattle.std.proofs.Math.Nat.{mod-eq_of_lt}
 use Rattle.std.proofs.lemmas.Bool.{eq-eqb, ne_eqb, cases_eq, agree_below, agree_below_at, and_parts}
 use Rattle.std.proofs.lemmas.List.{length-map, length-take-le}
 use Rattle.std.proofs.lemmas.Nat.{and_block, mod_below, pow_pos}
-use Rattle.swp_crc.specs.Division.{number_of}
+use Rattle.swp_crc.specs.Division.{spelled_number}
 use Rattle.swp_crc.proofs.Numbers.{number_of-lt, number_of-append, number_of-not}
 use Rattle.swp_frame.specs.Words.{low_bits, places_of_marks, places_put_in}
 use Rattle.swp_frame.proofs.LowBits.{length-low_bits, number_of-low_bits, low_bits-number_of, low_bits-between}
@@ -24,7 +24,7 @@ length-both (x ∷ xs) [] n l m = m
 length-both (x ∷ xs) (y ∷ ys) zero l m = absurd (omega (arith, l))
 length-both (x ∷ xs) (y ∷ ys) (suc n) l m = ap suc (length-both xs ys n (omega (arith, l)) (omega (arith, m)))
 
-number_of-cons : (b : Bool) (bs : List Bool) → number_of (b ∷ bs) ≡ bool_byte b * 2 ^ length bs + number_of bs
+number_of-cons : (b : Bool) (bs : List Bool) → spelled_number (b ∷ bs) ≡ bool_byte b * 2 ^ length bs + spelled_number bs
 number_of-cons true bs = omega arith
 number_of-cons false bs = omega arith
 
@@ -34,7 +34,7 @@ digit-and true false = refl
 digit-and false true = refl
 digit-and false false = refl
 
-pub number_of-both : (xs ys : List Bool) (n : ℕ) → length xs ≡ n → length ys ≡ n → number_of (both xs ys) ≡ bit_and (number_of xs) (number_of ys)
+pub number_of-both : (xs ys : List Bool) (n : ℕ) → length xs ≡ n → length ys ≡ n → spelled_number (both xs ys) ≡ bit_and (spelled_number xs) (spelled_number ys)
 number_of-both [] [] n l m = refl
 number_of-both [] (y ∷ ys) n l m = absurd (omega (arith, l, m))
 number_of-both (x ∷ xs) [] n l m = absurd (omega (arith, l, m))
@@ -44,11 +44,11 @@ number_of-both (x ∷ xs) (y ∷ ys) (suc n) l m =
     let right : length ys ≡ n = omega (arith, m) in
     number_of-cons (x && y) (both xs ys)
     ∙ rw (length-both xs ys n left right, number_of-both xs ys n left right, digit-and x y) refl
-    ∙ sym (and_block n (bool_byte x) (bool_byte y) (number_of xs) (number_of ys)
-    (subst (λ k. number_of xs < 2 ^ k) left (number_of-lt xs)) (subst (λ k. number_of ys < 2 ^ k) right (number_of-lt ys)))
+    ∙ sym (and_block n (bool_byte x) (bool_byte y) (spelled_number xs) (spelled_number ys)
+    (subst (λ k. spelled_number xs < 2 ^ k) left (number_of-lt xs)) (subst (λ k. spelled_number ys < 2 ^ k) right (number_of-lt ys)))
     ∙ rw (number_of-cons x xs, number_of-cons y ys, left, right) refl
 
-pub number_of-none : (xs : List Bool) (n : ℕ) → length xs ≡ n → number_of (map not xs) ≡ 2 ^ n - 1 - number_of xs
+pub number_of-none : (xs : List Bool) (n : ℕ) → length xs ≡ n → spelled_number (map not xs) ≡ 2 ^ n - 1 - spelled_number xs
 number_of-none xs n l = omega (arith, number_of-not xs, ap (λ k. 2 ^ k) l)
 
 -- ---- the bits that stand so many places before each
@@ -134,16 +134,16 @@ mark_places a b c d e f g ones (false ∷ bits) h =
 
 -- the bits so many places before those of a list, as a number
 window : (front bits : List Bool) (j k n : ℕ) → length bits ≡ n → length front ≡ j + k
-    → number_of (take n (drop j (front ++ bits))) ≡ (number_of front * 2 ^ n + number_of bits) / 2 ^ k % 2 ^ n
+    → spelled_number (take n (drop j (front ++ bits))) ≡ (spelled_number front * 2 ^ n + spelled_number bits) / 2 ^ k % 2 ^ n
 window front bits j k n l m =
-    let whole : ℕ = number_of front * 2 ^ n + number_of bits in
+    let whole : ℕ = spelled_number front * 2 ^ n + spelled_number bits in
     let all : ℕ = j + n + k in
     let sized : length (front ++ bits) ≡ all = omega (arith, length-append front bits, l, m) in
     let same : low_bits all whole ≡ front ++ bits =
-    ap (low_bits all) (sym (number_of-append front bits ∙ ap (λ p. number_of front * 2 ^ p + number_of bits) l)) ∙ low_bits-number_of (front ++ bits) all sized in
+    ap (low_bits all) (sym (number_of-append front bits ∙ ap (λ p. spelled_number front * 2 ^ p + spelled_number bits) l)) ∙ low_bits-number_of (front ++ bits) all sized in
     let places : all - (j + n) ≡ k = omega arith in
-    ap (λ xs. number_of (take n (drop j xs))) (sym same)
-    ∙ ap number_of (sym (low_bits-between all j n whole (omega arith)))
+    ap (λ xs. spelled_number (take n (drop j xs))) (sym same)
+    ∙ ap spelled_number (sym (low_bits-between all j n whole (omega arith)))
     ∙ number_of-low_bits n (whole / 2 ^ (all - (j + n)) % 2 ^ n)
     ∙ mod-eq_of_lt (mod_below (whole / 2 ^ (all - (j + n))) (2 ^ n) (pow_pos n))
     ∙ ap (λ p. whole / 2 ^ p % 2 ^ n) places
@@ -155,14 +155,14 @@ front_bit ones k = ltb k ones
 abbrev front_of_seven : ℕ → List Bool
 front_of_seven ones = front_bit ones 6 ∷ front_bit ones 5 ∷ front_bit ones 4 ∷ front_bit ones 3 ∷ front_bit ones 2 ∷ front_bit ones 1 ∷ front_bit ones 0 ∷ []
 
-front_checks : agree_below (λ ones. eqb (number_of (front_of_seven ones)) (2 ^ ones - 1) && eqb (min 7 ones) (run_of_seven (front_bit ones 6) (front_bit ones 5) (front_bit ones 4) (front_bit ones 3) (front_bit ones 2) (front_bit ones 1) (front_bit ones 0))) (λ ones. true) 8 ≡ true
+front_checks : agree_below (λ ones. eqb (spelled_number (front_of_seven ones)) (2 ^ ones - 1) && eqb (min 7 ones) (run_of_seven (front_bit ones 6) (front_bit ones 5) (front_bit ones 4) (front_bit ones 3) (front_bit ones 2) (front_bit ones 1) (front_bit ones 0))) (λ ones. true) 8 ≡ true
 front_checks = refl
 
 front_right : (ones : ℕ) → ones ≤ 7
-    → (number_of (front_of_seven ones) ≡ 2 ^ ones - 1)
+    → (spelled_number (front_of_seven ones) ≡ 2 ^ ones - 1)
     × (min 7 ones ≡ run_of_seven (front_bit ones 6) (front_bit ones 5) (front_bit ones 4) (front_bit ones 3) (front_bit ones 2) (front_bit ones 1) (front_bit ones 0))
 front_right ones h =
-    let parts = and_parts _ _ (agree_below_at (λ ones. eqb (number_of (front_of_seven ones)) (2 ^ ones - 1) && eqb (min 7 ones) (run_of_seven (front_bit ones 6) (front_bit ones 5) (front_bit ones 4) (front_bit ones 3) (front_bit ones 2) (front_bit ones 1) (front_bit ones 0))) (λ ones. true) 8 ones front_checks (omega arith)) in
+    let parts = and_parts _ _ (agree_below_at (λ ones. eqb (spelled_number (front_of_seven ones)) (2 ^ ones - 1) && eqb (min 7 ones) (run_of_seven (front_bit ones 6) (front_bit ones 5) (front_bit ones 4) (front_bit ones 3) (front_bit ones 2) (front_bit ones 1) (front_bit ones 0))) (λ ones. true) 8 ones front_checks (omega arith)) in
     (eqb-true _ _ parts.0, eqb-true _ _ parts.1)
 
 -- the bits that stand so many places before each of a number's, from what the code computes
@@ -170,12 +170,12 @@ abbrev pub before_of : ℕ → ℕ → ℕ → ℕ → ℕ
 before_of n x ones k = ((2 ^ ones - 1) * 2 ^ n + x) / 2 ^ k % 2 ^ n
 
 before_right : (n x ones j k : ℕ) → x < 2 ^ n → ones ≤ 7 → 7 ≡ j + k
-    → number_of (earlier (drop j (front_of_seven ones)) (low_bits n x)) ≡ before_of n x ones k
+    → spelled_number (earlier (drop j (front_of_seven ones)) (low_bits n x)) ≡ before_of n x ones k
 before_right n x ones j k fits few e =
     let l = length-low_bits n x in
-    let is : number_of (low_bits n x) ≡ x = number_of-low_bits n x ∙ mod-eq_of_lt fits in
-    ap (λ m. number_of (take m (drop j (front_of_seven ones) ++ low_bits n x))) l
-    ∙ ap (λ xs. number_of (take n xs)) (sym (drop-front j (front_of_seven ones) (low_bits n x) (omega (arith, e))))
+    let is : spelled_number (low_bits n x) ≡ x = number_of-low_bits n x ∙ mod-eq_of_lt fits in
+    ap (λ m. spelled_number (take m (drop j (front_of_seven ones) ++ low_bits n x))) l
+    ∙ ap (λ xs. spelled_number (take n xs)) (sym (drop-front j (front_of_seven ones) (low_bits n x) (omega (arith, e))))
     ∙ window (front_of_seven ones) (low_bits n x) j k n l e
     ∙ ap₂ (λ p q. (p * 2 ^ n + q) / 2 ^ k % 2 ^ n) (front_right ones few).0 is
   where
@@ -195,7 +195,7 @@ five_of n x ones =
 -- the list of bits behind five, and its number
 five_right : (n x ones : ℕ) → x < 2 ^ n → ones ≤ 7
     → let list = behind_five (front_bit ones 4) (front_bit ones 3) (front_bit ones 2) (front_bit ones 1) (front_bit ones 0) (low_bits n x) in
-    (length list ≡ n) × (number_of list ≡ five_of n x ones)
+    (length list ≡ n) × (spelled_number list ≡ five_of n x ones)
 five_right n x ones fits few =
     let one = earlier (drop 6 (front_of_seven ones)) (low_bits n x) in
     let two = earlier (drop 5 (front_of_seven ones)) (low_bits n x) in
@@ -224,7 +224,7 @@ five_right n x ones fits few =
     )
 
 pub put_in_number : (n x ones : ℕ) → x < 2 ^ n → ones ≤ 7
-    → bit_and (bit_and (five_of n x ones) (2 ^ n - 1 - before_of n x ones 6)) (2 ^ n - 1 - x) ≡ number_of (places_put_in ones (low_bits n x))
+    → bit_and (bit_and (five_of n x ones) (2 ^ n - 1 - before_of n x ones 6)) (2 ^ n - 1 - x) ≡ spelled_number (places_put_in ones (low_bits n x))
 put_in_number n x ones fits few =
     let bits = low_bits n x in
     let list = behind_five (front_bit ones 4) (front_bit ones 3) (front_bit ones 2) (front_bit ones 1) (front_bit ones 0) bits in
@@ -234,7 +234,7 @@ put_in_number n x ones fits few =
     let no_six = length-map sixth not ∙ l6 in
     let no_bits = length-map bits not ∙ length-low_bits n x in
     let together = length-both list (map not sixth) n behind.0 no_six in
-    sym (ap number_of (put_in_places (front_bit ones 6) (front_bit ones 5) (front_bit ones 4) (front_bit ones 3) (front_bit ones 2) (front_bit ones 1) (front_bit ones 0) ones bits (front_right ones few).1)
+    sym (ap spelled_number (put_in_places (front_bit ones 6) (front_bit ones 5) (front_bit ones 4) (front_bit ones 3) (front_bit ones 2) (front_bit ones 1) (front_bit ones 0) ones bits (front_right ones few).1)
     ∙ number_of-both (both list (map not sixth)) (map not bits) n together no_bits
     ∙ ap₂ bit_and
     (number_of-both list (map not sixth) n behind.0 no_six
@@ -242,7 +242,7 @@ put_in_number n x ones fits few =
     (number_of-none bits n (length-low_bits n x) ∙ ap (λ m. 2 ^ n - 1 - m) (number_of-low_bits n x ∙ mod-eq_of_lt fits)))
 
 pub marks_number : (n x ones : ℕ) → x < 2 ^ n → ones ≤ 7
-    → bit_and (bit_and (five_of n x ones) (before_of n x ones 6)) (2 ^ n - 1 - before_of n x ones 7) ≡ number_of (places_of_marks ones (low_bits n x))
+    → bit_and (bit_and (five_of n x ones) (before_of n x ones 6)) (2 ^ n - 1 - before_of n x ones 7) ≡ spelled_number (places_of_marks ones (low_bits n x))
 marks_number n x ones fits few =
     let bits = low_bits n x in
     let list = behind_five (front_bit ones 4) (front_bit ones 3) (front_bit ones 2) (front_bit ones 1) (front_bit ones 0) bits in
@@ -253,7 +253,7 @@ marks_number n x ones fits few =
     let l7 = length-earlier (front_of_seven ones) n x in
     let no_seven = length-map seventh not ∙ l7 in
     let together = length-both list sixth n behind.0 l6 in
-    sym (ap number_of (mark_places (front_bit ones 6) (front_bit ones 5) (front_bit ones 4) (front_bit ones 3) (front_bit ones 2) (front_bit ones 1) (front_bit ones 0) ones bits (front_right ones few).1)
+    sym (ap spelled_number (mark_places (front_bit ones 6) (front_bit ones 5) (front_bit ones 4) (front_bit ones 3) (front_bit ones 2) (front_bit ones 1) (front_bit ones 0) ones bits (front_right ones few).1)
     ∙ number_of-both (both list sixth) (map not seventh) n together no_seven
     ∙ ap₂ bit_and
     (number_of-both list sixth n behind.0 l6 ∙ ap₂ bit_and behind.1 (before_right n x ones 1 6 fits few refl))

@@ -1,7 +1,7 @@
 -- What a deframer keeps of what it has read.
 use Rattle.std.specs.Prelude.{ℕ, ◌%◌, ◌≡◌, ◌<◌, ◌≤◌, min, Bool, true, false, List, [], ◌∷◌, ◌++◌, length, drop, replicate, reverse, Option, Some, None}
 use Rattle.swp_base.specs.Bits.{bits_of}
-use Rattle.swp_crc.specs.Division.{number_of}
+use Rattle.swp_crc.specs.Division.{spelled_number}
 use Rattle.swp_frame.specs.declared.content.Content.{Content}
 use Rattle.swp_frame.specs.declared.deframer.Deframer.{Deframer}
 use Rattle.swp_frame.specs.Signal.{Symbol, bit_0, bit_1, break, run_of, since_start, unstuffed}
@@ -24,7 +24,7 @@ pub record KeepsBits (bytes : List ℕ) (partial : ℕ) (bits : List Bool) : Typ
   pub whole : bits ≡ bits_of bytes ++ rest
   pub short : length rest < 64
   pub words : length bytes % 8 ≡ 0
-  pub number : partial ≡ number_of rest
+  pub number : partial ≡ spelled_number rest
   pub in_range : AreBytes bytes
 
 -- the content stands for these bits; of more than 263 only their number is kept, up to 4,294,967,295
@@ -59,6 +59,6 @@ KeepsOpen None (Some since) = ⊥
 KeepsOpen (Some kept) None = ⊥
 
 -- the deframer stands for what was read, the newest first: all that it answers from now on is what comes after that
-pub record StandsFor (deframer : Deframer) (seen : List Symbol) : Type 0 where
+pub record DeframerStandsFor (deframer : Deframer) (seen : List Symbol) : Type 0 where
   pub ones : deframer.ones ≡ min 7 (run_of seen)
   pub open_frame : KeepsOpen deframer.content (since_start seen)

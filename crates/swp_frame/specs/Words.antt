@@ -1,7 +1,7 @@
 -- Many bits that are read at once.
 use Rattle.std.specs.Prelude.{ℕ, zero, suc, ◌==◌, ◌≡◌, Bool, true, false, List, [], ◌∷◌}
 use Rattle.swp_base.specs.Bits.{bit}
-use Rattle.swp_crc.specs.Division.{number_of}
+use Rattle.swp_crc.specs.Division.{spelled_number}
 use Rattle.swp_frame.specs.declared.word.Word.{Word}
 use Rattle.swp_frame.specs.declared.word.Part.{Part}
 
@@ -38,9 +38,9 @@ part_bits part = low_bits part.width part.bits
 
 -- the word says which of its bits end a mark, and which were put in, where so many 1 bits stand before it
 pub record IsWordBehind (word : Word) (ones : ℕ) : Type 0 where
-  pub marks : word.marks ≡ number_of (places_of_marks ones (word_bits word))
-  pub put_in : word.put_in ≡ number_of (places_put_in ones (word_bits word))
+  pub marks : word.marks ≡ spelled_number (places_of_marks ones (word_bits word))
+  pub put_in : word.put_in ≡ spelled_number (places_put_in ones (word_bits word))
 
 -- the part says which of its bits were put in, where so many 1 bits stand before it
 abbrev pub IsPartBehind : Part → ℕ → Type 0
-IsPartBehind part ones = part.put_in ≡ number_of (places_put_in ones (part_bits part))
+IsPartBehind part ones = part.put_in ≡ spelled_number (places_put_in ones (part_bits part))

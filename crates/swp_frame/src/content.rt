@@ -44,7 +44,7 @@ impl Content {
     ghost use Rattle.swp_frame.specs.Kept.{KeepsContent, KeepsSince, run_bits};
     ghost use Rattle.swp_frame.specs.Signal.{Symbol, symbol_of, run_of, read_on};
     ghost use Rattle.swp_frame.specs.Words.{part_bits, IsPartBehind};
-    ghost use Rattle.swp_crc.specs.Division.{number_of};
+    ghost use Rattle.swp_crc.specs.Division.{spelled_number};
     ghost use Rattle.swp_frame.specs.Content.{judged};
 
     /// A content of no bits.
@@ -64,7 +64,7 @@ impl Content {
     fn push_bits(&mut self, value: u64, width: u32)
         requires width { width ≤ 64 }
         requires value { value < 2 ^ width }
-        ensures bits { (bits more : List Bool) → KeepsContent self.old bits → length more ≡ width → number_of more ≡ value
+        ensures bits { (bits more : List Bool) → KeepsContent self.old bits → length more ≡ width → spelled_number more ≡ value
             → KeepsContent self.new (bits ++ more) }
         ensures zero { self.new.zero ≡ self.old.zero }
     {

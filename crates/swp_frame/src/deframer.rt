@@ -29,11 +29,11 @@ impl Deframer {
     ghost use Rattle.swp_frame.specs.Signal.{Symbol, bit_0, bit_1, break, symbol_of, mark_of, start_mark, run_of, read_on, HasNoMark};
     ghost use Rattle.swp_frame.specs.Words.{part_bits, IsWordBehind, IsPartBehind};
     ghost use Rattle.swp_frame.specs.Verdicts.{verdict};
-    ghost use Rattle.swp_frame.specs.Kept.{StandsFor};
+    ghost use Rattle.swp_frame.specs.Kept.{DeframerStandsFor};
 
     /// A deframer that has read nothing.
     pub fn new() -> Self
-        ensures { StandsFor result [] }
+        ensures { DeframerStandsFor result [] }
     {
         Self {
             ones: 0,
@@ -45,8 +45,8 @@ impl Deframer {
     /// their alignment to bytes, and the CRC.
     #[inline(always)]
     pub fn feed(&mut self, bit: bool) -> Fed
-        ensures stands { (seen : List Symbol) → StandsFor self.old seen → StandsFor self.new (symbol_of bit ∷ seen) }
-        ensures answer { (seen : List Symbol) → StandsFor self.old seen → result ≡ verdict (symbol_of bit ∷ seen) }
+        ensures stands { (seen : List Symbol) → DeframerStandsFor self.old seen → DeframerStandsFor self.new (symbol_of bit ∷ seen) }
+        ensures answer { (seen : List Symbol) → DeframerStandsFor self.old seen → result ≡ verdict (symbol_of bit ∷ seen) }
     {
         if self.ones == START_ONES {
             return self.read_mark(bit);
@@ -60,7 +60,7 @@ impl Deframer {
     #[inline(always)]
     pub fn word(&self, bits: u64) -> Word
         ensures bits { result.bits ≡ bits }
-        ensures behind { (seen : List Symbol) → StandsFor self.now seen → IsWordBehind result (run_of seen) }
+        ensures behind { (seen : List Symbol) → DeframerStandsFor self.now seen → IsWordBehind result (run_of seen) }
     {
         Word::new(bits, self.ones)
     }
@@ -68,8 +68,8 @@ impl Deframer {
     /// Reads some neighbouring bits of a word at once, where no mark ends with one of them.
     #[inline(always)]
     pub fn feed_part(&mut self, part: Part)
-        ensures { (seen : List Symbol) → StandsFor self.old seen → IsPartBehind part (run_of seen) → HasNoMark seen (part_bits part)
-            → StandsFor self.new (read_on seen (part_bits part)) }
+        ensures { (seen : List Symbol) → DeframerStandsFor self.old seen → IsPartBehind part (run_of seen) → HasNoMark seen (part_bits part)
+            → DeframerStandsFor self.new (read_on seen (part_bits part)) }
     {
         self.ones = part.run_behind(self.ones);
         if let Some(content) = &mut self.content {
@@ -80,8 +80,8 @@ impl Deframer {
     /// Reads a break: an open frame is refused as broken, and a start of frame is awaited.
     #[inline]
     pub fn break_off(&mut self) -> Fed
-        ensures stands { (seen : List Symbol) → StandsFor self.old seen → StandsFor self.new (break ∷ seen) }
-        ensures answer { (seen : List Symbol) → StandsFor self.old seen → result ≡ verdict (break ∷ seen) }
+        ensures stands { (seen : List Symbol) → DeframerStandsFor self.old seen → DeframerStandsFor self.new (break ∷ seen) }
+        ensures answer { (seen : List Symbol) → DeframerStandsFor self.old seen → result ≡ verdict (break ∷ seen) }
     {
         self.ones = 0; // A 0 is read in behind a break.
         if self.content.is_none() {
@@ -94,7 +94,7 @@ impl Deframer {
     /// Whether a 0 bit now would end a start of frame.
     #[inline]
     pub fn is_before_start(&self) -> bool
-        ensures { (seen : List Symbol) → StandsFor self.now seen → IsTrue result ↔ (mark_of (bit_0 ∷ seen) ≡ start_mark) }
+        ensures { (seen : List Symbol) → DeframerStandsFor self.now seen → IsTrue result ↔ (mark_of (bit_0 ∷ seen) ≡ start_mark) }
     {
         self.ones == START_ONES
     }
@@ -103,8 +103,8 @@ impl Deframer {
     #[inline(always)]
     fn read_plain(&mut self, bit: bool)
         requires { self.old.ones ≢ 6 }
-        ensures stands { (seen : List Symbol) → StandsFor self.old seen → StandsFor self.new (symbol_of bit ∷ seen) }
-        ensures quiet { (seen : List Symbol) → StandsFor self.old seen → verdict (symbol_of bit ∷ seen) ≡ Nothing }
+        ensures stands { (seen : List Symbol) → DeframerStandsFor self.old seen → DeframerStandsFor self.new (symbol_of bit ∷ seen) }
+        ensures quiet { (seen : List Symbol) → DeframerStandsFor self.old seen → verdict (symbol_of bit ∷ seen) ≡ Nothing }
     {
         let ones = self.ones;
         self.ones = if bit {
@@ -121,8 +121,8 @@ impl Deframer {
     #[inline(always)]
     fn read_mark(&mut self, bit: bool) -> Fed
         requires { self.old.ones ≡ 6 }
-        ensures stands { (seen : List Symbol) → StandsFor self.old seen → StandsFor self.new (symbol_of bit ∷ seen) }
-        ensures answer { (seen : List Symbol) → StandsFor self.old seen → result ≡ verdict (symbol_of bit ∷ seen) }
+        ensures stands { (seen : List Symbol) → DeframerStandsFor self.old seen → DeframerStandsFor self.new (symbol_of bit ∷ seen) }
+        ensures answer { (seen : List Symbol) → DeframerStandsFor self.old seen → result ≡ verdict (symbol_of bit ∷ seen) }
     {
         if bit {
             self.read_end()
@@ -135,8 +135,8 @@ impl Deframer {
     #[inline(always)]
     fn read_end(&mut self) -> Fed
         requires { self.old.ones ≡ 6 }
-        ensures stands { (seen : List Symbol) → StandsFor self.old seen → StandsFor self.new (bit_1 ∷ seen) }
-        ensures answer { (seen : List Symbol) → StandsFor self.old seen → result ≡ verdict (bit_1 ∷ seen) }
+        ensures stands { (seen : List Symbol) → DeframerStandsFor self.old seen → DeframerStandsFor self.new (bit_1 ∷ seen) }
+        ensures answer { (seen : List Symbol) → DeframerStandsFor self.old seen → result ≡ verdict (bit_1 ∷ seen) }
     {
         self.ones = START_ONES + 1;
         match self.content.take() {
@@ -149,8 +149,8 @@ impl Deframer {
     #[inline(always)]
     fn read_start(&mut self) -> Fed
         requires { self.old.ones ≡ 6 }
-        ensures stands { (seen : List Symbol) → StandsFor self.old seen → StandsFor self.new (bit_0 ∷ seen) }
-        ensures answer { (seen : List Symbol) → StandsFor self.old seen → result ≡ verdict (bit_0 ∷ seen) }
+        ensures stands { (seen : List Symbol) → DeframerStandsFor self.old seen → DeframerStandsFor self.new (bit_0 ∷ seen) }
+        ensures answer { (seen : List Symbol) → DeframerStandsFor self.old seen → result ≡ verdict (bit_0 ∷ seen) }
     {
         self.ones = 0;
         match self.content.replace(Content::new()) {

@@ -12,7 +12,7 @@ use Rattle.swp_lpdu.specs.declared.LpduFault.{LpduFault}
 use Rattle.swp_lpdu.specs.declared.LpduFault.TheVariants.{Unknown, Short, TooLong}
 
 -- a row of the table: its first bytes, how many bytes an LPDU of this row has at least and at most, and what they say
-pub record Row : Type 0 where
+pub record LpduRow : Type 0 where
   pub first : ℕ
   pub last : ℕ
   pub need : ℕ
@@ -20,8 +20,8 @@ pub record Row : Type 0 where
   pub says : List ℕ → Control
 
 -- the first bytes from `first` to `last`
-abbrev pub row : ℕ → ℕ → ℕ → ℕ → (List ℕ → Control) → Row
-row first last need most says = record { first = first; last = last; need = need; most = most; says = says }
+abbrev pub lpdu_row : ℕ → ℕ → ℕ → ℕ → (List ℕ → Control) → LpduRow
+lpdu_row first last need most says = record { first = first; last = last; need = need; most = most; says = says }
 
 -- 80 + 8·ns + nr, and the information field behind it
 abbrev pub i_frame : List ℕ → Control
@@ -43,22 +43,22 @@ abbrev pub power_mode : List ℕ → Activation
 power_mode bytes = PowerMode (slice_index bytes 1)
 
 -- The table. What stands behind the bytes that a row needs is not used, and only supervisory frames have no more.
-abbrev pub table : List Row
+abbrev pub table : List LpduRow
 table =
-    row 0x80 0xBF 2 30 i_frame
-    ∷ row 0xC0 0xC7 1 1 (s_frame Rr)
-    ∷ row 0xC8 0xCF 1 1 (s_frame Rej)
-    ∷ row 0xD0 0xD7 1 1 (s_frame Rnr)
-    ∷ row 0xD8 0xDF 1 1 (s_frame Srej)
-    ∷ row 0xF9 0xF9 1 30 reset
-    ∷ row 0xE6 0xE6 1 30 (λ _. Ua)
-    ∷ row 0x60 0x60 1 30 (λ _. Act Ready false)
-    ∷ row 0x68 0x68 1 30 (λ _. Act Ready true)
-    ∷ row 0x61 0x61 3 30 (λ bytes. Act (sync_id bytes) false)
-    ∷ row 0x69 0x69 3 30 (λ bytes. Act (sync_id bytes) true)
-    ∷ row 0x62 0x62 2 30 (λ bytes. Act (power_mode bytes) false)
-    ∷ row 0x6A 0x6A 2 30 (λ bytes. Act (power_mode bytes) true)
-    ∷ row 0x40 0x5F 1 30 (λ _. Clt)
+    lpdu_row 0x80 0xBF 2 30 i_frame
+    ∷ lpdu_row 0xC0 0xC7 1 1 (s_frame Rr)
+    ∷ lpdu_row 0xC8 0xCF 1 1 (s_frame Rej)
+    ∷ lpdu_row 0xD0 0xD7 1 1 (s_frame Rnr)
+    ∷ lpdu_row 0xD8 0xDF 1 1 (s_frame Srej)
+    ∷ lpdu_row 0xF9 0xF9 1 30 reset
+    ∷ lpdu_row 0xE6 0xE6 1 30 (λ _. Ua)
+    ∷ lpdu_row 0x60 0x60 1 30 (λ _. Act Ready false)
+    ∷ lpdu_row 0x68 0x68 1 30 (λ _. Act Ready true)
+    ∷ lpdu_row 0x61 0x61 3 30 (λ bytes. Act (sync_id bytes) false)
+    ∷ lpdu_row 0x69 0x69 3 30 (λ bytes. Act (sync_id bytes) true)
+    ∷ lpdu_row 0x62 0x62 2 30 (λ bytes. Act (power_mode bytes) false)
+    ∷ lpdu_row 0x6A 0x6A 2 30 (λ bytes. Act (power_mode bytes) true)
+    ∷ lpdu_row 0x40 0x5F 1 30 (λ _. Clt)
     ∷ []
 
 -- a number is from low to high
@@ -66,11 +66,11 @@ abbrev pub is_within : ℕ → ℕ → ℕ → Bool
 is_within low high n = nat_le low n && nat_le n high
 
 -- the row of a first byte, if it is in the table
-abbrev pub row_of : ℕ → Option Row
-row_of byte = find (λ r. is_within r.first r.last byte) table
+abbrev pub lpdu_row_of : ℕ → Option LpduRow
+lpdu_row_of byte = find (λ r. is_within r.first r.last byte) table
 
 -- these bytes, read by a row
-abbrev pub read_by : Option Row → List ℕ → Result Control LpduFault
+abbrev pub read_by : Option LpduRow → List ℕ → Result Control LpduFault
 read_by None bytes = Err (Unknown (slice_index bytes 0))
 read_by (Some r) bytes =
     if nat_lt (length bytes) r.need then Err (Short r.need (length bytes))
@@ -79,7 +79,7 @@ read_by (Some r) bytes =
 
 -- what the bytes of an LPDU say, or why they say nothing
 abbrev pub control_of : List ℕ → Result Control LpduFault
-control_of bytes = read_by (row_of (slice_index bytes 0)) bytes
+control_of bytes = read_by (lpdu_row_of (slice_index bytes 0)) bytes
 
 -- no frame has this first byte
 abbrev pub is_unknown : ℕ → Bool
@@ -111,12 +111,12 @@ abbrev pub again_bit : Bool → ℕ
 again_bit again = if again then 8 else 0
 
 -- the bytes that are written for a control frame: a reset has both bytes, and contactless tunnelling is 40
-abbrev pub bytes_of : Control → List ℕ
-bytes_of (I ns nr info) = (0x80 + 8 * ns + nr) ∷ info
-bytes_of (S kind nr) = (0xC0 + 8 * kind_number kind + nr) ∷ []
-bytes_of (Rset window caps) = 0xF9 ∷ window ∷ caps ∷ []
-bytes_of Ua = 0xE6 ∷ []
-bytes_of (Act Ready again) = (0x60 + again_bit again) ∷ []
-bytes_of (Act (SyncId id) again) = (0x61 + again_bit again) ∷ id / 256 ∷ id % 256 ∷ []
-bytes_of (Act (PowerMode power) again) = (0x62 + again_bit again) ∷ power ∷ []
-bytes_of Clt = 0x40 ∷ []
+abbrev pub lpdu_of : Control → List ℕ
+lpdu_of (I ns nr info) = (0x80 + 8 * ns + nr) ∷ info
+lpdu_of (S kind nr) = (0xC0 + 8 * kind_number kind + nr) ∷ []
+lpdu_of (Rset window caps) = 0xF9 ∷ window ∷ caps ∷ []
+lpdu_of Ua = 0xE6 ∷ []
+lpdu_of (Act Ready again) = (0x60 + again_bit again) ∷ []
+lpdu_of (Act (SyncId id) again) = (0x61 + again_bit again) ∷ id / 256 ∷ id % 256 ∷ []
+lpdu_of (Act (PowerMode power) again) = (0x62 + again_bit again) ∷ power ∷ []
+lpdu_of Clt = 0x40 ∷ []

@@ -4,7 +4,7 @@
 
 ghost use Rattle.std.specs.Prelude.{◌≡◌, ℕ, ◌+◌, ◌/◌, ◌<◌, ◌≤◌, ◌↔◌, Ok, Err, IsTrue, length, slice_index};
 ghost use Rattle.swp_base.specs.DataUnits.{IsLpdu};
-ghost use Rattle.swp_lpdu.specs.Controls.{control_of, HasNumbers, bytes_of, kind_number, is_unknown, need_of, is_supervisory};
+ghost use Rattle.swp_lpdu.specs.Controls.{control_of, HasNumbers, lpdu_of, kind_number, is_unknown, need_of, is_supervisory};
 
 use arrayvec::ArrayVec;
 use swp_base::{Act, Control, Info, Kind, Lpdu};
@@ -125,7 +125,7 @@ fn kind_of(byte: u8) -> Kind
 /// the byte 40.
 pub fn write_lpdu(control: &Control) -> Lpdu
     requires { HasNumbers control.now }
-    ensures bytes { result ≡ bytes_of control.now }
+    ensures bytes { result ≡ lpdu_of control.now }
     ensures read_again { control_of result ≡ Ok control.now }
 {
     match control {
@@ -145,7 +145,7 @@ pub fn write_lpdu(control: &Control) -> Lpdu
 
 /// The LPDU of an activation frame.
 fn write_act(act: Act, again: bool) -> Lpdu
-    ensures bytes { result ≡ bytes_of (Control.Act act again) }
+    ensures bytes { result ≡ lpdu_of (Control.Act act again) }
     ensures read_again { control_of result ≡ Ok (Control.Act act again) }
 {
     let repeat = if again { 8 } else { 0 };

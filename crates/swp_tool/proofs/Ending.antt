@@ -12,7 +12,7 @@ use Rattle.swp_tool.specs.declared.pieces.Pieces.{Pieces}
 use Rattle.swp_tool.specs.Schedules.{Stop, AtFault, AtMisread, Too_many, Schedule, ended}
 use Rattle.swp_tool.specs.Transcripts.{IsTextOf, IsTranscript}
 use Rattle.swp_tool.specs.Pieces.{IsReading, IsRunning, HasRead, IsFrontTranscript, IsWholeTranscript, IsCompleteTranscript, StopsAt, Halts, HaltsAtEnd, schedule_read, schedule_so_far}
-use Rattle.swp_tool.specs.Runs.{status_of, Appends, IsSomeTranscript, IsCutShort, Replayed, IsUnderWay}
+use Rattle.swp_tool.specs.Runs.{status_of, AppendsText, IsSomeTranscript, IsCutShort, Replayed, IsUnderWay}
 use Rattle.swp_tool.proofs.Reading.{front_so_far, played_transcript}
 
 -- the end of a schedule adds no line
@@ -119,7 +119,7 @@ whole_transcript p bytes text h gathered =
 pub cut_short : (tells : Bool) (input bytes piece left text items before written after : List ℕ) → input ≡ bytes ++ (piece ++ left) → length piece ≤ 4096
     → IsWholeTranscript bytes text → IsSomeTranscript input (text ++ items)
     → (IsTrue tells → written ≡ before ++ text) → (n : ℕ) × (IsTrue tells → after ≡ written ++ take n items)
-    → Appends tells (IsCutShort 4096 input left) before after
+    → AppendsText tells (IsCutShort 4096 input left) before after
 cut_short tells input bytes piece left text items before written after input_is few whole some is front = (
   text ++ take front.0 items,
   record {

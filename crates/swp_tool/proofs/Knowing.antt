@@ -24,14 +24,14 @@ use Rattle.text_laws.specs.Ranges.{IsNumber, IsEntry}
 use Rattle.text_laws.proofs.RowLemmas.{told_line}
 use Rattle.text_laws.proofs.CleanLemmas.{IsCleanLine, number_clean}
 use Rattle.text_laws.proofs.ShownLemmas.{same_ended}
-use Rattle.told_laws.specs.Told.{step_told, told_of}
+use Rattle.told_laws.specs.Told.{step_told, entries_told}
 use Rattle.told_laws.proofs.Coming.{told_in}
 use Rattle.swp_tool.specs.declared.status.Status.{Status}
 use Rattle.swp_tool.specs.declared.status.Status.TheVariants as status
 use Rattle.swp_tool.specs.Schedules.{Stop, Too_many, Schedule, nothing_read, misread_behind, with_played, with_said, with_line, with_lines, ended, schedule_of}
-use Rattle.swp_tool.specs.Transcripts.{entry_lines, step_text, text_of, done_line, whole_text, IsTranscriptOf, IsTextOf, Tells, TellsHistory}
+use Rattle.swp_tool.specs.Transcripts.{entry_lines, step_text, transcript_of, done_line, whole_text, IsTranscriptOf, IsTextOf, TellsEntries, TellsHistory}
 use Rattle.swp_tool.specs.Pieces.{IsCompleteTranscript, schedule_read}
-use Rattle.swp_tool.specs.Runs.{Appends, Replayed}
+use Rattle.swp_tool.specs.Runs.{AppendsText, Replayed}
 
 -- ## The text of a history
 
@@ -41,7 +41,7 @@ steps_told (step ∷ steps) =
     flat_map-append entry_line (step_told step) (flat_map step_told steps) ∙ ap (λ text. step_text step ++ text) (steps_told steps)
 
 -- it is that of the entries that are told of it
-text_told : (t : History) → text_of t ≡ entry_lines (told_of t)
+text_told : (t : History) → transcript_of t ≡ entry_lines (entries_told t)
 text_told t =
     append_assoc (entry_line (entry.Head t.header)) (entry_lines t.opening) (flat_map step_text t.steps)
     ∙ ap (λ text. entry_line (entry.Head t.header) ++ text)
@@ -143,7 +143,7 @@ done_clean : (n : ℕ) → IsNumber n → IsCleanLine (codes "done" ∷ decimal 
 done_clean n is = (((omega arith, refl), refl), (number_clean n is, tt))
 
 -- the whole text of entries in their ranges tells them
-tells_all : (entries : List Entry) (count : ℕ) → All IsEntry entries → IsNumber count → Tells (whole_text entries count) entries
+tells_all : (entries : List Entry) (count : ℕ) → All IsEntry entries → IsNumber count → TellsEntries (whole_text entries count) entries
 tells_all entries count in_range few =
     record {
       in_range = in_range;
@@ -165,24 +165,24 @@ tells_complete input text h =
     let played : IsTranscriptOf header.0 s.lines h.lines_text = subst (λ o. IsTextOf o s.lines h.lines_text) header.1 h.transcript in
     let most = fits.most h.running in
     let few = fits.few in
-    let in_range : All IsEntry (told_of played.history) =
+    let in_range : All IsEntry (entries_told played.history) =
     told_in header.0 s.lines played.history valid.1 valid.0 played.follows (omega (arith, few, most)) in
-    let text_is : text ≡ whole_text (told_of played.history) s.count =
+    let text_is : text ≡ whole_text (entries_told played.history) s.count =
     h.text_is ∙ ap (λ t. t ++ done_line s.count) (played.text_is ∙ text_told played.history) in
     record {
       header = header.0;
       header_is = header.1;
       history = played.history;
       follows = played.follows;
-      told = subst (λ t. Tells t (told_of played.history)) (sym text_is) (tells_all (told_of played.history) s.count in_range (omega (arith, most)));
+      told = subst (λ t. TellsEntries t (entries_told played.history)) (sym text_is) (tells_all (entries_told played.history) s.count in_range (omega (arith, most)));
     }
 
 done_replayed : (tells : Bool) (input left before after : List ℕ) → Replayed tells status.Done input left before after
-    → Appends tells (TellsHistory (schedule_of input)) before after
+    → AppendsText tells (TellsHistory (schedule_of input)) before after
 done_replayed tells input left before after h = (h.1.0, tells_complete input h.1.0 h.1.1, h.1.2)
 
 -- so does what a replay has written that is done
 pub known : (tells : Bool) (s : Status) (input left before after : List ℕ) → s ≡ status.Done → Replayed tells s input left before after
-    → Appends tells (TellsHistory (schedule_of input)) before after
+    → AppendsText tells (TellsHistory (schedule_of input)) before after
 known tells s input left before after is h =
     done_replayed tells input left before after (subst (λ x. Replayed tells x input left before after) is h)

@@ -10,21 +10,21 @@ use Rattle.history.proofs.Leading.{lines_lead}
 use Rattle.world.specs.declared.world_steps.World.{World}
 use Rattle.world.specs.declared.world_steps.WorldFault.{WorldFault}
 use Rattle.world.specs.declared.world_steps.WorldFault.TheVariants as fault
-use Rattle.world.specs.Worlds.{StandsFor, HasRoom, IsFaultOf}
+use Rattle.world.specs.Worlds.{WorldStandsFor, HasRoomForLine, IsFaultOf}
 use Rattle.schedule_text.specs.declared.read.Read.TheVariants as read
 use Rattle.swp_tool.specs.declared.replay.Replay.{Replay}
 use Rattle.swp_tool.specs.declared.replay.Halt.{Halt}
 use Rattle.swp_tool.specs.declared.replay.Halt.TheVariants as halt
 use Rattle.swp_tool.specs.Schedules.{Schedule, misread_behind, with_played, with_said}
-use Rattle.swp_tool.specs.Transcripts.{text_of}
+use Rattle.swp_tool.specs.Transcripts.{transcript_of}
 use Rattle.swp_tool.specs.Replays.{Runs, IsAt, WasStepped, HasPlayed, halt_of, HaltsOn, HaltsBefore}
 
 -- a world stands for a history under its own header
-pub under_own_header : (w : World) (header : Header) (lines : List Line) (t : History) → StandsFor w header lines t → StandsFor w w.header lines t
-under_own_header w header lines t stands = (let P : Header → Type 0 = λ h. StandsFor w h lines t in subst P (sym stands.header_is) stands)
+pub under_own_header : (w : World) (header : Header) (lines : List Line) (t : History) → WorldStandsFor w header lines t → WorldStandsFor w w.header lines t
+under_own_header w header lines t stands = (let P : Header → Type 0 = λ h. WorldStandsFor w h lines t in subst P (sym stands.header_is) stands)
 
 -- a world that was stepped by few lines has room for one more
-pub has_room : (w : World) (most : ℕ) → WasStepped w most → most < 20000 → HasRoom w
+pub has_room : (w : World) (most : ℕ) → WasStepped w most → most < 20000 → HasRoomForLine w
 has_room w most was few = record { lines = was.lines; history = was.history; stands = was.stands; few = omega (arith, was.few) }
 
 pub stepped_more : (w : World) (most : ℕ) → WasStepped w most → WasStepped w (most + 1)
@@ -38,19 +38,19 @@ before_header w (Some h) lines text none at = absurd (cc)
 
 -- a header was read
 pub began : (r r' : Replay) (s : Schedule) (written : List ℕ) (w : World) (header : Header) → HasPlayed r s written → s.header ≡ None
-    → StandsFor w header [] (opened header) → r'.world ≡ Some w → r'.count ≡ r.count + 1 → r'.text.items ≡ r.text.items ++ text_of (opened header)
+    → WorldStandsFor w header [] (opened header) → r'.world ≡ Some w → r'.count ≡ r.count + 1 → r'.text.items ≡ r.text.items ++ transcript_of (opened header)
     → HasPlayed r' (with_said s (Ok (read.Header header))) written
 began r r' s written w header h none stands world_is count_is text_is =
     let before = before_header r.world s.header s.lines (written ++ r.text.items) none h.at in
     let P : Option World → Type 0 = λ x. IsAt x (Some header) s.lines (written ++ r'.text.items) in
-    let Q : List Line → Type 0 = λ x. StandsFor w header x (opened header) in
+    let Q : List Line → Type 0 = λ x. WorldStandsFor w header x (opened header) in
     record {
       running = h.running;
       count_is = count_is ∙ ap (λ n. n + 1) h.count_is;
       at = subst P (sym world_is) (record {
         history = opened header;
         stands = subst Q (sym before.0) stands;
-        text_is = ap (λ l. written ++ l) text_is ∙ (sym (append_assoc written r.text.items (text_of (opened header))) ∙ ap (λ l. l ++ text_of (opened header)) before.1);
+        text_is = ap (λ l. written ++ l) text_is ∙ (sym (append_assoc written r.text.items (transcript_of (opened header))) ∙ ap (λ l. l ++ transcript_of (opened header)) before.1);
       });
     }
 
@@ -82,7 +82,7 @@ misread_is w header lines text line at =
 pub went_on : (r r' : Replay) (s : Schedule) (written : List ℕ) (w w' : World) (line : Line) → HasPlayed r s written → r.world ≡ Some w → r'.world ≡ Some w'
     → r'.count ≡ r.count + 1
     → ((header : Header) (lines : List Line) (before : List ℕ) → Runs w header lines (before ++ r.text.items) → Runs w' header (lines ++ line ∷ []) (before ++ r'.text.items))
-    → ((header : Header) (lines : List Line) (t : History) → StandsFor w header lines t → misread (link_at t) line ≡ None)
+    → ((header : Header) (lines : List Line) (t : History) → WorldStandsFor w header lines t → misread (link_at t) line ≡ None)
     → HasPlayed r' (with_said s (Ok (read.Line line))) written
 went_on r r' s written w w' line h is is' count_is runs told =
     let at = played_at w r.world s.header s.lines (written ++ r.text.items) is h.at in
@@ -111,7 +111,7 @@ halts_before halt.NoMemory s line other on = tt
 
 -- the world halted at a line
 pub halted_there : (r : Replay) (s : Schedule) (written : List ℕ) (w : World) (line : Line) (why : Halt) → HasPlayed r s written → r.world ≡ Some w
-    → ((header : Header) (lines : List Line) (t : History) → StandsFor w header lines t → HaltsOn why (misread (link_at t) line))
+    → ((header : Header) (lines : List Line) (t : History) → WorldStandsFor w header lines t → HaltsOn why (misread (link_at t) line))
     → HaltsBefore why (with_said s (Ok (read.Line line)))
 halted_there r s written w line why h is halts =
     let at = played_at w r.world s.header s.lines (written ++ r.text.items) is h.at in

@@ -3,18 +3,18 @@ use Rattle.std.proofs.Common.{◌≡◌, ℕ, ◌+◌, ◌≤◌, arith, inl, Bo
 use Rattle.std.specs.Prelude.{reverse, ◌⊎◌, nat_lt, if◌then◌else◌, Result, Ok, Err, OnErr}
 use Rattle.std.proofs.lemmas.List.{append-nil, reverse-append, length-reverse, length-append}
 use Rattle.std.proofs.Math.Seq.{take-append-add}
-use Rattle.swp_decode.specs.Decoded.{record_lines, decoded, last_line, line_at, lines_behind, transcript}
+use Rattle.swp_decode.specs.Decoded.{record_lines, decoded, last_line, line_at, lines_with, transcript}
 use Rattle.swp_decode.proofs.FurtherLines.{record_lines-append}
 use Rattle.swp_tool.specs.declared.decoding.Decoding.{Decoding}
 use Rattle.swp_decode.specs.declared.line.Wire.TheVariants.{S1, S2}
-use Rattle.swp_decode.specs.Kept.{StandsFor}
+use Rattle.swp_decode.specs.Kept.{DecoderStandsFor}
 use Rattle.swp_tool.specs.declared.status.Status.{Status}
 use Rattle.swp_tool.specs.declared.status.Status.TheVariants as status
 use Rattle.swp_tool.specs.Decodings.{IsDecoding, HasDecoded, IsFrontOfLines, IsFrontOfSome, IsFrontOfWhole, IsBrokenOff, EndedIn, DecodedBy, piece_of, most_bytes}
 use Rattle.swp_tool.proofs.Ending.{behind}
 
 -- before the first byte
-pub nothing_decoded : (tells : Bool) (d : Decoding) (input before : List ℕ) → StandsFor d.decoder [] → d.text.items ≡ [] → HasDecoded tells d input input before before
+pub nothing_decoded : (tells : Bool) (d : Decoding) (input before : List ℕ) → DecoderStandsFor d.decoder [] → d.text.items ≡ [] → HasDecoded tells d input input before before
 nothing_decoded tells d input before stands none = record {
   bytes = [];
   input_is = refl;
@@ -36,7 +36,7 @@ cut_lines tells d earlier bytes before was after h front = record {
 pub flushed : (tells : Bool) (d e : Decoding) (earlier bytes before was after : List ℕ) → IsDecoding tells d earlier bytes before was
     → e.decoder ≡ d.decoder → e.text.items ≡ [] → (IsTrue tells → after ≡ was ++ d.text.items) → IsDecoding tells e earlier bytes before after
 flushed tells d e earlier bytes before was after h same none wrote = record {
-  stands = subst (λ x. StandsFor x (reverse bytes)) (sym same) h.stands;
+  stands = subst (λ x. DecoderStandsFor x (reverse bytes)) (sym same) h.stands;
   written = h.written ++ d.text.items;
   after_is = behind tells before h.written d.text.items was after h.after_is wrote;
   lines = ap (λ l. (h.written ++ d.text.items) ++ l) none ∙ (append-nil (h.written ++ d.text.items) ∙ h.lines);
@@ -60,14 +60,14 @@ none_gathered tells d earlier bytes before after h none told =
 
 -- a step adds the lines of its byte
 pub step_decodes : (tells : Bool) (d e : Decoding) (byte : ℕ) (earlier bytes before after : List ℕ) → IsDecoding tells d earlier bytes before after
-    → StandsFor e.decoder (byte ∷ reverse bytes)
+    → DecoderStandsFor e.decoder (byte ∷ reverse bytes)
     → e.text.items ≡ (d.text.items ++ line_at S1 (byte ∷ reverse bytes)) ++ line_at S2 (byte ∷ reverse bytes)
     → IsDecoding tells e earlier (bytes ++ byte ∷ []) before after
 step_decodes tells d e byte earlier bytes before after h stands items =
     let first = line_at S1 (byte ∷ reverse bytes) in
     let second = line_at S2 (byte ∷ reverse bytes) in
     record {
-      stands = subst (λ l. StandsFor e.decoder l) (sym (newest bytes byte)) stands;
+      stands = subst (λ l. DecoderStandsFor e.decoder l) (sym (newest bytes byte)) stands;
       written = h.written;
       after_is = h.after_is;
       lines = ap (λ l. h.written ++ l) items ∙ (sym (append_assoc h.written (d.text.items ++ first) second)
@@ -107,14 +107,14 @@ cut_whole tells d earlier bytes before was after text h is few front = record {
 
 -- a step adds the lines of all its bytes
 pub more_decoded : (tells : Bool) (d e : Decoding) (more earlier bytes before after : List ℕ) → IsDecoding tells d earlier bytes before after
-    → StandsFor e.decoder (reverse more ++ reverse bytes) → e.text.items ≡ d.text.items ++ lines_behind (reverse bytes) more
+    → DecoderStandsFor e.decoder (reverse more ++ reverse bytes) → e.text.items ≡ d.text.items ++ lines_with (reverse bytes) more
     → IsDecoding tells e earlier (bytes ++ more) before after
 more_decoded tells d e more earlier bytes before after h stands items = record {
-  stands = subst (λ l. StandsFor e.decoder l) (sym (reverse-append bytes more)) stands;
+  stands = subst (λ l. DecoderStandsFor e.decoder l) (sym (reverse-append bytes more)) stands;
   written = h.written;
   after_is = h.after_is;
-  lines = ap (λ l. h.written ++ l) items ∙ (sym (append_assoc h.written d.text.items (lines_behind (reverse bytes) more))
-      ∙ (ap (λ l. l ++ lines_behind (reverse bytes) more) h.lines ∙ sym (record_lines-append bytes more)));
+  lines = ap (λ l. h.written ++ l) items ∙ (sym (append_assoc h.written d.text.items (lines_with (reverse bytes) more))
+      ∙ (ap (λ l. l ++ lines_with (reverse bytes) more) h.lines ∙ sym (record_lines-append bytes more)));
   least = h.least;
 }
 

@@ -10,7 +10,7 @@ use Rattle.schedule_text.specs.Entries.{entry_line}
 use Rattle.schedule_text.specs.Growth.{IsFront}
 use Rattle.history.specs.Histories.{Step, History, noted}
 use Rattle.history.specs.Follows.{host_of, link_at, with_step, outcome_of}
-use Rattle.swp_tool.specs.Transcripts.{entry_lines, step_text, text_of}
+use Rattle.swp_tool.specs.Transcripts.{entry_lines, step_text, transcript_of}
 
 -- a front of a text behind more text is more text
 pub front_is_more : (old x text a items : List ℕ) → a ≡ old ++ x → IsFront a text items → (more : List ℕ) × (items ≡ old ++ more)
@@ -22,7 +22,7 @@ step_texts-append [] b = refl
 step_texts-append (x ∷ a) b = ap (λ l. step_text x ++ l) (step_texts-append a b) ∙ sym (append_assoc (step_text x) (flat_map step_text a) (flat_map step_text b))
 
 -- the transcript of a history with one line more
-pub text_of-step : (t : History) (line : Line) → text_of (with_step t line) ≡ text_of t ++ (entry_line (entry.Echo line) ++ entry_lines (noted (outcome_of (host_of t.header) (link_at t) line)))
+pub text_of-step : (t : History) (line : Line) → transcript_of (with_step t line) ≡ transcript_of t ++ (entry_line (entry.Echo line) ++ entry_lines (noted (outcome_of (host_of t.header) (link_at t) line)))
 text_of-step t line =
     let front = entry_line (entry.Head t.header) ++ entry_lines t.opening in
     let step : Step = record { line = line; outcome = outcome_of (host_of t.header) (link_at t) line } in

@@ -1,7 +1,7 @@
 -- What a decoding has read and written, by the status with which it ended.
 use Rattle.std.specs.Prelude.{◌≡◌, ℕ, ◌+◌, ◌≤◌, ◌⊎◌, nat_lt, if◌then◌else◌, Bool, IsTrue, List, [], ◌∷◌, ◌++◌, length, reverse, take}
 use Rattle.swp_decode.specs.Decoded.{record_lines, decoded}
-use Rattle.swp_decode.specs.Kept.{StandsFor}
+use Rattle.swp_decode.specs.Kept.{DecoderStandsFor}
 use Rattle.swp_tool.specs.declared.decoding.Decoding.{Decoding}
 use Rattle.swp_tool.specs.declared.status.Status.{Status}
 use Rattle.swp_tool.specs.declared.status.Status.TheVariants as status
@@ -17,7 +17,7 @@ piece_of count = if nat_lt most_bytes (count + 8192) then 4096 else 8192
 -- A decoding has read these bytes: what was written and what is gathered are their lines. All lines of the earlier bytes, those
 -- before the piece in hand, were written.
 pub record IsDecoding (tells : Bool) (d : Decoding) (earlier bytes before after : List ℕ) : Type 0 where
-  pub stands : StandsFor d.decoder (reverse bytes)
+  pub stands : DecoderStandsFor d.decoder (reverse bytes)
   pub written : List ℕ
   pub after_is : IsTrue tells → after ≡ before ++ written
   pub lines : written ++ d.text.items ≡ record_lines bytes

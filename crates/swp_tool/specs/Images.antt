@@ -4,13 +4,13 @@ use Rattle.nv_journal.specs.declared.JournalFault.{JournalFault}
 use Rattle.nv_journal.specs.declared.JournalFault.TheVariants as image
 use Rattle.hci_tables.specs.Tables.{close}
 use Rattle.hci_store.specs.Image.{tables_of, image_fault}
-use Rattle.tables_text.specs.Tables.{text_of}
+use Rattle.tables_text.specs.Tables.{tables_text_of}
 use Rattle.swp_tool.specs.declared.status.Status.{Status}
 use Rattle.swp_tool.specs.declared.status.Status.TheVariants as status
 
 -- the tables of a memory, all pipes closed, as text: the memory is told by the word `nv`
 abbrev pub tables_lines : List ℕ → List ℕ
-tables_lines content = text_of (codes "nv") (close (tables_of content))
+tables_lines content = tables_text_of (codes "nv") (close (tables_of content))
 
 -- how a run ends whose memory was refused
 abbrev pub status_of_fault : JournalFault → Status

@@ -7,18 +7,18 @@ use Rattle.history.specs.Histories.{History}
 use Rattle.world.specs.declared.world_steps.World.{World}
 use Rattle.world.specs.declared.world_steps.WorldFault.{WorldFault}
 use Rattle.world.specs.declared.world_steps.WorldFault.TheVariants as fault
-use Rattle.world.specs.Worlds.{StandsFor, header_of}
+use Rattle.world.specs.Worlds.{WorldStandsFor, world_header}
 use Rattle.swp_tool.specs.declared.replay.Replay.{Replay}
 use Rattle.swp_tool.specs.declared.replay.Halt.{Halt}
 use Rattle.swp_tool.specs.declared.replay.Halt.TheVariants as halt
 use Rattle.swp_tool.specs.Schedules.{Schedule, AtFault, AtMisread, with_line}
-use Rattle.swp_tool.specs.Transcripts.{text_of}
+use Rattle.swp_tool.specs.Transcripts.{transcript_of}
 
 -- A world stands for a legal history of these lines, whose transcript is this text.
 pub record Runs (w : World) (header : Header) (lines : List Line) (text : List ℕ) : Type 0 where
   pub history : History
-  pub stands : StandsFor w header lines history
-  pub text_is : text ≡ text_of history
+  pub stands : WorldStandsFor w header lines history
+  pub text_is : text ≡ transcript_of history
 
 -- there is a world where there is a header
 abbrev pub IsAt : Option World → Option Header → List Line → List ℕ → Type 0
@@ -37,7 +37,7 @@ pub record HasPlayed (r : Replay) (s : Schedule) (written : List ℕ) : Type 0 w
 pub record WasStepped (w : World) (most : ℕ) : Type 0 where
   pub lines : List Line
   pub history : History
-  pub stands : StandsFor w (header_of w) lines history
+  pub stands : WorldStandsFor w (world_header w) lines history
   pub few : length lines ≤ most
 
 -- a replay has read at most 20,000 lines, and its world was stepped by no more than it has read

@@ -22,8 +22,8 @@ status_at AtMisread line = status.Undetected line
 status_at Too_many line = status.TooMany line
 
 -- there is a text of this kind, and a sink that tells what was written says that it was appended
-abbrev pub Appends : Bool → (List ℕ → Type 0) → List ℕ → List ℕ → Type 0
-Appends tells P before after = (text : List ℕ) × P text × (IsTrue tells → after ≡ before ++ text)
+abbrev pub AppendsText : Bool → (List ℕ → Type 0) → List ℕ → List ℕ → Type 0
+AppendsText tells P before after = (text : List ℕ) × P text × (IsTrue tells → after ≡ before ++ text)
 
 -- a text that the program may write on the way: the transcript of some of the first lines, or the whole one
 abbrev pub IsSomeTranscript : List ℕ → List ℕ → Type 0
@@ -51,13 +51,13 @@ IsTranscriptOfRead input left text = (bytes : List ℕ) × (input ≡ bytes ++ l
 -- fault of writing, a front of it, all of the pieces before the last among it. Whether the sink tells what was written comes first: without it there is such a text, and
 -- nothing is said of where it went.
 abbrev pub Replayed : Bool → Status → List ℕ → List ℕ → List ℕ → List ℕ → Type 0
-Replayed tells status.Done input left before after = (left ≡ []) × Appends tells (IsCompleteTranscript input) before after
-Replayed tells (status.BadSchedule line why) input left before after = Appends tells (StopsAt input (AtFault why) line) before after
-Replayed tells (status.Undetected line) input left before after = Appends tells (StopsAt input AtMisread line) before after
-Replayed tells (status.TooMany count) input left before after = Appends tells (StopsAt input Too_many count) before after
-Replayed tells status.ReadFault input left before after = Appends tells (IsTranscriptOfRead input left) before after
-Replayed tells status.WriteFault input left before after = Appends tells (IsCutShort 4096 input left) before after
-Replayed tells status.NoMemory input left before after = Appends tells (IsFrontTranscript input) before after
+Replayed tells status.Done input left before after = (left ≡ []) × AppendsText tells (IsCompleteTranscript input) before after
+Replayed tells (status.BadSchedule line why) input left before after = AppendsText tells (StopsAt input (AtFault why) line) before after
+Replayed tells (status.Undetected line) input left before after = AppendsText tells (StopsAt input AtMisread line) before after
+Replayed tells (status.TooMany count) input left before after = AppendsText tells (StopsAt input Too_many count) before after
+Replayed tells status.ReadFault input left before after = AppendsText tells (IsTranscriptOfRead input left) before after
+Replayed tells status.WriteFault input left before after = AppendsText tells (IsCutShort 4096 input left) before after
+Replayed tells status.NoMemory input left before after = AppendsText tells (IsFrontTranscript input) before after
 Replayed tells status.BadWords input left before after = ⊥
 Replayed tells status.NvFault input left before after = ⊥
 Replayed tells (status.BadImage why) input left before after = ⊥
@@ -110,5 +110,5 @@ abbrev pub IsTables : List (List ℕ) → Type 0
 IsTables words = words ≡ codes "tables" ∷ []
 
 -- the words that ask for something
-abbrev pub IsCommand : List (List ℕ) → Type 0
-IsCommand words = IsReplay words ⊎ (IsDecode words ⊎ IsTables words)
+abbrev pub AskForSomething : List (List ℕ) → Type 0
+AskForSomething words = IsReplay words ⊎ (IsDecode words ⊎ IsTables words)

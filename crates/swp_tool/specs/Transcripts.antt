@@ -11,7 +11,7 @@ use Rattle.history.specs.Histories.{Step, History, noted}
 use Rattle.history.specs.Follows.{Follows}
 use Rattle.history.specs.Legal.{Legal}
 use Rattle.text_laws.specs.Ranges.{IsNumber, IsEntry}
-use Rattle.told_laws.specs.Told.{told_of}
+use Rattle.told_laws.specs.Told.{entries_told}
 use Rattle.swp_tool.specs.Schedules.{Schedule}
 
 -- entries, each as a line
@@ -23,8 +23,8 @@ abbrev pub step_text : Step → List ℕ
 step_text step = entry_line (entry.Echo step.line) ++ entry_lines (noted step.outcome)
 
 -- the transcript of a history: its header, its lines, and below each what is noted
-abbrev pub text_of : History → List ℕ
-text_of t = (entry_line (entry.Head t.header) ++ entry_lines t.opening) ++ flat_map step_text t.steps
+abbrev pub transcript_of : History → List ℕ
+transcript_of t = (entry_line (entry.Head t.header) ++ entry_lines t.opening) ++ flat_map step_text t.steps
 
 -- the last line, with the number of lines of the schedule
 abbrev pub done_line : ℕ → List ℕ
@@ -35,7 +35,7 @@ pub record IsTranscriptOf (header : Header) (lines : List Line) (text : List ℕ
   pub history : History
   pub follows : Follows header lines history
   pub legal : Legal history
-  pub text_is : text ≡ text_of history
+  pub text_is : text ≡ transcript_of history
 
 -- A text is the transcript of the lines of a schedule: nothing before its header.
 abbrev pub IsTextOf : Option Header → List Line → List ℕ → Type 0
@@ -50,7 +50,7 @@ abbrev pub whole_text : List Entry → ℕ → List ℕ
 whole_text entries count = entry_lines entries ++ done_line count
 
 -- A text tells these entries: it is theirs, and no other entries, each in its range, have it.
-pub record Tells (text : List ℕ) (entries : List Entry) : Type 0 where
+pub record TellsEntries (text : List ℕ) (entries : List Entry) : Type 0 where
   pub in_range : All IsEntry entries
   pub count : ℕ
   pub few : IsNumber count
@@ -63,4 +63,4 @@ pub record TellsHistory (s : Schedule) (text : List ℕ) : Type 0 where
   pub header_is : s.header ≡ Some header
   pub history : History
   pub follows : Follows header s.lines history
-  pub told : Tells text (told_of history)
+  pub told : TellsEntries text (entries_told history)

@@ -5,10 +5,10 @@ ghost use Rattle.trace_model.specs.declared.line.Line.{Line};
 ghost use Rattle.trace_model.specs.Lines.{IsHeader, IsLineOf};
 ghost use Rattle.swp_tool.specs.Schedules.{Schedule, with_line, with_said, nothing_read};
 ghost use Rattle.swp_tool.specs.Replays.{Runs, WasStepped, HasPlayed, HasFew, HaltsOn, HaltsBefore, HaltsAt};
-ghost use Rattle.swp_tool.specs.Transcripts.{text_of, done_line};
+ghost use Rattle.swp_tool.specs.Transcripts.{transcript_of, done_line};
 ghost use Rattle.history.specs.Histories.{History};
 ghost use Rattle.history.specs.Follows.{link_at, misread, opened};
-ghost use Rattle.world.specs.Worlds.{StandsFor, HasRoom, header_of};
+ghost use Rattle.world.specs.Worlds.{WorldStandsFor, HasRoomForLine, world_header};
 
 use crate::transcript::note;
 use schedule_text::{LineFault, Read, read_line};
@@ -128,7 +128,7 @@ impl Replay {
 
     /// Steps the world by the next line, which is one below the header.
     fn go_on(&mut self, alloc: Global, line: Line) -> Result<(), Halt>
-        requires world { IsSomeAnd self.old.world (λ w. IsLineOf (header_of w) line) }
+        requires world { IsSomeAnd self.old.world (λ w. IsLineOf (world_header w) line) }
         requires few { HasFew self.old }
         requires next { self.old.count < 20000 }
         ensures played { OnOk result ((s : Schedule) (written : List ℕ) → HasPlayed self.old s written
@@ -181,9 +181,9 @@ fn append_done(alloc: Global, count: u64, text: &mut Vec<u8>) -> Result<(), Allo
 /// The world of a header, and the text of its opening behind what was gathered.
 fn open(alloc: Global, header: &Header, text: &mut Vec<u8>) -> Result<World, Halt>
     requires { IsHeader header.now }
-    ensures stands { IfOk result (λ w. StandsFor w header.now [] (opened header.now)) }
+    ensures stands { IfOk result (λ w. WorldStandsFor w header.now [] (opened header.now)) }
     ensures stepped { IfOk result (λ w. WasStepped w 0) }
-    ensures text { OnOk result (text.new.items ≡ text.old.items ++ text_of (opened header.now)) }
+    ensures text { OnOk result (text.new.items ≡ text.old.items ++ transcript_of (opened header.now)) }
     ensures halts { IfErr result (λ why. why ≡ Halt.NoMemory) }
     ensures same { OnErr result (text.new.items ≡ text.old.items) }
 {
@@ -205,13 +205,13 @@ fn echo_of(header: &Header) -> Result<Entry, NoMemory>
 
 /// Steps a world by a line, and gathers the text of the line and of what it caused.
 fn step(alloc: Global, world: &mut World, line: Line, text: &mut Vec<u8>) -> Result<(), Halt>
-    requires line { IsLineOf (header_of world.old) line }
-    requires room { HasRoom world.old }
+    requires line { IsLineOf (world_header world.old) line }
+    requires room { HasRoomForLine world.old }
     ensures runs { OnOk result ((header : Header) (lines : List Line) (before : List ℕ) → Runs world.old header lines (before ++ text.old.items)
         → Runs world.new header (lines ++ line ∷ []) (before ++ text.new.items)) }
-    ensures told { OnOk result ((header : Header) (lines : List Line) (t : History) → StandsFor world.old header lines t → misread (link_at t) line ≡ None) }
+    ensures told { OnOk result ((header : Header) (lines : List Line) (t : History) → WorldStandsFor world.old header lines t → misread (link_at t) line ≡ None) }
     ensures stepped { OnOk result ((most : ℕ) → WasStepped world.old most → WasStepped world.new (most + 1)) }
-    ensures halts { IfErr result (λ why. (header : Header) (lines : List Line) (t : History) → StandsFor world.old header lines t
+    ensures halts { IfErr result (λ why. (header : Header) (lines : List Line) (t : History) → WorldStandsFor world.old header lines t
         → HaltsOn why (misread (link_at t) line)) }
     ensures same { OnErr result (text.new.items ≡ text.old.items) }
 {

@@ -2,7 +2,7 @@
 ghost use Rattle.std.specs.Prelude.{◌≡◌, ◌≢◌, ◌≤◌, ◌<◌, ◌+◌, ◌++◌, ◌∷◌, ◌↔◌, ◌⊎◌, [], List, ℕ, length, map, string_bytes, codes, Some, None, IsTrue, OnOk, OnErr, IfErr, Ok, Err, take, true, false};
 ghost use Rattle.swp_base.specs.Outside.{Rose};
 ghost use Rattle.swp_tool.specs.Schedules.{Stop, schedule_of};
-ghost use Rattle.swp_tool.specs.Runs.{status_of, status_at, Appends, Replayed, IsUnderWay, IsReplay, IsDecode, IsTables, IsCommand, IsOfReplay, IsOfDecode};
+ghost use Rattle.swp_tool.specs.Runs.{status_of, status_at, AppendsText, Replayed, IsUnderWay, IsReplay, IsDecode, IsTables, AskForSomething, IsOfReplay, IsOfDecode};
 ghost use Rattle.swp_tool.specs.Transcripts.{TellsHistory};
 ghost use Rattle.swp_tool.specs.Images.{Told, IsOfTables};
 ghost use Rattle.hci_store.specs.Image.{image_fault};
@@ -45,13 +45,13 @@ pub fn run<S: Source, K: Sink, N: Nv + Drop>(
 
     // The text of a replay that is done tells what became of its schedule: from the text its entries are known.
     ensures known { IsReplay (map string_bytes words.now) → IsTrue S.tells → result.status ≡ Status.Done →
-        Appends K.tells (TellsHistory (schedule_of (S.left source.old))) (K.written sink.old) (K.written sink.new) }
+        AppendsText K.tells (TellsHistory (schedule_of (S.left source.old))) (K.written sink.old) (K.written sink.new) }
 
     ensures decoded { IsDecode (map string_bytes words.now) → IsTrue S.tells →
         DecodedBy K.tells result.status (S.left source.old) (S.left source.new) (K.written sink.old) (K.written sink.new) }
 
     // Other words are refused exactly, and then nothing is read or written.
-    ensures bad_words { (result.status ≡ Status.BadWords) ↔ ¬ IsCommand (map string_bytes words.now) }
+    ensures bad_words { (result.status ≡ Status.BadWords) ↔ ¬ AskForSomething (map string_bytes words.now) }
     ensures untouched { result.status ≡ Status.BadWords → (source.new ≡ source.old) × (sink.new ≡ sink.old) }
 
     // What was written of a memory that tells its content. Nothing is read then, and the memory keeps its content.

@@ -11,8 +11,8 @@ use Rattle.pipe_table.specs.PipeRows.{pid_of, pipe_at, joins_host, as_opened, wi
 use Rattle.hci_tables.specs.declared.command.Command.{Command}
 use Rattle.hci_tables.specs.declared.command.Command.TheVariants.{Create, Delete, Clear, SetOpened, Set, Sync}
 use Rattle.hci_tables.specs.Commands.{IsCommand}
-use Rattle.hci_tables.specs.Tables.{HciTables, AreTables, apply, after, close, static_place, with_static}
-use Rattle.tables_laws.specs.Changes.{opens, is_opened}
+use Rattle.hci_tables.specs.Tables.{HciTables, AreTables, apply, after_commands, close, static_place, with_static}
+use Rattle.tables_laws.specs.Changes.{opens, is_pipe_opened}
 use Rattle.tables_laws.proofs.LookUps.{row_of-map, row_of-filter, found_is, if_passes}
 use Rattle.tables_laws.proofs.SortedTables.{AreTables-apply, AreTables-close}
 
@@ -109,7 +109,7 @@ opened_dynamic t (SetOpened other p opened) host pid from h may e =
 opened_dynamic t (Set other gate param value) host pid from h may e = inl e
 opened_dynamic t (Sync other id) host pid from h may e = inl e
 
-opened-apply : (t : HciTables) (command : Command) (host pid : ℕ) → AreTables t → IsCommand command → is_opened (apply t command) host pid ≡ true → (is_opened t host pid ≡ true) ⊎ (opens host pid command ≡ true)
+opened-apply : (t : HciTables) (command : Command) (host pid : ℕ) → AreTables t → IsCommand command → is_pipe_opened (apply t command) host pid ≡ true → (is_pipe_opened t host pid ≡ true) ⊎ (opens host pid command ≡ true)
 opened-apply t command host pid h may e =
     let u = apply t command in
     elim (cases_Bool (ltb pid 2)) [
@@ -125,7 +125,7 @@ opened-apply t command host pid h may e =
           ]
     ]
 
-opened-after : (t : HciTables) (commands : List Command) (host pid : ℕ) → AllByRecursion IsCommand commands → AreTables t → is_opened (after t commands) host pid ≡ true → (is_opened t host pid ≡ true) ⊎ (list_any (opens host pid) commands ≡ true)
+opened-after : (t : HciTables) (commands : List Command) (host pid : ℕ) → AllByRecursion IsCommand commands → AreTables t → is_pipe_opened (after_commands t commands) host pid ≡ true → (is_pipe_opened t host pid ≡ true) ⊎ (list_any (opens host pid) commands ≡ true)
 opened-after t [] host pid may h e = inl e
 opened-after t (command ∷ commands) host pid may h e =
     elim (opened-after (apply t command) commands host pid may.1 (AreTables-apply t command may.0 h) e) [
@@ -140,13 +140,13 @@ closed_row : (o : Option PipeRow) → Opened (option_map (as_opened false) o) �
 closed_row None e = false≢true e
 closed_row (Some row) e = false≢true e
 
-closed : (t : HciTables) (host pid : ℕ) → is_opened (close t) host pid ≡ true → ⊥
+closed : (t : HciTables) (host pid : ℕ) → is_pipe_opened (close t) host pid ≡ true → ⊥
 closed t host pid e =
     cond_both (ltb pid 2) (static_opened [] host pid) (dynamic_opened (all_closed t.rows) pid) (λ b. b ≡ true → ⊥)
     (λ static now. false≢true now)
     (λ dynamic now. closed_row (pipe_at t.rows pid) (subst Opened (row_of-map pid_of (as_opened false) pid t.rows (λ row. refl)) now)) e
 
-pub opened-after_close : (t : HciTables) (commands : List Command) (host pid : ℕ) → AreTables t → AllByRecursion IsCommand commands → is_opened (after (close t) commands) host pid ≡ true → IsTrue (list_any (opens host pid) commands)
+pub opened-after_close : (t : HciTables) (commands : List Command) (host pid : ℕ) → AreTables t → AllByRecursion IsCommand commands → is_pipe_opened (after_commands (close t) commands) host pid ≡ true → IsTrue (list_any (opens host pid) commands)
 opened-after_close t commands host pid h may e =
     elim (opened-after (close t) commands host pid may (AreTables-close t h) e) [
       | inl before ↦ absurd (closed t host pid before)

@@ -13,13 +13,13 @@ use Rattle.registry.proofs.ValueLemmas.{AreValues-filter, AreValues-with_row}
 use Rattle.hci_tables.specs.declared.command.Command.{Command}
 use Rattle.hci_tables.specs.declared.command.Command.TheVariants.{Create, Delete, Clear, SetOpened, Set, Sync}
 use Rattle.hci_tables.specs.Commands.{is_dynamic, is_host, IsCommand}
-use Rattle.hci_tables.specs.Tables.{HciTables, AreTables, no_tables, apply, after, close, static_place, sync_host, with_static}
+use Rattle.hci_tables.specs.Tables.{HciTables, AreTables, no_tables, apply, after_commands, close, static_place, sync_host, with_static}
 
 pub AreValues-with_value : (values : List RegValue) (host gate param : ℕ) (value : List ℕ) → IsTrue (registry.is_kept host gate param) → registry.AreValues values → registry.AreValues (registry.with_value values host gate param value)
 AreValues-with_value values host gate param value kept h =
     let v : RegValue = record { host = host; gate = gate; param = param; value = record { items = value } } in
-    cond_both (registry.is_default param value) (without_row registry.place_of (registry.place host param) values) (with_row registry.place_of v values) registry.AreValues
-    (λ default. AreValues-filter (λ r. not (eqb (registry.place_of r) (registry.place host param))) values h)
+    cond_both (registry.is_default param value) (without_row registry.place_of_value (registry.value_place host param) values) (with_row registry.place_of_value v values) registry.AreValues
+    (λ default. AreValues-filter (λ r. not (eqb (registry.place_of_value r) (registry.value_place host param))) values h)
     (λ other. AreValues-with_row v values (and_from (registry.is_kept host gate param) (not (registry.is_default param value)) kept (not_from_false (registry.is_default param value) other)) h)
 
 with_static-sorted : (statics : List (ℕ × ℕ)) (host pid : ℕ) (opened : Bool) → host ≤ 7 → pid < 2 → AreRows static_place 0 16 statics → AreRows static_place 0 16 (with_static statics host pid opened)
@@ -85,11 +85,11 @@ AreTables-apply t (Sync host id) may h =
       rows = h.rows;
       statics = h.statics;
       values = cond_both _ t.values (registry.with_value t.values host 0 1 (registry.default_of 1)) registry.AreValues (λ kept. h.values)
-          (λ other. AreValues-filter (λ v. not (eqb (registry.place_of v) (registry.place host 1))) t.values h.values);
+          (λ other. AreValues-filter (λ v. not (eqb (registry.place_of_value v) (registry.value_place host 1))) t.values h.values);
       syncs = AreRows-with_row sync_host 1 8 (host, id) t.syncs h.syncs (omega arith) (omega arith);
     }
 
-pub AreTables-after : (t : HciTables) (commands : List Command) → AllByRecursion IsCommand commands → AreTables t → AreTables (after t commands)
+pub AreTables-after : (t : HciTables) (commands : List Command) → AllByRecursion IsCommand commands → AreTables t → AreTables (after_commands t commands)
 AreTables-after t [] may h = h
 AreTables-after t (command ∷ commands) may h = AreTables-after (apply t command) commands may.1 (AreTables-apply t command may.0 h)
 

@@ -8,7 +8,7 @@ use Rattle.pipe_table.specs.PipeRows.{pid_of, joins_host, as_opened, with_opened
 use Rattle.hci_tables.specs.declared.command.Command.{Command}
 use Rattle.hci_tables.specs.declared.command.Command.TheVariants.{Create, Delete, Clear, SetOpened, Set, Sync}
 use Rattle.hci_tables.specs.Commands.{is_dynamic, is_host, IsCommand}
-use Rattle.hci_tables.specs.Tables.{HciTables, apply, after, with_static}
+use Rattle.hci_tables.specs.Tables.{HciTables, apply, after_commands, with_static}
 use Rattle.tables_laws.specs.Changes.{JoinTwo}
 
 joins_two : PipeRow → Bool
@@ -60,6 +60,6 @@ JoinTwo-apply t (SetOpened host pid opened) may two =
 JoinTwo-apply t (Set host gate param value) may two = two
 JoinTwo-apply t (Sync host id) may two = two
 
-pub JoinTwo-after : (t : HciTables) (commands : List Command) → AllByRecursion IsCommand commands → JoinTwo t.rows → JoinTwo (after t commands).rows
+pub JoinTwo-after : (t : HciTables) (commands : List Command) → AllByRecursion IsCommand commands → JoinTwo t.rows → JoinTwo (after_commands t commands).rows
 JoinTwo-after t [] may two = two
 JoinTwo-after t (command ∷ commands) may two = JoinTwo-after (apply t command) commands may.1 (JoinTwo-apply t command may.0 two)

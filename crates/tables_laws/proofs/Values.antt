@@ -8,13 +8,13 @@ use Rattle.std.proofs.lemmas.List.{nil_from_length}
 use Rattle.sorted_rows.specs.Rows.{row_of, with_row, without_row}
 use Rattle.sorted_rows.proofs.RowLemmas.{row_of-with_row, row_of-without_row}
 use Rattle.registry.specs.declared.value.RegValue.{RegValue}
-use Rattle.registry.specs.Values.{AreValues, IsPresent, is_kept, is_default, default_of, place, place_of, value_at, with_value, without_host}
+use Rattle.registry.specs.Values.{AreValues, IsPresent, is_kept, is_default, default_of, value_place, place_of_value, value_at, with_value, values_without_host}
 use Rattle.hci_tables.specs.declared.command.Command.{Command}
 use Rattle.hci_tables.specs.declared.command.Command.TheVariants.{Create, Delete, Clear, SetOpened, Set, Sync}
 use Rattle.hci_tables.specs.Commands.{IsCommand}
 use Rattle.hci_tables.specs.Tables.{HciTables, AreTables, apply, with_static, is_kept_sync}
 use Rattle.pipe_table.specs.PipeRows.{with_opened}
-use Rattle.tables_laws.specs.Changes.{told}
+use Rattle.tables_laws.specs.Changes.{told_value}
 use Rattle.tables_laws.proofs.LookUps.{row_of-filter, found_is, if_passes}
 
 -- what the value of a found row reads as
@@ -36,21 +36,21 @@ kept_gate host gate param kept =
     eqb-true gate 0 (and_parts (leb 1 host && leb host 7) (eqb gate 0) parts.0).1
 
 -- two kept parameters have one place where they are the same of one host
-same_place : (h p host param : ℕ) → (p ≡ 1) ⊎ (p ≡ 3) → (param ≡ 1) ⊎ (param ≡ 3) → place h p ≡ place host param → (h ≡ host) × (p ≡ param)
+same_place : (h p host param : ℕ) → (p ≡ 1) ⊎ (p ≡ 3) → (param ≡ 1) ⊎ (param ≡ 3) → value_place h p ≡ value_place host param → (h ≡ host) × (p ≡ param)
 same_place h p host param one other same =
     elim one [
       | inl first ↦ elim other [ inl first' ↦ (omega arith, omega arith) | inr third' ↦ absurd (omega arith) ]
       | inr third ↦ elim other [ inl first' ↦ absurd (omega arith) | inr third' ↦ (omega arith, omega arith) ]
     ]
 
-place_test : (h p host param : ℕ) → (p ≡ 1) ⊎ (p ≡ 3) → (param ≡ 1) ⊎ (param ≡ 3) → eqb (place h p) (place host param) ≡ (eqb h host && eqb p param)
+place_test : (h p host param : ℕ) → (p ≡ 1) ⊎ (p ≡ 3) → (param ≡ 1) ⊎ (param ≡ 3) → eqb (value_place h p) (value_place host param) ≡ (eqb h host && eqb p param)
 place_test h p host param one other =
-    elim (cases_eq (place h p) (place host param)) [
+    elim (cases_eq (value_place h p) (value_place host param)) [
       | inl same ↦
           let both = same_place h p host param one other same in
-          eq-eqb (place h p) (place host param) same ∙ sym (and_from (eqb h host) (eqb p param) (eq-eqb h host both.0) (eq-eqb p param both.1))
-      | inr differ ↦ ne_eqb (place h p) (place host param) differ ∙ sym (elim (cases_eq h host) [
-        | inl owner ↦ and_right (eqb h host) (eqb p param) (ne_eqb p param (λ same. differ (ap (λ x. place x p) owner ∙ ap (place host) same)))
+          eq-eqb (value_place h p) (value_place host param) same ∙ sym (and_from (eqb h host) (eqb p param) (eq-eqb h host both.0) (eq-eqb p param both.1))
+      | inr differ ↦ ne_eqb (value_place h p) (value_place host param) differ ∙ sym (elim (cases_eq h host) [
+        | inl owner ↦ and_right (eqb h host) (eqb p param) (ne_eqb p param (λ same. differ (ap (λ x. value_place x p) owner ∙ ap (value_place host) same)))
         | inr stranger ↦ and_left (eqb h host) (eqb p param) (ne_eqb h host stranger)
       ])
     ]
@@ -82,22 +82,22 @@ put_in param false v o = refl
 value_at-with_value : (values : List RegValue) (h gate p : ℕ) (value : List ℕ) (host param : ℕ) → (p ≡ 1) ⊎ (p ≡ 3) → (param ≡ 1) ⊎ (param ≡ 3) → value_at (with_value values h gate p value) host 0 param ≡ cond (eqb h host && eqb p param) value (value_at values host 0 param)
 value_at-with_value values h gate p value host param one other =
     let v : RegValue = record { host = h; gate = gate; param = p; value = record { items = value } } in
-    let old = row_of place_of (place host param) values in
+    let old = row_of place_of_value (value_place host param) values in
     let same = place_test h p host param one other in
-    cond_both (is_default p value) (without_row place_of (place h p) values) (with_row place_of v values) (λ vs. value_at vs host 0 param ≡ cond (eqb h host && eqb p param) value (value_at values host 0 param))
+    cond_both (is_default p value) (without_row place_of_value (value_place h p) values) (with_row place_of_value v values) (λ vs. value_at vs host 0 param ≡ cond (eqb h host && eqb p param) value (value_at values host 0 param))
     (λ default.
-    ap (read param) (row_of-without_row place_of (place h p) values (place host param))
+    ap (read param) (row_of-without_row place_of_value (value_place h p) values (value_place host param))
     ∙ (ap (λ b. read param (cond b None old)) same
     ∙ taken_out param (eqb h host && eqb p param) value old (λ here. ap default_of (sym (eqb-true p param (and_parts (eqb h host) (eqb p param) here).1)) ∙ sym (default_is p value default))))
     (λ kept.
-    ap (read param) (row_of-with_row place_of v values (place host param))
+    ap (read param) (row_of-with_row place_of_value v values (value_place host param))
     ∙ (ap (λ b. read param (cond b (Some v) old)) same
     ∙ put_in param (eqb h host && eqb p param) v old))
 
 -- a value that is found is one of this host
-found_host : (values : List RegValue) (host param : ℕ) (v : RegValue) → (param ≡ 1) ⊎ (param ≡ 3) → AreValues values → row_of place_of (place host param) values ≡ Some v → v.host ≡ host
+found_host : (values : List RegValue) (host param : ℕ) (v : RegValue) → (param ≡ 1) ⊎ (param ≡ 3) → AreValues values → row_of place_of_value (value_place host param) values ≡ Some v → v.host ≡ host
 found_host values host param v which h is =
-    let found = found_is place_of IsPresent (place host param) values v h.present is in
+    let found = found_is place_of_value IsPresent (value_place host param) values v h.present is in
     let kept = (and_parts (is_kept v.host v.gate v.param) (not (is_default v.param v.value.items)) found.0).0 in
     (same_place v.host v.param host param (kept_param v.host v.gate v.param kept) which found.1).0
 
@@ -114,16 +114,16 @@ cleared_read param h host (Some v) is =
     by_test true = refl
     by_test false = refl
 
-pub value_at-without_host : (values : List RegValue) (h host param : ℕ) → (param ≡ 1) ⊎ (param ≡ 3) → AreValues values → value_at (without_host values h) host 0 param ≡ cond (eqb h host) (default_of param) (value_at values host 0 param)
+pub value_at-without_host : (values : List RegValue) (h host param : ℕ) → (param ≡ 1) ⊎ (param ≡ 3) → AreValues values → value_at (values_without_host values h) host 0 param ≡ cond (eqb h host) (default_of param) (value_at values host 0 param)
 value_at-without_host values h host param which are =
-    ap (read param) (row_of-filter place_of 2 16 (λ v. not (eqb v.host h)) (place host param) values are.sorted)
-    ∙ cleared_read param h host (row_of place_of (place host param) values) (λ v is. found_host values host param v which are is)
+    ap (read param) (row_of-filter place_of_value 2 16 (λ v. not (eqb v.host h)) (value_place host param) values are.sorted)
+    ∙ cleared_read param h host (row_of place_of_value (value_place host param) values) (λ v is. found_host values host param v which are is)
 
 unkept : (here kept : Bool) (x y : List ℕ) → kept ≡ false → cond here x y ≡ cond (here && not kept) x y
 unkept true kept x y other = sym (cond-true (not kept) x y (not_from_false kept other))
 unkept false kept x y other = refl
 
-pub values-apply : (t : HciTables) (command : Command) (host param : ℕ) → AreTables t → IsCommand command → IsTrue (is_kept host 0 param) → value_at (apply t command).values host 0 param ≡ told t command host param
+pub values-apply : (t : HciTables) (command : Command) (host param : ℕ) → AreTables t → IsCommand command → IsTrue (is_kept host 0 param) → value_at (apply t command).values host 0 param ≡ told_value t command host param
 values-apply t (Create row) host param h may kept = refl
 values-apply t (Delete pid) host param h may kept = refl
 values-apply t (Clear gone) host param h may kept = value_at-without_host t.values gone host param (kept_param host 0 param kept) h.values

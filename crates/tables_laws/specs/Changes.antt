@@ -35,16 +35,16 @@ ComesFrom t (Set host gate param value) pid row = WasThere t pid row
 ComesFrom t (Sync host id) pid row = WasThere t pid row
 
 -- what a parameter of a host reads as behind a command
-abbrev pub told : HciTables → Command → ℕ → ℕ → List ℕ
-told t (Set h gate p value) host param =
+abbrev pub told_value : HciTables → Command → ℕ → ℕ → List ℕ
+told_value t (Set h gate p value) host param =
     if h == host && p == param then value.items else value_at t.values host 0 param
-told t (Clear h) host param =
+told_value t (Clear h) host param =
     if h == host then default_of param else value_at t.values host 0 param
-told t (Sync h id) host param =
+told_value t (Sync h id) host param =
     if h == host && 1 == param && not (is_kept_sync t.syncs h id) then default_of 1 else value_at t.values host 0 param
-told t (Create row) host param = value_at t.values host 0 param
-told t (Delete pid) host param = value_at t.values host 0 param
-told t (SetOpened h pid opened) host param = value_at t.values host 0 param
+told_value t (Create row) host param = value_at t.values host 0 param
+told_value t (Delete pid) host param = value_at t.values host 0 param
+told_value t (SetOpened h pid opened) host param = value_at t.values host 0 param
 
 -- whether a command opens a pipe: a static one of this host, or a dynamic one
 abbrev pub opens : ℕ → ℕ → Command → Bool
@@ -56,7 +56,7 @@ opens host pid (Set h gate param value) = false
 opens host pid (Sync h id) = false
 
 -- whether a pipe is opened: a static one of this host, or a dynamic one
-abbrev pub is_opened : HciTables → ℕ → ℕ → Bool
-is_opened t host pid =
+abbrev pub is_pipe_opened : HciTables → ℕ → ℕ → Bool
+is_pipe_opened t host pid =
     if nat_lt pid 2 then is_some (row_of static_place (static_place (host, pid)) t.statics)
     else option_map_or (λ (row : PipeRow). row.opened) (pipe_at t.rows pid) false

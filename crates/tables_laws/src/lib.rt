@@ -10,18 +10,18 @@ ghost use Rattle.pipe_table.specs.PipeRows.{pipe_at, joins_host};
 ghost use Rattle.hci_tables.specs.declared.command.Command.{Command};
 ghost use Rattle.hci_tables.specs.declared.command.Command.TheVariants.{Clear};
 ghost use Rattle.hci_tables.specs.Commands.{IsCommand};
-ghost use Rattle.hci_tables.specs.Tables.{HciTables, AreTables, no_tables, static_place, apply, after, close};
-ghost use Rattle.tables_laws.specs.Changes.{JoinTwo, ComesFrom, told, opens, is_opened};
+ghost use Rattle.hci_tables.specs.Tables.{HciTables, AreTables, no_tables, static_place, apply, after_commands, close};
+ghost use Rattle.tables_laws.specs.Changes.{JoinTwo, ComesFrom, told_value, opens, is_pipe_opened};
 
 /// Whatever commands come, the pipes are sorted, none stands twice and all are 02 to 6F, and so it is with the other parts.
 pub fn tables_stay_sorted()
-    ensures commands { (commands : List Command) → AllByRecursion IsCommand commands → AreTables (after no_tables commands) }
+    ensures commands { (commands : List Command) → AllByRecursion IsCommand commands → AreTables (after_commands no_tables commands) }
     ensures closed { (t : HciTables) → AreTables t → AreTables (close t) }
 {}
 
 /// Whatever commands come, each pipe joins two different hosts.
 pub fn pipes_join_two_hosts()
-    ensures commands { (commands : List Command) → AllByRecursion IsCommand commands → JoinTwo (after no_tables commands).rows }
+    ensures commands { (commands : List Command) → AllByRecursion IsCommand commands → JoinTwo (after_commands no_tables commands).rows }
     ensures closed { (t : HciTables) → JoinTwo t.rows → JoinTwo (close t).rows }
 {}
 
@@ -55,11 +55,11 @@ pub fn clearing_leaves_the_others()
 /// other identifier of its host: so it is behind each command.
 pub fn values_are_the_last_set()
     ensures { (t : HciTables) (command : Command) (host param : ℕ) → AreTables t → IsCommand command →
-        IsTrue (is_kept host 0 param) → value_at (apply t command).values host 0 param ≡ told t command host param }
+        IsTrue (is_kept host 0 param) → value_at (apply t command).values host 0 param ≡ told_value t command host param }
 {}
 
 /// Behind a closing of all pipes no pipe is opened that no later command opened.
 pub fn closed_pipes_stay_closed()
     ensures { (t : HciTables) (commands : List Command) (host pid : ℕ) → AreTables t → AllByRecursion IsCommand commands →
-        is_opened (after (close t) commands) host pid ≡ true → IsTrue (list_any (opens host pid) commands) }
+        is_pipe_opened (after_commands (close t) commands) host pid ≡ true → IsTrue (list_any (opens host pid) commands) }
 {}

@@ -32,13 +32,13 @@ head_line node t = line (
 abbrev pub end_words : ℕ → ℕ → List ℕ
 end_words host gate = byte_word host ++ (32 ∷ byte_word gate)
 
-abbrev pub state_of : Bool → List ℕ
-state_of true = codes "opened"
-state_of false = codes "closed"
+abbrev pub state_as_word : Bool → List ℕ
+state_as_word true = codes "opened"
+state_as_word false = codes "closed"
 
 abbrev pub pipe_line : PipeRow → List ℕ
 pipe_line row = line (
-    codes "pipe" ∷ byte_word row.pid ∷ end_words row.creator row.creator_gate ∷ end_words row.dest row.dest_gate ∷ state_of row.opened ∷ []
+    codes "pipe" ∷ byte_word row.pid ∷ end_words row.creator row.creator_gate ∷ end_words row.dest row.dest_gate ∷ state_as_word row.opened ∷ []
     )
 
 abbrev pub static_line : ℕ × ℕ → List ℕ
@@ -57,5 +57,5 @@ abbrev pub rows_text : HciTables → List ℕ
 rows_text t = flat_map pipe_line t.rows ++ flat_map static_line t.statics ++ flat_map value_line t.values ++ flat_map sync_line t.syncs
 
 -- the tables of a node, which is told by this word
-abbrev pub text_of : List ℕ → HciTables → List ℕ
-text_of node t = head_line node t ++ rows_text t
+abbrev pub tables_text_of : List ℕ → HciTables → List ℕ
+tables_text_of node t = head_line node t ++ rows_text t

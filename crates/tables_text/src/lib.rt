@@ -7,7 +7,7 @@
 
 ghost use Rattle.std.specs.Prelude.{◌≡◌, ◌++◌, length, IfOk, OnOk, string_bytes};
 ghost use Rattle.std.specs.List.{flat_map};
-ghost use Rattle.tables_text.specs.Tables.{state_of, end_words, head_line, pipe_line, static_line, value_line, sync_line, hex_or_dash, rows_text, text_of};
+ghost use Rattle.tables_text.specs.Tables.{state_as_word, end_words, head_line, pipe_line, static_line, value_line, sync_line, hex_or_dash, rows_text, tables_text_of};
 
 use hci_tables::Tables;
 use pipe_table::PipeRow;
@@ -22,7 +22,7 @@ pub fn write_tables(
     tables: &Tables,
     out: &mut Vec<u8>,
 ) -> Result<(), AllocError>
-    ensures { OnOk result (out.new.items ≡ out.old.items ++ text_of node.now tables.now) }
+    ensures { OnOk result (out.new.items ≡ out.old.items ++ tables_text_of node.now tables.now) }
 {
     push_head(alloc, node, tables, out)?;
     write_rows(alloc, tables, out)
@@ -86,7 +86,7 @@ fn end_text(alloc: Global, host: u8, gate: u8) -> Result<String, AllocError>
 }
 
 fn state_word(opened: bool) -> &'static str
-    ensures { result.now ≡ state_of opened }
+    ensures { result.now ≡ state_as_word opened }
 {
     if opened { "opened" } else { "closed" }
 }

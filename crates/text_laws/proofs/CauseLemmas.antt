@@ -6,7 +6,7 @@ use Rattle.schedule_text.specs.declared.fault.LineFault.{LineFault}
 use Rattle.schedule_text.specs.declared.fault.LineFault.TheVariants as fault
 use Rattle.schedule_text.specs.declared.read.Read.{Read}
 use Rattle.schedule_text.specs.declared.read.Read.TheVariants as read
-use Rattle.schedule_text.specs.Forms.{Row, rows, row_for, header_row, send_row, deliver_row, lose_row, damage_row, tick_row, reset_row, busy_row, ready_row}
+use Rattle.schedule_text.specs.Forms.{FormRow, rows, row_for, header_row, send_row, deliver_row, lose_row, damage_row, tick_row, reset_row, busy_row, ready_row}
 use Rattle.schedule_text.specs.Rules.{words_fault}
 use Rattle.schedule_text.specs.Lines.{read_of, may_stand, has_nodes, hosts_of, unless_fault, by_row, by_words, is_comment, line_of}
 use Rattle.schedule_text.specs.Words.{words}
@@ -21,15 +21,15 @@ unless_iff (Some g) said f h = (λ e. cc, λ e. cc)
 unless_iff None (Some r) f h = (λ e. cc, λ e. cc)
 unless_iff None None f h = (λ e. cc (h refl), λ e. cc)
 
-abbrev HasFault : Option Header → List (List ℕ) → LineFault → Option Row → Type 0
+abbrev HasFault : Option Header → List (List ℕ) → LineFault → Option FormRow → Type 0
 HasFault header ws f None = Unit {0}
 HasFault header ws f (Some row) =
     IsTrue (may_stand row.place header) → (by_row header (Some row) ws ≡ Err f) ↔ (words_fault (has_nodes header) (hosts_of header) row ws ≡ Some f)
 
-speaks : (header : Header) (row : Row) (ws : List (List ℕ)) → Says header row ws → words_fault header.hci header.hosts.items row ws ≡ None → IsSome (read_of row.name ws)
+speaks : (header : Header) (row : FormRow) (ws : List (List ℕ)) → Says header row ws → words_fault header.hci header.hosts.items row ws ≡ None → IsSome (read_of row.name ws)
 speaks header row ws says h = let said = says (no_fault header.hci header.hosts.items row ws h) in subst IsSome (sym said.1) refl
 
-line_iff : (header : Header) (row : Row) (ws : List (List ℕ)) (f : LineFault) → Says header row ws
+line_iff : (header : Header) (row : FormRow) (ws : List (List ℕ)) (f : LineFault) → Says header row ws
     → (unless_fault (words_fault header.hci header.hosts.items row ws) (read_of row.name ws) ≡ Err f) ↔ (words_fault header.hci header.hosts.items row ws ≡ Some f)
 line_iff header row ws f says = unless_iff _ _ f (speaks header row ws says)
 
@@ -37,7 +37,7 @@ header_iff : (ws : List (List ℕ)) (f : LineFault) → HasFault None ws f (Some
 header_iff ws f stands =
     unless_iff _ _ f (λ h. let said = says_header ws (no_fault false [] header_row ws h) in subst IsSome (sym said.1) refl)
 
-bare_iff : (header : Header) (row : Row) (ws : List (List ℕ)) (f : LineFault) (t : Bool) → header.hci ≡ t → (header.hci ≡ false → Says header row ws) → IsTrue (not t)
+bare_iff : (header : Header) (row : FormRow) (ws : List (List ℕ)) (f : LineFault) (t : Bool) → header.hci ≡ t → (header.hci ≡ false → Says header row ws) → IsTrue (not t)
     → (cond (not t) (unless_fault (words_fault header.hci header.hosts.items row ws) (read_of row.name ws)) (Err fault.Order) ≡ Err f)
     ↔ (words_fault header.hci header.hosts.items row ws ≡ Some f)
 bare_iff header row ws f true e says stands = cc
@@ -74,10 +74,10 @@ faults (Some header) first ws f =
       ),
     ) (λ e. tt)
 
-pub fault_iff : (header : Option Header) (first : List ℕ) (row : Row) (ws : List (List ℕ)) (f : LineFault) → row_for first ≡ Some row → IsTrue (may_stand row.place header)
+pub fault_iff : (header : Option Header) (first : List ℕ) (row : FormRow) (ws : List (List ℕ)) (f : LineFault) → row_for first ≡ Some row → IsTrue (may_stand row.place header)
     → (by_row header (row_for first) ws ≡ Err f) ↔ (words_fault (has_nodes header) (hosts_of header) row ws ≡ Some f)
 fault_iff header first row ws f e stands =
-    let P : Option Row → Type 0 = λ o. (by_row header o ws ≡ Err f) ↔ (words_fault (has_nodes header) (hosts_of header) row ws ≡ Some f) in
+    let P : Option FormRow → Type 0 = λ o. (by_row header o ws ≡ Err f) ↔ (words_fault (has_nodes header) (hosts_of header) row ws ≡ Some f) in
     subst P (sym e) (subst (HasFault header ws f) e (faults header first ws f) stands)
 
 -- a host that a line is refused for isn't in the header

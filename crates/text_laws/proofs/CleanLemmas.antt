@@ -21,7 +21,7 @@ use Rattle.registry.specs.declared.value.RegValue.{RegValue}
 use Rattle.hci_tables.specs.Tables.{HciTables}
 use Rattle.hci_tables.specs.declared.command.Command.{Command}
 use Rattle.hci_tables.specs.declared.command.Command.TheVariants as command
-use Rattle.tables_text.specs.Tables.{hex_or_dash, state_of}
+use Rattle.tables_text.specs.Tables.{hex_or_dash, state_as_word}
 use Rattle.trace_model.specs.declared.line.End.{End}
 use Rattle.trace_model.specs.declared.line.Line.{Line}
 use Rattle.trace_model.specs.declared.line.Line.TheVariants as line
@@ -33,7 +33,7 @@ use Rattle.trace_model.specs.declared.entry.Entry.{Entry}
 use Rattle.trace_model.specs.declared.entry.Entry.TheVariants as entry
 use Rattle.schedule_text.specs.Entries.{byte_text, two_bytes_text, end_text, number_words, line_words, down_word, lost_word, cause_words, command_words, entry_words}
 use Rattle.schedule_text.proofs.AgainLemmas.{IsWord, hex_word, end_word, number_word}
-use Rattle.text_laws.specs.Ranges.{AreBytes, IsNumber, IsSaid, IsCause, IsEntry}
+use Rattle.text_laws.specs.Ranges.{AreOctets, IsNumber, IsLineSaid, IsCause, IsEntry}
 use Rattle.text_laws.proofs.RowLemmas.{pipe_words, static_words, value_words, sync_words, rows_words}
 
 -- no LF
@@ -137,7 +137,7 @@ cause_clean cause.Empty h = (((omega arith, refl), refl), tt)
 cause_clean (cause.Full n s) h = (((omega arith, refl), refl), (number_clean n h.0, (number_clean s h.1, tt)))
 cause_clean (cause.Beyond n) h = (((omega arith, refl), refl), (number_clean n h, tt))
 
-each_clean : (xs : List (List ℕ)) → All AreBytes xs → AllByRecursion IsClean (map encode_upper xs)
+each_clean : (xs : List (List ℕ)) → All AreOctets xs → AllByRecursion IsClean (map encode_upper xs)
 each_clean [] h = tt
 each_clean (x ∷ xs) h = (hex_clean x (h 0 x (omega arith)).0, each_clean xs (λ k d within. h (suc k) d (omega arith)))
 
@@ -154,7 +154,7 @@ command_clean (command.SetOpened n p o) = (((omega arith, refl), refl), (byte_cl
 command_clean (command.Set n g p x) = (((omega arith, refl), refl), (byte_clean n, (byte_clean g, (byte_clean p, (value_clean x.items, tt)))))
 command_clean (command.Sync n i) = (((omega arith, refl), refl), (byte_clean n, (two_clean i, tt)))
 
-said_clean : (said : Line) → IsSaid said → AllByRecursion IsClean (line_words said)
+said_clean : (said : Line) → IsLineSaid said → AllByRecursion IsClean (line_words said)
 said_clean (line.Send e p m) h = (((omega arith, refl), refl), (end_clean e, (byte_clean p, (hex_clean m h.2.0, tt))))
 said_clean (line.Deliver e n) h = (((omega arith, refl), refl), (end_clean e, maybe_clean n h.1))
 said_clean (line.Lose e) h = (((omega arith, refl), refl), (end_clean e, tt))
@@ -208,7 +208,7 @@ entry_clean (entry.Tables n t) h = (
 entry_clean (entry.No why) h = (((omega arith, refl), refl), cause_clean why h)
 
 -- so do those of the lines of tables
-state_clean : (opened : Bool) → IsClean (state_of opened)
+state_clean : (opened : Bool) → IsClean (state_as_word opened)
 state_clean true = ((omega arith, refl), refl)
 state_clean false = ((omega arith, refl), refl)
 

@@ -8,7 +8,7 @@ use Rattle.trace_model.specs.Lines.{IsHost, IsHeader, IsEndOf, IsLineOf}
 use Rattle.schedule_text.specs.declared.read.Read.TheVariants as read
 use Rattle.schedule_text.specs.Lines.{line_of}
 use Rattle.schedule_text.proofs.LinesLemmas.{IsLineOf-line_of}
-use Rattle.text_laws.specs.Ranges.{IsEnd, IsNumber, IsSaid}
+use Rattle.text_laws.specs.Ranges.{IsEnd, IsNumber, IsLineSaid}
 
 end_in : (header : Header) → IsHeader header → (e : End) → IsEndOf header e → IsEnd e
 end_in header is e known =
@@ -20,7 +20,7 @@ number_in high None small h = tt
 number_in high (Some n) small h = let most = h.1 in omega (arith, most, small)
 
 -- a line that may stand below a header
-pub said_in : (header : Header) → IsHeader header → (said : Line) → IsLineOf header said → IsSaid said
+pub said_in : (header : Header) → IsHeader header → (said : Line) → IsLineOf header said → IsLineSaid said
 said_in header is (line.Send e pid message) h = (end_in header is e h.known, let low = h.pipe in omega (arith, low), (h.some, h.bytes))
 said_in header is (line.Deliver e count) h = (end_in header is e h.0, number_in 64 count (omega arith) h.1)
 said_in header is (line.Lose e) h = end_in header is e h
@@ -37,5 +37,5 @@ said_in header is (line.Arm node nth fill) h = absurd h
 said_in header is (line.Init e identity pipes) h = absurd h
 said_in header is (line.Tables node) h = absurd h
 
-pub read_in : (header : Header) (bytes : List ℕ) (said : Line) → IsHeader header → line_of (Some header) bytes ≡ Ok (read.Line said) → IsSaid said
+pub read_in : (header : Header) (bytes : List ℕ) (said : Line) → IsHeader header → line_of (Some header) bytes ≡ Ok (read.Line said) → IsLineSaid said
 read_in header bytes said is h = said_in header is said (IsLineOf-line_of header bytes said h)

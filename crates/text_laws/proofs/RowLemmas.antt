@@ -6,7 +6,7 @@ use Rattle.std.proofs.lemmas.List.{length-map}
 use Rattle.pipe_table.specs.declared.row.PipeRow.{PipeRow}
 use Rattle.registry.specs.declared.value.RegValue.{RegValue}
 use Rattle.hci_tables.specs.Tables.{HciTables}
-use Rattle.tables_text.specs.Tables.{hex_or_dash, end_words, state_of, pipe_line, static_line, value_line, sync_line, rows_text}
+use Rattle.tables_text.specs.Tables.{hex_or_dash, end_words, state_as_word, pipe_line, static_line, value_line, sync_line, rows_text}
 use Rattle.tables_text.specs.Tables as told
 use Rattle.schedule_text.specs.Words.{spaced}
 use Rattle.schedule_text.specs.Entries.{byte_text, two_bytes_text, count_words}
@@ -18,7 +18,7 @@ use Rattle.text_laws.proofs.SameLemmas.{other_word, same_map, same_byte, same_nu
 abbrev pub pipe_words : PipeRow → List (List ℕ)
 pipe_words row =
     codes "pipe" ∷ byte_text row.pid ∷ byte_text row.creator ∷ byte_text row.creator_gate ∷ byte_text row.dest ∷ byte_text row.dest_gate
-    ∷ state_of row.opened ∷ []
+    ∷ state_as_word row.opened ∷ []
 
 abbrev pub static_words : ℕ × ℕ → List (List ℕ)
 static_words static = codes "static" ∷ byte_text static.0 ∷ byte_text static.1 ∷ []
@@ -50,9 +50,9 @@ two_words a b rest = append_assoc a (32 ∷ b) rest
 pipe_told : (row : PipeRow) → pipe_line row ≡ told_line (pipe_words row)
 pipe_told row =
     ap (λ behind. codes "pipe" ++ (32 ∷ (byte_text row.pid ++ (32 ∷ behind))))
-    (two_words (byte_text row.creator) (byte_text row.creator_gate) (32 ∷ told.line (end_words row.dest row.dest_gate ∷ state_of row.opened ∷ []))
+    (two_words (byte_text row.creator) (byte_text row.creator_gate) (32 ∷ told.line (end_words row.dest row.dest_gate ∷ state_as_word row.opened ∷ []))
     ∙ ap (λ behind. byte_text row.creator ++ (32 ∷ (byte_text row.creator_gate ++ (32 ∷ behind))))
-    (two_words (byte_text row.dest) (byte_text row.dest_gate) (32 ∷ told.line (state_of row.opened ∷ []))))
+    (two_words (byte_text row.dest) (byte_text row.dest_gate) (32 ∷ told.line (state_as_word row.opened ∷ []))))
     ∙ line_told (pipe_words row)
 
 lines_told : {X : Type 0} (line : X → List ℕ) (ws : X → List (List ℕ)) → ((x : X) → line x ≡ told_line (ws x)) → (xs : List X)
@@ -79,7 +79,7 @@ rows_told t =
 
 -- ## The same words
 
-same_state : (a b : Bool) → state_of a ≡ state_of b → a ≡ b
+same_state : (a b : Bool) → state_as_word a ≡ state_as_word b → a ≡ b
 same_state true true h = refl
 same_state true false h = absurd (other_word (codes "opened") (codes "closed") refl h)
 same_state false true h = absurd (other_word (codes "closed") (codes "opened") refl h)

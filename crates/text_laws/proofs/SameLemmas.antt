@@ -21,7 +21,7 @@ use Rattle.trace_model.specs.declared.entry.NoCause.TheVariants as cause
 use Rattle.schedule_text.specs.Values.{byte_value, bytes_value, end_value}
 use Rattle.schedule_text.specs.Entries.{byte_text, two_bytes_text, end_text, number_words, line_words, down_word, lost_word, cause_words, command_words}
 use Rattle.schedule_text.proofs.AgainLemmas.{byte_again, bytes_again, end_again, length-hex}
-use Rattle.text_laws.specs.Ranges.{IsByte, IsEnd, AreBytes, IsNumber, IsTwoBytes, IsSaid, IsCause, IsSaidCommand}
+use Rattle.text_laws.specs.Ranges.{IsByte, IsEnd, AreOctets, IsNumber, IsTwoBytes, IsLineSaid, IsCause, IsSaidCommand}
 
 -- other words
 abbrev pub head : List (List ℕ) → List ℕ
@@ -47,7 +47,7 @@ same_end a b ra rb h = unwrapped a b (sym (end_again a ra) ∙ ap end_value h �
 pub same_byte : (a b : ℕ) → a < 256 → b < 256 → byte_text a ≡ byte_text b → a ≡ b
 same_byte a b ra rb h = unwrapped a b (sym (byte_again a ra) ∙ ap byte_value h ∙ byte_again b rb)
 
-pub same_bytes : (a b : List ℕ) → AreBytes a → AreBytes b → encode_upper a ≡ encode_upper b → a ≡ b
+pub same_bytes : (a b : List ℕ) → AreOctets a → AreOctets b → encode_upper a ≡ encode_upper b → a ≡ b
 same_bytes a b ra rb h = unwrapped a b (sym (bytes_again a ra.1) ∙ ap bytes_value h ∙ bytes_again b rb.1)
 
 pub same_number : (a b : ℕ) → IsNumber a → IsNumber b → decimal a ≡ decimal b → a ≡ b
@@ -81,7 +81,7 @@ same_maybe None (Some n) ra rb h = cc
 same_maybe (Some n) None ra rb h = cc
 same_maybe (Some n) (Some m) ra rb h = ap Some (same_number n m ra rb cc)
 
-two : (high low : ℕ) → high < 256 → low < 256 → AreBytes (high ∷ low ∷ [])
+two : (high low : ℕ) → high < 256 → low < 256 → AreOctets (high ∷ low ∷ [])
 two high low a b = (omega arith, go)
   where
     go : All IsByte (high ∷ low ∷ [])
@@ -173,7 +173,7 @@ same_command (command.Sync n i) (command.Sync m j) ra rb h =
     let id : i ≡ j = same_two i j ra.1 rb.1 cc in cc
 same_command a b ra rb h = absurd (other_words (command_words a) (command_words b) refl h)
 
-pub same_said : (a b : Line) → IsSaid a → IsSaid b → line_words a ≡ line_words b → a ≡ b
+pub same_said : (a b : Line) → IsLineSaid a → IsLineSaid b → line_words a ≡ line_words b → a ≡ b
 same_said (line.Send e p m) (line.Send f q n) ra rb h =
     let end : e ≡ f = same_end e f ra.0 rb.0 cc in
     let pid : p ≡ q = same_byte p q ra.1 rb.1 cc in
@@ -206,7 +206,7 @@ same_said (line.Arm n k x) (line.Arm m l y) ra rb h =
 same_said (line.Init e i p) (line.Init f j q) ra rb h =
     let end : e ≡ f = same_end e f ra.0 rb.0 cc in
     let identity : i ≡ j = same_bytes i j ra.1 rb.1 cc in
-    let pipes : p.items ≡ q.items = same_map encode_upper AreBytes same_bytes p.items q.items ra.2 rb.2 (behind _ _ _ _ (behind_two _ _ _ _ _ _ h)) in
+    let pipes : p.items ≡ q.items = same_map encode_upper AreOctets same_bytes p.items q.items ra.2 rb.2 (behind _ _ _ _ (behind_two _ _ _ _ _ _ h)) in
     ap (λ at. line.Init at i p) end ∙ ap (λ bytes. line.Init f bytes p) identity ∙ ap (λ ps. line.Init f j (record { items = ps })) pipes
 same_said (line.Tables n) (line.Tables m) ra rb h = ap line.Tables (same_byte n m ra rb cc)
 same_said a b ra rb h = absurd (other_words (line_words a) (line_words b) refl h)

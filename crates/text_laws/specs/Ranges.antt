@@ -21,8 +21,8 @@ IsByte n = n < 256
 abbrev pub IsEnd : End → Type 0
 IsEnd e = IsByte e.link
 
-abbrev pub AreBytes : List ℕ → Type 0
-AreBytes bytes = (0 < length bytes) × All IsByte bytes
+abbrev pub AreOctets : List ℕ → Type 0
+AreOctets bytes = (0 < length bytes) × All IsByte bytes
 
 abbrev pub IsNumber : ℕ → Type 0
 IsNumber n = n < 2 ^ 32
@@ -31,21 +31,21 @@ abbrev pub IsTwoBytes : ℕ → Type 0
 IsTwoBytes n = n < 2 ^ 16
 
 -- a line
-abbrev pub IsSaid : Line → Type 0
-IsSaid (line.Send at pid message) = IsEnd at × IsByte pid × AreBytes message
-IsSaid (line.Deliver at count) = IsEnd at × IfSome count IsNumber
-IsSaid (line.Lose at) = IsEnd at
-IsSaid (line.Damage at places) = IsEnd at × All IsNumber places.items
-IsSaid (line.Tick times) = IfSome times IsNumber
-IsSaid (line.Reset at window) = IsEnd at × IfSome window IsNumber
-IsSaid (line.Busy at) = IsEnd at
-IsSaid (line.Ready at) = IsEnd at
-IsSaid (line.Boot node) = IsByte node
-IsSaid (line.Cut node) = IsByte node
-IsSaid (line.Activate host sync power) = IsByte host × IsTwoBytes sync × IsByte power
-IsSaid (line.Arm node nth fill) = IsByte node × IsNumber nth × AreBytes fill.items
-IsSaid (line.Init at identity pipes) = IsEnd at × AreBytes identity × All AreBytes pipes.items
-IsSaid (line.Tables node) = IsByte node
+abbrev pub IsLineSaid : Line → Type 0
+IsLineSaid (line.Send at pid message) = IsEnd at × IsByte pid × AreOctets message
+IsLineSaid (line.Deliver at count) = IsEnd at × IfSome count IsNumber
+IsLineSaid (line.Lose at) = IsEnd at
+IsLineSaid (line.Damage at places) = IsEnd at × All IsNumber places.items
+IsLineSaid (line.Tick times) = IfSome times IsNumber
+IsLineSaid (line.Reset at window) = IsEnd at × IfSome window IsNumber
+IsLineSaid (line.Busy at) = IsEnd at
+IsLineSaid (line.Ready at) = IsEnd at
+IsLineSaid (line.Boot node) = IsByte node
+IsLineSaid (line.Cut node) = IsByte node
+IsLineSaid (line.Activate host sync power) = IsByte host × IsTwoBytes sync × IsByte power
+IsLineSaid (line.Arm node nth fill) = IsByte node × IsNumber nth × AreOctets fill.items
+IsLineSaid (line.Init at identity pipes) = IsEnd at × AreOctets identity × All AreOctets pipes.items
+IsLineSaid (line.Tables node) = IsByte node
 
 abbrev pub IsCause : NoCause → Type 0
 IsCause (cause.Full need spare) = IsNumber need × IsNumber spare
@@ -98,20 +98,20 @@ pub record AreSaidTables (t : HciTables) : Type 0 where
 -- an entry
 abbrev pub IsEntry : Entry → Type 0
 IsEntry (entry.Head header) = IsHeader header
-IsEntry (entry.Echo said) = IsSaid said
+IsEntry (entry.Echo said) = IsLineSaid said
 IsEntry (entry.Up at session) = IsEnd at × IsNumber session
 IsEntry (entry.Down at cause) = IsEnd at
 IsEntry (entry.Active at) = IsEnd at
 IsEntry (entry.GaveUp at tries) = IsEnd at × IsNumber tries
-IsEntry (entry.Sent at session pid message) = IsEnd at × IsNumber session × IsByte pid × AreBytes message
-IsEntry (entry.Got at session pid message) = IsEnd at × IsNumber session × IsByte pid × AreBytes message
+IsEntry (entry.Sent at session pid message) = IsEnd at × IsNumber session × IsByte pid × AreOctets message
+IsEntry (entry.Got at session pid message) = IsEnd at × IsNumber session × IsByte pid × AreOctets message
 IsEntry (entry.Acked at session count) = IsEnd at × IsNumber session × IsNumber count
-IsEntry (entry.Emit at lpdu) = IsEnd at × AreBytes lpdu
-IsEntry (entry.Took at lpdu) = IsEnd at × AreBytes lpdu
-IsEntry (entry.Lost at lpdu cause) = IsEnd at × AreBytes lpdu
-IsEntry (entry.Turn at pid message) = IsEnd at × IsByte pid × AreBytes message
+IsEntry (entry.Emit at lpdu) = IsEnd at × AreOctets lpdu
+IsEntry (entry.Took at lpdu) = IsEnd at × AreOctets lpdu
+IsEntry (entry.Lost at lpdu cause) = IsEnd at × AreOctets lpdu
+IsEntry (entry.Turn at pid message) = IsEnd at × IsByte pid × AreOctets message
 IsEntry (entry.Held at need spare) = IsEnd at × IsNumber need × IsNumber spare
-IsEntry (entry.Ask host message) = IsByte host × AreBytes message
+IsEntry (entry.Ask host message) = IsByte host × AreOctets message
 IsEntry (entry.Dropped at pid) = IsEnd at × IsByte pid
 IsEntry (entry.Command node command) = IsByte node × IsSaidCommand command
 IsEntry (entry.AnyOk node count) = IsByte node × IsNumber count

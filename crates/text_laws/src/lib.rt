@@ -9,12 +9,12 @@ ghost use Rattle.trace_model.specs.declared.line.Line.{Line};
 ghost use Rattle.trace_model.specs.Lines.{IsHeader};
 ghost use Rattle.schedule_text.specs.declared.fault.LineFault.{LineFault};
 ghost use Rattle.schedule_text.specs.Entries.{entry_line};
-ghost use Rattle.schedule_text.specs.Forms.{Row, row_for};
+ghost use Rattle.schedule_text.specs.Forms.{FormRow, row_for};
 ghost use Rattle.schedule_text.specs.Rules.{words_fault};
 ghost use Rattle.schedule_text.specs.Lines.{may_stand, has_nodes, hosts_of, by_row, line_of};
 ghost use Rattle.schedule_text.specs.declared.fault.LineFault.TheVariants as fault;
 ghost use Rattle.schedule_text.specs.declared.read.Read.TheVariants as read;
-ghost use Rattle.text_laws.specs.Ranges.{IsSaid, IsEntry};
+ghost use Rattle.text_laws.specs.Ranges.{IsLineSaid, IsEntry};
 
 /// A text is the transcript of one list of entries alone: transcripts that differ in an entry differ in their text.
 pub fn a_text_has_one_transcript()
@@ -25,7 +25,7 @@ pub fn a_text_has_one_transcript()
 /// Where the form of a line may stand, the line has a fault exactly where its words have it: their number and shapes, then
 /// their digits and ranges, then their hosts. So nothing is refused that has a meaning.
 pub fn a_line_has_the_fault_of_its_words()
-    ensures { (header : Option Header) (first : List ℕ) (row : Row) (ws : List (List ℕ)) (f : LineFault) → row_for first ≡ Some row
+    ensures { (header : Option Header) (first : List ℕ) (row : FormRow) (ws : List (List ℕ)) (f : LineFault) → row_for first ≡ Some row
         → IsTrue (may_stand row.place header)
         → (by_row header (row_for first) ws ≡ Err f) ↔ (words_fault (has_nodes header) (hosts_of header) row ws ≡ Some f) }
 {}
@@ -37,5 +37,5 @@ pub fn a_refused_host_is_unknown()
 
 /// What is read of a line below a header is in its range.
 pub fn a_read_line_is_in_its_range()
-    ensures { (header : Header) (bytes : List ℕ) (said : Line) → IsHeader header → line_of (Some header) bytes ≡ Ok (read.Line said) → IsSaid said }
+    ensures { (header : Header) (bytes : List ℕ) (said : Line) → IsHeader header → line_of (Some header) bytes ≡ Ok (read.Line said) → IsLineSaid said }
 {}

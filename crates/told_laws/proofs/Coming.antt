@@ -16,15 +16,15 @@ use Rattle.link_machine.specs.Machine.{Message}
 use Rattle.link_entries.proofs.Lasting.{same_number}
 use Rattle.history.specs.Histories.{Event, Outcome, Step, History, noted, events_of, entries_of, all_events, all_entries}
 use Rattle.history.specs.Histories.Outcome.{Refused, Caused}
-use Rattle.history.specs.Filters.{Saying, same_end, said, at_end, said_of, sent_by, sent_in, got_by, got_in}
+use Rattle.history.specs.Filters.{Saying, same_end, said, at_end, said_of, sent_by, sent_in, got_in_session, got_in}
 use Rattle.history.specs.Filters.Saying.{Sends}
 use Rattle.history.specs.Steps.{bare_link}
 use Rattle.history.specs.Follows.{Follows, host_of}
 use Rattle.history.specs.Legal.{IsInOrder}
 use Rattle.history_laws.proofs.Ordered.{in_order}
 use Rattle.history_laws.proofs.Runs.{events_in}
-use Rattle.text_laws.specs.Ranges.{IsByte, AreBytes, IsEntry}
-use Rattle.told_laws.specs.Told.{step_told, told_of}
+use Rattle.text_laws.specs.Ranges.{IsByte, AreOctets, IsEntry}
+use Rattle.told_laws.specs.Told.{step_told, entries_told}
 use Rattle.told_laws.proofs.Ends.{each-append}
 use Rattle.told_laws.proofs.Links.{bare_is}
 use Rattle.told_laws.proofs.Lines.{IsApart, AreApart, each_all, host_low, steps_told}
@@ -42,7 +42,7 @@ back_each P (x ∷ xs) ys h = back_each P xs ys h.1
 -- ## Messages
 
 abbrev IsMessageIn : Message → Type 0
-IsMessageIn m = IsByte m.0 × AreBytes m.1
+IsMessageIn m = IsByte m.0 × AreOctets m.1
 
 abbrev AreMessagesIn : List Message → Type 0
 AreMessagesIn ms = AllByRecursion IsMessageIn ms
@@ -134,7 +134,7 @@ itself e = go e.at_host
     go true = let z = same_number e.link in rw z refl
     go false = let z = same_number e.link in rw z refl
 
-got_one : (x : Entry) (t : List Entry) → ((e : End) (n : ℕ) → AreMessagesIn (cons_option (got_by n (said_of e x)) (got_in t e n))) → IsGotIn x
+got_one : (x : Entry) (t : List Entry) → ((e : End) (n : ℕ) → AreMessagesIn (cons_option (got_in_session n (said_of e x)) (got_in t e n))) → IsGotIn x
 got_one (entry.Got e n pid message) t h =
     let a = itself e in
     let b = same_number n in
@@ -144,7 +144,7 @@ got_one x t h = tt
 
 got_each : (t : List Entry) → ((e : End) (n : ℕ) → AreMessagesIn (got_in t e n)) → AllByRecursion IsGotIn t
 got_each [] h = tt
-got_each (x ∷ t) h = (got_one x t h, got_each t (λ e n. uncons_in (got_by n (said_of e x)) (got_in t e n) (h e n)))
+got_each (x ∷ t) h = (got_one x t h, got_each t (λ e n. uncons_in (got_in_session n (said_of e x)) (got_in t e n) (h e n)))
 
 -- ## All that is told
 
@@ -188,8 +188,8 @@ append_nil [] = refl
 append_nil (x ∷ t) = ap (λ u. x ∷ u) (append_nil t)
 
 pub told_in : (header : Header) (lines : List Line) (t : History) → AllByRecursion (IsLineOf header) lines → IsHeader header → Follows header lines t
-    → length lines ≤ 20000 → All IsEntry (told_of t)
-told_in header lines t valid is follows few = each_all IsEntry (told_of t) entries
+    → length lines ≤ 20000 → All IsEntry (entries_told t)
+told_in header lines t valid is follows few = each_all IsEntry (entries_told t) entries
   where
     low : host_of header < 256
     low = host_low header is
@@ -200,7 +200,7 @@ told_in header lines t valid is follows few = each_all IsEntry (told_of t) entri
     steps : AreApart (flat_map step_told t.steps)
     steps = steps_told header 0 bare_link lines t.steps is valid follows.steps_follow bare_is (omega (arith, few))
 
-    apart : AreApart (told_of t)
+    apart : AreApart (entries_told t)
     apart = (subst IsHeader (sym follows.header_is) is, each-append IsApart t.opening (flat_map step_told t.steps) opening steps)
 
     sent : AllByRecursion IsSentIn (all_entries t)
@@ -213,12 +213,12 @@ told_in header lines t valid is follows few = each_all IsEntry (told_of t) entri
         got_each (all_entries t)
         (got_all (all_entries t) (in_order header lines t valid is follows (all_entries t) [] (append_nil (all_entries t))) sent)
 
-    got_told : AllByRecursion IsGotIn (told_of t)
+    got_told : AllByRecursion IsGotIn (entries_told t)
     got_told = (
       tt,
       each-append IsGotIn t.opening (flat_map step_told t.steps) (front_each IsGotIn t.opening (entries_of (all_events t)) got)
           (spread t.steps (back_each IsGotIn t.opening (entries_of (all_events t)) got)),
     )
 
-    entries : AllByRecursion IsEntry (told_of t)
-    entries = all_mapped Entry (λ x. IsApart x × IsGotIn x) IsEntry (told_of t) whole (all_joined Entry IsApart IsGotIn (told_of t) apart got_told)
+    entries : AllByRecursion IsEntry (entries_told t)
+    entries = all_mapped Entry (λ x. IsApart x × IsGotIn x) IsEntry (entries_told t) whole (all_joined Entry IsApart IsGotIn (entries_told t) apart got_told)

@@ -11,7 +11,7 @@ use Rattle.swp_base.specs.Bits.{bits_of}
 use Rattle.swp_base.proofs.BitLemmas.{length-bits_of}
 use Rattle.swp_crc.specs.Crc.{crc_of}
 use Rattle.swp_frame.specs.Stuffing.{stuffed_after, stuffed, start_of_frame, end_of_frame, with_crc, frame_of}
-use Rattle.swp_lpdu.specs.Controls.{bytes_of as lpdu_of}
+use Rattle.swp_lpdu.specs.Controls.{lpdu_of}
 use Rattle.shdlc_core.specs.declared.answers.LinkState.{LinkState}
 use Rattle.shdlc_core.specs.declared.answers.LinkState.TheVariants.{Down, Waiting, Up}
 use Rattle.shdlc_core.specs.Machine.{is_waiting}
@@ -38,7 +38,7 @@ use Rattle.history.specs.Damage.{Verdict}
 use Rattle.history.specs.Damage.Verdict.{Same, LostFor, Undetected}
 use Rattle.history.specs.Steps.{end_of, entry_of, entries_for, event_of, events_at, link_after, link_after_all}
 use Rattle.history.specs.Follows.{refusal, as_noted, if_empty, if_beyond, if_out_of_reach, machine_of, frames_to, taken_of, first_verdict, damage_causes, causes_in, outcome_of, host_of, link_after_line, StepsFollow}
-use Rattle.text_laws.specs.Ranges.{IsByte, IsEnd, AreBytes, IsNumber, IsCause, IsEntry}
+use Rattle.text_laws.specs.Ranges.{IsByte, IsEnd, AreOctets, IsNumber, IsCause, IsEntry}
 use Rattle.text_laws.proofs.ReadLemmas.{said_in}
 use Rattle.told_laws.specs.Told.{step_told}
 use Rattle.told_laws.proofs.Ends.{IsFrame, each-append}
@@ -61,7 +61,7 @@ all_each P (x ∷ xs) h = (h 0 x (omega arith), all_each P xs (λ k d within. h 
 
 -- an LPDU of a bare link
 pub record IsLpdu (bytes : List ℕ) : Type 0 where
-  pub bytes_are : AreBytes bytes
+  pub bytes_are : AreOctets bytes
   pub few : length bytes ≤ 30
 
 lpdu_by : (first : ℕ) (rest : List ℕ) → first < 256 → AllByRecursion IsByte rest → length rest ≤ 29 → IsLpdu (first ∷ rest)

@@ -9,7 +9,7 @@ use Rattle.swp_base.specs.declared.control_frames.Control.TheVariants.{I, S, Rse
 use Rattle.shdlc_core.specs.declared.answers.LinkState.{LinkState}
 use Rattle.shdlc_core.specs.declared.answers.LinkState.TheVariants.{Down, Waiting, Up}
 use Rattle.shdlc_core.specs.Machine.{EndState, taken, take_answer, ticked, tick_answer, reset_with, stopped, all_frames}
-use Rattle.hcp_packet.specs.Packets.{packets_of, parts_of, packet_count, bytes_of}
+use Rattle.hcp_packet.specs.Packets.{packets_of, parts_of, packet_count, packet_bytes}
 use Rattle.trace_model.specs.declared.line.End.{End}
 use Rattle.session_laws.specs.Sessions.{OnWire, is_rset, fits, aged_wire, took_with}
 use Rattle.link_machine.specs.Machine.{LinkEnd, LinkInput, Refused, Message, after_input, turn, moved, put_down, activated, heard, took, is_open, is_faulty, news, if_up, reset_by, reset_refusal, ended_by, window_of, give_refusal, given, unless, among, frames_out, sent_all, had_tick, in_front}
@@ -18,7 +18,7 @@ use Rattle.link_machine.specs.Machine.LinkInput.{Take, Tick, Reset}
 use Rattle.link_machine.specs.Machine.Turn.{Give, Hold, FetchMessage}
 use Rattle.swp_base.specs.declared.link_terms.Cause.TheVariants.{Asked}
 use Rattle.swp_act.specs.declared.ActEvent.TheVariants.{Tick as ActTick}
-use Rattle.message_link.specs.Links.{Half, Link, EndEvent, Loss, put, put_all, becomes, with_ended, has_input, happens_here, ticks_here, aged, exchanged, happens}
+use Rattle.message_link.specs.Links.{NumberedEnd, Link, EndEvent, Loss, put, put_all, becomes, with_ended, has_input, happens_at_controller, ticks_at_controller, aged, exchanged, happens}
 use Rattle.message_link.specs.Links.Ending.{GoesOut}
 use Rattle.message_link.specs.Links.Comes.{NextFrame, AsksReset, NoInput}
 use Rattle.message_link.specs.Links.EndEvent.{Step, Lose}
@@ -55,14 +55,14 @@ first_low : (last : Bool) (pipe : ℕ) → pipe < 112 → cond last 128 0 + pipe
 first_low true pipe low = omega (arith, low)
 first_low false pipe low = omega (arith, low)
 
-parts_in : (pipe n : ℕ) (left : List ℕ) → pipe < 112 → AllByRecursion IsByte left → AllByRecursion IsFragment (map bytes_of (parts_of pipe n left))
+parts_in : (pipe n : ℕ) (left : List ℕ) → pipe < 112 → AllByRecursion IsByte left → AllByRecursion IsFragment (map packet_bytes (parts_of pipe n left))
 parts_in pipe zero left low h = tt
 parts_in pipe (suc n) left low h = (
   ((first_low (n == 0) pipe low, take_each IsByte 28 left h), let few = take_few 28 left in omega (arith, few)),
   parts_in pipe n (drop 28 left) low (drop_each IsByte 28 left h),
 )
 
-fragments_in : (m : Message) → IsTellable m → AllByRecursion IsFragment (map bytes_of (packets_of m.0 m.1))
+fragments_in : (m : Message) → IsTellable m → AllByRecursion IsFragment (map packet_bytes (packets_of m.0 m.1))
 fragments_in m h = parts_in m.0 (packet_count (length m.1)) m.1 h.pipe h.bytes
 
 -- ## An end
@@ -145,7 +145,7 @@ end_given n e m is h =
       bare = h.bare;
       acts = h.acts;
       few = let l = length-append e.sent (m ∷ []) in let f = h.few in omega (arith, l, f);
-      ranged = ranged_out e.shdlc (map bytes_of (packets_of m.0 m.1)) (fragments_in m is) h.ranged;
+      ranged = ranged_out e.shdlc (map packet_bytes (packets_of m.0 m.1)) (fragments_in m is) h.ranged;
     })
 
 pub end_held : (n : ℕ) (e : LinkEnd) (held : Bool) → EndIs n e → EndIs n (turn e (Hold held))
@@ -227,7 +227,7 @@ wire_aged n w h = record { frames = each_aged n w h.frames; few = let l = aged_f
 
 -- ## The link
 
-pub record HalfIs (n : ℕ) (h : Half) : Type 0 where
+pub record HalfIs (n : ℕ) (h : NumberedEnd) : Type 0 where
   pub side : EndIs n h.side
   pub emitted : h.emitted ≤ n
   pub took : h.took ≤ n
@@ -240,7 +240,7 @@ pub record LinkIs (n : ℕ) (l : Link) : Type 0 where
   pub to_far : WireIs n l.to_host
   pub resets : l.resets ≤ n
 
-half_more : (n k : ℕ) (h : Half) → n ≤ k → HalfIs n h → HalfIs k h
+half_more : (n k : ℕ) (h : NumberedEnd) → n ≤ k → HalfIs n h → HalfIs k h
 half_more n k h more is =
     let a = is.emitted in
     let b = is.took in
@@ -380,10 +380,10 @@ link_left n l x xs q h =
 
 -- ## What happens at one end
 
-link_taken : (n : ℕ) (l : Link) → LinkIs n l → LinkIs (n + 12) (happens_here l (Step NextFrame (FetchMessage ∷ []) GoesOut))
+link_taken : (n : ℕ) (l : Link) → LinkIs n l → LinkIs (n + 12) (happens_at_controller l (Step NextFrame (FetchMessage ∷ []) GoesOut))
 link_taken n l h = by l.to_controller refl
   where
-    by : (w : List OnWire) → l.to_controller ≡ w → LinkIs (n + 12) (happens_here l (Step NextFrame (FetchMessage ∷ []) GoesOut))
+    by : (w : List OnWire) → l.to_controller ≡ w → LinkIs (n + 12) (happens_at_controller l (Step NextFrame (FetchMessage ∷ []) GoesOut))
     by [] q =
         rw q
         (link_more n (n + 12) (record l { to_controller = [] }) (omega arith)
@@ -394,30 +394,30 @@ link_taken n l h = by l.to_controller refl
         rw q (link_becomes n (left_with l x xs) (turn e FetchMessage)
         (end_fetched n e (end_took n l.controller.side x.frame wire.frames.0.frame h.near.side)) (link_left n l x xs q h))
 
-pub link_ticked : (n : ℕ) (l : Link) → LinkIs n l → LinkIs (n + 12) (ticks_here l [] GoesOut)
+pub link_ticked : (n : ℕ) (l : Link) → LinkIs n l → LinkIs (n + 12) (ticks_at_controller l [] GoesOut)
 link_ticked n l h = link_input n l Tick (end_ticked n l.controller.side h.near.side) h
 
-link_reset : (n : ℕ) (window : Option ℕ) (l : Link) → IsLowWindow window → LinkIs n l → LinkIs (n + 12) (happens_here l (Step (AsksReset window) [] GoesOut))
+link_reset : (n : ℕ) (window : Option ℕ) (l : Link) → IsLowWindow window → LinkIs n l → LinkIs (n + 12) (happens_at_controller l (Step (AsksReset window) [] GoesOut))
 link_reset n window l low h = link_input n l (Reset window) (end_reset n l.controller.side window low h.near.side) h
 
-link_held : (n : ℕ) (held : Bool) (l : Link) → LinkIs n l → LinkIs (n + 12) (happens_here l (Step NoInput (Hold held ∷ []) GoesOut))
+link_held : (n : ℕ) (held : Bool) (l : Link) → LinkIs n l → LinkIs (n + 12) (happens_at_controller l (Step NoInput (Hold held ∷ []) GoesOut))
 link_held n held l h = link_becomes n l (turn l.controller.side (Hold held)) (end_held n l.controller.side held h.near.side) h
 
-link_given : (n : ℕ) (m : Message) (l : Link) → IsTellable m → LinkIs n l → LinkIs (n + 13) (happens_here l (Step NoInput (Give m ∷ []) GoesOut))
+link_given : (n : ℕ) (m : Message) (l : Link) → IsTellable m → LinkIs n l → LinkIs (n + 13) (happens_at_controller l (Step NoInput (Give m ∷ []) GoesOut))
 link_given n m l is h =
     link_more ((n + 1) + 12) (n + 13) _ (omega arith)
     (link_becomes (n + 1) l (turn l.controller.side (Give m)) (end_given n l.controller.side m is h.near.side) (link_more n (n + 1) l (omega arith) h))
 
-link_lost : (n : ℕ) (l : Link) (why : Loss) → LinkIs n l → LinkIs n (happens_here l (Lose why))
+link_lost : (n : ℕ) (l : Link) (why : Loss) → LinkIs n l → LinkIs n (happens_at_controller l (Lose why))
 link_lost n l why h = record { near = h.near; far = h.far; to_near = wire_dropped n l.to_controller h.to_near; to_far = h.to_far; resets = h.resets }
 
 -- it happens at either end
-link_either : (n k : ℕ) (l : Link) (e : End) (x : EndEvent) → ((m : Link) → LinkIs n m → LinkIs k (happens_here m x)) → LinkIs n l
+link_either : (n k : ℕ) (l : Link) (e : End) (x : EndEvent) → ((m : Link) → LinkIs n m → LinkIs k (happens_at_controller m x)) → LinkIs n l
     → LinkIs k (happens l (at e x))
 link_either n k l e x here h = go e.at_host
   where
     go : (b : Bool) → LinkIs k (happens l (at (record { link = e.link; at_host = b }) x))
-    go true = link_swapped k (happens_here (exchanged l) x) (here (exchanged l) (link_swapped n l h))
+    go true = link_swapped k (happens_at_controller (exchanged l) x) (here (exchanged l) (link_swapped n l h))
     go false = here l h
 
 -- ## Causes
@@ -446,9 +446,9 @@ link_caused n l (Readied e ready) can h =
     link_more (n + 12) (n + 24) _ (omega arith)
     (link_either n (n + 12) l e (Step NoInput (Hold (not ready) ∷ []) GoesOut) (link_held n (not ready)) h)
 link_caused n l Ticked can h =
-    let near : Link = ticks_here (aged l) [] GoesOut in
+    let near : Link = ticks_at_controller (aged l) [] GoesOut in
     link_more ((n + 12) + 12) (n + 24) _ (omega arith)
-    (link_swapped ((n + 12) + 12) (ticks_here (exchanged near) [] GoesOut)
+    (link_swapped ((n + 12) + 12) (ticks_at_controller (exchanged near) [] GoesOut)
     (link_ticked (n + 12) (exchanged near) (link_swapped (n + 12) near (link_ticked n (aged l) (link_aged n l h)))))
 
 -- nothing has happened yet

@@ -12,7 +12,7 @@ use Rattle.link_machine.specs.Machine.LinkInput.{Take, Tick as HasTick, Reset}
 use Rattle.link_machine.specs.Machine.Turn.{Give, Hold, FetchMessage}
 use Rattle.link_machine.proofs.Sound.{whole_few}
 use Rattle.swp_act.specs.declared.ActEvent.TheVariants.{Tick as ActTick}
-use Rattle.message_link.specs.Links.{Half, Link, Loss, EndEvent, exchanged, number_of, put, with_ended, ticks_here, aged}
+use Rattle.message_link.specs.Links.{NumberedEnd, Link, Loss, EndEvent, exchanged, number_of, put, with_ended, ticks_at_controller, aged}
 use Rattle.message_link.specs.Links.Ending.{GoesOut}
 use Rattle.message_link.specs.Links.Comes.{NextFrame, AsksReset, NoInput}
 use Rattle.message_link.specs.Links.EndEvent.{Lose}
@@ -92,14 +92,14 @@ noted_told n who k r acked low few tries =
 acked_low : (n : ℕ) (e : LinkEnd) → EndIs n e → whole_acked e ≤ n
 acked_low n e h = let w = whole_few e.sent e.shdlc.session.acked in let f = h.few in omega (arith, w, f)
 
-number_low : (n : ℕ) (h : Half) → h.emitted ≤ n → h.took ≤ n → number_of h ≤ n
+number_low : (n : ℕ) (h : NumberedEnd) → h.emitted ≤ n → h.took ≤ n → number_of h ≤ n
 number_low n h a b = omega (arith, a, b)
 
 tick_tries : (n : ℕ) (e : LinkEnd) → EndIs n e → IfTries (gave_up_by e HasTick)
 tick_tries n e h =
     subst (λ b. IfTries (cond b (tick_answer e.shdlc).gave_up (act_answer e.role ActTick).gave_up)) (sym (opens n e h)) (few_tries e.shdlc h.ranged)
 
-noted_input : (n : ℕ) (who : End) (h : Half) (i : LinkInput) → h.emitted ≤ n → h.took ≤ n → EndIs n (after_input h.side i) → IfTries (gave_up_by h.side i)
+noted_input : (n : ℕ) (who : End) (h : NumberedEnd) (i : LinkInput) → h.emitted ≤ n → h.took ≤ n → EndIs n (after_input h.side i) → IfTries (gave_up_by h.side i)
     → AreNoted n (told_of who h i)
 noted_input n who h i a b is tries =
     noted_told n who (number_of h) (report h.side i) (whole_acked (after_input h.side i)) (number_low n h a b) (acked_low n (after_input h.side i) is) tries
@@ -186,7 +186,7 @@ noted_taken n who l h = go l.to_controller refl
         let wire : WireIs n (x ∷ xs) = subst (WireIs n) q h.to_near in
         let e : LinkEnd = after_input l.controller.side (Take x.frame) in
         let is : EndIs n e = end_took n l.controller.side x.frame wire.frames.0.frame h.near.side in
-        let half : Half = record l.controller { took = took_with l.controller.took x } in
+        let half : NumberedEnd = record l.controller { took = took_with l.controller.took x } in
         subst (AreNoted n) (sym some) (
           wire.frames.0.frame,
           join n (told_of who half (Take x.frame)) (rest_entries who (left_with l x xs) e (FetchMessage ∷ []) GoesOut)
@@ -216,9 +216,9 @@ noted_event n l (WasReset e window) can h = noted_at n l e _ (λ who k g. all_mo
 noted_event n l (Readied e ready) can h = noted_at n l e _ (λ who k g. all_more n (n + 24) _ (omega arith) (noted_held n who k (not ready) g)) h
 noted_event n l Ticked can h =
     let old : Link = aged l in
-    let near : Link = exchanged (ticks_here old [] GoesOut) in
+    let near : Link = exchanged (ticks_at_controller old [] GoesOut) in
     let one : LinkIs n old = link_aged n l h in
-    let two : LinkIs (n + 12) near = link_swapped (n + 12) (ticks_here old [] GoesOut) (link_ticked n old one) in (
+    let two : LinkIs (n + 12) near = link_swapped (n + 12) (ticks_at_controller old [] GoesOut) (link_ticked n old one) in (
       tt,
       join (n + 24) (aged_entries Controller l.to_controller) (aged_entries Host l.to_host ++ (ticks Controller old ++ ticks Host near))
           (noted_aged (n + 24) n Controller l.to_controller h.to_near.frames)

@@ -10,5 +10,5 @@ abbrev pub step_told : Step → List Entry
 step_told step = Echo step.line ∷ noted step.outcome
 
 -- the entries of the transcript of a history: its header, its opening, and its lines, each with what is noted below it
-abbrev pub told_of : History → List Entry
-told_of t = Head t.header ∷ (t.opening ++ flat_map step_told t.steps)
+abbrev pub entries_told : History → List Entry
+entries_told t = Head t.header ∷ (t.opening ++ flat_map step_told t.steps)

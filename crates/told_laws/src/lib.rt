@@ -9,11 +9,11 @@ ghost use Rattle.trace_model.specs.Lines.{IsHeader, IsLineOf};
 ghost use Rattle.history.specs.Histories.{History};
 ghost use Rattle.history.specs.Follows.{Follows};
 ghost use Rattle.text_laws.specs.Ranges.{IsEntry};
-ghost use Rattle.told_laws.specs.Told.{told_of};
+ghost use Rattle.told_laws.specs.Told.{entries_told};
 
 /// All that is told of a history of a bare world that follows a schedule of at most 20,000 lines is in its range: messages and
 /// frames are bytes, and the numbers of sessions, the counts and what a refusal names are below 2^32.
 pub fn what_is_told_is_in_its_range()
     ensures { (header : Header) (lines : List Line) (t : History) → AllByRecursion (IsLineOf header) lines → IsHeader header
-        → Follows header lines t → length lines ≤ 20000 → All IsEntry (told_of t) }
+        → Follows header lines t → length lines ≤ 20000 → All IsEntry (entries_told t) }
 {}

@@ -10,7 +10,7 @@ use Rattle.session_laws.specs.Sessions.{OnWire}
 use Rattle.link_machine.specs.Machine.{Message, LinkEnd, Refused, LinkInput, Turn, is_faulty, is_open, moved, put_down, activated, started, deactivated, news, heard, took, had_tick, give_refusal, aside_refusal, turn, turned, reset_refusal, if_up, window_of, after_input, ended_by, got_by, brought}
 use Rattle.link_machine.specs.Machine.LinkInput.{Take, TakeUnknown, TakeBroken, Tick, Reset, Start, Stop, FromNode, Fetch}
 use Rattle.link_machine.specs.Machine.Turn.{Give, Hold, FetchMessage, SetAside, Release}
-use Rattle.message_link.specs.Links.{Link, Ending, Comes, with_ended, finished, silent, has_input, steps_here, ticks_here}
+use Rattle.message_link.specs.Links.{Link, Ending, Comes, with_ended, finished, silent, has_input, steps_at_controller, ticks_at_controller}
 use Rattle.message_link.specs.Links.Ending.{GoesOut, CutOff}
 use Rattle.message_link.specs.Links.Comes.{NextFrame, AsksReset, Starts, Stops, NoInput}
 use Rattle.node_links.specs.Notices.{IsComing}
@@ -125,12 +125,12 @@ all_got : (l : Link) (e : LinkEnd) (ts : List Turn) (ending : Ending)
 all_got l e ts ending = finished_got l (turned e ts) ending ∙ ap (ended_with ending) (turned_got e ts)
 
 pub step_got : (l : Link) (comes : Comes) (o : Option LinkInput) (ts : List Turn) (ending : Ending) → input_of l comes ≡ o → IsStep comes o
-    → (steps_here l comes ts ending).controller.side.got ≡ ended_with ending (left_by ts (after_coming l.controller.side o).got)
+    → (steps_at_controller l comes ts ending).controller.side.got ≡ ended_with ending (left_by ts (after_coming l.controller.side o).got)
 step_got l NextFrame None ts ending q s = absurd s
 step_got l NextFrame (Some i) ts ending q s = go l.to_controller refl
   where
     go : (xs : List OnWire) → l.to_controller ≡ xs
-        → (steps_here l NextFrame ts ending).controller.side.got ≡ ended_with ending (left_by ts (after_input l.controller.side i).got)
+        → (steps_at_controller l NextFrame ts ending).controller.side.got ≡ ended_with ending (left_by ts (after_input l.controller.side i).got)
     go [] z = let none : None ≡ Some i = rw z at q in absurd (cc none)
     go (x ∷ xs) z =
         let one : Some (Take x.frame) ≡ Some i = rw z at q in
@@ -159,14 +159,14 @@ input_had : (l : Link) (i : LinkInput) (ts : List Turn) (ending : Ending)
     → (has_input l i ts ending).controller.side.got ≡ ended_with ending (left_by ts (after_input l.controller.side i).got)
 input_had l i ts ending = all_got (with_ended l (is_some (ended_by l.controller.side i))) (after_input l.controller.side i) ts ending
 
-pub ticks_got : (l : Link) (ts : List Turn) (ending : Ending) → (ticks_here l ts ending).controller.side.got ≡ ended_with ending (left_by ts l.controller.side.got)
+pub ticks_got : (l : Link) (ts : List Turn) (ending : Ending) → (ticks_at_controller l ts ending).controller.side.got ≡ ended_with ending (left_by ts l.controller.side.got)
 ticks_got l ts ending = input_had l Tick ts ending ∙ ap (λ ms. ended_with ending (left_by ts ms)) (tick_got l.controller.side)
 
 pub late_got : (l : Link) (late : Bool) (ts : List Turn) (ending : Ending)
     → (ticked_so l late ts ending).controller.side.got ≡ ended_with ending (left_by ts l.controller.side.got)
 late_got l late ts ending = go (late && not (is_waiting l.controller.side.shdlc))
   where
-    go : (b : Bool) → (cond b (has_input l (Reset None) ts ending) (ticks_here l ts ending)).controller.side.got
+    go : (b : Bool) → (cond b (has_input l (Reset None) ts ending) (ticks_at_controller l ts ending)).controller.side.got
         ≡ ended_with ending (left_by ts l.controller.side.got)
     go true = input_had l (Reset None) ts ending ∙ ap (λ ms. ended_with ending (left_by ts ms)) (reset_got l.controller.side None)
     go false = ticks_got l ts ending

@@ -11,7 +11,7 @@ use Rattle.link_machine.specs.Machine.{Message, LinkEnd, LinkInput, Turn, after_
 use Rattle.link_machine.specs.Machine.LinkInput.{Reset}
 use Rattle.shdlc_core.specs.Machine.{is_waiting}
 use Rattle.journal_laws.specs.Planned.{after_planned}
-use Rattle.message_link.specs.Links.{Link, Half, Ending, Comes, exchanged, has_input, steps_here, ticks_here}
+use Rattle.message_link.specs.Links.{Link, NumberedEnd, Ending, Comes, exchanged, has_input, steps_at_controller, ticks_at_controller}
 use Rattle.message_link.specs.Links.Comes.{AsksReset, NoInput}
 use Rattle.message_link.specs.Links.EndEvent.{Step}
 use Rattle.link_entries.specs.Entries.{End as Side}
@@ -87,7 +87,7 @@ other_fresh e s q m (p ∷ []) h off = go (p.desk.host == e.link) refl
 other_fresh e s q m (p ∷ x ∷ ports) h off = absurd (cc h)
 
 -- a host becomes v in a step, as its node does so
-module _ (s v : Site) (r : Running) (half : Half) (came : ℕ → List Message) (begun k : Work) (frames : List Entry)
+module _ (s v : Site) (r : Running) (half : NumberedEnd) (came : ℕ → List Message) (begun k : Work) (frames : List Entry)
     (runs : s.node ≡ Some r) (ends : map (λ (d : Desk). d.host) r.desks ≡ s.host ∷ [])
     (ports : begun.ports ≡ ports_for (λ j. half) r.desks) (side : half.side ≡ s.link.host.side)
     (does : NodeDoes Host (λ j. half.side) came begun k) (quiet : (e : End) → Leaves e frames) where
@@ -131,13 +131,13 @@ module _ (s : Site) (r : Running) (k : ℕ) (number : s.host ≡ k) (runs : s.no
   side_is : own_side r.core ≡ Host
   side_is = ap (λ (n : ℕ). if n == 0 then Controller else Host) node.number ∙ ap (λ (b : Bool). if b then Controller else Host) host
 
-  abbrev starts : Half → List Entry → Work
+  abbrev starts : NumberedEnd → List Entry → Work
   starts half es = work_of r s.memory.plan (λ j. half) es
 
-  kept : (half : Half) (es : List Entry) → Keeps s.host (s.host ∷ []) (starts half es)
+  kept : (half : NumberedEnd) (es : List Entry) → Keeps s.host (s.host ∷ []) (starts half es)
   kept half es = record { number = node.number; ends = hosts_same (λ j. half) r.desks ∙ node.ends }
 
-  different : (half : Half) (es : List Entry) → AreDifferent (hosts_of_ends (starts half es).ports)
+  different : (half : NumberedEnd) (es : List Entry) → AreDifferent (hosts_of_ends (starts half es).ports)
   different half es = subst AreDifferent (sym (kept half es).ends) (tt, tt)
 
   quiet : (comes : Comes) (v : Work) (e : End) → Leaves e (frames_noted Host k (wires_for own_link comes) v)
@@ -146,7 +146,7 @@ module _ (s : Site) (r : Running) (k : ℕ) (number : s.host ≡ k) (runs : s.no
   pub host_steps : (comes : Comes) (i : LinkInput) → input_of own_link comes ≡ Some i
       → SiteGoes s (after_host comes (host_work s r comes (steps (AtEnd k i))) s) (host_noted comes (host_work s r comes (steps (AtEnd k i))))
   host_steps comes i q =
-      let half : Half = half_in own_link comes in
+      let half : NumberedEnd = half_in own_link comes in
       let es : List Entry = entries_for s.host (arrival Host own_link comes) in
       let begun : Work = starts half es in
       let v : Work = host_work s r comes (steps (AtEnd k i)) in
@@ -156,7 +156,7 @@ module _ (s : Site) (r : Running) (k : ℕ) (number : s.host ≡ k) (runs : s.no
       (step_does s.host (s.host ∷ []) Host (λ j. half.side) begun side_is (kept half es) (λ e. arrival_still e Host s.host own_link comes) (AtEnd k i)
       (comes_outside own_link comes i q) (different half es))
       (quiet comes v) refl
-      (ap (λ (x : Half). x.side.got) (here_host own_link (Step comes (turns_at v s.host) (ending_of v))))
+      (ap (λ (x : NumberedEnd). x.side.got) (here_host own_link (Step comes (turns_at v s.host) (ending_of v))))
       (step_got own_link comes (Some i) (turns_at v s.host) (ending_of v) q (is_step comes i)
       ∙ ap (λ ms. ended_with (ending_of v) (left_by (turns_at v s.host) ms))
       (ap (λ (z : LinkEnd). (after_input z i).got) (sym (half_side own_link comes))
@@ -165,28 +165,28 @@ module _ (s : Site) (r : Running) (k : ℕ) (number : s.host ≡ k) (runs : s.no
   pub host_begins : (deeds : List Deed) → AreMute deeds
       → SiteGoes s (after_host NoInput (host_work s r NoInput (begins_with k deeds)) s) (host_noted NoInput (host_work s r NoInput (begins_with k deeds)))
   host_begins deeds m =
-      let half : Half = half_in own_link NoInput in
+      let half : NumberedEnd = half_in own_link NoInput in
       let es : List Entry = entries_for s.host (arrival Host own_link NoInput) in
       let begun : Work = starts half es in
       let v : Work = host_work s r NoInput (begins_with k deeds) in
       host_goes s (after_host NoInput v s) r half (λ j. half.side.got) begun v (frames_noted Host k (wires_for own_link NoInput) v) runs node.ends refl refl
       (begin_does s.host (s.host ∷ []) Host (λ j. half.side) begun side_is (kept half es) (λ e. tt) k deeds m)
       (quiet NoInput v) refl
-      (ap (λ (x : Half). x.side.got) (here_host own_link (Step NoInput (turns_at v s.host) (ending_of v))))
+      (ap (λ (x : NumberedEnd). x.side.got) (here_host own_link (Step NoInput (turns_at v s.host) (ending_of v))))
       (step_got own_link NoInput None (turns_at v s.host) (ending_of v) refl tt)
 
   -- its tick
   pub host_ticked : SiteGoes s (after_tick s (host_tick s r)).0
       (after_tick s (host_tick s r)).1
   host_ticked =
-      let half : Half = s.link.host in
+      let half : NumberedEnd = s.link.host in
       let begun : Work = starts half [] in
       let v : Work = steps TimePasses begun in
       host_goes s (after_tick s v).0 r half (came_by (λ j. half.side) TimePasses) begun v
       (frames_noted Host s.host own_link v) runs node.ends refl refl
       (step_does s.host (s.host ∷ []) Host (λ j. half.side) begun side_is (kept half []) (λ e. tt) TimePasses tt (different half []))
       (λ e. still_leaves e _ (frames_still e Host s.host own_link v)) refl
-      (ap (λ (x : Half). x.side.got) (tick_host own_link (turns_at v s.host) (ending_of v)))
+      (ap (λ (x : NumberedEnd). x.side.got) (tick_host own_link (turns_at v s.host) (ending_of v)))
       (ticks_got own_link (turns_at v s.host) (ending_of v)
       ∙ ap (λ ms. ended_with (ending_of v) (left_by (turns_at v s.host) ms)) (sym (tick_got s.link.host.side)))
 
@@ -210,7 +210,7 @@ no_port (p ∷ ports) (x ∷ sites) h e q = go (x.host == h) refl (no_port ports
         let passed : (p.desk.host == h) ≡ false = ap (λ n. n == h) one ∙ z in
         rw passed (later others (rw z at q))
 
-module _ (w : NodeWorld) (r : Running) (memory : Memory) (halves : ℕ → Half) (came : ℕ → List Message) (begun k : Work) (g : Site → Site)
+module _ (w : NodeWorld) (r : Running) (memory : Memory) (halves : ℕ → NumberedEnd) (came : ℕ → List Message) (begun k : Work) (g : Site → Site)
     (frames : List Entry) (runs : w.controller ≡ Some r) (node : HasEnds 0 (hosts_in w.sites) r) (ports : begun.ports ≡ ports_for halves r.desks)
     (does : NodeDoes Controller (λ j. (halves j).side) came begun k) (quiet : (e : End) → Leaves e frames) where
   abbrev Then : NodeWorld
@@ -273,13 +273,13 @@ module _ (w : NodeWorld) (r : Running) (runs : w.controller ≡ Some r) (node : 
   near_side : own_side r.core ≡ Controller
   near_side = ap (λ (n : ℕ). if n == 0 then Controller else Host) node.number
 
-  abbrev starting : (ℕ → Half) → List Entry → Work
+  abbrev starting : (ℕ → NumberedEnd) → List Entry → Work
   starting halves es = work_of r w.memory.plan halves es
 
-  near_kept : (halves : ℕ → Half) (es : List Entry) → Keeps 0 (hosts_in w.sites) (starting halves es)
+  near_kept : (halves : ℕ → NumberedEnd) (es : List Entry) → Keeps 0 (hosts_in w.sites) (starting halves es)
   near_kept halves es = record { number = node.number; ends = hosts_same halves r.desks ∙ node.ends }
 
-  near_different : (halves : ℕ → Half) (es : List Entry) → AreDifferent (hosts_of_ends (starting halves es).ports)
+  near_different : (halves : ℕ → NumberedEnd) (es : List Entry) → AreDifferent (hosts_of_ends (starting halves es).ports)
   near_different halves es = subst AreDifferent (sym (near_kept halves es).ends) different
 
   -- something comes to its end of the link with the host k
@@ -287,7 +287,7 @@ module _ (w : NodeWorld) (r : Running) (runs : w.controller ≡ Some r) (node : 
       → AllMove w (after_controller w k comes (controller_work w r k comes (steps (AtEnd k i)))).0
       (after_controller w k comes (controller_work w r k comes (steps (AtEnd k i)))).1
   controller_steps k comes i q =
-      let halves : ℕ → Half = λ n. half_in (link_to w.sites n) (comes_to k comes n) in
+      let halves : ℕ → NumberedEnd = λ n. half_in (link_to w.sites n) (comes_to k comes n) in
       let es : List Entry = entries_for k (arrival Controller (link_to w.sites k) comes) in
       let begun : Work = starting halves es in
       let v : Work = controller_work w r k comes (steps (AtEnd k i)) in
@@ -296,7 +296,7 @@ module _ (w : NodeWorld) (r : Running) (runs : w.controller ≡ Some r) (node : 
       (step_does 0 (hosts_in w.sites) Controller (λ j. (halves j).side) begun near_side (near_kept halves es)
       (λ e. arrival_still e Controller k (link_to w.sites k) comes) (AtEnd k i) (comes_outside (link_to w.sites k) comes i q) (near_different halves es))
       (λ e. flat_leaves e _ (λ s. still_leaves e _ (frames_still e Controller s.host (wires_for s.link (comes_to k comes s.host)) v)) w.sites)
-      (λ s. refl) (λ s. refl) (λ s. ap (λ (x : Half). x.side.got) (here_host s.link (Step (comes_to k comes s.host) (turns_at v s.host) (ending_of v))))
+      (λ s. refl) (λ s. refl) (λ s. ap (λ (x : NumberedEnd). x.side.got) (here_host s.link (Step (comes_to k comes s.host) (turns_at v s.host) (ending_of v))))
       (λ h s z. ap (λ (e : LinkEnd). e.got) (half_side (link_to w.sites h) (comes_to k comes h)) ∙ ap (λ (l : Link). l.controller.side.got) (link_is w.sites h s z))
       (λ h s z. behind h s z v)
     where
@@ -307,7 +307,7 @@ module _ (w : NodeWorld) (r : Running) (runs : w.controller ≡ Some r) (node : 
       behind h s z v = subst P (sym (site_host w.sites h s z)) (by (h == k) refl)
         where
           P : ℕ → Type 0
-          P n = (steps_here s.link (comes_to k comes n) (turns_at v n) (ending_of v)).controller.side.got
+          P n = (steps_at_controller s.link (comes_to k comes n) (turns_at v n) (ending_of v)).controller.side.got
               ≡ ended_with (ending_of v) (left_by (turns_at v h)
               (came_by (λ n. (half_in (link_to w.sites n) (comes_to k comes n)).side) (AtEnd k i) h))
 
@@ -322,13 +322,13 @@ module _ (w : NodeWorld) (r : Running) (runs : w.controller ≡ Some r) (node : 
           by : (b : Bool) → (h == k) ≡ b → P h
           by true e =
               let input : input_of s.link comes ≡ Some i = ap (λ l. input_of l comes) (sym link ∙ ap (link_to w.sites) (eqb-true h k e)) ∙ q in
-              ap (λ b. (steps_here s.link (cond b comes NoInput) (turns_at v h) (ending_of v)).controller.side.got) e
+              ap (λ b. (steps_at_controller s.link (cond b comes NoInput) (turns_at v h) (ending_of v)).controller.side.got) e
               ∙ (step_got s.link comes (Some i) (turns_at v h) (ending_of v) input (is_step comes i)
               ∙ ap (λ ms. ended_with (ending_of v) (left_by (turns_at v h) ms))
               (came (Some i)
               ∙ ap (λ b. (after_coming (half_in (link_to w.sites h) (comes_to k comes h)).side (cond b (Some i) None)).got) (sym e)))
           by false e =
-              ap (λ b. (steps_here s.link (cond b comes NoInput) (turns_at v h) (ending_of v)).controller.side.got) e
+              ap (λ b. (steps_at_controller s.link (cond b comes NoInput) (turns_at v h) (ending_of v)).controller.side.got) e
               ∙ (step_got s.link NoInput None (turns_at v h) (ending_of v) refl tt
               ∙ ap (λ ms. ended_with (ending_of v) (left_by (turns_at v h) ms))
               (came None
@@ -342,7 +342,7 @@ module _ (w : NodeWorld) (r : Running) (runs : w.controller ≡ Some r) (node : 
   late_host l late ts ending = go (late && not (is_waiting l.controller.side.shdlc))
     where
       go : (b : Bool) → (cond b (has_input l (Reset None) ts ending)
-          (ticks_here l ts ending)).host ≡ l.host
+          (ticks_at_controller l ts ending)).host ≡ l.host
       go true = here_host l (Step (AsksReset None) ts ending)
       go false = tick_host l ts ending
 
@@ -354,7 +354,7 @@ module _ (w : NodeWorld) (r : Running) (runs : w.controller ≡ Some r) (node : 
       ((steps TimePasses (starting (λ h. (link_to w.sites h).controller) [])).entries
       ++ flat_map (λ (s : Site). frames_noted Controller s.host s.link (steps TimePasses (starting (λ h. (link_to w.sites h).controller) []))) w.sites)
   controller_ticked =
-      let halves : ℕ → Half = λ h. (link_to w.sites h).controller in
+      let halves : ℕ → NumberedEnd = λ h. (link_to w.sites h).controller in
       let begun : Work = starting halves [] in
       let v : Work = steps TimePasses begun in
       controller_moves w r _ halves (came_by (λ j. (halves j).side) TimePasses) begun v (ticked_site v)
@@ -362,7 +362,7 @@ module _ (w : NodeWorld) (r : Running) (runs : w.controller ≡ Some r) (node : 
       (step_does 0 (hosts_in w.sites) Controller (λ j. (halves j).side) begun near_side (near_kept halves []) (λ e. tt) TimePasses tt (near_different halves []))
       (λ e. flat_leaves e _ (λ s. still_leaves e _ (frames_still e Controller s.host s.link v)) w.sites)
       (λ s. refl) (λ s. refl)
-      (λ s. ap (λ (x : Half). x.side.got) (late_host s.link (is_late_at v s.host) (turns_at v s.host) (ending_of v)))
+      (λ s. ap (λ (x : NumberedEnd). x.side.got) (late_host s.link (is_late_at v s.host) (turns_at v s.host) (ending_of v)))
       (λ h s z. ap (λ (l : Link). l.controller.side.got) (link_is w.sites h s z))
       (λ h s z.
       let P : ℕ → Type 0 = λ n. (ticked_so s.link (is_late_at v n) (turns_at v n) (ending_of v)).controller.side.got

@@ -11,7 +11,7 @@ use Rattle.journal_laws.specs.Journal.{count_of}
 use Rattle.journal_laws.specs.Planned.{fails_within, after_planned}
 use Rattle.session_laws.specs.Sessions.{OnWire}
 use Rattle.link_machine.specs.Machine.{Message, LinkInput}
-use Rattle.message_link.specs.Links.{Half, Link, Comes, Loss, exchanged, aged, happens, ticks_here}
+use Rattle.message_link.specs.Links.{NumberedEnd, Link, Comes, Loss, exchanged, aged, happens, ticks_at_controller}
 use Rattle.message_link.specs.Links.Comes.{NextFrame, AsksReset, Starts, NoInput}
 use Rattle.message_link.specs.Links.Ending.{GoesOut, CutOff}
 use Rattle.message_link.specs.Links.Loss.{OnDemand, Broken, Unread, TooOld, TooMany}
@@ -199,11 +199,11 @@ power_moves n w = go (n == 0)
     go true =
         all_sites w w.memory None (λ (s : Site). record s { link = happens s.link (AtController (Step NoInput [] CutOff)) }) (entry.Cut n ∷ [])
         (λ s. refl) (λ s. refl)
-        (λ s. ap (λ (x : Half). x.side.got) (here_host s.link (Step NoInput [] CutOff))) (λ q s x. refl) (cut_quiet n)
+        (λ s. ap (λ (x : NumberedEnd). x.side.got) (here_host s.link (Step NoInput [] CutOff))) (λ q s x. refl) (cut_quiet n)
     go false =
         at_site w w.controller n host_cut (entry.Cut n ∷ []) refl (λ s. refl)
         (λ s here. record {
-          near = ap (λ (x : Half). x.side.got) (here_host (exchanged s.link) (Step NoInput [] CutOff));
+          near = ap (λ (x : NumberedEnd). x.side.got) (here_host (exchanged s.link) (Step NoInput [] CutOff));
           goes = λ q x. record { left = q; goes = cut_quiet n (end_h s.host) q; waits = refl };
           others = λ e off. cut_quiet n e;
         })
@@ -418,7 +418,7 @@ pub record NearTick (w : NodeWorld) (p : NodeWorld × List Entry) : Type 0 where
 near_tick : (w : NodeWorld) → IsOrderly w → NearTick w (controller_ticks w)
 near_tick w a = go w.controller refl a.controller
   where
-    halves : ℕ → Half
+    halves : ℕ → NumberedEnd
     halves h = (link_to w.sites h).controller
 
     after_work : Work → NodeWorld × List Entry
@@ -432,7 +432,7 @@ near_tick w a = go w.controller refl a.controller
     )
 
     by : Option Running → NodeWorld × List Entry
-    by None = (record w { sites = map (λ (s : Site). record s { link = ticks_here s.link [] GoesOut }) w.sites }, [])
+    by None = (record w { sites = map (λ (s : Site). record s { link = ticks_at_controller s.link [] GoesOut }) w.sites }, [])
     by (Some r) = after_work (steps TimePasses (work_of r w.memory.plan halves []))
 
     so : (g : Site → Site) → ((s : Site) → (g s).host ≡ s.host)
@@ -442,12 +442,12 @@ near_tick w a = go w.controller refl a.controller
 
     go : (o : Option Running) → w.controller ≡ o → IfItRuns 0 (hosts_in w.sites) o → NearTick w (by o)
     go None z n =
-        let g : Site → Site = λ s. record s { link = ticks_here s.link [] GoesOut } in
+        let g : Site → Site = λ s. record s { link = ticks_at_controller s.link [] GoesOut } in
         let kept : IsOrderly (record { memory = w.memory; controller = None; sites = map g w.sites }) = so g (λ s. refl) (λ s x. x) in
         let off : (q : List Message) (s : Site) → NearWaits w.controller q (Some s) → NearWaits w.controller q (Some (g s)) =
         λ q s x. subst (ByPower (is_some w.controller) q) (sym (ticks_got s.link [] GoesOut)) x in
         record {
-          moves = all_sites w w.memory w.controller g [] (λ s. refl) (λ s. refl) (λ s. ap (λ (x : Half). x.side.got) (tick_host s.link [] GoesOut)) off
+          moves = all_sites w w.memory w.controller g [] (λ s. refl) (λ s. refl) (λ s. ap (λ (x : NumberedEnd). x.side.got) (tick_host s.link [] GoesOut)) off
               (λ e q. refl);
           different = kept.different;
           hosts = kept.hosts;
@@ -463,12 +463,12 @@ site_ticks : (x : Site) → (x.host == 0) ≡ false → IfItRuns x.host (x.host 
 site_ticks x host a = go x.node refl a
   where
     by : Option Running → Site × List Entry
-    by None = (record x { link = exchanged (ticks_here (exchanged x.link) [] GoesOut) }, [])
+    by None = (record x { link = exchanged (ticks_at_controller (exchanged x.link) [] GoesOut) }, [])
     by (Some n) = after_tick x (host_tick x n)
 
     go : (o : Option Running) → x.node ≡ o → IfItRuns x.host (x.host ∷ []) o → SiteGoes x (by o).0 (by o).1
     go None z b =
-        stays x (by None).0 [] (ap (λ (y : Half). y.side.got) (tick_host (exchanged x.link) [] GoesOut)) (ticks_got (exchanged x.link) [] GoesOut) refl
+        stays x (by None).0 [] (ap (λ (y : NumberedEnd). y.side.got) (tick_host (exchanged x.link) [] GoesOut)) (ticks_got (exchanged x.link) [] GoesOut) refl
         (λ e q. refl)
     go (Some n) z b = host_ticked x n x.host refl z b host
 

@@ -7,7 +7,7 @@ use Rattle.link_machine.specs.Machine.{LinkEnd as Machine}
 use Rattle.link_messages.specs.Outgoing.{LeavesOthersBut}
 use Rattle.link_messages.specs.declared.inbox.Inbox.{Inbox}
 use Rattle.link_end.specs.declared.«end».End.{End}
-use Rattle.link_end.specs.Ends.{StandsFor, LeavesOthers, HaveOwners, Accounts, Rests}
+use Rattle.link_end.specs.Ends.{EndStandsFor, EndLeavesOthers, HaveOwners, Accounts, Rests}
 use Rattle.link_end.proofs.AccountLemmas.{given_own, given_beside, passed_giver, passed_taker, kept_beside_call}
 
 -- the message that was fetched, by its chain
@@ -18,7 +18,7 @@ fetched_chain k pool x y is a = let P : Option (ℕ × Chain) → Type 0 = λ o.
 pub none_fetched : (k : End) (pool : PoolState) (x : Option (ℕ × Chain)) → x ≡ None → Accounts k pool (option_map (λ z. z.1) x) → Accounts k pool None
 none_fetched k pool x is a = let P : Option (ℕ × Chain) → Type 0 = λ o. Accounts k pool (option_map (λ z. z.1) o) in subst P is a
 
-pub given_back : (old new : PoolState) (k to : End) (m : Machine) (chain : Chain) → StandsFor k old m → k.inbox.got ≡ None
+pub given_back : (old new : PoolState) (k to : End) (m : Machine) (chain : Chain) → EndStandsFor k old m → k.inbox.got ≡ None
     → Accounts k old (Some chain) → HaveOwners k to → Rests to old
     → Gives old new chain → KeepsOthers old new chain chain → Rests k new × Rests to new
 given_back old new k to m chain h none a differ r gives keeps =
@@ -28,9 +28,9 @@ given_back old new k to m chain h none a differ r gives keeps =
       record { state = r.state; stands = other.0; fetched = r.fetched; accounts = other.1 },
     )
 
-pub passed_on : (old new : PoolState) (k to after : End) (m n : Machine) (chain : Chain) → StandsFor k old m → k.inbox.got ≡ None
+pub passed_on : (old new : PoolState) (k to after : End) (m n : Machine) (chain : Chain) → EndStandsFor k old m → k.inbox.got ≡ None
     → Accounts k old (Some chain) → HaveOwners k to → Rests to old
-    → StandsFor after new n → after.inbox ≡ to.inbox → LeavesOthersBut old new to.outbox.owner chain to.outbox.queue.items after.outbox.queue.items
+    → EndStandsFor after new n → after.inbox ≡ to.inbox → LeavesOthersBut old new to.outbox.owner chain to.outbox.queue.items after.outbox.queue.items
     → Rests k new × Rests after new
 passed_on old new k to after m n chain h none a differ r stands inbox leaves =
     let giver = passed_giver old new k to after m r.state chain h a differ r.stands leaves in (
@@ -43,7 +43,7 @@ passed_on old new k to after m n chain h none a differ r stands inbox leaves =
       },
     )
 
-pub rests_beside : (old new : PoolState) (before after other : End) (m : Machine) → StandsFor before old m → LeavesOthers old new before after
+pub rests_beside : (old new : PoolState) (before after other : End) (m : Machine) → EndStandsFor before old m → EndLeavesOthers old new before after
     → HaveOwners before other → Rests other old → Rests other new
 rests_beside old new before after other m h leaves differ r =
     let both = kept_beside_call old new before after other m r.state None h leaves differ r.stands r.accounts in

@@ -1,6 +1,6 @@
 //! Worked examples of cutting and joining.
 ghost use Rattle.std.specs.Prelude.{◌≡◌, ◌≤◌, length, IfOk};
-ghost use Rattle.hcp_chain.specs.Holding.{IsReady};
+ghost use Rattle.hcp_chain.specs.Holding.{IsJoinerReady};
 
 use arrayvec::ArrayVec;
 use block_pool::Pool;
@@ -11,7 +11,7 @@ use std::process::Abort;
 use std::test::Fail;
 
 fn joiner(alloc: Global) -> Result<(Pool, Joiner), AllocError>
-    ensures { IfOk result (λ made. IsReady made.0 made.1) }
+    ensures { IfOk result (λ made. IsJoinerReady made.0 made.1) }
 {
     let pool = Pool::make(alloc, &[512])?;
     Ok((pool, Joiner::new(0)))
@@ -26,8 +26,8 @@ fn packet(last: bool, pipe: u8, data: &[u8]) -> Packet
 }
 
 fn take_more(rt: &impl Abort, pool: &mut Pool, joiner: &mut Joiner, packet: &Packet)
-    requires { IsReady pool.old joiner.old }
-    ensures { IsReady pool.new joiner.new }
+    requires { IsJoinerReady pool.old joiner.old }
+    ensures { IsJoinerReady pool.new joiner.new }
 {
     match joiner.take(pool, packet) {
         Joined::More => {}

@@ -1,7 +1,7 @@
 //! A node that has one end of a link and its messages in a pool of its own, for worked examples.
 ghost use Rattle.std.specs.Prelude.{◌≡◌, ◌≤◌};
 ghost use Rattle.link_machine.specs.Machine.{LinkEnd as Machine};
-ghost use Rattle.link_end.specs.Ends.{StandsFor, Accounts, Rests, controls_in};
+ghost use Rattle.link_end.specs.Ends.{EndStandsFor, Accounts, Rests, controls_in};
 
 use block_pool::Pool;
 use byte_link::write_unit;
@@ -59,8 +59,8 @@ pub struct Node {
 impl Model for Node {
     ghost use Rattle.std.specs.Prelude.{ℕ, List};
     ghost use Rattle.swp_frame.specs.Signal.{Symbol};
-    ghost use Rattle.swp_frame.specs.Kept.{StandsFor as DeframerStandsFor};
-    ghost use Rattle.byte_link.specs.Kept.{StandsFor as ByteLinkStandsFor};
+    ghost use Rattle.swp_frame.specs.Kept.{DeframerStandsFor};
+    ghost use Rattle.byte_link.specs.Kept.{ByteLinkStandsFor};
     ghost use Rattle.link_end.specs.Ends.{Rests};
 
     ghost Value = { Unit {0} };
@@ -205,7 +205,7 @@ pub fn has_room(rt: &impl Abort, end: &LinkEnd)
 
 /// Fetches the message that came, where one did, and gives its blocks back.
 fn fetch(end: &mut LinkEnd, pool: &mut Pool) -> Option<Message>
-    requires stands { (m : Machine) × StandsFor end.old.link pool.old m }
+    requires stands { (m : Machine) × EndStandsFor end.old.link pool.old m }
     requires accounts { Accounts end.old.link pool.old None }
     ensures rests { Rests end.new.link pool.new }
     ensures inputs { (end.new.deframer ≡ end.old.deframer) × (end.new.byte_link ≡ end.old.byte_link) }

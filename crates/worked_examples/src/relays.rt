@@ -1,7 +1,7 @@
 //! A node with two ends of links in one pool, for worked examples: how the laws of link ends are used.
 ghost use Rattle.std.specs.Prelude.{◌≡◌, ◌≤◌};
 ghost use Rattle.link_machine.specs.Machine.{LinkEnd as Machine};
-ghost use Rattle.link_end.specs.Ends.{StandsFor, HaveOwners, Accounts, Rests};
+ghost use Rattle.link_end.specs.Ends.{EndStandsFor, HaveOwners, Accounts, Rests};
 
 use crate::nodes::has_room;
 use block_pool::Pool;
@@ -69,7 +69,7 @@ impl Relay {
 
 /// Passes the message that came to one end, where one did, to the other, which drops it where it doesn't take it.
 fn pass_on(from: &mut LinkEnd, to: &mut LinkEnd, pool: &mut Pool)
-    requires stands { (m : Machine) × StandsFor from.old.link pool.old m }
+    requires stands { (m : Machine) × EndStandsFor from.old.link pool.old m }
     requires accounts { Accounts from.old.link pool.old None }
     requires rests { Rests to.old.link pool.old }
     requires owners { HaveOwners from.old.link to.old.link }

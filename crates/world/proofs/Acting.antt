@@ -12,7 +12,7 @@ use Rattle.world.specs.declared.node.Node.{Node}
 use Rattle.world.specs.declared.node.Place.{Place}
 use Rattle.world.specs.declared.side.Side.{Side}
 use Rattle.world.specs.Noting.{side_of}
-use Rattle.world.specs.Nodes.{StandsFor as NodeStandsFor, HasFewDue}
+use Rattle.world.specs.Nodes.{NodeStandsFor, HasFewDue}
 use Rattle.world.specs.Sides.{LinkStandsFor, IsMidway, AreNoted}
 use Rattle.world.proofs.Noting.{more_noted}
 use Rattle.world.proofs.Bare.{IsBare, is_bare}

@@ -12,7 +12,7 @@ use Rattle.swp_frame.specs.Signal.{Symbol, symbol_of}
 use Rattle.swp_frame.specs.Verdicts.{is_verdict, verdict, answers_after}
 use Rattle.message_link.specs.Links.{Loss}
 use Rattle.message_link.specs.Links.Loss.{Broken}
-use Rattle.history.specs.Damage.{flipped, first_frame, judged, read_as, same_bytes}
+use Rattle.history.specs.Damage.{flipped, first_frame, judged_by_first, read_as, same_bytes}
 use Rattle.history.specs.Damage.Verdict.{Same, Undetected}
 use Rattle.history.specs.Steps.{lost_as}
 use Rattle.world.specs.declared.damage.Verdict.{Verdict as Told}
@@ -38,7 +38,7 @@ behind_refusal lpdu why (Nothing ∷ feds) = behind_refusal lpdu why feds
 behind_refusal lpdu why (Frame read ∷ feds) = refl
 behind_refusal lpdu why (Refused fault ∷ feds) = behind_refusal lpdu why feds
 
-pub judged_in : (lpdu : List ℕ) (feds : List Fed) → told_as (judged lpdu (filter is_verdict feds)) ≡ told_in lpdu None feds
+pub judged_in : (lpdu : List ℕ) (feds : List Fed) → told_as (judged_by_first lpdu (filter is_verdict feds)) ≡ told_in lpdu None feds
 judged_in lpdu [] = refl
 judged_in lpdu (Nothing ∷ feds) = judged_in lpdu feds
 judged_in lpdu (Frame read ∷ feds) = refl

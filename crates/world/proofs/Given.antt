@@ -18,7 +18,7 @@ use Rattle.session_laws.specs.Sessions.{OnWire, is_rset, took_with}
 use Rattle.link_machine.specs.Machine.{LinkEnd, LinkInput, Refused, Message, after_input, turn, turned, moved, put_down, activated, with_act, act_answer, role_after, heard, took, is_open, is_faulty, news, if_up, reset_by, reset_refusal, ended_by, window_of, give_refusal, given, unless, frames_out}
 use Rattle.link_machine.specs.Machine.LinkInput.{Take, Tick, Reset}
 use Rattle.link_machine.specs.Machine.Turn.{Give, Hold, FetchMessage}
-use Rattle.message_link.specs.Links.{Link, EndEvent, put, put_all, becomes, with_ended, has_input, has_taken, happens_here, ticks_here, aged, exchanged, happens}
+use Rattle.message_link.specs.Links.{Link, EndEvent, put, put_all, becomes, with_ended, has_input, has_taken, happens_at_controller, ticks_at_controller, aged, exchanged, happens}
 use Rattle.message_link.specs.Links.Ending.{GoesOut}
 use Rattle.message_link.specs.Links.Comes.{NextFrame, AsksReset, NoInput}
 use Rattle.message_link.specs.Links.EndEvent.{Step, Lose}
@@ -136,10 +136,10 @@ both n l h = record { here = h.0; there = h.1 }
 pub swapped : (n : ℕ) (l : Link) → HaveSent l n → HaveSent (exchanged l) n
 swapped n l h = record { here = h.there; there = h.here }
 
-sent_taken : (n : ℕ) (l : Link) → HaveSent l n → HaveSent (happens_here l (Step NextFrame (FetchMessage ∷ []) GoesOut)) n
+sent_taken : (n : ℕ) (l : Link) → HaveSent l n → HaveSent (happens_at_controller l (Step NextFrame (FetchMessage ∷ []) GoesOut)) n
 sent_taken n l h = by l.to_controller refl
   where
-    by : (w : List OnWire) → l.to_controller ≡ w → HaveSent (happens_here l (Step NextFrame (FetchMessage ∷ []) GoesOut)) n
+    by : (w : List OnWire) → l.to_controller ≡ w → HaveSent (happens_at_controller l (Step NextFrame (FetchMessage ∷ []) GoesOut)) n
     by [] q = rw q (record { here = h.here; there = h.there })
     by (x ∷ xs) q =
         let b : Bool = is_some (ended_by l.controller.side (Take x.frame)) in
@@ -151,29 +151,29 @@ sent_taken n l h = by l.to_controller refl
         (turned (after_input l.controller.side (Take x.frame)) (FetchMessage ∷ []))
         (few_took n l.controller.side x.frame h.here) (omega (arith, far, h.there))))
 
-pub sent_ticked : (n : ℕ) (l : Link) → HaveSent l n → HaveSent (ticks_here l [] GoesOut) n
-sent_ticked n l h = both n (ticks_here l [] GoesOut) (few_input n n l Tick (few_ticked n l.controller.side h.here) h.there)
+pub sent_ticked : (n : ℕ) (l : Link) → HaveSent l n → HaveSent (ticks_at_controller l [] GoesOut) n
+sent_ticked n l h = both n (ticks_at_controller l [] GoesOut) (few_input n n l Tick (few_ticked n l.controller.side h.here) h.there)
 
-sent_reset : (n : ℕ) (window : Option ℕ) (l : Link) → HaveSent l n → HaveSent (happens_here l (Step (AsksReset window) [] GoesOut)) n
+sent_reset : (n : ℕ) (window : Option ℕ) (l : Link) → HaveSent l n → HaveSent (happens_at_controller l (Step (AsksReset window) [] GoesOut)) n
 sent_reset n window l h =
-    both n (happens_here l (Step (AsksReset window) [] GoesOut)) (few_input n n l (Reset window) (few_reset n l.controller.side window h.here) h.there)
+    both n (happens_at_controller l (Step (AsksReset window) [] GoesOut)) (few_input n n l (Reset window) (few_reset n l.controller.side window h.here) h.there)
 
-sent_held : (n : ℕ) (held : Bool) (l : Link) → HaveSent l n → HaveSent (happens_here l (Step NoInput (Hold held ∷ []) GoesOut)) n
+sent_held : (n : ℕ) (held : Bool) (l : Link) → HaveSent l n → HaveSent (happens_at_controller l (Step NoInput (Hold held ∷ []) GoesOut)) n
 sent_held n held l h =
-    both n (happens_here l (Step NoInput (Hold held ∷ []) GoesOut)) (few_becomes n n l (turn l.controller.side (Hold held)) h.here h.there)
+    both n (happens_at_controller l (Step NoInput (Hold held ∷ []) GoesOut)) (few_becomes n n l (turn l.controller.side (Hold held)) h.here h.there)
 
-sent_given : (n : ℕ) (x : Message) (l : Link) → HaveSent l n → HaveSent (happens_here l (Step NoInput (Give x ∷ []) GoesOut)) (n + 1)
+sent_given : (n : ℕ) (x : Message) (l : Link) → HaveSent l n → HaveSent (happens_at_controller l (Step NoInput (Give x ∷ []) GoesOut)) (n + 1)
 sent_given n x l h =
-    both (n + 1) (happens_here l (Step NoInput (Give x ∷ []) GoesOut))
+    both (n + 1) (happens_at_controller l (Step NoInput (Give x ∷ []) GoesOut))
     (few_becomes (n + 1) (n + 1) l (turn l.controller.side (Give x)) (few_given n l.controller.side x h.here) (let f = h.there in omega (arith, f)))
 
 -- it happens at either end
-sent_at : (n k : ℕ) (l : Link) (e : End) (x : EndEvent) → ((m : Link) → HaveSent m n → HaveSent (happens_here m x) k) → HaveSent l n
+sent_at : (n k : ℕ) (l : Link) (e : End) (x : EndEvent) → ((m : Link) → HaveSent m n → HaveSent (happens_at_controller m x) k) → HaveSent l n
     → HaveSent (happens l (at e x)) k
 sent_at n k l e x here h = go e.at_host
   where
     go : (b : Bool) → HaveSent (happens l (at (record { link = e.link; at_host = b }) x)) k
-    go true = swapped k (happens_here (exchanged l) x) (here (exchanged l) (swapped n l h))
+    go true = swapped k (happens_at_controller (exchanged l) x) (here (exchanged l) (swapped n l h))
     go false = here l h
 
 -- ## Causes
@@ -192,8 +192,8 @@ sent_after n l (Given e m) none h = absurd none
 sent_after n l (Taken e) none h = sent_at n n l e (Step NextFrame (FetchMessage ∷ []) GoesOut) (sent_taken n) h
 sent_after n l (WasLost e why) none h = sent_at n n l e (Lose why) (λ m g. record { here = g.here; there = g.there }) h
 sent_after n l Ticked none h =
-    let near : Link = ticks_here (aged l) [] GoesOut in
-    swapped n (ticks_here (exchanged near) [] GoesOut)
+    let near : Link = ticks_at_controller (aged l) [] GoesOut in
+    swapped n (ticks_at_controller (exchanged near) [] GoesOut)
     (sent_ticked n (exchanged near) (swapped n near (sent_ticked n (aged l) (record { here = h.here; there = h.there }))))
 sent_after n l (WasReset e window) none h = sent_at n n l e (Step (AsksReset window) [] GoesOut) (sent_reset n window) h
 sent_after n l (Readied e ready) none h = sent_at n n l e (Step NoInput (Hold (not ready) ∷ []) GoesOut) (sent_held n (not ready)) h

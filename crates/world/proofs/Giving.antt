@@ -17,7 +17,7 @@ use Rattle.history.specs.Follows.{as_noted}
 use Rattle.world.specs.declared.node.Node.{Node}
 use Rattle.world.specs.declared.side.Side.{Side}
 use Rattle.world.specs.Noting.{side_of}
-use Rattle.world.specs.Nodes.{StandsFor as NodeStandsFor}
+use Rattle.world.specs.Nodes.{NodeStandsFor}
 use Rattle.world.specs.Sides.{LinkStandsFor, AreNoted, HasHappened}
 use Rattle.world.proofs.Noting.{end_is, more_noted}
 

@@ -10,7 +10,7 @@ use Rattle.trace_model.specs.declared.entry.NoCause.TheVariants.{Empty}
 use Rattle.trace_model.specs.declared.line.End.{End}
 use Rattle.trace_model.specs.declared.line.Line.{Line}
 use Rattle.session_laws.specs.Sessions.{OnWire}
-use Rattle.message_link.specs.Links.{Link, EndEvent, happens, happens_here, exchanged}
+use Rattle.message_link.specs.Links.{Link, EndEvent, happens, happens_at_controller, exchanged}
 use Rattle.link_entries.specs.Entries.{event_entries, here_entries}
 use Rattle.history.specs.Histories.{Cause, Outcome, noted}
 use Rattle.history.specs.Histories.Outcome.{Refused, Caused}
@@ -26,10 +26,10 @@ use Rattle.world.specs.Lines.{SidesStandFor, Does}
 -- ## Seen from an end
 
 pub seen_happens : (at : End) (l : Link) (event : EndEvent)
-    → seen_from at (happens l (happens_at at event)) ≡ happens_here (seen_from at l) event
+    → seen_from at (happens l (happens_at at event)) ≡ happens_at_controller (seen_from at l) event
 seen_happens at l event = by at.at_host refl
   where
-    by : (b : Bool) → at.at_host ≡ b → seen_from at (happens l (happens_at at event)) ≡ happens_here (seen_from at l) event
+    by : (b : Bool) → at.at_host ≡ b → seen_from at (happens l (happens_at at event)) ≡ happens_at_controller (seen_from at l) event
     by true q = rw q refl
     by false q = rw q refl
 

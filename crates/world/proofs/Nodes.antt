@@ -34,15 +34,15 @@ use Rattle.link_machine.proofs.Reports.{Reports}
 use Rattle.link_end.specs.declared.report.ResetRefused.{ResetRefused}
 use Rattle.link_end.specs.declared.link.LinkEnd.{LinkEnd as Link}
 use Rattle.link_end.specs.declared.report.LinkReport.{LinkReport}
-use Rattle.link_end.specs.Ends.{StandsFor as EndStandsFor, Accounts, LeavesOthers}
-use Rattle.link_end.specs.Reports.{told as told_of, nothing_told, reset_told, reset_refused}
+use Rattle.link_end.specs.Ends.{EndStandsFor, Accounts, EndLeavesOthers}
+use Rattle.link_end.specs.Reports.{report_told as told_of, nothing_told, reset_told, reset_refused}
 use Rattle.link_end.proofs.AccountLemmas.{account_kept, account_moved, given_own}
 use Rattle.link_entries.specs.Entries.{told}
 use Rattle.link_entries.specs.Entries.Entry.{Got}
 use Rattle.history.specs.Steps.{entries_for}
 use Rattle.world.specs.declared.node.Node.{Node}
 use Rattle.world.specs.Noting.{side_of, acked_on, reported}
-use Rattle.world.specs.Nodes.{Reached, CanFetch, HasInput, StandsFor}
+use Rattle.world.specs.Nodes.{Reached, CanFetch, HasInput, NodeStandsFor}
 use Rattle.world.specs.Sides.{AreNoted}
 use Rattle.world.proofs.Noting.{end_is, told_at, acked_told}
 
@@ -127,7 +127,7 @@ pub record IsReported (n : Node) (m : LinkEnd) (i : LinkInput) (at : End) (sessi
   pub noted : now ≡ before ++ reported at session (told_of (report m i)) (whole_acked (after_input m i))
 
 pub input_done : (n : Node) (k : Link) (pool : PoolState) (m : LinkEnd) (i : LinkInput) (r : LinkReport) (new : Node) (at : End) (session : ℕ)
-    (before now : List Entry) → HasInput n m → EndStandsFor k.link pool (after_input m i) → LeavesOthers n.pool pool n.«end».link k.link
+    (before now : List Entry) → HasInput n m → EndStandsFor k.link pool (after_input m i) → EndLeavesOthers n.pool pool n.«end».link k.link
     → r ≡ told_of (report m i) → Reports m i → AreSendableInputs (i ∷ []) → length m.sent < 2 ^ 32
     → new ≡ record { «end» = k; pool = pool; acked = acked_on n.acked r }
     → now ≡ before ++ reported at session r new.acked
@@ -151,7 +151,7 @@ input_done n k pool m i r new at session before now h stands leaves told reports
 -- where no message came, that is all
 pub without_message : (n : Node) (m : LinkEnd) (i : LinkInput) (at : End) (session : ℕ) (before now : List Entry) → m.got ≡ []
     → (after_input m i).got ≡ m.got → (report m i).got ≡ [] → IsReported n m i at session before now
-    → StandsFor n (after_input m i) × AreNoted at before now (told (side_of at) session (report m i) (whole_acked (after_input m i)))
+    → NodeStandsFor n (after_input m i) × AreNoted at before now (told (side_of at) session (report m i) (whole_acked (after_input m i)))
 without_message n m i at session before now none kept silent d =
     let k : ℕ = whole_acked (after_input m i) in
     let all : entries_for at.link (told (side_of at) session (report m i) k) ≡ reported at session (told_of (report m i)) k =
@@ -163,8 +163,8 @@ without_message n m i at session before now none kept silent d =
 -- ## What the node does to its end
 
 -- where the end, its pool and the number of acknowledged messages are such, the node stands for this state
-pub kept_as : (n : Node) (k : Link) (pool : PoolState) (m m2 : LinkEnd) → StandsFor n m → EndStandsFor k.link pool m2 → Accounts k.link pool None
-    → Reached m2 → m2.got ≡ m.got → whole_acked m2 ≡ whole_acked m → StandsFor (record { «end» = k; pool = pool; acked = n.acked }) m2
+pub kept_as : (n : Node) (k : Link) (pool : PoolState) (m m2 : LinkEnd) → NodeStandsFor n m → EndStandsFor k.link pool m2 → Accounts k.link pool None
+    → Reached m2 → m2.got ≡ m.got → whole_acked m2 ≡ whole_acked m → NodeStandsFor (record { «end» = k; pool = pool; acked = n.acked }) m2
 kept_as n k pool m m2 h stands accounts reached got acked =
     record {
       has = record { stands = stands; accounts = accounts; reached = reached; acked = h.has.acked ∙ sym acked };
@@ -195,8 +195,8 @@ given_got m x = by (give_refusal m x) refl
     by None q = rw q refl
     by (Some why) q = rw q refl
 
-pub gives : (n : Node) (k : Link) (pool : PoolState) (m : LinkEnd) (x : Message) → StandsFor n m → EndStandsFor k.link pool (turn m (Give x))
-    → LeavesOthers n.pool pool n.«end».link k.link → IsSendable x → StandsFor (record { «end» = k; pool = pool; acked = n.acked }) (turn m (Give x))
+pub gives : (n : Node) (k : Link) (pool : PoolState) (m : LinkEnd) (x : Message) → NodeStandsFor n m → EndStandsFor k.link pool (turn m (Give x))
+    → EndLeavesOthers n.pool pool n.«end».link k.link → IsSendable x → NodeStandsFor (record { «end» = k; pool = pool; acked = n.acked }) (turn m (Give x))
 gives n k pool m x h stands leaves sendable =
     kept_as n k pool m (turn m (Give x)) h stands (account_kept n.pool pool n.«end».link k.link m None h.has.stands leaves h.has.accounts)
     (reached_on m (FromNode (Give x)) (sendable, tt) h.has.reached) (given_got m x) (given_acked m x sendable (is_sound m h.has.reached))
@@ -212,8 +212,8 @@ held_acked m held = go m.shdlc.ready held m.shdlc.session.answered_rnr refl refl
     go false false true p q n = rw (p, q, n) refl
     go false false false p q n = rw (p, q, n) refl
 
-pub holds : (n : Node) (k : Link) (m : LinkEnd) (held : Bool) → StandsFor n m → EndStandsFor k.link n.pool (turn m (Hold held))
-    → k.link.inbox ≡ n.«end».link.inbox → StandsFor (record { «end» = k; pool = n.pool; acked = n.acked }) (turn m (Hold held))
+pub holds : (n : Node) (k : Link) (m : LinkEnd) (held : Bool) → NodeStandsFor n m → EndStandsFor k.link n.pool (turn m (Hold held))
+    → k.link.inbox ≡ n.«end».link.inbox → NodeStandsFor (record { «end» = k; pool = n.pool; acked = n.acked }) (turn m (Hold held))
 holds n k m held h stands inbox =
     kept_as n k n.pool m (turn m (Hold held)) h stands (account_moved n.pool n.«end».link k.link None inbox h.has.accounts)
     (reached_on m (FromNode (Hold held)) tt h.has.reached) refl (held_acked m held)
@@ -240,8 +240,8 @@ fetched_same m = go m.acts refl
         by true q = rw (p, q) (refl, refl)
         by false q = rw (p, q) (refl, at)
 
-pub fetches_frame : (n : Node) (k : Link) (m : LinkEnd) → StandsFor n m → EndStandsFor k.link n.pool (frame_fetched m)
-    → k.link.inbox ≡ n.«end».link.inbox → StandsFor (record { «end» = k; pool = n.pool; acked = n.acked }) (frame_fetched m)
+pub fetches_frame : (n : Node) (k : Link) (m : LinkEnd) → NodeStandsFor n m → EndStandsFor k.link n.pool (frame_fetched m)
+    → k.link.inbox ≡ n.«end».link.inbox → NodeStandsFor (record { «end» = k; pool = n.pool; acked = n.acked }) (frame_fetched m)
 fetches_frame n k m h stands inbox =
     kept_as n k n.pool m (frame_fetched m) h stands (account_moved n.pool n.«end».link k.link None inbox h.has.accounts)
     (reached_on m Fetch tt h.has.reached) (fetched_same m).0 (fetched_same m).1
@@ -287,9 +287,9 @@ answered_reset m window r h told = by (reset_refusal m) refl
         let z : Ok (record nothing_told { ended = if_up m.shdlc Asked }) ≡ Ok r = rw q at told in
         sym (ap (ok_or r) z) ∙ reset_report m window h q
 
-pub reset_so_kept : (n : Node) (k : Link) (pool : PoolState) (m : LinkEnd) (window : Option ℕ) → StandsFor n m
-    → EndStandsFor k.link pool (after_input m (Reset window)) → LeavesOthers n.pool pool n.«end».link k.link → after_input m (Reset window) ≡ m
-    → StandsFor (record { «end» = k; pool = pool; acked = n.acked }) m
+pub reset_so_kept : (n : Node) (k : Link) (pool : PoolState) (m : LinkEnd) (window : Option ℕ) → NodeStandsFor n m
+    → EndStandsFor k.link pool (after_input m (Reset window)) → EndLeavesOthers n.pool pool n.«end».link k.link → after_input m (Reset window) ≡ m
+    → NodeStandsFor (record { «end» = k; pool = pool; acked = n.acked }) m
 reset_so_kept n k pool m window h stands leaves same =
     let P : LinkEnd → Type 0 = λ e. EndStandsFor k.link pool e in
     kept_as n k pool m m h (subst P same stands) (account_kept n.pool pool n.«end».link k.link m None h.has.stands leaves h.has.accounts)
@@ -316,7 +316,7 @@ fetched_none k pool m h none = sym h.half.got ∙ ap (λ g. messages_of pool (go
 -- nothing came
 pub fetches_none : (n : Node) (k : Link) (m : LinkEnd) (at : End) (session : ℕ) (entries : List Entry) → HasInput n m
     → EndStandsFor k.link n.pool (turn m FetchMessage) → Accounts k.link n.pool None → oldest m.got ≡ None
-    → StandsFor (record { «end» = k; pool = n.pool; acked = n.acked }) (turn m FetchMessage)
+    → NodeStandsFor (record { «end» = k; pool = n.pool; acked = n.acked }) (turn m FetchMessage)
     × AreNoted at entries entries (map (Got (side_of at) session) m.got)
 fetches_none n k m at session entries h stands accounts none =
     let got = nothing_oldest m.got none in (
@@ -333,7 +333,7 @@ pub fetches_one : (n : Node) (k : Link) (pool : PoolState) (m : LinkEnd) (at : E
     → EndStandsFor k.link n.pool (turn m FetchMessage) → Accounts k.link n.pool (Some chain) → k.link.inbox.got ≡ None
     → Some (pid, chain_bytes n.pool chain) ≡ oldest m.got → Gives n.pool pool chain → KeepsOthers n.pool pool chain chain
     → message ≡ chain_bytes n.pool chain → now ≡ before ++ entry.Got at session pid message ∷ []
-    → StandsFor (record { «end» = k; pool = pool; acked = n.acked }) (turn m FetchMessage)
+    → NodeStandsFor (record { «end» = k; pool = pool; acked = n.acked }) (turn m FetchMessage)
     × AreNoted at before now (map (Got (side_of at) session) m.got)
 fetches_one n k pool m at session pid chain message before now h stands accounts none first gives keeps is noted =
     let left = fetched_none k.link n.pool (turn m FetchMessage) stands none in
@@ -375,9 +375,9 @@ took_got m Ua = heard_got m Ua refl refl
 -- a message came with a frame, or none did, and it was fetched
 pub with_message : (n fetched : Node) (m : LinkEnd) (c : Control) (at : End) (session : ℕ) (before mid now : List Entry) → m.got ≡ []
     → IsReported n m (Take c) at session before mid
-    → StandsFor fetched (turn (after_input m (Take c)) FetchMessage)
+    → NodeStandsFor fetched (turn (after_input m (Take c)) FetchMessage)
     × AreNoted at mid now (map (Got (side_of at) session) (after_input m (Take c)).got)
-    → StandsFor fetched (turn (after_input m (Take c)) FetchMessage)
+    → NodeStandsFor fetched (turn (after_input m (Take c)) FetchMessage)
     × AreNoted at before now (told (side_of at) session (report m (Take c)) (whole_acked (after_input m (Take c))))
 with_message n fetched m c at session before mid now none d f =
     let k : ℕ = whole_acked (after_input m (Take c)) in
@@ -394,8 +394,8 @@ pub taken_input : (bytes : List ℕ) (c : Control) → control_of bytes ≡ Ok c
 taken_input bytes c q = rw q refl
 
 -- what a call leaves of what may be fetched
-pub can_fetch : (n : Node) (k : Link) (pool : PoolState) (m m2 : LinkEnd) (acked : ℕ) (new : Node) → StandsFor n m → EndStandsFor k.link pool m2
-    → LeavesOthers n.pool pool n.«end».link k.link → new ≡ record { «end» = k; pool = pool; acked = acked } → CanFetch new m2
+pub can_fetch : (n : Node) (k : Link) (pool : PoolState) (m m2 : LinkEnd) (acked : ℕ) (new : Node) → NodeStandsFor n m → EndStandsFor k.link pool m2
+    → EndLeavesOthers n.pool pool n.«end».link k.link → new ≡ record { «end» = k; pool = pool; acked = acked } → CanFetch new m2
 can_fetch n k pool m m2 acked new h stands leaves is =
     let P : Node → Type 0 = λ x. CanFetch x m2 in
     subst P (sym is)

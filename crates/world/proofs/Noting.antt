@@ -13,11 +13,11 @@ use Rattle.link_machine.proofs.Shifts.Shift.{Stays, Ends, Renews, Begins, Rests}
 use Rattle.link_machine.proofs.Sound.{SentAfter, whole_more, whole_few}
 use Rattle.link_machine.proofs.Runs.{Sound}
 use Rattle.link_machine.proofs.Reports.{Reports}
-use Rattle.link_end.specs.Reports.{told as told_of}
+use Rattle.link_end.specs.Reports.{report_told as told_of}
 use Rattle.link_entries.specs.Entries.{End as Which, Entry as Noted, told, if_so as note_if}
 use Rattle.link_entries.specs.Entries.Entry.{Up, Down, Active, GaveUp, Acked, Got}
 use Rattle.history.specs.Steps.{end_of, entry_of, entries_for}
-use Rattle.world.specs.Noting.{side_of, if_so, acked_on, reported}
+use Rattle.world.specs.Noting.{side_of, noted_if, acked_on, reported}
 use Rattle.world.specs.Sides.{AreNoted}
 
 -- an end is the one on its side of its link
@@ -46,7 +46,7 @@ gave_up_entries : (h : ℕ) (who : Which) (o : Option ℕ) → entries_for h (ma
 gave_up_entries h who None = refl
 gave_up_entries h who (Some tries) = refl
 
-if_entries : (h : ℕ) (b : Bool) (x : Noted) (e : Entry) → entry_of h x ≡ e ∷ [] → entries_for h (note_if b x) ≡ if_so b e
+if_entries : (h : ℕ) (b : Bool) (x : Noted) (e : Entry) → entry_of h x ≡ e ∷ [] → entries_for h (note_if b x) ≡ noted_if b e
 if_entries h false x e q = refl
 if_entries h true x e q = ap (λ es. es ++ []) q
 
@@ -70,8 +70,8 @@ told_entries h who n k r =
     (entries-append h d (e ++ g)
     ∙ parts (gave_up_entries h who r.gave_up)
     (entries-append h e g ∙ parts (if_entries h (nat_lt 0 r.acked) (Acked who n k) (entry.Acked z n k) refl) refl))))
-    ∙ joined (map (entry.Down z) (option_to_list r.ended)) (if_so r.began (entry.Up z n)) (if_so r.became_active (entry.Active z))
-    (map (entry.GaveUp z) (option_to_list r.gave_up)) (if_so (nat_lt 0 r.acked) (entry.Acked z n k)) (entries_for h g))
+    ∙ joined (map (entry.Down z) (option_to_list r.ended)) (noted_if r.began (entry.Up z n)) (noted_if r.became_active (entry.Active z))
+    (map (entry.GaveUp z) (option_to_list r.gave_up)) (noted_if (nat_lt 0 r.acked) (entry.Acked z n k)) (entries_for h g))
   where
     parts : {a b c d : List Entry} → a ≡ c → b ≡ d → a ++ b ≡ c ++ d
     parts p q = rw (p, q) refl

@@ -5,7 +5,7 @@ use Rattle.trace_model.specs.declared.entry.Entry.{Entry}
 use Rattle.trace_model.specs.declared.line.End.{End}
 use Rattle.trace_model.specs.Ends.{other_end}
 use Rattle.trace_model.specs.declared.line.Line.{Line}
-use Rattle.message_link.specs.Links.{Link, EndEvent, happens, aged, ticks_here, exchanged}
+use Rattle.message_link.specs.Links.{Link, EndEvent, happens, aged, ticks_at_controller, exchanged}
 use Rattle.message_link.specs.Links.Ending.{GoesOut}
 use Rattle.link_entries.specs.Entries.{End as Which, Entry as Noted, event_entries, aged_entries, tick_entries}
 use Rattle.link_entries.specs.Entries.End.{Controller, Host}
@@ -98,10 +98,10 @@ pub tick_noted : (at : End) (l : Link) (a b c d e : List Entry) → at.at_host �
     → AreNoted at a b (aged_entries (side_of at) l.to_controller)
     → AreNoted (other_end at) b c (aged_entries (side_of (other_end at)) l.to_host)
     → AreNoted at c d (tick_entries (side_of at) (aged l) idle)
-    → AreNoted (other_end at) d e (tick_entries (side_of (other_end at)) (exchanged (ticks_here (aged l) [] GoesOut)) idle)
+    → AreNoted (other_end at) d e (tick_entries (side_of (other_end at)) (exchanged (ticks_at_controller (aged l) [] GoesOut)) idle)
     → e ≡ a ++ (event_at at.link l Ticked).entries
 tick_noted at l a b c d e q one two three four =
-    let near : Link = ticks_here (aged l) [] GoesOut in
+    let near : Link = ticks_at_controller (aged l) [] GoesOut in
     let here : side_of at ≡ Controller = ap (λ x. if x then Host else Controller) q in
     let there : side_of (other_end at) ≡ Host = ap (λ x. if not x then Host else Controller) q in
     let P : Which → Type 0 = λ w. AreNoted at a b (aged_entries w l.to_controller) in

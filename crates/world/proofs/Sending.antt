@@ -3,7 +3,7 @@ use Rattle.std.proofs.Common.{◌≡◌, ℕ, zero, suc, ◌≤◌, List, [], �
 use Rattle.std.proofs.lemmas.List.{append-nil}
 use Rattle.std.specs.Prelude.{Ok, Option, Some, None, IfSome, option_map}
 use Rattle.swp_base.specs.declared.control_frames.Control.{Control}
-use Rattle.swp_lpdu.specs.Controls.{bytes_of, control_of}
+use Rattle.swp_lpdu.specs.Controls.{lpdu_of, control_of}
 use Rattle.trace_model.specs.declared.entry.Entry.{Entry}
 use Rattle.trace_model.specs.declared.line.End.{End}
 use Rattle.shdlc_core.specs.declared.answers.Due.{Due}
@@ -16,7 +16,7 @@ use Rattle.history.specs.Steps.{entries_for}
 use Rattle.world.specs.declared.node.Node.{Node}
 use Rattle.world.specs.declared.side.Side.{Side}
 use Rattle.world.specs.Noting.{side_of}
-use Rattle.world.specs.Nodes.{StandsFor as NodeStandsFor}
+use Rattle.world.specs.Nodes.{NodeStandsFor}
 use Rattle.world.specs.Sides.{LinkStandsFor, IsMidway, AreNoted}
 use Rattle.world.proofs.Noting.{more_noted}
 use Rattle.world.proofs.Bare.{is_bare, plain_fetched}
@@ -106,7 +106,7 @@ sending_starts at near far resets l m entries h =
 -- what putting one frame does
 abbrev pub Puts : End → Side → Side → ℕ → Side → Side → ℕ → List ℕ → List Entry → List Entry → Type 0
 Puts at near far resets near2 far2 resets2 lpdu mid now =
-    (l : Link) (m : LinkEnd) (c : Control) → IsMidway near far resets l m → lpdu ≡ bytes_of c → control_of lpdu ≡ Ok c
+    (l : Link) (m : LinkEnd) (c : Control) → IsMidway near far resets l m → lpdu ≡ lpdu_of c → control_of lpdu ≡ Ok c
     → IsMidway near2 far2 resets2 (put l c) m × AreNoted at mid now (put_entries (side_of at) l c)
 
 abbrev or_these : List ℕ → Option (List ℕ) → List ℕ
@@ -115,18 +115,18 @@ or_these a (Some b) = b
 
 pub sending_goes_on : (at : End) (near far near2 far2 : Side) (new : Node) (resets resets2 : ℕ) (l : Link) (m : LinkEnd)
     (before mid now : List Entry) (left : ℕ) (lpdu : List ℕ) (result : Option (List ℕ)) (s : Sending at near far resets l m before mid (suc left))
-    → NodeStandsFor new (after_input s.e Fetch) → result ≡ option_map bytes_of (next_frame s.e)
-    → IfSome (next_frame s.e) (λ c. control_of (bytes_of c) ≡ Ok c) → result ≡ Some lpdu
+    → NodeStandsFor new (after_input s.e Fetch) → result ≡ option_map lpdu_of (next_frame s.e)
+    → IfSome (next_frame s.e) (λ c. control_of (lpdu_of c) ≡ Ok c) → result ≡ Some lpdu
     → Puts at (record near { node = new }) far resets near2 far2 resets2 lpdu mid now → Sending at near2 far2 resets2 l m before now left
 sending_goes_on at near far near2 far2 new resets resets2 l m before mid now left lpdu result s node answer read is puts = go (next_frame s.e) refl
   where
     go : (o : Option Control) → next_frame s.e ≡ o → Sending at near2 far2 resets2 l m before now left
-    go None q = absurd (let z : None ≡ Some lpdu = sym (ap (option_map bytes_of) q) ∙ (sym answer ∙ is) in cc)
+    go None q = absurd (let z : None ≡ Some lpdu = sym (ap (option_map lpdu_of) q) ∙ (sym answer ∙ is) in cc)
     go (Some c) q =
-        let bytes : lpdu ≡ bytes_of c =
-        ap (or_these lpdu) (sym is ∙ (answer ∙ ap (option_map bytes_of) q)) in
-        let R : Option Control → Type 0 = λ o. IfSome o (λ c. control_of (bytes_of c) ≡ Ok c) in
-        let read_is : control_of (bytes_of c) ≡ Ok c = subst R q read in
+        let bytes : lpdu ≡ lpdu_of c =
+        ap (or_these lpdu) (sym is ∙ (answer ∙ ap (option_map lpdu_of) q)) in
+        let R : Option Control → Type 0 = λ o. IfSome o (λ c. control_of (lpdu_of c) ≡ Ok c) in
+        let read_is : control_of (lpdu_of c) ≡ Ok c = subst R q read in
         let due : frame_due s.e.shdlc ≡ Some c = sym (plain_next s.e s.no_acts) ∙ q in
         let frames : frames_of (suc left) s.e.shdlc ≡ c ∷ frames_of left (fetched s.e.shdlc) = first_frame s.e.shdlc c left due in
         let f : LinkEnd = record s.e { shdlc = fetched s.e.shdlc } in
@@ -186,13 +186,13 @@ sent at near far new resets l m before now left s node idle none after =
 -- nothing is to be sent any more
 pub sending_stops : (at : End) (near far : Side) (new : Node) (resets : ℕ) (l : Link) (m : LinkEnd) (before now : List Entry) (left : ℕ)
     (result : Option (List ℕ)) (s : Sending at near far resets l m before now left) → NodeStandsFor new (after_input s.e Fetch)
-    → result ≡ option_map bytes_of (next_frame s.e) → result ≡ None
+    → result ≡ option_map lpdu_of (next_frame s.e) → result ≡ None
     → LinkStandsFor (record near { node = new }) far resets (becomes l m) × AreNoted at before now (puts_entries (side_of at) l (frames_out m))
 sending_stops at near far new resets l m before now left result s node answer is = go (next_frame s.e) refl
   where
     go : (o : Option Control) → next_frame s.e ≡ o
         → LinkStandsFor (record near { node = new }) far resets (becomes l m) × AreNoted at before now (puts_entries (side_of at) l (frames_out m))
-    go (Some c) q = absurd (let z : Some (bytes_of c) ≡ None = sym (ap (option_map bytes_of) q) ∙ (sym answer ∙ is) in cc)
+    go (Some c) q = absurd (let z : Some (lpdu_of c) ≡ None = sym (ap (option_map lpdu_of) q) ∙ (sym answer ∙ is) in cc)
     go None q =
         let none : frame_due s.e.shdlc ≡ None = sym (plain_next s.e s.no_acts) ∙ q in
         let N : LinkEnd → Type 0 = λ z. NodeStandsFor new z in

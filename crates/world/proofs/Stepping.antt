@@ -3,7 +3,7 @@ use Rattle.std.proofs.Common.{◌≡◌, ℕ, ◌+◌, Bool, true, false, cond, 
 use Rattle.std.specs.Prelude.{Ok, Option, Some, None, slice_get}
 use Rattle.circular_buffer.specs.Buffer.{Buffer, buffer}
 use Rattle.swp_base.specs.declared.control_frames.Control.{Control}
-use Rattle.swp_lpdu.specs.Controls.{bytes_of, control_of}
+use Rattle.swp_lpdu.specs.Controls.{lpdu_of, control_of}
 use Rattle.trace_model.specs.declared.entry.Entry.{Entry}
 use Rattle.trace_model.specs.declared.entry.Entry.TheVariants as entry
 use Rattle.trace_model.specs.declared.entry.LostCause.{LostCause}
@@ -31,14 +31,14 @@ other_side at = by at.at_host refl
     by true q = rw q refl
     by false q = rw q refl
 
-emit_noted : (at : End) (before mid : List Entry) (c : Control) → mid ≡ before ++ entry.Emit at (bytes_of c) ∷ []
+emit_noted : (at : End) (before mid : List Entry) (c : Control) → mid ≡ before ++ entry.Emit at (lpdu_of c) ∷ []
     → AreNoted at before mid (NotedEmit (side_of at) c ∷ [])
-emit_noted at before mid c q = q ∙ ap (λ z. before ++ entry.Emit z (bytes_of c) ∷ []) (sym (end_is at))
+emit_noted at before mid c q = q ∙ ap (λ z. before ++ entry.Emit z (lpdu_of c) ∷ []) (sym (end_is at))
 
 pub put_is : (near far : Side) (resets : ℕ) (l : Link) (m : LinkEnd) (c : Control) (e n k : ℕ) (wire : Buffer Flying) (at : End)
     (before mid now : List Entry) → IsMidway near far resets l m
     → k ≡ cond (is_rset c) (resets + 1) 0 → n ≡ cond (is_rset c) (resets + 1) resets → e ≡ cond (is_rset c) (resets + 1) near.emitted
-    → mid ≡ before ++ entry.Emit at (bytes_of c) ∷ []
+    → mid ≡ before ++ entry.Emit at (lpdu_of c) ∷ []
     → WireStandsFor wire (fits (l.to_host ++ record { frame = c; age = 0; number = k } ∷ []))
     × AreNoted (other_end at) mid now (pushed_out (side_of (other_end at)) (l.to_host ++ record { frame = c; age = 0; number = k } ∷ []))
     → IsMidway (record near { emitted = e }) (record far { wire = wire }) n (put l c) m × AreNoted at before now (put_entries (side_of at) l c)
@@ -91,12 +91,12 @@ put_is near far resets l m c e n k wire at before mid now h k_is n_is e_is noted
           count = count;
         })
 
-pub flying_is : (lpdu : List ℕ) (c : Control) (k : ℕ) → lpdu ≡ bytes_of c
+pub flying_is : (lpdu : List ℕ) (c : Control) (k : ℕ) → lpdu ≡ lpdu_of c
     → record { lpdu = lpdu; age = 0; number = k } ≡ kept_of (record { frame = c; age = 0; number = k })
 flying_is lpdu c k is = ap (λ (b : List ℕ). record { lpdu = b; age = 0; number = k }) is
 
 -- a frame that was put there is as an end makes it
-pub made_is : (lpdu : List ℕ) (c : Control) (k n : ℕ) → lpdu ≡ bytes_of c → control_of lpdu ≡ Ok c → k ≡ cond (is_rset c) n 0
+pub made_is : (lpdu : List ℕ) (c : Control) (k n : ℕ) → lpdu ≡ lpdu_of c → control_of lpdu ≡ Ok c → k ≡ cond (is_rset c) n 0
     → IsMade (record { frame = c; age = 0; number = k })
 made_is lpdu c k n is read number = (ap control_of (sym is) ∙ read, λ q. number ∙ ap (λ b. cond b n 0) q)
 
@@ -130,7 +130,7 @@ lost_first near far resets l why cause at wire flying result before now h so val
             count = h.count;
           };
           noted = noted ∙ ap (λ (f : Flying). before ++ entry.Lost at f.lpdu cause ∷ []) first
-              ∙ ap (λ c. before ++ entry.Lost at (bytes_of x.frame) c ∷ []) so
-              ∙ ap (λ z. before ++ entry.Lost z (bytes_of x.frame) (lost_as why) ∷ []) (sym (end_is at))
+              ∙ ap (λ c. before ++ entry.Lost at (lpdu_of x.frame) c ∷ []) so
+              ∙ ap (λ z. before ++ entry.Lost z (lpdu_of x.frame) (lost_as why) ∷ []) (sym (end_is at))
               ∙ ap (λ ns. before ++ entries_for at.link ns) (sym notes);
         }

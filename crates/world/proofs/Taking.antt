@@ -3,7 +3,7 @@ use Rattle.std.proofs.Common.{◌≡◌, ℕ, ◌≤◌, Bool, true, false, List
 use Rattle.std.proofs.lemmas.List.{append-nil}
 use Rattle.std.specs.Prelude.{Ok, Option, Some, None, slice_get, is_some}
 use Rattle.circular_buffer.specs.Buffer.{Buffer, buffer}
-use Rattle.swp_lpdu.specs.Controls.{bytes_of, control_of}
+use Rattle.swp_lpdu.specs.Controls.{lpdu_of, control_of}
 use Rattle.trace_model.specs.declared.entry.Entry.{Entry}
 use Rattle.trace_model.specs.declared.entry.Entry.TheVariants as entry
 use Rattle.trace_model.specs.declared.line.End.{End}
@@ -11,7 +11,7 @@ use Rattle.session_laws.specs.Sessions.{OnWire, is_rset, took_with}
 use Rattle.link_machine.specs.Machine.{LinkEnd, Turn, report, whole_acked, after_input, ended_by, frames_out, turn}
 use Rattle.link_machine.specs.Machine.LinkInput.{Take}
 use Rattle.link_machine.specs.Machine.Turn.{FetchMessage}
-use Rattle.message_link.specs.Links.{Link, happens_here, becomes, with_ended}
+use Rattle.message_link.specs.Links.{Link, happens_at_controller, becomes, with_ended}
 use Rattle.message_link.specs.Links.Ending.{GoesOut}
 use Rattle.message_link.specs.Links.Comes.{NextFrame}
 use Rattle.message_link.specs.Links.EndEvent.{Step}
@@ -23,7 +23,7 @@ use Rattle.world.specs.declared.node.Node.{Node}
 use Rattle.world.specs.declared.node.Place.{Place}
 use Rattle.world.specs.declared.side.Side.{Side}
 use Rattle.world.specs.Noting.{side_of}
-use Rattle.world.specs.Nodes.{StandsFor as NodeStandsFor}
+use Rattle.world.specs.Nodes.{NodeStandsFor}
 use Rattle.world.specs.Wires.{WireStandsFor, IsMade, kept_of}
 use Rattle.world.specs.Sides.{LinkStandsFor, IsMidway, AreNoted, HasHappened}
 use Rattle.world.proofs.Noting.{end_is, more_noted}
@@ -90,7 +90,7 @@ takes_none near far resets l turns at wire result entries h value is made = go l
           made = tt;
         } in
         let R : Link → Type 0 = λ k. LinkStandsFor (record near { wire = wire }) far resets k in
-        let same : happens_here l (Step NextFrame turns GoesOut) ≡ l = rw q refl in
+        let same : happens_at_controller l (Step NextFrame turns GoesOut) ≡ l = rw q refl in
         let notes : here_entries (side_of at) l (Step NextFrame turns GoesOut) ≡ [] = rw q refl in
         record {
           stands = subst R (sym same)
@@ -173,7 +173,7 @@ took_noted : (at : End) (flying : Flying) (x : OnWire) (before mid : List Entry)
     → mid ≡ before ++ entry.Took at flying.lpdu ∷ [] → AreNoted at before mid (Took (side_of at) x.frame ∷ [])
 took_noted at flying x before mid first is =
     is ∙ ap (λ (f : Flying). before ++ entry.Took at f.lpdu ∷ []) first
-    ∙ ap (λ z. before ++ entry.Took z (bytes_of x.frame) ∷ []) (sym (end_is at))
+    ∙ ap (λ z. before ++ entry.Took z (lpdu_of x.frame) ∷ []) (sym (end_is at))
 
 pub taken : (near far near2 far2 : Side) (resets resets2 : ℕ) (l : Link) (at : End) (place : Place) (wire : Buffer Flying) (flying : Flying)
     (took : ℕ) (before mid then now : List Entry) (f : TakesFirst l wire flying) → LinkStandsFor near far resets l
@@ -192,7 +192,7 @@ taken near far near2 far2 resets resets2 l at place wire flying took before mid 
     let b : List Noted = told_of (side_of at) (record l.controller { took = took_with l.controller.took f.x }) (Take f.x.frame) in
     let d : List Noted = puts_entries (side_of at) (left_after l f.x f.xs) (frames_out e) in
     let q = f.wire_is in
-    let link : happens_here l (Step NextFrame (FetchMessage ∷ []) GoesOut) ≡ becomes (left_after l f.x f.xs) e = rw q refl in
+    let link : happens_at_controller l (Step NextFrame (FetchMessage ∷ []) GoesOut) ≡ becomes (left_after l f.x f.xs) e = rw q refl in
     let notes : here_entries (side_of at) l (Step NextFrame (FetchMessage ∷ []) GoesOut) ≡ taken_entries (side_of at) l f.x f.xs (FetchMessage ∷ []) GoesOut =
     rw q refl in
     let R : Link → Type 0 = λ k. LinkStandsFor near2 far2 resets2 k in

@@ -6,7 +6,7 @@ use Rattle.std.proofs.lemmas.Bool.{ltb-true, ltb-false, lt-ltb, le-ltb}
 use Rattle.std.specs.Prelude.{Option, Some, None, nat_lt, slice_get}
 use Rattle.std.specs.List.{AllByRecursion}
 use Rattle.circular_buffer.specs.Buffer.{Buffer, buffer, keep_last}
-use Rattle.swp_lpdu.specs.Controls.{bytes_of}
+use Rattle.swp_lpdu.specs.Controls.{lpdu_of}
 use Rattle.trace_model.specs.declared.entry.Entry.{Entry}
 use Rattle.trace_model.specs.declared.entry.Entry.TheVariants as entry
 use Rattle.trace_model.specs.declared.entry.LostCause.TheVariants.{Age, Full}
@@ -46,11 +46,11 @@ some_is : (a b : Flying) → Some a ≡ Some b → a ≡ b
 some_is a b p = ap (or_this a) p
 
 -- a frame was lost on its way to an end
-lost_entry : (to : End) (x : OnWire) → entries_for to.link (Lost (side_of to) x.frame TooMany ∷ []) ≡ entry.Lost to (bytes_of x.frame) Full ∷ []
-lost_entry to x = ap (λ z. entry.Lost z (bytes_of x.frame) Full ∷ []) (end_is to)
+lost_entry : (to : End) (x : OnWire) → entries_for to.link (Lost (side_of to) x.frame TooMany ∷ []) ≡ entry.Lost to (lpdu_of x.frame) Full ∷ []
+lost_entry to x = ap (λ z. entry.Lost z (lpdu_of x.frame) Full ∷ []) (end_is to)
 
-old_entry : (to : End) (x : OnWire) → entries_for to.link (Lost (side_of to) x.frame TooOld ∷ []) ≡ entry.Lost to (bytes_of x.frame) Age ∷ []
-old_entry to x = ap (λ z. entry.Lost z (bytes_of x.frame) Age ∷ []) (end_is to)
+old_entry : (to : End) (x : OnWire) → entries_for to.link (Lost (side_of to) x.frame TooOld ∷ []) ≡ entry.Lost to (lpdu_of x.frame) Age ∷ []
+old_entry to x = ap (λ z. entry.Lost z (lpdu_of x.frame) Age ∷ []) (end_is to)
 
 -- there was room
 pub has_room : (wire new : Buffer Flying) (flying : Flying) (frames : List OnWire) (x : OnWire) (to : End) (entries : List Entry)

@@ -11,7 +11,7 @@ use Rattle.trace_model.specs.declared.line.Line.TheVariants.{Send, Deliver, Lose
 use Rattle.trace_model.specs.Lines.{IsHeader, IsLineOf}
 use Rattle.link_machine.specs.Machine.{new_link_end}
 use Rattle.link_machine.specs.Machine.Role.{Bare}
-use Rattle.message_link.specs.Links.{Link, new_half}
+use Rattle.message_link.specs.Links.{Link, new_numbered_end}
 use Rattle.link_entries.specs.Entries.End.{Controller}
 use Rattle.history.specs.Histories.{Outcome, Step, History, events_of, causes_of, all_events, all_entries, noted}
 use Rattle.history.specs.Steps.{end_of, bare_link, link_after_all}
@@ -24,7 +24,7 @@ use Rattle.world.specs.declared.damage_line.Misread.{Misread}
 use Rattle.world.specs.declared.world_steps.World.{World}
 use Rattle.world.specs.Sides.{SideStandsFor, LinkStandsFor}
 use Rattle.world.specs.Lines.{SidesStandFor, Does, HaveSent, IsMisread, damaged_by, end_for}
-use Rattle.world.specs.Worlds.{StandsFor, HasRoom}
+use Rattle.world.specs.Worlds.{WorldStandsFor, HasRoomForLine}
 use Rattle.world.proofs.Given.{sent_line}
 use Rattle.world.proofs.LineLemmas.{seen_back, seen_here}
 
@@ -102,8 +102,8 @@ legal law header lines t are is follows =
 -- ## The header
 
 pub new_stands : Law → (w : World) (header : Header) → IsHeader header → w.header ≡ header
-    → SideStandsFor w.controller (new_half (new_link_end Bare)) [] → SideStandsFor w.host (new_half (new_link_end Bare)) [] → w.resets ≡ 0
-    → w.stepped ≡ 0 → StandsFor w header [] (opened header)
+    → SideStandsFor w.controller (new_numbered_end (new_link_end Bare)) [] → SideStandsFor w.host (new_numbered_end (new_link_end Bare)) [] → w.resets ≡ 0
+    → w.stepped ≡ 0 → WorldStandsFor w header [] (opened header)
 new_stands law w header is header_is here there none first =
     record {
       header_is = header_is;
@@ -146,14 +146,14 @@ link_is header (Tables node) h is = absurd is
 
 -- what a line adds to what the world stands for
 pub record Grows (w now : World) (header : Header) (lines : List Line) (t : History) (line : Line) (entries : List Entry) : Type 0 where
-  pub stands : StandsFor now header (lines ++ line ∷ []) (with_step t line)
+  pub stands : WorldStandsFor now header (lines ++ line ∷ []) (with_step t line)
   pub entries_are : entries ≡ noted (outcome_of (host_of header) (link_at t) line)
 
 -- both sides stand for the link after the line
-step_stands : Law → (w now : World) (header : Header) (lines : List Line) (t : History) (line : Line) → StandsFor w header lines t → IsLineOf header line
+step_stands : Law → (w now : World) (header : Header) (lines : List Line) (t : History) (line : Line) → WorldStandsFor w header lines t → IsLineOf header line
     → now.header ≡ w.header → misread (link_at t) line ≡ None
     → LinkStandsFor now.controller now.host now.resets (link_after_line (link_at t) (outcome_of (host_of header) (link_at t) line))
-    → now.resets ≤ w.resets + 2400 → now.stepped ≡ w.stepped + 1 → StandsFor now header (lines ++ line ∷ []) (with_step t line)
+    → now.resets ≤ w.resets + 2400 → now.stepped ≡ w.stepped + 1 → WorldStandsFor now header (lines ++ line ∷ []) (with_step t line)
 step_stands law w now header lines t line h is header_is none link few next =
     let follows = follows_grow header lines t line h.follows none in
     let are = all_append (IsLineOf header) lines line h.lines_are is in
@@ -196,7 +196,7 @@ at_link : (header : Header) (line : Line) (at : End) → IsHeader header → IsL
 at_link header line at h is q = ap (λ (e : End). e.link) q ∙ link_is header line h is
 
 pub host_grows : Law → (w now : World) (header : Header) (lines : List Line) (t : History) (line : Line) (entries : List Entry) (at : End)
-    → StandsFor w header lines t → IsLineOf header line → now.header ≡ w.header → at ≡ end_for (controller_of header) line → at.at_host ≡ true
+    → WorldStandsFor w header lines t → IsLineOf header line → now.header ≡ w.header → at ≡ end_for (controller_of header) line → at.at_host ≡ true
     → misread (link_at t) line ≡ None → Does now.host now.controller now.resets at (link_at t) line entries → now.resets ≤ w.resets + 2400
     → now.stepped ≡ w.stepped + 1 → Grows w now header lines t line entries
 host_grows law w now header lines t line entries at h is header_is seen q none does few next =
@@ -209,7 +209,7 @@ host_grows law w now header lines t line entries at h is header_is seen q none d
     }
 
 pub controller_grows : Law → (w now : World) (header : Header) (lines : List Line) (t : History) (line : Line) (entries : List Entry) (at : End)
-    → StandsFor w header lines t → IsLineOf header line → now.header ≡ w.header → at ≡ end_for (controller_of header) line → at.at_host ≡ false
+    → WorldStandsFor w header lines t → IsLineOf header line → now.header ≡ w.header → at ≡ end_for (controller_of header) line → at.at_host ≡ false
     → misread (link_at t) line ≡ None → Does now.controller now.host now.resets at (link_at t) line entries → now.resets ≤ w.resets + 2400
     → now.stepped ≡ w.stepped + 1 → Grows w now header lines t line entries
 controller_grows law w now header lines t line entries at h is header_is seen q none does few next =
@@ -222,7 +222,7 @@ controller_grows law w now header lines t line entries at h is header_is seen q 
     }
 
 -- a world that can be stepped was stepped by few lines, and its ends were given few messages
-pub few_sent : (w : World) (lines : List Line) (t : History) → HasRoom w → StandsFor w w.header lines t → HaveSent (link_at t) 20000
+pub few_sent : (w : World) (lines : List Line) (t : History) → HasRoomForLine w → WorldStandsFor w w.header lines t → HaveSent (link_at t) 20000
 few_sent w lines t room h =
     let a = h.sent.here in
     let b = h.sent.there in
@@ -241,7 +241,7 @@ pub one_misread : (l : Link) (line : Line) (o : Option Misread) (other : Misread
 one_misread l line o other q h = let P : Option Misread → Type 0 = λ x. IsMisread l line x in subst P q h
 
 -- a world that stands for a history of few enough lines can be stepped
-pub has_room : (w : World) (header : Header) (lines : List Line) (t : History) → StandsFor w header lines t → length lines < 20000 → HasRoom w
+pub has_room : (w : World) (header : Header) (lines : List Line) (t : History) → WorldStandsFor w header lines t → length lines < 20000 → HasRoomForLine w
 has_room w header lines t h few =
-    let P : Header → Type 0 = λ x. StandsFor w x lines t in
+    let P : Header → Type 0 = λ x. WorldStandsFor w x lines t in
     record { lines = lines; history = t; stands = subst P (sym h.header_is) h; few = few }

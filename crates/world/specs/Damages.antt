@@ -14,6 +14,6 @@ told_as (LostFor why) = told.Lost (lost_as why)
 told_as (Undetected read) = told.Undetected read
 
 -- the verdict on a frame where this one was read in its place, or none for this cause
-abbrev pub told_of : List ℕ → Result (List ℕ) LostCause → Told
-told_of lpdu (Ok read) = told_as (read_as lpdu read)
-told_of lpdu (Err why) = told.Lost why
+abbrev pub told_verdict : List ℕ → Result (List ℕ) LostCause → Told
+told_verdict lpdu (Ok read) = told_as (read_as lpdu read)
+told_verdict lpdu (Err why) = told.Lost why

@@ -1,6 +1,6 @@
 -- What a line does on a link, seen from the end that it speaks of.
 use Rattle.std.specs.Prelude.{◌≡◌, ℕ, ◌≤◌, List, [], ◌∷◌, ◌++◌, length, Option, Some, None}
-use Rattle.swp_lpdu.specs.Controls.{bytes_of as lpdu_of}
+use Rattle.swp_lpdu.specs.Controls.{lpdu_of}
 use Rattle.session_laws.specs.Sessions.{OnWire}
 use Rattle.trace_model.specs.declared.entry.Entry.{Entry}
 use Rattle.trace_model.specs.declared.line.End.{End}

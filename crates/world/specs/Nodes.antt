@@ -3,7 +3,7 @@ use Rattle.std.specs.Prelude.{◌≡◌, ◌+◌, ◌≤◌, List, [], length, N
 use Rattle.link_machine.specs.Machine.{LinkEnd as Machine, LinkInput, whole_acked}
 use Rattle.link_machine.specs.Machine.Role.{Bare}
 use Rattle.link_machine.specs.Laws.{AreSendableInputs, end_after}
-use Rattle.link_end.specs.Ends.{StandsFor as EndStandsFor, Accounts}
+use Rattle.link_end.specs.Ends.{EndStandsFor, Accounts}
 use Rattle.world.specs.declared.node.Node.{Node}
 
 -- a bare end comes to this state
@@ -25,7 +25,7 @@ pub record HasInput (n : Node) (m : Machine) : Type 0 where
   pub acked : n.acked ≡ whole_acked m
 
 -- what is kept stands for this state, in which none waits
-pub record StandsFor (n : Node) (m : Machine) : Type 0 where
+pub record NodeStandsFor (n : Node) (m : Machine) : Type 0 where
   pub has : HasInput n m
   pub fetched : m.got ≡ []
 

@@ -12,9 +12,9 @@ abbrev pub side_of : End → Which
 side_of at = if at.at_host then Host else Controller
 
 -- this is noted, if so
-abbrev pub if_so : Bool → Entry → List Entry
-if_so true e = e ∷ []
-if_so false e = []
+abbrev pub noted_if : Bool → Entry → List Entry
+noted_if true e = e ∷ []
+noted_if false e = []
 
 -- how many messages of the session are acknowledged after an input, where so many were before; 4,294,967,295 stands for any
 -- greater number
@@ -24,5 +24,5 @@ acked_on before r = min ((if is_some r.ended then 0 else before) + r.acked) 4294
 -- What is noted of an input at an end, in the session with this number, but for the message that came.
 abbrev pub reported : End → ℕ → LinkReport → ℕ → List Entry
 reported at n r acked =
-    map (entry.Down at) (option_to_list r.ended) ++ (if_so r.began (entry.Up at n) ++ (if_so r.became_active (entry.Active at)
-    ++ (map (entry.GaveUp at) (option_to_list r.gave_up) ++ if_so (nat_lt 0 r.acked) (entry.Acked at n acked))))
+    map (entry.Down at) (option_to_list r.ended) ++ (noted_if r.began (entry.Up at n) ++ (noted_if r.became_active (entry.Active at)
+    ++ (map (entry.GaveUp at) (option_to_list r.gave_up) ++ noted_if (nat_lt 0 r.acked) (entry.Acked at n acked))))

@@ -4,12 +4,12 @@ use Rattle.trace_model.specs.declared.entry.Entry.{Entry}
 use Rattle.trace_model.specs.declared.line.End.{End}
 use Rattle.session_laws.specs.Sessions.{OnWire}
 use Rattle.link_machine.specs.Machine.{LinkEnd as Machine}
-use Rattle.message_link.specs.Links.{Half, Link, EndEvent, happens_here}
+use Rattle.message_link.specs.Links.{NumberedEnd, Link, EndEvent, happens_at_controller}
 use Rattle.link_entries.specs.Entries.{Entry as Noted, here_entries}
 use Rattle.history.specs.Steps.{entries_for}
 use Rattle.world.specs.declared.side.Side.{Side}
 use Rattle.world.specs.Noting.{side_of}
-use Rattle.world.specs.Nodes.{StandsFor as NodeStandsFor}
+use Rattle.world.specs.Nodes.{NodeStandsFor}
 use Rattle.world.specs.Wires.{WireStandsFor}
 
 -- one side, whose end may have frames to send
@@ -20,7 +20,7 @@ pub record SideHas (s : Side) (m : Machine) (emitted took : ℕ) (wire : List On
   pub wire_is : WireStandsFor s.wire wire
 
 -- one side, whose end has sent all its frames
-pub record SideStandsFor (s : Side) (h : Half) (wire : List OnWire) : Type 0 where
+pub record SideStandsFor (s : Side) (h : NumberedEnd) (wire : List OnWire) : Type 0 where
   pub has : SideHas s h.side h.emitted h.took wire
   pub idle : h.side.shdlc.due ≡ []
 
@@ -44,5 +44,5 @@ AreNoted at before now notes = now ≡ before ++ entries_for at.link notes
 
 -- the two sides stand for the link after this happened at the end of the near one, and it is noted
 pub record HasHappened (near far : Side) (resets : ℕ) (l : Link) (event : EndEvent) (at : End) (before now : List Entry) : Type 0 where
-  pub stands : LinkStandsFor near far resets (happens_here l event)
+  pub stands : LinkStandsFor near far resets (happens_at_controller l event)
   pub noted : AreNoted at before now (here_entries (side_of at) l event)

@@ -16,16 +16,16 @@ use Rattle.world.specs.Sides.{LinkStandsFor}
 use Rattle.world.specs.Lines.{HaveSent, damaged_by}
 
 -- the header that the world was made of
-abbrev pub header_of : World → Header
-header_of w = w.header
+abbrev pub world_header : World → Header
+world_header w = w.header
 
 -- what the last line caused, or before the first line the header
-abbrev pub entries_of : World → List Entry
-entries_of w = w.entries.items
+abbrev pub world_entries : World → List Entry
+world_entries w = w.entries.items
 
 -- The world stands for a history: it has this header, the history follows these lines and is legal, and both sides are the
 -- link as the history leaves it. A line gives at most one message, and puts at most 2,400 RSETs on the link.
-pub record StandsFor (w : World) (header : Header) (lines : List Line) (t : History) : Type 0 where
+pub record WorldStandsFor (w : World) (header : Header) (lines : List Line) (t : History) : Type 0 where
   pub header_is : w.header ≡ header
   pub is_header : IsHeader header
   pub lines_are : AllByRecursion (IsLineOf header) lines
@@ -37,10 +37,10 @@ pub record StandsFor (w : World) (header : Header) (lines : List Line) (t : Hist
   pub stepped : w.stepped ≡ length lines
 
 -- the world stands for a history of fewer than 20,000 lines
-pub record HasRoom (w : World) : Type 0 where
+pub record HasRoomForLine (w : World) : Type 0 where
   pub lines : List Line
   pub history : History
-  pub stands : StandsFor w (header_of w) lines history
+  pub stands : WorldStandsFor w (world_header w) lines history
   pub few : length lines < 20000
 
 -- This is why a line stops the world: another frame is read in place of the damaged one, or there was no memory for a line

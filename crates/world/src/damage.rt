@@ -4,10 +4,10 @@ ghost use Rattle.swp_frame.specs.Signal.{symbol_of};
 ghost use Rattle.swp_frame.specs.Stuffing.{frame_of};
 ghost use Rattle.swp_frame.specs.Verdicts.{verdicts};
 ghost use Rattle.message_link.specs.Links.Loss.{Broken};
-ghost use Rattle.history.specs.Damage.{flipped, flipped_at, judged, verdict_on};
+ghost use Rattle.history.specs.Damage.{flipped, flipped_at, judged_by_first, verdict_on};
 ghost use Rattle.history.specs.Steps.{lost_as};
 ghost use Rattle.history.specs.Follows.{if_beyond};
-ghost use Rattle.world.specs.Damages.{told_as, told_of};
+ghost use Rattle.world.specs.Damages.{told_as, told_verdict};
 
 use swp_base::{FrameFault, Lpdu};
 use swp_frame::{Deframer, Fed, FrameBits, write_frame};
@@ -57,7 +57,7 @@ fn lost_for(fault: FrameFault) -> LostCause
 
 // The first frame that is read of these bits, or why none is: the first refusal, where there is one.
 fn first_read(bits: &[bool]) -> Result<Lpdu, LostCause>
-    ensures { (lpdu : List ℕ) → told_of lpdu result ≡ told_as (judged lpdu (verdicts (map symbol_of bits.now))) }
+    ensures { (lpdu : List ℕ) → told_verdict lpdu result ≡ told_as (judged_by_first lpdu (verdicts (map symbol_of bits.now))) }
 {
     let mut deframer = Deframer::new();
     let mut refused = None;
@@ -83,7 +83,7 @@ fn damaged(lpdu: &Lpdu, places: &[u16]) -> FrameBits
 
 // The verdict on a frame where this one was read in its place, or none for this cause.
 fn verdict_of(lpdu: &Lpdu, read: Result<Lpdu, LostCause>) -> Verdict
-    ensures { result ≡ told_of lpdu.now read }
+    ensures { result ≡ told_verdict lpdu.now read }
 {
     match read {
         Ok(read) => {

@@ -1,7 +1,7 @@
 //! The node of a bare end: the end, the blocks of memory of its messages, and what is noted of the end.
 ghost use Rattle.std.specs.Prelude.{◌≡◌, ◌++◌, OnOk, IfOk, map, option_to_list};
 ghost use Rattle.trace_model.specs.declared.entry.Entry.{Entry};
-ghost use Rattle.world.specs.Noting.{if_so};
+ghost use Rattle.world.specs.Noting.{noted_if};
 ghost use Rattle.block_pool.specs.Pool.{PoolState, IsLive, chain_bytes};
 
 use block_pool::{Chain, Pool};
@@ -37,7 +37,7 @@ pub(crate) struct Node {
 impl Node {
     ghost use Rattle.std.specs.Prelude.{◌≡◌, ℕ, ◌<◌, ◌≤◌, ◌^◌, [], ◌∷◌, ◌++◌, OnOk, OnErr, IfOk, IfErr, IfSome, IsOk, ◌↔◌, None, Some, Ok, length, map, option_map};
     ghost use Rattle.swp_base.specs.declared.control_frames.Control.{Control};
-    ghost use Rattle.swp_lpdu.specs.Controls.{bytes_of, control_of};
+    ghost use Rattle.swp_lpdu.specs.Controls.{lpdu_of, control_of};
     ghost use Rattle.hcp_packet.specs.Packets.{IsSendable};
     ghost use Rattle.link_machine.specs.Machine.{LinkEnd as Machine, Bare, Message, report, new_link_end, after_input, next_frame, turn, give_refusal, reset_refusal, whole_acked};
     ghost use Rattle.link_machine.specs.Machine.LinkInput.{Take, Tick, Reset, Fetch};
@@ -46,12 +46,12 @@ impl Node {
     ghost use Rattle.link_entries.specs.Entries.Entry.{Got};
     ghost use Rattle.history.specs.Follows.{as_noted};
     ghost use Rattle.world.specs.Noting.{acked_on, reported, side_of};
-    ghost use Rattle.world.specs.Nodes.{StandsFor, HasInput, CanFetch, HasFewDue};
+    ghost use Rattle.world.specs.Nodes.{NodeStandsFor, HasInput, CanFetch, HasFewDue};
     ghost use Rattle.world.specs.Sides.{AreNoted};
 
     /// A new end, which is Up.
     pub(crate) fn make(alloc: Global) -> Result<Node, NoMemory>
-        ensures { IfOk result (λ n. StandsFor n (new_link_end Bare)) }
+        ensures { IfOk result (λ n. NodeStandsFor n (new_link_end Bare)) }
     {
         let pool = Pool::make(alloc, &QUOTAS)?;
         let end = LinkEnd::make(alloc, Role::Bare, SENDER, RECEIVER)?;
@@ -100,7 +100,7 @@ impl Node {
         entries: &mut Vec<Entry>,
     ) -> Result<(), AllocError>
         requires { (m : Machine) × CanFetch self.old m }
-        ensures { (m : Machine) → HasInput self.old m → OnOk result (StandsFor self.new (turn m FetchMessage)
+        ensures { (m : Machine) → HasInput self.old m → OnOk result (NodeStandsFor self.new (turn m FetchMessage)
             × AreNoted place.at entries.old.items entries.new.items (map (Got (side_of place.at) place.session) m.got)) }
     {
         let Some((pid, chain)) = self.end.next_message() else {
@@ -126,9 +126,9 @@ impl Node {
         lpdu: &Lpdu,
         entries: &mut Vec<Entry>,
     ) -> Result<(), AllocError>
-        requires { (m : Machine) × StandsFor self.old m × HasFewDue m }
-        ensures { (m : Machine) (c : Control) → StandsFor self.old m → HasFewDue m → control_of lpdu.now ≡ Ok c → length m.sent < 2 ^ 32
-            → OnOk result (StandsFor self.new (turn (after_input m (Take c)) FetchMessage)
+        requires { (m : Machine) × NodeStandsFor self.old m × HasFewDue m }
+        ensures { (m : Machine) (c : Control) → NodeStandsFor self.old m → HasFewDue m → control_of lpdu.now ≡ Ok c → length m.sent < 2 ^ 32
+            → OnOk result (NodeStandsFor self.new (turn (after_input m (Take c)) FetchMessage)
             × AreNoted place.at entries.old.items entries.new.items (told (side_of place.at) place.session (report m (Take c)) (whole_acked (after_input m (Take c))))) }
     {
         let report = self.end.take_lpdu(&mut self.pool, lpdu);
@@ -138,9 +138,9 @@ impl Node {
 
     /// One tick, and what it did is noted.
     pub(crate) fn tick(&mut self, place: Place, entries: &mut Vec<Entry>) -> Result<(), AllocError>
-        requires { (m : Machine) × StandsFor self.old m × HasFewDue m }
-        ensures { (m : Machine) → StandsFor self.old m → HasFewDue m → length m.sent < 2 ^ 32
-            → OnOk result (StandsFor self.new (after_input m Tick)
+        requires { (m : Machine) × NodeStandsFor self.old m × HasFewDue m }
+        ensures { (m : Machine) → NodeStandsFor self.old m → HasFewDue m → length m.sent < 2 ^ 32
+            → OnOk result (NodeStandsFor self.new (after_input m Tick)
             × AreNoted place.at entries.old.items entries.new.items (told (side_of place.at) place.session (report m Tick) (whole_acked (after_input m Tick)))) }
     {
         let report = self.end.tick(&mut self.pool);
@@ -154,13 +154,13 @@ impl Node {
         window: Option<u8>,
         entries: &mut Vec<Entry>,
     ) -> Result<Option<NoCause>, AllocError>
-        requires stands { (m : Machine) × StandsFor self.old m × HasFewDue m }
+        requires stands { (m : Machine) × NodeStandsFor self.old m × HasFewDue m }
         requires window { IfSome window (λ w. (1 ≤ w) × (w ≤ 4)) }
-        ensures refused { (m : Machine) → StandsFor self.old m → HasFewDue m → IfOk result (λ cause. cause ≡ as_noted (reset_refusal m)) }
-        ensures unchanged { (m : Machine) → StandsFor self.old m → HasFewDue m
-            → IfOk result (λ cause. IfSome cause (λ why. StandsFor self.new m × (entries.new.items ≡ entries.old.items))) }
-        ensures stands { (m : Machine) → StandsFor self.old m → HasFewDue m → length m.sent < 2 ^ 32
-            → IfOk result (λ cause. cause ≡ None → StandsFor self.new (after_input m (Reset window))
+        ensures refused { (m : Machine) → NodeStandsFor self.old m → HasFewDue m → IfOk result (λ cause. cause ≡ as_noted (reset_refusal m)) }
+        ensures unchanged { (m : Machine) → NodeStandsFor self.old m → HasFewDue m
+            → IfOk result (λ cause. IfSome cause (λ why. NodeStandsFor self.new m × (entries.new.items ≡ entries.old.items))) }
+        ensures stands { (m : Machine) → NodeStandsFor self.old m → HasFewDue m → length m.sent < 2 ^ 32
+            → IfOk result (λ cause. cause ≡ None → NodeStandsFor self.new (after_input m (Reset window))
             × AreNoted place.at entries.old.items entries.new.items (told (side_of place.at) place.session (report m (Reset window)) (whole_acked (after_input m (Reset window))))) }
     {
         match self.end.reset(&mut self.pool, window) {
@@ -175,10 +175,10 @@ impl Node {
 
     /// A message is given to send. Why it is refused, where it is; nothing changes then.
     pub(crate) fn give(&mut self, pid: u8, message: &[u8]) -> Option<NoCause>
-        requires stands { (m : Machine) × StandsFor self.old m }
+        requires stands { (m : Machine) × NodeStandsFor self.old m }
         requires sendable { IsSendable (pid, message.now) }
-        ensures refused { (m : Machine) → StandsFor self.old m → result ≡ as_noted (give_refusal m (pid, message.now)) }
-        ensures stands { (m : Machine) → StandsFor self.old m → StandsFor self.new (turn m (Give (pid, message.now))) }
+        ensures refused { (m : Machine) → NodeStandsFor self.old m → result ≡ as_noted (give_refusal m (pid, message.now)) }
+        ensures stands { (m : Machine) → NodeStandsFor self.old m → NodeStandsFor self.new (turn m (Give (pid, message.now))) }
     {
         match self.end.send(&mut self.pool, pid, message) {
             Ok(()) => None,
@@ -190,18 +190,18 @@ impl Node {
 
     /// The end is held, so that it takes no fragments, or let go.
     pub(crate) fn hold(&mut self, held: bool)
-        requires { (m : Machine) × StandsFor self.old m × HasFewDue m }
-        ensures { (m : Machine) → StandsFor self.old m → HasFewDue m → StandsFor self.new (turn m (Hold held)) }
+        requires { (m : Machine) × NodeStandsFor self.old m × HasFewDue m }
+        ensures { (m : Machine) → NodeStandsFor self.old m → HasFewDue m → NodeStandsFor self.new (turn m (Hold held)) }
     {
         self.end.hold(held);
     }
 
     /// Fetches the frame that is to be sent now. None where nothing is to be sent.
     pub(crate) fn next_out(&mut self) -> Option<Lpdu>
-        requires { (m : Machine) × StandsFor self.old m }
-        ensures stands { (m : Machine) → StandsFor self.old m → StandsFor self.new (after_input m Fetch) }
-        ensures answer { (m : Machine) → StandsFor self.old m → result ≡ option_map bytes_of (next_frame m) }
-        ensures read { (m : Machine) → StandsFor self.old m → IfSome (next_frame m) (λ c. control_of (bytes_of c) ≡ Ok c) }
+        requires { (m : Machine) × NodeStandsFor self.old m }
+        ensures stands { (m : Machine) → NodeStandsFor self.old m → NodeStandsFor self.new (after_input m Fetch) }
+        ensures answer { (m : Machine) → NodeStandsFor self.old m → result ≡ option_map lpdu_of (next_frame m) }
+        ensures read { (m : Machine) → NodeStandsFor self.old m → IfSome (next_frame m) (λ c. control_of (lpdu_of c) ≡ Ok c) }
     {
         self.end.next_out(&self.pool)
     }
@@ -229,7 +229,7 @@ fn gave_up_entry(at: End, gave_up: Option<u8>) -> Option<Entry>
 
 // This entry, if so.
 fn entry_if(so: bool, entry: Entry) -> Option<Entry>
-    ensures { option_to_list result ≡ if_so so entry }
+    ensures { option_to_list result ≡ noted_if so entry }
 {
     if so { Some(entry) } else { None }
 }

@@ -3,12 +3,12 @@
 ghost use Rattle.std.specs.Prelude.{◌≡◌, ℕ, ◌+◌, ◌<◌, ◌≤◌, ◌^◌, [], ◌∷◌, ◌++◌, List, None, Some, Ok, length, not, if◌then◌else◌, OnOk, IfOk, IfSome};
 ghost use Rattle.session_laws.specs.Sessions.{is_rset, aged_wire};
 ghost use Rattle.swp_base.specs.declared.control_frames.Control.{Control as Frame};
-ghost use Rattle.swp_lpdu.specs.Controls.{bytes_of, control_of};
+ghost use Rattle.swp_lpdu.specs.Controls.{lpdu_of, control_of};
 ghost use Rattle.hcp_packet.specs.Packets.{IsSendable};
 ghost use Rattle.link_machine.specs.Machine.{LinkEnd as Machine, give_refusal, reset_refusal, frames_out};
 ghost use Rattle.link_machine.specs.Machine.LinkInput.{Tick};
 ghost use Rattle.link_machine.specs.Machine.Turn.{Give, Hold, FetchMessage};
-ghost use Rattle.message_link.specs.Links.{Link, Loss, becomes, put, ticks_here};
+ghost use Rattle.message_link.specs.Links.{Link, Loss, becomes, put, ticks_at_controller};
 ghost use Rattle.message_link.specs.Links.Ending.{GoesOut};
 ghost use Rattle.message_link.specs.Links.Comes.{NextFrame, AsksReset, NoInput};
 ghost use Rattle.message_link.specs.Links.EndEvent.{Step, Lose};
@@ -54,7 +54,7 @@ fn put(
     entries: &mut Vec<Entry>,
 ) -> Result<(), AllocError>
     requires { resets.old + 1 < 2 ^ 32 }
-    ensures stands { (l : Link) (m : Machine) (c : Frame) → IsMidway near.old far.old resets.old l m → lpdu ≡ bytes_of c → control_of lpdu ≡ Ok c
+    ensures stands { (l : Link) (m : Machine) (c : Frame) → IsMidway near.old far.old resets.old l m → lpdu ≡ lpdu_of c → control_of lpdu ≡ Ok c
         → OnOk result (IsMidway near.new far.new resets.new (put l c) m
         × AreNoted at entries.old.items entries.new.items (put_entries (side_of at) l c)) }
     ensures grows { resets.new ≤ resets.old + 1 }
@@ -145,7 +145,7 @@ pub(crate) fn tick_end(
     requires state { (l : Link) × LinkStandsFor near.old far.old resets.old l × (length l.controller.side.sent < 2 ^ 32) }
     requires room { resets.old + 12 < 2 ^ 32 }
     ensures stands { (l : Link) → LinkStandsFor near.old far.old resets.old l → length l.controller.side.sent < 2 ^ 32
-        → OnOk result (LinkStandsFor near.new far.new resets.new (ticks_here l [] GoesOut)
+        → OnOk result (LinkStandsFor near.new far.new resets.new (ticks_at_controller l [] GoesOut)
         × AreNoted at entries.old.items entries.new.items (tick_entries (side_of at) l idle)) }
     ensures grows { resets.new ≤ resets.old + 12 }
 {

@@ -54,7 +54,7 @@ pub struct World {
 }
 
 impl World {
-    ghost use Rattle.world.specs.Worlds.{StandsFor, HasRoom, IsFaultOf, header_of, entries_of};
+    ghost use Rattle.world.specs.Worlds.{WorldStandsFor, HasRoomForLine, IsFaultOf, world_header, world_entries};
 
     /// The world that a header names: both ends of its link are Up in session 0, and no frame is on its way.
     ///
@@ -63,8 +63,8 @@ impl World {
     /// `NoMemory` where memory runs out.
     pub fn new(alloc: Global, header: &Header) -> Result<World, NoMemory>
         requires { IsHeader header.now }
-        ensures stands { IfOk result (λ w. StandsFor w header.now [] (opened header.now)) }
-        ensures entries { IfOk result (λ w. entries_of w ≡ opening_of (host_of header.now)) }
+        ensures stands { IfOk result (λ w. WorldStandsFor w header.now [] (opened header.now)) }
+        ensures entries { IfOk result (λ w. world_entries w ≡ opening_of (host_of header.now)) }
     {
         every_history_is_legal();
         Ok(World {
@@ -84,15 +84,15 @@ impl World {
     /// `Undetected` exactly where the line damages a frame so that another one is read in its place; `NoMemory` where memory
     /// runs out. The world is of no use then.
     pub fn step(&mut self, alloc: Global, line: &Line) -> Result<(), WorldFault>
-        requires room { HasRoom self.old }
-        requires line { IsLineOf (header_of self.old) line.now }
-        ensures stands { (lines : List Line) (t : History) → StandsFor self.old (header_of self.old) lines t
-            → OnOk result (StandsFor self.new (header_of self.old) (lines ++ line.now ∷ []) (with_step t line.now)) }
-        ensures entries { (lines : List Line) (t : History) → StandsFor self.old (header_of self.old) lines t
-            → OnOk result (entries_of self.new ≡ noted (outcome_of (host_of (header_of self.old)) (link_at t) line.now)) }
-        ensures fault { (lines : List Line) (t : History) → StandsFor self.old (header_of self.old) lines t
+        requires room { HasRoomForLine self.old }
+        requires line { IsLineOf (world_header self.old) line.now }
+        ensures stands { (lines : List Line) (t : History) → WorldStandsFor self.old (world_header self.old) lines t
+            → OnOk result (WorldStandsFor self.new (world_header self.old) (lines ++ line.now ∷ []) (with_step t line.now)) }
+        ensures entries { (lines : List Line) (t : History) → WorldStandsFor self.old (world_header self.old) lines t
+            → OnOk result (world_entries self.new ≡ noted (outcome_of (host_of (world_header self.old)) (link_at t) line.now)) }
+        ensures fault { (lines : List Line) (t : History) → WorldStandsFor self.old (world_header self.old) lines t
             → IfErr result (IsFaultOf (link_at t) line.now) }
-        ensures told { (lines : List Line) (t : History) → StandsFor self.old (header_of self.old) lines t
+        ensures told { (lines : List Line) (t : History) → WorldStandsFor self.old (world_header self.old) lines t
             → OnOk result (misread (link_at t) line.now ≡ None) }
     {
         every_history_is_legal();
@@ -128,14 +128,14 @@ impl World {
 
     /// The header that the world was made of.
     pub fn header(&self) -> &Header
-        ensures { result.now ≡ header_of self.now }
+        ensures { result.now ≡ world_header self.now }
     {
         &self.header
     }
 
     /// What the last line caused, in order; before the first line, what the header did. The lines themselves aren't in it.
     pub fn entries(&self) -> &[Entry]
-        ensures { result.now ≡ entries_of self.now }
+        ensures { result.now ≡ world_entries self.now }
     {
         self.entries.as_slice()
     }

@@ -1,7 +1,7 @@
 use Rattle.std.proofs.Common.{length, ap, arith}
 use Rattle.sorted_rows.proofs.RowLemmas.{length-rows}
 use Rattle.pipe_table.specs.PipeRows.{pid_of}
-use Rattle.registry.specs.Values.{place_of}
+use Rattle.registry.specs.Values.{place_of_value}
 use Rattle.journal_laws.specs.Records.{used}
 use Rattle.hci_tables.specs.Tables.{sync_host, static_place}
 use Rattle.hci_store.proofs.SnapshotParts.{syncs_may, statics_may, snapshot_bodies}
@@ -23,7 +23,7 @@ push_values-requires-clause-room c =
       length-rows sync_host 1 8 c.args.tables.now.syncs c.syncs.ensures.sorted,
       c.push_syncs.ensures.used,
       ap length c.values.ensures.values,
-      length-rows place_of 2 16 c.registry.result.now c.values.ensures.sorted.sorted,
+      length-rows place_of_value 2 16 c.registry.result.now c.values.ensures.sorted.sorted,
     )
 
 pub push_rows-requires-clause-room : goal.push_rows-requires-clause-room
@@ -35,7 +35,7 @@ push_rows-requires-clause-room c =
       length-rows sync_host 1 8 c.args.tables.now.syncs c.syncs.ensures.sorted,
       c.push_syncs.ensures.used,
       ap length c.values.ensures.values,
-      length-rows place_of 2 16 c.registry.result.now c.values.ensures.sorted.sorted,
+      length-rows place_of_value 2 16 c.registry.result.now c.values.ensures.sorted.sorted,
       c.push_values.ensures.used,
       ap length c.rows.ensures.rows,
       length-rows pid_of 2 112 c.pipes.result.now c.rows.ensures.sorted,
@@ -50,7 +50,7 @@ push_opened-requires-clause-room c =
       length-rows sync_host 1 8 c.args.tables.now.syncs c.syncs.ensures.sorted,
       c.push_syncs.ensures.used,
       ap length c.values.ensures.values,
-      length-rows place_of 2 16 c.registry.result.now c.values.ensures.sorted.sorted,
+      length-rows place_of_value 2 16 c.registry.result.now c.values.ensures.sorted.sorted,
       c.push_values.ensures.used,
       ap length c.rows.ensures.rows,
       length-rows pid_of 2 112 c.pipes.result.now c.rows.ensures.sorted,
@@ -68,7 +68,7 @@ push_statics-requires-clause-room c =
       length-rows sync_host 1 8 c.args.tables.now.syncs c.syncs.ensures.sorted,
       c.push_syncs.ensures.used,
       ap length c.values.ensures.values,
-      length-rows place_of 2 16 c.registry.result.now c.values.ensures.sorted.sorted,
+      length-rows place_of_value 2 16 c.registry.result.now c.values.ensures.sorted.sorted,
       c.push_values.ensures.used,
       ap length c.rows.ensures.rows,
       length-rows pid_of 2 112 c.pipes.result.now c.rows.ensures.sorted,
@@ -112,7 +112,7 @@ returns-clause-room c =
       length-rows sync_host 1 8 c.args.tables.now.syncs c.syncs.ensures.sorted,
       c.push_syncs.ensures.used,
       ap length c.values.ensures.values,
-      length-rows place_of 2 16 c.registry.result.now c.values.ensures.sorted.sorted,
+      length-rows place_of_value 2 16 c.registry.result.now c.values.ensures.sorted.sorted,
       c.push_values.ensures.used,
       ap length c.rows.ensures.rows,
       length-rows pid_of 2 112 c.pipes.result.now c.rows.ensures.sorted,

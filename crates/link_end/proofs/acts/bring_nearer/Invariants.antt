@@ -1,6 +1,6 @@
 use Rattle.std.proofs.Common.{◌≡◌, map, take}
-use Rattle.link_end.specs.Dues.{nearer}
+use Rattle.link_end.specs.Dues.{kept_nearer}
 use Rattle.link_end.proofs.acts.bring_nearer.Given as goal
 
 abbrev pub invariant-loop-act : goal.invariant-loop-act
-invariant-loop-act l = l.moved.items ≡ map nearer (take l.act-index l.act-items)
+invariant-loop-act l = l.moved.items ≡ map kept_nearer (take l.act-index l.act-items)

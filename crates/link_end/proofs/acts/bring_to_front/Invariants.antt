@@ -1,6 +1,6 @@
 use Rattle.std.proofs.Common.{◌≡◌, map, take}
-use Rattle.link_end.specs.Dues.{in_front}
+use Rattle.link_end.specs.Dues.{kept_in_front}
 use Rattle.link_end.proofs.acts.bring_to_front.Given as goal
 
 abbrev pub invariant-loop-act : goal.invariant-loop-act
-invariant-loop-act l = l.moved.items ≡ map in_front (take l.act-index l.act-items)
+invariant-loop-act l = l.moved.items ≡ map kept_in_front (take l.act-index l.act-items)

@@ -3,7 +3,7 @@ use Rattle.std.specs.Prelude.{Option, Some, OnOk, IfSome}
 use Rattle.std.specs.Option.{option_to_list}
 use Rattle.hcp_packet.specs.Packets.{packet_of}
 use Rattle.shdlc_core.specs.Machine.{Fragment}
-use Rattle.link_messages.specs.Incoming.{IsReady, Joins}
+use Rattle.link_messages.specs.Incoming.{IsInboxReady, Joins}
 use Rattle.link_end.specs.Received.{ReceivesOn}
 use Rattle.link_end.proofs.ReceiveLemmas.{received_one, received_none, on_ok}
 use Rattle.link_end.proofs.parts.receive.Goals as goal
@@ -11,8 +11,8 @@ use Rattle.link_end.proofs.parts.receive.Goals as goal
 pub returns-in-Some-clause-ok : goal.returns-in-Some-clause-ok
 returns-in-Some-clause-ok c =
     let f : Fragment = c.in-Some.info in
-    let P : Option Fragment → Type 0 = λ o. IfSome o (λ _. IsReady c.args.pool.now c.args.inbox.now) in
-    let ready : IsReady c.args.pool.now c.args.inbox.now = subst P c.in-Some.is c.requires.ready in
+    let P : Option Fragment → Type 0 = λ o. IfSome o (λ _. IsInboxReady c.args.pool.now c.args.inbox.now) in
+    let ready : IsInboxReady c.args.pool.now c.args.inbox.now = subst P c.in-Some.is c.requires.ready in
     let Q : Option Fragment → Type 0 = λ o. OnOk c.take.result (ReceivesOn c.args.pool.now c.take.new.pool c.args.inbox.now c.take.new.self (option_to_list o)) in
     subst Q (sym c.in-Some.is)
     (on_ok c.take.result (Joins c.args.pool.now c.take.new.pool c.args.inbox.now c.take.new.self (option_to_list (packet_of f)))

@@ -1,5 +1,5 @@
 use Rattle.std.proofs.Common.{◌+◌, ap, ◌∙◌}
-use Rattle.journal_laws.specs.Banks.{place}
+use Rattle.journal_laws.specs.Banks.{bank_place}
 use Rattle.journal_laws.specs.Operations.{bank_bytes}
 use Rattle.nv_journal.proofs.Compacting.{not_ok, made_at}
 use Rattle.nv_journal.proofs.banks.write_snapshot.Goals as goal
@@ -10,7 +10,7 @@ returns-in_err-replace_bank-clause-made g c =
     let bodies = c.args.snapshot.now in
     rw (not_ok c.from_residual.result c.from_residual.ensures.0)
     (made_at g.N.Nv.writes s c.in-Some.side bodies c.place.result c.as_slice.result.now c.args.nv.now _ c.replace_bank.new.nv c.in-Some.is
-    (c.place.ensures ∙ ap place c.other-bank.ensures)
+    (c.place.ensures ∙ ap bank_place c.other-bank.ensures)
     (c.as_slice.ensures.value ∙ c.bank_bytes-bytes.ensures.bytes ∙ ap (λ b. bank_bytes (s.generation + 1) b bodies) c.count-base.ensures)
     c.in_err-replace_bank.ensures.made)
 
@@ -19,6 +19,6 @@ returns-clause-made g c =
     let s = c.args.state.now in
     let bodies = c.args.snapshot.now in
     made_at g.N.Nv.writes s c.in-Some.side bodies c.place.result c.as_slice.result.now c.args.nv.now _ c.replace_bank.new.nv c.in-Some.is
-    (c.place.ensures ∙ ap place c.other-bank.ensures)
+    (c.place.ensures ∙ ap bank_place c.other-bank.ensures)
     (c.as_slice.ensures.value ∙ c.bank_bytes-bytes.ensures.bytes ∙ ap (λ b. bank_bytes (s.generation + 1) b bodies) c.count-base.ensures)
     c.in_ok-replace_bank.ensures.made

@@ -1,12 +1,12 @@
 use Rattle.std.proofs.Common.{◌≡◌, ◌+◌, ◌≤◌, ◌++◌, length}
 use Rattle.std.specs.Option.{option_map}
 use Rattle.schedule_text.specs.Words.{words}
-use Rattle.schedule_text.specs.Lines.{places_of}
+use Rattle.schedule_text.specs.Lines.{bit_places}
 use Rattle.schedule_text.proofs.read.places_in.Given as goal
 
 abbrev pub invariant-words : goal.invariant-words
 invariant-words l =
-    (places_of (words l.rest) ≡ option_map (λ more. l.places.items ++ more) (places_of (words l.left)))
+    (bit_places (words l.rest) ≡ option_map (λ more. l.places.items ++ more) (bit_places (words l.left)))
     × (length l.places.items + length (words l.left) ≤ 16)
 
 abbrev pub decreases-words : goal.decreases-words

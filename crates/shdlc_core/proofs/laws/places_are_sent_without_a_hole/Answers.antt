@@ -1,7 +1,7 @@
 use Rattle.std.proofs.Common.{arith}
 use Rattle.shdlc_core.proofs.FramesDue.{frame-fragment}
 use Rattle.shdlc_core.proofs.Histories.{new-Holds, next-fragment}
-use Rattle.shdlc_core.specs.Histories.{end_after}
+use Rattle.shdlc_core.specs.Histories.{shdlc_end_after}
 use Rattle.shdlc_core.proofs.laws.places_are_sent_without_a_hole.Goals as goal
 
 pub returns-clause-no_hole : goal.returns-clause-no_hole
@@ -17,5 +17,5 @@ returns-clause-acknowledged c = λ w inputs p lower.
 
 pub returns-clause-next : goal.returns-clause-next
 returns-clause-next c = λ w inputs ns nr info due.
-    let fragment = frame-fragment (end_after w inputs) ns nr info due in
-    next-fragment (end_after w inputs).phase (end_after w inputs).session _ ns info (new-Holds w inputs) fragment.0 fragment.1
+    let fragment = frame-fragment (shdlc_end_after w inputs) ns nr info due in
+    next-fragment (shdlc_end_after w inputs).phase (shdlc_end_after w inputs).session _ ns info (new-Holds w inputs) fragment.0 fragment.1

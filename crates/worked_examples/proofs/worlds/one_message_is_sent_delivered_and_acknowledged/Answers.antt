@@ -5,17 +5,17 @@ use Rattle.trace_model.specs.declared.line.Line.{Line}
 use Rattle.history.specs.Histories.{History}
 use Rattle.history.specs.Follows.{opened}
 use Rattle.world.specs.declared.world_steps.World.{World}
-use Rattle.world.specs.Worlds.{StandsFor, HasRoom}
+use Rattle.world.specs.Worlds.{WorldStandsFor, HasRoomForLine}
 use Rattle.worked_examples.proofs.worlds.one_message_is_sent_delivered_and_acknowledged.Goals as goal
 
 -- a world that stands for a history under its own header
-own : (w : World) (header : Header) (lines : List Line) (t : History) → StandsFor w header lines t → StandsFor w w.header lines t
+own : (w : World) (header : Header) (lines : List Line) (t : History) → WorldStandsFor w header lines t → WorldStandsFor w w.header lines t
 own w header lines t h =
-    let P : Header → Type 0 = λ x. StandsFor w x lines t in
+    let P : Header → Type 0 = λ x. WorldStandsFor w x lines t in
     subst P (sym h.header_is) h
 
 -- behind few lines it has room for one more
-has_room : (w : World) (header : Header) (lines : List Line) (t : History) → StandsFor w header lines t → length lines < 20000 → HasRoom w
+has_room : (w : World) (header : Header) (lines : List Line) (t : History) → WorldStandsFor w header lines t → length lines < 20000 → HasRoomForLine w
 has_room w header lines t stands few = record { lines = lines; history = t; stands = own w header lines t stands; few = few }
 
 has_two : (hosts : List ℕ) (x : ℕ) → hosts ≡ 2 ∷ [] → x ≡ 2 → Contains hosts x

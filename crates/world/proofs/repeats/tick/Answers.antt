@@ -2,7 +2,7 @@ use Rattle.std.proofs.Common.{[], length, subst}
 use Rattle.trace_model.specs.declared.line.End.{End}
 use Rattle.link_entries.specs.Entries.{aged_entries, tick_entries}
 use Rattle.session_laws.specs.Sessions.{aged_wire}
-use Rattle.message_link.specs.Links.{Link, aged, exchanged, ticks_here}
+use Rattle.message_link.specs.Links.{Link, aged, exchanged, ticks_at_controller}
 use Rattle.message_link.specs.Links.Ending.{GoesOut}
 use Rattle.history.specs.Histories.Cause.{Ticked}
 use Rattle.history.specs.Steps.{idle, link_after}
@@ -37,7 +37,7 @@ tick_end-requires-2-clause-state c =
     let b = c.in_ok-age_frames-2.ensures.stands (exchanged m) (turned_round c.age_frames.new.near c.args.far.now c.args.resets.now m a.0) in
     let both = turned_round c.age_frames-2.new.near c.age_frames.new.near c.args.resets.now (exchanged (aged l)) b.0 in
     let t = c.in_ok-tick_end.ensures.stands (aged l) both (few_short (length l.controller.side.sent) c.requires.state.2.here) in
-    let near : Link = ticks_here (aged l) [] GoesOut in
+    let near : Link = ticks_at_controller (aged l) [] GoesOut in
     let sent : HaveSent near 20000 = sent_ticked 20000 (aged l) (record { here = c.requires.state.2.here; there = c.requires.state.2.there }) in (
       exchanged near,
       turned_round c.tick_end.new.near c.tick_end.new.far c.tick_end.new.resets near t.0,
@@ -52,7 +52,7 @@ returns-clause-stands c l stands few =
     let b = c.in_ok-age_frames-2.ensures.stands (exchanged m) (turned_round c.age_frames.new.near c.args.far.now c.args.resets.now m a.0) in
     let both = turned_round c.age_frames-2.new.near c.age_frames.new.near c.args.resets.now (exchanged (aged l)) b.0 in
     let t = c.in_ok-tick_end.ensures.stands (aged l) both (few_short (length l.controller.side.sent) few.here) in
-    let near : Link = ticks_here (aged l) [] GoesOut in
+    let near : Link = ticks_at_controller (aged l) [] GoesOut in
     let sent : HaveSent near 20000 = sent_ticked 20000 (aged l) (record { here = few.here; there = few.there }) in
     on_ok c.tick_end-2.result
     (c.tick_end-2.ensures.stands (exchanged near) (turned_round c.tick_end.new.near c.tick_end.new.far c.tick_end.new.resets near t.0)
@@ -65,7 +65,7 @@ returns-clause-stands c l stands few =
     record {
       stands = seen_at_controller c.tick_end-2.new.far c.tick_end-2.new.near c.tick_end-2.new.resets c.args.at (link_after l Ticked)
           c.requires.controller
-          (turned_round c.tick_end-2.new.near c.tick_end-2.new.far c.tick_end-2.new.resets (ticks_here (exchanged near) [] GoesOut) last.0);
+          (turned_round c.tick_end-2.new.near c.tick_end-2.new.far c.tick_end-2.new.resets (ticks_at_controller (exchanged near) [] GoesOut) last.0);
       noted_are = tick_noted c.args.at l c.args.entries.now.items c.age_frames.new.entries.items c.age_frames-2.new.entries.items
           c.tick_end.new.entries.items c.tick_end-2.new.entries.items c.requires.controller a.1 (subst P c.other.ensures b.1) t.1 (subst Q c.other-2.ensures last.1);
     })

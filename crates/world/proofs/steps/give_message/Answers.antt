@@ -3,7 +3,7 @@ use Rattle.link_machine.specs.Machine.{LinkEnd, Message, give_refusal, turn}
 use Rattle.link_machine.specs.Machine.Turn.{Give}
 use Rattle.history.specs.Follows.{as_noted}
 use Rattle.world.specs.declared.node.Place.{Place}
-use Rattle.world.specs.Nodes.{StandsFor}
+use Rattle.world.specs.Nodes.{NodeStandsFor}
 use Rattle.world.proofs.Bare.{give_most}
 use Rattle.world.proofs.Acting.{midway, session_is}
 use Rattle.world.proofs.Giving.{refused_give, accepted, gives}
@@ -14,7 +14,7 @@ returns-then-is_some-clause-unchanged c l h =
     let g = c.give-refused in
     let m : LinkEnd = l.controller.side in
     let P : List ℕ → Type 0 = λ b. g.result ≡ as_noted (give_refusal m (c.args.pid, b)) in
-    let Q : List ℕ → Type 0 = λ b. StandsFor g.new.self (turn m (Give (c.args.pid, b))) in
+    let Q : List ℕ → Type 0 = λ b. NodeStandsFor g.new.self (turn m (Give (c.args.pid, b))) in
     refused_give c.args.near.now c.args.far.now c.args.resets.now l g.new.self (c.args.pid, c.args.message.now) g.result c.args.entries.now.items h
     (subst P c.as_slice.ensures (g.ensures.refused m h.here.has.node)) (subst Q c.as_slice.ensures (g.ensures.stands m h.here.has.node))
 
@@ -22,7 +22,7 @@ pub send_all-requires-clause-state : goal.send_all-requires-clause-state
 send_all-requires-clause-state c =
     let s = c.requires.state in
     let m : LinkEnd = s.0.controller.side in
-    let Q : List ℕ → Type 0 = λ b. StandsFor c.give-refused.new.self (turn m (Give (c.args.pid, b))) in
+    let Q : List ℕ → Type 0 = λ b. NodeStandsFor c.give-refused.new.self (turn m (Give (c.args.pid, b))) in
     let x : Message = (c.args.pid, c.args.message.now) in (
       s.0,
       turn m (Give x),
@@ -36,7 +36,7 @@ returns-clause-stands c l h none =
     let g = c.give-refused in
     let x : Message = (c.args.pid, c.args.message.now) in
     let P : List ℕ → Type 0 = λ b. g.result ≡ as_noted (give_refusal m (c.args.pid, b)) in
-    let Q : List ℕ → Type 0 = λ b. StandsFor g.new.self (turn m (Give (c.args.pid, b))) in
+    let Q : List ℕ → Type 0 = λ b. NodeStandsFor g.new.self (turn m (Give (c.args.pid, b))) in
     let r = c.in_ok-send_all.ensures.stands l (turn m (Give x))
     (midway c.args.near.now c.args.far.now c.args.resets.now l g.new.self (turn m (Give x)) false h
     (subst Q c.as_slice.ensures (g.ensures.stands m h.here.has.node)) (give_most m x h.here.idle)) in

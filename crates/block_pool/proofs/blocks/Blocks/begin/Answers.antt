@@ -1,7 +1,7 @@
 use Rattle.std.proofs.Common.{◌≡◌, ◌<◌, ◌*◌, sym, ap, ◌∙◌, subst, arith, length}
 use Rattle.std.specs.Prelude.{[], ◌∷◌, None}
 use Rattle.std.proofs.lemmas.List.{get_or_read}
-use Rattle.block_pool.specs.Slots.{BlocksState, slot, put}
+use Rattle.block_pool.specs.Slots.{BlocksState, slot, with_chain}
 use Rattle.block_pool.specs.Layout.{held_by}
 use Rattle.block_pool.proofs.LayoutLemmas.{length-slots_of, slot_is, first_free, no_head, begin_sound, begin_slots}
 use Rattle.block_pool.proofs.blocks.Blocks.begin.Goals as goal
@@ -34,4 +34,4 @@ pub returns-clause-slots : goal.returns-clause-slots
 returns-clause-slots c =
     let s = c.self.inside in
     begin_slots s.region.items s.next.items s.heads.items s.free s.free_len c.self.invariant c.args.owner c.args.byte (some_free c)
-    ∙ ap (λ (v : BlocksState). put v.slots s.free c.args.owner (c.args.byte ∷ [])) c.self.view_is
+    ∙ ap (λ (v : BlocksState). with_chain v.slots s.free c.args.owner (c.args.byte ∷ [])) c.self.view_is

@@ -1,9 +1,9 @@
 use Rattle.std.proofs.Common.{◌≡◌, ◌+◌, length, take}
 use Rattle.std.specs.Prelude.{◌++◌}
-use Rattle.block_pool.specs.Slots.{put, bytes_of, owner_of, blocks_for}
+use Rattle.block_pool.specs.Slots.{with_chain, held_bytes, owner_of, blocks_for}
 use Rattle.block_pool.proofs.blocks.Blocks.extend.Given as goal
 
 abbrev pub invariant-loop-byte : goal.invariant-loop-byte
 invariant-loop-byte l =
-    (l.self.slots ≡ put l.fn.self.slots l.first (owner_of l.fn.self.slots l.first) (bytes_of l.fn.self.slots l.first ++ take l.byte-index l.bytes))
-    × (l.self.free + blocks_for (length (bytes_of l.fn.self.slots l.first) + l.byte-index) ≡ l.fn.self.free + blocks_for (length (bytes_of l.fn.self.slots l.first)))
+    (l.self.slots ≡ with_chain l.fn.self.slots l.first (owner_of l.fn.self.slots l.first) (held_bytes l.fn.self.slots l.first ++ take l.byte-index l.bytes))
+    × (l.self.free + blocks_for (length (held_bytes l.fn.self.slots l.first) + l.byte-index) ≡ l.fn.self.free + blocks_for (length (held_bytes l.fn.self.slots l.first)))

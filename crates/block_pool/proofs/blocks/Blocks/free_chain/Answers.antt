@@ -1,7 +1,7 @@
 use Rattle.std.proofs.Common.{◌≡◌, ◌<◌, ◌+◌, ◌^◌, sym, ap, ◌∙◌, subst, arith, get_or}
 use Rattle.std.specs.Prelude.{None, Some, IsSome, slice_set}
 use Rattle.block_pool.specs.Slots.{BlocksState, blocks_for}
-use Rattle.block_pool.specs.Layout.{slots_of, IsSound}
+use Rattle.block_pool.specs.Layout.{slots_of, AreSoundBlocks}
 use Rattle.block_pool.proofs.LayoutLemmas.{len_says, has_head, last_in, blocks_is, blocks_fit, free_chain_sound, free_chain_slots}
 use Rattle.block_pool.proofs.blocks.Blocks.free_chain.Goals as goal
 
@@ -46,7 +46,7 @@ invariant_of-self c =
     let head = c.head_at-head.result in
     let at : get_or s.heads.items c.args.first None ≡ Some head = rw c.deref.ensures.value at c.head_at-head.ensures.head in
     let blocks : c.div_ceil.result ≡ blocks_for head.len = blocks_is c.div_ceil.result head.len c.div_ceil.ensures in
-    subst (λ n. IsSound s.region.items (slice_set s.next.items head.last s.free) (slice_set s.heads.items c.args.first None) c.args.first (s.free_len + n)) (sym blocks)
+    subst (λ n. AreSoundBlocks s.region.items (slice_set s.next.items head.last s.free) (slice_set s.heads.items c.args.first None) c.args.first (s.free_len + n)) (sym blocks)
     (free_chain_sound s.region.items s.next.items s.heads.items s.free s.free_len c.self.invariant c.args.first head at)
 
 pub returns-clause-slots : goal.returns-clause-slots

@@ -1,8 +1,8 @@
 use Rattle.std.proofs.Common.{◌≡◌, ◌<◌, ◌*◌, ◌%◌, sym, ap, ◌∙◌, subst, arith, length, get_or}
 use Rattle.std.specs.Prelude.{◌∷◌, [], ◌++◌, None, Some, IsSome}
 use Rattle.std.proofs.lemmas.List.{get_or_read}
-use Rattle.block_pool.specs.Slots.{BlocksState, put, bytes_of}
-use Rattle.block_pool.specs.Layout.{slots_of, chain_bytes}
+use Rattle.block_pool.specs.Slots.{BlocksState, with_chain, held_bytes}
+use Rattle.block_pool.specs.Layout.{slots_of, laid_bytes}
 use Rattle.block_pool.proofs.LayoutLemmas.{bytes_say, owner_says, len_says, has_head, last_in, head_fits, first_free, push_in_new_block_sound, push_in_new_block_slots}
 use Rattle.block_pool.proofs.blocks.Blocks.push_in_new_block.Goals as goal
 
@@ -26,7 +26,7 @@ overflow_add-head c =
     let at : get_or s.heads.items c.args.first None ≡ Some head = rw c.deref.ensures.value at c.head_at-head.ensures.head in
     let view : slots_of s.region.items s.next.items s.heads.items ≡ c.args.self.now.slots = ap (λ (v : BlocksState). v.slots) c.self.view_is in
     let len_is = len_says s.region.items s.next.items s.heads.items c.args.self.now.slots view c.args.first head at in
-    head_fits head.len (length (bytes_of c.args.self.now.slots c.args.first)) len_is c.requires.short
+    head_fits head.len (length (held_bytes c.args.self.now.slots c.args.first)) len_is c.requires.short
 
 pub invariant_of-self : goal.invariant_of-self
 invariant_of-self c =
@@ -53,6 +53,6 @@ returns-clause-slots c =
     let some : 0 < s.free_len = subst (λ (v : BlocksState). 0 < v.free) (sym c.self.view_is) c.requires.free in
     let full : head.len % 32 ≡ 0 = subst (λ n. n % 32 ≡ 0) len_is c.requires.full in
     push_in_new_block_slots s.region.items s.next.items s.heads.items s.free s.free_len c.self.invariant c.args.first head c.args.byte at full some
-    ∙ (ap (λ ss. put ss c.args.first head.owner (chain_bytes s.region.items s.next.items c.args.first head.len ++ c.args.byte ∷ [])) view
-    ∙ (ap (λ bs. put c.args.self.now.slots c.args.first head.owner (bs ++ c.args.byte ∷ [])) (sym bytes_are)
-    ∙ ap (λ o. put c.args.self.now.slots c.args.first o (bytes_of c.args.self.now.slots c.args.first ++ c.args.byte ∷ [])) (sym owner_is)))
+    ∙ (ap (λ ss. with_chain ss c.args.first head.owner (laid_bytes s.region.items s.next.items c.args.first head.len ++ c.args.byte ∷ [])) view
+    ∙ (ap (λ bs. with_chain c.args.self.now.slots c.args.first head.owner (bs ++ c.args.byte ∷ [])) (sym bytes_are)
+    ∙ ap (λ o. with_chain c.args.self.now.slots c.args.first o (held_bytes c.args.self.now.slots c.args.first ++ c.args.byte ∷ [])) (sym owner_is)))

@@ -1,7 +1,7 @@
 use Rattle.std.proofs.Common.{◌≡◌, sym, ap, ◌∙◌, subst, get_or}
 use Rattle.std.specs.Prelude.{None, Some, IsSome}
-use Rattle.block_pool.specs.Slots.{BlocksState, put}
-use Rattle.block_pool.specs.Layout.{slots_of, chain_bytes}
+use Rattle.block_pool.specs.Slots.{BlocksState, with_chain}
+use Rattle.block_pool.specs.Layout.{slots_of, laid_bytes}
 use Rattle.block_pool.proofs.LayoutLemmas.{has_head, bytes_say, set_owner_sound, set_owner_slots}
 use Rattle.block_pool.proofs.blocks.Blocks.set_owner.Goals as goal
 
@@ -26,5 +26,5 @@ returns-clause-slots c =
     let view : slots_of s.region.items s.next.items s.heads.items ≡ c.args.self.now.slots = ap (λ (v : BlocksState). v.slots) c.self.view_is in
     let bytes_are = bytes_say s.region.items s.next.items s.heads.items c.args.self.now.slots view c.args.first head at in
     set_owner_slots s.region.items s.next.items s.heads.items s.free s.free_len c.self.invariant c.args.first c.args.owner head at
-    ∙ (ap (λ ss. put ss c.args.first c.args.owner (chain_bytes s.region.items s.next.items c.args.first head.len)) view
-    ∙ ap (put c.args.self.now.slots c.args.first c.args.owner) (sym bytes_are))
+    ∙ (ap (λ ss. with_chain ss c.args.first c.args.owner (laid_bytes s.region.items s.next.items c.args.first head.len)) view
+    ∙ ap (with_chain c.args.self.now.slots c.args.first c.args.owner) (sym bytes_are))

@@ -2,7 +2,7 @@ use Rattle.std.proofs.Common.{◌≡◌, ℕ, ◌+◌, ◌-◌, ◌<◌, sym, ap
 use Rattle.std.proofs.lemmas.List.{get_or_read}
 use Rattle.block_pool.specs.declared.owners.Owner.{Owner}
 use Rattle.block_pool.specs.Slots.{blocks_for}
-use Rattle.block_pool.specs.Names.{bytes_at}
+use Rattle.block_pool.specs.Names.{named_bytes}
 use Rattle.block_pool.specs.Pool.{PoolState, IsLive, spare_of}
 use Rattle.block_pool.specs.Counts.{AreCounted, AreFree}
 use Rattle.block_pool.proofs.LayoutLemmas.{blocks_is, blocks_fit}
@@ -14,7 +14,7 @@ overflow_cast-need c =
     let s = c.self.inside in
     let pool : PoolState = record { slots = s.blocks.slots; owners = s.owners.items; places = s.blocks.places } in
     let live = subst (λ (v : PoolState). IsLive v c.args.chain.now) (sym c.self.view_is) c.requires.live in
-    let len : c.len.result ≡ length (bytes_at pool.slots c.args.chain.now.first) = c.len.ensures ∙ ap (λ (v : PoolState). length (bytes_at v.slots c.args.chain.now.first)) (sym c.self.view_is) in
+    let len : c.len.result ≡ length (named_bytes pool.slots c.args.chain.now.first) = c.len.ensures ∙ ap (λ (v : PoolState). length (named_bytes v.slots c.args.chain.now.first)) (sym c.self.view_is) in
     let low = chain_low pool c.self.invariant.0 c.args.chain.now.owner live.0 c.args.chain.now.first live.1 in
     let few = used_low pool c.self.invariant.0 c.args.chain.now.owner live.0 in
     (blocks_fit c.div_ceil-need.result 0 c.len.result c.div_ceil-need.ensures (omega (arith, low, few, len))).0
@@ -24,7 +24,7 @@ overflow_sub-before c =
     let s = c.self.inside in
     let pool : PoolState = record { slots = s.blocks.slots; owners = s.owners.items; places = s.blocks.places } in
     let live = subst (λ (v : PoolState). IsLive v c.args.chain.now) (sym c.self.view_is) c.requires.live in
-    let len : c.len.result ≡ length (bytes_at pool.slots c.args.chain.now.first) = c.len.ensures ∙ ap (λ (v : PoolState). length (bytes_at v.slots c.args.chain.now.first)) (sym c.self.view_is) in
+    let len : c.len.result ≡ length (named_bytes pool.slots c.args.chain.now.first) = c.len.ensures ∙ ap (λ (v : PoolState). length (named_bytes v.slots c.args.chain.now.first)) (sym c.self.view_is) in
     let low = chain_low pool c.self.invariant.0 c.args.chain.now.owner live.0 c.args.chain.now.first live.1 in
     let old_is = get_or_read s.owners.items c.args.chain.now.owner c.index-before.result.now live.0 c.index-before.ensures (record { quota = 0; used = 0; aside = 0 }) in
     omega (arith, low, len, blocks_is c.div_ceil-need.result c.len.result c.div_ceil-need.ensures, ap (λ (x : Owner). x.used) old_is)
@@ -37,7 +37,7 @@ invariant_of-self c =
     let q = c.args.owner in
     let live = subst (λ (v : PoolState). IsLive v chain) (sym c.self.view_is) c.requires.live in
     let other : q < length s.owners.items = subst (λ (v : PoolState). q < length v.owners) (sym c.self.view_is) c.requires.quota in
-    let len : c.len.result ≡ length (bytes_at pool.slots chain.first) = c.len.ensures ∙ ap (λ (v : PoolState). length (bytes_at v.slots chain.first)) (sym c.self.view_is) in
+    let len : c.len.result ≡ length (named_bytes pool.slots chain.first) = c.len.ensures ∙ ap (λ (v : PoolState). length (named_bytes v.slots chain.first)) (sym c.self.view_is) in
     let spare : c.spare-spare.result ≡ spare_of pool q = c.spare-spare.ensures.spare ∙ ap (λ (v : PoolState). spare_of v q) (sym c.self.view_is) in
     let old = c.index-before.result.now in
     let lowered : Owner = record { quota = old.quota; used = old.used - c.div_ceil-need.result; aside = old.aside } in

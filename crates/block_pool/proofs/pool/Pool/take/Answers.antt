@@ -1,7 +1,7 @@
 use Rattle.std.proofs.Common.{◌≡◌, ◌+◌, ◌-◌, ◌≤◌, sym, ap, ◌∙◌, subst, arith, length}
 use Rattle.std.proofs.lemmas.List.{get_or_read}
 use Rattle.block_pool.specs.Slots.{blocks_for}
-use Rattle.block_pool.specs.Names.{bytes_at}
+use Rattle.block_pool.specs.Names.{named_bytes}
 use Rattle.block_pool.specs.Pool.{PoolState, IsLive, spare_of}
 use Rattle.block_pool.proofs.LayoutLemmas.{blocks_is}
 use Rattle.block_pool.proofs.CountLemmas.{enough_free, taken_counted}
@@ -13,7 +13,7 @@ append-requires-clause-room c =
     let pool : PoolState = record { slots = s.blocks.slots; owners = s.owners.items; places = s.blocks.places } in
     let chain = c.args.chain.now in
     let live = subst (λ (v : PoolState). IsLive v chain) (sym c.self.view_is) c.requires in
-    let len : c.len-len.result ≡ length (bytes_at pool.slots chain.first) = c.len-len.ensures ∙ ap (λ (v : PoolState). length (bytes_at v.slots chain.first)) (sym c.self.view_is) in
+    let len : c.len-len.result ≡ length (named_bytes pool.slots chain.first) = c.len-len.ensures ∙ ap (λ (v : PoolState). length (named_bytes v.slots chain.first)) (sym c.self.view_is) in
     let spare : c.spare-spare.result ≡ spare_of pool chain.owner = c.spare-spare.ensures.spare ∙ ap (λ (v : PoolState). spare_of v chain.owner) (sym c.self.view_is) in
     let all = blocks_is c.div_ceil.result (c.len-len.result + length c.args.bytes.now) c.div_ceil.ensures in
     let had = blocks_is c.div_ceil-2.result c.len-len.result c.div_ceil-2.ensures in
@@ -27,11 +27,11 @@ invariant_of-self c =
     let pool : PoolState = record { slots = s.blocks.slots; owners = s.owners.items; places = s.blocks.places } in
     let chain = c.args.chain.now in
     let live = subst (λ (v : PoolState). IsLive v chain) (sym c.self.view_is) c.requires in
-    let len : c.len-len.result ≡ length (bytes_at pool.slots chain.first) = c.len-len.ensures ∙ ap (λ (v : PoolState). length (bytes_at v.slots chain.first)) (sym c.self.view_is) in
+    let len : c.len-len.result ≡ length (named_bytes pool.slots chain.first) = c.len-len.ensures ∙ ap (λ (v : PoolState). length (named_bytes v.slots chain.first)) (sym c.self.view_is) in
     let spare : c.spare-spare.result ≡ spare_of pool chain.owner = c.spare-spare.ensures.spare ∙ ap (λ (v : PoolState). spare_of v chain.owner) (sym c.self.view_is) in
     let all = blocks_is c.div_ceil.result (c.len-len.result + length c.args.bytes.now) c.div_ceil.ensures in
     let had = blocks_is c.div_ceil-2.result c.len-len.result c.div_ceil-2.ensures in
-    let more : c.div_ceil.result - c.div_ceil-2.result ≡ blocks_for (length (bytes_at pool.slots chain.first) + length c.args.bytes.now) - blocks_for (length (bytes_at pool.slots chain.first)) =
+    let more : c.div_ceil.result - c.div_ceil-2.result ≡ blocks_for (length (named_bytes pool.slots chain.first) + length c.args.bytes.now) - blocks_for (length (named_bytes pool.slots chain.first)) =
     subst (λ n. c.div_ceil.result - c.div_ceil-2.result ≡ blocks_for (n + length c.args.bytes.now) - blocks_for n) len (omega (arith, all, had)) in
     taken_counted pool c.self.invariant.0 s.blocks.free c.self.invariant.1 chain.owner live.0 chain.first c.args.bytes.now c.append.new.chain.first c.append.new.blocks.slots c.append.new.blocks.free (c.div_ceil.result - c.div_ceil-2.result) c.index-old.result.now
     live.1 c.append.ensures.name c.append.ensures.slots c.append.ensures.free more (omega (arith, spare, c.if-need-spare.false))

@@ -1,7 +1,7 @@
 use Rattle.std.proofs.Common.{is_ok, subst, ◌∙◌, arith}
 use Rattle.journal_laws.specs.Writes.{AreMade}
 use Rattle.journal_laws.specs.Operations.{compact_writes}
-use Rattle.hci_store.specs.Stored.{Holds}
+use Rattle.hci_store.specs.Stored.{HoldsTables}
 use Rattle.hci_store.proofs.Committed.{holds_snapshot, holds_by, on_ok}
 use Rattle.hci_store.proofs.CutShort.{compact_left}
 use Rattle.hci_store.proofs.store.Store.compact.Goals as goal
@@ -14,7 +14,7 @@ invariant_of-self g c =
     record {
       recordable = c.self.invariant.recordable;
       holds = λ live tells.
-          holds_by c.compact.result c.compact.new.self.live (Holds (content c.compact.new.self.nv) k.tables)
+          holds_by c.compact.result c.compact.new.self.live (HoldsTables (content c.compact.new.self.nv) k.tables)
           (on_ok c.compact.result _ _ (made.records tells)
           (λ is. holds_snapshot (content c.compact.new.self.nv) k.tables c.self.invariant.recordable c.snapshot_of-snapshot.ensures.tables (is ∙ c.snapshot_of-snapshot.ensures.records)))
           made.fault made.dead

@@ -1,5 +1,5 @@
 use Rattle.std.proofs.Common.{Err, sym, refl, ap, ◌∙◌, subst}
-use Rattle.nv_journal.specs.Kept.{Kept}
+use Rattle.nv_journal.specs.Kept.{KeptMemory}
 use Rattle.nv_journal.proofs.Refusing.{not_of_memory, read_all}
 use Rattle.hci_tables.specs.Tables.{close}
 use Rattle.journal_laws.specs.Journal.{journal, IsSound}
@@ -28,7 +28,7 @@ invariant_of-result g c =
     record {
       recordable = rw c.close.ensures (recordable-close c.apply_all.new.tables passed.recordable);
       holds = λ live tells.
-          let same = ap (λ (j : Kept g.row.N.Denot). content j.nv) c.peek.ensures.journal ∙ passed.kept tells in
+          let same = ap (λ (j : KeptMemory g.row.N.Denot). content j.nv) c.peek.ensures.journal ∙ passed.kept tells in
           rw (same, c.close.ensures)
           (record {
             commands = passed.commands tells;

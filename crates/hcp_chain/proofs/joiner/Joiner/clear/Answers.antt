@@ -1,6 +1,6 @@
 use Rattle.std.proofs.Common.{subst}
 use Rattle.std.specs.Prelude.{◌++◌, ◌∷◌, []}
-use Rattle.hcp_chain.specs.Holding.{Holds, IsOwn}
+use Rattle.hcp_chain.specs.Holding.{HoldsChains, IsOwnOpen}
 use Rattle.hcp_chain.proofs.HoldingLemmas.{all_front}
 use Rattle.hcp_chain.proofs.ClearLemmas.{Clears, clears_none, clears_more}
 use Rattle.hcp_chain.proofs.joiner.Joiner.clear.Goals as goal
@@ -10,9 +10,9 @@ loop-open-init c = clears_none c.args.pool.now c.args.self.now.owner c.args.self
 
 pub give-requires : goal.give-requires
 give-requires c =
-    let holds : Holds c.loop-open.pool c.args.self.now.owner (c.pop.new.self.items ++ c.in-Some.open ∷ []) =
-    subst (Holds c.loop-open.pool c.args.self.now.owner) c.in-Some.ensures.items c.loop-open.invariant.holds in
-    (all_front (IsOwn c.loop-open.pool c.args.self.now.owner) c.pop.new.self.items c.in-Some.open holds.own).1.live
+    let holds : HoldsChains c.loop-open.pool c.args.self.now.owner (c.pop.new.self.items ++ c.in-Some.open ∷ []) =
+    subst (HoldsChains c.loop-open.pool c.args.self.now.owner) c.in-Some.ensures.items c.loop-open.invariant.holds in
+    (all_front (IsOwnOpen c.loop-open.pool c.args.self.now.owner) c.pop.new.self.items c.in-Some.open holds.own).1.live
 
 pub loop-open-preserved : goal.loop-open-preserved
 loop-open-preserved c =

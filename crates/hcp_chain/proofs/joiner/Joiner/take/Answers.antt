@@ -3,7 +3,7 @@ use Rattle.std.specs.Prelude.{◌++◌, []}
 use Rattle.block_pool.specs.Owners.{with_used}
 use Rattle.block_pool.specs.Pool.{PoolState, IsLive, IsApart, chain_bytes, used_of, Gives, KeepsOthers}
 use Rattle.hcp_chain.specs.declared.joiner.Open.{Open}
-use Rattle.hcp_chain.specs.Holding.{Holds, IsApartFrom, held_blocks, whole_in}
+use Rattle.hcp_chain.specs.Holding.{HoldsChains, IsApartFrom, held_blocks, whole_in}
 use Rattle.hcp_chain.proofs.HoldingLemmas.{all_map}
 use Rattle.hcp_chain.proofs.ClearLemmas.{all_given, ready_again}
 use Rattle.hcp_chain.proofs.joiner.Joiner.take.Goals as goal
@@ -21,7 +21,7 @@ returns-then-len-gt-MAX_MESSAGE-clause-used c =
     let cleared : done.new.pool.owners ≡ with_used c.give.new.self.owners owner (used_of c.give.new.self owner - held_blocks c.give.new.self left.open.items) =
     done.ensures.used ∙ ap (λ (o : ℕ). with_used c.give.new.self.owners o (used_of c.give.new.self o - held_blocks c.give.new.self left.open.items)) same_owner in
     let given = all_given pool c.give.new.self done.new.pool owner chain left.open.items c.requires.has_quota out.owned
-    (subst (λ (o : ℕ). Holds pool o left.open.items) same_owner out.holds)
+    (subst (λ (o : ℕ). HoldsChains pool o left.open.items) same_owner out.holds)
     (all_map (λ x. (x.pipe ≢ c.args.packet.now.pipe) × IsApart x.chain chain) (λ x. IsApart x.chain chain) left.open.items (λ x a. a.1) out.apart)
     (subst (λ (v : PoolState). Gives v c.give.new.self chain) same c.give.ensures.given)
     (subst (λ (v : PoolState). KeepsOthers v c.give.new.self chain chain) same c.give.ensures.others)
@@ -56,5 +56,5 @@ returns-then-len-gt-MAX_MESSAGE-clause-ready c none =
     let empty : done.new.self.open.items ++ whole_in done.result ≡ [] =
     ap (λ (ys : List Open). ys ++ whole_in done.result) done.ensures.«open» ∙ none in
     ready_again c.args.pool.now done.new.pool c.args.self.now done.new.self (whole_in done.result) c.requires (done.ensures.owner ∙ c.take_out.ensures.owner) none
-    (subst (Holds done.new.pool owner) (sym empty) (record { own = tt; apart = tt }))
+    (subst (HoldsChains done.new.pool owner) (sym empty) (record { own = tt; apart = tt }))
     (returns-then-len-gt-MAX_MESSAGE-clause-used c)

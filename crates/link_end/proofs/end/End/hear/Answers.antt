@@ -3,7 +3,7 @@ use Rattle.std.specs.Prelude.{Option, IfSome, is_some}
 use Rattle.block_pool.specs.Pool.{PoolState}
 use Rattle.shdlc_core.specs.Machine.{Fragment}
 use Rattle.link_messages.specs.declared.inbox.Inbox.{Inbox}
-use Rattle.link_messages.specs.Incoming.{IsReady, under_way}
+use Rattle.link_messages.specs.Incoming.{IsInboxReady, messages_under_way}
 use Rattle.link_end.specs.Ends.{LeavesBoxes}
 use Rattle.link_end.proofs.HearLemmas.{over_stands, over_told, may_receive, cut_enough, goes_on, breaks_off, fault_lies, broken_elsewhere, received_lies, some_brought}
 use Rattle.link_end.proofs.BoxLemmas.{leaves_more, leaves_same}
@@ -85,9 +85,9 @@ returns-in-Err-clause-elsewhere c =
     let m = c.requires.stands.0 in
     let h = c.requires.stands.1 in
     let ready = may_receive c.args.pool.now k m c.args.control.now c.take-taken.result h c.take-taken.ensures.answer c.requires.ready in
-    let some = some_brought (under_way c.args.pool.now k.inbox) c.take-taken.result.accepted (λ t. (let n = c.in-Err.ensures.taken.1 t in cc)) in
-    let P : Option Fragment → Type 0 = λ o. IfSome o (λ _. IsReady c.args.pool.now k.inbox) in
-    let one : IsReady c.args.pool.now k.inbox = subst P some.1 ready in
+    let some = some_brought (messages_under_way c.args.pool.now k.inbox) c.take-taken.result.accepted (λ t. (let n = c.in-Err.ensures.taken.1 t in cc)) in
+    let P : Option Fragment → Type 0 = λ o. IfSome o (λ _. IsInboxReady c.args.pool.now k.inbox) in
+    let one : IsInboxReady c.args.pool.now k.inbox = subst P some.1 ready in
     leaves_more c.args.pool.now c.receive.new.pool c.forget-in-Err.new.pool k.outbox k.outbox c.forget-in-Err.new.self.outbox k.inbox c.receive.new.inbox c.forget-in-Err.new.self.inbox
     (broken_elsewhere c.args.pool.now c.receive.new.pool k c.receive.new.inbox c.requires.ready.fetched one.used (record { lies = e.0; owner = e.1; none = e.2; used = e.3; elsewhere = e.4 }))
     c.forget-in-Err.ensures.elsewhere

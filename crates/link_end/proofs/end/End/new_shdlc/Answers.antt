@@ -1,6 +1,6 @@
 use Rattle.std.proofs.Common.{sym, subst}
 use Rattle.swp_base.specs.declared.link_terms.Role.{Role}
-use Rattle.shdlc_core.specs.Kept.{StandsFor}
+use Rattle.shdlc_core.specs.Kept.{ShdlcStandsFor}
 use Rattle.shdlc_core.specs.Machine.{new_end}
 use Rattle.link_machine.specs.Machine.{new_link_end}
 use Rattle.link_end.specs.Roles.{new_role}
@@ -8,5 +8,5 @@ use Rattle.link_end.proofs.«end».End.new_shdlc.Goals as goal
 
 pub returns-in-Bare : goal.returns-in-Bare
 returns-in-Bare c =
-    let P : Role → Type 0 = λ r. StandsFor c.begin.new.self (new_link_end (new_role r)).shdlc in
+    let P : Role → Type 0 = λ r. ShdlcStandsFor c.begin.new.self (new_link_end (new_role r)).shdlc in
     subst P (sym c.in-Bare.is) (c.begin.ensures (new_end 4) c.new-shdlc.ensures)

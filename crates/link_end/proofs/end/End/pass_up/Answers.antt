@@ -7,7 +7,7 @@ use Rattle.shdlc_core.specs.declared.answers.LinkState.TheVariants.{Up}
 use Rattle.link_machine.specs.Machine.{LinkEnd, Message, spare}
 use Rattle.link_machine.specs.Machine.Refused.{TooLong, Full}
 use Rattle.link_messages.specs.declared.outbox.Outbox.{Outbox}
-use Rattle.link_end.specs.Ends.{StandsFor}
+use Rattle.link_end.specs.Ends.{EndStandsFor}
 use Rattle.link_end.specs.Reports.{pass_by}
 use Rattle.link_end.specs.declared.report.SendRefused.TheVariants.{Full as SendFull}
 use Rattle.link_end.proofs.NodeLemmas.{spare_is, refused_long, refused_full, refused_none, refusal_stays, gives, message_passed}
@@ -17,7 +17,7 @@ pub returns-then-len-gt-MAX_MESSAGE-clause-stands : goal.returns-then-len-gt-MAX
 returns-then-len-gt-MAX_MESSAGE-clause-stands c m h =
     let x : Message = (c.args.pipe, chain_bytes c.args.pool.now c.args.chain) in
     let up : m.shdlc.phase ≡ Up = sym h.half.link.kept.phase ∙ c.requires.up in
-    let P : LinkEnd → Type 0 = λ y. StandsFor c.args.self.now c.args.pool.now y in
+    let P : LinkEnd → Type 0 = λ y. EndStandsFor c.args.self.now c.args.pool.now y in
     subst P (sym (refusal_stays m x (TooLong (length x.1)) (refused_long m x up (let l = c.len-len.ensures in omega (arith, l, c.if-len-gt-MAX_MESSAGE.true))))) h
 
 pub returns-in-Ok-clause-stands : goal.returns-in-Ok-clause-stands
@@ -25,7 +25,7 @@ returns-in-Ok-clause-stands c m h =
     let x : Message = (c.args.pipe, chain_bytes c.args.pool.now c.args.chain) in
     let up : m.shdlc.phase ≡ Up = sym h.half.link.kept.phase ∙ c.requires.up in
     let fits : blocks_for (length x.1) ≤ spare m = subst (λ n. blocks_for (length x.1) ≤ n) (sym (spare_is c.args.pool.now c.args.self.now m h)) (c.in-Ok.ensures.room.0 refl) in
-    let P : LinkEnd → Type 0 = λ y. StandsFor c.refill.new.self c.refill.new.pool y in
+    let P : LinkEnd → Type 0 = λ y. EndStandsFor c.refill.new.self c.refill.new.pool y in
     subst P (sym (gives m x (refused_none m x up (let l = c.len-len.ensures in omega (arith, l, c.if-len-gt-MAX_MESSAGE.false)) fits)))
     (c.refill.ensures.stands _ (message_passed c.args.pool.now c.accept_chain.new.pool c.args.self.now c.accept_chain.new.self c.args.chain m x h c.requires.up c.requires.sendable c.requires.chain c.in-Ok.ensures.ok c.in-Ok.ensures.elsewhere))
 
@@ -43,9 +43,9 @@ returns-in-Err-clause-stands c m h =
     let up : m.shdlc.phase ≡ Up = sym h.half.link.kept.phase ∙ c.requires.up in
     let full = refused_full m x up (let l = c.len-len.ensures in omega (arith, l, c.if-len-gt-MAX_MESSAGE.false))
     (λ fits. (let n = c.in-Err.ensures.room.1 (subst (λ n. blocks_for (length x.1) ≤ n) (spare_is c.args.pool.now k m h) fits) in cc)) in
-    let P : LinkEnd → Type 0 = λ y. StandsFor (record k { outbox = c.accept_chain.new.self }) c.accept_chain.new.pool y in
-    let Q : Outbox → Type 0 = λ b. StandsFor (record k { outbox = b }) c.accept_chain.new.pool m in
-    let R : PoolState → Type 0 = λ p. StandsFor k p m in
+    let P : LinkEnd → Type 0 = λ y. EndStandsFor (record k { outbox = c.accept_chain.new.self }) c.accept_chain.new.pool y in
+    let Q : Outbox → Type 0 = λ b. EndStandsFor (record k { outbox = b }) c.accept_chain.new.pool m in
+    let R : PoolState → Type 0 = λ p. EndStandsFor k p m in
     subst P (sym (refusal_stays m x (Full (blocks_for (length x.1)) (spare m)) full)) (subst Q (sym c.in-Err.ensures.err.1) (subst R (sym c.in-Err.ensures.err.0) h))
 
 pub returns-in-Err-clause-answer : goal.returns-in-Err-clause-answer

@@ -1,21 +1,21 @@
 use Rattle.std.proofs.Common.{◌≡◌, true, false, sym, ap, ◌∙◌, subst}
 use Rattle.shdlc_core.specs.declared.answers.LinkState.TheVariants.{Up, Down}
 use Rattle.link_machine.specs.Machine.{LinkEnd, is_open}
-use Rattle.link_end.specs.Ends.{StandsFor}
+use Rattle.link_end.specs.Ends.{EndStandsFor}
 use Rattle.link_end.proofs.NodeLemmas.{reset_closed, reset_up, reset_down, reset_ends, reset_begins}
 use Rattle.link_end.proofs.«end».End.reset.Goals as goal
 
 pub returns-then-not-is_open-clause-stands : goal.returns-then-not-is_open-clause-stands
 returns-then-not-is_open-clause-stands c m h =
     let o : is_open m.role ≡ false = sym (ap is_open h.half.role) ∙ (sym c.is_open.ensures ∙ c.if-not-is_open.true) in
-    let P : LinkEnd → Type 0 = λ x. StandsFor c.args.self.now c.args.pool.now x in
+    let P : LinkEnd → Type 0 = λ x. EndStandsFor c.args.self.now c.args.pool.now x in
     subst P (sym (reset_closed m c.args.window o)) h
 
 pub returns-in-Up-clause-stands : goal.returns-in-Up-clause-stands
 returns-in-Up-clause-stands c m h =
     let o : is_open m.role ≡ true = sym (ap is_open h.half.role) ∙ (sym c.is_open.ensures ∙ c.if-not-is_open.false) in
     let up : m.shdlc.phase ≡ Up = sym h.half.link.kept.phase ∙ sym c.in-Up.ensures.value in
-    let P : LinkEnd → Type 0 = λ x. StandsFor c.forget.new.self c.forget.new.pool x in
+    let P : LinkEnd → Type 0 = λ x. EndStandsFor c.forget.new.self c.forget.new.pool x in
     subst P (sym (reset_up m c.args.window o up))
     (reset_ends c.args.pool.now c.forget.new.pool c.args.self.now c.forget.new.self m c.ask.new.shdlc c.args.window h c.requires.window c.ask.ensures up c.forget.ensures)
 
@@ -23,6 +23,6 @@ pub returns-in-Down-clause-stands : goal.returns-in-Down-clause-stands
 returns-in-Down-clause-stands c m h =
     let o : is_open m.role ≡ true = sym (ap is_open h.half.role) ∙ (sym c.is_open.ensures ∙ c.if-not-is_open.false) in
     let down : m.shdlc.phase ≡ Down = sym h.half.link.kept.phase ∙ sym c.in-Down.ensures.value in
-    let P : LinkEnd → Type 0 = λ x. StandsFor c.refill.new.self c.refill.new.pool x in
+    let P : LinkEnd → Type 0 = λ x. EndStandsFor c.refill.new.self c.refill.new.pool x in
     subst P (sym (reset_down m c.args.window o down))
     (c.refill.ensures.stands _ (reset_begins c.args.pool.now c.args.self.now m c.ask-in-Down.new.shdlc c.args.window h c.requires.window c.ask-in-Down.ensures down))

@@ -3,9 +3,9 @@ use Rattle.std.specs.Prelude.{Option, Some}
 use Rattle.swp_frame.specs.declared.fed.Fed.{Fed}
 use Rattle.swp_frame.specs.Signal.{symbol_of}
 use Rattle.swp_frame.specs.Verdicts.{verdict}
-use Rattle.swp_frame.specs.Kept.{StandsFor as DeframerStandsFor}
+use Rattle.swp_frame.specs.Kept.{DeframerStandsFor}
 use Rattle.swp_line.specs.declared.period.Period.{Period}
-use Rattle.link_end.specs.Ends.{StandsFor}
+use Rattle.link_end.specs.Ends.{EndStandsFor}
 use Rattle.link_end.specs.Inputs.{fed_input, after_some, told_some, after_period, told_period, heard_after, heard_bit}
 use Rattle.link_end.proofs.link.LinkEnd.take_period.Goals as goal
 
@@ -13,8 +13,8 @@ pub returns-in-Some-Bits-clause-stands : goal.returns-in-Some-Bits-clause-stands
 returns-in-Some-Bits-clause-stands c m seen h hs =
     let bit : c.heard_bit.result ≡ heard_bit m.role c.in-Some-Bits.s1 c.in-Some-Bits.s2 = c.heard_bit.ensures c.args.pool.now m h in
     let fed = c.feed-fed.ensures.answer seen hs ∙ ap (λ (b : Bool). verdict (symbol_of b ∷ seen)) bit in
-    let P : Fed → Type 0 = λ f. StandsFor c.take_fed.new.self.link c.take_fed.new.pool (after_some m (fed_input f)) in
-    let Q : Option Period → Type 0 = λ p. StandsFor c.take_fed.new.self.link c.take_fed.new.pool (after_period m seen p) in
+    let P : Fed → Type 0 = λ f. EndStandsFor c.take_fed.new.self.link c.take_fed.new.pool (after_some m (fed_input f)) in
+    let Q : Option Period → Type 0 = λ p. EndStandsFor c.take_fed.new.self.link c.take_fed.new.pool (after_period m seen p) in
     subst Q (ap (λ (p : Period). Some p) (sym c.in-Some-Bits.field-0-is) ∙ c.in-Some-Bits.ensures.value) (subst P fed (c.take_fed.ensures.stands m h))
 
 pub returns-in-Some-Bits-clause-answer : goal.returns-in-Some-Bits-clause-answer
@@ -32,11 +32,11 @@ returns-in-Some-Bits-clause-seen c m seen h hs =
 
 pub returns-in-Some-Deactivated-clause-stands : goal.returns-in-Some-Deactivated-clause-stands
 returns-in-Some-Deactivated-clause-stands c m seen h hs =
-    let Q : Option Period → Type 0 = λ p. StandsFor c.deactivate-report.new.self c.deactivate-report.new.pool (after_period m seen p) in
+    let Q : Option Period → Type 0 = λ p. EndStandsFor c.deactivate-report.new.self c.deactivate-report.new.pool (after_period m seen p) in
     subst Q (ap (λ (p : Period). Some p) (sym c.in-Some-Deactivated.field-0-is) ∙ c.in-Some-Deactivated.ensures.value) (c.deactivate-report.ensures.stands m h)
 
 pub returns-in-None-clause-stands : goal.returns-in-None-clause-stands
 returns-in-None-clause-stands c m seen h hs =
-    let P : Fed → Type 0 = λ f. StandsFor c.take_fed-in-None.new.self.link c.take_fed-in-None.new.pool (after_some m (fed_input f)) in
-    let Q : Option Period → Type 0 = λ p. StandsFor c.take_fed-in-None.new.self.link c.take_fed-in-None.new.pool (after_period m seen p) in
+    let P : Fed → Type 0 = λ f. EndStandsFor c.take_fed-in-None.new.self.link c.take_fed-in-None.new.pool (after_some m (fed_input f)) in
+    let Q : Option Period → Type 0 = λ p. EndStandsFor c.take_fed-in-None.new.self.link c.take_fed-in-None.new.pool (after_period m seen p) in
     subst Q c.in-None.ensures.value (subst P (c.break_off-fed.ensures.answer seen hs) (c.take_fed-in-None.ensures.stands m h))

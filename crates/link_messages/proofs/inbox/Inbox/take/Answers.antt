@@ -4,7 +4,7 @@ use Rattle.hcp_packet.specs.declared.Packet.{Packet}
 use Rattle.hcp_packet.specs.Packets.{packet_of}
 use Rattle.hcp_chain.specs.declared.joiner.Open.{Open}
 use Rattle.hcp_chain.specs.Joining.{join_step}
-use Rattle.link_messages.specs.Incoming.{Joins, under_way}
+use Rattle.link_messages.specs.Incoming.{Joins, messages_under_way}
 use Rattle.link_messages.proofs.IncomingLemmas.{joins_whole, joins_fault, fault_said}
 use Rattle.link_messages.proofs.inbox.Inbox.take.Goals as goal
 
@@ -28,5 +28,5 @@ returns-in-Fault-clause-err c =
     let before = c.args.self.now in
     let f = joins_fault c.args.pool.now c.take.new.pool before c.take.new.self c.in-Ok.packet c.requires.lies c.requires.ready
     (record { owner = e.owner; under = e.«open»; holds = e.holds; owners = e.used; others = e.others })
-    (fault_said c.take.new.pool c.in-Fault.fault (join_step (under_way c.args.pool.now before) c.in-Ok.packet).0 e.says) in
+    (fault_said c.take.new.pool c.in-Fault.fault (join_step (messages_under_way c.args.pool.now before) c.in-Ok.packet).0 e.says) in
     (f.lies, f.owner, f.none, f.used, f.elsewhere)

@@ -2,8 +2,8 @@ use Rattle.std.proofs.Common.{◌≡◌, ℕ, [], sym, ap, ◌∙◌, arith, map
 use Rattle.std.specs.Prelude.{None, slice_get}
 use Rattle.std.proofs.lemmas.Option.{slice_get_within}
 use Rattle.block_pool.specs.Pool.{PoolState, chain_bytes}
-use Rattle.hcp_packet.specs.Packets.{packets_of, bytes_of, fragments_of}
-use Rattle.link_messages.specs.Outgoing.{message_in, messages_in, messages_of_all}
+use Rattle.hcp_packet.specs.Packets.{packets_of, packet_bytes, fragments_of}
+use Rattle.link_messages.specs.Outgoing.{queued_message, queued_messages, messages_of_all}
 use Rattle.link_messages.proofs.Among.{length-fragments}
 use Rattle.link_messages.proofs.OutgoingLemmas.{looks_at, looks_on, slice_get_inside, drop_none, few_queued}
 use Rattle.link_messages.proofs.outbox.Outbox.fragment_at.Goals as goal
@@ -21,9 +21,9 @@ pub returns-then-place-count-clause-fragment : goal.returns-then-place-count-cla
 returns-then-place-count-clause-fragment c =
     let q = c.in-Some.queued.now in
     let here = looks_at c.loop-queued.pool c.args.self.now c.loop-queued.at c.loop-queued.place q c.loop-queued.invariant.0 c.in-Some.ensures in
-    let fragments = map bytes_of (packets_of q.pipe (chain_bytes c.loop-queued.pool q.chain)) in
+    let fragments = map packet_bytes (packets_of q.pipe (chain_bytes c.loop-queued.pool q.chain)) in
     sym c.fragment_of.ensures.fragment
-    ∙ (sym (slice_get_inside fragments _ c.loop-queued.place (omega (arith, length-fragments (message_in c.loop-queued.pool q), c.fragment_count-count.ensures.count, c.if-place-count.true))) ∙ (here.2 ∙ ap (λ (p : PoolState). slice_get (fragments_of (messages_in p c.args.self.now)) c.args.self.now.cut) c.loop-queued.invariant.1))
+    ∙ (sym (slice_get_inside fragments _ c.loop-queued.place (omega (arith, length-fragments (queued_message c.loop-queued.pool q), c.fragment_count-count.ensures.count, c.if-place-count.true))) ∙ (here.2 ∙ ap (λ (p : PoolState). slice_get (fragments_of (queued_messages p c.args.self.now)) c.args.self.now.cut) c.loop-queued.invariant.1))
 
 pub returns-then-place-count-clause-unchanged : goal.returns-then-place-count-clause-unchanged
 returns-then-place-count-clause-unchanged c = c.fragment_of.ensures.unchanged ∙ c.loop-queued.invariant.1
@@ -49,7 +49,7 @@ pub returns-clause-fragment : goal.returns-clause-fragment
 returns-clause-fragment c =
     let none = drop_none c.args.self.now.queue.items c.loop-queued.at c.in_default.ensures in
     sym (ap (λ l. slice_get (fragments_of (messages_of_all c.loop-queued.pool l)) c.loop-queued.place) none ∙ nothing c.loop-queued.place) ∙ ((let f = c.loop-queued.invariant.0.fragment in f)
-    ∙ ap (λ (p : PoolState). slice_get (fragments_of (messages_in p c.args.self.now)) c.args.self.now.cut) c.loop-queued.invariant.1)
+    ∙ ap (λ (p : PoolState). slice_get (fragments_of (queued_messages p c.args.self.now)) c.args.self.now.cut) c.loop-queued.invariant.1)
   where
     nothing : (n : ℕ) → slice_get (fragments_of []) n ≡ None
     nothing n = refl

@@ -4,7 +4,7 @@ use Rattle.journal_laws.specs.declared.state.State.{State}
 use Rattle.journal_laws.specs.Banks.{head}
 use Rattle.journal_laws.proofs.ReadFirst.{reads_up_to}
 use Rattle.nv_journal.specs.Faults.{is_known, IsKnown}
-use Rattle.nv_journal.specs.Scanning.{begun}
+use Rattle.nv_journal.specs.Scanning.{begun_scan}
 use Rattle.nv_journal.proofs.PassedBegun.{says_begun, version_begun, unknown_version, unknown_is_told, idle_begun, known_begun, begun_size}
 use Rattle.nv_journal.proofs.scan.Scan.open.Goals as goal
 use Rattle.nv_journal.proofs.scan.Scan.open.Goals.{else-state-ne1-via-then-state-ne1+else-state-ne2, else-state-ne1-via-else-state-ne1}
@@ -27,7 +27,7 @@ returns-then-state-ne2-clause-refused g c = (
     told = λ tells.
         let content = g.N.Nv.content c.args.nv in
         let heads = c.in-Ok.ensures.heads tells in
-        let is : c.begun-state.result ≡ begun (head content First) (head content Second) = c.begun-state.ensures ∙ ap₂ begun heads.0 heads.1 in
+        let is : c.begun-state.result ≡ begun_scan (head content First) (head content Second) = c.begun-state.ensures ∙ ap₂ begun_scan heads.0 heads.1 in
         let long : 65536 ≤ length content = omega (arith, g.met.N.Nv.sized c.args.nv tells, c.requires) in
         rw is
         (unknown_is_told content long (λ e. c.if-state-ne1.true (ap (λ (s : State). s.version) is ∙ e)) (λ e. c.if-state-ne2.true (ap (λ (s : State). s.version) is ∙ e)));
@@ -55,7 +55,7 @@ invariant_of-result g c =
       says = λ tells.
           let content = g.N.Nv.content c.args.nv in
           let heads = c.in-Ok.ensures.heads tells in
-          let is : s ≡ begun (head content First) (head content Second) = c.begun-state.ensures ∙ ap₂ begun heads.0 heads.1 in
+          let is : s ≡ begun_scan (head content First) (head content Second) = c.begun-state.ensures ∙ ap₂ begun_scan heads.0 heads.1 in
           let long : 65536 ≤ length content = omega (arith, g.met.N.Nv.sized c.args.nv tells, c.requires) in
           rw (c.in-Ok.ensures.kept tells, c.new.ensures, is)
           (says_begun content long c.is_none-ended.result (rw is at c.is_none-ended.ensures) (rw is at known));
@@ -66,7 +66,7 @@ returns-clause-known g c = λ tells.
     let s = c.begun-state.result in
     let content = g.N.Nv.content c.args.nv in
     let heads = c.in-Ok.ensures.heads tells in
-    let is : s ≡ begun (head content First) (head content Second) = c.begun-state.ensures ∙ ap₂ begun heads.0 heads.1 in
+    let is : s ≡ begun_scan (head content First) (head content Second) = c.begun-state.ensures ∙ ap₂ begun_scan heads.0 heads.1 in
     let long : 65536 ≤ length content = omega (arith, g.met.N.Nv.sized c.args.nv tells, c.requires) in
     let known : IsKnown s.version = elim c.else-state-ne1.branch [
       | else-state-ne1-via-then-state-ne1+else-state-ne2 w ↦ known_begun s.version (inr w.if-state-ne2.false)
@@ -78,6 +78,6 @@ pub returns-then-state-ne2-clause-unknown : goal.returns-then-state-ne2-clause-u
 returns-then-state-ne2-clause-unknown g c = λ tells.
     let content = g.N.Nv.content c.args.nv in
     let heads = c.in-Ok.ensures.heads tells in
-    let is : c.begun-state.result ≡ begun (head content First) (head content Second) = c.begun-state.ensures ∙ ap₂ begun heads.0 heads.1 in
+    let is : c.begun-state.result ≡ begun_scan (head content First) (head content Second) = c.begun-state.ensures ∙ ap₂ begun_scan heads.0 heads.1 in
     let long : 65536 ≤ length content = omega (arith, g.met.N.Nv.sized c.args.nv tells, c.requires) in
     inr (ap is_known (version_begun content long ∙ sym (ap (λ (t : State). t.version) is)) ∙ unknown_version c.begun-state.result.version c.if-state-ne1.true c.if-state-ne2.true)

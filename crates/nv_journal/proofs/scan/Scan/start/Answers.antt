@@ -1,6 +1,6 @@
 use Rattle.std.proofs.Common.{sym, ap, ◌∙◌, arith}
 use Rattle.journal_laws.specs.Journal.{records}
-use Rattle.nv_journal.specs.Kept.{Kept}
+use Rattle.nv_journal.specs.Kept.{KeptMemory}
 use Rattle.journal_laws.specs.Operations.{format_writes}
 use Rattle.journal_laws.proofs.Made.{made_whole, made_in_part}
 use Rattle.nv_journal.proofs.Appending.{left_by_cut}
@@ -43,4 +43,4 @@ returns-in-Ok-clause-records g c = λ tells.
     let says = (c.self.invariant.says tells).at_end (rw (← c.self.view_is) at c.requires) in
     let whole = made_whole g.N.Nv.writes g.N.Nv.content (λ m at bytes ok n step. g.met.N.Nv.told m at bytes ok n tells step) format_writes k.nv c.format.new.nv c.in-Ok.ensures.made in
     rw (← c.self.view_is)
-    (ap (λ (j : Kept g.row.N.Denot). records (g.N.Nv.content j.nv)) c.of-in-Ok.ensures ∙ ap records whole ∙ no_records_then content k.state says none)
+    (ap (λ (j : KeptMemory g.row.N.Denot). records (g.N.Nv.content j.nv)) c.of-in-Ok.ensures ∙ ap records whole ∙ no_records_then content k.state says none)

@@ -1,7 +1,7 @@
 use Rattle.std.proofs.Common.{List, not, rules, subst, sym, ◌∙◌, ap}
 use Rattle.arrayvec.proofs.ArrayVecLemmas.{filter-from_retain}
 use Rattle.pipe_table.specs.declared.row.PipeRow.{PipeRow}
-use Rattle.pipe_table.specs.PipeRows.{without_host, ArePipeRows, pid_of, joins_host}
+use Rattle.pipe_table.specs.PipeRows.{rows_without_host, ArePipeRows, pid_of, joins_host}
 use Rattle.sorted_rows.proofs.RowLemmas.{AreRows-filter}
 use Rattle.pipe_table.proofs.table.PipeTable.clear_host.Goals as goal
 
@@ -14,4 +14,4 @@ invariant_of-self c =
 pub returns : goal.returns
 returns c =
     let kept = filter-from_retain _ (λ (row : PipeRow). not (joins_host row c.args.host)) _ (λ x b f' y called. search rules) _ _ c.retain.ensures.filtered in
-    kept ∙ ap (λ (rows : List PipeRow). without_host rows c.args.host) c.self.view_is
+    kept ∙ ap (λ (rows : List PipeRow). rows_without_host rows c.args.host) c.self.view_is

@@ -1,7 +1,7 @@
 use Rattle.std.proofs.Common.{List, not, eqb, rules, subst, sym, ◌∙◌, ap}
 use Rattle.arrayvec.proofs.ArrayVecLemmas.{filter-from_retain}
 use Rattle.registry.specs.declared.value.RegValue.{RegValue}
-use Rattle.registry.specs.Values.{without_host, AreValues}
+use Rattle.registry.specs.Values.{values_without_host, AreValues}
 use Rattle.registry.proofs.ValueLemmas.{AreValues-filter}
 use Rattle.registry.proofs.registry.Registry.clear_host.Goals as goal
 
@@ -14,4 +14,4 @@ invariant_of-self c =
 pub returns : goal.returns
 returns c =
     let kept = filter-from_retain _ (λ (v : RegValue). not (eqb v.host c.args.host)) _ (λ x b f' y called. search rules) _ _ c.retain.ensures.filtered in
-    kept ∙ ap (λ (values : List RegValue). without_host values c.args.host) c.self.view_is
+    kept ∙ ap (λ (values : List RegValue). values_without_host values c.args.host) c.self.view_is

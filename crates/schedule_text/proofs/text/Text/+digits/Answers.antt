@@ -1,14 +1,14 @@
 use Rattle.std.proofs.Common.{◌++◌, ◌/◌, arith, sym, subst}
 use Rattle.std.specs.Fmt.{decimal}
 use Rattle.std.proofs.lemmas.Fmt.{decimal_digit}
-use Rattle.schedule_text.specs.Growth.{Holds}
+use Rattle.schedule_text.specs.Growth.{HoldsText}
 use Rattle.schedule_text.proofs.GrowthLemmas.{holds_digit}
 use Rattle.schedule_text.proofs.text.Text.+digits.Goals as goal
 
 pub returns-then-number-lt10 : goal.returns-then-number-lt10
 returns-then-number-lt10 t c =
     λ start text h.
-    subst (λ ds. Holds start (text ++ ds) c.push.new.self) (sym (decimal_digit c.args.number (omega arith)))
+    subst (λ ds. HoldsText start (text ++ ds) c.push.new.self) (sym (decimal_digit c.args.number (omega arith)))
     (c.push.ensures start text h)
 
 pub returns : goal.returns

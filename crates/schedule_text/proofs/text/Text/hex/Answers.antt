@@ -1,7 +1,7 @@
 use Rattle.std.proofs.Common.{◌≡◌, ℕ, List, length, [], ◌∷◌, ◌++◌, arith, refl, sym, ◌∙◌, ap, subst}
 use Rattle.hex.specs.Hex.{encode_upper}
 use Rattle.schedule_text.specs.Words.{spaced}
-use Rattle.schedule_text.specs.Growth.{Holds, HoldsWords}
+use Rattle.schedule_text.specs.Growth.{HoldsText, HoldsWords}
 use Rattle.schedule_text.proofs.GrowthLemmas.{encode-nil, encode-append, holds_spaced, holds_longer}
 use Rattle.schedule_text.proofs.text.Text.hex.Goals as goal
 
@@ -23,6 +23,6 @@ pub returns-in-None : goal.returns-in-None
 returns-in-None c =
     λ start first more h.
     holds_spaced start first (encode_upper c.args.bytes.now) more _
-    (subst (λ word. Holds start (spaced (first ∷ more) ++ (32 ∷ word)) c.push.new.self)
+    (subst (λ word. HoldsText start (spaced (first ∷ more) ++ (32 ∷ word)) c.push.new.self)
     (sym (ap encode_upper (none_left c.args.bytes.now c.in-None.ensures.cases) ∙ encode-nil))
     (c.push.ensures start (spaced (first ∷ more)) h))

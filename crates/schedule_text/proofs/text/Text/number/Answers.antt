@@ -2,7 +2,7 @@ use Rattle.std.proofs.Common.{[], ◌∷◌, ◌++◌, arith, sym, subst}
 use Rattle.std.specs.Fmt.{decimal}
 use Rattle.std.proofs.lemmas.Fmt.{decimal_digit}
 use Rattle.schedule_text.specs.Words.{spaced}
-use Rattle.schedule_text.specs.Growth.{Holds}
+use Rattle.schedule_text.specs.Growth.{HoldsText}
 use Rattle.schedule_text.proofs.GrowthLemmas.{holds_word, holds_spaced}
 use Rattle.schedule_text.proofs.text.Text.number.Goals as goal
 
@@ -10,7 +10,7 @@ pub returns-then-number-lt10 : goal.returns-then-number-lt10
 returns-then-number-lt10 c =
     λ start first more h.
     holds_spaced start first (decimal c.args.number) more _
-    (subst (λ ds. Holds start (spaced (first ∷ more) ++ (32 ∷ ds)) c.push.new.self) (sym (decimal_digit c.args.number (omega arith)))
+    (subst (λ ds. HoldsText start (spaced (first ∷ more) ++ (32 ∷ ds)) c.push.new.self) (sym (decimal_digit c.args.number (omega arith)))
     (c.push.ensures start (spaced (first ∷ more)) h))
 
 pub returns : goal.returns

@@ -1,6 +1,6 @@
 use Rattle.std.proofs.Common.{◌≡◌, ◌<◌, ◌++◌, [], ◌∷◌, Some, slice_get, List, ℕ, length, arith, refl, sym, ◌∙◌, ap, ap₂, subst, append-nil, append_assoc, length-take, take-append-drop}
 use Rattle.hex.specs.Hex.{encode_upper}
-use Rattle.schedule_text.specs.Growth.{Holds}
+use Rattle.schedule_text.specs.Growth.{HoldsText}
 use Rattle.schedule_text.proofs.GrowthLemmas.{encode-nil, encode-append, holds_two}
 use Rattle.schedule_text.proofs.text.Text.pairs.Goals as goal
 
@@ -10,7 +10,7 @@ twos-init c = (
   (
     refl,
     λ start text h.
-        subst (λ t. Holds start t c.args.self.now) (sym (ap (λ t. text ++ t) encode-nil ∙ append-nil text)) h,
+        subst (λ t. HoldsText start t c.args.self.now) (sym (ap (λ t. text ++ t) encode-nil ∙ append-nil text)) h,
   ),
 )
 
@@ -44,7 +44,7 @@ returns-in-Some-first c =
     let front = c.twos.invariant.0 in
     let one = last_left left last c.in_default.ensures.cases c.in-Some-first.ensures.value in
     let digits = c.hex_digits-in-Some-first.result in
-    subst (λ t. Holds start t c.push-in-Some-first.new.self)
+    subst (λ t. HoldsText start t c.push-in-Some-first.new.self)
     (ap (λ t. (text ++ encode_upper front) ++ t) c.hex_digits-in-Some-first.ensures
     ∙ append_assoc text (encode_upper front) (encode_upper (last ∷ []))
     ∙ ap (λ t. text ++ t) (sym (encode-append front (last ∷ [])) ∙ ap (λ xs. encode_upper (front ++ xs)) (sym one) ∙ ap encode_upper c.twos.invariant.1.0))

@@ -1,13 +1,13 @@
 use Rattle.std.proofs.Common.{subst, sym, []}
-use Rattle.shdlc_core.specs.Kept.{StandsFor}
+use Rattle.shdlc_core.specs.Kept.{ShdlcStandsFor}
 use Rattle.shdlc_core.specs.Machine.{up_with}
 use Rattle.shdlc_core.proofs.shdlc.Shdlc.begin.Goals as goal
 
 pub returns : goal.returns
 returns c = λ e h.
-    let stood = subst (λ k. StandsFor k e) (sym c.self.view_is) h in
+    let stood = subst (λ k. ShdlcStandsFor k e) (sym c.self.view_is) h in
     let cleared = record e { due = [] } in
-    subst (λ w. StandsFor c.start.new.self (up_with cleared w)) stood.own_window
+    subst (λ w. ShdlcStandsFor c.start.new.self (up_with cleared w)) stood.own_window
     (c.start.ensures.stands cleared (record {
       phase = stood.phase;
       own_window = stood.own_window;

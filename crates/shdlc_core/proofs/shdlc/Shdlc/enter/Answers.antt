@@ -1,10 +1,10 @@
 use Rattle.std.proofs.Common.{refl, subst, sym}
-use Rattle.shdlc_core.specs.Kept.{StandsFor}
+use Rattle.shdlc_core.specs.Kept.{ShdlcStandsFor}
 use Rattle.shdlc_core.proofs.shdlc.Shdlc.enter.Goals as goal
 
 pub returns-clause-stands : goal.returns-clause-stands
 returns-clause-stands c = λ e h.
-    let stood = subst (λ k. StandsFor k e) (sym c.self.view_is) h in
+    let stood = subst (λ k. ShdlcStandsFor k e) (sym c.self.view_is) h in
     record {
       phase = refl;
       own_window = stood.own_window;

@@ -1,6 +1,6 @@
 use Rattle.std.proofs.Common.{◌≡◌, ◌+◌, ◌-◌, Some, subst, sym, arith, ◌∙◌}
 use Rattle.shdlc_core.specs.declared.answers.LinkState.TheVariants.{Up}
-use Rattle.shdlc_core.specs.Kept.{StandsFor}
+use Rattle.shdlc_core.specs.Kept.{ShdlcStandsFor}
 use Rattle.shdlc_core.specs.Machine.{place_of}
 use Rattle.shdlc_core.proofs.Steps.{taken-fragment, take_answer-fragment, answer-acked}
 use Rattle.shdlc_core.proofs.shdlc.Shdlc.take_fragment.Goals as goal
@@ -9,7 +9,7 @@ pub returns-clause-stands : goal.returns-clause-stands
 returns-clause-stands c = λ e h.
     let up : e.phase ≡ Up = sym h.phase ∙ c.in-Some.ensures.other in
     let at : place_of e.session c.args.nr ≡ Some (e.session.acked + c.in-Some.count) = sym (c.in-Some.ensures.up e h up) in
-    subst (StandsFor c.receive-accepted.new.self) (sym (taken-fragment e c.args.ns c.args.nr c.args.info.now _ up at))
+    subst (ShdlcStandsFor c.receive-accepted.new.self) (sym (taken-fragment e c.args.ns c.args.nr c.args.info.now _ up at))
     (c.receive-accepted.ensures.stands _ (c.acknowledge.ensures.stands e h))
 
 pub returns-clause-answer : goal.returns-clause-answer

@@ -1,12 +1,12 @@
 use Rattle.std.proofs.Common.{refl, subst, sym}
-use Rattle.shdlc_core.specs.Kept.{StandsFor}
+use Rattle.shdlc_core.specs.Kept.{ShdlcStandsFor}
 use Rattle.shdlc_core.specs.Machine.{waiting_from}
 use Rattle.shdlc_core.proofs.shdlc.Shdlc.wait.Goals as goal
 
 pub returns-clause-stands : goal.returns-clause-stands
 returns-clause-stands c = λ e h.
     let entered = c.enter.ensures.stands _ (c.make.ensures.stands _ (c.drop_frames.ensures.stands e h)) in
-    let waits = subst (λ k. StandsFor k (record (waiting_from e) { tries = 0; peer_window = e.peer_window })) (sym c.self.view_is) entered in
+    let waits = subst (λ k. ShdlcStandsFor k (record (waiting_from e) { tries = 0; peer_window = e.peer_window })) (sym c.self.view_is) entered in
     record {
       phase = waits.phase;
       own_window = waits.own_window;

@@ -11,8 +11,8 @@ use Rattle.swp_frame.specs.declared.word.Word.{Word}
 use Rattle.swp_frame.proofs.LowBits.{low_bits-at}
 use Rattle.swp_decode.specs.declared.line.Wire.{Wire}
 use Rattle.swp_decode.specs.declared.line.Wire.TheVariants.{S1, S2}
-use Rattle.swp_decode.specs.Readings.{Reading, signal, symbols, readings_on, AreBits}
-use Rattle.swp_decode.specs.Decoded.{line_with, lines_behind}
+use Rattle.swp_decode.specs.Readings.{ReadSymbol, signal, symbols, readings_on, AreBits}
+use Rattle.swp_decode.specs.Decoded.{line_with, lines_with}
 use Rattle.swp_decode.proofs.FurtherBits.{quiet_between, quiet_further, quiet_none}
 use Rattle.swp_decode.proofs.Gathering.{AreBits-take}
 use Rattle.swp_decode.proofs.FurtherLines.{lines_between, lines_through, stands_behind}
@@ -72,7 +72,7 @@ bits_of_word : (wire : Wire) (bytes : List ℕ) (given : ℕ) (word : Word) → 
 bits_of_word wire bytes given word is are = rw is are
 
 -- the line that comes with a bit of a word
-abbrev line_of_word : Wire → Word → ℕ → ℕ → List Reading → List ℕ
+abbrev line_of_word : Wire → Word → ℕ → ℕ → List ReadSymbol → List ℕ
 line_of_word wire word place last older = line_with wire (Some (symbol_of (bit word.bits (63 - last)))) (readings_on place (take last (word_bits word)) older)
 
 -- the lines of both wires are those of the bytes
@@ -80,10 +80,10 @@ through : (text bytes older : List ℕ) (word1 word2 : Word) (place from last : 
     → from ≤ last → last < 64 → place ≡ length older
     → HasNoMark (symbols (readings_on (length older) (take from (word_bits word1)) (signal S1 older))) (take (last - from) (drop from (word_bits word1)))
     → HasNoMark (symbols (readings_on (length older) (take from (word_bits word2)) (signal S2 older))) (take (last - from) (drop from (word_bits word2)))
-    → ((text ++ lines_behind older (take from bytes)) ++ line_of_word S1 word1 place last (signal S1 older)) ++ line_of_word S2 word2 place last (signal S2 older)
-    ≡ text ++ lines_behind older (take (last + 1) bytes)
+    → ((text ++ lines_with older (take from bytes)) ++ line_of_word S1 word1 place last (signal S1 older)) ++ line_of_word S2 word2 place last (signal S2 older)
+    ≡ text ++ lines_with older (take (last + 1) bytes)
 through text bytes older word1 word2 place from last l s1 s2 order h is quiet1 quiet2 =
-    ap₂ (λ a b. ((text ++ lines_behind older (take from bytes)) ++ a) ++ b) (there S1 word1) (there S2 word2)
+    ap₂ (λ a b. ((text ++ lines_with older (take from bytes)) ++ a) ++ b) (there S1 word1) (there S2 word2)
     ∙ lines_through text bytes older (word_bits word1) (word_bits word2) from last s1 s2 order (omega (arith, l, h)) quiet1 quiet2
   where
     there : (wire : Wire) (word : Word) → line_of_word wire word place last (signal wire older)

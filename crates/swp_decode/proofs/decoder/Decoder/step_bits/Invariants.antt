@@ -1,9 +1,9 @@
 use Rattle.std.proofs.Common.{ℕ, List, ◌++◌, ◌≡◌, ◌+◌, ◌-◌, ◌*◌, ◌%◌, ◌^◌, ◌≤◌, length, take}
 use Rattle.std.specs.Int.RustNames.{bit_or}
 use Rattle.swp_frame.specs.Words.{word_bits}
-use Rattle.swp_decode.specs.Readings.{Reading, readings_on}
-use Rattle.swp_decode.specs.Decoded.{lines_behind}
-use Rattle.swp_decode.specs.Kept.{ReadsSignal, StandsFor, IsQuiet}
+use Rattle.swp_decode.specs.Readings.{ReadSymbol, readings_on}
+use Rattle.swp_decode.specs.Decoded.{lines_with}
+use Rattle.swp_decode.specs.Kept.{ReadsSignal, DecoderStandsFor, NoMarkEnds}
 use Rattle.swp_decode.proofs.decoder.Decoder.step_bits.Given as goal
 
 -- The marks before a place were taken. Each wire was read at least through its last mark before that place.
@@ -15,11 +15,11 @@ invariant-marks l = (read : ℕ) × record {
   marks : l.marks ≡ bit_or l.s1.marks l.s2.marks % 2 ^ (64 - read);
   before_s1 : l.read_s1 ≤ read;
   before_s2 : l.read_s2 ≤ read;
-  quiet_s1 : IsQuiet l.s1 l.read_s1 read;
-  quiet_s2 : IsQuiet l.s2 l.read_s2 read;
-  s1 : (older : List Reading) → ReadsSignal l.initial.self.s1 older → ReadsSignal l.self.s1 (readings_on l.place (take l.read_s1 (word_bits l.s1)) older);
-  s2 : (older : List Reading) → ReadsSignal l.initial.self.s2 older → ReadsSignal l.self.s2 (readings_on l.place (take l.read_s2 (word_bits l.s2)) older);
-  lines : (older : List ℕ) → StandsFor l.initial.self older → l.text.items ≡ l.initial.text.items ++ lines_behind older (take read l.bytes);
+  quiet_s1 : NoMarkEnds l.s1 l.read_s1 read;
+  quiet_s2 : NoMarkEnds l.s2 l.read_s2 read;
+  s1 : (older : List ReadSymbol) → ReadsSignal l.initial.self.s1 older → ReadsSignal l.self.s1 (readings_on l.place (take l.read_s1 (word_bits l.s1)) older);
+  s2 : (older : List ReadSymbol) → ReadsSignal l.initial.self.s2 older → ReadsSignal l.self.s2 (readings_on l.place (take l.read_s2 (word_bits l.s2)) older);
+  lines : (older : List ℕ) → DecoderStandsFor l.initial.self older → l.text.items ≡ l.initial.text.items ++ lines_with older (take read l.bytes);
   sized : length l.text.items ≤ length l.initial.text.items + 256 * l.passed;
 }
 

@@ -1,7 +1,7 @@
 use Rattle.std.proofs.Common.{◌∙◌, ◌++◌, ◌∷◌, ◌<◌, length, get_or, reverse, take, ap, subst, arith}
 use Rattle.swp_decode.specs.declared.line.Wire.TheVariants.{S1, S2}
 use Rattle.swp_decode.specs.Decoded.{line_at}
-use Rattle.swp_decode.specs.Kept.{StandsFor}
+use Rattle.swp_decode.specs.Kept.{DecoderStandsFor}
 use Rattle.swp_decode.proofs.FurtherLines.{reverse-more, lines_behind-more}
 use Rattle.swp_decode.proofs.decoder.Decoder.step_each.Goals as goal
 
@@ -13,7 +13,7 @@ loop-byte-preserved c =
     let within : i < length bytes = omega arith in
     record {
       count = omega arith;
-      stands = λ older old. subst (StandsFor c.step.new.self) (reverse-more older bytes i within)
+      stands = λ older old. subst (DecoderStandsFor c.step.new.self) (reverse-more older bytes i within)
           (c.step.ensures.stands (reverse (take i bytes) ++ older) (kept.stands older old));
       lines = λ older old.
           let seen = get_or bytes i 0 ∷ (reverse (take i bytes) ++ older) in

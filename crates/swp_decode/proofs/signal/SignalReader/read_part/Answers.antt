@@ -1,5 +1,5 @@
 use Rattle.std.proofs.Common.{◌∙◌, Some, unwrap_or, ap, sym, subst}
-use Rattle.swp_frame.specs.Kept.{StandsFor}
+use Rattle.swp_frame.specs.Kept.{DeframerStandsFor}
 use Rattle.swp_frame.specs.Words.{part_bits}
 use Rattle.swp_frame.proofs.Places.{ends_in}
 use Rattle.swp_decode.specs.Readings.{symbols}
@@ -14,7 +14,7 @@ returns c older reads behind quiet =
     let ends = ends_in part.width part.bits c.trailing_ones-ones.result part.few part.bits_fit c.trailing_ones-ones.ensures in
     let front = front_at_end place part.width part.bits c.trailing_ones-ones.result older c.requires.some ends in
     record {
-      frames = subst (StandsFor c.feed_part.new.self) (sym (symbols-readings_on place (part_bits part) older)) (c.feed_part.ensures (symbols older) reads.frames behind quiet);
+      frames = subst (DeframerStandsFor c.feed_part.new.self) (sym (symbols-readings_on place (part_bits part) older)) (c.feed_part.ensures (symbols older) reads.frames behind quiet);
       front = elim c.if-ones-part.branch [
         | then-ones-part w ↦ ap (λ n. Some n) w.self-is ∙ sym (front.1 w.if-ones-part.true)
         | else-ones-part w ↦ ap (λ n. Some n) (w.self-is ∙ w.unwrap_or.ensures ∙ ap (λ o. unwrap_or o place) reads.front) ∙ sym (front.0 w.if-ones-part.false)

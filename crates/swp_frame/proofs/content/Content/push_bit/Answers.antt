@@ -1,7 +1,7 @@
 use Rattle.std.proofs.Common.{◌≡◌, ◌∙◌, ◌∷◌, [], Bool, true, false, not, eqb, length, reverse, refl, sym, ap, subst}
 use Rattle.std.proofs.lemmas.List.{reverse-append}
 use mir.Val.{bool_byte}
-use Rattle.swp_crc.specs.Division.{number_of}
+use Rattle.swp_crc.specs.Division.{spelled_number}
 use Rattle.swp_frame.specs.Signal.{bit_0, bit_1, symbol_of, unstuffed}
 use Rattle.swp_frame.specs.Kept.{KeepsContent, CountsLastZero}
 use Rattle.swp_frame.proofs.Runs.{added, zero_content, zero_counts}
@@ -12,7 +12,7 @@ length-added : (content : Bool) → length (added false content) ≡ bool_byte c
 length-added true = refl
 length-added false = refl
 
-number_of-added : (content : Bool) → number_of (added false content) ≡ 0
+number_of-added : (content : Bool) → spelled_number (added false content) ≡ 0
 number_of-added true = refl
 number_of-added false = refl
 

@@ -1,5 +1,5 @@
 use Rattle.std.proofs.Common.{◌≡◌, ◌∙◌, min, ap, arith}
-use Rattle.swp_crc.specs.Division.{number_of}
+use Rattle.swp_crc.specs.Division.{spelled_number}
 use Rattle.swp_frame.specs.Signal.{run_of}
 use Rattle.swp_frame.specs.Words.{word_bits}
 use Rattle.swp_frame.proofs.Places.{same_put_in, same_marks}
@@ -10,6 +10,6 @@ returns-clause-behind c seen stands =
     let same : min 7 c.args.self.now.ones ≡ min 7 (run_of seen) = omega (arith, stands.ones) in
     let bits = word_bits c.new.result in
     record {
-      marks = c.new.ensures.behind.marks ∙ ap number_of (same_marks c.args.self.now.ones (run_of seen) bits same);
-      put_in = c.new.ensures.behind.put_in ∙ ap number_of (same_put_in c.args.self.now.ones (run_of seen) bits same);
+      marks = c.new.ensures.behind.marks ∙ ap spelled_number (same_marks c.args.self.now.ones (run_of seen) bits same);
+      put_in = c.new.ensures.behind.put_in ∙ ap spelled_number (same_put_in c.args.self.now.ones (run_of seen) bits same);
     }

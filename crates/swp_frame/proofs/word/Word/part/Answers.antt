@@ -1,5 +1,5 @@
 use Rattle.std.proofs.Common.{◌∙◌, ◌+◌, ◌-◌, ◌≤◌, ℕ, take, ap, sym, arith}
-use Rattle.swp_crc.specs.Division.{number_of}
+use Rattle.swp_crc.specs.Division.{spelled_number}
 use Rattle.swp_frame.specs.Words.{low_bits, word_bits, places_put_in, run_after}
 use Rattle.swp_frame.proofs.LowBits.{low_bits-between}
 use Rattle.swp_frame.proofs.Places.{put_in_between}
@@ -17,5 +17,5 @@ returns-clause-behind c ones behind =
     let within : c.args.from + width ≤ 64 = omega (arith, c.requires.some, c.requires.within) in
     c.field-2.ensures
     ∙ put_in_between 64 c.args.from width ones word.bits word.put_in within behind.put_in
-    ∙ ap (λ xs. number_of (places_put_in (run_after ones (take c.args.from (word_bits word))) xs))
+    ∙ ap (λ xs. spelled_number (places_put_in (run_after ones (take c.args.from (word_bits word))) xs))
     (sym (ap (low_bits width) c.field.ensures ∙ low_bits-between 64 c.args.from width word.bits within))

@@ -2,8 +2,8 @@ use Rattle.std.proofs.Common.{List, sym, ◌∙◌, subst}
 use Rattle.swp_frame.specs.Signal.{Symbol}
 use Rattle.swp_line.specs.Periods.{period_at}
 use Rattle.link_end.specs.Inputs.{heard_after}
-use Rattle.swp_frame.specs.Kept.{StandsFor as DeframerStandsFor}
-use Rattle.byte_link.specs.Kept.{StandsFor as ByteLinkStandsFor}
+use Rattle.swp_frame.specs.Kept.{DeframerStandsFor}
+use Rattle.byte_link.specs.Kept.{ByteLinkStandsFor}
 use Rattle.worked_examples.proofs.nodes.Node.take_period.Goals as goal
 
 pub fetch-message-requires-clause-stands : goal.fetch-message-requires-clause-stands

@@ -2,8 +2,8 @@ use Rattle.std.proofs.Common.{subst, ap, ◌∙◌}
 use Rattle.link_machine.specs.Machine.{LinkInput, after_input, lpdu_input, report}
 use Rattle.link_machine.specs.Machine.LinkInput.{Take}
 use Rattle.link_machine.proofs.Reports.{take_so}
-use Rattle.link_end.specs.Ends.{StandsFor as EndStandsFor}
-use Rattle.link_end.specs.Reports.{told as told_of}
+use Rattle.link_end.specs.Ends.{EndStandsFor}
+use Rattle.link_end.specs.Reports.{report_told as told_of}
 use Rattle.world.specs.Noting.{acked_on}
 use Rattle.world.proofs.Results.{on_ok}
 use Rattle.world.proofs.Nodes.{is_sound, input_done, with_message, taken_input, can_fetch}

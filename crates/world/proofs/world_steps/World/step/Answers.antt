@@ -6,7 +6,7 @@ use Rattle.history.specs.Histories.{noted}
 use Rattle.history.specs.Follows.{host_of, link_at, outcome_of, with_step}
 use Rattle.world.specs.declared.world_steps.World.{World}
 use Rattle.world.specs.Lines.{end_for}
-use Rattle.world.specs.Worlds.{StandsFor}
+use Rattle.world.specs.Worlds.{WorldStandsFor}
 use Rattle.world.proofs.LineLemmas.{seen_at_host, seen_at_controller}
 use Rattle.world.proofs.Worlds.{Law, controller_of, host_grows, controller_grows, few_sent, none_misread, one_misread}
 use Rattle.world.proofs.world_steps.World.step.Goals as goal
@@ -35,7 +35,7 @@ returns-in-None-clause-stands c lines t h =
           let stands = seen_at_host old.host old.controller old.resets at l side h.link in
           let o = w.in_ok-other.other in
           let none : o ≡ None = sym w.other-is ∙ c.in-None.is in
-          let P : World → Type 0 = λ x. StandsFor x old.header (lines ++ c.args.line.now ∷ []) (with_step t c.args.line.now) in
+          let P : World → Type 0 = λ x. WorldStandsFor x old.header (lines ++ c.args.line.now ∷ []) (with_step t c.args.line.now) in
           subst P (sym w.self-is)
           (host_grows law old now old.header lines t c.args.line.now w.play_line.new.entries.items at h c.requires.line refl seen side
           (none_misread l c.args.line.now o none (w.in_ok-other.ensures.misread l stands))
@@ -56,7 +56,7 @@ returns-in-None-clause-stands c lines t h =
           let stands = seen_at_controller old.controller old.host old.resets at l side h.link in
           let o = w.in_ok-other-2.other in
           let none : o ≡ None = sym w.other-is ∙ c.in-None.is in
-          let P : World → Type 0 = λ x. StandsFor x old.header (lines ++ c.args.line.now ∷ []) (with_step t c.args.line.now) in
+          let P : World → Type 0 = λ x. WorldStandsFor x old.header (lines ++ c.args.line.now ∷ []) (with_step t c.args.line.now) in
           subst P (sym w.self-is)
           (controller_grows law old now old.header lines t c.args.line.now w.play_line-else-at.new.entries.items at h c.requires.line refl seen side
           (none_misread l c.args.line.now o none (w.in_ok-other-2.ensures.misread l stands))
