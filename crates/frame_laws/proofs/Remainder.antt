@@ -5,20 +5,13 @@ use Rattle.swp_crc.specs.Division.{sum_of_bits, sum_from_front, divisor, divided
 use Rattle.swp_crc.specs.Crc.{zeros, complement_first, remainder_of, crc_of}
 use Rattle.swp_crc.proofs.Steps.{length-remainder}
 use Rattle.frame_laws.specs.Remainder.{times_divisor, IsCrc}
+use Rattle.swp_crc.proofs.DivisionLemmas.{sum_assoc as sum_from_front-assoc, length-sum}
 
 sum_of_bits-assoc : (x y z : Bool) → sum_of_bits (sum_of_bits x y) z ≡ sum_of_bits x (sum_of_bits y z)
 sum_of_bits-assoc true true true = refl
 sum_of_bits-assoc true true false = refl
 sum_of_bits-assoc true false z = refl
 sum_of_bits-assoc false y z = refl
-
-sum_from_front-assoc : (xs ys zs : List Bool) → sum_from_front (sum_from_front xs ys) zs ≡ sum_from_front xs (sum_from_front ys zs)
-sum_from_front-assoc [] ys zs = refl
-sum_from_front-assoc (x ∷ xs) [] zs = refl
-sum_from_front-assoc (x ∷ xs) (y ∷ ys) [] = refl
-sum_from_front-assoc (x ∷ xs) (y ∷ ys) (z ∷ zs) =
-    ap (λ b. b ∷ sum_from_front (sum_from_front xs ys) zs) (sum_of_bits-assoc x y z)
-    ∙ ap (λ bs. sum_of_bits x (sum_of_bits y z) ∷ bs) (sum_from_front-assoc xs ys zs)
 
 twice_bit : (x y : Bool) → sum_of_bits x (sum_of_bits x y) ≡ y
 twice_bit true true = refl
@@ -31,11 +24,6 @@ added_twice [] ys h = refl
 added_twice (x ∷ xs) [] h = absurd (omega (arith, h))
 added_twice (x ∷ xs) (y ∷ ys) h =
     ap (λ b. b ∷ sum_from_front xs (sum_from_front xs ys)) (twice_bit x y) ∙ ap (λ bs. y ∷ bs) (added_twice xs ys (omega (arith, h)))
-
-length-sum : (xs ys : List Bool) → length xs ≤ length ys → length (sum_from_front xs ys) ≡ length ys
-length-sum [] ys h = refl
-length-sum (x ∷ xs) [] h = absurd (omega (arith, h))
-length-sum (x ∷ xs) (y ∷ ys) h = ap suc (length-sum xs ys (omega (arith, h)))
 
 zeros-sum : (n : ℕ) (ys : List Bool) → n ≤ length ys → sum_from_front (replicate n false) ys ≡ ys
 zeros-sum zero ys h = refl

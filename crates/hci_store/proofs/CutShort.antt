@@ -29,7 +29,7 @@ use Rattle.hci_store.proofs.ReadAgain.{short_value}
 use Rattle.hci_store.proofs.Committed.{all_recordable, holds_more, holds_snapshot}
 
 -- the body of a command may be appended
-is_body : (c : Command) → IsCommand c → IsBody (body_of c)
+pub is_body : (c : Command) → IsCommand c → IsBody (body_of c)
 is_body (Create row) may = (omega arith, omega arith)
 is_body (Delete pid) may = (omega arith, omega arith)
 is_body (Clear host) may = (omega arith, omega arith)
@@ -39,7 +39,7 @@ is_body (Set host gate param value) may =
     (omega arith, omega (arith, short))
 is_body (Sync host id) may = (omega arith, omega arith)
 
-are_bodies : (cs : List Command) → AllByRecursion IsCommand cs → AllByRecursion IsBody (map body_of cs)
+pub are_bodies : (cs : List Command) → AllByRecursion IsCommand cs → AllByRecursion IsBody (map body_of cs)
 are_bodies [] all = tt
 are_bodies (c ∷ cs) all = (is_body c all.0, are_bodies cs all.1)
 

@@ -1,7 +1,7 @@
 -- Giving a joiner's chains back one by one, and a pool that changed at one chain.
-use Rattle.std.proofs.Common.{◌≡◌, ℕ, ◌+◌, ◌-◌, ◌<◌, ◌≤◌, List, [], ◌∷◌, ◌++◌, length, set, refl, sym, ap, ◌∙◌, subst, arith, get_or-set_same, length-set}
+use Rattle.std.proofs.Common.{◌≡◌, ℕ, ◌+◌, ◌-◌, ◌<◌, ◌≤◌, List, [], ◌∷◌, ◌++◌, length, refl, sym, ap, ◌∙◌, subst, arith, get_or-set_same, length-set}
 use Rattle.std.specs.List.{AllByRecursion}
-use Rattle.std.proofs.lemmas.List.{set-set, set-get_or, append-nil}
+use Rattle.std.proofs.lemmas.List.{append-nil}
 use Rattle.std.proofs.lemmas.List.Sums.{sum_by-cons, sum_by_push}
 use Rattle.block_pool.specs.declared.chain.Chain.{Chain}
 use Rattle.block_pool.specs.declared.owners.Owner.{Owner}
@@ -12,6 +12,7 @@ use Rattle.hcp_chain.specs.declared.joiner.Open.{Open}
 use Rattle.hcp_chain.specs.declared.joiner.Joiner.{Joiner}
 use Rattle.hcp_chain.specs.Holding.{message_of, messages_in, IsJoinerReady, IsOwnOpen, AreApart, HoldsChains, held_blocks, KeepsOtherChains}
 use Rattle.hcp_chain.proofs.HoldingLemmas.{all_front, all_map, apart_front}
+use Rattle.block_pool.proofs.HoldingLemmas.{with_used-with_used, with_used-same}
 
 -- ---- a pool that changed at one chain
 
@@ -38,21 +39,10 @@ kept old new owner before after (x ∷ xs) keeps own apart =
 
 -- ---- owners
 
-pub with_used-with_used : (owners : List Owner) (o a b : ℕ) → o < length owners → with_used (with_used owners o a) o b ≡ with_used owners o b
-with_used-with_used owners o a b low =
-    let nobody : Owner = record { quota = 0; used = 0; aside = 0 } in
-    let one : Owner = record { quota = (owner_at owners o).quota; used = a; aside = (owner_at owners o).aside } in
-    let two : Owner = record { quota = (owner_at owners o).quota; used = b; aside = (owner_at owners o).aside } in
-    ap (λ (x : Owner). set (set owners o one) o (record { quota = x.quota; used = b; aside = x.aside })) (get_or-set_same owners o one nobody low)
-    ∙ set-set owners o one two
-
 pub used_of-with_used : (owners : List Owner) (o a : ℕ) → o < length owners → (owner_at (with_used owners o a) o).used ≡ a
 used_of-with_used owners o a low =
     let nobody : Owner = record { quota = 0; used = 0; aside = 0 } in
     ap (λ (x : Owner). x.used) (get_or-set_same owners o (record { quota = (owner_at owners o).quota; used = a; aside = (owner_at owners o).aside }) nobody low)
-
-pub with_used-same : (owners : List Owner) (o : ℕ) → with_used owners o (owner_at owners o).used ≡ owners
-with_used-same owners o = let nobody : Owner = record { quota = 0; used = 0; aside = 0 } in set-get_or owners o nobody
 
 -- ---- clearing
 

@@ -2,10 +2,11 @@
 use Rattle.std.proofs.Common.{◌≡◌, ◌≢◌, ℕ, Bool, true, false, cond, not, ◌&&◌, eqb, ltb, List, [], ◌∷◌, ◌++◌, length, refl, sym, ap, ◌∙◌, subst, arith, rules}
 use Rattle.std.specs.Prelude.{IsTrue}
 use Rattle.std.proofs.lemmas.List.{append-nil}
-use Rattle.std.proofs.lemmas.Grind.{common_steps, fold-append}
+use Rattle.std.proofs.lemmas.Grind.{common_steps}
 use Rattle.hcp_packet.specs.declared.Packet.{Packet}
-use Rattle.hcp_packet.specs.Packets.{under_way, under_way_after, message_ended_by, messages_after, messages_of}
+use Rattle.hcp_packet.specs.Packets.{under_way, message_ended_by, messages_after, messages_of}
 use Rattle.hcp_chain.specs.Joining.{Nothing, Message, Fifth, Long, so_far, others, is_fifth, grown, join_step, message_in, is_fault, are_taken, given_by}
+use Rattle.hcp_packet.proofs.Joining.{under_way-push}
 
 eqb_is : (a b : ℕ) → eqb a b ≡ true → a ≡ b
 eqb_is a b e = grind (arith, common_steps)
@@ -30,9 +31,6 @@ so_far-others pipe g tail q here (m ∷ ms) = by_pipe (eqb m.0 pipe) (eqb m.0 q)
         let apart : eqb pipe q ≡ false = eqb_not pipe q (λ e. eqb_apart m.0 pipe p (eqb_is m.0 q r ∙ sym e)) in
         rw (p, r, apart) refl
     by_pipe false false p r more = rw (p, r) more
-
-under_way-push : (pipe : ℕ) (before : List Packet) (p : Packet) → under_way pipe (before ++ p ∷ []) ≡ under_way_after pipe (under_way pipe before) p
-under_way-push pipe before p = fold-append (under_way_after pipe) [] before (p ∷ [])
 
 cond_same : (b : Bool) (bytes : List ℕ) → bytes ≡ cond b bytes bytes
 cond_same true bytes = refl
@@ -60,13 +58,13 @@ not_true b t = search rules
 and_rest : (b : Bool) → IsTrue (not false && b) → IsTrue b
 and_rest b t = t
 
-last_step : (ms : List (ℕ × List ℕ)) (p : Packet) → is_fifth ms p.pipe ≡ false → ltb 4096 (length (grown ms p)) ≡ false → p.last ≡ true → join_step ms p ≡ (Message p.pipe (grown ms p), others ms p.pipe)
+pub last_step : (ms : List (ℕ × List ℕ)) (p : Packet) → is_fifth ms p.pipe ≡ false → ltb 4096 (length (grown ms p)) ≡ false → p.last ≡ true → join_step ms p ≡ (Message p.pipe (grown ms p), others ms p.pipe)
 last_step ms p fifth long last =
     ap (λ a. cond a (Fifth p.pipe, []) (cond (ltb 4096 (length (grown ms p))) (Long (length (grown ms p)), []) (cond p.last (Message p.pipe (grown ms p), others ms p.pipe) (Nothing, others ms p.pipe ++ (p.pipe, grown ms p) ∷ [])))) fifth
     ∙ (ap (λ a. cond a (Long (length (grown ms p)), []) (cond p.last (Message p.pipe (grown ms p), others ms p.pipe) (Nothing, others ms p.pipe ++ (p.pipe, grown ms p) ∷ []))) long
     ∙ ap (λ a. cond a (Message p.pipe (grown ms p), others ms p.pipe) (Nothing, others ms p.pipe ++ (p.pipe, grown ms p) ∷ [])) last)
 
-more_step : (ms : List (ℕ × List ℕ)) (p : Packet) → is_fifth ms p.pipe ≡ false → ltb 4096 (length (grown ms p)) ≡ false → p.last ≡ false → join_step ms p ≡ (Nothing, others ms p.pipe ++ (p.pipe, grown ms p) ∷ [])
+pub more_step : (ms : List (ℕ × List ℕ)) (p : Packet) → is_fifth ms p.pipe ≡ false → ltb 4096 (length (grown ms p)) ≡ false → p.last ≡ false → join_step ms p ≡ (Nothing, others ms p.pipe ++ (p.pipe, grown ms p) ∷ [])
 more_step ms p fifth long last =
     ap (λ a. cond a (Fifth p.pipe, []) (cond (ltb 4096 (length (grown ms p))) (Long (length (grown ms p)), []) (cond p.last (Message p.pipe (grown ms p), others ms p.pipe) (Nothing, others ms p.pipe ++ (p.pipe, grown ms p) ∷ [])))) fifth
     ∙ (ap (λ a. cond a (Long (length (grown ms p)), []) (cond p.last (Message p.pipe (grown ms p), others ms p.pipe) (Nothing, others ms p.pipe ++ (p.pipe, grown ms p) ∷ []))) long

@@ -28,7 +28,7 @@ good_messages_grow early late front =
     (good_of (messages_after (packets_in early) (packets_in front.0)), sym (good_messages_of-append early front.0) ∙ ap good_messages_of front.1)
 
 -- one more packet, and what is under way
-under_way-push : (pipe : ℕ) (before : List Packet) (p : Packet) → under_way pipe (before ++ p ∷ []) ≡ under_way_after pipe (under_way pipe before) p
+pub under_way-push : (pipe : ℕ) (before : List Packet) (p : Packet) → under_way pipe (before ++ p ∷ []) ≡ under_way_after pipe (under_way pipe before) p
 under_way-push pipe before p = fold-append (under_way_after pipe) [] before (p ∷ [])
 
 -- a pipe is itself
@@ -36,7 +36,7 @@ eqb_self : (n : ℕ) → eqb n n ≡ true
 eqb_self n = grind (arith, common_steps)
 
 -- a part that isn't the last
-parts_of-more : (pipe n : ℕ) (left : List ℕ) → parts_of pipe (suc (suc n)) left ≡ packet false pipe (take 28 left) ∷ parts_of pipe (suc n) (drop 28 left)
+pub parts_of-more : (pipe n : ℕ) (left : List ℕ) → parts_of pipe (suc (suc n)) left ≡ packet false pipe (take 28 left) ∷ parts_of pipe (suc n) (drop 28 left)
 parts_of-more pipe n left =
     let more : eqb (suc n) 0 ≡ false = grind (arith, common_steps) in
     ap (λ b. packet b pipe (take 28 left) ∷ parts_of pipe (suc n) (drop 28 left)) more
@@ -91,14 +91,14 @@ joined_behind (m ∷ sent) sendable before idle =
     (λ q. parts_end m.0 count.0 m.1 before q (λ other. idle q)))))
 
 -- what is written is read again
-packet_of-bytes_of : (p : Packet) → p.pipe < 112 → packet_of (packet_bytes p) ≡ Some p
+pub packet_of-bytes_of : (p : Packet) → p.pipe < 112 → packet_of (packet_bytes p) ≡ Some p
 packet_of-bytes_of p low = by_mark p.last p.pipe p.bytes.items low
   where
     by_mark : (last : Bool) (pipe : ℕ) (data_bytes : List ℕ) → pipe < 112 → packet_of (packet_bytes (packet last pipe data_bytes)) ≡ Some (packet last pipe data_bytes)
     by_mark true pipe data_bytes low = grind (arith, common_steps)
     by_mark false pipe data_bytes low = grind (arith, common_steps)
 
-packets_in-parts : (pipe n : ℕ) (left : List ℕ) → pipe < 112 → packets_in (map packet_bytes (parts_of pipe n left)) ≡ parts_of pipe n left
+pub packets_in-parts : (pipe n : ℕ) (left : List ℕ) → pipe < 112 → packets_in (map packet_bytes (parts_of pipe n left)) ≡ parts_of pipe n left
 packets_in-parts pipe zero left low = refl
 packets_in-parts pipe (suc n) left low =
     let this = packet (eqb n 0) pipe (take 28 left) in

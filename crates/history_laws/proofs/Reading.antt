@@ -234,7 +234,7 @@ reads_rnr (suc (suc (suc (suc (suc (suc zero)))))) low = refl
 reads_rnr (suc (suc (suc (suc (suc (suc (suc zero))))))) low = refl
 reads_rnr (suc (suc (suc (suc (suc (suc (suc (suc nr)))))))) low = absurd (omega (arith, low))
 
-or_right : (a b : Bool) → (a || b) ≡ false → b ≡ false
+pub or_right : (a b : Bool) → (a || b) ≡ false → b ≡ false
 or_right true b q = absurd (let z : true ≡ false = q in cc)
 or_right false b q = q
 

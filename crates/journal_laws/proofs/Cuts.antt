@@ -28,7 +28,7 @@ one_byte [] one = absurd (omega arith)
 one_byte (g ∷ []) one = refl
 one_byte (g ∷ h ∷ l) one = absurd (omega arith)
 
-at_place : (c : List ℕ) (at g : ℕ) → at < length c → slice_index (overwritten c at (g ∷ [])) at ≡ g
+pub at_place : (c : List ℕ) (at g : ℕ) → at < length c → slice_index (overwritten c at (g ∷ [])) at ≡ g
 at_place c at g within =
     ap (λ l. slice_index l at) (append_assoc (take at c) (g ∷ []) (drop (at + 1) c)) ∙ get_or_at (take at c) g (drop (at + 1) c) 0 at (omega (arith, length-take at c))
 

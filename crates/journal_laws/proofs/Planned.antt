@@ -23,7 +23,7 @@ pub none_within : (plan : Option Plan) → fails_within 0 plan ≡ false
 none_within None = refl
 none_within (Some p) = grind (arith, nat_tests)
 
-plan_of_memory_after : (m : Memory) (at : ℕ) (bytes : List ℕ) → is_next m.plan ≡ false → (memory_after m at bytes).plan ≡ plan_after m.plan
+pub plan_of_memory_after : (m : Memory) (at : ℕ) (bytes : List ℕ) → is_next m.plan ≡ false → (memory_after m at bytes).plan ≡ plan_after m.plan
 plan_of_memory_after m at bytes later =
     ap (λ b. (cond b (record m { content = overwritten m.content at (torn_bytes m.plan (length bytes)); plan = None; faults = one_more m.faults })
     (record m { content = overwritten m.content at bytes; plan = plan_after m.plan })).plan) later

@@ -115,7 +115,7 @@ module _ (content : List ℕ) (t : HciTables) (many : ℕ) (f : BootFinds conten
 
 -- ## A boot
 
-new_hosts : (hosts : List ℕ) → map (λ (d : Desk). d.host) (map new_desk hosts) ≡ hosts
+pub new_hosts : (hosts : List ℕ) → map (λ (d : Desk). d.host) (map new_desk hosts) ≡ hosts
 new_hosts [] = refl
 new_hosts (h ∷ hosts) = ap (λ l. h ∷ l) (new_hosts hosts)
 

@@ -53,7 +53,7 @@ no_order None order (Some i) off on = absurd on
 no_order (Some c) order init off on = absurd (true≢false off)
 
 -- ends count one more error
-error_hosts : (h : ℕ) (desks : List Desk) → map (λ (d : Desk). d.host) (with_error h desks) ≡ map (λ (d : Desk). d.host) desks
+pub error_hosts : (h : ℕ) (desks : List Desk) → map (λ (d : Desk). d.host) (with_error h desks) ≡ map (λ (d : Desk). d.host) desks
 error_hosts h [] = refl
 error_hosts h (d ∷ desks) = ap₂ (λ x l. x ∷ l) (by_host (eqb d.host h)) (error_hosts h desks) where
   by_host : (b : Bool) → (changed_if b (λ (d : Desk). record d { errors = min 65535 (d.errors + 1) }) d).host ≡ d.host

@@ -20,7 +20,7 @@ use Rattle.message_link.specs.Links.Comes.{NextFrame, AsksReset, Starts, Stops, 
 use Rattle.message_link.specs.Links.EndEvent.{Step}
 use Rattle.message_link.specs.Projection.{core_of, core_half, core_take, core_ending, core_reset, core_step}
 use Rattle.message_link.proofs.Ends.{frames_alike}
-use Rattle.message_link.proofs.Project.{Tells}
+use Rattle.message_link.proofs.Project.{Tells, host_ended as ended_host}
 use Rattle.message_link.proofs.Finishing.{can_end, took_can}
 use Rattle.link_entries.specs.Entries.{End, Entry, if_so, told_of, left_after, rest_entries, taken_entries, step_entries}
 use Rattle.link_entries.specs.Entries.Entry.{Up, Down, Active, GaveUp, Acked, Got, Took}
@@ -151,10 +151,6 @@ input_knows t u n m l k i ts ending so none number host quiet can g b =
       here = knows_more t u n m l.controller (finished k f ending).controller (near_same l k i ts ending so none (λ a c. number) quiet can) g b.here;
       there = far_knows t u n m l.host (finished k f ending).host (host_finished k f ending ∙ host) g b.there;
     }
-
-pub ended_host : (l : Link) (b : Bool) → (with_ended l b).host ≡ l.host
-ended_host l false = refl
-ended_host l true = refl
 
 idle_same : (l : Link) (ts : List Turn) (ending : Ending) → AreSendableTurns ts → CanEnd l.controller.side.role ending → Near l
     → (finished l (turned l.controller.side ts) ending).controller.side.shdlc.phase ≡ IsUpNow

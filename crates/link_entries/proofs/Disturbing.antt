@@ -19,7 +19,9 @@ use Rattle.link_machine.specs.Machine.LinkInput.{Take}
 use Rattle.message_link.specs.Links.{Link, with_ended, AreSendableTurns}
 use Rattle.message_link.specs.Projection.{core_of, core_turns, core_take}
 use Rattle.message_link.proofs.Calm.{IsPolite}
-use Rattle.message_link.proofs.Project.{Now, Tells, turns_mid, with_ended-core, mid_moved, shdlc_moved, opened}
+use Rattle.message_link.proofs.Project.{Now, Tells, turns_mid, with_ended-core, mid_moved}
+use Rattle.link_machine.proofs.Runs.{opened}
+use Rattle.link_machine.proofs.Reports.{shdlc_is as shdlc_moved}
 use Rattle.message_link.proofs.Steps.{FromHost, Rests, Heard, is_shdlc, heard_end, heard_is, counted_is, mid_counted, took_open, took_closed, no_fault_first, polite, role_closes, stays_down, act_mid}
 use Rattle.session_laws.proofs.Steps.{took as core_took}
 use Rattle.message_link.proofs.Finishing.{reset_tells, reset_keeps}

@@ -14,14 +14,15 @@ use Rattle.link_machine.specs.Machine.Role.{Bare, Clf, Uicc}
 use Rattle.link_machine.specs.Machine.LinkInput.{Take, Tick as HasTick, Reset, Start, Stop}
 use Rattle.link_machine.specs.Machine.Turn.{Give, Hold, FetchMessage, SetAside, Release}
 use Rattle.link_machine.proofs.Shifts.{IsNotUp}
-use Rattle.link_machine.proofs.Runs.{Sound, sound_input}
-use Rattle.link_machine.proofs.Reports.{Reports, take_so, tick_so, reset_so, start_so, stop_so}
+use Rattle.link_machine.proofs.Runs.{Sound, sound_input, opened}
+use Rattle.link_machine.proofs.Reports.{Reports, take_so, tick_so, reset_so, start_so, stop_so, shdlc_is as shdlc_moved}
 use Rattle.message_link.specs.Links.{NumberedEnd, Link, Ending, Comes, Node, number_of, no_talk, talk_of, with_ended, silent, finished, has_taken, steps_at_controller, ticks_at_controller, AreSendableTurns, CanEnd, IsNode}
 use Rattle.message_link.specs.Links.Ending.{GoesOut, CutOff}
 use Rattle.message_link.specs.Links.Comes.{NextFrame, AsksReset, Starts, Stops, NoInput}
 use Rattle.message_link.proofs.Asks.{NoAsk, NoRset, none_due, ticked_asks}
-use Rattle.message_link.proofs.Ends.{ready_phase, ticked_keeps}
-use Rattle.message_link.proofs.Project.{Tells, Now, mid_moved, opened, shdlc_moved, moved_role}
+use Rattle.message_link.proofs.Ends.{ticked_keeps}
+use Rattle.session_laws.proofs.Ties.{ready-phase as ready_phase}
+use Rattle.message_link.proofs.Project.{Tells, Now, mid_moved, moved_role, host_ended as ended_host}
 use Rattle.message_link.proofs.Steps.{Rests, activated_role, act_mid, tick_closes}
 use Rattle.message_link.proofs.Finishing.{can_end, can_after, took_can, none_out, reset_tells, reset_waits, tick_open, tick_closed, tick_role, waiting_phase, restart_mid}
 use Rattle.link_entries.specs.Entries.{End, Entry, far, told_of, rest_entries, left_after, taken_entries, restart_entries, step_entries, tick_entries}
@@ -152,10 +153,6 @@ ended_number l true = refl
 pub ended_past : (l : Link) (b : Bool) → (with_ended l b).controller.past ≡ past_after b l.controller
 ended_past l false = refl
 ended_past l true = refl
-
-ended_host : (l : Link) (b : Bool) → (with_ended l b).host ≡ l.host
-ended_host l false = refl
-ended_host l true = refl
 
 -- an input by which no session begins
 plain_input : (l k : Link) (i : LinkInput) → Reports l.controller.side i → began_by l.controller.side i ≡ false

@@ -12,13 +12,14 @@ use Rattle.session_laws.specs.Sessions.ShdlcEndEvent.{Acts as CoreActs}
 use Rattle.session_laws.specs.Losses.{Losses, is_act, sans, counts_first, loses_aged, noted_all, noted_out, noted_here, noted_turns, noted_tick, noted_aged}
 use Rattle.link_machine.specs.Machine.{LinkEnd, Turn, turned, is_open, act_answer, moved, activated, if_up, after_input, ended_by, frames_out}
 use Rattle.link_machine.specs.Machine.LinkInput.{Tick as HasTick}
-use Rattle.link_machine.proofs.Reports.{tick_so}
+use Rattle.link_machine.proofs.Reports.{tick_so, shdlc_is as shdlc_moved}
 use Rattle.message_link.specs.Links.{Link, Ending, Loss, EndEvent, Node, with_ended, happens_at_controller, ticks_at_controller, aged, AreSendableTurns, IsNode, IsAllowed, IsOwn}
 use Rattle.message_link.specs.Links.Ending.{GoesOut, CutOff}
 use Rattle.message_link.specs.Links.Comes.{NextFrame, AsksReset, Starts, Stops, NoInput}
 use Rattle.message_link.specs.Links.EndEvent.{Step, Lose}
 use Rattle.message_link.specs.Projection.{core_of, core_turns, core_here, core_tick, core_tick_rest}
-use Rattle.message_link.proofs.Project.{Now, Tells, turns_mid, with_ended-core, mid_moved, shdlc_moved, opened}
+use Rattle.message_link.proofs.Project.{Now, Tells, turns_mid, with_ended-core, mid_moved, host_ended as ended_host}
+use Rattle.link_machine.proofs.Runs.{opened}
 use Rattle.message_link.proofs.Ends.{ticked_keeps}
 use Rattle.message_link.proofs.Steps.{Rests, act_mid, tick_closes}
 use Rattle.message_link.proofs.Finishing.{tick_open, tick_closed, tick_role, core_tick_rests, rests}
@@ -30,7 +31,7 @@ use Rattle.link_entries.proofs.Noting.{Near, quiet_tick, tick_can, ended_number}
 use Rattle.link_entries.proofs.Running.{Before}
 use Rattle.link_entries.proofs.Losing.{bad, Disturbed, disturbed_left, disturbed_right, Grows, out_noted}
 use Rattle.link_entries.proofs.Lasting.{knows_more}
-use Rattle.link_entries.proofs.Completing.{Both, input_grows, input_cut, input_knows, ended_host, own_knows, frame_knows}
+use Rattle.link_entries.proofs.Completing.{Both, input_grows, input_cut, input_knows, own_knows, frame_knows}
 
 -- ## Ticks
 

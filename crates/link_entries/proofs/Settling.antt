@@ -27,7 +27,9 @@ use Rattle.message_link.specs.Links.Comes.{NextFrame, AsksReset, Starts, Stops, 
 use Rattle.message_link.specs.Links.EndEvent.{Step, Lose}
 use Rattle.message_link.specs.Projection.{core_of, core_here, core_step, core_take, core_reset, core_turns}
 use Rattle.message_link.proofs.Calm.{Calm, IsPolite, polite_of, ended_means}
-use Rattle.message_link.proofs.Project.{Now, Tells, turns_mid, mid_moved, shdlc_moved, opened, turned_role, moved_role}
+use Rattle.message_link.proofs.Project.{Now, Tells, turns_mid, mid_moved, turned_role, moved_role}
+use Rattle.link_machine.proofs.Runs.{opened}
+use Rattle.link_machine.proofs.Reports.{shdlc_is as shdlc_moved}
 use Rattle.message_link.proofs.Steps.{FromHost, Rests, activated_role, role_closes, core_first}
 use Rattle.message_link.proofs.Finishing.{reset_tells, reset_keeps}
 use Rattle.message_link.proofs.Runs.{rests_of}
@@ -52,7 +54,7 @@ act_open r f x w v act again q calm o = go (is_open (role_after r (ActTake act a
         by (inl z) = absurd (true≢false (sym o ∙ z))
         by (inr z) = absurd (true≢false (sym o ∙ ended_means r f x w v act again q calm z))
 
-down_role : (e : LinkEnd) → (put_down true e).role ≡ e.role
+pub down_role : (e : LinkEnd) → (put_down true e).role ≡ e.role
 down_role e = go e.shdlc.phase refl
   where
     go : (p : LinkState) → e.shdlc.phase ≡ p → (put_down true e).role ≡ e.role
@@ -60,7 +62,7 @@ down_role e = go e.shdlc.phase refl
     go IsWaitingNow p = rw p (moved_role e true (stopped e.shdlc))
     go IsDown p = rw p refl
 
-heard_role : (e : LinkEnd) (c : Control) → (heard e c).role ≡ e.role
+pub heard_role : (e : LinkEnd) (c : Control) → (heard e c).role ≡ e.role
 heard_role e c = go (is_faulty (taken e.shdlc c).session) refl
   where
     go : (b : Bool) → is_faulty (taken e.shdlc c).session ≡ b → (heard e c).role ≡ e.role

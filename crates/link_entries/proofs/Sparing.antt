@@ -23,7 +23,9 @@ use Rattle.message_link.specs.Links.Loss.{TooMany}
 use Rattle.message_link.specs.Projection.{core_of, core_turns, core_take}
 use Rattle.message_link.proofs.Calm.{IsPolite}
 use Rattle.message_link.proofs.Ends.{ticked_keeps}
-use Rattle.message_link.proofs.Project.{Now, Tells, turns_mid, with_ended-core, mid_moved, shdlc_moved, opened, due_now, frames_now, among_now, put-core}
+use Rattle.message_link.proofs.Project.{Now, Tells, turns_mid, with_ended-core, mid_moved, due_now, frames_now, among_now, put-core}
+use Rattle.link_machine.proofs.Runs.{opened}
+use Rattle.link_machine.proofs.Reports.{shdlc_is as shdlc_moved}
 use Rattle.message_link.proofs.Steps.{FromHost, Rests, Heard, is_shdlc, heard_end, heard_is, counted_is, took_open, no_fault_first, polite, role_closes, stays_down, act_mid}
 use Rattle.message_link.proofs.Finishing.{tick_open}
 use Rattle.link_entries.specs.Entries.{End, Entry, far, first_lost, pushed_out, wire_with, put_entries, puts_entries, turn_entries, rest_entries, left_after}

@@ -19,7 +19,7 @@ use Rattle.message_link.specs.Links.EndEvent.{Step}
 use Rattle.message_link.specs.Links.LinkEvent.{AtController, AtHost, Ticks, TicksWithout, Activate}
 use Rattle.message_link.specs.Projection.{core_of, core_here, core_all, core_turns, core_tick, core_tick_rest, core_event, core_events}
 use Rattle.message_link.specs.Settled.{AreUpTogether as LinkTogether}
-use Rattle.message_link.proofs.Project.{Tells, turned_role, moved_role}
+use Rattle.message_link.proofs.Project.{Tells, turned_role, moved_role, host_ended as ended_host}
 use Rattle.message_link.proofs.Finishing.{reset_tells, step_tick, tick_open, all_here-append}
 use Rattle.message_link.proofs.Quiet.{up_together}
 use Rattle.message_link.proofs.Runs.{Good, Reached, safe_reached, rests_of, reached_more, own_here, own_turns, all_step, rest_both, event_step, step_here, tells_same}
@@ -30,7 +30,6 @@ use Rattle.link_entries.specs.Settled.{withholds, FindsReady, IsReset, rest_of}
 use Rattle.link_entries.proofs.Running.{before_here, before_there, host_here, Noted, note_event, start_noted}
 use Rattle.link_entries.proofs.Noting.{reset_role}
 use Rattle.link_entries.proofs.Stepping.{host_finished}
-use Rattle.link_entries.proofs.Completing.{ended_host}
 use Rattle.link_entries.proofs.Sparing.{Spared, Stands, spared_parts, stands_parts, none_withholds, rest_sure, tick_sure}
 use Rattle.link_entries.proofs.Settling.{Spares, rest_cut, reset_sure, own_spares, here_spares}
 

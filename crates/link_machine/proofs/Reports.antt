@@ -168,11 +168,11 @@ restarted_so e event h =
 
 -- ## Frames
 
-shdlc_is : (e : LinkEnd) (b : Bool) (s : EndState) → (moved e b s).shdlc ≡ s
+pub shdlc_is : (e : LinkEnd) (b : Bool) (s : EndState) → (moved e b s).shdlc ≡ s
 shdlc_is e false s = refl
 shdlc_is e true s = refl
 
-moved_sent : (e : LinkEnd) (b : Bool) (s : EndState) → SentAfter b e (moved e b s)
+pub moved_sent : (e : LinkEnd) (b : Bool) (s : EndState) → SentAfter b e (moved e b s)
 moved_sent e false s = refl
 moved_sent e true s = refl
 

@@ -43,7 +43,7 @@ data_as e f shdlc sent aside h =
     let P : EndState → Type 0 = λ s. Shift e.shdlc s false false in
     shifted e f false false (subst P (sym shdlc) (same_shift e.shdlc e.shdlc refl)) sent aside h
 
-opened : (r : Role) (P : Type 0) → is_open r ≡ true → is_open r ≡ false → P
+pub opened : (r : Role) (P : Type 0) → is_open r ≡ true → is_open r ≡ false → P
 opened r P p q = absurd (true≢false (sym p ∙ q))
 
 sent_moved : (e : LinkEnd) (b : Bool) (s : EndState) → SentAfter b e (moved e b s)

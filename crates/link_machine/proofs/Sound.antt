@@ -40,7 +40,7 @@ whole_few (m ∷ ms) a = go (nat_le (packet_count (length m.1)) a) refl (whole_f
     go true p later = rw p (omega (arith, later))
     go false p later = rw p (omega arith)
 
-fragments_count : (m : Message) → length (map packet_bytes (packets_of m.0 m.1)) ≡ packet_count (length m.1)
+pub fragments_count : (m : Message) → length (map packet_bytes (packets_of m.0 m.1)) ≡ packet_count (length m.1)
 fragments_count m = length-map (packets_of m.0 m.1) packet_bytes ∙ packets_are_counted m.0 m.1
 
 -- all fragments of the messages that count as acknowledged whole are acknowledged

@@ -1,20 +1,17 @@
 -- Messages of which so many fragments are acknowledged, and the fragments of messages.
 use Rattle.std.proofs.Common.{◌≡◌, ℕ, suc, ◌+◌, ◌-◌, ◌<◌, ◌≤◌, Bool, true, false, List, [], ◌∷◌, ◌++◌, length, map, drop, refl, ap, ◌∙◌, arith, length-append}
 use Rattle.std.specs.Prelude.{nat_le}
-use Rattle.std.proofs.lemmas.List.{length-map, drop-append-le}
+use Rattle.std.proofs.lemmas.List.{drop-append-le}
 use Rattle.std.proofs.Math.Seq.{drop-append-add}
 use Rattle.std.proofs.lemmas.Bool.{leb-true, le-leb}
 use Rattle.std.proofs.lemmas.Grind.{flat_map-append, common_steps}
 use Rattle.hcp_packet.specs.Packets.{packets_of, packet_count, packet_bytes, fragments_of, IsSendable}
-use Rattle.hcp_packet.proofs.Joining.{packets_are_counted}
 use Rattle.link_machine.specs.Machine.{Message, whole_among}
 use Rattle.link_messages.specs.Outgoing.{rest_among}
+use Rattle.link_machine.proofs.Sound.{fragments_count as length-fragments}
 
 abbrev fragments : Message → List (List ℕ)
 fragments m = map packet_bytes (packets_of m.0 m.1)
-
-pub length-fragments : (m : Message) → length (map packet_bytes (packets_of m.0 m.1)) ≡ packet_count (length m.1)
-length-fragments m = length-map (packets_of m.0 m.1) packet_bytes ∙ packets_are_counted m.0 m.1
 
 pub fragments-append : (xs ys : List Message) → fragments_of (xs ++ ys) ≡ fragments_of xs ++ fragments_of ys
 fragments-append xs ys = flat_map-append fragments xs ys

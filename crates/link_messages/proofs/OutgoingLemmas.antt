@@ -19,7 +19,8 @@ use Rattle.link_machine.specs.Machine.{Message, whole_among}
 use Rattle.link_messages.specs.declared.outbox.Queued.{Queued}
 use Rattle.link_messages.specs.declared.outbox.Outbox.{Outbox}
 use Rattle.link_messages.specs.Outgoing.{chain_in, queued_message, messages_of_all, queued_messages, rest_among, AreKept, OutboxLiesIn, OutboxLeavesOthers, Accepts, LeavesOthersBut, GivesFront, GivesBack}
-use Rattle.link_messages.proofs.Among.{length-fragments, whole-first, waiting-first, length-first, waiting-push, length-push}
+use Rattle.link_messages.proofs.Among.{whole-first, waiting-first, length-first, waiting-push, length-push}
+use Rattle.link_machine.proofs.Sound.{fragments_count as length-fragments}
 
 -- the same bytes are the same messages
 pub messages_same : (old new : PoolState) (queue : List Queued) → all_bytes Queued chain_in new queue ≡ all_bytes Queued chain_in old queue → messages_of_all new queue ≡ messages_of_all old queue

@@ -1,30 +1,17 @@
 -- A sender of whole messages never causes a fault.
 use Rattle.std.proofs.Common.{◌≡◌, ℕ, zero, suc, ◌+◌, ◌-◌, ◌/◌, ◌<◌, ◌≤◌, Bool, true, false, cond, not, ◌&&◌, eqb, leb, ltb, List, [], ◌∷◌, ◌++◌, length, take, drop, map, refl, sym, ap, ◌∙◌, subst, arith, rules, length-append, length-take, length-drop}
-use Rattle.std.specs.Prelude.{Some, IsTrue}
+use Rattle.std.specs.Prelude.{IsTrue}
 use Rattle.std.specs.List.{flat_map}
 use Rattle.std.proofs.lemmas.List.Elements.{filter_map-append}
 use Rattle.std.proofs.lemmas.Grind.{common_steps}
 use Rattle.hcp_packet.specs.declared.Packet.{Packet}
 use Rattle.hcp_packet.specs.Packets.{packet, packet_bytes, packet_of, parts_of, packet_count, packets_of, packets_in, messages_of, fragments_of, IsFrontOf}
-use Rattle.hcp_chain.specs.Joining.{Nothing, Message, Fifth, Long, is_message_open, so_far, others, is_fifth, grown, join_step, is_fault, are_taken, given_by}
-use Rattle.hcp_chain.proofs.GivenLemmas.{given_messages}
+use Rattle.hcp_chain.specs.Joining.{is_message_open, so_far, others, is_fifth, grown, join_step, is_fault, are_taken, given_by}
+use Rattle.hcp_chain.proofs.GivenLemmas.{given_messages, last_step, more_step}
 use Rattle.message_laws.specs.Sending.{AreShort}
+use Rattle.hcp_packet.proofs.Joining.{parts_of-more, packets_in-parts}
 
 -- ---- fragments
-
-packet_of-bytes_of : (p : Packet) → p.pipe < 112 → packet_of (packet_bytes p) ≡ Some p
-packet_of-bytes_of p low = by_mark p.last p.pipe p.bytes.items low
-  where
-    by_mark : (last : Bool) (pipe : ℕ) (bytes : List ℕ) → pipe < 112 → packet_of (packet_bytes (packet last pipe bytes)) ≡ Some (packet last pipe bytes)
-    by_mark true pipe bytes low = grind (arith, common_steps)
-    by_mark false pipe bytes low = grind (arith, common_steps)
-
-packets_in-parts : (pipe n : ℕ) (left : List ℕ) → pipe < 112 → packets_in (map packet_bytes (parts_of pipe n left)) ≡ parts_of pipe n left
-packets_in-parts pipe zero left low = refl
-packets_in-parts pipe (suc n) left low =
-    let read = packet_of-bytes_of (packet (eqb n 0) pipe (take 28 left)) low in
-    let rest = packets_in-parts pipe n (drop 28 left) low in
-    cc
 
 abbrev packets_of_all : List (ℕ × List ℕ) → List Packet
 packets_of_all sent = flat_map (λ m. packets_of m.0 m.1) sent
@@ -37,18 +24,6 @@ packets_in-fragments (m ∷ sent) short =
     ∙ ap (λ ps. packets_of m.0 m.1 ++ ps) (packets_in-fragments sent short.1))
 
 -- ---- one packet that is taken
-
-last_step : (ms : List (ℕ × List ℕ)) (p : Packet) → is_fifth ms p.pipe ≡ false → ltb 4096 (length (grown ms p)) ≡ false → p.last ≡ true → join_step ms p ≡ (Message p.pipe (grown ms p), others ms p.pipe)
-last_step ms p fifth long last =
-    ap (λ a. cond a (Fifth p.pipe, []) (cond (ltb 4096 (length (grown ms p))) (Long (length (grown ms p)), []) (cond p.last (Message p.pipe (grown ms p), others ms p.pipe) (Nothing, others ms p.pipe ++ (p.pipe, grown ms p) ∷ [])))) fifth
-    ∙ (ap (λ a. cond a (Long (length (grown ms p)), []) (cond p.last (Message p.pipe (grown ms p), others ms p.pipe) (Nothing, others ms p.pipe ++ (p.pipe, grown ms p) ∷ []))) long
-    ∙ ap (λ a. cond a (Message p.pipe (grown ms p), others ms p.pipe) (Nothing, others ms p.pipe ++ (p.pipe, grown ms p) ∷ [])) last)
-
-more_step : (ms : List (ℕ × List ℕ)) (p : Packet) → is_fifth ms p.pipe ≡ false → ltb 4096 (length (grown ms p)) ≡ false → p.last ≡ false → join_step ms p ≡ (Nothing, others ms p.pipe ++ (p.pipe, grown ms p) ∷ [])
-more_step ms p fifth long last =
-    ap (λ a. cond a (Fifth p.pipe, []) (cond (ltb 4096 (length (grown ms p))) (Long (length (grown ms p)), []) (cond p.last (Message p.pipe (grown ms p), others ms p.pipe) (Nothing, others ms p.pipe ++ (p.pipe, grown ms p) ∷ [])))) fifth
-    ∙ (ap (λ a. cond a (Long (length (grown ms p)), []) (cond p.last (Message p.pipe (grown ms p), others ms p.pipe) (Nothing, others ms p.pipe ++ (p.pipe, grown ms p) ∷ []))) long
-    ∙ ap (λ a. cond a (Message p.pipe (grown ms p), others ms p.pipe) (Nothing, others ms p.pipe ++ (p.pipe, grown ms p) ∷ [])) last)
 
 -- ---- one message
 
@@ -81,11 +56,6 @@ alone_again pipe bytes = record {
   rest = ap (λ b. cond (not b) ((pipe, bytes) ∷ []) []) (itself pipe);
   under_way = ap (λ b. cond b bytes []) (itself pipe);
 }
-
-parts_of-more : (pipe n : ℕ) (left : List ℕ) → parts_of pipe (suc (suc n)) left ≡ packet false pipe (take 28 left) ∷ parts_of pipe (suc n) (drop 28 left)
-parts_of-more pipe n left =
-    let more : eqb (suc n) 0 ≡ false = grind (arith, common_steps) in
-    ap (λ b. packet b pipe (take 28 left) ∷ parts_of pipe (suc n) (drop 28 left)) more
 
 parts_taken : (pipe n : ℕ) (left bytes : List ℕ) (ms : List (ℕ × List ℕ)) (packets : List Packet) → Alone ms pipe bytes → length bytes + length left ≤ 4096 → are_taken ms (parts_of pipe (suc n) left ++ packets) ≡ are_taken [] packets
 parts_taken pipe zero left bytes ms packets alone fits =

@@ -15,6 +15,7 @@ use Rattle.link_laws.proofs.Joined.{fetch_cases, ready_cases, received_cases}
 use Rattle.session_laws.specs.Sessions.{ShdlcTurn, is_rset, shdlc_turn, shdlc_turned}
 use Rattle.session_laws.specs.Sessions.ShdlcTurn.{Offer, SetReady}
 use Rattle.message_link.specs.Links.{Link, put, put_all}
+use Rattle.session_laws.proofs.Ties.{turn-phase as turn_phase}
 
 -- it is an RSET
 abbrev pub is_ask : Due → Bool
@@ -126,15 +127,6 @@ turn_asks e (SetReady r) a = ready_cases (λ f. NoAsk f.due) e r a a (no_ask_mor
 pub turned_asks : (e : EndState) (ts : List ShdlcTurn) → NoAsk e.due → NoAsk (shdlc_turned e ts).due
 turned_asks e [] a = a
 turned_asks e (t ∷ ts) a = turned_asks (shdlc_turn e t) ts (turn_asks e t a)
-
-turn_phase : (e : EndState) (t : ShdlcTurn) → (shdlc_turn e t).phase ≡ e.phase
-turn_phase e (Offer fs) = go e.phase refl
-  where
-    go : (p : LinkState) → e.phase ≡ p → (shdlc_turn e (Offer fs)).phase ≡ e.phase
-    go Up p = rw p refl
-    go Waiting p = rw p refl
-    go Down p = rw p refl
-turn_phase e (SetReady r) = ready_cases (λ f. f.phase ≡ e.phase) e r refl refl refl
 
 -- turns leave it Up, waiting or Down
 pub turned_phase : (e : EndState) (ts : List ShdlcTurn) → (shdlc_turned e ts).phase ≡ e.phase

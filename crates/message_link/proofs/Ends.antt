@@ -130,5 +130,3 @@ frames_alike (suc n) e =
     let b = frames_alike n (fetched e) in
     record { out = b.out ∙ a.out; acc = b.acc ∙ a.acc; phase = b.phase ∙ a.phase }
 
-pub ready_phase : (e : EndState) (r : Bool) → (with_ready e r).phase ≡ e.phase
-ready_phase e r = ready_cases (λ f. f.phase ≡ e.phase) e r refl refl refl

@@ -27,7 +27,9 @@ use Rattle.message_link.specs.Projection.{core_of, core_turns, core_take, core_e
 use Rattle.message_link.proofs.Asks.{NoAsk, NoRset, none_due, no_rset, turned_asks, taken_asks, ticked_asks, turned_phase, puts_none}
 use Rattle.message_link.proofs.Calm.{Calm, CalmLink, IsPolite, with_sent, calm_cut, calm_tick}
 use Rattle.message_link.proofs.Ends.{Idle, Keeps, ticked_keeps, frames_alike}
-use Rattle.message_link.proofs.Project.{Mid, Now, mid_moved, moved_role, shdlc_moved, frames_now, among_now, Tells, Step, step_same, step_turned, step_moved, turns_mid, turned_role, past_ended, host_ended, opened}
+use Rattle.message_link.proofs.Project.{Mid, Now, mid_moved, moved_role, frames_now, among_now, Tells, Step, step_same, step_turned, step_moved, turns_mid, turned_role, past_ended, host_ended}
+use Rattle.link_machine.proofs.Runs.{opened}
+use Rattle.link_machine.proofs.Reports.{shdlc_is as shdlc_moved}
 use Rattle.session_laws.proofs.Steps.{took as core_took}
 use Rattle.message_link.proofs.Steps.{FromHost, Rests, is_shdlc, heard_end, heard_is, mid_counted, took_open, took_closed, no_fault_first, polite, role_closes, step_first, stays_down, activated_role, act_mid, Acted, tick_closes, core_first}
 

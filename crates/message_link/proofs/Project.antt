@@ -1,7 +1,7 @@
 -- A step of a link over messages is its projection's step, where no chain fault comes.
 use Rattle.std.proofs.Common.{◌≡◌, ℕ, ◌≤◌, Bool, true, false, List, [], ◌∷◌, ◌++◌, length, map, Option, Some, None, refl, ap, sym, subst, ◌∙◌, append-nil}
 use Rattle.std.specs.Prelude.{◌+◌, ◌-◌, nat_lt, not, drop, option_to_list}
-use Rattle.std.proofs.lemmas.Bool.{ltb-false, true≢false}
+use Rattle.std.proofs.lemmas.Bool.{ltb-false}
 use Rattle.std.proofs.lemmas.List.Concat.{flat_map-append}
 use Rattle.swp_base.specs.declared.control_frames.Control.{Control}
 use Rattle.swp_base.specs.declared.control_frames.Control.TheVariants.{I, S, Rset, Ua, Act, Clt}
@@ -18,7 +18,9 @@ use Rattle.link_machine.specs.Machine.Turn.{Give, Hold, FetchMessage, SetAside, 
 use Rattle.message_link.specs.Links.{Talk, NumberedEnd, Link, talk_now, put, put_all, becomes, with_ended, AreSendableTurns}
 use Rattle.message_link.specs.Projection.{core_of, core_turn, core_turns}
 use Rattle.message_link.proofs.Calm.{Calm, CalmLink, with_sent, no_acts, calm_put_all}
-use Rattle.message_link.proofs.Ends.{Idle, Keeps, ready_keeps, ready_phase, frames_alike}
+use Rattle.message_link.proofs.Ends.{Idle, Keeps, ready_keeps, frames_alike}
+use Rattle.session_laws.proofs.Ties.{ready-phase as ready_phase}
+use Rattle.link_machine.proofs.Reports.{shdlc_is as shdlc_moved}
 
 -- ## One end
 
@@ -46,10 +48,6 @@ mid_moved e false s h k c =
     record { acts = h.acts; idle = k.idle; closed = c; says = record { out = k.out ∙ h.says.out; short = h.says.short } }
 mid_moved e true s h k c =
     record { acts = rw h.acts refl; idle = k.idle; closed = c; says = record { out = k.out; short = tt } }
-
-pub shdlc_moved : (e : LinkEnd) (b : Bool) (s : EndState) → (moved e b s).shdlc ≡ s
-shdlc_moved e false s = refl
-shdlc_moved e true s = refl
 
 pub now_sent : (e : LinkEnd) (o : Option Activation) → Mid o e → Now (sent_all e)
 now_sent e o h =
@@ -379,5 +377,3 @@ step_moved l b s ts h a keeps c =
     calm false z = z
     calm true z = z
 
-pub opened : (r : Role) (P : Type 0) → is_open r ≡ true → is_open r ≡ false → P
-opened r P p q = absurd (true≢false (sym p ∙ q))

@@ -30,7 +30,9 @@ use Rattle.message_link.specs.Links.{Talk, NumberedEnd, Link, talk_now, ended_ta
 use Rattle.message_link.specs.Projection.{core_past, core_half, core_of, core_turns, core_take}
 use Rattle.message_link.proofs.Calm.{Calm, CalmLink, IsPolite, with_sent, calm_drop, calm_take}
 use Rattle.message_link.proofs.Ends.{Idle, taken_keeps, Alike, frames_alike}
-use Rattle.message_link.proofs.Project.{Says, Mid, Now, mid_moved, moved_role, shdlc_moved, frames_now, AllSay, Tells, Step, step_same, step_turned, opened}
+use Rattle.message_link.proofs.Project.{Says, Mid, Now, mid_moved, moved_role, frames_now, AllSay, Tells, Step, step_same, step_turned}
+use Rattle.link_machine.proofs.Runs.{opened}
+use Rattle.link_machine.proofs.Reports.{shdlc_is as shdlc_moved}
 
 -- ## A frame is taken
 

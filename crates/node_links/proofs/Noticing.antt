@@ -18,7 +18,7 @@ use Rattle.hci_store.specs.Committing.{commit_writes}
 use Rattle.link_machine.specs.Machine.{Message, LinkEnd, LinkInput, Refused, Turn, turn, is_held, give_refusal, aside_refusal, ended_by, report}
 use Rattle.link_machine.specs.Machine.LinkInput.{Tick}
 use Rattle.link_machine.specs.Machine.Turn.{Give, Hold, FetchMessage, SetAside, Release}
-use Rattle.message_link.proofs.Ends.{ready_phase}
+use Rattle.session_laws.proofs.Ties.{ready-phase as ready_phase}
 use Rattle.node_machine.specs.Parts.{Creation, About, Notice, Desk, Core, Port, Work, Deed}
 use Rattle.node_machine.specs.Parts.About.{Waits, Removed}
 use Rattle.node_machine.specs.Parts.Deed.{Commits, Sends, SaysOk, Asks, Releases, Tells, IsAnswered, Drops, SetsErrors, Orders, Hears, GoesOn, Ends}
@@ -402,7 +402,7 @@ came_ok TimePasses w x k a =
     (first_map IsOk IsOk with_older come x (λ q. refl) older_ok
     (first_map IsBegun IsOk (λ p. has_come p (Some Tick)) w.ports x (λ q. refl) (λ p b. come_ok p (Some Tick) (λ i q. outside TimePasses tt p i q) b) a))
 
-came_node : (input : NodeInput) (w : Work) → (times_out input (all_come input w)).core ≡ w.core
+pub came_node : (input : NodeInput) (w : Work) → (times_out input (all_come input w)).core ≡ w.core
 came_node (AtEnd h i) w = refl
 came_node TimePasses w = refl
 

@@ -15,7 +15,7 @@ use Rattle.link_machine.specs.Machine.{LinkEnd, Refused, LinkInput, is_faulty, i
 use Rattle.link_machine.specs.Machine.LinkInput.{Take, TakeUnknown, TakeBroken, Tick, Reset, Start, Stop, FromNode, Fetch}
 use Rattle.link_machine.proofs.Shifts.{Shift, taken_shift, ticked_shift}
 use Rattle.link_machine.proofs.Shifts.Shift.{Stays, Ends, Renews, Begins, Rests}
-use Rattle.message_link.proofs.Project.{shdlc_moved}
+use Rattle.link_machine.proofs.Reports.{shdlc_is as shdlc_moved}
 use Rattle.node_links.specs.Notices.{IsComing}
 
 abbrev pub IsUpEnd : LinkEnd → Type 0

@@ -143,7 +143,7 @@ module _ (w : NodeWorld) (memory : Memory) (controller : Option Running) (f : Si
       }
 
 -- one site becomes another one
-changed_host : (b : Bool) (g : Site → Site) (s : Site) → (g s).host ≡ s.host → (changed_if b g s).host ≡ s.host
+pub changed_host : (b : Bool) (g : Site → Site) (s : Site) → (g s).host ≡ s.host → (changed_if b g s).host ≡ s.host
 changed_host true g s q = q
 changed_host false g s q = refl
 

@@ -14,7 +14,7 @@ AllByRecursion-filter P test (x ∷ xs) h =
     let rest = AllByRecursion-filter P test xs h.1 in
     cond_both (test x) (x ∷ filter test xs) (filter test xs) (AllByRecursion P) (λ yes. (h.0, rest)) (λ no. rest)
 
-AllByRecursion-append : {X : Type 0} (P : X → Type 0) (xs ys : List X) → AllByRecursion P xs → AllByRecursion P ys → AllByRecursion P (xs ++ ys)
+pub AllByRecursion-append : {X : Type 0} (P : X → Type 0) (xs ys : List X) → AllByRecursion P xs → AllByRecursion P ys → AllByRecursion P (xs ++ ys)
 AllByRecursion-append P [] ys h k = k
 AllByRecursion-append P (x ∷ xs) ys h k = (h.0, AllByRecursion-append P xs ys h.1 k)
 

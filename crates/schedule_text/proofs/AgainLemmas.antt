@@ -40,7 +40,7 @@ words-spaced (w ∷ v ∷ ws) h =
     ap (λ parts. filter (λ word. nat_lt 0 (length word)) parts) (slice_split_at is_space w 32 (spaced (v ∷ ws)) (no_spaces w h.0.1) refl)
     ∙ kept w (slice_split is_space (spaced (v ∷ ws))) h.0.0 ∙ ap (λ vs. w ∷ vs) (words-spaced (v ∷ ws) h.1)
 
-by_size : (P : Type 0) (k n : ℕ) (t : Bool) → nat_lt k n ≡ t → (k < n → P) → (n ≤ k → P) → P
+pub by_size : (P : Type 0) (k n : ℕ) (t : Bool) → nat_lt k n ≡ t → (k < n → P) → (n ≤ k → P) → P
 by_size P k n true e below above = below (ltb-true _ _ e)
 by_size P k n false e below above = above (ltb-false _ _ e)
 
@@ -109,7 +109,7 @@ pub bytes_again : (xs : List ℕ) → All (λ b. b < 256) xs → bytes_value (en
 bytes_again xs h = rw (decode_of-encode_upper xs (all_bytes xs h)) refl
 
 -- a number is read again
-own : IsNumeralModel (λ ds. all_ascii_digits ds ≡ true) (digits_value 10)
+pub own : IsNumeralModel (λ ds. all_ascii_digits ds ≡ true) (digits_value 10)
 own = numerals_by_value _ (search rules)
 
 number_digits : (n : ℕ) → n < 2 ^ 64 → all_ascii_digits (decimal n) ≡ true

@@ -45,7 +45,7 @@ not_false false h = cc
 before_letter : (line : List ℕ) (k : ℕ) → k < position_or_len is_letter line → get_or line k 0 ≡ 32
 before_letter line k h = eqb-true (get_or line k 0) 32 (not_false _ (fails_before_first is_letter line k 0 h))
 
-none_test : (t : Bool) (a : ℕ) → cond t (Some a) None ≡ None → t ≡ false
+pub none_test : (t : Bool) (a : ℕ) → cond t (Some a) None ≡ None → t ≡ false
 none_test true a h = cc
 none_test false a h = refl
 

@@ -57,7 +57,7 @@ waits s own q = record {
 grown_timer : (a x t : ℕ) → t < 10 → cond (nat_lt a x) 0 t < 10
 grown_timer a x t l = grind (arith, common_steps)
 
-grown_tries : (a x t : ℕ) → t ≤ 5 → cond (nat_lt a x) 0 t ≤ 5
+pub grown_tries : (a x t : ℕ) → t ≤ 5 → cond (nat_lt a x) 0 t ≤ 5
 grown_tries a x t l = grind (arith, common_steps)
 
 -- where the place doesn't grow, T2 runs as before
@@ -182,7 +182,7 @@ take-waiting e Clt o k = k
 timed-runs : (e : EndState) → timed e ≡ Runs → e.timer + 1 < 10
 timed-runs e q = grind (arith, common_steps)
 
-timed-over : (e : EndState) → timed e ≡ Over → e.tries + 1 ≤ 5
+pub timed-over : (e : EndState) → timed e ≡ Over → e.tries + 1 ≤ 5
 timed-over e q = grind (arith, common_steps)
 
 tick-up : (e : EndState) (runs : Bool) (t : Timed) → runs_timer e.session ≡ runs → timed e ≡ t → Keeps (in_phase Up e) Tick

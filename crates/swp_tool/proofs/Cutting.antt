@@ -10,6 +10,7 @@ use Rattle.std.proofs.lemmas.List.Splits.{slice_split_at, slice_split_none}
 use Rattle.std.proofs.lemmas.List.Elements.{All-append}
 use Rattle.std.proofs.lemmas.Grind.{common_steps}
 use Rattle.swp_tool.specs.Pieces.{LacksLineFeed, ended_line, AllLackLineFeed}
+use Rattle.schedule_text.proofs.WordsLemmas.{none_test}
 
 -- cutting gives one part at least
 split_some : (bytes : List ℕ) → (first : List ℕ) × (more : List (List ℕ)) × (slice_split (λ b. eqb b 10) bytes ≡ first ∷ more)
@@ -102,10 +103,6 @@ lines-lacks x lacks long =
 -- more bytes of which none is an LF
 pub lacks_append : (x more : List ℕ) → LacksLineFeed x → LacksLineFeed more → LacksLineFeed (x ++ more)
 lacks_append x more = All-append (λ b. eqb b 10 ≡ false) x more
-
-none_test : (t : Bool) (a : ℕ) → cond t (Some a) None ≡ None → t ≡ false
-none_test true a h = cc
-none_test false a h = refl
 
 -- where no LF is found there is none
 pub lacks_all : (bytes : List ℕ) → position (λ b. eqb b 10) bytes ≡ None → LacksLineFeed bytes

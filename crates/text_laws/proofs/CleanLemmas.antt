@@ -5,10 +5,8 @@ use Rattle.std.specs.Char.{is_ascii_digit}
 use Rattle.std.specs.Str.{all_ascii_digits}
 use Rattle.std.specs.Fmt.{decimal}
 use Rattle.std.specs.Str.Parse.{digits_value}
-use Rattle.std.proofs.lemmas.Str.Parse.{IsNumeralModel, numerals_by_value}
+use Rattle.std.proofs.lemmas.Str.Parse.{IsNumeralModel}
 use Rattle.std.proofs.lemmas.Fmt.{digits_decimal}
-use Rattle.std.proofs.Common.{rules}
-use Rattle.std.proofs.lemmas.Bool.{ltb-true, ltb-false}
 use Rattle.std.proofs.lemmas.Bool.Decides.{nat_tests}
 use Rattle.std.proofs.lemmas.List.Sums.{AllPass-from_list_all}
 use Rattle.std.proofs.lemmas.List.Folds.{list_all-append}
@@ -32,7 +30,7 @@ use Rattle.trace_model.specs.declared.entry.NoCause.TheVariants as cause
 use Rattle.trace_model.specs.declared.entry.Entry.{Entry}
 use Rattle.trace_model.specs.declared.entry.Entry.TheVariants as entry
 use Rattle.schedule_text.specs.Entries.{byte_text, two_bytes_text, end_text, number_words, line_words, down_word, lost_word, cause_words, command_words, entry_words}
-use Rattle.schedule_text.proofs.AgainLemmas.{IsWord, hex_word, end_word, number_word}
+use Rattle.schedule_text.proofs.AgainLemmas.{IsWord, hex_word, end_word, number_word, by_size, own}
 use Rattle.text_laws.specs.Ranges.{AreOctets, IsNumber, IsLineSaid, IsCause, IsEntry}
 use Rattle.text_laws.proofs.RowLemmas.{pipe_words, static_words, value_words, sync_words, rows_words}
 
@@ -43,10 +41,6 @@ is_inside b = not (b == 10)
 -- a word without LF
 abbrev pub IsClean : List ℕ → Type 0
 IsClean word = IsWord word × (list_all is_inside word ≡ true)
-
-by_size : (P : Type 0) (k n : ℕ) (t : Bool) → nat_lt k n ≡ t → (k < n → P) → (n ≤ k → P) → P
-by_size P k n true e below above = below (ltb-true _ _ e)
-by_size P k n false e below above = above (ltb-false _ _ e)
 
 hex_inside : (k : ℕ) → is_inside (slice_index upper_digits k) ≡ true
 hex_inside k =
@@ -71,9 +65,6 @@ side_inside false = refl
 end_clean : (e : End) → IsClean (end_text e)
 end_clean e =
     (end_word e, list_all-append is_inside (byte_text e.link) (cond e.at_host 104 99 ∷ []) ∙ rw (hex_all_inside (e.link ∷ []), side_inside e.at_host) refl)
-
-own : IsNumeralModel (λ ds. all_ascii_digits ds ≡ true) (digits_value 10)
-own = numerals_by_value _ (search rules)
 
 digit_inside : (c : ℕ) (cs : List ℕ) (t : Bool) → is_ascii_digit c ≡ t → (t && all_ascii_digits cs) ≡ true → (all_ascii_digits cs ≡ true → list_all is_inside cs ≡ true)
     → (is_inside c && list_all is_inside cs) ≡ true

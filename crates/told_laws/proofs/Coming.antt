@@ -25,7 +25,7 @@ use Rattle.history_laws.proofs.Ordered.{in_order}
 use Rattle.history_laws.proofs.Runs.{events_in}
 use Rattle.text_laws.specs.Ranges.{IsByte, AreOctets, IsEntry}
 use Rattle.told_laws.specs.Told.{step_told, entries_told}
-use Rattle.told_laws.proofs.Ends.{each-append}
+use Rattle.registry.proofs.ValueLemmas.{AllByRecursion-append as each-append}
 use Rattle.told_laws.proofs.Links.{bare_is}
 use Rattle.told_laws.proofs.Lines.{IsApart, AreApart, each_all, host_low, steps_told}
 

@@ -1,5 +1,5 @@
 -- The frames of an SHDLC end are in their ranges, whatever comes to it.
-use Rattle.std.proofs.Common.{◌≡◌, ℕ, zero, suc, ◌+◌, ◌%◌, ◌≤◌, ◌<◌, Bool, true, false, cond, nat_lt, List, [], ◌∷◌, ◌++◌, length, slice_get, refl, sym, subst, arith, Option, Some, None}
+use Rattle.std.proofs.Common.{◌≡◌, ℕ, zero, suc, ◌%◌, ◌≤◌, ◌<◌, Bool, true, false, cond, nat_lt, List, [], ◌∷◌, length, slice_get, refl, sym, subst, arith, Option, Some, None}
 use Rattle.std.specs.Prelude.{◌==◌}
 use Rattle.std.specs.List.{AllByRecursion}
 use Rattle.std.proofs.lemmas.Grind.{common_steps}
@@ -15,6 +15,8 @@ use Rattle.shdlc_core.specs.Machine.{Timed, timed, runs_timer, EndState, Fragmen
 use Rattle.shdlc_core.specs.Machine.Timed.{Runs, Over, Spent}
 use Rattle.shdlc_core.proofs.Histories.{in_phase, received-sending}
 use Rattle.text_laws.specs.Ranges.{IsByte}
+use Rattle.shdlc_core.proofs.Timers.{grown_tries, timed-over}
+use Rattle.registry.proofs.ValueLemmas.{AllByRecursion-append as each-append}
 
 -- ## Fragments and frames
 
@@ -48,9 +50,6 @@ retried : (out : List Fragment) (own tries made : ℕ) → made ≤ 5 → Ranged
 retried out own tries made few h = record { fragments = h.fragments; window = h.window; few = few }
 
 -- ## Frames that come
-
-grown_tries : (a x t : ℕ) → t ≤ 5 → cond (nat_lt a x) 0 t ≤ 5
-grown_tries a x t l = grind (arith, common_steps)
 
 received-kept : (f : EndState) (ns : ℕ) (info : Fragment) → ((received f ns info).own_window ≡ f.own_window) × ((received f ns info).tries ≡ f.tries)
 received-kept f ns info = (grind (arith, common_steps), grind (arith, common_steps))
@@ -105,9 +104,6 @@ pub ranged_taken : (e : EndState) (c : Control) → Ranged e → Ranged (taken e
 ranged_taken e c h = take-in e e.phase c h
 
 -- ## Ticks
-
-timed-over : (e : EndState) → timed e ≡ Over → e.tries + 1 ≤ 5
-timed-over e q = grind (arith, common_steps)
 
 tick-up : (e : EndState) (runs : Bool) (t : Timed) → runs_timer e.session ≡ runs → timed e ≡ t → Ranged e → Ranged (ticked (in_phase Up e))
 tick-up e false t r q h = rw r h
@@ -174,10 +170,6 @@ ready-in e false true false q r h = rw (q, r) h
 
 pub ranged_ready : (e : EndState) (after : Bool) → Ranged e → Ranged (with_ready e after)
 ranged_ready e after h = ready-in e e.ready after _ refl refl h
-
-pub each-append : {X : Type 0} (P : X → Type 0) (xs ys : List X) → AllByRecursion P xs → AllByRecursion P ys → AllByRecursion P (xs ++ ys)
-each-append P [] ys a b = b
-each-append P (x ∷ xs) ys a b = (a.0, each-append P xs ys a.1 b)
 
 pub ranged_out : (e : EndState) (fragments : List Fragment) → AllByRecursion IsFragment fragments → Ranged e → Ranged (put_out e fragments)
 ranged_out e fragments more h =

@@ -41,7 +41,8 @@ use Rattle.history.specs.Follows.{refusal, as_noted, if_empty, if_beyond, if_out
 use Rattle.text_laws.specs.Ranges.{IsByte, IsEnd, AreOctets, IsNumber, IsCause, IsEntry}
 use Rattle.text_laws.proofs.ReadLemmas.{said_in}
 use Rattle.told_laws.specs.Told.{step_told}
-use Rattle.told_laws.proofs.Ends.{IsFrame, each-append}
+use Rattle.told_laws.proofs.Ends.{IsFrame}
+use Rattle.registry.proofs.ValueLemmas.{AllByRecursion-append as each-append}
 use Rattle.told_laws.proofs.Links.{WireIs, LinkIs, CanTell, link_more, link_caused}
 use Rattle.told_laws.proofs.Notes.{IsNoted, AreNoted, noted_event}
 

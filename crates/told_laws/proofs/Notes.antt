@@ -23,7 +23,8 @@ use Rattle.link_entries.specs.Entries.Entry.{Up, Down, Active, GaveUp, Acked, Go
 use Rattle.history.specs.Histories.{Cause}
 use Rattle.history.specs.Histories.Cause.{Given, Taken, WasLost, Ticked, WasReset, Readied}
 use Rattle.history.specs.Steps.{at, idle, event_of}
-use Rattle.told_laws.proofs.Ends.{IsFrame, IfTries, few_tries, each-append}
+use Rattle.told_laws.proofs.Ends.{IsFrame, IfTries, few_tries}
+use Rattle.registry.proofs.ValueLemmas.{AllByRecursion-append as each-append}
 use Rattle.told_laws.proofs.Links.{IsTellable, EndIs, FrameIs, WireIs, LinkIs, CanTell, IsLowWindow, opens, end_took, end_ticked, end_reset, end_given, end_held, end_fetched, link_more, link_swapped, link_aged, link_ended, link_left, left_with, link_put, link_ticked, put_frame, put_frame_is, pushed_is, took_low, out_is}
 
 -- no number in it is above n

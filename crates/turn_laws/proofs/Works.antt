@@ -100,7 +100,7 @@ flat_leaves e f one (x ∷ xs) q = leaves-append e (f x) (flat_map f xs) (one x)
 
 -- ## Sites
 
-site_none : (f : Site → Site) → ((s : Site) → (f s).host ≡ s.host) → (sites : List Site) (h : ℕ) → site_at sites h ≡ None
+pub site_none : (f : Site → Site) → ((s : Site) → (f s).host ≡ s.host) → (sites : List Site) (h : ℕ) → site_at sites h ≡ None
     → site_at (map f sites) h ≡ None
 site_none f keeps [] h q = refl
 site_none f keeps (x ∷ sites) h q = go (x.host == h) refl (site_none f keeps sites h)

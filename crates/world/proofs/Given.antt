@@ -31,6 +31,7 @@ use Rattle.history.specs.Damage.Verdict.{Same, LostFor, Undetected}
 use Rattle.history.specs.Steps.{at, events_at, link_after, link_after_all}
 use Rattle.history.specs.Follows.{refusal, causes_in, damage_causes, first_verdict, frames_to, taken_of, outcome_of, link_after_line}
 use Rattle.world.specs.Lines.{HaveSent}
+use Rattle.message_link.proofs.Project.{host_ended as ended_host}
 
 -- ## An end
 
@@ -109,10 +110,6 @@ put_host l c = by (is_rset c) refl
 all_host : (l : Link) (cs : List Control) → (put_all l cs).host ≡ l.host
 all_host l [] = refl
 all_host l (c ∷ cs) = all_host (put l c) cs ∙ put_host l c
-
-ended_host : (l : Link) (b : Bool) → (with_ended l b).host ≡ l.host
-ended_host l true = refl
-ended_host l false = refl
 
 -- the controller's end has become e, and all its frames went out
 few_becomes : (n k : ℕ) (l : Link) (e : LinkEnd) → AtMost n e → length l.host.side.sent ≤ k
