@@ -49,12 +49,14 @@ live_slot slots o b live = by_slot (slot slots b) refl
         ∙ ap (λ bs. Some (record { owner = o; bytes = bs })) (sym (ap bytes_in e)))
 
 -- one slot written
-held_set : (slots : List (Option Held)) (b : ℕ) (v : Option Held) (p : ℕ) → b < length slots → blocks_held (set slots b v) p + blocks_in p (slot slots b) ≡ blocks_held slots p + blocks_in p v
+held_set : (slots : List (Option Held)) (b : ℕ) (v : Option Held) (p : ℕ) → b < length slots
+    → blocks_held (set slots b v) p + blocks_in p (slot slots b) ≡ blocks_held slots p + blocks_in p v
 held_set slots b v p low = sum_by-set (blocks_in p) slots b v None low
 
 -- ---- a chain grown, freed or begun
 
-grown_held : (slots : List (Option Held)) (o b : ℕ) (bytes : List ℕ) → IsLiveAt slots o (Some b) → blocks_held (with_chain slots b o (held_bytes slots b ++ bytes)) o + blocks_for (length (held_bytes slots b)) ≡ blocks_held slots o + blocks_for (length (held_bytes slots b) + length bytes)
+grown_held : (slots : List (Option Held)) (o b : ℕ) (bytes : List ℕ) → IsLiveAt slots o (Some b)
+    → blocks_held (with_chain slots b o (held_bytes slots b ++ bytes)) o + blocks_for (length (held_bytes slots b)) ≡ blocks_held slots o + blocks_for (length (held_bytes slots b) + length bytes)
 grown_held slots o b bytes live =
     let low = slot_low slots b live.0 in
     let changed = held_set slots b (Some (record { owner = o; bytes = held_bytes slots b ++ bytes })) o low in
@@ -63,7 +65,8 @@ grown_held slots o b bytes live =
     in_same o (held_bytes slots b ++ bytes) ∙ ap blocks_for (length-append (held_bytes slots b) bytes) in
     omega (arith, changed, before, after)
 
-grown_others : (slots : List (Option Held)) (o b p : ℕ) (bytes : List ℕ) → IsLiveAt slots o (Some b) → p ≢ o → blocks_held (with_chain slots b o bytes) p ≡ blocks_held slots p
+grown_others : (slots : List (Option Held)) (o b p : ℕ) (bytes : List ℕ) → IsLiveAt slots o (Some b) → p ≢ o
+    → blocks_held (with_chain slots b o bytes) p ≡ blocks_held slots p
 grown_others slots o b p bytes live apart =
     let low = slot_low slots b live.0 in
     let changed = held_set slots b (Some (record { owner = o; bytes = bytes })) p low in
@@ -71,13 +74,15 @@ grown_others slots o b p bytes live apart =
     let after = in_other p o bytes apart in
     omega (arith, changed, before, after)
 
-begun_held : (slots : List (Option Held)) (o b : ℕ) (bytes : List ℕ) → b < length slots → slot slots b ≡ None → blocks_held (with_chain slots b o bytes) o ≡ blocks_held slots o + blocks_for (length bytes)
+begun_held : (slots : List (Option Held)) (o b : ℕ) (bytes : List ℕ) → b < length slots → slot slots b ≡ None
+    → blocks_held (with_chain slots b o bytes) o ≡ blocks_held slots o + blocks_for (length bytes)
 begun_held slots o b bytes low none =
     let changed = held_set slots b (Some (record { owner = o; bytes = bytes })) o low in
     let before : blocks_in o (slot slots b) ≡ 0 = ap (blocks_in o) none in
     omega (arith, changed, before, in_same o bytes)
 
-begun_others : (slots : List (Option Held)) (o b p : ℕ) (bytes : List ℕ) → b < length slots → slot slots b ≡ None → p ≢ o → blocks_held (with_chain slots b o bytes) p ≡ blocks_held slots p
+begun_others : (slots : List (Option Held)) (o b p : ℕ) (bytes : List ℕ) → b < length slots → slot slots b ≡ None → p ≢ o
+    → blocks_held (with_chain slots b o bytes) p ≡ blocks_held slots p
 begun_others slots o b p bytes low none apart =
     let changed = held_set slots b (Some (record { owner = o; bytes = bytes })) p low in
     let before : blocks_in p (slot slots b) ≡ 0 = ap (blocks_in p) none in
@@ -86,7 +91,9 @@ begun_others slots o b p bytes low none apart =
 no_blocks : blocks_for 0 ≡ 0
 no_blocks = refl
 
-pub append_held : (slots : List (Option Held)) (o : ℕ) (before : Option ℕ) (bytes : List ℕ) (after : Option ℕ) → IsLiveAt slots o before → IsNamedAfter slots before bytes after → blocks_held (put_at slots after o (named_bytes slots before ++ bytes)) o + blocks_for (length (named_bytes slots before)) ≡ blocks_held slots o + blocks_for (length (named_bytes slots before) + length bytes)
+pub append_held : (slots : List (Option Held)) (o : ℕ) (before : Option ℕ) (bytes : List ℕ) (after : Option ℕ) → IsLiveAt slots o before
+    → IsNamedAfter slots before bytes after
+    → blocks_held (put_at slots after o (named_bytes slots before ++ bytes)) o + blocks_for (length (named_bytes slots before)) ≡ blocks_held slots o + blocks_for (length (named_bytes slots before) + length bytes)
 append_held slots o (Some b) bytes after live name =
     ap (λ n. blocks_held (put_at slots n o (held_bytes slots b ++ bytes)) o + blocks_for (length (held_bytes slots b))) name ∙ grown_held slots o b bytes live
 append_held slots o None [] after live name = ap (λ n. blocks_held (put_at slots n o []) o + blocks_for 0) name
@@ -96,14 +103,16 @@ append_held slots o None (byte ∷ bytes) after live name =
     let plain : 0 + length (byte ∷ bytes) ≡ length (byte ∷ bytes) = omega arith in
     ap (λ n. n + blocks_for 0) begun ∙ (omega (arith, no_blocks) ∙ ap (λ n. blocks_held slots o + blocks_for n) (sym plain)))
 
-pub append_others : (slots : List (Option Held)) (o : ℕ) (before : Option ℕ) (bytes : List ℕ) (after : Option ℕ) (p : ℕ) → IsLiveAt slots o before → IsNamedAfter slots before bytes after → p ≢ o → blocks_held (put_at slots after o (named_bytes slots before ++ bytes)) p ≡ blocks_held slots p
+pub append_others : (slots : List (Option Held)) (o : ℕ) (before : Option ℕ) (bytes : List ℕ) (after : Option ℕ) (p : ℕ) → IsLiveAt slots o before
+    → IsNamedAfter slots before bytes after → p ≢ o → blocks_held (put_at slots after o (named_bytes slots before ++ bytes)) p ≡ blocks_held slots p
 append_others slots o (Some b) bytes after p live name apart =
     ap (λ n. blocks_held (put_at slots n o (held_bytes slots b ++ bytes)) p) name ∙ grown_others slots o b p (held_bytes slots b ++ bytes) live apart
 append_others slots o None [] after p live name apart = ap (λ n. blocks_held (put_at slots n o []) p) name
 append_others slots o None (byte ∷ bytes) after p live name apart =
     ap (λ n. blocks_held (put_at slots n o (byte ∷ bytes)) p) name.1 ∙ begun_others slots o name.0 p (byte ∷ bytes) name.2 name.3 apart
 
-pub remove_held : (slots : List (Option Held)) (o : ℕ) (name : Option ℕ) → IsLiveAt slots o name → blocks_held (removed_at slots name) o + blocks_for (length (named_bytes slots name)) ≡ blocks_held slots o
+pub remove_held : (slots : List (Option Held)) (o : ℕ) (name : Option ℕ) → IsLiveAt slots o name
+    → blocks_held (removed_at slots name) o + blocks_for (length (named_bytes slots name)) ≡ blocks_held slots o
 remove_held slots o None live = omega (arith, no_blocks)
 remove_held slots o (Some b) live =
     let low = slot_low slots b live.0 in
@@ -111,7 +120,8 @@ remove_held slots o (Some b) live =
     let before : blocks_in o (slot slots b) ≡ blocks_for (length (held_bytes slots b)) = ap (blocks_in o) (live_slot slots o b live) ∙ in_same o (held_bytes slots b) in
     omega (arith, changed, before)
 
-pub remove_others : (slots : List (Option Held)) (o : ℕ) (name : Option ℕ) (p : ℕ) → IsLiveAt slots o name → p ≢ o → blocks_held (removed_at slots name) p ≡ blocks_held slots p
+pub remove_others : (slots : List (Option Held)) (o : ℕ) (name : Option ℕ) (p : ℕ) → IsLiveAt slots o name → p ≢ o
+    → blocks_held (removed_at slots name) p ≡ blocks_held slots p
 remove_others slots o None p live apart = refl
 remove_others slots o (Some b) p live apart =
     let low = slot_low slots b live.0 in
@@ -120,14 +130,16 @@ remove_others slots o (Some b) p live apart =
     omega (arith, changed, before)
 
 -- a chain put back where one was removed
-pub again_held : (slots : List (Option Held)) (o q : ℕ) (name : Option ℕ) → IsLiveAt slots o name → blocks_held (put_at slots name q (named_bytes slots name)) q ≡ blocks_held (removed_at slots name) q + blocks_for (length (named_bytes slots name))
+pub again_held : (slots : List (Option Held)) (o q : ℕ) (name : Option ℕ) → IsLiveAt slots o name
+    → blocks_held (put_at slots name q (named_bytes slots name)) q ≡ blocks_held (removed_at slots name) q + blocks_for (length (named_bytes slots name))
 again_held slots o q None live = omega (arith, no_blocks)
 again_held slots o q (Some b) live =
     let low = slot_low slots b live.0 in
     ap (λ ss. blocks_held ss q) (sym (set-set slots b None (Some (record { owner = q; bytes = held_bytes slots b }))))
     ∙ begun_held (set slots b None) q b (held_bytes slots b) (omega (arith, low, length-set slots b None)) (get_or-set_same slots b None None low)
 
-pub again_others : (slots : List (Option Held)) (o q : ℕ) (name : Option ℕ) (p : ℕ) → IsLiveAt slots o name → p ≢ q → blocks_held (put_at slots name q (named_bytes slots name)) p ≡ blocks_held (removed_at slots name) p
+pub again_others : (slots : List (Option Held)) (o q : ℕ) (name : Option ℕ) (p : ℕ) → IsLiveAt slots o name → p ≢ q
+    → blocks_held (put_at slots name q (named_bytes slots name)) p ≡ blocks_held (removed_at slots name) p
 again_others slots o q None p live apart = refl
 again_others slots o q (Some b) p live apart =
     let low = slot_low slots b live.0 in
@@ -163,7 +175,8 @@ module _ (pool : PoolState) (counted : IsCounted pool) (o : ℕ) (has : o < leng
   chain_low name live = omega (arith, remove_held pool.slots o name live, counted.used o has)
 
   -- the owners' counts after one of them changed
-  pub counted_after : (slots : List (Option Held)) (used aside : ℕ) → used ≡ aside + blocks_held slots o → used ≤ quota_of pool o → ((p : ℕ) → p ≢ o → blocks_held slots p ≡ blocks_held pool.slots p) → AreCounted slots (with_aside pool.owners o used aside)
+  pub counted_after : (slots : List (Option Held)) (used aside : ℕ) → used ≡ aside + blocks_held slots o → used ≤ quota_of pool o
+      → ((p : ℕ) → p ≢ o → blocks_held slots p ≡ blocks_held pool.slots p) → AreCounted slots (with_aside pool.owners o used aside)
   counted_after slots used aside is_used within others =
       let new : Owner = record { quota = quota_of pool o; used = used; aside = aside } in
       let owners = with_aside pool.owners o used aside in
@@ -187,7 +200,8 @@ module _ (pool : PoolState) (counted : IsCounted pool) (o : ℕ) (has : o < leng
         few_owners = omega (arith, len, counted.few_owners);
       }
 
-  pub free_after : (slots : List (Option Held)) (free used aside left : ℕ) → AreFree pool.owners free → left + used + aside_of pool o ≡ free + used_of pool o + aside → AreFree (with_aside pool.owners o used aside) left
+  pub free_after : (slots : List (Option Held)) (free used aside left : ℕ) → AreFree pool.owners free
+      → left + used + aside_of pool o ≡ free + used_of pool o + aside → AreFree (with_aside pool.owners o used aside) left
   free_after slots free used aside left rest change =
       let new : Owner = record { quota = quota_of pool o; used = used; aside = aside } in
       let nobody : Owner = record { quota = 0; used = 0; aside = 0 } in
@@ -210,7 +224,12 @@ module _ (pool : PoolState) (counted : IsCounted pool) (o : ℕ) (has : o < leng
 
 module _ (pool : PoolState) (counted : IsCounted pool) (free : ℕ) (rest : AreFree pool.owners free) (o : ℕ) (has : o < length pool.owners) where
   -- bytes were appended to a chain of an owner
-  pub taken_counted : (before : Option ℕ) (bytes : List ℕ) (after : Option ℕ) (slots : List (Option Held)) (left more : ℕ) (old : Owner) → IsLiveAt pool.slots o before → IsNamedAfter pool.slots before bytes after → slots ≡ put_at pool.slots after o (named_bytes pool.slots before ++ bytes) → left + blocks_for (length (named_bytes pool.slots before) + length bytes) ≡ free + blocks_for (length (named_bytes pool.slots before)) → more ≡ blocks_for (length (named_bytes pool.slots before) + length bytes) - blocks_for (length (named_bytes pool.slots before)) → more ≤ spare_of pool o → old ≡ owner_at pool.owners o
+  pub taken_counted : (before : Option ℕ) (bytes : List ℕ) (after : Option ℕ) (slots : List (Option Held)) (left more : ℕ) (old : Owner)
+      → IsLiveAt pool.slots o before → IsNamedAfter pool.slots before bytes after
+      → slots ≡ put_at pool.slots after o (named_bytes pool.slots before ++ bytes)
+      → left + blocks_for (length (named_bytes pool.slots before) + length bytes) ≡ free + blocks_for (length (named_bytes pool.slots before))
+      → more ≡ blocks_for (length (named_bytes pool.slots before) + length bytes) - blocks_for (length (named_bytes pool.slots before))
+      → more ≤ spare_of pool o → old ≡ owner_at pool.owners o
       → AreCounted slots (set pool.owners o (record { quota = old.quota; used = old.used + more; aside = old.aside })) × AreFree (set pool.owners o (record { quota = old.quota; used = old.used + more; aside = old.aside })) left
   taken_counted before bytes after slots left more old live name slots_are left_is more_is room old_is =
       let n = length (named_bytes pool.slots before) in
@@ -224,7 +243,9 @@ module _ (pool : PoolState) (counted : IsCounted pool) (free : ℕ) (rest : AreF
       )
 
   -- a chain's blocks were given back
-  pub given_counted : (name : Option ℕ) (slots : List (Option Held)) (left n : ℕ) (old : Owner) → IsLiveAt pool.slots o name → slots ≡ removed_at pool.slots name → left ≡ free + blocks_for (length (named_bytes pool.slots name)) → n ≡ blocks_for (length (named_bytes pool.slots name)) → old ≡ owner_at pool.owners o
+  pub given_counted : (name : Option ℕ) (slots : List (Option Held)) (left n : ℕ) (old : Owner) → IsLiveAt pool.slots o name
+      → slots ≡ removed_at pool.slots name → left ≡ free + blocks_for (length (named_bytes pool.slots name))
+      → n ≡ blocks_for (length (named_bytes pool.slots name)) → old ≡ owner_at pool.owners o
       → AreCounted slots (set pool.owners o (record { quota = old.quota; used = old.used - n; aside = old.aside })) × AreFree (set pool.owners o (record { quota = old.quota; used = old.used - n; aside = old.aside })) left
   given_counted name slots left n old live slots_are left_is n_is old_is =
       let low = chain_low pool counted o has name live in
@@ -237,7 +258,9 @@ module _ (pool : PoolState) (counted : IsCounted pool) (free : ℕ) (rest : AreF
       )
 
 -- a chain went to another owner: as if it was given back and taken again
-pub passed_counted : (pool : PoolState) (counted : IsCounted pool) (free : ℕ) (rest : AreFree pool.owners free) (o q : ℕ) (has : o < length pool.owners) (other : q < length pool.owners) (name : Option ℕ) (slots : List (Option Held)) (n : ℕ) (old new : Owner) → IsLiveAt pool.slots o name → slots ≡ put_at pool.slots name q (named_bytes pool.slots name) → n ≡ blocks_for (length (named_bytes pool.slots name)) → n ≤ spare_of pool q → old ≡ owner_at pool.owners o
+pub passed_counted : (pool : PoolState) (counted : IsCounted pool) (free : ℕ) (rest : AreFree pool.owners free) (o q : ℕ) (has : o < length pool.owners) (other : q < length pool.owners) (name : Option ℕ) (slots : List (Option Held)) (n : ℕ) (old new : Owner)
+    → IsLiveAt pool.slots o name → slots ≡ put_at pool.slots name q (named_bytes pool.slots name)
+    → n ≡ blocks_for (length (named_bytes pool.slots name)) → n ≤ spare_of pool q → old ≡ owner_at pool.owners o
     → new ≡ owner_at (set pool.owners o (record { quota = old.quota; used = old.used - n; aside = old.aside })) q
     → AreCounted slots (set (set pool.owners o (record { quota = old.quota; used = old.used - n; aside = old.aside })) q (record { quota = new.quota; used = new.used + n; aside = new.aside }))
     × AreFree (set (set pool.owners o (record { quota = old.quota; used = old.used - n; aside = old.aside })) q (record { quota = new.quota; used = new.used + n; aside = new.aside })) free
@@ -277,7 +300,8 @@ new_owner [] p = (refl, refl)
 new_owner (quota ∷ quotas) zero = (refl, refl)
 new_owner (quota ∷ quotas) (suc p) = new_owner quotas p
 
-new_sums : (quotas : List ℕ) → (sum_by (λ o. o.quota) (new_owners quotas) ≡ sum_by (λ quota. quota) quotas) × (sum_by (λ o. o.used) (new_owners quotas) ≡ 0) × (sum_by (λ o. o.aside) (new_owners quotas) ≡ 0)
+new_sums : (quotas : List ℕ)
+    → (sum_by (λ o. o.quota) (new_owners quotas) ≡ sum_by (λ quota. quota) quotas) × (sum_by (λ o. o.used) (new_owners quotas) ≡ 0) × (sum_by (λ o. o.aside) (new_owners quotas) ≡ 0)
 new_sums [] = (refl, refl, refl)
 new_sums (quota ∷ quotas) =
     let new : Owner = record { quota = quota; used = 0; aside = 0 } in
@@ -287,7 +311,9 @@ new_sums (quota ∷ quotas) =
       omega (arith, sum_by-cons (λ (o : Owner). o.aside) new (new_owners quotas), rest.2),
     )
 
-pub new_counted : (quotas : List ℕ) (total : ℕ) (slots : List (Option Held)) (owners : List Owner) → length quotas ≤ 256 → sum_by (λ quota. quota) quotas ≤ 16384 → total ≡ sum_by (λ quota. quota) quotas → slots ≡ replicate total None → owners ≡ new_owners quotas → AreCounted slots owners × AreFree owners total
+pub new_counted : (quotas : List ℕ) (total : ℕ) (slots : List (Option Held)) (owners : List Owner) → length quotas ≤ 256
+    → sum_by (λ quota. quota) quotas ≤ 16384 → total ≡ sum_by (λ quota. quota) quotas → slots ≡ replicate total None → owners ≡ new_owners quotas
+    → AreCounted slots owners × AreFree owners total
 new_counted quotas total slots owners few_owners few_blocks total_is slots_are owners_are =
     let sums = new_sums quotas in
     subst (λ os. AreCounted slots os × AreFree os total) (sym owners_are) (

@@ -46,7 +46,8 @@ lies_apart_by_owner X chain_of pool owner xs other own live differ =
     (λ x o. apart_by_owner pool other (chain_of x) live o.live (λ e. differ (e ∙ o.owned))) own
 
 -- one more chain that lies apart from all
-pub lie_apart_pushed : (X : Type 0) (chain_of : X → Chain) (xs : List X) (y : X) → LieApart X chain_of xs → LiesApart X chain_of xs (chain_of y) → LieApart X chain_of (xs ++ y ∷ [])
+pub lie_apart_pushed : (X : Type 0) (chain_of : X → Chain) (xs : List X) (y : X) → LieApart X chain_of xs → LiesApart X chain_of xs (chain_of y)
+    → LieApart X chain_of (xs ++ y ∷ [])
 lie_apart_pushed X chain_of [] y apart here = (tt, tt)
 lie_apart_pushed X chain_of (x ∷ xs) y apart here =
     (all_pushed X (λ z. IsApart (chain_of x) (chain_of z)) xs y apart.0 (apart_turned (chain_of y) (chain_of x) here.0), lie_apart_pushed X chain_of xs y apart.1 here.1)
@@ -128,7 +129,8 @@ pub length-with_used : (owners : List Owner) (o n : ℕ) → length (with_used o
 length-with_used owners o n = length-set owners o (record { quota = (owner_at owners o).quota; used = n; aside = (owner_at owners o).aside })
 
 -- a call that changed only what is counted of an owner keeps each chain
-pub counted_keeps : (old new : PoolState) (o used aside : ℕ) (chain : Chain) → new.slots ≡ old.slots → new.owners ≡ with_aside old.owners o used aside → IsLive old chain
+pub counted_keeps : (old new : PoolState) (o used aside : ℕ) (chain : Chain) → new.slots ≡ old.slots → new.owners ≡ with_aside old.owners o used aside
+    → IsLive old chain
     → IsLive new chain × (chain_bytes new chain ≡ chain_bytes old chain)
 counted_keeps old new o used aside chain slots owners live =
     let len : length new.owners ≡ length old.owners = ap length owners ∙ length-set old.owners o (record { quota = (owner_at old.owners o).quota; used = used; aside = aside }) in (

@@ -137,7 +137,8 @@ checked_again lpdu crc is =
         + get_or (lpdu ++ crc / 256 ∷ crc % 256 ∷ []) (length (lpdu ++ crc / 256 ∷ crc % 256 ∷ []) - 1) 0
     value = omega (arith, first, second)
 
-said_whole : (h m x count : ℕ) (bytes : List ℕ) → 256 * h + m ≡ count → 0 < count → count ≤ 30 → suc (length bytes) ≡ count + 2 → unit_said (h ∷ m ∷ x ∷ bytes) ≡ checked (x ∷ bytes)
+said_whole : (h m x count : ℕ) (bytes : List ℕ) → 256 * h + m ≡ count → 0 < count → count ≤ 30 → suc (length bytes) ≡ count + 2
+    → unit_said (h ∷ m ∷ x ∷ bytes) ≡ checked (x ∷ bytes)
 said_whole h m x count bytes same low high l =
     rw (same, ne_eqb count 0 (λ z. absurd (omega (arith, z))), le-leb count 30 high, eq-eqb (suc (length bytes)) (count + 2) l) refl
 

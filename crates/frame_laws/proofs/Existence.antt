@@ -43,7 +43,8 @@ then_zero ones spelling false e s =
     let t = with_zero (ones + 1) spelling s in
     (true ∷ t.0, extended ones (ones + 1) true (true ∷ []) (false ∷ spelling) t.0 (one_step ones t.0 e) t.1)
 
-then_one : (ones : ℕ) (spelling : List Bool) (fifth : Bool) → eqb ones 4 ≡ fifth → ones ≤ 4 → ones + 1 < 5 → (ones + 1 ≤ 4 → Spelled (ones + 1) (true ∷ spelling))
+then_one : (ones : ℕ) (spelling : List Bool) (fifth : Bool) → eqb ones 4 ≡ fifth → ones ≤ 4 → ones + 1 < 5
+    → (ones + 1 ≤ 4 → Spelled (ones + 1) (true ∷ spelling))
     → Spelled ones (true ∷ true ∷ spelling)
 then_one ones spelling true e h room next = absurd (omega (arith, eqb-true ones 4 e))
 then_one ones spelling false e h room next =

@@ -40,7 +40,8 @@ at_start : (front : List Symbol) → mark_of front ≡ start_mark → since_star
 at_start [] h = absurd (cc)
 at_start (newest ∷ older) h = ap (λ m. since_mark m newest (since_start older)) h
 
-is_open : (since front : List Symbol) → mark_of front ≡ start_mark → ((k : ℕ) → k < length since → mark_of (drop k (since ++ front)) ≡ no_mark) → since_start (since ++ front) ≡ Some since
+is_open : (since front : List Symbol) → mark_of front ≡ start_mark → ((k : ℕ) → k < length since → mark_of (drop k (since ++ front)) ≡ no_mark)
+    → since_start (since ++ front) ≡ Some since
 is_open [] front starts later = at_start front starts
 is_open (x ∷ since) front starts later =
     ap (λ m. since_mark m x (since_start (since ++ front))) (later 0 (omega arith))

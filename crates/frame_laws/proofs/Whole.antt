@@ -28,7 +28,8 @@ quiet_bit b seen h = ap (λ m. verdict_after m (since_start seen)) (no_mark_with
     nothing None = refl
     nothing (Some since) = refl
 
-still_open : (b : Bool) (seen since : List Symbol) → run_of seen ≢ 6 → since_start seen ≡ Some since → since_start (symbol_of b ∷ seen) ≡ Some (symbol_of b ∷ since)
+still_open : (b : Bool) (seen since : List Symbol) → run_of seen ≢ 6 → since_start seen ≡ Some since
+    → since_start (symbol_of b ∷ seen) ≡ Some (symbol_of b ∷ since)
 still_open b seen since h e =
     ap (λ m. since_mark m (symbol_of b) (since_start seen)) (no_mark_with b seen h) ∙ ap (option_map (λ s. symbol_of b ∷ s)) e
 
@@ -60,7 +61,8 @@ stuffed_few [] ones h = tt
 stuffed_few (false ∷ content) ones h = stuffed_few content 0 (omega arith)
 stuffed_few (true ∷ content) ones h = by_count (eqb ones 4) refl (stuffed_few content 0 (omega arith)) (λ fewer. stuffed_few content (ones + 1) fewer)
   where
-    by_count : (fifth : Bool) → eqb ones 4 ≡ fifth → NoSixOnes 0 (stuffed_after 0 content) → (ones + 1 ≤ 4 → NoSixOnes (ones + 1) (stuffed_after (ones + 1) content))
+    by_count : (fifth : Bool) → eqb ones 4 ≡ fifth → NoSixOnes 0 (stuffed_after 0 content)
+        → (ones + 1 ≤ 4 → NoSixOnes (ones + 1) (stuffed_after (ones + 1) content))
         → NoSixOnes ones (cond fifth (true ∷ false ∷ stuffed_after 0 content) (true ∷ stuffed_after (ones + 1) content))
     by_count true e zeroes next = (omega arith, zeroes)
     by_count false e zeroes next = (omega arith, next (let differ = eqb-false ones 4 e in omega (arith, differ)))

@@ -20,7 +20,9 @@ AllFalse [] = Unit {0}
 AllFalse (test ∷ tests) = (test.0 ≡ false) × AllFalse tests
 
 -- where no test holds
-passed_one : (b : Bool) (test : Bool × Response) (found : Option (Bool × Response)) → option_map (λ (t : Bool × Response). t.1) (cond b (Some test) found) ≡ None → (b ≡ false) × (option_map (λ (t : Bool × Response). t.1) found ≡ None)
+passed_one : (b : Bool) (test : Bool × Response) (found : Option (Bool × Response))
+    → option_map (λ (t : Bool × Response). t.1) (cond b (Some test) found) ≡ None
+    → (b ≡ false) × (option_map (λ (t : Bool × Response). t.1) found ≡ None)
 passed_one true test found e = absurd (cc e)
 passed_one false test found e = (refl, e)
 
@@ -45,7 +47,8 @@ dest_is_host v dest passed =
           (and_parts (leb 1 dest) (leb dest 7) within.0).1
     ]
 
-pub creation-recordable : (t : HciTables) (v : LinkView) (host : ℕ) (body : List ℕ) → host ≤ 7 → first_of (tests_to_create t v host body) ≡ None → IsTrue (is_command (Create (created host body (unwrap_or (lowest_free t.rows v.waiting.items) 0))))
+pub creation-recordable : (t : HciTables) (v : LinkView) (host : ℕ) (body : List ℕ) → host ≤ 7 → first_of (tests_to_create t v host body) ≡ None
+    → IsTrue (is_command (Create (created host body (unwrap_or (lowest_free t.rows v.waiting.items) 0))))
 unfolding AllFalse
 creation-recordable t v host body small passed =
     let none = all_false (tests_to_create t v host body) passed in

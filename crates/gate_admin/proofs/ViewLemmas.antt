@@ -28,9 +28,11 @@ pub hosts_below-taken : (test : ℕ → Bool) (host : ℕ) → 1 ≤ host → te
 hosts_below-taken test host from passed = hosts_below-more test host from ∙ ap (λ b. hosts_below test host ++ cond b (host ∷ []) []) passed
 
 pub hosts_below-left : (test : ℕ → Bool) (host : ℕ) → 1 ≤ host → test host ≡ false → hosts_below test (host + 1) ≡ hosts_below test host
-hosts_below-left test host from failed = hosts_below-more test host from ∙ ap (λ b. hosts_below test host ++ cond b (host ∷ []) []) failed ∙ grind (arith, common_steps)
+hosts_below-left test host from failed =
+    hosts_below-more test host from ∙ ap (λ b. hosts_below test host ++ cond b (host ∷ []) []) failed ∙ grind (arith, common_steps)
 
-pub mask_of-taken : (test : ℕ → Bool) (host : ℕ) → 1 ≤ host → test host ≡ true → mask_of (hosts_below test (host + 1)) ≡ mask_of (hosts_below test host) + 2 ^ host
+pub mask_of-taken : (test : ℕ → Bool) (host : ℕ) → 1 ≤ host → test host ≡ true
+    → mask_of (hosts_below test (host + 1)) ≡ mask_of (hosts_below test host) + 2 ^ host
 mask_of-taken test host from passed =
     ap mask_of (hosts_below-taken test host from passed) ∙ (sum_by-append (λ h. 2 ^ h) (hosts_below test host) (host ∷ []) ∙ omega arith)
 
@@ -41,7 +43,8 @@ positive : (n : ℕ) → 0 < 2 ^ n
 positive zero = lit< tt
 positive (suc n) = let less = positive n in let twice = double n in let next : suc n ≡ n + 1 = omega arith in let same = ap (λ k. 2 ^ k) next in omega arith
 
-any-step : (p q : ℕ → Bool) (host : ℕ) (passed hosts : List ℕ) → list_any p passed ≡ list_any (λ host. q host && p host) hosts → list_any p (cond (q host) (host ∷ passed) passed) ≡ (q host && p host) || list_any (λ host. q host && p host) hosts
+any-step : (p q : ℕ → Bool) (host : ℕ) (passed hosts : List ℕ) → list_any p passed ≡ list_any (λ host. q host && p host) hosts
+    → list_any p (cond (q host) (host ∷ passed) passed) ≡ (q host && p host) || list_any (λ host. q host && p host) hosts
 any-step p q host passed hosts same =
     cond_both (q host) (host ∷ passed) passed (λ hs. list_any p hs ≡ (q host && p host) || list_any (λ host. q host && p host) hosts)
     (λ yes. ap (λ some. p host || some) same ∙ ap (λ b. (b && p host) || list_any (λ host. q host && p host) hosts) (sym yes))
@@ -75,7 +78,8 @@ any-here p q host below passed found =
     ∙ (ap (λ b. list_any p (cond b (host ∷ filter q (hosts_from (host + 1))) (filter q (hosts_from (host + 1))))) passed
     ∙ ap (λ b. b || list_any p (filter q (hosts_from (host + 1)))) found)
 
-pub any-later : (p q : ℕ → Bool) (host : ℕ) → host < 8 → (q host && p host) ≡ false → list_any p (filter q (hosts_from host)) ≡ list_any p (filter q (hosts_from (host + 1)))
+pub any-later : (p q : ℕ → Bool) (host : ℕ) → host < 8 → (q host && p host) ≡ false
+    → list_any p (filter q (hosts_from host)) ≡ list_any p (filter q (hosts_from (host + 1)))
 any-later p q host below failed =
     ap (λ hosts. list_any p (filter q hosts)) (hosts_from-next host below)
     ∙ (any-filter p q (host ∷ hosts_from (host + 1))

@@ -20,7 +20,8 @@ use Rattle.gate_laws.specs.Rules.{AsksAsAllowed, TellsOthers, AreOthers, IsLeast
 use Rattle.gate_laws.proofs.FreePipes.{lowest_free-least}
 
 -- what holds of an answer alone, and of what is done where no test holds, holds of both
-unless : (P : Decision → Type 0) (refusal : Option Response) (otherwise : Decision) → ((r : Response) → P (answers r [])) → (refusal ≡ None → P otherwise) → P (unless_refused refusal otherwise)
+unless : (P : Decision → Type 0) (refusal : Option Response) (otherwise : Decision) → ((r : Response) → P (answers r []))
+    → (refusal ≡ None → P otherwise) → P (unless_refused refusal otherwise)
 unless P (Some r) otherwise refused done = refused r
 unless P None otherwise refused done = done refl
 
@@ -34,7 +35,8 @@ record Cases (P : Decision → Type 0) (t : HciTables) (v : LinkView) (host pipe
   deleted : P (deleting t v host body)
   cleared : P (clearing t v host body)
 
-by_cases : (P : Decision → Type 0) (t : HciTables) (v : LinkView) (host pipe instruction : ℕ) (body : List ℕ) → Cases P t v host pipe body → P (decided t v host pipe instruction body)
+by_cases : (P : Decision → Type 0) (t : HciTables) (v : LinkView) (host pipe instruction : ℕ) (body : List ℕ) → Cases P t v host pipe body
+    → P (decided t v host pipe instruction body)
 by_cases P t v host pipe instruction body cases =
     let refused : (r : Response) → P (answers r []) = λ r. cases.answered r [] in
     unless P (first_of (tests_of_pipe t host pipe instruction)) (carried_out t v host pipe instruction body) refused (λ _.
@@ -47,7 +49,8 @@ by_cases P t v host pipe instruction body cases =
     (λ _. cond_both (eqb instruction 20) (clearing t v host body) _ P (λ _. cases.cleared)
     (λ _. cases.answered response.CommandNotSupported []))))))))
 
-free_of : (rows : List PipeRow) (kept : List ℕ) (free : Option ℕ) → IfSome free (IsLeastFree rows kept) → is_none free ≡ false → IsTrue (is_free rows kept (unwrap_or free 0))
+free_of : (rows : List PipeRow) (kept : List ℕ) (free : Option ℕ) → IfSome free (IsLeastFree rows kept) → is_none free ≡ false
+    → IsTrue (is_free rows kept (unwrap_or free 0))
 free_of rows kept None h e = absurd (true≢false e)
 free_of rows kept (Some p) h e = h.free
 
@@ -76,7 +79,8 @@ created_as_allowed t v host body =
       free = free_of t.rows v.waiting.items free (lowest_free-least t.rows v.waiting.items) none.1.1.1.1.1.1.1.0;
     }))
 
-pub decided_as_allowed : (t : HciTables) (v : LinkView) (host pipe instruction : ℕ) (body : List ℕ) → AsksAsAllowed t v host (decided t v host pipe instruction body)
+pub decided_as_allowed : (t : HciTables) (v : LinkView) (host pipe instruction : ℕ) (body : List ℕ)
+    → AsksAsAllowed t v host (decided t v host pipe instruction body)
 decided_as_allowed t v host pipe instruction body =
     let P : Decision → Type 0 = AsksAsAllowed t v host in
     by_cases P t v host pipe instruction body (record {
@@ -107,7 +111,8 @@ sharing_others t v host =
     (λ other shared. (and_parts (is_connected v other && not (eqb other host)) _ shared).0) (range_with_len 1 7)
 
 -- the row of a pipe joins two hosts where all rows do
-joins_two : (rows : List PipeRow) (pid : ℕ) (row : PipeRow) → list_all (λ r. not (eqb r.creator r.dest)) rows ≡ true → pipe_at rows pid ≡ Some row → eqb row.creator row.dest ≡ false
+joins_two : (rows : List PipeRow) (pid : ℕ) (row : PipeRow) → list_all (λ r. not (eqb r.creator r.dest)) rows ≡ true → pipe_at rows pid ≡ Some row
+    → eqb row.creator row.dest ≡ false
 joins_two [] pid row all e = absurd (cc e)
 joins_two (r ∷ rows) pid row all e =
     let parts = and_parts (not (eqb r.creator r.dest)) (list_all (λ r. not (eqb r.creator r.dest)) rows) all in
@@ -121,7 +126,8 @@ one_other v host end other =
     (λ there. and_from (is_connected v end.0 && not (eqb end.0 host)) true (and_from (is_connected v end.0) (not (eqb end.0 host)) there (not_from_false (eqb end.0 host) other)) refl)
     (λ gone. refl)
 
-far_other : (v : LinkView) (host : ℕ) (row : PipeRow) → eqb row.creator row.dest ≡ false → AllOthers v host (option_map_or (λ (end : ℕ × ℕ). cond (is_connected v end.0) (end.0 ∷ []) []) (far_end_of host row) [])
+far_other : (v : LinkView) (host : ℕ) (row : PipeRow) → eqb row.creator row.dest ≡ false
+    → AllOthers v host (option_map_or (λ (end : ℕ × ℕ). cond (is_connected v end.0) (end.0 ∷ []) []) (far_end_of host row) [])
 far_other v host row apart =
     cond_both (eqb row.creator host) (Some (row.dest, row.dest_gate)) (cond (eqb row.dest host) (Some (row.creator, row.creator_gate)) None)
     (λ o. AllOthers v host (option_map_or (λ (end : ℕ × ℕ). cond (is_connected v end.0) (end.0 ∷ []) []) o []))
@@ -130,11 +136,14 @@ far_other v host row apart =
     (λ o. AllOthers v host (option_map_or (λ (end : ℕ × ℕ). cond (is_connected v end.0) (end.0 ∷ []) []) o []))
     (λ here. one_other v host (row.creator, row.creator_gate) stranger) (λ none. refl))
 
-told_other : (v : LinkView) (host pid : ℕ) (rows : List PipeRow) (o : Option PipeRow) → list_all (λ r. not (eqb r.creator r.dest)) rows ≡ true → pipe_at rows pid ≡ o → AllOthers v host (option_map_or (λ (end : ℕ × ℕ). cond (is_connected v end.0) (end.0 ∷ []) []) (option_and_then (far_end_of host) o) [])
+told_other : (v : LinkView) (host pid : ℕ) (rows : List PipeRow) (o : Option PipeRow) → list_all (λ r. not (eqb r.creator r.dest)) rows ≡ true
+    → pipe_at rows pid ≡ o
+    → AllOthers v host (option_map_or (λ (end : ℕ × ℕ). cond (is_connected v end.0) (end.0 ∷ []) []) (option_and_then (far_end_of host) o) [])
 told_other v host pid rows None all is = refl
 told_other v host pid rows (Some row) all is = far_other v host row (joins_two rows pid row all is)
 
-pub decided_tells_others : (t : HciTables) (v : LinkView) (host pipe instruction : ℕ) (body : List ℕ) → IsTrue (list_all (λ row. not (eqb row.creator row.dest)) t.rows) → TellsOthers v host (decided t v host pipe instruction body)
+pub decided_tells_others : (t : HciTables) (v : LinkView) (host pipe instruction : ℕ) (body : List ℕ)
+    → IsTrue (list_all (λ row. not (eqb row.creator row.dest)) t.rows) → TellsOthers v host (decided t v host pipe instruction body)
 decided_tells_others t v host pipe instruction body two =
     let P : Decision → Type 0 = TellsOthers v host in
     let nobody : AreOthers v host 0 = ([], refl, refl) in

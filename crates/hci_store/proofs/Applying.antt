@@ -78,7 +78,8 @@ other_found (x ∷ bodies) j (suc k) b all there none =
     ap (λ o. cond o (first_other (j + 1) bodies) (Some j)) both.0 ∙ other_found bodies (j + 1) k b both.1 there none ∙ ap Some (omega arith)
 
 -- the first record that is no command is told
-pub other_is_told : (content : List ℕ) (many : ℕ) (t : HciTables) (b : List ℕ) (at : ℕ) → AreApplied (records content) many t → slice_get (records content) many ≡ Some b
+pub other_is_told : (content : List ℕ) (many : ℕ) (t : HciTables) (b : List ℕ) (at : ℕ) → AreApplied (records content) many t
+    → slice_get (records content) many ≡ Some b
     → command_of b ≡ None → IsKnown (journal content).head.version → at ≡ gate_at content many → image_fault content ≡ Some (BadRecord at)
 unfolding image_fault
 other_is_told content many t b at so_far there none known at_is =
@@ -92,7 +93,8 @@ pub fault_is_told : (content : List ℕ) → are_commands (records content) ≡ 
 unfolding image_fault
 fault_is_told content all = by_version (is_known (journal content).head.version)
   where
-    by_version : (k : Bool) → cond k (option_map_or (λ n. Some (BadRecord (gate_at content n))) (first_other 0 (records content)) (fault content)) (fault content) ≡ fault content
+    by_version : (k : Bool)
+        → cond k (option_map_or (λ n. Some (BadRecord (gate_at content n))) (first_other 0 (records content)) (fault content)) (fault content) ≡ fault content
     by_version true = ap (λ o. option_map_or (λ n. Some (BadRecord (gate_at content n))) o (fault content)) (none_other (records content) 0 all)
     by_version false = refl
 
@@ -103,7 +105,8 @@ sound_has_no_fault content all sound =
     ∙ ap (λ k. cond k (cond (journal content).found.is_bad (Some (BadRecord (gate_at content (length (records content))))) None) (Some (UnknownFormat (journal content).head.version))) sound.known
     ∙ ap (λ b. cond b (Some (BadRecord (gate_at content (length (records content))))) None) sound.good
 
-pub journal_fault_is_told : (content now : List ℕ) (many : ℕ) (t : HciTables) (f : JournalFault) → now ≡ content → AreApplied (records content) many t → IsFaulty now many f
+pub journal_fault_is_told : (content now : List ℕ) (many : ℕ) (t : HciTables) (f : JournalFault) → now ≡ content → AreApplied (records content) many t
+    → IsFaulty now many f
     → image_fault content ≡ Some f
 journal_fault_is_told content now many t f same so_far faulty =
     let last = sym faulty.last ∙ ap (λ c. length (records c)) same in

@@ -15,14 +15,16 @@ pub close-close : (t : HciTables) → close (close t) ≡ close t
 close-close t = ap (λ l. record t { rows = l; statics = [] }) (closed_twice t.rows)
 
 -- a filter that looks at no states
-closed-filter : (p : PipeRow → Bool) → ((row : PipeRow) → p (as_opened false row) ≡ p row) → (rows : List PipeRow) → filter p (all_closed rows) ≡ all_closed (filter p rows)
+closed-filter : (p : PipeRow → Bool) → ((row : PipeRow) → p (as_opened false row) ≡ p row) → (rows : List PipeRow)
+    → filter p (all_closed rows) ≡ all_closed (filter p rows)
 closed-filter p same [] = refl
 closed-filter p same (row ∷ rows) =
     ap (λ b. cond b (as_opened false row ∷ filter p (all_closed rows)) (filter p (all_closed rows))) (same row)
     ∙ ap (λ l. cond (p row) (as_opened false row ∷ l) l) (closed-filter p same rows)
     ∙ inside (p row)
   where
-    inside : (b : Bool) → cond b (as_opened false row ∷ all_closed (filter p rows)) (all_closed (filter p rows)) ≡ all_closed (cond b (row ∷ filter p rows) (filter p rows))
+    inside : (b : Bool)
+        → cond b (as_opened false row ∷ all_closed (filter p rows)) (all_closed (filter p rows)) ≡ all_closed (cond b (row ∷ filter p rows) (filter p rows))
     inside true = refl
     inside false = refl
 
@@ -37,7 +39,8 @@ closed-with_pipe rows row =
     ∙ ap₂ (λ xs ys. xs ++ as_opened false row ∷ ys) (closed_twice (rows_before pid_of row.pid rows)) (closed_twice (rows_behind pid_of row.pid rows))
     ∙ sym (closed-append (rows_before pid_of row.pid rows) (row ∷ rows_behind pid_of row.pid rows))
 
-closed-filtered : (p : PipeRow → Bool) → ((row : PipeRow) → p (as_opened false row) ≡ p row) → (rows : List PipeRow) → all_closed (filter p (all_closed rows)) ≡ all_closed (filter p rows)
+closed-filtered : (p : PipeRow → Bool) → ((row : PipeRow) → p (as_opened false row) ≡ p row) → (rows : List PipeRow)
+    → all_closed (filter p (all_closed rows)) ≡ all_closed (filter p rows)
 closed-filtered p same rows = ap all_closed (closed-filter p same rows) ∙ closed_twice (filter p rows)
 
 closed-with_opened : (rows : List PipeRow) (pid : ℕ) (opened : Bool) → all_closed (with_opened rows pid opened) ≡ all_closed rows
@@ -52,7 +55,8 @@ closed-with_opened (row ∷ rows) pid opened = ap₂ (λ r l. r ∷ l) (state (r
 pub close-opened : (t : HciTables) (host pid : ℕ) (opened : Bool) → close (apply t (SetOpened host pid opened)) ≡ close t
 close-opened t host pid opened = by_pipe (nat_lt pid 2)
   where
-    by_pipe : (b : Bool) → close (cond b (record t { statics = with_static t.statics host pid opened }) (record t { rows = with_opened t.rows pid opened })) ≡ close t
+    by_pipe : (b : Bool)
+        → close (cond b (record t { statics = with_static t.statics host pid opened }) (record t { rows = with_opened t.rows pid opened })) ≡ close t
     by_pipe true = refl
     by_pipe false = ap (λ l. record t { rows = l; statics = [] }) (closed-with_opened t.rows pid opened)
 

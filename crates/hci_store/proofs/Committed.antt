@@ -27,7 +27,8 @@ use Rattle.hci_store.proofs.Recorded.{all-filter, all-append}
 use Rattle.hci_store.proofs.ReadAgain.{read_again, applied_commands, commands_again}
 
 -- one more command
-pub holds_more : (content new body : List ℕ) (t : HciTables) (c : Command) → HoldsTables content t → records new ≡ records content ++ body ∷ [] → body ≡ body_of c → IsCommand c
+pub holds_more : (content new body : List ℕ) (t : HciTables) (c : Command) → HoldsTables content t → records new ≡ records content ++ body ∷ []
+    → body ≡ body_of c → IsCommand c
     → HoldsTables new (apply t c)
 holds_more content new body t c holds more is may =
     let read = ap (λ b. command_of b) is ∙ read_again c may in
@@ -103,7 +104,8 @@ module _ {M : Type 0} (writes : M → ℕ → List ℕ → Bool → M → Type 0
   room_made body old ok new full made =
       subst (λ b. AreMade writes (cond b [] (compact_writes s (snapshot_bodies t))) old ok new) (sym full) made
 
-  pub commit_made : (body first second : List ℕ) (middle : State) (old between : M) (ok : Bool) (new : M) → first ≡ body → second ≡ body → middle ≡ with_room s t first
+  pub commit_made : (body first second : List ℕ) (middle : State) (old between : M) (ok : Bool) (new : M) → first ≡ body → second ≡ body
+      → middle ≡ with_room s t first
       → AreMade writes (room_writes s t first) old true between → AreMade writes (append_writes middle second) between ok new
       → AreMade writes (commit_writes s t body) old ok new
   commit_made body first second middle old between ok new a b is made more =

@@ -62,7 +62,8 @@ module _ {N : Type 0} (reads : N → Bool → N → Type 0) (faults : N → ℕ)
   image_of f (inl unread, kept) t image = absurd (subst journal_refusals.IsImageFault unread.fault image)
   image_of f (inr unsound, kept) t image = unsound.told t
 
-  pub fault_of : (f : JournalFault) → AreRecordsRefused reads faults tells content first new f → (f ≡ NvFault) ⊎ (f ≡ GenerationsSpent) ⊎ journal_refusals.IsImageFault f
+  pub fault_of : (f : JournalFault) → AreRecordsRefused reads faults tells content first new f
+      → (f ≡ NvFault) ⊎ (f ≡ GenerationsSpent) ⊎ journal_refusals.IsImageFault f
   fault_of f (inl unread, kept) = inl unread.fault
   fault_of f (inr unsound, kept) = inr (inr unsound.fault_is)
 

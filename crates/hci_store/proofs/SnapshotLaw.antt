@@ -22,14 +22,16 @@ module _ {X : Type 0} (key : X → ℕ) (high : ℕ) where
   below low [] row rest h = h.0
   below low (x ∷ front) row rest h = omega (arith, h.0, below (key x + 1) front row rest h.2)
 
-  before_all : (low : ℕ) (front : List X) (row : X) (rest : List X) → AreRows key low high (front ++ row ∷ rest) → filter (λ r. nat_lt (key r) (key row)) front ≡ front
+  before_all : (low : ℕ) (front : List X) (row : X) (rest : List X) → AreRows key low high (front ++ row ∷ rest)
+      → filter (λ r. nat_lt (key r) (key row)) front ≡ front
   before_all low [] row rest h = refl
   before_all low (x ∷ front) row rest h =
       ap (λ b. cond b (x ∷ filter (λ r. nat_lt (key r) (key row)) front) (filter (λ r. nat_lt (key r) (key row)) front))
       (lt-ltb (key x) (key row) (omega (arith, below (key x + 1) front row rest h.2)))
       ∙ ap (λ l. x ∷ l) (before_all (key x + 1) front row rest h.2)
 
-  behind_none : (low : ℕ) (front : List X) (row : X) (rest : List X) → AreRows key low high (front ++ row ∷ rest) → filter (λ r. nat_lt (key row) (key r)) front ≡ []
+  behind_none : (low : ℕ) (front : List X) (row : X) (rest : List X) → AreRows key low high (front ++ row ∷ rest)
+      → filter (λ r. nat_lt (key row) (key r)) front ≡ []
   behind_none low [] row rest h = refl
   behind_none low (x ∷ front) row rest h =
       ap (λ b. cond b (x ∷ filter (λ r. nat_lt (key row) (key r)) front) (filter (λ r. nat_lt (key row) (key r)) front))

@@ -34,7 +34,8 @@ map-append_bodies : (xs ys : List Command) → map body_of (xs ++ ys) ≡ map bo
 map-append_bodies [] ys = refl
 map-append_bodies (x ∷ xs) ys = ap (λ l. body_of x ∷ l) (map-append_bodies xs ys)
 
-joined : (bodies : List (List ℕ)) (commands : List Command) (more : List (List ℕ)) (next : List Command) → bodies ≡ map body_of commands → more ≡ map body_of next
+joined : (bodies : List (List ℕ)) (commands : List Command) (more : List (List ℕ)) (next : List Command) → bodies ≡ map body_of commands
+    → more ≡ map body_of next
     → bodies ++ more ≡ map body_of (commands ++ next)
 joined bodies commands more next a b = ap₂ (λ x y. x ++ y) a b ∙ sym (map-append_bodies commands next)
 

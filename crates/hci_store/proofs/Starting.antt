@@ -37,7 +37,8 @@ module _ (content : List ℕ) (s j : State) (says : Says content s) (is : j ≡ 
       by_bank None = refl
       by_bank (Some side) = refl
 
-  pub not_written : {M : Type 0} (writes : M → ℕ → List ℕ → Bool → M → Type 0) (old new : M) → j.version ≢ 2 → AreMade writes (start_writes s) old true new → new ≡ old
+  pub not_written : {M : Type 0} (writes : M → ℕ → List ℕ → Bool → M → Type 0) (old new : M) → j.version ≢ 2
+      → AreMade writes (start_writes s) old true new → new ≡ old
   not_written writes old new older made =
       (subst (λ l. AreMade writes l old true new) (was_used s (subst (λ (t : State). t.version ≢ 2) is older)).1 made).1
 

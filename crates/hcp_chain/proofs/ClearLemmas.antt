@@ -23,7 +23,8 @@ pub record Kept (old new : PoolState) (owner : ℕ) (after : Chain) (xs : List O
   pub messages : messages_in new xs ≡ messages_in old xs
   pub blocks : held_blocks new xs ≡ held_blocks old xs
 
-pub kept : (old new : PoolState) (owner : ℕ) (before after : Chain) (xs : List Open) → KeepsOthers old new before after → AllByRecursion (IsOwnOpen old owner) xs → AllByRecursion (λ x. IsApart x.chain before) xs → Kept old new owner after xs
+pub kept : (old new : PoolState) (owner : ℕ) (before after : Chain) (xs : List Open) → KeepsOthers old new before after
+    → AllByRecursion (IsOwnOpen old owner) xs → AllByRecursion (λ x. IsApart x.chain before) xs → Kept old new owner after xs
 kept old new owner before after [] keeps own apart = record { own = tt; apart = tt; messages = refl; blocks = refl }
 kept old new owner before after (x ∷ xs) keeps own apart =
     let here = keeps x.chain own.0.live apart.0 in
@@ -55,7 +56,8 @@ pub record Clears (first now : PoolState) (owner owner_now : ℕ) (chains left :
   pub used : now.owners ≡ with_used first.owners owner (used_of first owner - (held_blocks first chains - held_blocks now left))
   pub others : KeepsOtherChains first now chains left
 
-pub clears_none : (pool : PoolState) (owner : ℕ) (chains : List Open) → HasQuota pool owner → HoldsChains pool owner chains → Clears pool pool owner owner chains chains
+pub clears_none : (pool : PoolState) (owner : ℕ) (chains : List Open) → HasQuota pool owner → HoldsChains pool owner chains
+    → Clears pool pool owner owner chains chains
 clears_none pool owner chains quota holds = record {
   same_owner = refl;
   quota = quota;
@@ -67,7 +69,9 @@ clears_none pool owner chains quota holds = record {
   others = λ other live apart. (live, refl, apart);
 }
 
-pub clears_more : (first now next : PoolState) (owner owner_now : ℕ) (chains left : List Open) (x : Open) → Clears first now owner owner_now chains (left ++ x ∷ []) → Gives now next x.chain → KeepsOthers now next x.chain x.chain → Clears first next owner owner_now chains left
+pub clears_more : (first now next : PoolState) (owner owner_now : ℕ) (chains left : List Open) (x : Open)
+    → Clears first now owner owner_now chains (left ++ x ∷ []) → Gives now next x.chain → KeepsOthers now next x.chain x.chain
+    → Clears first next owner owner_now chains left
 clears_more first now next owner owner_now chains left x so_far gives keeps =
     let own = all_front (IsOwnOpen now owner) left x so_far.holds.own in
     let apart = apart_front left x so_far.holds.apart in
@@ -95,7 +99,10 @@ clears_more first now next owner owner_now chains left x so_far gives keeps =
     }
 
 -- a chain was given back, and then those of a joiner: their owner uses nothing
-pub all_given : (pool next last : PoolState) (owner : ℕ) (chain : Chain) (xs : List Open) → HasQuota pool owner → chain.owner ≡ owner → HoldsChains pool owner xs → AllByRecursion (λ x. IsApart x.chain chain) xs → Gives pool next chain → KeepsOthers pool next chain chain → used_of pool owner ≡ blocks_for (length (chain_bytes pool chain)) + held_blocks pool xs → last.owners ≡ with_used next.owners owner (used_of next owner - held_blocks next xs) → last.owners ≡ with_used pool.owners owner 0
+pub all_given : (pool next last : PoolState) (owner : ℕ) (chain : Chain) (xs : List Open) → HasQuota pool owner → chain.owner ≡ owner
+    → HoldsChains pool owner xs → AllByRecursion (λ x. IsApart x.chain chain) xs → Gives pool next chain → KeepsOthers pool next chain chain
+    → used_of pool owner ≡ blocks_for (length (chain_bytes pool chain)) + held_blocks pool xs
+    → last.owners ≡ with_used next.owners owner (used_of next owner - held_blocks next xs) → last.owners ≡ with_used pool.owners owner 0
 all_given pool next last owner chain xs quota owned holds apart gives keeps used cleared =
     let k = kept pool next owner chain chain xs keeps holds.own apart in
     let n = blocks_for (length (chain_bytes pool chain)) in
@@ -105,7 +112,9 @@ all_given pool next last owner chain xs quota owned holds apart gives keeps used
     cleared ∙ (ap (with_used next.owners owner) none ∙ (ap (λ os. with_used os owner 0) given ∙ with_used-with_used pool.owners owner (used_of pool owner - n) 0 quota))
 
 -- a joiner can take the next packet
-pub ready_again : (old new : PoolState) (before after : Joiner) (whole : List Open) → IsJoinerReady old before → after.owner ≡ before.owner → whole ≡ [] → HoldsChains new before.owner (after.open.items ++ whole) → new.owners ≡ with_used old.owners before.owner (held_blocks new (after.open.items ++ whole)) → IsJoinerReady new after
+pub ready_again : (old new : PoolState) (before after : Joiner) (whole : List Open) → IsJoinerReady old before → after.owner ≡ before.owner
+    → whole ≡ [] → HoldsChains new before.owner (after.open.items ++ whole)
+    → new.owners ≡ with_used old.owners before.owner (held_blocks new (after.open.items ++ whole)) → IsJoinerReady new after
 ready_again old new before after whole ready owner none holds used =
     let o = before.owner in
     let xs = after.open.items in

@@ -8,7 +8,8 @@ use Rattle.hcp_packet.specs.Packets.{packet, packet_at, packets_of}
 use Rattle.hcp_packet.proofs.Joining.{packets_stand_in_place}
 
 -- the data that was copied out
-pub data_is : (bytes rest : List ℕ) (from count : ℕ) → count ≡ min (length bytes - from) 28 → take count (take count (drop from bytes) ++ rest) ≡ take 28 (drop from bytes)
+pub data_is : (bytes rest : List ℕ) (from count : ℕ) → count ≡ min (length bytes - from) 28
+    → take count (take count (drop from bytes) ++ rest) ≡ take 28 (drop from bytes)
 data_is bytes rest from count count_is =
     let left = length-drop from bytes in
     take_at (take count (drop from bytes)) rest count (omega (arith, length-take count (drop from bytes), left, count_is))
@@ -19,12 +20,14 @@ data_is bytes rest from count count_is =
 last_is : (len from : ℕ) → from < len → leb (len - from) 28 ≡ leb len (from + 28)
 last_is len from low = grind (arith, common_steps)
 
-pub packet_is : (bytes : List ℕ) (pipe from len : ℕ) (cut : ArrayVec ℕ) → from < length bytes → len ≡ length bytes → cut.items ≡ take 28 (drop from bytes) → packet (leb (len - from) 28) pipe cut.items ≡ packet_at pipe bytes from
+pub packet_is : (bytes : List ℕ) (pipe from len : ℕ) (cut : ArrayVec ℕ) → from < length bytes → len ≡ length bytes
+    → cut.items ≡ take 28 (drop from bytes) → packet (leb (len - from) 28) pipe cut.items ≡ packet_at pipe bytes from
 packet_is bytes pipe from len cut low len_is cut_is =
     ap (λ n. packet (leb (n - from) 28) pipe cut.items) len_is
     ∙ (ap (λ b. packet b pipe cut.items) (last_is (length bytes) from low) ∙ ap (packet (leb (length bytes) (from + 28)) pipe) cut_is)
 
-pub packet_stands : (bytes : List ℕ) (pipe from : ℕ) → from % 28 ≡ 0 → from < length bytes → slice_get (packets_of pipe bytes) (from / 28) ≡ Some (packet_at pipe bytes from)
+pub packet_stands : (bytes : List ℕ) (pipe from : ℕ) → from % 28 ≡ 0 → from < length bytes
+    → slice_get (packets_of pipe bytes) (from / 28) ≡ Some (packet_at pipe bytes from)
 packet_stands bytes pipe from whole low =
     let place : 28 * (from / 28) ≡ from = omega arith in
     packets_stand_in_place pipe bytes (from / 28) (omega arith) ∙ ap (λ n. Some (packet_at pipe bytes n)) place

@@ -18,11 +18,13 @@ eqb_apart : (a b : ℕ) → eqb a b ≡ false → a ≢ b
 eqb_apart a b e same = grind (arith, common_steps)
 
 -- the messages under way after those of a pipe were taken out and others put behind
-so_far-others : (pipe : ℕ) (g : List ℕ) (tail : List (ℕ × List ℕ)) (q : ℕ) → so_far tail q ≡ cond (eqb pipe q) g [] → (ms : List (ℕ × List ℕ)) → so_far (others ms pipe ++ tail) q ≡ cond (eqb pipe q) g (so_far ms q)
+so_far-others : (pipe : ℕ) (g : List ℕ) (tail : List (ℕ × List ℕ)) (q : ℕ) → so_far tail q ≡ cond (eqb pipe q) g [] → (ms : List (ℕ × List ℕ))
+    → so_far (others ms pipe ++ tail) q ≡ cond (eqb pipe q) g (so_far ms q)
 so_far-others pipe g tail q here [] = here
 so_far-others pipe g tail q here (m ∷ ms) = by_pipe (eqb m.0 pipe) (eqb m.0 q) refl refl (so_far-others pipe g tail q here ms)
   where
-    by_pipe : (a b : Bool) → eqb m.0 pipe ≡ a → eqb m.0 q ≡ b → so_far (others ms pipe ++ tail) q ≡ cond (eqb pipe q) g (so_far ms q) → so_far (cond (not (eqb m.0 pipe)) (m ∷ others ms pipe) (others ms pipe) ++ tail) q ≡ cond (eqb pipe q) g (cond (eqb m.0 q) m.1 (so_far ms q))
+    by_pipe : (a b : Bool) → eqb m.0 pipe ≡ a → eqb m.0 q ≡ b → so_far (others ms pipe ++ tail) q ≡ cond (eqb pipe q) g (so_far ms q)
+        → so_far (cond (not (eqb m.0 pipe)) (m ∷ others ms pipe) (others ms pipe) ++ tail) q ≡ cond (eqb pipe q) g (cond (eqb m.0 q) m.1 (so_far ms q))
     by_pipe true true p r more =
         let same : eqb pipe q ≡ true = ap (λ x. eqb x q) (sym (eqb_is m.0 pipe p)) ∙ r in
         rw (p, r) (more ∙ (ap (λ b. cond b g (so_far ms q)) same ∙ sym (ap (λ b. cond b g m.1) same)))
@@ -37,18 +39,21 @@ cond_same true bytes = refl
 cond_same false bytes = refl
 
 -- the messages under way after a last packet and after another one
-after_last : (ms : List (ℕ × List ℕ)) (before : List Packet) (p : Packet) → ((q : ℕ) → so_far ms q ≡ under_way q before) → p.last ≡ true → (q : ℕ) → so_far (others ms p.pipe) q ≡ under_way q (before ++ p ∷ [])
+after_last : (ms : List (ℕ × List ℕ)) (before : List Packet) (p : Packet) → ((q : ℕ) → so_far ms q ≡ under_way q before) → p.last ≡ true → (q : ℕ)
+    → so_far (others ms p.pipe) q ≡ under_way q (before ++ p ∷ [])
 after_last ms before p stands last q =
     let rest = so_far-others p.pipe [] [] q (cond_same (eqb p.pipe q) []) ms in
     ap (λ xs. so_far xs q) (sym (append-nil (others ms p.pipe))) ∙ (rest ∙ (ap (λ bs. cond (eqb p.pipe q) [] bs) (stands q)
     ∙ (sym (ap (λ b. cond (eqb p.pipe q) (cond b [] (under_way q before ++ p.bytes.items)) (under_way q before)) last) ∙ sym (under_way-push q before p))))
 
-after_more : (ms : List (ℕ × List ℕ)) (before : List Packet) (p : Packet) → ((q : ℕ) → so_far ms q ≡ under_way q before) → p.last ≡ false → (q : ℕ) → so_far (others ms p.pipe ++ (p.pipe, grown ms p) ∷ []) q ≡ under_way q (before ++ p ∷ [])
+after_more : (ms : List (ℕ × List ℕ)) (before : List Packet) (p : Packet) → ((q : ℕ) → so_far ms q ≡ under_way q before) → p.last ≡ false → (q : ℕ)
+    → so_far (others ms p.pipe ++ (p.pipe, grown ms p) ∷ []) q ≡ under_way q (before ++ p ∷ [])
 after_more ms before p stands more q =
     let rest = so_far-others p.pipe (grown ms p) ((p.pipe, grown ms p) ∷ []) q refl ms in
     rest ∙ (by_pipe (eqb p.pipe q) refl ∙ (sym (ap (λ b. cond (eqb p.pipe q) (cond b [] (under_way q before ++ p.bytes.items)) (under_way q before)) more) ∙ sym (under_way-push q before p)))
   where
-    by_pipe : (b : Bool) → eqb p.pipe q ≡ b → cond (eqb p.pipe q) (grown ms p) (so_far ms q) ≡ cond (eqb p.pipe q) (under_way q before ++ p.bytes.items) (under_way q before)
+    by_pipe : (b : Bool) → eqb p.pipe q ≡ b
+        → cond (eqb p.pipe q) (grown ms p) (so_far ms q) ≡ cond (eqb p.pipe q) (under_way q before ++ p.bytes.items) (under_way q before)
     by_pipe true e = rw e (ap (λ x. so_far ms x ++ p.bytes.items) (eqb_is p.pipe q e) ∙ ap (λ bs. bs ++ p.bytes.items) (stands q))
     by_pipe false e = rw e (stands q)
 
@@ -58,24 +63,29 @@ not_true b t = search rules
 and_rest : (b : Bool) → IsTrue (not false && b) → IsTrue b
 and_rest b t = t
 
-pub last_step : (ms : List (ℕ × List ℕ)) (p : Packet) → is_fifth ms p.pipe ≡ false → ltb 4096 (length (grown ms p)) ≡ false → p.last ≡ true → join_step ms p ≡ (Message p.pipe (grown ms p), others ms p.pipe)
+pub last_step : (ms : List (ℕ × List ℕ)) (p : Packet) → is_fifth ms p.pipe ≡ false → ltb 4096 (length (grown ms p)) ≡ false → p.last ≡ true
+    → join_step ms p ≡ (Message p.pipe (grown ms p), others ms p.pipe)
 last_step ms p fifth long last =
     ap (λ a. cond a (Fifth p.pipe, []) (cond (ltb 4096 (length (grown ms p))) (Long (length (grown ms p)), []) (cond p.last (Message p.pipe (grown ms p), others ms p.pipe) (Nothing, others ms p.pipe ++ (p.pipe, grown ms p) ∷ [])))) fifth
     ∙ (ap (λ a. cond a (Long (length (grown ms p)), []) (cond p.last (Message p.pipe (grown ms p), others ms p.pipe) (Nothing, others ms p.pipe ++ (p.pipe, grown ms p) ∷ []))) long
     ∙ ap (λ a. cond a (Message p.pipe (grown ms p), others ms p.pipe) (Nothing, others ms p.pipe ++ (p.pipe, grown ms p) ∷ [])) last)
 
-pub more_step : (ms : List (ℕ × List ℕ)) (p : Packet) → is_fifth ms p.pipe ≡ false → ltb 4096 (length (grown ms p)) ≡ false → p.last ≡ false → join_step ms p ≡ (Nothing, others ms p.pipe ++ (p.pipe, grown ms p) ∷ [])
+pub more_step : (ms : List (ℕ × List ℕ)) (p : Packet) → is_fifth ms p.pipe ≡ false → ltb 4096 (length (grown ms p)) ≡ false → p.last ≡ false
+    → join_step ms p ≡ (Nothing, others ms p.pipe ++ (p.pipe, grown ms p) ∷ [])
 more_step ms p fifth long last =
     ap (λ a. cond a (Fifth p.pipe, []) (cond (ltb 4096 (length (grown ms p))) (Long (length (grown ms p)), []) (cond p.last (Message p.pipe (grown ms p), others ms p.pipe) (Nothing, others ms p.pipe ++ (p.pipe, grown ms p) ∷ [])))) fifth
     ∙ (ap (λ a. cond a (Long (length (grown ms p)), []) (cond p.last (Message p.pipe (grown ms p), others ms p.pipe) (Nothing, others ms p.pipe ++ (p.pipe, grown ms p) ∷ []))) long
     ∙ ap (λ a. cond a (Message p.pipe (grown ms p), others ms p.pipe) (Nothing, others ms p.pipe ++ (p.pipe, grown ms p) ∷ [])) last)
 
-given_behind : (packets : List Packet) (ms : List (ℕ × List ℕ)) (before : List Packet) → ((q : ℕ) → so_far ms q ≡ under_way q before) → IsTrue (are_taken ms packets) → given_by ms packets ≡ messages_after before packets
+given_behind : (packets : List Packet) (ms : List (ℕ × List ℕ)) (before : List Packet) → ((q : ℕ) → so_far ms q ≡ under_way q before)
+    → IsTrue (are_taken ms packets) → given_by ms packets ≡ messages_after before packets
 given_behind [] ms before stands taken = refl
 given_behind (p ∷ packets) ms before stands taken =
     by_step (is_fifth ms p.pipe) (ltb 4096 (length (grown ms p))) p.last refl refl refl (λ ns s t. given_behind packets ns (before ++ p ∷ []) s t)
   where
-    by_step : (a b c : Bool) → is_fifth ms p.pipe ≡ a → ltb 4096 (length (grown ms p)) ≡ b → p.last ≡ c → ((ns : List (ℕ × List ℕ)) → ((q : ℕ) → so_far ns q ≡ under_way q (before ++ p ∷ [])) → IsTrue (are_taken ns packets) → given_by ns packets ≡ messages_after (before ++ p ∷ []) packets) → given_by ms (p ∷ packets) ≡ messages_after before (p ∷ packets)
+    by_step : (a b c : Bool) → is_fifth ms p.pipe ≡ a → ltb 4096 (length (grown ms p)) ≡ b → p.last ≡ c
+        → ((ns : List (ℕ × List ℕ)) → ((q : ℕ) → so_far ns q ≡ under_way q (before ++ p ∷ [])) → IsTrue (are_taken ns packets) → given_by ns packets ≡ messages_after (before ++ p ∷ []) packets)
+        → given_by ms (p ∷ packets) ≡ messages_after before (p ∷ packets)
     by_step true b c fifth long last more = absurd (let t : IsTrue (not true && are_taken [] packets) = rw fifth at taken in not_true (are_taken [] packets) t)
     by_step false true c fifth long last more = absurd (let t : IsTrue (not true && are_taken [] packets) = rw (fifth, long) at taken in not_true (are_taken [] packets) t)
     by_step false false true fifth long last more =

@@ -30,13 +30,16 @@ held_low pool owner (x ∷ xs) own =
     omega (arith, rest, short, sum_by-cons (λ (y : Open). blocks_for (length (chain_bytes pool y.chain))) x xs)
 
 -- there is room for each packet
-pub room_for : (pool : PoolState) (joiner : Joiner) (p : Packet) (chain : Chain) → CanGrow pool joiner p chain → more_blocks (length (chain_bytes pool chain)) (length p.bytes.items) ≤ chain_spare pool chain
+pub room_for : (pool : PoolState) (joiner : Joiner) (p : Packet) (chain : Chain) → CanGrow pool joiner p chain
+    → more_blocks (length (chain_bytes pool chain)) (length p.bytes.items) ≤ chain_spare pool chain
 room_for pool joiner p chain can =
     let held = held_low pool joiner.owner joiner.open.items can.holds.own in
     subst (λ o. more_blocks (length (chain_bytes pool chain)) (length p.bytes.items) ≤ spare_of pool o) (sym can.owned)
     (omega (arith, held, can.room, can.fits, can.quota, can.used))
 
-pub grows : (old new : PoolState) (joiner : Joiner) (p : Packet) (chain after : Chain) → CanGrow old joiner p chain → Appends old new chain after p.bytes.items → chain_bytes new after ≡ chain_bytes old chain ++ p.bytes.items → IsLive new after → KeepsOthers old new chain after → Grown old new joiner.owner p.pipe chain after joiner.open.items (chain_bytes old chain ++ p.bytes.items)
+pub grows : (old new : PoolState) (joiner : Joiner) (p : Packet) (chain after : Chain) → CanGrow old joiner p chain
+    → Appends old new chain after p.bytes.items → chain_bytes new after ≡ chain_bytes old chain ++ p.bytes.items → IsLive new after
+    → KeepsOthers old new chain after → Grown old new joiner.owner p.pipe chain after joiner.open.items (chain_bytes old chain ++ p.bytes.items)
 grows old new joiner p chain after can appends bytes live keeps =
     let xs = joiner.open.items in
     let o = joiner.owner in

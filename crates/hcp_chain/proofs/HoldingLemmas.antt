@@ -93,7 +93,8 @@ apart_front (x ∷ xs) y apart =
 -- ---- messages of other pipes
 
 -- no chain has the pipe
-none_open : (pool : PoolState) (pipe : ℕ) (xs : List Open) → AllByRecursion (λ x. x.pipe ≢ pipe) xs → (is_message_open (messages_in pool xs) pipe ≡ false) × (so_far (messages_in pool xs) pipe ≡ []) × (others (messages_in pool xs) pipe ≡ messages_in pool xs)
+none_open : (pool : PoolState) (pipe : ℕ) (xs : List Open) → AllByRecursion (λ x. x.pipe ≢ pipe) xs
+    → (is_message_open (messages_in pool xs) pipe ≡ false) × (so_far (messages_in pool xs) pipe ≡ []) × (others (messages_in pool xs) pipe ≡ messages_in pool xs)
 none_open pool pipe [] all = (refl, refl, refl)
 none_open pool pipe (x ∷ xs) all =
     let no = test_false x.pipe pipe all.0 in
@@ -104,7 +105,8 @@ none_open pool pipe (x ∷ xs) all =
     )
 
 -- the chain at a place has the pipe
-pub one_open : (pool : PoolState) (pipe : ℕ) (d : Open) (xs : List Open) (i : ℕ) → ArePairwiseApart xs → i < length xs → (get_or xs i d).pipe ≡ pipe → (is_message_open (messages_in pool xs) pipe ≡ true) × (so_far (messages_in pool xs) pipe ≡ chain_bytes pool (get_or xs i d).chain) × (others (messages_in pool xs) pipe ≡ messages_in pool (remove xs i))
+pub one_open : (pool : PoolState) (pipe : ℕ) (d : Open) (xs : List Open) (i : ℕ) → ArePairwiseApart xs → i < length xs → (get_or xs i d).pipe ≡ pipe
+    → (is_message_open (messages_in pool xs) pipe ≡ true) × (so_far (messages_in pool xs) pipe ≡ chain_bytes pool (get_or xs i d).chain) × (others (messages_in pool xs) pipe ≡ messages_in pool (remove xs i))
 one_open pool pipe d [] i apart low at = absurd (omega arith)
 one_open pool pipe d (x ∷ xs) zero apart low at =
     let yes = test_true x.pipe pipe at in
@@ -127,7 +129,9 @@ none_far : (pipe : ℕ) (xs : List Open) → length xs ≤ prefix_len (λ x. not
 none_far pipe [] far = tt
 none_far pipe (x ∷ xs) far = by_pipe (eqb x.pipe pipe) refl far (λ f. none_far pipe xs f)
   where
-    by_pipe : (b : Bool) → eqb x.pipe pipe ≡ b → suc (length xs) ≤ cond (not b) (1 + prefix_len (λ x. not (eqb x.pipe pipe)) xs) 0 → (length xs ≤ prefix_len (λ x. not (eqb x.pipe pipe)) xs → AllByRecursion (λ x. x.pipe ≢ pipe) xs) → AllByRecursion (λ x. x.pipe ≢ pipe) (x ∷ xs)
+    by_pipe : (b : Bool) → eqb x.pipe pipe ≡ b → suc (length xs) ≤ cond (not b) (1 + prefix_len (λ x. not (eqb x.pipe pipe)) xs) 0
+        → (length xs ≤ prefix_len (λ x. not (eqb x.pipe pipe)) xs → AllByRecursion (λ x. x.pipe ≢ pipe) xs)
+        → AllByRecursion (λ x. x.pipe ≢ pipe) (x ∷ xs)
     by_pipe true e far rest = absurd (omega arith)
     by_pipe false e far rest = (λ same. absurd (true_false (sym (test_true x.pipe pipe same) ∙ e)), rest (omega arith))
 
@@ -150,7 +154,9 @@ length-messages : (pool : PoolState) (xs : List Open) → length (messages_in po
 length-messages pool xs = length-map xs (message_of pool)
 
 -- a chain is under way on the pipe
-pub taken_out : (pool : PoolState) (old new : Joiner) (pipe i : ℕ) (x : Open) → HoldsChains pool old.owner old.open.items → position (λ y. eqb y.pipe pipe) old.open.items ≡ Some i → x ≡ get_or old.open.items i x → new.owner ≡ old.owner → new.open.items ≡ remove old.open.items i → length new.open.items < 4 → TakesOut pool old new pipe x.chain
+pub taken_out : (pool : PoolState) (old new : Joiner) (pipe i : ℕ) (x : Open) → HoldsChains pool old.owner old.open.items
+    → position (λ y. eqb y.pipe pipe) old.open.items ≡ Some i → x ≡ get_or old.open.items i x → new.owner ≡ old.owner
+    → new.open.items ≡ remove old.open.items i → length new.open.items < 4 → TakesOut pool old new pipe x.chain
 taken_out pool old new pipe i x holds found read owner items room =
     let xs = old.open.items in
     let at = position-Some (λ y. eqb y.pipe pipe) xs i x found in
@@ -183,7 +189,9 @@ taken_out pool old new pipe i x holds found read owner items room =
     }
 
 -- none is, and there is room
-pub begun : (pool : PoolState) (old new : Joiner) (pipe : ℕ) (chain : Chain) → HoldsChains pool old.owner old.open.items → HasQuota pool old.owner → position (λ y. eqb y.pipe pipe) old.open.items ≡ None → new.owner ≡ old.owner → new.open.items ≡ old.open.items → length old.open.items < 4 → chain.owner ≡ old.owner → chain.first ≡ None → TakesOut pool old new pipe chain
+pub begun : (pool : PoolState) (old new : Joiner) (pipe : ℕ) (chain : Chain) → HoldsChains pool old.owner old.open.items → HasQuota pool old.owner
+    → position (λ y. eqb y.pipe pipe) old.open.items ≡ None → new.owner ≡ old.owner → new.open.items ≡ old.open.items → length old.open.items < 4
+    → chain.owner ≡ old.owner → chain.first ≡ None → TakesOut pool old new pipe chain
 begun pool old new pipe chain holds quota found owner items room owned empty =
     let xs = old.open.items in
     let away = found_none pipe xs found in
@@ -204,13 +212,15 @@ begun pool old new pipe chain holds quota found owner items room owned empty =
     }
 
 -- whether a message would be the fifth
-pub fifth_found : (pool : PoolState) (pipe i : ℕ) (d : Open) (xs : List Open) → ArePairwiseApart xs → position (λ y. eqb y.pipe pipe) xs ≡ Some i → is_fifth (messages_in pool xs) pipe ≡ false
+pub fifth_found : (pool : PoolState) (pipe i : ℕ) (d : Open) (xs : List Open) → ArePairwiseApart xs → position (λ y. eqb y.pipe pipe) xs ≡ Some i
+    → is_fifth (messages_in pool xs) pipe ≡ false
 fifth_found pool pipe i d xs apart found =
     let at = position-Some (λ y. eqb y.pipe pipe) xs i d found in
     let one = one_open pool pipe d xs i apart at.0 (eqb_is (get_or xs i d).pipe pipe at.1) in
     ap (λ b. not b && leb 4 (length (messages_in pool xs))) one.0
 
-pub fifth_not_found : (pool : PoolState) (pipe : ℕ) (xs : List Open) → position (λ y. eqb y.pipe pipe) xs ≡ None → is_fifth (messages_in pool xs) pipe ≡ leb 4 (length xs)
+pub fifth_not_found : (pool : PoolState) (pipe : ℕ) (xs : List Open) → position (λ y. eqb y.pipe pipe) xs ≡ None
+    → is_fifth (messages_in pool xs) pipe ≡ leb 4 (length xs)
 fifth_not_found pool pipe xs found =
     let none = none_open pool pipe xs (found_none pipe xs found) in
     ap (λ b. not b && leb 4 (length (messages_in pool xs))) none.0 ∙ ap (leb 4) (length-messages pool xs)

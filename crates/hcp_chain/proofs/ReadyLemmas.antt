@@ -53,7 +53,8 @@ ready_without pool new j x after whole keeps len quota used =
       used = omega (arith, used, whole.used, sum, k.blocks);
     }
 
-pub ready_given : (pool new : PoolState) (j : Joiner) (x : Open) → HoldsWhole pool j x → Gives pool new x.chain → KeepsOthers pool new x.chain x.chain → IsJoinerReady new j
+pub ready_given : (pool new : PoolState) (j : Joiner) (x : Open) → HoldsWhole pool j x → Gives pool new x.chain → KeepsOthers pool new x.chain x.chain
+    → IsJoinerReady new j
 ready_given pool new j x whole gives keeps =
     let o = j.owner in
     let n = blocks_for (length (chain_bytes pool x.chain)) in
@@ -63,7 +64,8 @@ ready_given pool new j x whole gives keeps =
     (ap (λ os. (owner_at os o).quota) owners ∙ quota-with_used pool.owners o (used_of pool o - n) whole.has_quota)
     (ap (λ os. (owner_at os o).used) owners ∙ used-with_used pool.owners o (used_of pool o - n) whole.has_quota)
 
-pub ready_passed : (pool new : PoolState) (j : Joiner) (x : Open) (after : Chain) (owner : ℕ) → HoldsWhole pool j x → owner ≢ j.owner → Passes pool new x.chain after owner → KeepsOthers pool new x.chain after → IsJoinerReady new j
+pub ready_passed : (pool new : PoolState) (j : Joiner) (x : Open) (after : Chain) (owner : ℕ) → HoldsWhole pool j x → owner ≢ j.owner
+    → Passes pool new x.chain after owner → KeepsOthers pool new x.chain after → IsJoinerReady new j
 ready_passed pool new j x after owner whole differ passes keeps =
     let o = j.owner in
     let n = blocks_for (length (chain_bytes pool x.chain)) in

@@ -40,6 +40,7 @@ pub record Grown (old new : PoolState) (owner pipe : ℕ) (chain after : Chain) 
   pub bytes_are : chain_bytes new after ≡ bytes
   pub holds : HoldsChains new owner (xs ++ record { pipe = pipe; chain = after } ∷ [])
   pub used : new.owners ≡ with_used old.owners owner (held_blocks new (xs ++ record { pipe = pipe; chain = after } ∷ []))
-  pub others : (other : Chain) → IsLive old other → IsApartFrom xs other → IsApart other chain → IsLive new other × (chain_bytes new other ≡ chain_bytes old other) × IsApartFrom (xs ++ record { pipe = pipe; chain = after } ∷ []) other
+  pub others : (other : Chain) → IsLive old other → IsApartFrom xs other → IsApart other chain
+      → IsLive new other × (chain_bytes new other ≡ chain_bytes old other) × IsApartFrom (xs ++ record { pipe = pipe; chain = after } ∷ []) other
   pub rest : messages_in new xs ≡ messages_in old xs
   pub more : messages_in new (xs ++ record { pipe = pipe; chain = after } ∷ []) ≡ messages_in old xs ++ (pipe, bytes) ∷ []

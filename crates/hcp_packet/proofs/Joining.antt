@@ -42,7 +42,8 @@ parts_of-more pipe n left =
     ap (λ b. packet b pipe (take 28 left) ∷ parts_of pipe (suc n) (drop 28 left)) more
 
 -- The last parts of a message end it: it is what was under way on the pipe and what was left.
-parts_joined : (pipe n : ℕ) (left : List ℕ) (before : List Packet) → length left ≤ 28 * suc n → messages_after before (parts_of pipe (suc n) left) ≡ (pipe, under_way pipe before ++ left) ∷ []
+parts_joined : (pipe n : ℕ) (left : List ℕ) (before : List Packet) → length left ≤ 28 * suc n
+    → messages_after before (parts_of pipe (suc n) left) ≡ (pipe, under_way pipe before ++ left) ∷ []
 parts_joined pipe zero left before fits =
     ap (λ bytes. (pipe, under_way pipe before ++ bytes) ∷ []) (take_all 28 left (omega arith))
 parts_joined pipe (suc n) left before fits =
@@ -56,7 +57,8 @@ parts_joined pipe (suc n) left before fits =
     ∙ ap (λ bytes. under_way pipe before ++ bytes) (take-append-drop 28 left))))
 
 -- Behind the last part of a message nothing is under way on its pipe, nor on others where nothing was.
-parts_end : (pipe n : ℕ) (left : List ℕ) (before : List Packet) (q : ℕ) → (eqb pipe q ≡ false → under_way q before ≡ []) → under_way q (before ++ parts_of pipe (suc n) left) ≡ []
+parts_end : (pipe n : ℕ) (left : List ℕ) (before : List Packet) (q : ℕ) → (eqb pipe q ≡ false → under_way q before ≡ [])
+    → under_way q (before ++ parts_of pipe (suc n) left) ≡ []
 parts_end pipe zero left before q idle =
     under_way-push q before (packet true pipe (take 28 left)) ∙ ended (eqb pipe q) (under_way q before) idle
   where
@@ -78,7 +80,8 @@ packet_count-suc len some = ((len + 27) / 28 - 1, omega arith, omega arith)
 abbrev packets_of_all : List (ℕ × List ℕ) → List Packet
 packets_of_all sent = flat_map (λ m. packets_of m.0 m.1) sent
 
-joined_behind : (sent : List (ℕ × List ℕ)) → AreSendable sent → (before : List Packet) → ((q : ℕ) → under_way q before ≡ []) → messages_after before (packets_of_all sent) ≡ sent
+joined_behind : (sent : List (ℕ × List ℕ)) → AreSendable sent → (before : List Packet) → ((q : ℕ) → under_way q before ≡ [])
+    → messages_after before (packets_of_all sent) ≡ sent
 joined_behind [] sendable before idle = refl
 joined_behind (m ∷ sent) sendable before idle =
     let count = packet_count-suc (length m.1) sendable.0.1 in
@@ -94,7 +97,8 @@ joined_behind (m ∷ sent) sendable before idle =
 pub packet_of-bytes_of : (p : Packet) → p.pipe < 112 → packet_of (packet_bytes p) ≡ Some p
 packet_of-bytes_of p low = by_mark p.last p.pipe p.bytes.items low
   where
-    by_mark : (last : Bool) (pipe : ℕ) (data_bytes : List ℕ) → pipe < 112 → packet_of (packet_bytes (packet last pipe data_bytes)) ≡ Some (packet last pipe data_bytes)
+    by_mark : (last : Bool) (pipe : ℕ) (data_bytes : List ℕ) → pipe < 112
+        → packet_of (packet_bytes (packet last pipe data_bytes)) ≡ Some (packet last pipe data_bytes)
     by_mark true pipe data_bytes low = grind (arith, common_steps)
     by_mark false pipe data_bytes low = grind (arith, common_steps)
 
@@ -116,12 +120,14 @@ packets_in-fragments (m ∷ sent) sendable =
 pub joined_again : (sent : List (ℕ × List ℕ)) → AreSendable sent → messages_of (packets_in (fragments_of sent)) ≡ sent
 joined_again sent sendable = ap messages_of (packets_in-fragments sent sendable) ∙ joined_behind sent sendable [] (λ q. refl)
 
-pub good_messages_are_a_front : (sent : List (ℕ × List ℕ)) (got : List (List ℕ)) → AreSendable sent → IsFrontOf got (fragments_of sent) → IsFrontOf (good_messages_of got) (good_of sent)
+pub good_messages_are_a_front : (sent : List (ℕ × List ℕ)) (got : List (List ℕ)) → AreSendable sent → IsFrontOf got (fragments_of sent)
+    → IsFrontOf (good_messages_of got) (good_of sent)
 good_messages_are_a_front sent got sendable front =
     let grown = good_messages_grow got (fragments_of sent) front in
     (grown.0, grown.1 ∙ ap good_of (joined_again sent sendable))
 
-pub whole_messages_have_come : (sent : List (ℕ × List ℕ)) (got : List (List ℕ)) → AreSendable sent → IsFrontOf (fragments_of sent) got → IsFrontOf (good_of sent) (good_messages_of got)
+pub whole_messages_have_come : (sent : List (ℕ × List ℕ)) (got : List (List ℕ)) → AreSendable sent → IsFrontOf (fragments_of sent) got
+    → IsFrontOf (good_of sent) (good_messages_of got)
 whole_messages_have_come sent got sendable front =
     let grown = good_messages_grow (fragments_of sent) got front in
     (grown.0, ap (λ ms. ms ++ grown.0) (sym (ap good_of (joined_again sent sendable))) ∙ grown.1)
@@ -145,7 +151,8 @@ only_part (suc m) len low high =
 same_tests : (a b c d : ℕ) → a + 28 ≡ b → c + 28 ≡ d → a ≤ c → leb a c ≡ leb b d
 same_tests a b c d e f le = grind (arith, common_steps)
 
-part_at : (pipe n : ℕ) (left : List ℕ) (k : ℕ) → 28 * k < length left → length left ≤ 28 * n → 28 * n < length left + 28 → slice_get (parts_of pipe n left) k ≡ Some (packet_at pipe left (28 * k))
+part_at : (pipe n : ℕ) (left : List ℕ) (k : ℕ) → 28 * k < length left → length left ≤ 28 * n → 28 * n < length left + 28
+    → slice_get (parts_of pipe n left) k ≡ Some (packet_at pipe left (28 * k))
 part_at pipe zero left k in_left fits all = absurd (omega arith)
 part_at pipe (suc m) left zero in_left fits all =
     ap (λ b. Some (packet b pipe (take 28 left))) (only_part m (length left) (omega arith) fits)
@@ -156,6 +163,7 @@ part_at pipe (suc m) left (suc k) in_left fits all =
     behind ∙ (ap (λ b. Some (packet b pipe (take 28 (drop (28 * k) (drop 28 left))))) mark
     ∙ ap (λ bs. Some (packet (leb (length left) (28 * suc k + 28)) pipe (take 28 bs))) bytes)
 
-pub packets_stand_in_place : (pipe : ℕ) (message : List ℕ) (k : ℕ) → 28 * k < length message → slice_get (packets_of pipe message) k ≡ Some (packet_at pipe message (28 * k))
+pub packets_stand_in_place : (pipe : ℕ) (message : List ℕ) (k : ℕ) → 28 * k < length message
+    → slice_get (packets_of pipe message) k ≡ Some (packet_at pipe message (28 * k))
 packets_stand_in_place pipe message k in_message =
     part_at pipe (packet_count (length message)) message k in_message (omega arith) (omega arith)

@@ -164,7 +164,8 @@ plain_rest who l e ts =
     (plain_turns who (number_of l.controller) e ts)
     (plain_puts who (frames_out (turned e ts)) l (out_numbers (turned e ts)))
 
-plain_input : (who : End) (h : NumberedEnd) (i : LinkInput) (k : Link) (e : LinkEnd) (ts : List Turn) → ArePlain (told_of who h i ++ rest_entries who k e ts GoesOut)
+plain_input : (who : End) (h : NumberedEnd) (i : LinkInput) (k : Link) (e : LinkEnd) (ts : List Turn)
+    → ArePlain (told_of who h i ++ rest_entries who k e ts GoesOut)
 plain_input who h i k e ts = plain-append (told_of who h i) (rest_entries who k e ts GoesOut)
     (plain_told who (number_of h) (report h.side i) (whole_acked (after_input h.side i))) (plain_rest who k e ts)
 

@@ -20,5 +20,6 @@ pub controller_heard : (cs : List Cause) → CanAll cs
     → heard Controller None (trace bare_link (map event_of cs)) ≡ number_now (after_link_events bare_link (map event_of cs)).controller
 controller_heard cs can = link_controller bare_link IsBare (map event_of cs) (all_can cs bare_link can)
 
-pub host_heard : (cs : List Cause) → CanAll cs → heard Host None (trace bare_link (map event_of cs)) ≡ number_now (after_link_events bare_link (map event_of cs)).host
+pub host_heard : (cs : List Cause) → CanAll cs
+    → heard Host None (trace bare_link (map event_of cs)) ≡ number_now (after_link_events bare_link (map event_of cs)).host
 host_heard cs can = link_host bare_link IsBare (map event_of cs) (all_can cs bare_link can)

@@ -60,7 +60,8 @@ module _ (b : List ℕ) (version : ℕ) (long : length b ≡ 32768) (good : (fou
       ∙ nothing_new
 
   -- and then a closed gate
-  found_shut : (gate : ℕ) (bytes : List ℕ) → is_opened_gate gate ≡ false → 12 + f.size + 1 + length bytes ≤ 32768 → found_in version (overwritten b (12 + f.size) (gate ∷ bytes)) ≡ f
+  found_shut : (gate : ℕ) (bytes : List ℕ) → is_opened_gate gate ≡ false → 12 + f.size + 1 + length bytes ≤ 32768
+      → found_in version (overwritten b (12 + f.size) (gate ∷ bytes)) ≡ f
   found_shut gate bytes closed fits =
       ap (λ m. found_in version (overwritten b m (gate ∷ bytes))) (sym (add-zero (12 + f.size)))
       ∙ found_written 0 (gate ∷ bytes) (omega arith)
@@ -125,7 +126,8 @@ module _ (c body : List ℕ) (started : IsStarted c) (h : HasRoomForBody (state_
   long = started.size
 
   -- the gate and the body together
-  gate_and_body : (gate : ℕ) → journal (overwritten (overwritten c (bank_place side + p + 1) (body_bytes (journal_at c side))) (bank_place side + p) (gate ∷ []))
+  gate_and_body : (gate : ℕ)
+      → journal (overwritten (overwritten c (bank_place side + p + 1) (body_bytes (journal_at c side))) (bank_place side + p) (gate ∷ []))
       ≡ record (journal_at c side) { found = found_in (head c side).version (overwritten (bank c side) p (gate ∷ body_bytes (journal_at c side))) }
   gate_and_body gate =
       ap journal (in_front c (bank_place side + p) gate (body_bytes (journal_at c side)) (omega (arith, long, room, place_low side)))

@@ -45,13 +45,15 @@ module _ (c : List ℕ) (w : Write) (at : ℕ) (fits : w.at + length w.bytes ≤
       → IsAllOrNothing (w ∷ write at (90 ∷ []) ∷ []) c
   two_writes body shut = record { fit = (fits, (omega arith, tt)); says = says }
     where
-      gate_left : (gate : ℕ) (left : List ℕ) → left ≡ overwritten filled at (gate ∷ []) → journal left ≡ journal (outcome 1 (w ∷ write at (90 ∷ []) ∷ []) c left)
+      gate_left : (gate : ℕ) (left : List ℕ) → left ≡ overwritten filled at (gate ∷ [])
+          → journal left ≡ journal (outcome 1 (w ∷ write at (90 ∷ []) ∷ []) c left)
       gate_left gate left is = by_gate (cases_Bool (is_opened_gate gate))
         where
           told : is_opened_gate (slice_index left at) ≡ is_opened_gate gate
           told = ap (λ l. is_opened_gate (slice_index l at)) is ∙ ap is_opened_gate (at_place filled at gate (omega (arith, length-filled)))
 
-          by_gate : (is_opened_gate gate ≡ true) ⊎ (is_opened_gate gate ≡ false) → journal left ≡ journal (cond (is_opened_gate (slice_index left at)) (overwritten filled at (90 ∷ [])) c)
+          by_gate : (is_opened_gate gate ≡ true) ⊎ (is_opened_gate gate ≡ false)
+              → journal left ≡ journal (cond (is_opened_gate (slice_index left at)) (overwritten filled at (90 ∷ [])) c)
           by_gate (inl opened) =
               ap journal (is ∙ ap (λ g. overwritten filled at (g ∷ [])) (eqb-true gate 90 opened))
               ∙ ap (λ b. journal (cond b (overwritten filled at (90 ∷ [])) c)) (sym (told ∙ opened))
@@ -70,7 +72,8 @@ pub more_writes : (c : List ℕ) (w next : Write) (later : List Write) → w.at 
 more_writes c w next later fits torn rest =
     record { fit = (fits, subst (λ n. FitIn n (next ∷ later)) (length-overwritten c w.at w.bytes fits) rest.fit); says = says }
   where
-    choose : (b : Bool) → journal (cond b (after_writes (next ∷ later) (overwritten c w.at w.bytes)) (overwritten c w.at w.bytes)) ≡ journal (cond b (after_writes (next ∷ later) (overwritten c w.at w.bytes)) c)
+    choose : (b : Bool)
+        → journal (cond b (after_writes (next ∷ later) (overwritten c w.at w.bytes)) (overwritten c w.at w.bytes)) ≡ journal (cond b (after_writes (next ∷ later) (overwritten c w.at w.bytes)) c)
     choose true = refl
     choose false = torn w.bytes refl
 

@@ -34,7 +34,8 @@ filled_head generation base bodies rest low_generation low_base few =
     ∙ ap₂ (λ b s. record { gate = 90; version = 2; generation = generation; base = b; snapshot = s }) (from_be_bytes-to_be_bytes_4 base low_base)
     (from_be_bytes-to_be_bytes_2 (length bodies) few)
 
-filled_found : (generation base : ℕ) (bodies : List (List ℕ)) (rest : List ℕ) → length ((90 ∷ bank_bytes generation base bodies) ++ rest) ≡ 32768 → length bodies < 2 ^ 15 → AllByRecursion IsBody bodies
+filled_found : (generation base : ℕ) (bodies : List (List ℕ)) (rest : List ℕ) → length ((90 ∷ bank_bytes generation base bodies) ++ rest) ≡ 32768
+    → length bodies < 2 ^ 15 → AllByRecursion IsBody bodies
     → found_in 2 ((90 ∷ bank_bytes generation base bodies) ++ rest) ≡ record { bodies = bodies; size = used bodies; is_bad = false }
 filled_found generation base bodies rest size few short =
     let most = 32768 - length bodies in
@@ -54,7 +55,8 @@ module _ (c : List ℕ) (side : Side) (long : 65536 ≤ length c) where
       gate-head (overwritten c (bank_place side + 1) torn) side ∙ ap (λ l. slice_index l 0) (bank_here c side 1 torn long fits)
       ∙ keeps_first (bank c side) torn (omega (arith, length-bank c side long)) ∙ sym (gate-head c side)
 
-  bank_at_gate : (gate : ℕ) (bytes : List ℕ) → 1 + length bytes ≤ 32768 → bank (overwritten c (bank_place side) (gate ∷ bytes)) side ≡ overwritten (bank c side) 0 (gate ∷ bytes)
+  bank_at_gate : (gate : ℕ) (bytes : List ℕ) → 1 + length bytes ≤ 32768
+      → bank (overwritten c (bank_place side) (gate ∷ bytes)) side ≡ overwritten (bank c side) 0 (gate ∷ bytes)
   bank_at_gate gate bytes fits =
       ap (λ m. bank (overwritten c m (gate ∷ bytes)) side) (sym (add-zero (bank_place side))) ∙ bank_here c side 0 (gate ∷ bytes) long (omega arith)
 
@@ -184,7 +186,8 @@ module _ (c : List ℕ) (side : Side) (long : 65536 ≤ length c) (is : current 
       (λ gate closed. ap journal (in_front c (bank_place (other side)) gate bytes (omega (arith, within)))
       ∙ closed_again gate bytes closed (omega (arith, size, room)))
     where
-      closed_again : (gate : ℕ) (bytes : List ℕ) → is_opened_gate gate ≡ false → 1 + length bytes ≤ 32768 → journal (overwritten c (bank_place (other side)) (gate ∷ bytes)) ≡ journal c
+      closed_again : (gate : ℕ) (bytes : List ℕ) → is_opened_gate gate ≡ false → 1 + length bytes ≤ 32768
+          → journal (overwritten c (bank_place (other side)) (gate ∷ bytes)) ≡ journal c
       closed_again gate bytes closed fits =
           ap (λ m. journal (overwritten c m (gate ∷ bytes))) (sym (add-zero (bank_place (other side))))
           ∙ (journal_across c side 0 (gate ∷ bytes) long (omega arith) is
@@ -217,11 +220,13 @@ module _ (c : List ℕ) (side : Side) (long : 65536 ≤ length c) (is : current 
       same_journal c d side is still here
 
   -- any byte
-  gate_written : is_opened_gate (head c (other side)).gate ≡ true → (torn : List ℕ) → length torn ≡ 1 → journal (overwritten c (bank_place (other side)) torn) ≡ journal c
+  gate_written : is_opened_gate (head c (other side)).gate ≡ true → (torn : List ℕ) → length torn ≡ 1
+      → journal (overwritten c (bank_place (other side)) torn) ≡ journal c
   gate_written opened torn one =
       ap (λ l. journal (overwritten c (bank_place (other side)) l)) (one_byte torn one) ∙ by_gate (cases_Bool (is_opened_gate (get_or torn 0 0)))
     where
-      by_gate : (is_opened_gate (get_or torn 0 0) ≡ true) ⊎ (is_opened_gate (get_or torn 0 0) ≡ false) → journal (overwritten c (bank_place (other side)) (get_or torn 0 0 ∷ [])) ≡ journal c
+      by_gate : (is_opened_gate (get_or torn 0 0) ≡ true) ⊎ (is_opened_gate (get_or torn 0 0) ≡ false)
+          → journal (overwritten c (bank_place (other side)) (get_or torn 0 0 ∷ [])) ≡ journal c
       by_gate (inl open_gate) = ap (λ g. journal (overwritten c (bank_place (other side)) (g ∷ []))) (eqb-true (get_or torn 0 0) 90 open_gate) ∙ opened_again opened
       by_gate (inr closed) = (closed_then (get_or torn 0 0) closed).1
 
@@ -300,7 +305,8 @@ module _ (c : List ℕ) (bodies : List (List ℕ)) (long : 65536 ≤ length c) (
   pub compact_is_whole : journal (after_writes (compact_writes (state_of c) bodies) c) ≡ snapshot_journal (state_of c) bodies
   compact_is_whole = by_gate (cases_Bool (is_opened_gate (head c (other side)).gate)) ∙ sym made_is
     where
-      by_gate : (is_opened_gate (head c (other side)).gate ≡ true) ⊎ (is_opened_gate (head c (other side)).gate ≡ false) → journal (after_writes (compact_writes (state_of c) bodies) c) ≡ made
+      by_gate : (is_opened_gate (head c (other side)).gate ≡ true) ⊎ (is_opened_gate (head c (other side)).gate ≡ false)
+          → journal (after_writes (compact_writes (state_of c) bodies) c) ≡ made
       by_gate (inl opened) = ap (λ ws. journal (after_writes ws c)) (planned true opened) ∙ filled_is_whole c1 side long1 is1 shut1 generation (count c) bodies low low_count h.short h.room later1
       by_gate (inr shut) = ap (λ ws. journal (after_writes ws c)) (planned false shut) ∙ filled_is_whole c side long is shut generation (count c) bodies low low_count h.short h.room (omega arith)
 
@@ -327,7 +333,8 @@ module _ (c : List ℕ) (bodies : List (List ℕ)) (long : 65536 ≤ length c) (
   pub compact_is_cut : IsAllOrNothing (compact_writes (state_of c) bodies) c
   compact_is_cut = by_gate (cases_Bool (is_opened_gate (head c (other side)).gate))
     where
-      by_gate : (is_opened_gate (head c (other side)).gate ≡ true) ⊎ (is_opened_gate (head c (other side)).gate ≡ false) → IsAllOrNothing (compact_writes (state_of c) bodies) c
+      by_gate : (is_opened_gate (head c (other side)).gate ≡ true) ⊎ (is_opened_gate (head c (other side)).gate ≡ false)
+          → IsAllOrNothing (compact_writes (state_of c) bodies) c
       by_gate (inl opened) = subst (λ ws. IsAllOrNothing ws c) (sym (planned true opened))
           (more_writes c (write (bank_place (other side)) (255 ∷ [])) (write (bank_place (other side) + 1) (bank_bytes generation (count c) bodies)) (write (bank_place (other side)) (90 ∷ []) ∷ [])
           (omega (arith, long, place_low (other side))) (gate_written c side long is opened)

@@ -28,7 +28,8 @@ overwritten-right xs ys n i bytes size =
     ∙ append_assoc xs (take i ys ++ bytes) (drop (i + length bytes) ys))
 
 -- a write that ends before place n
-pub take-overwritten : (c : List ℕ) (n i : ℕ) (bytes : List ℕ) → i + length bytes ≤ n → n ≤ length c → take n (overwritten c i bytes) ≡ overwritten (take n c) i bytes
+pub take-overwritten : (c : List ℕ) (n i : ℕ) (bytes : List ℕ) → i + length bytes ≤ n → n ≤ length c
+    → take n (overwritten c i bytes) ≡ overwritten (take n c) i bytes
 take-overwritten c n i bytes fits long =
     let size : length (take n c) ≡ n = omega (arith, length-take n c) in
     ap (λ l. take n (overwritten l i bytes)) (sym (take-append-drop n c))
@@ -53,7 +54,8 @@ length-bank c First long = omega (arith, length-take 32768 c)
 length-bank c Second long = omega (arith, length-take 32768 (drop 32768 c), length-drop 32768 c)
 
 -- the bank that is written
-pub bank_here : (c : List ℕ) (side : Side) (i : ℕ) (bytes : List ℕ) → 65536 ≤ length c → i + length bytes ≤ 32768 → bank (overwritten c (bank_place side + i) bytes) side ≡ overwritten (bank c side) i bytes
+pub bank_here : (c : List ℕ) (side : Side) (i : ℕ) (bytes : List ℕ) → 65536 ≤ length c → i + length bytes ≤ 32768
+    → bank (overwritten c (bank_place side + i) bytes) side ≡ overwritten (bank c side) i bytes
 bank_here c First i bytes long fits =
     ap (λ m. take 32768 (overwritten c m bytes)) (zero-add i) ∙ take-overwritten c 32768 i bytes fits (omega arith)
 bank_here c Second i bytes long fits =
@@ -62,7 +64,8 @@ bank_here c Second i bytes long fits =
     ∙ take-overwritten (drop 32768 c) 32768 i bytes fits (omega (arith, length-drop 32768 c))
 
 -- and the other one
-pub bank_beside : (c : List ℕ) (side : Side) (i : ℕ) (bytes : List ℕ) → 65536 ≤ length c → i + length bytes ≤ 32768 → bank (overwritten c (bank_place side + i) bytes) (other side) ≡ bank c (other side)
+pub bank_beside : (c : List ℕ) (side : Side) (i : ℕ) (bytes : List ℕ) → 65536 ≤ length c → i + length bytes ≤ 32768
+    → bank (overwritten c (bank_place side + i) bytes) (other side) ≡ bank c (other side)
 bank_beside c First i bytes long fits =
     ap (λ m. take 32768 (drop 32768 (overwritten c m bytes))) (zero-add i) ∙ ap (take 32768) (drop-overwritten c 32768 i bytes fits (omega arith))
 bank_beside c Second i bytes long fits =
@@ -70,7 +73,8 @@ bank_beside c Second i bytes long fits =
     ∙ take_at (take 32768 c) (overwritten (drop 32768 c) i bytes) 32768 (omega (arith, length-take 32768 c))
 
 -- bytes, and then one in front of them
-pub in_front : (c : List ℕ) (p gate : ℕ) (bytes : List ℕ) → p < length c → overwritten (overwritten c (p + 1) bytes) p (gate ∷ []) ≡ overwritten c p (gate ∷ bytes)
+pub in_front : (c : List ℕ) (p gate : ℕ) (bytes : List ℕ) → p < length c
+    → overwritten (overwritten c (p + 1) bytes) p (gate ∷ []) ≡ overwritten c p (gate ∷ bytes)
 in_front c p gate bytes within =
     let size : length (take p c) ≡ p = omega (arith, length-take p c) in
     ap₂ (λ l m. overwritten l m (gate ∷ [])) (overwritten-split c p 1 bytes (omega arith)) (sym (add-zero p))

@@ -28,7 +28,8 @@ plan_of_memory_after m at bytes later =
     ap (λ b. (cond b (record m { content = overwritten m.content at (torn_bytes m.plan (length bytes)); plan = None; faults = one_more m.faults })
     (record m { content = overwritten m.content at bytes; plan = plan_after m.plan })).plan) later
 
-pub planned_answer : (planned : List Write) (old : Memory) (ok : Bool) (new : Memory) → AreMade WritesAsPlanned planned old ok new → ok ≡ not (fails_within (length planned) old.plan)
+pub planned_answer : (planned : List Write) (old : Memory) (ok : Bool) (new : Memory) → AreMade WritesAsPlanned planned old ok new
+    → ok ≡ not (fails_within (length planned) old.plan)
 planned_answer [] old ok new made = made.0 ∙ ap not (sym (none_within old.plan))
 planned_answer (w ∷ planned) old ok new (inl failed) =
     failed.0 ∙ ap not (sym (next_within (length planned) old.plan (not-false (is_next old.plan) (sym failed.1.answer))))
@@ -38,7 +39,8 @@ planned_answer (w ∷ planned) old ok new (inr rest) =
     ∙ ap (λ m. not (fails_within (length planned) m)) (ap (λ (m : Memory). m.plan) rest.1.memory ∙ plan_of_memory_after old w.at w.bytes later)
     ∙ ap not (later_within (length planned) old.plan later)
 
-pub planned_memory : (planned : List Write) (old : Memory) (ok : Bool) (new : Memory) → AreMade WritesAsPlanned planned old ok new → new ≡ after_planned planned old
+pub planned_memory : (planned : List Write) (old : Memory) (ok : Bool) (new : Memory) → AreMade WritesAsPlanned planned old ok new
+    → new ≡ after_planned planned old
 planned_memory [] old ok new made = made.1
 planned_memory (w ∷ planned) old ok new (inl failed) =
     let next : is_next old.plan ≡ true = not-false (is_next old.plan) (sym failed.1.answer) in

@@ -7,7 +7,8 @@ use Rattle.journal_laws.specs.Writes.{Write, after_writes, AreMade, AreRead, Are
 
 module _ {M : Type 0} (reads : M → Bool → M → Type 0) where
   -- one more read, behind reads that went through
-  pub one_more_read : (most : ℕ) (old between : M) (ok : Bool) (new : M) → AreRead reads most old true between → reads between ok new → AreRead reads (suc most) old ok new
+  pub one_more_read : (most : ℕ) (old between : M) (ok : Bool) (new : M) → AreRead reads most old true between → reads between ok new
+      → AreRead reads (suc most) old ok new
   unfolding AreRead
   one_more_read most old between true new before now = more most old before
     where
@@ -90,7 +91,8 @@ sure_reads (suc most) old ok new (inr (inl r)) = absurd (false≢true r.1.answer
 sure_reads (suc most) old ok new (inr (inr r)) =
     let rest = sure_reads most r.0 ok new r.2 in (rest.0, rest.1 ∙ r.1.memory)
 
-sure_writes : (planned : List Write) (old : List ℕ) (ok : Bool) (new : List ℕ) → AreMade WritesSurely planned old ok new → (ok ≡ true) × (new ≡ after_writes planned old)
+sure_writes : (planned : List Write) (old : List ℕ) (ok : Bool) (new : List ℕ) → AreMade WritesSurely planned old ok new
+    → (ok ≡ true) × (new ≡ after_writes planned old)
 sure_writes [] old ok new made = made
 sure_writes (w ∷ planned) old ok new (inl failed) = absurd (false≢true failed.1.answer)
 sure_writes (w ∷ planned) old ok new (inr rest) =

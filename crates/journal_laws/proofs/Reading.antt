@@ -29,7 +29,8 @@ same_body version xs ys same =
     ap (λ l. take l (drop (2 + index_len version) xs)) (first xs ys (gap version ys) 1 same (omega arith))
     ∙ window xs ys (gap version ys) (2 + index_len version) (slice_index ys 1) same (omega arith)
 
-pub is_good_parts : (version position : ℕ) (bytes : List ℕ) → is_good_record version position bytes ≡ true → (1 ≤ slice_index bytes 1) × (gap version bytes < length bytes)
+pub is_good_parts : (version position : ℕ) (bytes : List ℕ) → is_good_record version position bytes ≡ true
+    → (1 ≤ slice_index bytes 1) × (gap version bytes < length bytes)
 is_good_parts version position bytes good =
     let len = slice_index bytes 1 in
     let all = and_parts (nat_le 1 len && nat_le len 61 && nat_lt (gap version bytes) (length bytes)) (version == 1 || from_be_bytes w16 (slice_range bytes 2 4) == position) good in
@@ -43,7 +44,8 @@ abbrev tells : ℕ → ℕ → List ℕ → Bool
 tells version position bytes = version == 1 || from_be_bytes w16 (slice_range bytes 2 4) == position
 
 -- a record is good by its own bytes, whatever stands behind them
-same_good : (version position : ℕ) (xs ys : List ℕ) → take (gap version ys) xs ≡ take (gap version ys) ys → gap version ys < length xs → is_good_record version position ys ≡ true → is_good_record version position xs ≡ true
+same_good : (version position : ℕ) (xs ys : List ℕ) → take (gap version ys) xs ≡ take (gap version ys) ys → gap version ys < length xs
+    → is_good_record version position ys ≡ true → is_good_record version position xs ≡ true
 same_good version position xs ys same fits good =
     let within = (is_good_parts version position ys good).1 in
     let long_ys : nat_lt (gap version ys) (length ys) ≡ true = grind (arith, nat_tests) in
@@ -69,7 +71,8 @@ found_good version most position bytes opened good =
     ap (λ b. cond b (cond (is_good_record version position bytes) more bad) nothing_found) opened ∙ ap (λ b. cond b more bad) good
 
 -- a good record in front of other bytes
-step : (version most position : ℕ) (bytes rest : List ℕ) → is_opened_gate (slice_index bytes 0) ≡ true → is_good_record version position bytes ≡ true → 0 < length rest
+step : (version most position : ℕ) (bytes rest : List ℕ) → is_opened_gate (slice_index bytes 0) ≡ true → is_good_record version position bytes ≡ true
+    → 0 < length rest
     → found_from version (suc most) position (take (gap version bytes) bytes ++ rest) ≡ behind (body version bytes ∷ []) (gap version bytes) (found_from version most (position + 1) rest)
 step version most position bytes rest opened good some =
     let n = gap version bytes in
@@ -84,7 +87,8 @@ step version most position bytes rest opened good some =
     ∙ ap (λ l. behind (body version bytes ∷ []) n (found_from version most (position + 1) l)) (drop_at (take n bytes) rest n size)
 
 -- a closed gate
-pub found_closed : (version most position : ℕ) (bytes : List ℕ) → is_opened_gate (slice_index bytes 0) ≡ false → found_from version most position bytes ≡ nothing_found
+pub found_closed : (version most position : ℕ) (bytes : List ℕ) → is_opened_gate (slice_index bytes 0) ≡ false
+    → found_from version most position bytes ≡ nothing_found
 unfolding found_from
 found_closed version zero position bytes closed = refl
 found_closed version (suc most) position bytes closed =
@@ -109,10 +113,13 @@ pub behind-none : (found : Found) → behind [] 0 found ≡ found
 behind-none found = ap (λ n. record { bodies = found.bodies; size = n; is_bad = found.is_bad }) (zero-add found.size)
 
 -- one record, and then more
-pub behind-one : (body : List ℕ) (n : ℕ) (bodies : List (List ℕ)) (size : ℕ) (found : Found) → behind (body ∷ []) n (behind bodies size found) ≡ behind (body ∷ bodies) (n + size) found
-behind-one body n bodies size found = ap (λ m. record { bodies = body ∷ bodies ++ found.bodies; size = m; is_bad = found.is_bad }) (sym (add_assoc n size found.size))
+pub behind-one : (body : List ℕ) (n : ℕ) (bodies : List (List ℕ)) (size : ℕ) (found : Found)
+    → behind (body ∷ []) n (behind bodies size found) ≡ behind (body ∷ bodies) (n + size) found
+behind-one body n bodies size found =
+    ap (λ m. record { bodies = body ∷ bodies ++ found.bodies; size = m; is_bad = found.is_bad }) (sym (add_assoc n size found.size))
 
-none_found : (version position : ℕ) (bytes : List ℕ) → 0 < length bytes → is_opened_gate (slice_index bytes 0) ≡ false → Parts version position bytes nothing_found
+none_found : (version position : ℕ) (bytes : List ℕ) → 0 < length bytes → is_opened_gate (slice_index bytes 0) ≡ false
+    → Parts version position bytes nothing_found
 none_found version position bytes some closed = record {
   front = [];
   rest = bytes;
@@ -124,7 +131,8 @@ none_found version position bytes some closed = record {
   again = λ most other long. ap₂ (λ m n. found_from version m n other) (zero-add most) (sym (add-zero position)) ∙ sym (behind-none (found_from version most (position + 0) other));
 }
 
-one_found : (version most position : ℕ) (bytes : List ℕ) (found : Found) → is_opened_gate (slice_index bytes 0) ≡ true → is_good_record version position bytes ≡ true
+one_found : (version most position : ℕ) (bytes : List ℕ) (found : Found) → is_opened_gate (slice_index bytes 0) ≡ true
+    → is_good_record version position bytes ≡ true
     → Parts version (position + 1) (drop (gap version bytes) bytes) found → Parts version position bytes (behind (body version bytes ∷ []) (gap version bytes) found)
 one_found version most position bytes found opened good more =
     let n = gap version bytes in
@@ -147,13 +155,15 @@ one_found version most position bytes found opened good more =
     }
 
 -- at an open gate stands a good record or a bad one
-pub bad_found : (version most position : ℕ) (bytes : List ℕ) → is_opened_gate (slice_index bytes 0) ≡ true → is_good_record version position bytes ≡ false → found_from version (suc most) position bytes ≡ bad
+pub bad_found : (version most position : ℕ) (bytes : List ℕ) → is_opened_gate (slice_index bytes 0) ≡ true
+    → is_good_record version position bytes ≡ false → found_from version (suc most) position bytes ≡ bad
 unfolding found_from
 bad_found version most position bytes opened wrong =
     let more = behind (body version bytes ∷ []) (gap version bytes) (found_from version most (position + 1) (drop (gap version bytes) bytes)) in
     ap (λ b. cond b (cond (is_good_record version position bytes) more bad) nothing_found) opened ∙ ap (λ b. cond b more bad) wrong
 
-pub parts : (version most position : ℕ) (bytes : List ℕ) → 0 < length bytes → length bytes ≤ most → (found_from version most position bytes).is_bad ≡ false → Parts version position bytes (found_from version most position bytes)
+pub parts : (version most position : ℕ) (bytes : List ℕ) → 0 < length bytes → length bytes ≤ most
+    → (found_from version most position bytes).is_bad ≡ false → Parts version position bytes (found_from version most position bytes)
 parts version zero position bytes some enough good = absurd (omega arith)
 parts version (suc most) position bytes some enough good =
     by_gate (parts version most (position + 1) (drop (gap version bytes) bytes)) (cases_Bool (is_opened_gate (slice_index bytes 0)))
@@ -193,7 +203,8 @@ record_is_read most position body rest low short some =
     ∙ ap (λ b. behind (b ∷ []) (4 + length body) (found_from 2 most (position + 1) (drop (4 + length body) xs))) (take_at body rest (length body) refl)
     ∙ ap (λ l. behind (body ∷ []) (4 + length body) (found_from 2 most (position + 1) l)) (drop_at front rest (4 + length body) (omega arith))
 
-pub records_are_read : (most position : ℕ) (bodies : List (List ℕ)) (rest : List ℕ) → position + length bodies ≤ 2 ^ 16 → AllByRecursion IsBody bodies → 0 < length rest
+pub records_are_read : (most position : ℕ) (bodies : List (List ℕ)) (rest : List ℕ) → position + length bodies ≤ 2 ^ 16 → AllByRecursion IsBody bodies
+    → 0 < length rest
     → found_from 2 (length bodies + most) position (records_bytes position bodies ++ rest)
     ≡ behind bodies (length (records_bytes position bodies)) (found_from 2 most (position + length bodies) rest)
 records_are_read most position [] rest low short some =
@@ -210,7 +221,8 @@ records_are_read most position (body ∷ bodies) rest low short some =
 -- how many bytes these records take
 pub length-records_bytes : (position : ℕ) (bodies : List (List ℕ)) → length (records_bytes position bodies) ≡ used bodies
 length-records_bytes position [] = refl
-length-records_bytes position (body ∷ bodies) = omega (arith, length-append body (records_bytes (position + 1) bodies), length-records_bytes (position + 1) bodies)
+length-records_bytes position (body ∷ bodies) =
+    omega (arith, length-append body (records_bytes (position + 1) bodies), length-records_bytes (position + 1) bodies)
 
 pub few_records : (bodies : List (List ℕ)) → 4 * length bodies ≤ used bodies
 few_records [] = omega arith

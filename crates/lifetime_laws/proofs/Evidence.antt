@@ -77,7 +77,8 @@ sent_push a t (x ∷ xs) (I p n info ∷ ms) c m (inl h) = inl h
 sent_push a t (x ∷ xs) (I p n info ∷ ms) c m (inr h) = inr (sent_push a t xs ms c m h)
 sent_push a t (x ∷ xs) (_ ∷ ms) c m h = sent_push a t xs ms c m h
 
-pub sent_new : (a t n : ℕ) (info : Fragment) (wire : List OnWire) (ms : List Control) (c : Control) → t ≡ 0 → Shows wire ms → SentBy a t (with_frame wire c) (ms ++ I a n info ∷ [])
+pub sent_new : (a t n : ℕ) (info : Fragment) (wire : List OnWire) (ms : List Control) (c : Control) → t ≡ 0 → Shows wire ms
+    → SentBy a t (with_frame wire c) (ms ++ I a n info ∷ [])
 sent_new a t n info [] [] c e h = inl (refl, omega arith)
 sent_new a t n info [] (_ ∷ ms) c e h = absurd h
 sent_new a t n info (x ∷ xs) [] c e h = absurd h
@@ -90,7 +91,8 @@ answer_push a t (x ∷ xs) [] c m h = absurd h
 answer_push a t (x ∷ xs) (k ∷ ms) c m (inl h) = inl h
 answer_push a t (x ∷ xs) (k ∷ ms) c m (inr h) = inr (answer_push a t xs ms c m h)
 
-pub answer_new : (a t : ℕ) (wire : List OnWire) (ms : List Control) (c m : Control) → Answers a m → t ≤ 4 → Shows wire ms → AnswerBy a t (with_frame wire c) (ms ++ m ∷ [])
+pub answer_new : (a t : ℕ) (wire : List OnWire) (ms : List Control) (c m : Control) → Answers a m → t ≤ 4 → Shows wire ms
+    → AnswerBy a t (with_frame wire c) (ms ++ m ∷ [])
 answer_new a t [] [] c m e i h = inl (e, omega arith)
 answer_new a t [] (_ ∷ ms) c m e i h = absurd h
 answer_new a t (x ∷ xs) [] c m e i h = absurd h
@@ -264,7 +266,8 @@ answers_later a b r x m xs ms (inl q) = inl q
 answers_later a b r x m xs ms (inr q) = inr (inr q)
 
 -- the last number on its way acknowledges all places below it
-pub last_answers : (a b r : ℕ) (wire : List OnWire) (ms : List Control) → Shows wire ms → NoSrej ms → a < r → last_count b ms ≡ r → (b ≡ r) ⊎ AnswerBy a 0 wire ms
+pub last_answers : (a b r : ℕ) (wire : List OnWire) (ms : List Control) → Shows wire ms → NoSrej ms → a < r → last_count b ms ≡ r
+    → (b ≡ r) ⊎ AnswerBy a 0 wire ms
 last_answers a b r [] [] e s i h = inl h
 last_answers a b r [] (_ ∷ ms) e s i h = absurd e
 last_answers a b r (x ∷ xs) [] e s i h = absurd e

@@ -41,7 +41,8 @@ pub record Lasts (kn kf : ℕ) (near far : EndState) (to_near to_far : List OnWi
   pub far_timely : Timely kf far.session far.timer far.tries near.session.acc near.due to_near near_marks to_far far_marks
 
 -- the two ends are alike
-pub lasts_exchanged : (kn kf : ℕ) (near far : EndState) (to_near to_far : List OnWire) → Lasts kn kf near far to_near to_far → Lasts kf kn far near to_far to_near
+pub lasts_exchanged : (kn kf : ℕ) (near far : EndState) (to_near to_far : List OnWire) → Lasts kn kf near far to_near to_far
+    → Lasts kf kn far near to_far to_near
 lasts_exchanged kn kf near far to_near to_far h =
     record {
       near_up = h.far_up;
@@ -406,7 +407,8 @@ lasts_taken near far x to_near to_far noprobe h = go h.near_marks h.near_shows h
           rw shows.0 (answer_I near (p % 8) (n % 8) info h.near_up),
         )
       where
-        zeroed : (n : ℕ) → n ≡ max s.next n → s.peer_busy ≡ false → s.acked ≤ s.next → Timely 0 s near.timer near.tries t.acc far.due to_far h.far_marks (x ∷ to_near) (I p n info ∷ ms)
+        zeroed : (n : ℕ) → n ≡ max s.next n → s.peer_busy ≡ false → s.acked ≤ s.next
+            → Timely 0 s near.timer near.tries t.acc far.due to_far h.far_marks (x ∷ to_near) (I p n info ∷ ms)
             → (s.acked ≡ n) ⊎ ((s.acked < n) ⊎ (n < s.acked)) → (acknowledged near n).timer ≡ 0
         zeroed n q b i k (inl e) = (ack_same near n e).0 ∙ k.starts (omega arith) (inl b)
         zeroed n q b i k (inr (inl e)) = (ack_timer near n e).0
@@ -567,19 +569,22 @@ lasts_fetched kf near far to_near to_far h =
     control Rr_due ds p a = lasts_answered 0 kf near far to_near to_far Rr Rr_due ds p a tt (λ g. inr g) (λ b t g. g) h
     control Rej_due ds p a = lasts_answered 0 kf near far to_near to_far Rej Rej_due ds p a tt (λ g. inl tt) (λ b t g. rej b t g) h
       where
-        rej : (b t : ℕ) → DueBy b t (length near.session.acc) (Rej_due ∷ ds) → (Answers b (S Rej (length near.session.acc)) × (t ≤ 4)) ⊎ DueBy b t (length near.session.acc) ds
+        rej : (b t : ℕ) → DueBy b t (length near.session.acc) (Rej_due ∷ ds)
+            → (Answers b (S Rej (length near.session.acc)) × (t ≤ 4)) ⊎ DueBy b t (length near.session.acc) ds
         rej b t (inl g) = inl (tt, g)
         rej b t (inr g) = inr g
     control Rnr_due ds p a = lasts_answered 0 kf near far to_near to_far Rnr Rnr_due ds p a tt (λ g. inl tt) (λ b t g. rnr b t g) h
       where
-        rnr : (b t : ℕ) → DueBy b t (length near.session.acc) (Rnr_due ∷ ds) → (Answers b (S Rnr (length near.session.acc)) × (t ≤ 4)) ⊎ DueBy b t (length near.session.acc) ds
+        rnr : (b t : ℕ) → DueBy b t (length near.session.acc) (Rnr_due ∷ ds)
+            → (Answers b (S Rnr (length near.session.acc)) × (t ≤ 4)) ⊎ DueBy b t (length near.session.acc) ds
         rnr b t (inl g) = inl (tt, g)
         rnr b t (inr g) = inr g
     control Rset_due ds p a = absurd a
     control Ua_due ds p a = absurd a
 
 -- an end that has sent all that is due makes no probe
-pub no_probe : (kn kf : ℕ) (near far : EndState) (to_near to_far : List OnWire) → frame_due near ≡ None → Lasts kn kf near far to_near to_far → near.session.probe ≡ false
+pub no_probe : (kn kf : ℕ) (near far : EndState) (to_near to_far : List OnWire) → frame_due near ≡ None → Lasts kn kf near far to_near to_far
+    → near.session.probe ≡ false
 no_probe kn kf near far to_near to_far idle h = go near.session.probe refl
   where
     s : Session

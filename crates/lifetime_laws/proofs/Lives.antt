@@ -118,7 +118,8 @@ sends_each kf c h n e m f is k v =
     rw (not_rset f (inl d.0), all) (one, g.1, g.2)
 
 -- it becomes e, and sends all that is due
-alive_becomes : (kf : ℕ) (c h : NumberedShdlc) (n : Losses) (l : ShdlcLink) (e : EndState) → Lasts 0 kf e l.host.side l.to_controller l.to_host → left e ≤ most_frames
+alive_becomes : (kf : ℕ) (c h : NumberedShdlc) (n : Losses) (l : ShdlcLink) (e : EndState) → Lasts 0 kf e l.host.side l.to_controller l.to_host
+    → left e ≤ most_frames
     → frame_due l.host.side ≡ None → Keeps c l.controller → Keeps h l.host → (noted_out n l e).lost ≡ false → IsAlive 0 kf c h (shdlc_becomes l e)
 alive_becomes kf c h n l e lasts few idle near far v =
     let m : ShdlcLink = shdlc_put_all l (frames_of most_frames e) in
@@ -137,7 +138,8 @@ alive_becomes kf c h n l e lasts few idle near far v =
 
 -- ## Turns
 
-lasts_turn : (kn kf : ℕ) (e f : EndState) (to_near to_far : List OnWire) (t : ShdlcTurn) → Lasts kn kf e f to_near to_far → Lasts kn kf (shdlc_turn e t) f to_near to_far
+lasts_turn : (kn kf : ℕ) (e f : EndState) (to_near to_far : List OnWire) (t : ShdlcTurn) → Lasts kn kf e f to_near to_far
+    → Lasts kn kf (shdlc_turn e t) f to_near to_far
 lasts_turn kn kf e f to_near to_far (Offer fragments) k =
     let P : EndState → Type 0 = λ g. Lasts kn kf g f to_near to_far in
     subst P (sym (offer_up e fragments k.near_up)) (lasts_put kn kf e f to_near to_far fragments k)
@@ -149,7 +151,8 @@ lasts_turns kn kf [] e f to_near to_far k = k
 lasts_turns kn kf (t ∷ ts) e f to_near to_far k = lasts_turns kn kf ts (shdlc_turn e t) f to_near to_far (lasts_turn kn kf e f to_near to_far t k)
 
 -- it becomes e, with few answers to send, has its turns, and sends all that is due
-alive_turned : (kf : ℕ) (c h : NumberedShdlc) (n : Losses) (l : ShdlcLink) (ts : List ShdlcTurn) (e : EndState) → Lasts 0 kf e l.host.side l.to_controller l.to_host
+alive_turned : (kf : ℕ) (c h : NumberedShdlc) (n : Losses) (l : ShdlcLink) (ts : List ShdlcTurn) (e : EndState)
+    → Lasts 0 kf e l.host.side l.to_controller l.to_host
     → length e.due ≤ 1 → frame_due l.host.side ≡ None → Keeps c l.controller → Keeps h l.host → (noted_out n l (shdlc_turned e ts)).lost ≡ false
     → IsAlive 0 kf c h (shdlc_becomes l (shdlc_turned e ts))
 alive_turned kf c h n l ts e lasts one idle near far v =
@@ -174,7 +177,8 @@ alive_takes c h n l ts a = go l.to_controller a
     e : EndState
     e = l.controller.side
 
-    go : (wire : List OnWire) → IsAlive 0 0 c h (record l { to_controller = wire }) → (noted_here n (record l { to_controller = wire }) (Deliver ts)).lost ≡ false
+    go : (wire : List OnWire) → IsAlive 0 0 c h (record l { to_controller = wire })
+        → (noted_here n (record l { to_controller = wire }) (Deliver ts)).lost ≡ false
         → IsAlive 0 0 c h (shdlc_happens_at_controller (record l { to_controller = wire }) (Deliver ts))
     go [] b v = b
     go (x ∷ xs) b v =
@@ -196,7 +200,8 @@ alive_takes c h n l ts a = go l.to_controller a
             (noted_out (came_up n (from ended took) began) (from ended took) (shdlc_turned (taken e x.frame) ts)).lost ≡ false
             → IsAlive 0 0 c h (shdlc_becomes (from ended took) (shdlc_turned (taken e x.frame) ts))
 
-        by : (ended began : Bool) (took : ℕ) → ended ≡ false → began ≡ false → took ≡ l.controller.took → Goes false false l.controller.took → Goes ended began took
+        by : (ended began : Bool) (took : ℕ) → ended ≡ false → began ≡ false → took ≡ l.controller.took → Goes false false l.controller.took
+            → Goes ended began took
         by true began took p q r g = absurd (true≢false p)
         by false true took p q r g = absurd (true≢false q)
         by false false took p q r g = subst (Goes false false) (sym r) g
@@ -254,7 +259,8 @@ turns_lost (Turns ts ∷ es) n l a v =
     out_lost (frames_of most_frames (shdlc_turned l.controller.side ts)) n l (turns_lost es (noted_here n l (Turns ts)) (shdlc_happens_at_controller l (Turns ts)) a v)
 turns_lost (_ ∷ es) n l a v = absurd a
 
-alive_all : (es : List ShdlcEndEvent) (kf : ℕ) (c h : NumberedShdlc) (n : Losses) (l : ShdlcLink) → OnlyTurns es → IsAlive 0 kf c h l → (noted_turns n l es).lost ≡ false
+alive_all : (es : List ShdlcEndEvent) (kf : ℕ) (c h : NumberedShdlc) (n : Losses) (l : ShdlcLink) → OnlyTurns es → IsAlive 0 kf c h l
+    → (noted_turns n l es).lost ≡ false
     → IsAlive 0 kf c h (shdlc_all_at_controller l es)
 alive_all [] kf c h n l a k v = k
 alive_all (Turns ts ∷ es) kf c h n l a k v =
@@ -262,7 +268,8 @@ alive_all (Turns ts ∷ es) kf c h n l a k v =
     (alive_turns kf c h n l ts k (turns_lost es (noted_here n l (Turns ts)) (shdlc_happens_at_controller l (Turns ts)) a v)) v
 alive_all (_ ∷ es) kf c h n l a k v = absurd a
 
-alive_tick : (c h : NumberedShdlc) (n : Losses) (l : ShdlcLink) (ts : List ShdlcTurn) (es : List ShdlcEndEvent) (us : List ShdlcTurn) → OnlyTurns es → IsAlive 0 0 c h l
+alive_tick : (c h : NumberedShdlc) (n : Losses) (l : ShdlcLink) (ts : List ShdlcTurn) (es : List ShdlcEndEvent) (us : List ShdlcTurn) → OnlyTurns es
+    → IsAlive 0 0 c h l
     → (noted_event n l (Tick (Some ts) es (Some us))).lost ≡ false → IsAlive 0 0 c h (shdlc_happens l (Tick (Some ts) es (Some us)))
 alive_tick c h n l ts es us a k v =
     let one : ShdlcLink = shdlc_aged l in
@@ -356,12 +363,14 @@ begins_alive l b =
 goes_on : (before now : NumberedShdlc) → now.side.phase ≡ Up → Keeps before now → GoesOn before now
 goes_on before now up k = record { up = up; number = rw (k.emitted, k.took) refl; past = k.past }
 
-pub alive_at_controller : (l : ShdlcLink) → BeginsAnew l → (events : List ShdlcLinkEvent) → AllPlain events → LosesNone l events → GoesOn l.controller (shdlc_after l events).controller
+pub alive_at_controller : (l : ShdlcLink) → BeginsAnew l → (events : List ShdlcLinkEvent) → AllPlain events → LosesNone l events
+    → GoesOn l.controller (shdlc_after l events).controller
 alive_at_controller l b events plain none =
     let a = alive_after events l.controller l.host no_losses l plain none (begins_alive l b) in
     goes_on l.controller (shdlc_after l events).controller a.lasts.near_up a.near
 
-pub alive_at_host : (l : ShdlcLink) → BeginsAnew l → (events : List ShdlcLinkEvent) → AllPlain events → LosesNone l events → GoesOn l.host (shdlc_after l events).host
+pub alive_at_host : (l : ShdlcLink) → BeginsAnew l → (events : List ShdlcLinkEvent) → AllPlain events → LosesNone l events
+    → GoesOn l.host (shdlc_after l events).host
 alive_at_host l b events plain none =
     let a = alive_after events l.controller l.host no_losses l plain none (begins_alive l b) in
     goes_on l.host (shdlc_after l events).host a.lasts.far_up a.far

@@ -81,7 +81,8 @@ timely_acked s s' timer timer' tries tries' n acc due there tm x back m bm plain
     free (inl b) = b
     free (inr b) = absurd (true≢false (sym b ∙ noprobe'))
 
-    course : (s.next ≤ course_of (length acc) tm) ⊎ (RewindDue due ⊎ RewindBy (m ∷ bm)) → (max s.next n ≤ course_of (length acc) tm) ⊎ (RewindDue due ⊎ RewindBy bm)
+    course : (s.next ≤ course_of (length acc) tm) ⊎ (RewindDue due ⊎ RewindBy (m ∷ bm))
+        → (max s.next n ≤ course_of (length acc) tm) ⊎ (RewindDue due ⊎ RewindBy bm)
     course (inl k) = inl (omega (arith, course_from (length acc) tm))
     course (inr (inl k)) = inr (inl k)
     course (inr (inr k)) = inr (inr (rewind k))
@@ -89,12 +90,14 @@ timely_acked s s' timer timer' tries tries' n acc due there tm x back m bm plain
     tell : due ≡ [] → last_count n bm ≡ length acc
     tell e = sym last ∙ h.told e
 
-    course_now : (s.next ≤ course_of (length acc) tm) ⊎ (RewindDue due ⊎ RewindBy (m ∷ bm)) → (s.next ≤ course_of (length acc) tm) ⊎ (RewindDue due ⊎ RewindBy bm)
+    course_now : (s.next ≤ course_of (length acc) tm) ⊎ (RewindDue due ⊎ RewindBy (m ∷ bm))
+        → (s.next ≤ course_of (length acc) tm) ⊎ (RewindDue due ⊎ RewindBy bm)
     course_now (inl k) = inl k
     course_now (inr (inl k)) = inr (inl k)
     course_now (inr (inr k)) = inr (inr (rewind k))
 
-    old : s.acked ≡ n → Evidence s.acked (timer + 0) (length acc) due there tm (x ∷ back) (m ∷ bm) → Evidence s.acked (timer + 0) (length acc) due there tm back bm
+    old : s.acked ≡ n → Evidence s.acked (timer + 0) (length acc) due there tm (x ∷ back) (m ∷ bm)
+        → Evidence s.acked (timer + 0) (length acc) due there tm back bm
     old e (inl k) = inl k
     old e (inr (inl (inl k))) = absurd (let g = plain k.0 in omega arith)
     old e (inr (inl (inr k))) = inr (inl k)
@@ -121,7 +124,8 @@ timely_acked s s' timer timer' tries tries' n acc due there tm x back m bm plain
         now (inr b) = b ∙ k
     later e (inr (inr k)) = absurd (true≢false (sym k ∙ noprobe))
 
-    tried : tries' ≡ 1 → (s.acked ≡ n) ⊎ ((s.acked < n) ⊎ (n < s.acked)) → (s'.acked < length s'.out) × ((s'.acked < s'.next) ⊎ ((s'.peer_busy ≡ false) ⊎ (s'.probe ≡ true)))
+    tried : tries' ≡ 1 → (s.acked ≡ n) ⊎ ((s.acked < n) ⊎ (n < s.acked))
+        → (s'.acked < length s'.out) × ((s'.acked < s'.next) ⊎ ((s'.peer_busy ≡ false) ⊎ (s'.probe ≡ true)))
     tried e (inl q) =
         let t = h.tried (sym (tries_same q) ∙ e) in
         (rw (acked, out, ← q) t.0, later q t.1)
@@ -175,12 +179,14 @@ timely_received k s timer tries p n info acc acc' due due' x there tm back bm yo
     pick (inl c) = inl c
     pick (inr c) = inr (inl c)
 
-    go : (s.next ≤ course_of (length acc) (I p n info ∷ tm)) ⊎ (RewindDue due ⊎ RewindBy bm) → (s.next ≤ course_of (length acc') tm) ⊎ (RewindDue due' ⊎ RewindBy bm)
+    go : (s.next ≤ course_of (length acc) (I p n info ∷ tm)) ⊎ (RewindDue due ⊎ RewindBy bm)
+        → (s.next ≤ course_of (length acc') tm) ⊎ (RewindDue due' ⊎ RewindBy bm)
     go (inl c) = pick (course c)
     go (inr (inl c)) = inr (inl (rewind c))
     go (inr (inr c)) = inr (inr c)
 
-    evidence : Evidence s.acked (timer + k) (length acc) due (x ∷ there) (I p n info ∷ tm) back bm → Evidence s.acked (timer + k) (length acc') due' there tm back bm
+    evidence : Evidence s.acked (timer + k) (length acc) due (x ∷ there) (I p n info ∷ tm) back bm
+        → Evidence s.acked (timer + k) (length acc') due' there tm back bm
     evidence (inl (inl e)) =
         let fits : timer + k ≤ 4 = omega (arith, e.1, young.0) in
         let here : p ≤ length acc = omega (arith, e.0) in
@@ -210,11 +216,13 @@ timely_answer k s timer tries acc d ds kind c there tm back bm sb srej rewind an
       tried = h.tried;
     }
   where
-    pick : RewindBy (S kind (length acc) ∷ []) ⊎ RewindDue ds → (s.next ≤ course_of (length acc) tm) ⊎ (RewindDue ds ⊎ RewindBy (bm ++ S kind (length acc) ∷ []))
+    pick : RewindBy (S kind (length acc) ∷ []) ⊎ RewindDue ds
+        → (s.next ≤ course_of (length acc) tm) ⊎ (RewindDue ds ⊎ RewindBy (bm ++ S kind (length acc) ∷ []))
     pick (inl c) = inr (inr (rewind_new bm (S kind (length acc)) c))
     pick (inr c) = inr (inl c)
 
-    go : (s.next ≤ course_of (length acc) tm) ⊎ (RewindDue (d ∷ ds) ⊎ RewindBy bm) → (s.next ≤ course_of (length acc) tm) ⊎ (RewindDue ds ⊎ RewindBy (bm ++ S kind (length acc) ∷ []))
+    go : (s.next ≤ course_of (length acc) tm) ⊎ (RewindDue (d ∷ ds) ⊎ RewindBy bm)
+        → (s.next ≤ course_of (length acc) tm) ⊎ (RewindDue ds ⊎ RewindBy (bm ++ S kind (length acc) ∷ []))
     go (inl c) = inl c
     go (inr (inl c)) = pick (rewind c)
     go (inr (inr c)) = inr (inr (rewind_push bm (S kind (length acc)) c))
@@ -247,7 +255,8 @@ timely_answer_I k s timer tries p info acc due c there tm back bm h =
       tried = h.tried;
     }
   where
-    go : (s.next ≤ course_of (length acc) tm) ⊎ (RewindDue due ⊎ RewindBy bm) → (s.next ≤ course_of (length acc) tm) ⊎ (RewindDue due ⊎ RewindBy (bm ++ I p (length acc) info ∷ []))
+    go : (s.next ≤ course_of (length acc) tm) ⊎ (RewindDue due ⊎ RewindBy bm)
+        → (s.next ≤ course_of (length acc) tm) ⊎ (RewindDue due ⊎ RewindBy (bm ++ I p (length acc) info ∷ []))
     go (inl c) = inl c
     go (inr (inl c)) = inr (inl c)
     go (inr (inr c)) = inr (inr (rewind_push bm (I p (length acc) info) c))
@@ -275,11 +284,13 @@ timely_send_S k s timer tries n kind acc due c there tm back bm h =
       tried = h.tried;
     }
   where
-    go : (s.next ≤ course_of (length acc) tm) ⊎ (RewindDue due ⊎ RewindBy bm) → (s.next ≤ course_of (length acc) (tm ++ S kind n ∷ [])) ⊎ (RewindDue due ⊎ RewindBy bm)
+    go : (s.next ≤ course_of (length acc) tm) ⊎ (RewindDue due ⊎ RewindBy bm)
+        → (s.next ≤ course_of (length acc) (tm ++ S kind n ∷ [])) ⊎ (RewindDue due ⊎ RewindBy bm)
     go (inl c) = inl (course_push_S (length acc) s.next n kind tm c)
     go (inr c) = inr c
 
-    evidence : Evidence s.acked (timer + k) (length acc) due there tm back bm → Evidence s.acked (timer + k) (length acc) due (with_frame there c) (tm ++ S kind n ∷ []) back bm
+    evidence : Evidence s.acked (timer + k) (length acc) due there tm back bm
+        → Evidence s.acked (timer + k) (length acc) due (with_frame there c) (tm ++ S kind n ∷ []) back bm
     evidence (inl e) = inl (sent_push s.acked (timer + k) there tm c (S kind n) e)
     evidence (inr e) = inr e
 
@@ -302,15 +313,18 @@ timely_send s s' timer tries n info acc due c there tm back bm st from inside ma
       tried = λ e. (rw (acked, out) (omega arith), inl (omega (arith, acked, next)));
     }
   where
-    go : (s.next ≤ course_of (length acc) tm) ⊎ (RewindDue due ⊎ RewindBy bm) → (s.next + 1 ≤ course_of (length acc) (tm ++ I s.next n info ∷ [])) ⊎ (RewindDue due ⊎ RewindBy bm)
+    go : (s.next ≤ course_of (length acc) tm) ⊎ (RewindDue due ⊎ RewindBy bm)
+        → (s.next + 1 ≤ course_of (length acc) (tm ++ I s.next n info ∷ [])) ⊎ (RewindDue due ⊎ RewindBy bm)
     go (inl c) = inl (course_push (length acc) s.next n info tm c)
     go (inr c) = inr c
 
-    old : Evidence s.acked (timer + 0) (length acc) due there tm back bm → Evidence s.acked (timer + 0) (length acc) due (with_frame there c) (tm ++ I s.next n info ∷ []) back bm
+    old : Evidence s.acked (timer + 0) (length acc) due there tm back bm
+        → Evidence s.acked (timer + 0) (length acc) due (with_frame there c) (tm ++ I s.next n info ∷ []) back bm
     old (inl e) = inl (sent_push s.acked (timer + 0) there tm c (I s.next n info) e)
     old (inr e) = inr e
 
-    evidence : (s.acked ≡ s.next) ⊎ ((s.acked < s.next) ⊎ (s.next < s.acked)) → Evidence s.acked (timer + 0) (length acc) due (with_frame there c) (tm ++ I s.next n info ∷ []) back bm
+    evidence : (s.acked ≡ s.next) ⊎ ((s.acked < s.next) ⊎ (s.next < s.acked))
+        → Evidence s.acked (timer + 0) (length acc) due (with_frame there c) (tm ++ I s.next n info ∷ []) back bm
     evidence (inl e) =
         let zero_timer : timer + 0 ≡ 0 = omega (arith, h.starts e may) in
         inl (rw e (sent_new s.next (timer + 0) n info there tm c zero_timer st))

@@ -49,7 +49,8 @@ opens_stay : (old new : PoolState) (owner : ℕ) (xs : List Open) → AllByRecur
 opens_stay old new owner xs own stay =
     opens_passed old new owner (λ x. Stays old new x.chain) xs (all_joined Open (IsOwnOpen old owner) (λ x. Stays old new x.chain) xs own stay) (λ x p. p.1)
 
-opens_of : (old new : PoolState) (k : End) (m : Machine) → EndStandsFor k old m → Untouched old new k → OpensKept old new k.inbox.joiner.owner (chains_in k.inbox)
+opens_of : (old new : PoolState) (k : End) (m : Machine) → EndStandsFor k old m → Untouched old new k
+    → OpensKept old new k.inbox.joiner.owner (chains_in k.inbox)
 opens_of old new k m h u = opens_stay old new k.inbox.joiner.owner (chains_in k.inbox) h.half.receives.lies.holds.own u.opens
 
 -- an end whose chains and owners are untouched stands as before

@@ -70,12 +70,14 @@ got_holds pool owner [] ys own = own
 got_holds pool owner (x ∷ xs) ys own = got_holds pool owner xs ys own.1
 
 -- the chains lie apart from those of another owner
-apart_from_queue : (pool : PoolState) (owner other : ℕ) (x : Open) (xs : List Queued) → IsOwnOpen pool other x → OwnsAll Queued chain_in pool owner xs → owner ≢ other → LiesApart Queued chain_in xs x.chain
+apart_from_queue : (pool : PoolState) (owner other : ℕ) (x : Open) (xs : List Queued) → IsOwnOpen pool other x → OwnsAll Queued chain_in pool owner xs
+    → owner ≢ other → LiesApart Queued chain_in xs x.chain
 apart_from_queue pool owner other x xs own theirs differ =
     all_mapped Queued (λ q. IsChainOf pool owner q.chain) (λ q. IsApart x.chain q.chain) xs
     (λ q o. apart_by_owner pool x.chain q.chain own.live o.live (λ e. differ (sym o.owned ∙ (sym e ∙ own.owned)))) theirs
 
-pub inbox_kept : (old new : PoolState) (owner : ℕ) (xs ys : List Queued) (box : Inbox) → OwnsAll Queued chain_in old owner xs → OutboxLeaves old new owner xs ys → InboxLiesIn old box
+pub inbox_kept : (old new : PoolState) (owner : ℕ) (xs ys : List Queued) (box : Inbox) → OwnsAll Queued chain_in old owner xs
+    → OutboxLeaves old new owner xs ys → InboxLiesIn old box
     → owner ≢ box.joiner.owner → InboxKept old new box
 inbox_kept old new owner xs ys box own leaves lies differ =
     let o = box.joiner.owner in
@@ -107,12 +109,14 @@ pub record OutboxKept (old new : PoolState) (box : Outbox) : Type 0 where
   pub messages : queued_messages new box ≡ queued_messages old box
   pub aside : aside_of new box.owner ≡ aside_of old box.owner
 
-apart_from_opens : (pool : PoolState) (owner other : ℕ) (q : Queued) (xs : List Open) → IsChainOf pool other q.chain → AllByRecursion (IsOwnOpen pool owner) xs → other ≢ owner → IsApartFrom xs q.chain
+apart_from_opens : (pool : PoolState) (owner other : ℕ) (q : Queued) (xs : List Open) → IsChainOf pool other q.chain
+    → AllByRecursion (IsOwnOpen pool owner) xs → other ≢ owner → IsApartFrom xs q.chain
 apart_from_opens pool owner other q xs own theirs differ =
     all_mapped Open (IsOwnOpen pool owner) (λ x. IsApart q.chain x.chain) xs
     (λ x o. apart_by_owner pool q.chain x.chain own.live o.live (λ e. differ (sym own.owned ∙ (e ∙ o.owned)))) theirs
 
-pub outbox_kept : (old new : PoolState) (owner : ℕ) (xs ys : List Open) (box : Outbox) → AllByRecursion (IsOwnOpen old owner) xs → InboxLeaves old new owner xs ys → OutboxLiesIn old box
+pub outbox_kept : (old new : PoolState) (owner : ℕ) (xs ys : List Open) (box : Outbox) → AllByRecursion (IsOwnOpen old owner) xs
+    → InboxLeaves old new owner xs ys → OutboxLiesIn old box
     → box.owner ≢ owner → OutboxKept old new box
 outbox_kept old new owner xs ys box own leaves lies differ =
     let o = box.owner in
@@ -147,7 +151,8 @@ outbox_kept old new owner xs ys box own leaves lies differ =
 -- ---- both
 
 -- what is done with what is sent
-pub leaves_out : (old new : PoolState) (a b : Outbox) (box : Inbox) → OutboxLeaves old new a.owner a.queue.items b.queue.items → b.owner ≡ a.owner → InboxKept old new box → LeavesBoxes old new a box b box
+pub leaves_out : (old new : PoolState) (a b : Outbox) (box : Inbox) → OutboxLeaves old new a.owner a.queue.items b.queue.items → b.owner ≡ a.owner
+    → InboxKept old new box → LeavesBoxes old new a box b box
 leaves_out old new a b box leaves owner k = record {
   sender = owner;
   receiver = refl;
@@ -158,7 +163,8 @@ leaves_out old new a b box leaves owner k = record {
 }
 
 -- what is done with what comes
-pub leaves_in : (old new : PoolState) (box : Outbox) (a b : Inbox) → InboxLeaves old new a.joiner.owner (chains_in a) (chains_in b) → b.joiner.owner ≡ a.joiner.owner
+pub leaves_in : (old new : PoolState) (box : Outbox) (a b : Inbox) → InboxLeaves old new a.joiner.owner (chains_in a) (chains_in b)
+    → b.joiner.owner ≡ a.joiner.owner
     → used_of new a.joiner.owner + held_blocks old (chains_in a) ≡ used_of old a.joiner.owner + held_blocks new (chains_in b) → LeavesBoxes old new box a box b
 leaves_in old new box a b leaves owner received = record {
   sender = refl;
@@ -179,7 +185,8 @@ leaves_all pool a b = record {
   others = λ other live x y. (live, refl, x, y);
 }
 
-pub leaves_more : (old mid new : PoolState) (a b c : Outbox) (x y z : Inbox) → LeavesBoxes old mid a x b y → LeavesBoxes mid new b y c z → LeavesBoxes old new a x c z
+pub leaves_more : (old mid new : PoolState) (a b c : Outbox) (x y z : Inbox) → LeavesBoxes old mid a x b y → LeavesBoxes mid new b y c z
+    → LeavesBoxes old new a x c z
 leaves_more old mid new a b c x y z l m =
     let m_received : used_of new x.joiner.owner + held_blocks mid (chains_in y) ≡ used_of mid x.joiner.owner + held_blocks new (chains_in z) =
     subst (λ o. used_of new o + held_blocks mid (chains_in y) ≡ used_of mid o + held_blocks new (chains_in z)) l.receiver m.received in
@@ -196,7 +203,8 @@ leaves_more old mid new a b c x y z l m =
     }
 
 -- the same chains in the same places
-pub leaves_same : (old new : PoolState) (a b c : Outbox) (x y z : Inbox) → LeavesBoxes old new a x b y → c.owner ≡ b.owner → c.queue ≡ b.queue → z ≡ y → LeavesBoxes old new a x c z
+pub leaves_same : (old new : PoolState) (a b c : Outbox) (x y z : Inbox) → LeavesBoxes old new a x b y → c.owner ≡ b.owner → c.queue ≡ b.queue → z ≡ y
+    → LeavesBoxes old new a x c z
 leaves_same old new a b c x y z l owner queue inbox = record {
   sender = owner ∙ l.sender;
   receiver = ap (λ (i : Inbox). i.joiner.owner) inbox ∙ l.receiver;
@@ -210,7 +218,8 @@ leaves_same old new a b c x y z l owner queue inbox = record {
 
 -- ---- a chain of another owner goes to what is sent
 
-pub inbox_passed : (old new : PoolState) (owner : ℕ) (chain : Chain) (xs ys : List Queued) (box : Inbox) → OwnsAll Queued chain_in old owner xs → LeavesOthersBut old new owner chain xs ys → InboxLiesIn old box
+pub inbox_passed : (old new : PoolState) (owner : ℕ) (chain : Chain) (xs ys : List Queued) (box : Inbox) → OwnsAll Queued chain_in old owner xs
+    → LeavesOthersBut old new owner chain xs ys → InboxLiesIn old box
     → owner ≢ box.joiner.owner → IsApartFrom (chains_in box) chain → (chain.owner ≡ box.joiner.owner → held_blocks old (chains_in box) + blocks_for (length (chain_bytes old chain)) ≤ used_of old box.joiner.owner)
     → InboxLiesIn new box × (messages_under_way new box ≡ messages_under_way old box) × (came_whole new box ≡ came_whole old box)
 inbox_passed old new owner chain xs ys box own leaves lies differ apart counted =

@@ -100,7 +100,8 @@ none_waits pool k m none h = record { half = h; full = inl none }
 
 -- ---- forgetting
 
-pub forgotten : (old mid new : PoolState) (k : End) (box : Outbox) (inbox : Inbox) (acts : ArrayVec ActDue) → OutboxLiesIn old k.outbox → InboxLiesIn old k.inbox → k.outbox.owner ≢ k.inbox.joiner.owner
+pub forgotten : (old mid new : PoolState) (k : End) (box : Outbox) (inbox : Inbox) (acts : ArrayVec ActDue) → OutboxLiesIn old k.outbox
+    → InboxLiesIn old k.inbox → k.outbox.owner ≢ k.inbox.joiner.owner
     → OutboxLiesIn mid box → box.queue.items ≡ [] → (box.acked ≡ 0) × (box.cut ≡ 0) → box.owner ≡ k.outbox.owner → OutboxLeaves old mid k.outbox.owner k.outbox.queue.items []
     → InboxLiesIn new inbox → inbox.joiner.open.items ≡ [] → inbox.got ≡ k.inbox.got → inbox.joiner.owner ≡ k.inbox.joiner.owner → came_whole new inbox ≡ came_whole mid k.inbox
     → InboxLeaves mid new k.inbox.joiner.owner (chains_in k.inbox) (chains_in inbox)
@@ -153,7 +154,8 @@ pub carries : (k : End) (pool : PoolState) (m : Machine) → Halfway k pool m �
 carries k pool m h = record { role = h.role; acts = h.acts; got = h.got; aside = h.aside; passed_over = h.passed_over; differ = h.differ }
 
 -- What is kept after the messages of a session were forgotten stands for an end whose SHDLC end has nothing of a session.
-pub session_over : (old new : PoolState) (k k1 : End) (s0 s : KeptEnd) (m : Machine) (e : EndState) → Carries k old m → ForgetsMessages old new (record k { shdlc = s0 }) k1
+pub session_over : (old new : PoolState) (k k1 : End) (s0 s : KeptEnd) (m : Machine) (e : EndState) → Carries k old m
+    → ForgetsMessages old new (record k { shdlc = s0 }) k1
     → StandsBefore s [] e → e.session.out ≡ [] → e.session.acked ≡ 0 → e.session.acc ≡ [] → EndStandsFor (record k1 { shdlc = s }) new (moved m true e)
 session_over old new k k1 s0 s m e h f link out acked acc =
     let messages : queued_messages new k1.outbox ≡ [] = ap (messages_of_all new) f.none in
@@ -185,7 +187,8 @@ session_over old new k k1 s0 s m e h f link out acked acc =
       full = inl waiting;
     }
 
-pub dropped : (pool : PoolState) (k : End) (s : KeptEnd) (acts : ArrayVec ActDue) (m : Machine) → ((e : EndState) → ShdlcStandsFor k.shdlc e → ShdlcStandsFor s (record e { due = [] }))
+pub dropped : (pool : PoolState) (k : End) (s : KeptEnd) (acts : ArrayVec ActDue) (m : Machine)
+    → ((e : EndState) → ShdlcStandsFor k.shdlc e → ShdlcStandsFor s (record e { due = [] }))
     → acts.items ≡ map kept_in_front k.acts.items → EndStandsFor k pool m → EndStandsFor (record k { shdlc = s; acts = acts }) pool (record m { shdlc = record m.shdlc { due = [] }; acts = map due_in_front m.acts })
 dropped pool k s acts m drops moved_acts h =
     let half = h.half in
@@ -229,7 +232,8 @@ act_made pool k acts frame behind m pushed counted h =
     }
 
 -- another state of activation
-pub with_role : (pool : PoolState) (k : End) (a : Activation) (m : Machine) (r : Role) → role_of a ≡ r → EndStandsFor k pool m → EndStandsFor (record k { activation = a }) pool (record m { role = r })
+pub with_role : (pool : PoolState) (k : End) (a : Activation) (m : Machine) (r : Role) → role_of a ≡ r → EndStandsFor k pool m
+    → EndStandsFor (record k { activation = a }) pool (record m { role = r })
 with_role pool k a m r is h =
     let half = h.half in
     record {
@@ -260,7 +264,8 @@ put_down-with_role true m r = put_down-role m r
 put_down-with_role false m r = refl
 
 -- an event of activation
-pub event_stands : (pool new : PoolState) (k k2 k3 : End) (a : Activation) (m : Machine) (event : ActEvent) (out : ActOut) → EndStandsFor k pool m → role_of a ≡ role_after (role_of k.activation) event
+pub event_stands : (pool new : PoolState) (k k2 k3 : End) (a : Activation) (m : Machine) (event : ActEvent) (out : ActOut) → EndStandsFor k pool m
+    → role_of a ≡ role_after (role_of k.activation) event
     → out ≡ act_answer (role_of k.activation) event
     → ((x : Machine) → EndStandsFor (record k { activation = a }) pool x → EndStandsFor k2 new (put_down out.ended_link x))
     → ((p : PoolState) (x : Machine) → EndStandsFor k2 p x → EndStandsFor k3 p (with_act out.send x)) → EndStandsFor k3 new (activated m event)
@@ -275,12 +280,14 @@ event_stands pool new k k2 k3 a m event out h role is down made =
     let Q : ActOut → Type 0 = λ o. EndStandsFor k3 new (with_act o.send (record (put_down o.ended_link m) { role = r })) in
     subst Q answer h3
 
-pub stopped_before : (s s1 new : KeptEnd) (waiting : List Fragment) (e : EndState) → StandsBefore s waiting e → s1 ≡ s → ((x : EndState) → ShdlcStandsFor s1 x → ShdlcStandsFor new (stopped x)) → StandsBefore new [] (stopped e)
+pub stopped_before : (s s1 new : KeptEnd) (waiting : List Fragment) (e : EndState) → StandsBefore s waiting e → s1 ≡ s
+    → ((x : EndState) → ShdlcStandsFor s1 x → ShdlcStandsFor new (stopped x)) → StandsBefore new [] (stopped e)
 stopped_before s s1 new waiting e h same stops =
     let P : KeptEnd → Type 0 = λ x. ShdlcStandsFor x (with_out e h.offered) in
     (stands_stopped s new waiting e h (stops (with_out e h.offered) (subst P (sym same) h.kept))).stands
 
-pub event_told : (pool : PoolState) (k : End) (a : Activation) (m : Machine) (event : ActEvent) (out : ActOut) (ended : Option Cause) (nothing : LinkReport) → EndStandsFor k pool m
+pub event_told : (pool : PoolState) (k : End) (a : Activation) (m : Machine) (event : ActEvent) (out : ActOut) (ended : Option Cause) (nothing : LinkReport)
+    → EndStandsFor k pool m
     → role_of a ≡ role_after (role_of k.activation) event → out ≡ act_answer (role_of k.activation) event
     → ((x : Machine) → EndStandsFor (record k { activation = a }) pool x → ended ≡ (if out.ended_link then if_up x.shdlc ByAct else None)) → nothing ≡ nothing_told
     → record nothing { ended = ended; became_active = out.became_active; sync = out.sync; gave_up = out.gave_up } ≡ act_told m event

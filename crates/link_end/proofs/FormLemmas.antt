@@ -19,7 +19,8 @@ control_numbers e Rnr = omega arith
 control_numbers e Rset = tt
 control_numbers e Ua = tt
 
-frame_numbers : (e : EndState) (due : List Shdlc_due) (q : Option Fragment) (c : Control) → fragment_due e.session ≡ q → frame_due (record e { due = due }) ≡ Some c → HasNumbers c
+frame_numbers : (e : EndState) (due : List Shdlc_due) (q : Option Fragment) (c : Control) → fragment_due e.session ≡ q
+    → frame_due (record e { due = due }) ≡ Some c → HasNumbers c
 frame_numbers e (d ∷ due) q c f is = let same : control_due e d ≡ c = cc in subst HasNumbers same (control_numbers e d)
 frame_numbers e [] None c f is = let h : None ≡ Some c = rw f at is in absurd (no_frame c h)
 frame_numbers e [] (Some info) c f is =

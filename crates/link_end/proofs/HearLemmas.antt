@@ -55,7 +55,8 @@ packets-append : (xs ys : List Fragment) → packets_in (xs ++ ys) ≡ packets_i
 packets-append xs ys = filter_map-append packet_of xs ys
 
 -- the messages that come with further fragments
-pub news_is : (s : Session) (e : EndState) (more : List Fragment) → e.session.acc ≡ s.acc ++ more → news s e ≡ good_of (given_by (open_after [] (packets_in s.acc)) (packets_in more))
+pub news_is : (s : Session) (e : EndState) (more : List Fragment) → e.session.acc ≡ s.acc ++ more
+    → news s e ≡ good_of (given_by (open_after [] (packets_in s.acc)) (packets_in more))
 news_is s e more acc =
     let ps = packets_in s.acc in
     let qs = packets_in more in
@@ -71,8 +72,10 @@ taken_is s e more acc sound =
     ap (λ l. are_taken [] (packets_in l)) acc ∙ (ap (are_taken []) (packets-append s.acc more)
     ∙ (are_taken-append [] (packets_in s.acc) (packets_in more) ∙ ap (λ b. b && are_taken (open_after [] (packets_in s.acc)) (packets_in more)) sound))
 
-pub under_is : (s : Session) (e : EndState) (more : List Fragment) → e.session.acc ≡ s.acc ++ more → open_after [] (packets_in e.session.acc) ≡ open_after (open_after [] (packets_in s.acc)) (packets_in more)
-under_is s e more acc = ap (λ l. open_after [] (packets_in l)) acc ∙ (ap (open_after []) (packets-append s.acc more) ∙ open_after-append [] (packets_in s.acc) (packets_in more))
+pub under_is : (s : Session) (e : EndState) (more : List Fragment) → e.session.acc ≡ s.acc ++ more
+    → open_after [] (packets_in e.session.acc) ≡ open_after (open_after [] (packets_in s.acc)) (packets_in more)
+under_is s e more acc =
+    ap (λ l. open_after [] (packets_in l)) acc ∙ (ap (open_after []) (packets-append s.acc more) ∙ open_after-append [] (packets_in s.acc) (packets_in more))
 
 drop_of_none : (n : ℕ) → drop n (let l : List Message = [] in l) ≡ []
 drop_of_none zero = refl
@@ -86,10 +89,12 @@ no_news s e acc = ap (λ l. drop (length (messages_got s)) (good_of (given_by []
 abbrev pub ended_in : Machine → Control → Bool
 ended_in m c = is_some (take_answer m.shdlc c).ended
 
-pub took_answer : (k : End) (pool : PoolState) (m : Machine) (c : Control) (t : Taken) → EndStandsFor k pool m → ((e : EndState) → ShdlcStandsFor k.shdlc e → t ≡ take_answer e c) → t ≡ take_answer m.shdlc c
+pub took_answer : (k : End) (pool : PoolState) (m : Machine) (c : Control) (t : Taken) → EndStandsFor k pool m
+    → ((e : EndState) → ShdlcStandsFor k.shdlc e → t ≡ take_answer e c) → t ≡ take_answer m.shdlc c
 took_answer k pool m c t h answer = answer (with_out m.shdlc h.half.link.offered) h.half.link.kept ∙ (taken_alike m.shdlc h.half.link.offered c).answer
 
-pub took_link : (k : End) (pool : PoolState) (m : Machine) (c : Control) (s0 : KeptEnd) → EndStandsFor k pool m → ((e : EndState) → ShdlcStandsFor k.shdlc e → ShdlcStandsFor s0 (taken e c))
+pub took_link : (k : End) (pool : PoolState) (m : Machine) (c : Control) (s0 : KeptEnd) → EndStandsFor k pool m
+    → ((e : EndState) → ShdlcStandsFor k.shdlc e → ShdlcStandsFor s0 (taken e c))
     → StandsBefore s0 (left_waiting (ended_in m c) (waiting_in pool k.outbox)) (taken m.shdlc c)
 took_link k pool m c s0 h stands =
     let link = h.half.link in
@@ -112,7 +117,8 @@ heard-over m c over acc =
 pub over_acc : (m : Machine) (c : Control) → TakesOn m.shdlc c → ended_in m c ≡ true → (taken m.shdlc c).session.acc ≡ []
 over_acc m c on over = on.acc ∙ ap (λ b. left_waiting b (m.shdlc.session.acc ++ option_to_list (take_answer m.shdlc c).accepted)) over
 
-pub over_stands : (pool new : PoolState) (k k1 : End) (m : Machine) (c : Control) (s0 : KeptEnd) (t : Taken) → EndStandsFor k pool m → ((e : EndState) → ShdlcStandsFor k.shdlc e → ShdlcStandsFor s0 (taken e c))
+pub over_stands : (pool new : PoolState) (k k1 : End) (m : Machine) (c : Control) (s0 : KeptEnd) (t : Taken) → EndStandsFor k pool m
+    → ((e : EndState) → ShdlcStandsFor k.shdlc e → ShdlcStandsFor s0 (taken e c))
     → ((e : EndState) → ShdlcStandsFor k.shdlc e → t ≡ take_answer e c) → is_some t.ended ≡ true → ForgetsMessages pool new (record k { shdlc = s0 }) k1 → EndStandsFor k1 new (heard m c)
 over_stands pool new k k1 m c s0 t h stands answer ended f =
     let e = taken m.shdlc c in
@@ -128,7 +134,8 @@ over_stands pool new k k1 m c s0 t h stands answer ended f =
     (on.out ∙ ap (λ b. left_waiting b m.shdlc.session.out) over)
     (on.acked ∙ ap (λ b. if b then 0 else m.shdlc.session.acked + (take_answer m.shdlc c).acked) over) acc)
 
-pub over_told : (pool : PoolState) (k : End) (m : Machine) (c : Control) (t : Taken) (n : LinkReport) → EndStandsFor k pool m → ((e : EndState) → ShdlcStandsFor k.shdlc e → t ≡ take_answer e c)
+pub over_told : (pool : PoolState) (k : End) (m : Machine) (c : Control) (t : Taken) (n : LinkReport) → EndStandsFor k pool m
+    → ((e : EndState) → ShdlcStandsFor k.shdlc e → t ≡ take_answer e c)
     → is_some t.ended ≡ true → n ≡ nothing_told → record n { ended = t.ended; began = t.began } ≡ heard_told m c
 over_told pool k m c t n h answer ended none =
     let e = taken m.shdlc c in
@@ -150,7 +157,8 @@ over_told pool k m c t n h answer ended none =
 -- ---- what is acknowledged
 
 -- more of what is sent is acknowledged
-pub sends_on : (mid new : PoolState) (box after : Outbox) (sent : List Message) (s s' : Session) (count whole : ℕ) → AreSendable sent → s.out ≡ fragments_of sent
+pub sends_on : (mid new : PoolState) (box after : Outbox) (sent : List Message) (s s' : Session) (count whole : ℕ) → AreSendable sent
+    → s.out ≡ fragments_of sent
     → queued_messages mid box ≡ drop (whole_among sent s.acked) sent → box.acked ≡ rest_among sent s.acked → GivesBack mid new (acked_more box count) after whole
     → whole_among (queued_messages new after) after.acked ≡ 0 → rest_among (queued_messages new after) after.acked ≡ after.acked → s'.out ≡ s.out → s'.acked ≡ s.acked + count
     → OutboxStandsFor new after sent s' × (whole_among sent s'.acked ≡ whole_among sent s.acked + whole)
@@ -173,7 +181,8 @@ sends_on mid new box after sent s s' count whole all out messages acked g none r
     )
 
 -- all that is acknowledged was cut
-pub cut_enough : (pool : PoolState) (k : End) (m : Machine) (c : Control) (s0 : KeptEnd) (t : Taken) → EndStandsFor k pool m → ((e : EndState) → ShdlcStandsFor k.shdlc e → ShdlcStandsFor s0 (taken e c))
+pub cut_enough : (pool : PoolState) (k : End) (m : Machine) (c : Control) (s0 : KeptEnd) (t : Taken) → EndStandsFor k pool m
+    → ((e : EndState) → ShdlcStandsFor k.shdlc e → ShdlcStandsFor s0 (taken e c))
     → ((e : EndState) → ShdlcStandsFor k.shdlc e → t ≡ take_answer e c) → is_some t.ended ≡ false → k.outbox.acked + t.acked ≤ k.outbox.cut
 cut_enough pool k m c s0 t h stands answer going =
     let sends = h.half.sends in
@@ -221,7 +230,8 @@ true_is : (b : Bool) → IsTrue b → b ≡ true
 true_is true t = refl
 true_is false t = t
 
-pub goes_on : (old mid new : PoolState) (k : End) (m : Machine) (c : Control) (s0 : KeptEnd) (t : Taken) (inbox : Inbox) (outbox : Outbox) (whole : ℕ) → EndStandsFor k old m
+pub goes_on : (old mid new : PoolState) (k : End) (m : Machine) (c : Control) (s0 : KeptEnd) (t : Taken) (inbox : Inbox) (outbox : Outbox) (whole : ℕ)
+    → EndStandsFor k old m
     → ((e : EndState) → ShdlcStandsFor k.shdlc e → ShdlcStandsFor s0 (taken e c)) → ((e : EndState) → ShdlcStandsFor k.shdlc e → t ≡ take_answer e c) → is_some t.ended ≡ false
     → IsTrue (are_taken (messages_under_way old k.inbox) (packets_in (brought t))) → ReceivesOn old mid k.inbox inbox (brought t)
     → GivesBack mid new (acked_more k.outbox t.acked) outbox whole → whole_among (queued_messages new outbox) outbox.acked ≡ 0 → rest_among (queued_messages new outbox) outbox.acked ≡ outbox.acked
@@ -297,7 +307,8 @@ goes_on old mid new k m c s0 t inbox outbox whole h stands answer going joined r
 no_fragment : (f : Fragment) → None ≡ Some f → ⊥
 no_fragment f e = cc
 
-ready_up : (e : EndState) (ns nr : ℕ) (info f : Fragment) (q : Option ℕ) (r : Bool) → place_of e.session nr ≡ q → e.ready ≡ r → (take_answer (in_phase Up e) (I ns nr info)).accepted ≡ Some f → r ≡ true
+ready_up : (e : EndState) (ns nr : ℕ) (info f : Fragment) (q : Option ℕ) (r : Bool) → place_of e.session nr ≡ q → e.ready ≡ r
+    → (take_answer (in_phase Up e) (I ns nr info)).accepted ≡ Some f → r ≡ true
 ready_up e ns nr info f None r at ready is = let h : None ≡ Some f = rw at at is in absurd (no_fragment f h)
 ready_up e ns nr info f (Some x) true at ready is = refl
 ready_up e ns nr info f (Some x) false at ready is = let h : None ≡ Some f = rw (at, ready) at is in absurd (no_fragment f h)
@@ -320,7 +331,8 @@ ready_in Waiting e c f is = let up = (brings_fragment (in_phase Waiting e) c f i
 pub accepted_ready : (e : EndState) (c : Control) (f : Fragment) → (take_answer e c).accepted ≡ Some f → e.ready ≡ true
 accepted_ready e c f is = ready_in e.phase e c f is
 
-pub may_receive : (pool : PoolState) (k : End) (m : Machine) (c : Control) (t : Taken) → EndStandsFor k pool m → ((e : EndState) → ShdlcStandsFor k.shdlc e → t ≡ take_answer e c) → MayTake k pool
+pub may_receive : (pool : PoolState) (k : End) (m : Machine) (c : Control) (t : Taken) → EndStandsFor k pool m
+    → ((e : EndState) → ShdlcStandsFor k.shdlc e → t ≡ take_answer e c) → MayTake k pool
     → IfSome t.accepted (λ _. InboxIsReady pool k.inbox)
 may_receive pool k m c t h answer may = go t.accepted refl
   where
@@ -362,8 +374,10 @@ pub record BreaksOff (old mid new : PoolState) (k k1 : End) (m : Machine) (c : C
   pub stands : EndStandsFor (record k1 { shdlc = s }) new (heard m c)
   pub told : (n : LinkReport) → n ≡ nothing_told → record n { ended = Some Chain } ≡ heard_told m c
 
-pub fault_lies : (old mid : PoolState) (k : End) (m : Machine) (inbox : Inbox) → EndStandsFor k old m → IsBroken old mid k.inbox inbox → OutboxKept old mid k.outbox
-fault_lies old mid k m inbox h b = outbox_kept old mid k.inbox.joiner.owner (chains_in k.inbox) [] k.outbox h.half.receives.lies.holds.own b.elsewhere h.half.sends.lies h.half.differ
+pub fault_lies : (old mid : PoolState) (k : End) (m : Machine) (inbox : Inbox) → EndStandsFor k old m → IsBroken old mid k.inbox inbox
+    → OutboxKept old mid k.outbox
+fault_lies old mid k m inbox h b =
+    outbox_kept old mid k.inbox.joiner.owner (chains_in k.inbox) [] k.outbox h.half.receives.lies.holds.own b.elsewhere h.half.sends.lies h.half.differ
 
 pub breaks_off : (old mid new : PoolState) (k k1 : End) (m : Machine) (c : Control) (s0 s : KeptEnd) (t : Taken) (inbox : Inbox) → EndStandsFor k old m
     → ((e : EndState) → ShdlcStandsFor k.shdlc e → ShdlcStandsFor s0 (taken e c)) → ((e : EndState) → ShdlcStandsFor k.shdlc e → t ≡ take_answer e c)
@@ -427,7 +441,8 @@ breaks_off old mid new k k1 m c s0 s t inbox h stands answer broken fetched b f 
     down_up x up = down_in x.shdlc.phase x up
 
 -- what it left elsewhere
-pub broken_elsewhere : (old mid : PoolState) (k : End) (inbox : Inbox) → k.inbox.got ≡ None → used_of old k.inbox.joiner.owner ≡ held_blocks old k.inbox.joiner.open.items → IsBroken old mid k.inbox inbox
+pub broken_elsewhere : (old mid : PoolState) (k : End) (inbox : Inbox) → k.inbox.got ≡ None
+    → used_of old k.inbox.joiner.owner ≡ held_blocks old k.inbox.joiner.open.items → IsBroken old mid k.inbox inbox
     → LeavesBoxes old mid k.outbox k.inbox k.outbox inbox
 broken_elsewhere old mid k inbox fetched used b =
     let chains : chains_in k.inbox ≡ k.inbox.joiner.open.items = ap (λ g. k.inbox.joiner.open.items ++ got_chains g) fetched ∙ append-nil k.inbox.joiner.open.items in
@@ -436,6 +451,7 @@ broken_elsewhere old mid k inbox fetched used b =
     let P : List Open → Type 0 = λ l. InboxLeaves old mid k.inbox.joiner.owner (chains_in k.inbox) l in
     leaves_in old mid k.outbox k.inbox inbox (subst P (sym b.none) b.elsewhere) b.owner (omega (arith, used, held, left, b.used))
 
-pub received_lies : (old mid : PoolState) (k : End) (m : Machine) (inbox : Inbox) (more : List Fragment) → EndStandsFor k old m → ReceivesOn old mid k.inbox inbox more → OutboxLiesIn mid k.outbox
+pub received_lies : (old mid : PoolState) (k : End) (m : Machine) (inbox : Inbox) (more : List Fragment) → EndStandsFor k old m
+    → ReceivesOn old mid k.inbox inbox more → OutboxLiesIn mid k.outbox
 received_lies old mid k m inbox more h r =
     (outbox_kept old mid k.inbox.joiner.owner (chains_in k.inbox) (chains_in inbox) k.outbox h.half.receives.lies.holds.own r.elsewhere h.half.sends.lies h.half.differ).lies

@@ -20,11 +20,15 @@ use Rattle.link_end.specs.declared.acts.ActDue.{ActDue}
 use Rattle.link_end.specs.declared.activation.Activation.{Activation}
 
 new_before : (s : KeptEnd) (role : Named) → ShdlcStandsFor s (new_link_end (new_role role)).shdlc → StandsBefore s [] (new_link_end (new_role role)).shdlc
-new_before s Bare h = record { offered = []; out = refl; kept = h; narrow = record { own = omega arith; peer = omega arith; session = omega arith }; session = tt }
-new_before s Clf h = record { offered = []; out = refl; kept = h; narrow = record { own = omega arith; peer = omega arith; session = omega arith }; session = refl }
-new_before s Uicc h = record { offered = []; out = refl; kept = h; narrow = record { own = omega arith; peer = omega arith; session = omega arith }; session = refl }
+new_before s Bare h =
+    record { offered = []; out = refl; kept = h; narrow = record { own = omega arith; peer = omega arith; session = omega arith }; session = tt }
+new_before s Clf h =
+    record { offered = []; out = refl; kept = h; narrow = record { own = omega arith; peer = omega arith; session = omega arith }; session = refl }
+new_before s Uicc h =
+    record { offered = []; out = refl; kept = h; narrow = record { own = omega arith; peer = omega arith; session = omega arith }; session = refl }
 
-new_box : (pool : PoolState) (sender receiver : ℕ) → IsFree pool sender receiver → OutboxLiesIn pool (record { owner = sender; queue = buffer [] 128; acked = 0; cut = 0 })
+new_box : (pool : PoolState) (sender receiver : ℕ) → IsFree pool sender receiver
+    → OutboxLiesIn pool (record { owner = sender; queue = buffer [] 128; acked = 0; cut = 0 })
 new_box pool sender receiver free = record {
   kept = record {
     own = tt;
@@ -44,7 +48,8 @@ none_in : (xs ys : List Open) → xs ++ ys ≡ [] → (xs ≡ []) × (ys ≡ [])
 none_in [] ys e = (refl, e)
 none_in (x ∷ xs) ys e = cc
 
-new_end_at : (pool : PoolState) (role : Named) (sender receiver : ℕ) (a : Activation) (s : KeptEnd) (inbox : Inbox) (acts : ArrayVec ActDue) → IsFree pool sender receiver → role_of a ≡ new_role role
+new_end_at : (pool : PoolState) (role : Named) (sender receiver : ℕ) (a : Activation) (s : KeptEnd) (inbox : Inbox) (acts : ArrayVec ActDue)
+    → IsFree pool sender receiver → role_of a ≡ new_role role
     → ShdlcStandsFor s (new_link_end (new_role role)).shdlc → inbox.joiner.owner ≡ receiver → chains_in inbox ≡ [] → acts.items ≡ []
     → EndStandsFor (record { activation = a; shdlc = s; outbox = record { owner = sender; queue = buffer [] 128; acked = 0; cut = 0 }; inbox = inbox; acts = acts; passed_over = 0 }) pool (new_link_end (new_role role))
 new_end_at pool role sender receiver a s inbox acts free is kept owner none no_acts =
@@ -58,7 +63,8 @@ new_end_at pool role sender receiver a s inbox acts free is kept owner none no_a
     } in
     by_role role a is kept lies parts
   where
-    by_role : (r : Named) (x : Activation) → role_of x ≡ new_role r → ShdlcStandsFor s (new_link_end (new_role r)).shdlc → InboxLiesIn pool inbox → (inbox.joiner.open.items ≡ []) × (got_chains inbox.got ≡ [])
+    by_role : (r : Named) (x : Activation) → role_of x ≡ new_role r → ShdlcStandsFor s (new_link_end (new_role r)).shdlc → InboxLiesIn pool inbox
+        → (inbox.joiner.open.items ≡ []) × (got_chains inbox.got ≡ [])
         → EndStandsFor (record { activation = x; shdlc = s; outbox = record { owner = sender; queue = buffer [] 128; acked = 0; cut = 0 }; inbox = inbox; acts = acts; passed_over = 0 }) pool (new_link_end (new_role r))
     by_role Bare x i k lies parts = record {
       half = record {
@@ -103,7 +109,8 @@ new_end_at pool role sender receiver a s inbox acts free is kept owner none no_a
       full = inl refl;
     }
 
-pub made : (role : Named) (sender receiver : ℕ) (a : Activation) (s : KeptEnd) (box : Outbox) (inbox : Inbox) (acts : ArrayVec ActDue) → role_of a ≡ new_role role
+pub made : (role : Named) (sender receiver : ℕ) (a : Activation) (s : KeptEnd) (box : Outbox) (inbox : Inbox) (acts : ArrayVec ActDue)
+    → role_of a ≡ new_role role
     → ShdlcStandsFor s (new_link_end (new_role role)).shdlc → box.owner ≡ sender → box.queue ≡ buffer [] 128 → box.acked ≡ 0 → box.cut ≡ 0 → inbox.joiner.owner ≡ receiver → chains_in inbox ≡ [] → acts.items ≡ []
     → (pool : PoolState) → IsFree pool sender receiver → EndStandsFor (record { activation = a; shdlc = s; outbox = box; inbox = inbox; acts = acts; passed_over = 0 }) pool (new_link_end (new_role role))
 made role sender receiver a s box inbox acts is kept o q x y owner none no_acts pool free =

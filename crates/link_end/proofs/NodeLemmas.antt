@@ -48,17 +48,20 @@ use Rattle.link_end.proofs.BoxLemmas.{inbox_kept, inbox_passed, leaves_out}
 
 -- ---- a reset
 
-pub window_low : (pool : PoolState) (k : End) (m : Machine) (window : Option ℕ) → EndStandsFor k pool m → IfSome window (λ w. (1 ≤ w) × (w ≤ 4)) → window_of m window ≤ 4
+pub window_low : (pool : PoolState) (k : End) (m : Machine) (window : Option ℕ) → EndStandsFor k pool m → IfSome window (λ w. (1 ≤ w) × (w ≤ 4))
+    → window_of m window ≤ 4
 window_low pool k m None h some = h.half.link.narrow.own
 window_low pool k m (Some w) h some = some.1
 
 pub reset_closed : (m : Machine) (window : Option ℕ) → is_open m.role ≡ false → after_input m (Reset window) ≡ m
 reset_closed m window o = rw o
 
-pub reset_up : (m : Machine) (window : Option ℕ) → is_open m.role ≡ true → m.shdlc.phase ≡ Up → after_input m (Reset window) ≡ moved m true (reset_with m.shdlc (window_of m window))
+pub reset_up : (m : Machine) (window : Option ℕ) → is_open m.role ≡ true → m.shdlc.phase ≡ Up
+    → after_input m (Reset window) ≡ moved m true (reset_with m.shdlc (window_of m window))
 reset_up m window o up = rw (o, up)
 
-pub reset_down : (m : Machine) (window : Option ℕ) → is_open m.role ≡ true → m.shdlc.phase ≡ Down → after_input m (Reset window) ≡ moved m false (reset_with m.shdlc (window_of m window))
+pub reset_down : (m : Machine) (window : Option ℕ) → is_open m.role ≡ true → m.shdlc.phase ≡ Down
+    → after_input m (Reset window) ≡ moved m false (reset_with m.shdlc (window_of m window))
 reset_down m window o down = rw (o, down)
 
 reset_empty : (p : LinkState) (e : EndState) (w : ℕ) → (p ≡ Waiting → ⊥) → e.phase ≡ p → (reset_with e w).session ≡ no_session
@@ -71,7 +74,8 @@ waits_not Up e other is = rw is
 waits_not Down e other is = rw is
 waits_not Waiting e other is = absurd (other refl)
 
-reset_link : (pool : PoolState) (k : End) (m : Machine) (s : KeptEnd) (window : Option ℕ) (p : LinkState) → EndStandsFor k pool m → IfSome window (λ w. (1 ≤ w) × (w ≤ 4))
+reset_link : (pool : PoolState) (k : End) (m : Machine) (s : KeptEnd) (window : Option ℕ) (p : LinkState) → EndStandsFor k pool m
+    → IfSome window (λ w. (1 ≤ w) × (w ≤ 4))
     → ((e : EndState) → ShdlcStandsFor k.shdlc e → ShdlcStandsFor s (reset_with e (unwrap_or window e.own_window))) → (p ≡ Waiting → ⊥) → m.shdlc.phase ≡ p
     → StandsBefore s [] (reset_with m.shdlc (window_of m window))
 reset_link pool k m s window p h some asks other is =
@@ -80,7 +84,8 @@ reset_link pool k m s window p h some asks other is =
     let P : Bool → Type 0 = λ b. StandsBefore s (left_waiting (not b) (waiting_in pool k.outbox)) (reset_with m.shdlc (window_of m window)) in
     subst P (waits_not p m.shdlc other is) next
 
-pub reset_ends : (pool new : PoolState) (k k1 : End) (m : Machine) (s : KeptEnd) (window : Option ℕ) → EndStandsFor k pool m → IfSome window (λ w. (1 ≤ w) × (w ≤ 4))
+pub reset_ends : (pool new : PoolState) (k k1 : End) (m : Machine) (s : KeptEnd) (window : Option ℕ) → EndStandsFor k pool m
+    → IfSome window (λ w. (1 ≤ w) × (w ≤ 4))
     → ((e : EndState) → ShdlcStandsFor k.shdlc e → ShdlcStandsFor s (reset_with e (unwrap_or window e.own_window))) → m.shdlc.phase ≡ Up → ForgetsMessages pool new (record k { shdlc = s }) k1
     → EndStandsFor k1 new (moved m true (reset_with m.shdlc (window_of m window)))
 reset_ends pool new k k1 m s window h some asks up f =
@@ -176,7 +181,8 @@ link_next m (x ∷ xs) is = go (x.behind == 0) refl
     go true e = absurd (let f : None ≡ Some x.frame = rw e at is in cc)
     go false e = (rw e, rw e, rw e)
 
-pub act_sent : (pool : PoolState) (k : End) (acts : ArrayVec ActDue) (m : Machine) (act : Act) → EndStandsFor k pool m → Some act ≡ front_act k.acts.items → acts.items ≡ behind_front k.acts.items
+pub act_sent : (pool : PoolState) (k : End) (acts : ArrayVec ActDue) (m : Machine) (act : Act) → EndStandsFor k pool m
+    → Some act ≡ front_act k.acts.items → acts.items ≡ behind_front k.acts.items
     → (Some (ActFrame act false) ≡ next_frame m) × EndStandsFor (record k { acts = acts }) pool (frame_fetched m)
 act_sent pool k acts m act h front rest =
     let half = h.half in
@@ -200,12 +206,14 @@ act_sent pool k acts m act h front rest =
       }),
     )
 
-fetched_acc : (e : EndState) (due : List Shdlc_due) (q : Option Fragment) → fragment_due e.session ≡ q → (fetched (record e { due = due })).session.acc ≡ e.session.acc
+fetched_acc : (e : EndState) (due : List Shdlc_due) (q : Option Fragment) → fragment_due e.session ≡ q
+    → (fetched (record e { due = due })).session.acc ≡ e.session.acc
 fetched_acc e [] None s = rw s
 fetched_acc e [] (Some f) s = rw s
 fetched_acc e (d ∷ due) q s = refl
 
-pub link_sent : (pool : PoolState) (k : End) (s : KeptEnd) (acts : ArrayVec ActDue) (middle : List ActDue) (m : Machine) (frame : Option Control) → EndStandsFor k pool m → None ≡ front_act k.acts.items
+pub link_sent : (pool : PoolState) (k : End) (s : KeptEnd) (acts : ArrayVec ActDue) (middle : List ActDue) (m : Machine) (frame : Option Control)
+    → EndStandsFor k pool m → None ≡ front_act k.acts.items
     → middle ≡ behind_front k.acts.items → acts.items ≡ map kept_nearer middle
     → ((e : EndState) → ShdlcStandsFor k.shdlc e → frame ≡ frame_due e) → ((e : EndState) → ShdlcStandsFor k.shdlc e → ShdlcStandsFor s (fetched e))
     → (frame ≡ next_frame m) × EndStandsFor (record k { shdlc = s; acts = acts }) pool (frame_fetched m)
@@ -264,7 +272,8 @@ spare_is pool k m h =
 pub refused_long : (m : Machine) (x : Message) → m.shdlc.phase ≡ Up → 4096 < length x.1 → give_refusal m x ≡ Some (TooLong (length x.1))
 refused_long m x up long = let t = lt-ltb 4096 (length x.1) long in rw (up, t)
 
-pub refused_full : (m : Machine) (x : Message) → m.shdlc.phase ≡ Up → length x.1 ≤ 4096 → (blocks_for (length x.1) ≤ spare m → ⊥) → give_refusal m x ≡ Some (Full (blocks_for (length x.1)) (spare m))
+pub refused_full : (m : Machine) (x : Message) → m.shdlc.phase ≡ Up → length x.1 ≤ 4096 → (blocks_for (length x.1) ≤ spare m → ⊥)
+    → give_refusal m x ≡ Some (Full (blocks_for (length x.1)) (spare m))
 refused_full m x up short full = go (nat_lt 4096 (length x.1)) (nat_lt (spare m) (need x.1)) refl refl
   where
     go : (a b : Bool) → nat_lt 4096 (length x.1) ≡ a → nat_lt (spare m) (need x.1) ≡ b → give_refusal m x ≡ Some (Full (blocks_for (length x.1)) (spare m))
@@ -290,11 +299,13 @@ whole_low : (ms : List Message) (n : ℕ) → whole_among ms n ≤ length ms
 whole_low [] n = omega arith
 whole_low (x ∷ ms) n = go (nat_le (packet_count (length x.1)) n) refl (whole_low ms (n - packet_count (length x.1)))
   where
-    go : (b : Bool) → nat_le (packet_count (length x.1)) n ≡ b → whole_among ms (n - packet_count (length x.1)) ≤ length ms → whole_among (x ∷ ms) n ≤ length (x ∷ ms)
+    go : (b : Bool) → nat_le (packet_count (length x.1)) n ≡ b → whole_among ms (n - packet_count (length x.1)) ≤ length ms
+        → whole_among (x ∷ ms) n ≤ length (x ∷ ms)
     go true e rest = rw e (omega arith)
     go false e rest = rw e (omega arith)
 
-pub message_given : (old new : PoolState) (k : End) (box : Outbox) (m : Machine) (x : Message) → EndStandsFor k old m → k.shdlc.phase ≡ Up → IsSendable x → Accepts old new k.outbox box x
+pub message_given : (old new : PoolState) (k : End) (box : Outbox) (m : Machine) (x : Message) → EndStandsFor k old m → k.shdlc.phase ≡ Up
+    → IsSendable x → Accepts old new k.outbox box x
     → OutboxLeaves old new k.outbox.owner k.outbox.queue.items box.queue.items → Halfway (record k { outbox = box }) new (given m x) × LeavesBoxes old new k.outbox k.inbox box k.inbox
 message_given old new k box m x h up sendable a leaves =
     let half = h.half in
@@ -330,7 +341,8 @@ message_given old new k box m x h up sendable a leaves =
     )
 
 -- a message in a chain of another owner
-pub message_passed : (old new : PoolState) (k : End) (box : Outbox) (chain : Chain) (m : Machine) (x : Message) → EndStandsFor k old m → k.shdlc.phase ≡ Up → IsSendable x → MayPass old k chain → Accepts old new k.outbox box x
+pub message_passed : (old new : PoolState) (k : End) (box : Outbox) (chain : Chain) (m : Machine) (x : Message) → EndStandsFor k old m
+    → k.shdlc.phase ≡ Up → IsSendable x → MayPass old k chain → Accepts old new k.outbox box x
     → LeavesOthersBut old new k.outbox.owner chain k.outbox.queue.items box.queue.items → Halfway (record k { outbox = box }) new (given m x)
 message_passed old new k box chain m x h up sendable may a leaves =
     let half = h.half in

@@ -23,7 +23,8 @@ packets_in-one f = go (packet_of f) refl
     go None e = rw e
     go (Some p) e = rw e
 
-pub received_one : (old new : PoolState) (before after : Inbox) (f : Fragment) → IsInboxReady old before → Joins old new before after (option_to_list (packet_of f)) → ReceivesOn old new before after (f ∷ [])
+pub received_one : (old new : PoolState) (before after : Inbox) (f : Fragment) → IsInboxReady old before
+    → Joins old new before after (option_to_list (packet_of f)) → ReceivesOn old new before after (f ∷ [])
 received_one old new before after f ready j =
     let packets = packets_in-one f in
     let o = before.joiner.owner in

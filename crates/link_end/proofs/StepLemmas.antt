@@ -35,7 +35,8 @@ use Rattle.link_end.specs.Steps.{ForgetsMessages}
 use Rattle.link_end.specs.declared.«end».End.{End}
 use Rattle.link_end.proofs.EndLemmas.{session_over, carries}
 
-pub passed : (pool : PoolState) (k : End) (p : ℕ) (m : Machine) → p ≡ min (k.passed_over + 1) 4294967295 → EndStandsFor k pool m → EndStandsFor (record k { passed_over = p }) pool (record m { passed_over = m.passed_over + 1 })
+pub passed : (pool : PoolState) (k : End) (p : ℕ) (m : Machine) → p ≡ min (k.passed_over + 1) 4294967295 → EndStandsFor k pool m
+    → EndStandsFor (record k { passed_over = p }) pool (record m { passed_over = m.passed_over + 1 })
 passed pool k p m is h =
     let half = h.half in
     let was = half.passed_over in
@@ -54,14 +55,16 @@ passed pool k p m is h =
       full = h.full;
     }
 
-acc_in : (e : EndState) (old new answered : Bool) → (with_ready (record e { ready = old; session = record e.session { answered_rnr = answered } }) new).session.acc ≡ e.session.acc
+acc_in : (e : EndState) (old new answered : Bool)
+    → (with_ready (record e { ready = old; session = record e.session { answered_rnr = answered } }) new).session.acc ≡ e.session.acc
 acc_in e true true a = refl
 acc_in e false false a = refl
 acc_in e true false a = refl
 acc_in e false true true = refl
 acc_in e false true false = refl
 
-pub held : (pool : PoolState) (k : End) (s : KeptEnd) (m : Machine) (r : Bool) → ((e : EndState) → ShdlcStandsFor k.shdlc e → ShdlcStandsFor s (with_ready e r)) → EndStandsFor k pool m
+pub held : (pool : PoolState) (k : End) (s : KeptEnd) (m : Machine) (r : Bool)
+    → ((e : EndState) → ShdlcStandsFor k.shdlc e → ShdlcStandsFor s (with_ready e r)) → EndStandsFor k pool m
     → EndStandsFor (record k { shdlc = s }) pool (record m { shdlc = with_ready m.shdlc r })
 held pool k s m r readies h =
     let half = h.half in
@@ -103,10 +106,12 @@ alike pool k m h =
     let next = link.kept.sender.next in
     ticked_alike m.shdlc link.offered (waiting_in pool k.outbox) link.out h.full (omega arith)
 
-pub ticked_answer : (pool : PoolState) (k : End) (m : Machine) (t : Ticked) → EndStandsFor k pool m → ((e : EndState) → ShdlcStandsFor k.shdlc e → t ≡ tick_answer e) → t ≡ tick_answer m.shdlc
+pub ticked_answer : (pool : PoolState) (k : End) (m : Machine) (t : Ticked) → EndStandsFor k pool m
+    → ((e : EndState) → ShdlcStandsFor k.shdlc e → t ≡ tick_answer e) → t ≡ tick_answer m.shdlc
 ticked_answer pool k m t h answer = answer (with_out m.shdlc h.half.link.offered) h.half.link.kept ∙ (alike pool k m h).answer
 
-pub tick_ends : (pool new : PoolState) (k k1 : End) (m : Machine) (s0 : KeptEnd) (t : Ticked) → EndStandsFor k pool m → ((e : EndState) → ShdlcStandsFor k.shdlc e → ShdlcStandsFor s0 (ticked e))
+pub tick_ends : (pool new : PoolState) (k k1 : End) (m : Machine) (s0 : KeptEnd) (t : Ticked) → EndStandsFor k pool m
+    → ((e : EndState) → ShdlcStandsFor k.shdlc e → ShdlcStandsFor s0 (ticked e))
     → ((e : EndState) → ShdlcStandsFor k.shdlc e → t ≡ tick_answer e) → is_some t.ended ≡ true → ForgetsMessages pool new (record k { shdlc = s0 }) k1
     → EndStandsFor k1 new (moved m (is_some (tick_answer m.shdlc).ended) (ticked m.shdlc))
 tick_ends pool new k k1 m s0 t h stands answer ended f =
@@ -125,7 +130,8 @@ tick_ends pool new k k1 m s0 t h stands answer ended f =
     (a.acc ∙ ap (λ b. left_waiting b m.shdlc.session.acc) over))
 
 -- another state of the SHDLC end in the same session
-pub same_session : (pool : PoolState) (k : End) (s0 : KeptEnd) (m : Machine) (e : EndState) → Halfway k pool m → StandsBefore s0 (waiting_in pool k.outbox) e → e.session.out ≡ m.shdlc.session.out
+pub same_session : (pool : PoolState) (k : End) (s0 : KeptEnd) (m : Machine) (e : EndState) → Halfway k pool m
+    → StandsBefore s0 (waiting_in pool k.outbox) e → e.session.out ≡ m.shdlc.session.out
     → e.session.acked ≡ m.shdlc.session.acked → e.session.acc ≡ m.shdlc.session.acc → Halfway (record k { shdlc = s0 }) pool (moved m false e)
 same_session pool k s0 m e half link out acked acc = record {
   role = half.role;
@@ -149,7 +155,8 @@ same_session pool k s0 m e half link out acked acc = record {
   differ = half.differ;
 }
 
-pub tick_goes_on : (pool : PoolState) (k : End) (m : Machine) (s0 : KeptEnd) (t : Ticked) → EndStandsFor k pool m → ((e : EndState) → ShdlcStandsFor k.shdlc e → ShdlcStandsFor s0 (ticked e))
+pub tick_goes_on : (pool : PoolState) (k : End) (m : Machine) (s0 : KeptEnd) (t : Ticked) → EndStandsFor k pool m
+    → ((e : EndState) → ShdlcStandsFor k.shdlc e → ShdlcStandsFor s0 (ticked e))
     → ((e : EndState) → ShdlcStandsFor k.shdlc e → t ≡ tick_answer e) → is_some t.ended ≡ false
     → Halfway (record k { shdlc = s0 }) pool (moved m (is_some (tick_answer m.shdlc).ended) (ticked m.shdlc))
 tick_goes_on pool k m s0 t h stands answer going =
@@ -184,7 +191,8 @@ unheard_after m Ua f o = ap (λ b. if b then heard m Ua else m) o
 unheard_after m (ActFrame act again) f o = absurd f
 unheard_after m Clt f o = absurd f
 
-pub tick_told : (pool : PoolState) (k : End) (m : Machine) (t : Ticked) (n : LinkReport) → EndStandsFor k pool m → ((e : EndState) → ShdlcStandsFor k.shdlc e → t ≡ tick_answer e) → n ≡ nothing_told
+pub tick_told : (pool : PoolState) (k : End) (m : Machine) (t : Ticked) (n : LinkReport) → EndStandsFor k pool m
+    → ((e : EndState) → ShdlcStandsFor k.shdlc e → t ≡ tick_answer e) → n ≡ nothing_told
     → record n { ended = t.ended; gave_up = t.gave_up } ≡ record nothing_told { ended = (tick_answer m.shdlc).ended; gave_up = (tick_answer m.shdlc).gave_up }
 tick_told pool k m t n h answer none =
     ap (λ (x : LinkReport). record x { ended = t.ended; gave_up = t.gave_up }) none
@@ -285,5 +293,6 @@ act_is_told m act again =
 
 -- ---- a tick
 
-pub tick_after : (m : Machine) (b : Bool) → is_open m.role ≡ b → after_input m Tick ≡ (if b then moved m (is_some (tick_answer m.shdlc).ended) (ticked m.shdlc) else activated m ActTick)
+pub tick_after : (m : Machine) (b : Bool) → is_open m.role ≡ b
+    → after_input m Tick ≡ (if b then moved m (is_some (tick_answer m.shdlc).ended) (ticked m.shdlc) else activated m ActTick)
 tick_after m b o = ap (λ x. if x then moved m (is_some (tick_answer m.shdlc).ended) (ticked m.shdlc) else activated m ActTick) o

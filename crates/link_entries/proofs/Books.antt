@@ -512,7 +512,8 @@ told_turn t who h SetAside s d b = go (aside_refusal h.side) refl
     go (Some why) q = rw q (told_nothing t who h b)
 
 -- a turn of the other end
-pub turn_far : (t : List Entry) (who : End) (k : ℕ) (e : LinkEnd) (x : Turn) (h : NumberedEnd) → Told t (far who) h → Told (t ++ turn_entry who k e x) (far who) h
+pub turn_far : (t : List Entry) (who : End) (k : ℕ) (e : LinkEnd) (x : Turn) (h : NumberedEnd) → Told t (far who) h
+    → Told (t ++ turn_entry who k e x) (far who) h
 turn_far t who k e (Hold held) h b = told_nothing t (far who) h b
 turn_far t who k e FetchMessage h b = told_nothing t (far who) h b
 turn_far t who k e SetAside h b = told_nothing t (far who) h b

@@ -139,7 +139,8 @@ pub record Both (t : List Entry) (n : Losses) (l : Link) : Type 0 where
 
 -- the other end goes on
 far_knows : (t u : List Entry) (n m : Losses) (h k : NumberedEnd) → k ≡ h → Grows n m u → Knows t n h → Knows (t ++ u) m k
-far_knows t u n m h k q g x = knows_more t u n m h k (λ up. let P : NumberedEnd → Type 0 = λ z. z.side.shdlc.phase ≡ IsUpNow in (subst P q up, ap number_of q)) g x
+far_knows t u n m h k q g x =
+    knows_more t u n m h k (λ up. let P : NumberedEnd → Type 0 = λ z. z.side.shdlc.phase ≡ IsUpNow in (subst P q up, ap number_of q)) g x
 
 pub input_knows : (t u : List Entry) (n m : Losses) (l k : Link) (i : LinkInput) (ts : List Turn) (ending : Ending) → Reports l.controller.side i
     → began_by l.controller.side i ≡ false → number_of k.controller ≡ number_of l.controller → k.host ≡ l.host

@@ -197,7 +197,8 @@ no_sent_so : (b : Bool) (e : Entry) → ((who : End) (n : ℕ) → sent_noted (e
 no_sent_so false e p = tt
 no_sent_so true e p = (p, tt)
 
-no_sent_option : {A : Type 0} (f : A → Entry) (o : Option A) → ((x : A) (who : End) (n : ℕ) → sent_noted (f x ∷ []) who n ≡ []) → NoSent (map f (option_to_list o))
+no_sent_option : {A : Type 0} (f : A → Entry) (o : Option A) → ((x : A) (who : End) (n : ℕ) → sent_noted (f x ∷ []) who n ≡ [])
+    → NoSent (map f (option_to_list o))
 no_sent_option f None p = tt
 no_sent_option f (Some x) p = (p x, tt)
 

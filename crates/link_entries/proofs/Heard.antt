@@ -202,7 +202,8 @@ controller_heard l s events a =
     then_heard Controller None (number_now l.controller) (number_now (after_link_events l events).controller) (first_entries l.controller.side.role) (entries l events)
     (first_heard l s).0 (both_heard l s events a).controller
 
-pub host_heard : (l : Link) → IsStart l → (events : List LinkEvent) → AllAllowed l events → session_in (trace l events) Host ≡ number_now (after_link_events l events).host
+pub host_heard : (l : Link) → IsStart l → (events : List LinkEvent) → AllAllowed l events
+    → session_in (trace l events) Host ≡ number_now (after_link_events l events).host
 host_heard l s events a =
     then_heard Host None (number_now l.host) (number_now (after_link_events l events).host) (first_entries l.controller.side.role) (entries l events)
     (first_heard l s).1 (both_heard l s events a).host

@@ -272,7 +272,8 @@ restart_heard who l i ts ending so down can =
     (not_up_quiet f ts down) can in
     record { here = h.here; there = h.there }
 
-taken_heard : (who : End) (l : Link) (x : OnWire) (xs : List OnWire) (ts : List Turn) (ending : Ending) → CanEnd l.controller.side.role ending → Near l → Frame l x ts
+taken_heard : (who : End) (l : Link) (x : OnWire) (xs : List OnWire) (ts : List Turn) (ending : Ending) → CanEnd l.controller.side.role ending
+    → Near l → Frame l x ts
     → Heard who l (has_taken l x xs ts ending) (taken_entries who l x xs ts ending)
 taken_heard who l x xs ts ending can n fr =
     let e : LinkEnd = l.controller.side in

@@ -77,7 +77,8 @@ pub record Knows (t : List Entry) (n : Losses) (h : NumberedEnd) : Type 0 where
   pub tells : h.side.shdlc.phase ≡ IsUpNow → bad n ≡ true → Disturbed (since (number_of h) t)
 
 -- more was noted, and its session goes on
-pub knows_more : (t u : List Entry) (n m : Losses) (h k : NumberedEnd) → (k.side.shdlc.phase ≡ IsUpNow → (h.side.shdlc.phase ≡ IsUpNow) × (number_of k ≡ number_of h))
+pub knows_more : (t u : List Entry) (n m : Losses) (h k : NumberedEnd)
+    → (k.side.shdlc.phase ≡ IsUpNow → (h.side.shdlc.phase ≡ IsUpNow) × (number_of k ≡ number_of h))
     → Grows n m u → Knows t n h → Knows (t ++ u) m k
 knows_more t u n m h k same grows x =
     record {

@@ -276,7 +276,8 @@ pub here_seen : (who : End) (l : Link) (e : EndEvent) → see_all (seen_as who l
 here_seen who l (Step comes ts ending) = step_seen who l comes ts ending
 here_seen who l (Lose why) = go who l.to_controller refl
   where
-    go : (who : End) (w : List OnWire) → l.to_controller ≡ w → see_all (seen_as who l) (here_entries who l (Lose why)) ≡ seen_as who (happens_at_controller l (Lose why))
+    go : (who : End) (w : List OnWire) → l.to_controller ≡ w
+        → see_all (seen_as who l) (here_entries who l (Lose why)) ≡ seen_as who (happens_at_controller l (Lose why))
     go Controller [] q = rw q refl
     go Controller (x ∷ xs) q = rw q refl
     go Host [] q = rw q refl
@@ -288,7 +289,8 @@ all_seen who (e ∷ es) l =
     see_all-append (seen_as who l) (here_entries who l e) (entries_of_events who (happens_at_controller l e) es)
     ∙ (ap (λ s. see_all s (entries_of_events who (happens_at_controller l e) es)) (here_seen who l e) ∙ all_seen who es (happens_at_controller l e))
 
-pub tick_seen : (who : End) (l : Link) (node : Node) → see_all (seen_as who l) (tick_entries who l node) ≡ seen_as who (ticks_at_controller l node.turns node.ending)
+pub tick_seen : (who : End) (l : Link) (node : Node)
+    → see_all (seen_as who l) (tick_entries who l node) ≡ seen_as who (ticks_at_controller l node.turns node.ending)
 tick_seen who l node =
     let i : LinkInput = HasTick in
     told_seen who l (with_ended l (is_some (ended_by l.controller.side i))) l.controller i (after_input l.controller.side i) node.turns node.ending

@@ -57,7 +57,8 @@ no_due e =
 
 -- ## A frame that is taken makes at most one control frame
 
-few_taken_I : (e : EndState) (ns nr x : ℕ) (info : Fragment) → e.phase ≡ Up → place_of e.session nr ≡ Some x → length (taken e (I ns nr info)).due ≤ length e.due + 1
+few_taken_I : (e : EndState) (ns nr x : ℕ) (info : Fragment) → e.phase ≡ Up → place_of e.session nr ≡ Some x
+    → length (taken e (I ns nr info)).due ≤ length e.due + 1
 few_taken_I e ns nr x info up at =
     let P : EndState → Type 0 = λ f. length f.due ≤ length e.due + 1 in
     let one : (d : Due) → length (e.due ++ d ∷ []) ≤ length e.due + 1 = λ d. omega (arith, length-append e.due (d ∷ [])) in

@@ -38,7 +38,8 @@ ready_cases P e r same other answered = go e.ready r e.session.answered_rnr same
     go false true true a b c = c
     go false true false a b c = b
 
-pub tick_cases : (P : EndState → Type 0) (e : EndState) → e.phase ≡ Up → (tick_answer e).ended ≡ None → P e → P (record e { timer = e.timer + 1 }) → P (sent_again e) → P (ticked e)
+pub tick_cases : (P : EndState → Type 0) (e : EndState) → e.phase ≡ Up → (tick_answer e).ended ≡ None → P e → P (record e { timer = e.timer + 1 })
+    → P (sent_again e) → P (ticked e)
 tick_cases P e up answer same counted again = go (runs_timer e.session) (nat_lt (e.timer + 1) 10) (nat_lt e.tries 5) refl refl refl answer
   where
     go : (a b c : Bool) → runs_timer e.session ≡ a → nat_lt (e.timer + 1) 10 ≡ b → nat_lt e.tries 5 ≡ c → (tick_answer e).ended ≡ None → P (ticked e)
@@ -55,7 +56,8 @@ pub received_cases : (P : EndState → Type 0) (e : EndState) (ns : ℕ) (info :
     → ((ahead e.session ns ≡ 0 → ⊥) → 4 ≤ ahead e.session ns → P (repeated e))
     → P (discarded e)
     → P (received e ns info)
-received_cases P e ns info takes same gap repeat not_ready = go e.ready (ahead e.session ns == 0) (nat_lt (ahead e.session ns) 4) e.session.gap_open refl refl refl refl
+received_cases P e ns info takes same gap repeat not_ready =
+    go e.ready (ahead e.session ns == 0) (nat_lt (ahead e.session ns) 4) e.session.gap_open refl refl refl refl
   where
     go : (a b c d : Bool) → e.ready ≡ a → (ahead e.session ns == 0) ≡ b → nat_lt (ahead e.session ns) 4 ≡ c → e.session.gap_open ≡ d → P (received e ns info)
     go false b c d p q r t = rw p (rw p at not_ready)
@@ -114,7 +116,8 @@ answer_S e k nr up = rw up refl
 pub fragment_due_tells : (s : Session) (info : Fragment) → fragment_due s ≡ Some info → (s.next < s.acked + s.window) × (slice_get s.out s.next ≡ Some info)
 fragment_due_tells s info h = go ((not s.peer_busy || s.probe) && nat_lt s.next (s.acked + s.window)) refl
   where
-    go : (b : Bool) → ((not s.peer_busy || s.probe) && nat_lt s.next (s.acked + s.window)) ≡ b → (s.next < s.acked + s.window) × (slice_get s.out s.next ≡ Some info)
+    go : (b : Bool) → ((not s.peer_busy || s.probe) && nat_lt s.next (s.acked + s.window)) ≡ b
+        → (s.next < s.acked + s.window) × (slice_get s.out s.next ≡ Some info)
     go true e = (ltb-true s.next (s.acked + s.window) (and_parts (not s.peer_busy || s.probe) (nat_lt s.next (s.acked + s.window)) e).1, rw e at h)
     go false e = absurd (let n = rw e at h in cc)
 
@@ -177,7 +180,8 @@ module _ (W : Type 0) where
       }
 
   -- less is claimed to be whole
-  pub joined_weaker : (V : Type 0) → (V → W) → (near far : EndState) (to_near to_far : List OnWire) → Joined W near far to_near to_far → Joined V near far to_near to_far
+  pub joined_weaker : (V : Type 0) → (V → W) → (near far : EndState) (to_near to_far : List OnWire) → Joined W near far to_near to_far
+      → Joined V near far to_near to_far
   joined_weaker V f near far to_near to_far h =
       record {
         near_up = h.near_up;

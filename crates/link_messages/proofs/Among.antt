@@ -36,7 +36,8 @@ whole-none m ms n high = go (nat_le (packet_count (length m.1)) n) refl
     go false t = (rw t, rw t)
 
 -- where the fragments of the first message were all cut, those that wait are the others' ones
-pub waiting-first : (m : Message) (ms : List Message) (cut : ℕ) → packet_count (length m.1) ≤ cut → drop cut (fragments_of (m ∷ ms)) ≡ drop (cut - packet_count (length m.1)) (fragments_of ms)
+pub waiting-first : (m : Message) (ms : List Message) (cut : ℕ) → packet_count (length m.1) ≤ cut
+    → drop cut (fragments_of (m ∷ ms)) ≡ drop (cut - packet_count (length m.1)) (fragments_of ms)
 waiting-first m ms cut low =
     let len = length-fragments m in
     let places : cut ≡ length (fragments m) + (cut - packet_count (length m.1)) = omega (arith, len, low) in
@@ -46,11 +47,13 @@ pub length-first : (m : Message) (ms : List Message) → length (fragments_of (m
 length-first m ms = length-append (fragments m) (fragments_of ms) ∙ ap (λ n. n + length (fragments_of ms)) (length-fragments m)
 
 -- more fragments behind those that wait
-pub waiting-push : (ms : List Message) (m : Message) (cut : ℕ) → cut ≤ length (fragments_of ms) → drop cut (fragments_of (ms ++ m ∷ [])) ≡ drop cut (fragments_of ms) ++ map packet_bytes (packets_of m.0 m.1)
+pub waiting-push : (ms : List Message) (m : Message) (cut : ℕ) → cut ≤ length (fragments_of ms)
+    → drop cut (fragments_of (ms ++ m ∷ [])) ≡ drop cut (fragments_of ms) ++ map packet_bytes (packets_of m.0 m.1)
 waiting-push ms m cut low = ap (drop cut) (fragments-push ms m) ∙ drop-append-le cut (fragments_of ms) (fragments m) low
 
 pub length-push : (ms : List Message) (m : Message) → length (fragments_of (ms ++ m ∷ [])) ≡ length (fragments_of ms) + packet_count (length m.1)
-length-push ms m = ap length (fragments-push ms m) ∙ (length-append (fragments_of ms) (fragments m) ∙ ap (λ n. length (fragments_of ms) + n) (length-fragments m))
+length-push ms m =
+    ap length (fragments-push ms m) ∙ (length-append (fragments_of ms) (fragments m) ∙ ap (λ n. length (fragments_of ms) + n) (length-fragments m))
 
 some_packets : (m : Message) → IsSendable m → 0 < packet_count (length m.1)
 some_packets m sendable = let some = sendable.1 in omega arith
@@ -85,7 +88,8 @@ whole-length (x ∷ ms) n low = go (nat_le (packet_count (length x.1)) n) refl (
     go false t more = (rw t (omega arith), rw t (omega arith))
 
 -- acknowledging on: what is acknowledged of all is what was, and then what is of those that were left
-pub whole-more : (ms : List Message) (n more : ℕ) → (whole_among ms (n + more) ≡ whole_among ms n + whole_among (drop (whole_among ms n) ms) (rest_among ms n + more))
+pub whole-more : (ms : List Message) (n more : ℕ)
+    → (whole_among ms (n + more) ≡ whole_among ms n + whole_among (drop (whole_among ms n) ms) (rest_among ms n + more))
     × (rest_among ms (n + more) ≡ rest_among (drop (whole_among ms n) ms) (rest_among ms n + more))
 whole-more [] n more = (refl, refl)
 whole-more (x ∷ ms) n more = go (nat_le (packet_count (length x.1)) n) refl (whole-more ms (n - packet_count (length x.1)) more)

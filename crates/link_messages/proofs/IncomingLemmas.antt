@@ -35,7 +35,8 @@ front_holds pool owner xs (Some g) h =
     let y : Open = record { pipe = g.pipe; chain = g.chain } in
     record { own = (all_front (IsOwnOpen pool owner) xs y h.own).0; apart = (apart_front xs y h.apart).0 }
 
-pub front_apart : (xs : List Open) (got : Option Got) (other : Chain) → IsApartFrom (xs ++ got_chains got) other → IsApartFrom xs other × IsApartFrom (got_chains got) other
+pub front_apart : (xs : List Open) (got : Option Got) (other : Chain) → IsApartFrom (xs ++ got_chains got) other
+    → IsApartFrom xs other × IsApartFrom (got_chains got) other
 front_apart xs None other a = (subst (λ l. IsApartFrom l other) (append-nil xs) a, tt)
 front_apart xs (Some g) other a =
     let both = all_front (λ x. IsApart other x.chain) xs (record { pipe = g.pipe; chain = g.chain }) a in
@@ -45,7 +46,8 @@ pub held_both : (pool : PoolState) (xs ys : List Open) → held_blocks pool (xs 
 held_both pool xs ys = sum_by-append (λ (x : Open). blocks_for (length (chain_bytes pool x.chain))) xs ys
 
 -- the message that was got, where the chains under way changed
-pub got_kept : (old new : PoolState) (owner : ℕ) (before after : List Open) (got : Option Got) → KeepsOtherChains old new before after → HoldsChains old owner (before ++ got_chains got)
+pub got_kept : (old new : PoolState) (owner : ℕ) (before after : List Open) (got : Option Got) → KeepsOtherChains old new before after
+    → HoldsChains old owner (before ++ got_chains got)
     → HoldsChains new owner (got_chains got) × (messages_in new (got_chains got) ≡ messages_in old (got_chains got)) × (held_blocks new (got_chains got) ≡ held_blocks old (got_chains got))
     × AllByRecursion (λ x. IsApartFrom after x.chain) (got_chains got)
 got_kept old new owner before after None keeps h = (record { own = tt; apart = tt }, refl, refl, tt)
@@ -67,7 +69,8 @@ pub record Cleared (old new : PoolState) (before after : Inbox) : Type 0 where
   pub counted : used_of new before.joiner.owner + held_blocks old (chains_in before) ≡ used_of old before.joiner.owner + held_blocks new (chains_in after)
   pub elsewhere : InboxLeavesOthers old new before.joiner.owner (chains_in before) (chains_in after)
 
-pub cleared : (old new : PoolState) (before after : Inbox) → InboxLiesIn old before → after.joiner.owner ≡ before.joiner.owner → after.joiner.open.items ≡ [] → after.got ≡ before.got
+pub cleared : (old new : PoolState) (before after : Inbox) → InboxLiesIn old before → after.joiner.owner ≡ before.joiner.owner
+    → after.joiner.open.items ≡ [] → after.got ≡ before.got
     → new.owners ≡ with_used old.owners before.joiner.owner (used_of old before.joiner.owner - held_blocks old before.joiner.open.items)
     → KeepsOtherChains old new before.joiner.open.items [] → Cleared old new before after
 cleared old new before after lies owner none got owners keeps =
@@ -122,7 +125,8 @@ kept_good pool before whole h good = record {
   elsewhere = record { owners = sym (with_used-same pool.owners before.joiner.owner); others = λ other live away. (live, refl, away) };
 }
 
-pub dropped_bad : (old new : PoolState) (before : Inbox) (whole : Open) → HoldsWhole old before.joiner whole → before.got ≡ None → is_good (chain_bytes old whole.chain) ≡ false
+pub dropped_bad : (old new : PoolState) (before : Inbox) (whole : Open) → HoldsWhole old before.joiner whole → before.got ≡ None
+    → is_good (chain_bytes old whole.chain) ≡ false
     → Gives old new whole.chain → KeepsOthers old new whole.chain whole.chain → Keeps old new before before whole
 dropped_bad old new before whole h none bad gives keeps =
     let o = before.joiner.owner in
@@ -196,7 +200,8 @@ pub record TakesIn (old new : PoolState) (before : Inbox) (joiner : Joiner) (p :
   pub others : KeepsOtherChains old new before.joiner.open.items (joiner.open.items ++ whole)
 
 -- what stands of its owner
-counts : (old new : PoolState) (before : Inbox) (joiner : Joiner) (p : Packet) (whole : List Open) → InboxLiesIn old before → TakesIn old new before joiner p whole
+counts : (old new : PoolState) (before : Inbox) (joiner : Joiner) (p : Packet) (whole : List Open) → InboxLiesIn old before
+    → TakesIn old new before joiner p whole
     → (before.joiner.owner < length new.owners) × (quota_of new before.joiner.owner ≡ 512) × (used_of new before.joiner.owner ≡ held_blocks new (joiner.open.items ++ whole))
 counts old new before joiner p whole lies t =
     let o = before.joiner.owner in
@@ -210,7 +215,8 @@ step_given : (ms : List Message) (p : Packet) (o : JoinOutcome) → (join_step m
 step_given ms p o e = append-nil (message_in (join_step ms p).0) ∙ ap message_in e
 
 -- its message isn't whole yet
-pub joins_more : (old new : PoolState) (before : Inbox) (joiner : Joiner) (p : Packet) → InboxLiesIn old before → IsInboxReady old before → TakesIn old new before joiner p []
+pub joins_more : (old new : PoolState) (before : Inbox) (joiner : Joiner) (p : Packet) → InboxLiesIn old before → IsInboxReady old before
+    → TakesIn old new before joiner p []
     → (join_step (messages_under_way old before) p).0 ≡ Nothing → Joins old new before (record before { joiner = joiner }) (p ∷ [])
 joins_more old new before joiner p lies ready t outcome =
     let o = before.joiner.owner in
@@ -238,7 +244,8 @@ joins_more old new before joiner p lies ready t outcome =
     }
 
 -- it is whole now
-pub holds_whole : (old new : PoolState) (before : Inbox) (joiner : Joiner) (p : Packet) (whole : Open) → InboxLiesIn old before → TakesIn old new before joiner p (whole ∷ []) → HoldsWhole new joiner whole
+pub holds_whole : (old new : PoolState) (before : Inbox) (joiner : Joiner) (p : Packet) (whole : Open) → InboxLiesIn old before
+    → TakesIn old new before joiner p (whole ∷ []) → HoldsWhole new joiner whole
 holds_whole old new before joiner p whole lies t =
     let c = counts old new before joiner p (whole ∷ []) lies t in
     record {
@@ -248,7 +255,8 @@ holds_whole old new before joiner p whole lies t =
       used = ap (λ q. used_of new q) t.owner ∙ c.2;
     }
 
-pub joins_whole : (old mid new : PoolState) (before after : Inbox) (joiner : Joiner) (p : Packet) (whole : Open) → InboxLiesIn old before → IsInboxReady old before → TakesIn old mid before joiner p (whole ∷ [])
+pub joins_whole : (old mid new : PoolState) (before after : Inbox) (joiner : Joiner) (p : Packet) (whole : Open) → InboxLiesIn old before
+    → IsInboxReady old before → TakesIn old mid before joiner p (whole ∷ [])
     → (join_step (messages_under_way old before) p).0 ≡ Ended whole.pipe (chain_bytes mid whole.chain) → after.joiner ≡ joiner → Keeps mid new (record before { joiner = joiner }) after whole → Joins old new before after (p ∷ [])
 joins_whole old mid new before after joiner p whole lies ready t outcome same k =
     let o = before.joiner.owner in
@@ -274,7 +282,8 @@ joins_whole old mid new before after joiner p whole lies ready t outcome same k 
 fault_empties : (ms : List Message) (p : Packet) → is_fault (join_step ms p).0 ≡ true → (join_step ms p).1 ≡ []
 fault_empties ms p f = go (is_fifth ms p.pipe) (nat_lt 4096 (length (grown ms p))) p.last refl refl refl f
   where
-    go : (a b c : Bool) → is_fifth ms p.pipe ≡ a → nat_lt 4096 (length (grown ms p)) ≡ b → p.last ≡ c → is_fault (join_step ms p).0 ≡ true → (join_step ms p).1 ≡ []
+    go : (a b c : Bool) → is_fifth ms p.pipe ≡ a → nat_lt 4096 (length (grown ms p)) ≡ b → p.last ≡ c → is_fault (join_step ms p).0 ≡ true
+        → (join_step ms p).1 ≡ []
     go true b c q r s f = rw q
     go false true c q r s f = rw (q, r)
     go false false true q r s f = let h : false ≡ true = rw (q, r, s) at f in cc
@@ -291,7 +300,8 @@ pub record Faults (old new : PoolState) (before after : Inbox) : Type 0 where
   pub used : used_of new before.joiner.owner ≡ 0
   pub elsewhere : InboxLeavesOthers old new before.joiner.owner (chains_in before) []
 
-pub joins_fault : (old new : PoolState) (before : Inbox) (joiner : Joiner) (p : Packet) → InboxLiesIn old before → IsInboxReady old before → TakesIn old new before joiner p []
+pub joins_fault : (old new : PoolState) (before : Inbox) (joiner : Joiner) (p : Packet) → InboxLiesIn old before → IsInboxReady old before
+    → TakesIn old new before joiner p []
     → is_fault (join_step (messages_under_way old before) p).0 ≡ true → Faults old new before (record before { joiner = joiner })
 joins_fault old new before joiner p lies ready t fault =
     let o = before.joiner.owner in

@@ -23,7 +23,8 @@ use Rattle.link_messages.proofs.Among.{whole-first, waiting-first, length-first,
 use Rattle.link_machine.proofs.Sound.{fragments_count as length-fragments}
 
 -- the same bytes are the same messages
-pub messages_same : (old new : PoolState) (queue : List Queued) → all_bytes Queued chain_in new queue ≡ all_bytes Queued chain_in old queue → messages_of_all new queue ≡ messages_of_all old queue
+pub messages_same : (old new : PoolState) (queue : List Queued) → all_bytes Queued chain_in new queue ≡ all_bytes Queued chain_in old queue
+    → messages_of_all new queue ≡ messages_of_all old queue
 messages_same old new [] e = refl
 messages_same old new (q ∷ queue) e =
     let here : chain_bytes new q.chain ≡ chain_bytes old q.chain = cc in
@@ -54,7 +55,8 @@ none_first [] e = refl
 none_first (x ∷ items) e = cc
 
 -- a front whose blocks were given back
-pub gives_front : (old new : PoolState) (before after : Outbox) (q : Queued) → AreKept old before.owner before.queue → before.queue.items ≡ q ∷ after.queue.items
+pub gives_front : (old new : PoolState) (before after : Outbox) (q : Queued) → AreKept old before.owner before.queue
+    → before.queue.items ≡ q ∷ after.queue.items
     → after.queue.capacity ≡ before.queue.capacity → after.acked ≡ before.acked → after.cut ≡ before.cut → after.owner ≡ before.owner
     → Gives old new q.chain → KeepsOthers old new q.chain q.chain → GivesFront old new before after
 gives_front old new before after q kept items capacity acked cut owner gives keeps =
@@ -102,7 +104,8 @@ gives_front old new before after q kept items capacity acked cut owner gives kee
     }
 
 -- one call after another
-pub leaves_on : (old mid new : PoolState) (owner : ℕ) (xs ys zs : List Queued) → owner < length old.owners → OutboxLeavesOthers old mid owner xs ys → OutboxLeavesOthers mid new owner ys zs
+pub leaves_on : (old mid new : PoolState) (owner : ℕ) (xs ys zs : List Queued) → owner < length old.owners → OutboxLeavesOthers old mid owner xs ys
+    → OutboxLeavesOthers mid new owner ys zs
     → OutboxLeavesOthers old new owner xs zs
 leaves_on old mid new owner xs ys zs low a b = record {
   owners = b.owners ∙ (ap (λ os. with_used os owner (used_of new owner)) a.owners ∙ with_used-with_used old.owners owner (used_of mid owner) (used_of new owner) low);
@@ -116,7 +119,8 @@ pub leaves_none : (pool : PoolState) (owner : ℕ) (xs : List Queued) → Outbox
 leaves_none pool owner xs = record { owners = sym (with_used-same pool.owners owner); others = λ other live away. (live, refl, away) }
 
 -- the first message was acknowledged whole
-pub gives_whole : (old new : PoolState) (before after : Outbox) (g : GivesFront old new before after) → OutboxLiesIn old before → packet_count (length g.first.1) ≤ before.acked
+pub gives_whole : (old new : PoolState) (before after : Outbox) (g : GivesFront old new before after) → OutboxLiesIn old before
+    → packet_count (length g.first.1) ≤ before.acked
     → GivesBack old new before (record after { acked = after.acked - packet_count (length g.first.1); cut = after.cut - packet_count (length g.first.1) }) 1
 gives_whole old new before after g lies low =
     let c = packet_count (length g.first.1) in
@@ -138,7 +142,8 @@ gives_whole old new before after g lies low =
       elsewhere = g.elsewhere;
     }
 
-pub gives_on : (old mid new : PoolState) (a b c : Outbox) (n : ℕ) → a.owner < length old.owners → GivesBack old mid a b n → GivesBack mid new b c 1 → GivesBack old new a c (n + 1)
+pub gives_on : (old mid new : PoolState) (a b c : Outbox) (n : ℕ) → a.owner < length old.owners → GivesBack old mid a b n → GivesBack mid new b c 1
+    → GivesBack old new a c (n + 1)
 gives_on old mid new a b c n low x y = record {
   lies = y.lies;
   messages = y.messages ∙ (ap (drop 1) x.messages ∙ drop-drop 1 n (queued_messages old a));
@@ -161,7 +166,8 @@ gives_none pool a lies = record {
 }
 
 -- a message in a chain of its own stands behind the others
-pub pushed : (old new : PoolState) (o : ℕ) (queue : Buffer Queued) (before after : Chain) (pipe : ℕ) (bytes : List ℕ) → AreKept old o queue → KeepsOthers old new before after
+pub pushed : (old new : PoolState) (o : ℕ) (queue : Buffer Queued) (before after : Chain) (pipe : ℕ) (bytes : List ℕ) → AreKept old o queue
+    → KeepsOthers old new before after
     → LiesApart Queued chain_in queue.items before → IsLive new after → after.owner ≡ o → chain_bytes new after ≡ bytes → IsSendable (pipe, bytes)
     → HasQuota new o → quota_of new o ≡ quota_of old o → used_of new o ≡ used_of old o + blocks_for (length bytes) → aside_of new o ≡ aside_of old o → used_of new o ≤ 128
     → (length queue.items < 128)
@@ -198,7 +204,8 @@ pushed old new o queue before after pipe bytes kept keeps away live owned is sen
     all_sendable ms m all here = all_pushed Message IsSendable ms m all here
 
 -- what is kept with it lies in the pool
-pub accepted : (old new : PoolState) (before after : Outbox) (m : Message) → OutboxLiesIn old before → AreKept new after.owner after.queue → queued_messages new after ≡ queued_messages old before ++ m ∷ []
+pub accepted : (old new : PoolState) (before after : Outbox) (m : Message) → OutboxLiesIn old before → AreKept new after.owner after.queue
+    → queued_messages new after ≡ queued_messages old before ++ m ∷ []
     → after.acked ≡ before.acked → after.cut ≡ before.cut → after.owner ≡ before.owner → Accepts old new before after m
 accepted old new before after m lies kept messages acked cut owner =
     let len = ap (λ l. length (fragments_of l)) messages ∙ length-push (queued_messages old before) m in
@@ -220,7 +227,8 @@ pub record Clears (first now : PoolState) (before box : Outbox) : Type 0 where
 pub clears_none : (pool : PoolState) (box : Outbox) → AreKept pool box.owner box.queue → Clears pool pool box box
 clears_none pool box kept = record { kept = kept; owner = refl; has = kept.has_quota; elsewhere = leaves_none pool box.owner box.queue.items }
 
-pub clears_more : (first now new : PoolState) (before box after : Outbox) → Clears first now before box → GivesFront now new box after → Clears first new before after
+pub clears_more : (first now new : PoolState) (before box after : Outbox) → Clears first now before box → GivesFront now new box after
+    → Clears first new before after
 clears_more first now new before box after c g = record {
   kept = g.kept;
   owner = g.owner ∙ c.owner;
@@ -246,7 +254,8 @@ apart_empty_all [] chain none = tt
 apart_empty_all (x ∷ xs) chain none = (apart_empty chain x.chain none, apart_empty_all xs chain none)
 
 -- a message was taken into a chain of its own
-pub taken_into : (old new : PoolState) (o : ℕ) (queue : Buffer Queued) (before after : Chain) (pipe : ℕ) (bytes : List ℕ) → AreKept old o queue → before.owner ≡ o → before.first ≡ None
+pub taken_into : (old new : PoolState) (o : ℕ) (queue : Buffer Queued) (before after : Chain) (pipe : ℕ) (bytes : List ℕ) → AreKept old o queue
+    → before.owner ≡ o → before.first ≡ None
     → IsSendable (pipe, bytes) → TakesInto old new before after bytes
     → (length queue.items < 128)
     × AreKept new o (buffer (queue.items ++ record { pipe = pipe; chain = after } ∷ []) queue.capacity)
@@ -282,7 +291,8 @@ slice_get_behind (x ∷ xs) ys (suc p) n e = slice_get_behind xs ys p n (omega a
 pub drop_at : {X : Type 0} (xs : List X) (i : ℕ) (x : X) → Some x ≡ slice_get xs i → drop i xs ≡ x ∷ drop (i + 1) xs
 drop_at [] i x e = cc
 drop_at {X} (y ∷ xs) zero x e = let same : x ≡ y = cc in ap (λ (z : X). z ∷ xs) (sym same)
-drop_at {X} (y ∷ xs) (suc i) x e = drop_at xs i x e ∙ (let n : drop (i + 1) xs ≡ drop (suc i + 1) (y ∷ xs) = (let k : suc i + 1 ≡ suc (i + 1) = omega arith in sym (ap (λ m. drop m (y ∷ xs)) k)) in ap (λ (l : List X). x ∷ l) n)
+drop_at {X} (y ∷ xs) (suc i) x e =
+    drop_at xs i x e ∙ (let n : drop (i + 1) xs ≡ drop (suc i + 1) (y ∷ xs) = (let k : suc i + 1 ≡ suc (i + 1) = omega arith in sym (ap (λ m. drop m (y ∷ xs)) k)) in ap (λ (l : List X). x ∷ l) n)
 
 pub drop_none : {X : Type 0} (xs : List X) (i : ℕ) → None ≡ slice_get xs i → drop i xs ≡ []
 drop_none [] zero e = refl
@@ -327,7 +337,8 @@ looks_on pool box at place count q looks found counted low =
     }
 
 -- two packets at most go into a block
-pub few_fragments : (pool : PoolState) (queue : List Queued) → AreSendable (messages_of_all pool queue) → length (fragments_of (messages_of_all pool queue)) ≤ 2 * all_blocks Queued chain_in pool queue
+pub few_fragments : (pool : PoolState) (queue : List Queued) → AreSendable (messages_of_all pool queue)
+    → length (fragments_of (messages_of_all pool queue)) ≤ 2 * all_blocks Queued chain_in pool queue
 few_fragments pool [] s = omega arith
 few_fragments pool (q ∷ queue) s =
     let some = s.0.1 in
@@ -353,7 +364,8 @@ acknowledges_none pool box lies =
     let each = each_has_block pool box.queue.items lies.kept.sendable in
     record { gives = gives_none pool box lies; counted = omega arith; has = lies.kept.has_quota; few = omega (arith, each, lies.kept.used, lies.kept.within) }
 
-pub acknowledges_more : (first now new : PoolState) (before box after : Outbox) (whole : ℕ) → Acknowledges first now before box whole → GivesBack now new box after 1
+pub acknowledges_more : (first now new : PoolState) (before box after : Outbox) (whole : ℕ) → Acknowledges first now before box whole
+    → GivesBack now new box after 1
     → length after.queue.items + 1 ≡ length box.queue.items → Acknowledges first new before after (whole + 1)
 acknowledges_more first now new before box after whole a g fewer = record {
   gives = gives_on first now new before box after whole a.has a.gives g;
@@ -376,7 +388,8 @@ pub record PassesInto (old new : PoolState) (before after : Chain) (owner : ℕ)
   pub others : KeepsOthers old new before after
   pub room : blocks_for (length (chain_bytes old before)) ≤ spare_of old owner
 
-pub passed_into : (old new : PoolState) (o : ℕ) (queue : Buffer Queued) (before after : Chain) (pipe : ℕ) → AreKept old o queue → IsLive old before → before.owner ≢ o
+pub passed_into : (old new : PoolState) (o : ℕ) (queue : Buffer Queued) (before after : Chain) (pipe : ℕ) → AreKept old o queue → IsLive old before
+    → before.owner ≢ o
     → IsSendable (pipe, chain_bytes old before) → PassesInto old new before after o
     → (length queue.items < 128)
     × AreKept new o (buffer (queue.items ++ record { pipe = pipe; chain = after } ∷ []) queue.capacity)

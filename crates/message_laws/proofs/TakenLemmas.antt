@@ -42,7 +42,8 @@ not_fifth ms pipe few =
     and_false true = refl
     and_false false = refl
 
-not_long : (ms : List (ℕ × List ℕ)) (p : Packet) (bytes : List ℕ) → Alone ms p.pipe bytes → length bytes + length p.bytes.items ≤ 4096 → ltb 4096 (length (grown ms p)) ≡ false
+not_long : (ms : List (ℕ × List ℕ)) (p : Packet) (bytes : List ℕ) → Alone ms p.pipe bytes → length bytes + length p.bytes.items ≤ 4096
+    → ltb 4096 (length (grown ms p)) ≡ false
 not_long ms p bytes alone fits =
     let len : length (grown ms p) ≡ length bytes + length p.bytes.items = length-append (so_far ms p.pipe) p.bytes.items ∙ ap (λ bs. length bs + length p.bytes.items) alone.under_way in
     grind (arith, common_steps, len)
@@ -57,7 +58,8 @@ alone_again pipe bytes = record {
   under_way = ap (λ b. cond b bytes []) (itself pipe);
 }
 
-parts_taken : (pipe n : ℕ) (left bytes : List ℕ) (ms : List (ℕ × List ℕ)) (packets : List Packet) → Alone ms pipe bytes → length bytes + length left ≤ 4096 → are_taken ms (parts_of pipe (suc n) left ++ packets) ≡ are_taken [] packets
+parts_taken : (pipe n : ℕ) (left bytes : List ℕ) (ms : List (ℕ × List ℕ)) (packets : List Packet) → Alone ms pipe bytes
+    → length bytes + length left ≤ 4096 → are_taken ms (parts_of pipe (suc n) left ++ packets) ≡ are_taken [] packets
 parts_taken pipe zero left bytes ms packets alone fits =
     let p = packet true pipe (take 28 left) in
     let step = last_step ms p (not_fifth ms pipe alone.few) (not_long ms p bytes alone (omega (arith, length-take 28 left))) refl in
@@ -92,7 +94,9 @@ front_taken : (front rest : List Packet) (ms : List (ℕ × List ℕ)) → are_t
 front_taken [] rest ms taken = refl
 front_taken (p ∷ front) rest ms taken = by_fault (is_fault (join_step ms p).0) refl (λ t. front_taken front rest (join_step ms p).1 t)
   where
-    by_fault : (b : Bool) → is_fault (join_step ms p).0 ≡ b → (are_taken (join_step ms p).1 (front ++ rest) ≡ true → are_taken (join_step ms p).1 front ≡ true) → (not (is_fault (join_step ms p).0) && are_taken (join_step ms p).1 front) ≡ true
+    by_fault : (b : Bool) → is_fault (join_step ms p).0 ≡ b
+        → (are_taken (join_step ms p).1 (front ++ rest) ≡ true → are_taken (join_step ms p).1 front ≡ true)
+        → (not (is_fault (join_step ms p).0) && are_taken (join_step ms p).1 front) ≡ true
     by_fault true e more = absurd (let t : not true && are_taken (join_step ms p).1 (front ++ rest) ≡ true = subst (λ b. not b && are_taken (join_step ms p).1 (front ++ rest) ≡ true) e taken in never t)
       where
         never : false ≡ true → ⊥
@@ -107,5 +111,6 @@ no_fault sent got short front =
     let taken : are_taken [] (packets_in got) ≡ true = front_taken (packets_in got) (packets_in front.0) [] (ap (are_taken []) all ∙ all_taken sent short) in
     subst IsTrue (sym taken) (search rules)
 
-pub all_given : (sent : List (ℕ × List ℕ)) (got : List (List ℕ)) → AreShort sent → IsFrontOf got (fragments_of sent) → given_by [] (packets_in got) ≡ messages_of (packets_in got)
+pub all_given : (sent : List (ℕ × List ℕ)) (got : List (List ℕ)) → AreShort sent → IsFrontOf got (fragments_of sent)
+    → given_by [] (packets_in got) ≡ messages_of (packets_in got)
 all_given sent got short front = given_messages (packets_in got) (no_fault sent got short front)

@@ -129,4 +129,3 @@ frames_alike (suc n) e =
     let a = fetched_alike e in
     let b = frames_alike n (fetched e) in
     record { out = b.out ∙ a.out; acc = b.acc ∙ a.acc; phase = b.phase ∙ a.phase }
-

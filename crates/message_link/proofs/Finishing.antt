@@ -269,7 +269,8 @@ step_frame l ts ending a can p h t rests from = go l.to_controller refl
         → core_step l NextFrame ts ending ≡ core_take l.controller.side x.frame ts ++ core_ending ending
     core_some x xs q = rw q refl
 
-    go : (w : List OnWire) → l.to_controller ≡ w → Step l (steps_at_controller l NextFrame ts ending) (core_all_here (core_of l) (core_step l NextFrame ts ending))
+    go : (w : List OnWire) → l.to_controller ≡ w
+        → Step l (steps_at_controller l NextFrame ts ending) (core_all_here (core_of l) (core_step l NextFrame ts ending))
     go [] q =
         step_same l (steps_at_controller l NextFrame ts ending) l (core_all_here (core_of l) (core_step l NextFrame ts ending)) (core_of l)
         (nothing q) (ap (core_all_here (core_of l)) (core_nothing q))

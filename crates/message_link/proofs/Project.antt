@@ -376,4 +376,3 @@ step_moved l b s ts h a keeps c =
     calm : (b : Bool) → CalmLink l → Calm (moved l.controller.side b s).role l.host.side.role (with_ended l b).to_controller (with_ended l b).to_host
     calm false z = z
     calm true z = z
-

@@ -302,7 +302,8 @@ ended-core (x ∷ xs) n = go (n == x.0) refl (ended-core xs n)
 pub session-core : (h : NumberedEnd) (n : ℕ) → shdlc_session_of (core_half h) n ≡ (talk_of h n).session
 session-core h n = go h.side.shdlc.phase (n == core_number_of (core_half h)) refl refl
   where
-    go : (p : LinkState) (b : Bool) → h.side.shdlc.phase ≡ p → (n == core_number_of (core_half h)) ≡ b → shdlc_session_of (core_half h) n ≡ (talk_of h n).session
+    go : (p : LinkState) (b : Bool) → h.side.shdlc.phase ≡ p → (n == core_number_of (core_half h)) ≡ b
+        → shdlc_session_of (core_half h) n ≡ (talk_of h n).session
     go Up true p q = rw (p, q) refl
     go Up false p q = rw (p, q) (ended-core h.past n)
     go Waiting b p q = rw p (ended-core h.past n)

@@ -18,7 +18,8 @@ started_of content state says some = record {
 pub says_started : (content : List ℕ) (state : State) → IsStarted content → state_of content ≡ state → Says content state
 says_started content state started is = record { size = started.size; state_is = is; sound = started.sound }
 
-pub left_by_cut : (writes : List Write) (content left : List ℕ) → IsAllOrNothing writes content → (k : ℕ) × IsCut k writes content left → LeftByCut writes content left
+pub left_by_cut : (writes : List Write) (content left : List ℕ) → IsAllOrNothing writes content → (k : ℕ) × IsCut k writes content left
+    → LeftByCut writes content left
 left_by_cut writes content left whole cut = record { whole = cut.0; cut = cut.1; says = whole.says cut.0 left cut.1 }
 
 pub on_err : {T E : Type 0} (r : Result T E) (P : Type 0) → P → OnErr r P

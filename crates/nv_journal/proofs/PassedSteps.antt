@@ -221,7 +221,8 @@ module _ (c : List ℕ) (side : Side) (state : State) (ahead : List ℕ) (p : Is
     one_behind =
         ap₂ (λ l n. record { bodies = l; size = n; is_bad = later.is_bad }) (sym (append_assoc p.passed (b ∷ []) later.bodies)) (regroup (sym gap_is))
       where
-        regroup : g ≡ 2 + index_len state.version + length b → state.size + (g + later.size) ≡ state.size + (2 + index_len state.version + length b) + later.size
+        regroup : g ≡ 2 + index_len state.version + length b
+            → state.size + (g + later.size) ≡ state.size + (2 + index_len state.version + length b) + later.size
         regroup is = omega arith
 
     pub passed_then : g ≤ length ahead → IsPassed c side then (drop g ahead)
@@ -251,7 +252,8 @@ module _ (c : List ℕ) (side : Side) (state : State) (ahead : List ℕ) (p : Is
         fuel n = omega arith
 
   -- one more piece
-  pub piece_read : (now : List ℕ) (at k : ℕ) → at ≡ bank_place side + (next_gate state + length ahead) → length now ≡ length ahead + k → state.size + length now ≤ 32756
+  pub piece_read : (now : List ℕ) (at k : ℕ) → at ≡ bank_place side + (next_gate state + length ahead) → length now ≡ length ahead + k
+      → state.size + length now ≤ 32756
       → now ≡ ahead ++ slice_range c at (at + k) → IsPassed c side state now
   piece_read now at k at_is size fits is = record {
     in_use = p.in_use;
@@ -280,7 +282,8 @@ module _ (c : List ℕ) (side : Side) (state : State) (ahead : List ℕ) (p : Is
           (sym (take-take 32768 32768 (drop (bank_place side) c) (omega arith))) (omega (arith, size, fits))
           ∙ ap (take k) (sym (drop_further (next_gate state) (length ahead) (bank c side)))
 
-pub filled_len : {M : Type 0} (reads : M → Bool → M → Type 0) (left : ℕ) (old : M) (before : List ℕ) (new : M) (now : List ℕ) → IsFilled reads left old before new now
+pub filled_len : {M : Type 0} (reads : M → Bool → M → Type 0) (left : ℕ) (old : M) (before : List ℕ) (new : M) (now : List ℕ)
+    → IsFilled reads left old before new now
     → (length before ≤ length now) × (length now ≤ length before + left)
 filled_len reads left old before new now (inl same) = (omega (arith, ap length same.1), omega (arith, ap length same.1))
 filled_len reads left old before new now (inr piece) = (omega (arith, piece.size), omega (arith, piece.size))

@@ -37,7 +37,8 @@ module _ {N : Type 0} (reads : N → Bool → N → Type 0) (first : N) where
   refused_by faults tells content between new f (inr image) unread read count rose kept still =
       (inr (record { fault_is = image.0; read = read image.0; told = λ t. ap fault (sym (kept t)) ∙ image.1 t }), λ t. still t ∙ kept t)
 
-  pub opened_by : (writes : N → ℕ → List ℕ → Bool → N → Type 0) (tells : Bool) (content : N → List ℕ) (s : Scanned N) (new : N) (state : State) → IsReadSoFar reads first s
+  pub opened_by : (writes : N → ℕ → List ℕ → Bool → N → Type 0) (tells : Bool) (content : N → List ℕ) (s : Scanned N) (new : N) (state : State)
+      → IsReadSoFar reads first s
       → AreMade writes (start_writes s.state) s.nv true new → state ≡ started_state s.state → (IsTrue tells → content s.nv ≡ content first)
       → (IsTrue tells → Says (content s.nv) s.state) → IsOpened reads writes tells content first new state
   opened_by writes tells content s new state r made is kept said = record {

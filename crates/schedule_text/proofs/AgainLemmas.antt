@@ -126,7 +126,8 @@ digit_letters : (ds : List ℕ) → all_ascii_digits ds ≡ true → list_all is
 digit_letters [] h = refl
 digit_letters (c ∷ cs) h = go (is_ascii_digit c) refl h (digit_letters cs)
   where
-    go : (t : Bool) → is_ascii_digit c ≡ t → (t && all_ascii_digits cs) ≡ true → (all_ascii_digits cs ≡ true → list_all is_letter cs ≡ true) → (is_letter c && list_all is_letter cs) ≡ true
+    go : (t : Bool) → is_ascii_digit c ≡ t → (t && all_ascii_digits cs) ≡ true → (all_ascii_digits cs ≡ true → list_all is_letter cs ≡ true)
+        → (is_letter c && list_all is_letter cs) ≡ true
     go true e h k = let letter : is_letter c ≡ true = grind (arith, nat_tests) in rw letter (k h)
     go false e h k = cc
 

@@ -57,7 +57,8 @@ later_host (Some h) = tt
 later_words : (hci : Bool) (hosts : List ℕ) (row : FormRow) (ws : List (List ℕ)) → AreLater (words_fault hci hosts row ws)
 later_words hci hosts row ws = go (is_well_formed hci row ws)
   where
-    go : (t : Bool) → AreLater (cond t (option_or (first_digits_fault 2 0 (slots row.kinds ws)) (option_map fault.Host (first_host_fault hosts 0 (slots row.kinds ws)))) (Some fault.Word))
+    go : (t : Bool)
+        → AreLater (cond t (option_or (first_digits_fault 2 0 (slots row.kinds ws)) (option_map fault.Host (first_host_fault hosts 0 (slots row.kinds ws)))) (Some fault.Word))
     go true = later_or _ _ (later_first 2 0 (slots row.kinds ws)) (later_host (first_host_fault hosts 0 (slots row.kinds ws)))
     go false = tt
 
@@ -72,15 +73,20 @@ not_too_long None None ws h = cc
 not_too_long (Some header) None ws h = cc
 not_too_long header (Some row) ws h = go (may_stand row.place header) h
   where
-    go : (t : Bool) → cond t (unless_fault (words_fault (has_nodes header) (hosts_of header) row ws) (read_of row.name ws)) (Err fault.Order) ≡ Err fault.TooLong → ⊥
+    go : (t : Bool)
+        → cond t (unless_fault (words_fault (has_nodes header) (hosts_of header) row ws) (read_of row.name ws)) (Err fault.Order) ≡ Err fault.TooLong
+        → ⊥
     go true e = later_said _ _ fault.TooLong (later_words (has_nodes header) (hosts_of header) row ws) e
     go false e = cc
 
 -- a line is out of order where its row may not stand there
-not_standing : (header : Option Header) (row : FormRow) (ws : List (List ℕ)) → by_row header (Some row) ws ≡ Err fault.Order → may_stand row.place header ≡ false
+not_standing : (header : Option Header) (row : FormRow) (ws : List (List ℕ)) → by_row header (Some row) ws ≡ Err fault.Order
+    → may_stand row.place header ≡ false
 not_standing header row ws h = go (may_stand row.place header) h
   where
-    go : (t : Bool) → cond t (unless_fault (words_fault (has_nodes header) (hosts_of header) row ws) (read_of row.name ws)) (Err fault.Order) ≡ Err fault.Order → t ≡ false
+    go : (t : Bool)
+        → cond t (unless_fault (words_fault (has_nodes header) (hosts_of header) row ws) (read_of row.name ws)) (Err fault.Order) ≡ Err fault.Order
+        → t ≡ false
     go true e = absurd (later_said _ _ fault.Order (later_words (has_nodes header) (hosts_of header) row ws) e)
     go false e = refl
 
@@ -127,11 +133,13 @@ later_order header first ws =
     )
     (λ e h. cc)
 
-bare_order : (header : Header) (first : List ℕ) (ws : List (List ℕ)) → IsTrue header.hci → IsBareForm first → by_row (Some header) (row_for first) ws ≡ Err fault.Order
+bare_order : (header : Header) (first : List ℕ) (ws : List (List ℕ)) → IsTrue header.hci → IsBareForm first
+    → by_row (Some header) (row_for first) ws ≡ Err fault.Order
 bare_order header first ws hci (inl e) = subst (λ w. by_row (Some header) (row_for w) ws ≡ Err fault.Order) (sym e) (rw hci refl)
 bare_order header first ws hci (inr e) = subst (λ w. by_row (Some header) (row_for w) ws ≡ Err fault.Order) (sym e) (rw hci refl)
 
-order_later : (header : Header) (first : List ℕ) (ws : List (List ℕ)) → IsOutOfOrder (Some header) (first ∷ ws) → by_row (Some header) (row_for first) ws ≡ Err fault.Order
+order_later : (header : Header) (first : List ℕ) (ws : List (List ℕ)) → IsOutOfOrder (Some header) (first ∷ ws)
+    → by_row (Some header) (row_for first) ws ≡ Err fault.Order
 order_later header first ws (inl e) = subst (λ w. by_row (Some header) (row_for w) ws ≡ Err fault.Order) (sym e) refl
 order_later header first ws (inr h) = bare_order header first ws h.0 h.1
 
@@ -156,7 +164,8 @@ same_skip answer said (inl e) h = sym e ∙ h
 same_skip answer said (inr m) h = cc (m.0)
 
 -- what holds of what is read holds of what is answered, if it holds of want of memory
-pub answer_fits : (P : Read → Type 0) (answer said : Result Read LineFault) → IsReadOrNoMemory answer said → ((r : Read) → said ≡ Ok r → P r) → P read.NoMemory → IfOk answer P
+pub answer_fits : (P : Read → Type 0) (answer said : Result Read LineFault) → IsReadOrNoMemory answer said → ((r : Read) → said ≡ Ok r → P r)
+    → P read.NoMemory → IfOk answer P
 answer_fits P (Ok r) said (inl e) h m = h r (sym e)
 answer_fits P (Err f) said (inl e) h m = tt
 answer_fits P (Ok r) said (inr e) h m = let same : read.NoMemory ≡ r = cc (e.0) in subst P same m

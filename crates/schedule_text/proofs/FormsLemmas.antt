@@ -6,7 +6,8 @@ use Rattle.schedule_text.specs.declared.forms.Form.{Form}
 use Rattle.schedule_text.specs.Forms.{row_of_form, row_in}
 
 -- the row of the form that is found
-pub row-find : (forms : List Form) (first : List ℕ) → option_map row_of_form (find (λ form. bytes_eq form.first.now first) forms) ≡ row_in (map row_of_form forms) first
+pub row-find : (forms : List Form) (first : List ℕ)
+    → option_map row_of_form (find (λ form. bytes_eq form.first.now first) forms) ≡ row_in (map row_of_form forms) first
 row-find [] first = refl
 row-find (form ∷ forms) first = go (bytes_eq form.first.now first) (row-find forms first)
   where

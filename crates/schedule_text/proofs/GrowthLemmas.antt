@@ -29,7 +29,8 @@ holds_none start text more t u s w some su b h =
     }
 
 -- where there is no memory for what waits, a shorter front of the text stands there
-pub front_unflushed : (start text : List ℕ) (t : Text) → t.short ≡ false → 0 < length t.waiting.items → HoldsText start text t → IsFront start text t.bytes.items
+pub front_unflushed : (start text : List ℕ) (t : Text) → t.short ≡ false → 0 < length t.waiting.items → HoldsText start text t
+    → IsFront start text t.bytes.items
 front_unflushed start text t s some h =
     let f = h.whole s in
     let front : take (length f.0) text ≡ f.0 = ap (λ x. take (length f.0) x) f.2 ∙ take-append-le (length f.0) f.0 t.waiting.items (omega arith) ∙ take_all (length f.0) f.0 (omega arith) in
@@ -74,7 +75,8 @@ unfolding encode_with
 encode-nil = refl
 
 -- the digits of two more bytes behind those of a front
-pub holds_two : (start text front two upper lower : List ℕ) (t : Text) → length two ≡ 2 → upper ≡ encode_upper (get_or two 0 0 ∷ []) → lower ≡ encode_upper (get_or two 1 0 ∷ [])
+pub holds_two : (start text front two upper lower : List ℕ) (t : Text) → length two ≡ 2 → upper ≡ encode_upper (get_or two 0 0 ∷ [])
+    → lower ≡ encode_upper (get_or two 1 0 ∷ [])
     → HoldsText start ((text ++ encode_upper front) ++ (get_or upper 0 0 ∷ get_or upper 1 0 ∷ get_or lower 0 0 ∷ get_or lower 1 0 ∷ [])) t
     → HoldsText start (text ++ encode_upper (front ++ two)) t
 unfolding encode_with

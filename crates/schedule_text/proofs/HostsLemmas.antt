@@ -43,7 +43,8 @@ pick_fault : (t : Bool) (o : Option LineFault) (id : ℕ) → cond t o (Some fau
 pick_fault true o id h = h
 pick_fault false o id h = cc
 
-host_behind : (digits : Option LineFault) (o : Option ℕ) (id : ℕ) → (digits ≡ Some (fault.Host id) → ⊥) → option_or digits (option_map fault.Host o) ≡ Some (fault.Host id) → o ≡ Some id
+host_behind : (digits : Option LineFault) (o : Option ℕ) (id : ℕ) → (digits ≡ Some (fault.Host id) → ⊥)
+    → option_or digits (option_map fault.Host o) ≡ Some (fault.Host id) → o ≡ Some id
 host_behind None None id other h = cc
 host_behind None (Some k) id other h = cc
 host_behind (Some f) o id other h = absurd (other h)

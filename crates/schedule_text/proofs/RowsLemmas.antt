@@ -65,7 +65,8 @@ AllFit hci hosts from (s ∷ ss) = Fits hci hosts from s.kind s.word × AllFit h
 known_host : (hosts : List ℕ) (h : ℕ) → stranger hosts (Some h) ≡ None → IsKnown hosts h
 known_host hosts h none = not_true _ (if_some_none _ h none)
 
-end_fits : (hosts : List ℕ) (o : Option End) → is_some o ≡ true → stranger hosts (option_map (λ e. e.link) o) ≡ None → (e : End) × (o ≡ Some e) × IsKnown hosts e.link
+end_fits : (hosts : List ℕ) (o : Option End) → is_some o ≡ true → stranger hosts (option_map (λ e. e.link) o) ≡ None
+    → (e : End) × (o ≡ Some e) × IsKnown hosts e.link
 end_fits hosts None h none = cc
 end_fits hosts (Some e) h none = (e, refl, known_host hosts e.link none)
 
@@ -78,7 +79,8 @@ byte_fits : (below : ℕ) (o : Option ℕ) → has_byte below o ≡ true → (b 
 byte_fits below None h = cc
 byte_fits below (Some b) h = (b, refl, ltb-true _ _ h)
 
-bytes_fit : (low high : ℕ) (o : Option (List ℕ)) → has_bytes low high o ≡ true → (bytes : List ℕ) × (o ≡ Some bytes) × (low ≤ length bytes) × (length bytes ≤ high)
+bytes_fit : (low high : ℕ) (o : Option (List ℕ)) → has_bytes low high o ≡ true
+    → (bytes : List ℕ) × (o ≡ Some bytes) × (low ≤ length bytes) × (length bytes ≤ high)
 bytes_fit low high None h = cc
 bytes_fit low high (Some bytes) h = (bytes, refl, leb-true _ _ (both _ _ h).0, leb-true _ _ (both _ _ h).1)
 
@@ -123,7 +125,8 @@ word_is_right hci hosts at from (kind.Bytes low high) word h = (refl, rw (h.1, l
 word_is_right hci hosts at from (kind.Number low high) word h = (refl, ap (λ o. cond (is_some o) None (Some (fault.Number at))) h.1, refl)
 word_is_right hci hosts at from (kind.Rising high) word h = (refl, ap (λ o. cond (is_some o) None (Some (fault.Number at))) h.1, refl)
 
-all_fit : (hci : Bool) (hosts : List ℕ) (at from : ℕ) (ss : List Slot) → list_all (λ s. has_shape hci s.kind s.word) ss ≡ true → first_digits_fault at from ss ≡ None
+all_fit : (hci : Bool) (hosts : List ℕ) (at from : ℕ) (ss : List Slot) → list_all (λ s. has_shape hci s.kind s.word) ss ≡ true
+    → first_digits_fault at from ss ≡ None
     → first_host_fault hosts from ss ≡ None → AllFit hci hosts from ss
 all_fit hci hosts at from [] shapes digits host = tt
 all_fit hci hosts at from (s ∷ ss) shapes digits host =

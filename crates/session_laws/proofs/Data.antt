@@ -83,7 +83,8 @@ of_up h up =
     rw (up, same) refl
 
 -- its session goes on with other fragments
-pub of_update : (P : ℕ → Session → Type 0) (h g : NumberedShdlc) → h.side.phase ≡ Up → g.side.phase ≡ Up → shdlc_number_of g ≡ shdlc_number_of h → g.past ≡ h.past
+pub of_update : (P : ℕ → Session → Type 0) (h g : NumberedShdlc) → h.side.phase ≡ Up → g.side.phase ≡ Up → shdlc_number_of g ≡ shdlc_number_of h
+    → g.past ≡ h.past
     → ((k : ℕ) → P k (shdlc_session_of h k)) → P (shdlc_number_of h) g.side.session → (k : ℕ) → P k (shdlc_session_of g k)
 of_update P h g up up' num past all new k = go (k == shdlc_number_of h) refl
   where
@@ -92,7 +93,8 @@ of_update P h g up up' num past all new k = go (k == shdlc_number_of h) refl
     go false q = rw (up', num, q, past) (let a : P k (shdlc_session_of h k) = all k in rw (up, q) at a)
 
 -- its session ends and is kept
-pub of_end : (P : ℕ → Session → Type 0) (h g : NumberedShdlc) → h.side.phase ≡ Up → (g.side.phase ≡ Up → ⊥) → g.past ≡ (shdlc_number_of h, h.side.session) ∷ h.past
+pub of_end : (P : ℕ → Session → Type 0) (h g : NumberedShdlc) → h.side.phase ≡ Up → (g.side.phase ≡ Up → ⊥)
+    → g.past ≡ (shdlc_number_of h, h.side.session) ∷ h.past
     → ((k : ℕ) → P k (shdlc_session_of h k)) → (k : ℕ) → P k (shdlc_session_of g k)
 of_end P h g up down past all k = go g.side.phase refl (all k)
   where

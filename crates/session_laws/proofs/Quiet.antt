@@ -126,7 +126,8 @@ abbrev Goes : Losses → ShdlcLink → List ShdlcTurn → EndState → Type 0
 Goes n l ts e = TiedLink (noted_out n l (shdlc_turned e ts)) (shdlc_becomes l (shdlc_turned e ts))
 
 -- it becomes e, and what joins them is kept
-up_becomes : (n : Losses) (ts : List ShdlcTurn) (l : ShdlcLink) (e : EndState) → l.controller.side.phase ≡ Up → e.phase ≡ Up → AnswersOnly e.due → length e.due ≤ 1
+up_becomes : (n : Losses) (ts : List ShdlcTurn) (l : ShdlcLink) (e : EndState) → l.controller.side.phase ≡ Up → e.phase ≡ Up → AnswersOnly e.due
+    → length e.due ≤ 1
     → ((f : EndState) (w : List OnWire) → Joined (Unit {0}) l.controller.side f (sans l.to_controller) w
     → Joined (Unit {0}) e f (sans l.to_controller) w)
     → TiedLink n l → Goes n l ts e
@@ -204,7 +205,8 @@ waits_turned n ts l e waiting ewait own peer due none t =
     (waits_on n l (shdlc_turned e ts) waiting (g.phase ∙ ewait) (g.own ∙ own) (g.peer ∙ peer) t)
 
 -- it has turns, and nothing else
-stays : (n : Losses) (ts : List ShdlcTurn) (l : ShdlcLink) → l.controller.side.due ≡ [] → ((l.controller.side.phase ≡ Up → ⊥) → l.controller.side.session ≡ no_session)
+stays : (n : Losses) (ts : List ShdlcTurn) (l : ShdlcLink) → l.controller.side.due ≡ []
+    → ((l.controller.side.phase ≡ Up → ⊥) → l.controller.side.session ≡ no_session)
     → TiedLink n l → Goes n l ts l.controller.side
 stays n ts l due none t = go e.phase refl
   where
@@ -219,7 +221,8 @@ stays n ts l due none t = go e.phase refl
 -- it has sent an RSET and waits
 asks : (n : Losses) (ts : List ShdlcTurn) (l : ShdlcLink) (e : EndState) (ends : Bool)
     → e.phase ≡ Waiting → uas (sans l.to_controller) ≡ [] → Goes n (with_shdlc_ended l ends) ts e
-asks n ts l e true waiting none = tied_none 12 n (with_shdlc_ended l true) (shdlc_turned e ts) (rw (turned-phase ts e ∙ waiting) (behind_none (sans l.to_controller) none))
+asks n ts l e true waiting none =
+    tied_none 12 n (with_shdlc_ended l true) (shdlc_turned e ts) (rw (turned-phase ts e ∙ waiting) (behind_none (sans l.to_controller) none))
 asks n ts l e false waiting none = tied_none 12 n l (shdlc_turned e ts) (rw (turned-phase ts e ∙ waiting) (behind_none (sans l.to_controller) none))
 
 resets : (kf : ℕ) (n : Losses) (ts : List ShdlcTurn) (l : ShdlcLink) (w : ℕ) → SafeLink 0 kf l → TiedLink n l
@@ -252,7 +255,8 @@ silences n l q down = tied_down n (shdlc_silent l q) (go l.controller.side.phase
     go Down e = rw e down
 
 -- a tick
-ticks : (kf : ℕ) (n : Losses) (ts : List ShdlcTurn) (l : ShdlcLink) → SafeLink 1 kf l → TiedLink n l → TiedLink (noted_tick n (Some ts) l) (shdlc_ticks_at_controller l ts)
+ticks : (kf : ℕ) (n : Losses) (ts : List ShdlcTurn) (l : ShdlcLink) → SafeLink 1 kf l → TiedLink n l
+    → TiedLink (noted_tick n (Some ts) l) (shdlc_ticks_at_controller l ts)
 ticks kf n ts l h t = go e.phase (runs_timer e.session) (nat_lt (e.timer + 1) 10) (nat_lt e.tries 5) refl refl refl refl
   where
     e : EndState
@@ -338,7 +342,8 @@ began_data e c d = go e.phase refl c d
     go Down q (Act _ _) d = rw q refl
     go Down q Clt d = rw q refl
 
-takes : (n : Losses) (l : ShdlcLink) (ts : List ShdlcTurn) (x : OnWire) (xs : List OnWire) → Safe 0 0 l.controller l.host (x ∷ sans xs) (sans l.to_host) l.resets
+takes : (n : Losses) (l : ShdlcLink) (ts : List ShdlcTurn) (x : OnWire) (xs : List OnWire)
+    → Safe 0 0 l.controller l.host (x ∷ sans xs) (sans l.to_host) l.resets
     → Tied (IsWhole n) l.controller.side l.host.side (x ∷ sans xs) (sans l.to_host) → TiedLink (noted_took n l ts x xs) (took l ts x xs)
 takes n l ts x xs h t = takes_by (TiedLink (noted_took n l ts x xs) (took l ts x xs)) v x (sans xs) h in_session passed anew waits (λ is p none. confirmed is p)
   where
@@ -484,7 +489,8 @@ act_data (Rset _ _) a = absurd (let z : false ≡ true = a in cc)
 act_data Ua a = absurd (let z : false ≡ true = a in cc)
 act_data Clt a = tt
 
-delivers : (n : Losses) (ts : List ShdlcTurn) (l : ShdlcLink) → SafeLink 0 0 l → TiedLink n l → TiedLink (noted_here n l (Deliver ts)) (shdlc_happens_at_controller l (Deliver ts))
+delivers : (n : Losses) (ts : List ShdlcTurn) (l : ShdlcLink) → SafeLink 0 0 l → TiedLink n l
+    → TiedLink (noted_here n l (Deliver ts)) (shdlc_happens_at_controller l (Deliver ts))
 delivers n ts l h t = go l.to_controller h t
   where
     e : EndState
@@ -647,7 +653,8 @@ ages i l h t =
 swaps : (n : Losses) (l : ShdlcLink) → TiedLink n l → TiedLink n (shdlc_exchanged l)
 swaps n l t = tied_swap (IsWhole n) l.controller.side l.host.side (sans l.to_controller) (sans l.to_host) t
 
-tied_turn : (kf : ℕ) (n : Losses) (l : ShdlcLink) (e : ShdlcEndEvent) → IsTurn e → SafeLink 0 kf l → TiedLink n l → TiedLink (noted_here n l e) (shdlc_happens_at_controller l e)
+tied_turn : (kf : ℕ) (n : Losses) (l : ShdlcLink) (e : ShdlcEndEvent) → IsTurn e → SafeLink 0 kf l → TiedLink n l
+    → TiedLink (noted_here n l e) (shdlc_happens_at_controller l e)
 tied_turn kf n l (Turns ts) a h t = stays n ts l h.n_due h.n_none t
 tied_turn kf n l (Deliver ts) a h t = absurd a
 tied_turn kf n l (Ignore ts) a h t = absurd a
@@ -660,7 +667,8 @@ tied_turn kf n l Stop a h t = silences n l (stopped l.controller.side) refl
 tied_turns : (kf : ℕ) (es : List ShdlcEndEvent) (n : Losses) (l : ShdlcLink) → AreTurns es → SafeLink 0 kf l → TiedLink n l
     → TiedLink (noted_turns n l es) (shdlc_all_at_controller l es)
 tied_turns kf [] n l a h t = t
-tied_turns kf (e ∷ es) n l a h t = tied_turns kf es (noted_here n l e) (shdlc_happens_at_controller l e) a.1 (safe_turn kf l e a.0 h) (tied_turn kf n l e a.0 h t)
+tied_turns kf (e ∷ es) n l a h t =
+    tied_turns kf es (noted_here n l e) (shdlc_happens_at_controller l e) a.1 (safe_turn kf l e a.0 h) (tied_turn kf n l e a.0 h t)
 
 tied_at : (n : Losses) (l : ShdlcLink) (e : ShdlcEndEvent) → SafeLink 0 0 l → TiedLink n l → TiedLink (noted_here n l e) (shdlc_happens_at_controller l e)
 tied_at n l (Turns ts) h t = stays n ts l h.n_due h.n_none t
@@ -672,7 +680,8 @@ tied_at n l (Reset w ts) h t = resets 0 n ts l w h t
 tied_at n l Cut h t = silences n l (new_end 4) refl
 tied_at n l Stop h t = silences n l (stopped l.controller.side) refl
 
-tied_tick : (kf : ℕ) (n : Losses) (b : Option (List ShdlcTurn)) (l : ShdlcLink) → SafeLink 1 kf l → TiedLink n l → TiedLink (noted_tick n b l) (ticks_or_cut b l)
+tied_tick : (kf : ℕ) (n : Losses) (b : Option (List ShdlcTurn)) (l : ShdlcLink) → SafeLink 1 kf l → TiedLink n l
+    → TiedLink (noted_tick n b l) (ticks_or_cut b l)
 tied_tick kf n (Some ts) l h t = ticks kf n ts l h t
 tied_tick kf n None l h t = silences n l (new_end 4) refl
 
@@ -717,7 +726,8 @@ tied_start l BothUp = tied_new (IsWhole no_losses) (begun (new_end 4)) (begun (n
     new : IsNew (begun (new_end 4))
     new = record { up = refl; due = refl; window = 4; fits = (omega arith, omega arith); session = refl }
 
-tied : (l : ShdlcLink) → IsShdlcStart l → (events : List ShdlcLinkEvent) → AllShdlcAllowed events → TiedLink (losses_after no_losses l events) (shdlc_after l events)
+tied : (l : ShdlcLink) → IsShdlcStart l → (events : List ShdlcLinkEvent) → AllShdlcAllowed events
+    → TiedLink (losses_after no_losses l events) (shdlc_after l events)
 tied l s events a = tied_from events no_losses l a (safe_start l s) (tied_start l s)
 
 -- ## What follows
@@ -729,11 +739,13 @@ all_delivered n l t q =
     delivered (Unit {0}) l.controller.side l.host.side (sans l.to_controller) (sans l.to_host) k.joined tt k.near k.far
     q.to_controller q.to_host
 
-pub delivered_here : (l : ShdlcLink) → IsShdlcStart l → (events : List ShdlcLinkEvent) → AllShdlcAllowed events → IsShdlcQuiet (shdlc_after l events) (losses_after no_losses l events)
+pub delivered_here : (l : ShdlcLink) → IsShdlcStart l → (events : List ShdlcLinkEvent) → AllShdlcAllowed events
+    → IsShdlcQuiet (shdlc_after l events) (losses_after no_losses l events)
     → FragmentsDelivered (shdlc_after l events).controller.side.session (shdlc_after l events).host.side.session
 delivered_here l s events a q = all_delivered (losses_after no_losses l events) (shdlc_after l events) (tied l s events a) q
 
-pub delivered_there : (l : ShdlcLink) → IsShdlcStart l → (events : List ShdlcLinkEvent) → AllShdlcAllowed events → IsShdlcQuiet (shdlc_after l events) (losses_after no_losses l events)
+pub delivered_there : (l : ShdlcLink) → IsShdlcStart l → (events : List ShdlcLinkEvent) → AllShdlcAllowed events
+    → IsShdlcQuiet (shdlc_after l events) (losses_after no_losses l events)
     → FragmentsDelivered (shdlc_after l events).host.side.session (shdlc_after l events).controller.side.session
 delivered_there l s events a q =
     let m = shdlc_after l events in

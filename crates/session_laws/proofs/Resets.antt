@@ -131,7 +131,8 @@ sends_sure P each (suc m) s e l h = go (frame_due e) refl (λ k. sends_sure P ea
     go None q later = rw q (rw (fetched_idle e q, after_frames_idle m e q) h)
     go (Some c) q later = rw q (later (sure_put s l c) (shdlc_put l c) (each s e l c q h))
 
-sends_all : (m : ℕ) (s : Bool) (e : EndState) (l : ShdlcLink) → Sends s e l → Sends (sure_all s l (frames_of m e)) (after_frames m e) (shdlc_put_all l (frames_of m e))
+sends_all : (m : ℕ) (s : Bool) (e : EndState) (l : ShdlcLink) → Sends s e l
+    → Sends (sure_all s l (frames_of m e)) (after_frames m e) (shdlc_put_all l (frames_of m e))
 sends_all m s e l h = sends_sure Sends sends_each m s e l h
 
 turn_answers : (e : EndState) (t : ShdlcTurn) → AnswersOnly e.due → AnswersOnly (shdlc_turn e t).due
@@ -200,7 +201,8 @@ rset_first m ts e due =
     ap (λ f. frames_of (suc m) (shdlc_turned f ts)) is ∙ ap (frames_of (suc m)) (turned-first Rset_due ts (record e { due = [] }))
 
 -- an RSET that no reset asked for
-unsure : (m : ℕ) (s : Bool) (l k : ShdlcLink) (ts : List ShdlcTurn) (e : EndState) → e.due ≡ Rset_due ∷ [] → SureLink (sure_all s l (frames_of (suc m) (shdlc_turned e ts))) k
+unsure : (m : ℕ) (s : Bool) (l k : ShdlcLink) (ts : List ShdlcTurn) (e : EndState) → e.due ≡ Rset_due ∷ []
+    → SureLink (sure_all s l (frames_of (suc m) (shdlc_turned e ts))) k
 unsure m s l k ts e due n =
     let q : EndState = shdlc_turned (record e { due = [] }) ts in
     let z : sure_all false (shdlc_put l (Rset q.own_window 0)) (frames_of m q) ≡ true = ap (sure_all s l) (sym (rset_first m ts e due)) ∙ n in
@@ -232,7 +234,8 @@ resets kf s ts l w h t = go l.controller.side.phase refl
     same true = refl
     same false = refl
 
-    asked : (m : ShdlcLink) → m.host.side.phase ≡ l.host.side.phase → e.due ≡ Rset_due ∷ [] → SureLink (not (is_waiting l.host.side)) (shdlc_becomes m (shdlc_turned e ts))
+    asked : (m : ShdlcLink) → m.host.side.phase ≡ l.host.side.phase → e.due ≡ Rset_due ∷ []
+        → SureLink (not (is_waiting l.host.side)) (shdlc_becomes m (shdlc_turned e ts))
     asked m host due n =
         let q : EndState = shdlc_turned (record e { due = [] }) ts in
         let g = turned_idle ts (record e { due = [] }) (λ u. let z : Waiting ≡ Up = u in cc) refl in
@@ -256,7 +259,8 @@ no_asks q to_n to_f P none empty (inl (w, v, inr u)) = absurd (u.1 empty)
 no_asks q to_n to_f P none empty (inr (inl (w, v, r))) = absurd (v refl)
 no_asks q to_n to_f P none empty (inr (inr u)) = absurd (let z : Waiting ≡ Up = u.0 in cc)
 
-ticks : (kf : ℕ) (s : Bool) (ts : List ShdlcTurn) (l : ShdlcLink) → SafeLink 1 kf l → SureLink s l → SureLink (sure_tick s (Some ts) l) (shdlc_ticks_at_controller l ts)
+ticks : (kf : ℕ) (s : Bool) (ts : List ShdlcTurn) (l : ShdlcLink) → SafeLink 1 kf l → SureLink s l
+    → SureLink (sure_tick s (Some ts) l) (shdlc_ticks_at_controller l ts)
 ticks kf s ts l h t = go e.phase (runs_timer e.session) (nat_lt (e.timer + 1) 10) (nat_lt e.tries 5) refl refl refl refl
   where
     e : EndState
@@ -394,7 +398,8 @@ takes s l ts x xs h t =
         up (inr (inl (a, b, k))) = absurd (b p)
         up (inr (inr u)) = u.1
 
-delivers : (s : Bool) (ts : List ShdlcTurn) (l : ShdlcLink) → SafeLink 0 0 l → SureLink s l → SureLink (sure_here s l (Deliver ts)) (shdlc_happens_at_controller l (Deliver ts))
+delivers : (s : Bool) (ts : List ShdlcTurn) (l : ShdlcLink) → SafeLink 0 0 l → SureLink s l
+    → SureLink (sure_here s l (Deliver ts)) (shdlc_happens_at_controller l (Deliver ts))
 delivers s ts l h t = go l.to_controller h t
   where
     e : EndState
@@ -481,7 +486,8 @@ swaps s l t n = swapped (t n)
 
 -- ## All events
 
-sure_turn : (kf : ℕ) (s : Bool) (l : ShdlcLink) (e : ShdlcEndEvent) → IsTurn e → SafeLink 0 kf l → SureLink s l → SureLink (sure_here s l e) (shdlc_happens_at_controller l e)
+sure_turn : (kf : ℕ) (s : Bool) (l : ShdlcLink) (e : ShdlcEndEvent) → IsTurn e → SafeLink 0 kf l → SureLink s l
+    → SureLink (sure_here s l e) (shdlc_happens_at_controller l e)
 sure_turn kf s l (Turns ts) a h t = stays s ts l h.n_due t
 sure_turn kf s l (Deliver ts) a h t = absurd a
 sure_turn kf s l (Ignore ts) a h t = absurd a
@@ -491,9 +497,11 @@ sure_turn kf s l (Reset w ts) a h t = resets kf s ts l w h t
 sure_turn kf s l Cut a h t = λ n. absurd (true≢false (sym n))
 sure_turn kf s l Stop a h t = λ n. absurd (true≢false (sym n))
 
-turns_sure : (kf : ℕ) (es : List ShdlcEndEvent) (s : Bool) (l : ShdlcLink) → AreTurns es → SafeLink 0 kf l → SureLink s l → SureLink (sure_turns s l es) (shdlc_all_at_controller l es)
+turns_sure : (kf : ℕ) (es : List ShdlcEndEvent) (s : Bool) (l : ShdlcLink) → AreTurns es → SafeLink 0 kf l → SureLink s l
+    → SureLink (sure_turns s l es) (shdlc_all_at_controller l es)
 turns_sure kf [] s l a h t = t
-turns_sure kf (e ∷ es) s l a h t = turns_sure kf es (sure_here s l e) (shdlc_happens_at_controller l e) a.1 (safe_turn kf l e a.0 h) (sure_turn kf s l e a.0 h t)
+turns_sure kf (e ∷ es) s l a h t =
+    turns_sure kf es (sure_here s l e) (shdlc_happens_at_controller l e) a.1 (safe_turn kf l e a.0 h) (sure_turn kf s l e a.0 h t)
 
 sure_at : (s : Bool) (l : ShdlcLink) (e : ShdlcEndEvent) → SafeLink 0 0 l → SureLink s l → SureLink (sure_here s l e) (shdlc_happens_at_controller l e)
 sure_at s l (Turns ts) h t = stays s ts l h.n_due t
@@ -554,7 +562,8 @@ both_up l (inr (inl (w, v, inl r))) a b = absurd (r (rw a refl))
 both_up l (inr (inl (w, v, inr u))) a b = absurd (u.1 (rw b refl))
 both_up l (inr (inr u)) a b = u
 
-pub up_together : (l : ShdlcLink) → IsShdlcStart l → (events : List ShdlcLinkEvent) → AllShdlcAllowed events → IsShdlcSettled (shdlc_after l events) (sure_after false l events)
+pub up_together : (l : ShdlcLink) → IsShdlcStart l → (events : List ShdlcLinkEvent) → AllShdlcAllowed events
+    → IsShdlcSettled (shdlc_after l events) (sure_after false l events)
     → AreShdlcUpTogether (shdlc_after l events)
 up_together l b events a q =
     let s : SureLink (sure_after false l events) (shdlc_after l events) = sure_from events false l a (safe_start l b) (λ n. absurd (true≢false (sym n))) in

@@ -90,7 +90,8 @@ pair_from kn kf n f to_n to_f r up h =
       goes = goes (live f.side.phase to_f) refl h.f_live;
     }
   where
-    moved : (k m : ℕ) (w : List OnWire) → k ≡ m → OnLive (Some w) (shdlc_session_of f k) (shdlc_session_of n k) → OnLive (Some w) (shdlc_session_of f m) (shdlc_session_of n m)
+    moved : (k m : ℕ) (w : List OnWire) → k ≡ m → OnLive (Some w) (shdlc_session_of f k) (shdlc_session_of n k)
+        → OnLive (Some w) (shdlc_session_of f m) (shdlc_session_of n m)
     moved k m w e g = let P : ℕ → Type 0 = λ j. OnLive (Some w) (shdlc_session_of f j) (shdlc_session_of n j) in subst P e g
 
     goes : (o : Option (List OnWire)) → live f.side.phase to_f ≡ o → OnLive o (shdlc_session_of f (shdlc_number_of f)) (shdlc_session_of n (shdlc_number_of f))
@@ -191,7 +192,8 @@ live_after_rset Waiting (z ∷ []) mine theirs no_up a b = let e : behind_ua (z 
 live_after_rset Waiting (z ∷ v ∷ w) mine theirs no_up a b = absurd a
 
 -- what is said of one session by its number
-at_number : (Q : Session → Type 0) (m : ℕ) (g h : NumberedShdlc) → (((P : ℕ → Session → Type 0) → ((k : ℕ) → P k (shdlc_session_of h k)) → (k : ℕ) → P k (shdlc_session_of g k)))
+at_number : (Q : Session → Type 0) (m : ℕ) (g h : NumberedShdlc)
+    → (((P : ℕ → Session → Type 0) → ((k : ℕ) → P k (shdlc_session_of h k)) → (k : ℕ) → P k (shdlc_session_of g k)))
     → Q (shdlc_session_of h m) → Q (shdlc_session_of g m)
 at_number Q m g h move given = move (λ k t. k ≡ m → Q t) (λ k e. rw e given) m refl
 
@@ -271,7 +273,8 @@ safe_asks kn kf n f e x w c past to_n to_f r none empty frame wide age num windo
       f_windows = h.f_windows;
     }
   where
-    at : (k : ℕ) → k ≡ shdlc_number_of f → OnLive (live f.side.phase (to_f ++ x ∷ [])) (shdlc_session_of f (shdlc_number_of f)) (shdlc_session_of n (shdlc_number_of f))
+    at : (k : ℕ) → k ≡ shdlc_number_of f
+        → OnLive (live f.side.phase (to_f ++ x ∷ [])) (shdlc_session_of f (shdlc_number_of f)) (shdlc_session_of n (shdlc_number_of f))
         → OnLive (live f.side.phase (to_f ++ x ∷ [])) (shdlc_session_of f (shdlc_number_of f)) (shdlc_session_of n k)
     at k q a = let P : ℕ → Type 0 = λ j. OnLive (live f.side.phase (to_f ++ x ∷ [])) (shdlc_session_of f (shdlc_number_of f)) (shdlc_session_of n j) in subst P (sym q) a
 
@@ -410,7 +413,8 @@ safe_up_rset n f w v c x y past to_n to_f r frame no_wait ua age fits move below
     (live_push_ua f.side.phase to_f y (shdlc_session_of f (shdlc_number_of f)) (ended_session past (shdlc_number_of f)) ua t.1 t.2 (f_base (shdlc_number_of f)))
 
 -- an end that waits answers an RSET by UA, and goes on waiting
-pub safe_wait_rset : (n f : NumberedShdlc) (e : EndState) (v c : ℕ) (x y : OnWire) (to_n to_f : List OnWire) (r : ℕ) → x.frame ≡ Rset v c → n.side.phase ≡ Waiting
+pub safe_wait_rset : (n f : NumberedShdlc) (e : EndState) (v c : ℕ) (x y : OnWire) (to_n to_f : List OnWire) (r : ℕ) → x.frame ≡ Rset v c
+    → n.side.phase ≡ Waiting
     → y.frame ≡ Ua → y.age ≡ 0 → e.phase ≡ Waiting → e.timer ≡ n.side.timer → e.session ≡ no_session → e.due ≡ [] → HasWindows e
     → Safe 0 0 n f (x ∷ to_n) to_f r
     → Safe 0 0 (record { side = e; emitted = n.emitted; took = f.emitted; past = n.past }) f to_n (to_f ++ y ∷ []) r
@@ -456,7 +460,8 @@ frame_cases x = go x.frame refl
 pub safe_lose : (kn : ℕ) (n f : NumberedShdlc) (x : OnWire) (to_n to_f : List OnWire) (r : ℕ) → Safe kn 0 n f (x ∷ to_n) to_f r → Safe kn 0 n f to_n to_f r
 safe_lose kn n f x to_n to_f r h = go (frame_cases x)
   where
-    with : Hand kn 0 (peer_of n) (peer_of f) to_n to_f r → OnLive (live n.side.phase to_n) (shdlc_session_of n (shdlc_number_of n)) (shdlc_session_of f (shdlc_number_of n))
+    with : Hand kn 0 (peer_of n) (peer_of f) to_n to_f r
+        → OnLive (live n.side.phase to_n) (shdlc_session_of n (shdlc_number_of n)) (shdlc_session_of f (shdlc_number_of n))
         → Safe kn 0 n f to_n to_f r
     with hand lives =
         record {

@@ -107,7 +107,8 @@ safe_answer kf n f k to_n to_f r up h =
     h
 
 -- a fragment of an end that is Up
-pub safe_fragment : (kf : ℕ) (n f : NumberedShdlc) (info : Fragment) (to_n to_f : List OnWire) (r : ℕ) → n.side.phase ≡ Up → fragment_due n.side.session ≡ Some info
+pub safe_fragment : (kf : ℕ) (n f : NumberedShdlc) (info : Fragment) (to_n to_f : List OnWire) (r : ℕ) → n.side.phase ≡ Up
+    → fragment_due n.side.session ≡ Some info
     → Safe 0 kf n f to_n to_f r
     → Safe 0 kf (record n { side = record n.side { session = sent_next n.side.session } }) f to_n
     (to_f ++ record { frame = I (n.side.session.next % 8) (expected n.side.session) info; age = 0; number = 0 } ∷ []) r
@@ -137,7 +138,8 @@ sends_keeps P each (suc n) e l h = go (frame_due e) refl (sends_keeps P each n (
     go None q later = rw q (rw (fetched_idle e q, after_frames_idle n e q) h)
     go (Some c) q later = rw q (later (shdlc_put l c) (each e l c q h))
 
-pub safe_drains : (kf m : ℕ) (q : EndState) (l : ShdlcLink) → SafeAt 0 kf l q → SafeLink 0 kf (with_shdlc_controller (shdlc_put_all l (frames_of m q)) (after_frames m q))
+pub safe_drains : (kf m : ℕ) (q : EndState) (l : ShdlcLink) → SafeAt 0 kf l q
+    → SafeLink 0 kf (with_shdlc_controller (shdlc_put_all l (frames_of m q)) (after_frames m q))
 safe_drains kf m q l h = sends_keeps (λ e v. SafeAt 0 kf v e) each m q l h
   where
     is_up : (e : EndState) (info : Fragment) → ((e.phase ≡ Up → ⊥) → e.session ≡ no_session) → fragment_due e.session ≡ Some info → e.phase ≡ Up
@@ -167,7 +169,8 @@ safe_drains kf m q l h = sends_keeps (λ e v. SafeAt 0 kf v e) each m q l h
         subst P same a)
         is
 
-pub up_step : (kn kf : ℕ) (l : ShdlcLink) (q : EndState) → l.controller.side.phase ≡ Up → q.phase ≡ Up → q.due ≡ [] → q.own_window ≡ l.controller.side.own_window
+pub up_step : (kn kf : ℕ) (l : ShdlcLink) (q : EndState) → l.controller.side.phase ≡ Up → q.phase ≡ Up → q.due ≡ []
+    → q.own_window ≡ l.controller.side.own_window
     → q.peer_window ≡ l.controller.side.peer_window
     → Pair q.session (shdlc_session_of l.host (shdlc_number_of l.controller)) (sans l.to_controller) (live l.host.side.phase (sans l.to_host))
     → SafeLink kn kf l → SafeAt 0 kf l q
@@ -360,7 +363,8 @@ becomes_none kf ts l e h =
     }))
 
 -- an end with one control frame to send, which goes first
-pub becomes_one : (kf : ℕ) (ts : List ShdlcTurn) (l : ShdlcLink) (e : EndState) (d : Due) → e.due ≡ d ∷ [] → SafeAt 0 kf (shdlc_put l (control_due e d)) (record e { due = [] })
+pub becomes_one : (kf : ℕ) (ts : List ShdlcTurn) (l : ShdlcLink) (e : EndState) (d : Due) → e.due ≡ d ∷ []
+    → SafeAt 0 kf (shdlc_put l (control_due e d)) (record e { due = [] })
     → SafeLink 0 kf (shdlc_becomes l (shdlc_turned e ts))
 becomes_one kf ts l e d is h =
     pending_goes kf l (shdlc_turned e ts)

@@ -63,7 +63,8 @@ past_below_down l down kn kf h =
     let a : Below (shdlc_number_of l.controller + 1) l.controller.past = rw down at h.n_past in
     below_more (shdlc_number_of l.controller + 1) (l.resets + 1) l.controller.past (omega (arith, h.hand.n_bound, h.hand.n_took, h.hand.f_bound)) a
 
-resets : (kf : ℕ) (ts : List ShdlcTurn) (l : ShdlcLink) (w : ℕ) → (0 < w) × (w ≤ 4) → SafeLink 0 kf l → SafeLink 0 kf (shdlc_happens_at_controller l (Reset w ts))
+resets : (kf : ℕ) (ts : List ShdlcTurn) (l : ShdlcLink) (w : ℕ) → (0 < w) × (w ≤ 4) → SafeLink 0 kf l
+    → SafeLink 0 kf (shdlc_happens_at_controller l (Reset w ts))
 resets kf ts l w ok h = go l.controller.side.phase refl
   where
     e : EndState
@@ -140,7 +141,8 @@ ticks kf ts l h = go e.phase (runs_timer e.session) (nat_lt (e.timer + 1) 10) (n
     e = l.controller.side
 
     -- what happens where no session ends
-    plain : (q : EndState) → ticked e ≡ q → is_some (tick_answer e).ended ≡ false → SafeLink 0 kf (shdlc_becomes l (shdlc_turned q ts)) → SafeLink 0 kf (shdlc_ticks_at_controller l ts)
+    plain : (q : EndState) → ticked e ≡ q → is_some (tick_answer e).ended ≡ false → SafeLink 0 kf (shdlc_becomes l (shdlc_turned q ts))
+        → SafeLink 0 kf (shdlc_ticks_at_controller l ts)
     plain q a b s = rw (b, a) s
 
     up : (q : EndState) → e.phase ≡ Up → q.phase ≡ Up → q.due ≡ e.due → q.own_window ≡ e.own_window → q.peer_window ≡ e.peer_window
@@ -469,7 +471,8 @@ ignores ts l h = go l.controller.side.phase refl l.to_controller refl
     by_parts : (m : ShdlcLink) → shdlc_happens_at_controller l (Ignore ts) ≡ m → SafeLink 0 0 m → SafeLink 0 0 (shdlc_happens_at_controller l (Ignore ts))
     by_parts m q g = let P : ShdlcLink → Type 0 = λ k. SafeLink 0 0 k in subst P (sym q) g
 
-    go : (p : LinkState) → l.controller.side.phase ≡ p → (wire : List OnWire) → l.to_controller ≡ wire → SafeLink 0 0 (shdlc_happens_at_controller l (Ignore ts))
+    go : (p : LinkState) → l.controller.side.phase ≡ p → (wire : List OnWire) → l.to_controller ≡ wire
+        → SafeLink 0 0 (shdlc_happens_at_controller l (Ignore ts))
     go Up q wire w = by_parts l (rw q refl) h
     go Waiting q wire w = by_parts l (rw q refl) h
     go Down q [] w = by_parts l (rw (q, w) refl) h
@@ -612,9 +615,11 @@ ticked_there turns d near a one =
     let m : ShdlcLink = shdlc_exchanged (shdlc_all_at_controller near turns) in
     safe_exchanged 0 0 (ticks_or_cut d m) (tick_or_cut 0 d m (safe_exchanged 0 1 (shdlc_all_at_controller near turns) (safe_turns 1 turns near a one)))
 
-pub safe_event : (l : ShdlcLink) (e : ShdlcLinkEvent) (es : List ShdlcLinkEvent) → AllShdlcAllowed (e ∷ es) → SafeLink 0 0 l → SafeLink 0 0 (shdlc_happens l e) × AllShdlcAllowed es
+pub safe_event : (l : ShdlcLink) (e : ShdlcLinkEvent) (es : List ShdlcLinkEvent) → AllShdlcAllowed (e ∷ es) → SafeLink 0 0 l
+    → SafeLink 0 0 (shdlc_happens l e) × AllShdlcAllowed es
 safe_event l (AtController e) es a h = (safe_here l e a.0 h, a.1)
-safe_event l (AtHost e) es a h = (safe_exchanged 0 0 (shdlc_happens_at_controller (shdlc_exchanged l) e) (safe_here (shdlc_exchanged l) e a.0 (safe_exchanged 0 0 l h)), a.1)
+safe_event l (AtHost e) es a h =
+    (safe_exchanged 0 0 (shdlc_happens_at_controller (shdlc_exchanged l) e) (safe_here (shdlc_exchanged l) e a.0 (safe_exchanged 0 0 l h)), a.1)
 safe_event l (Tick c turns d) es a h =
     (ticked_there turns d (ticks_or_cut c (shdlc_aged l)) a.0 (tick_or_cut 1 c (shdlc_aged l) (safe_aged l h)), a.1)
 safe_event l (TickWithout turns d) es a h =
@@ -708,7 +713,8 @@ agree l s events a p q =
 new_number : (h : NumberedShdlc) → h.side.phase ≡ Up → Below (bound h) h.past → ended_session h.past (shdlc_number_of h) ≡ no_session
 new_number h up b = none_ended (shdlc_number_of h) (shdlc_number_of h) h.past (omega arith) (rw up at b)
 
-pub new_number_here : (l : ShdlcLink) → IsShdlcStart l → (events : List ShdlcLinkEvent) → AllShdlcAllowed events → (shdlc_after l events).controller.side.phase ≡ Up
+pub new_number_here : (l : ShdlcLink) → IsShdlcStart l → (events : List ShdlcLinkEvent) → AllShdlcAllowed events
+    → (shdlc_after l events).controller.side.phase ≡ Up
     → ended_session (shdlc_after l events).controller.past (shdlc_number_of (shdlc_after l events).controller) ≡ no_session
 new_number_here l s events a up = new_number (shdlc_after l events).controller up (safe l s events a).n_past
 

@@ -179,7 +179,8 @@ shdlc_happens_at_controller l (Ignore ts) = by_phase l.controller.side.phase l.t
   by_phase _ _ = l
 shdlc_happens_at_controller l (Acts acts ts) = shdlc_becomes (shdlc_put_all l (map act_frame acts)) (shdlc_turned l.controller.side ts)
 shdlc_happens_at_controller l Lose = record l { to_controller = drop 1 l.to_controller }
-shdlc_happens_at_controller l (Reset w ts) = shdlc_becomes (with_shdlc_ended l (is_up l.controller.side.phase)) (shdlc_turned (reset_with l.controller.side w) ts)
+shdlc_happens_at_controller l (Reset w ts) =
+    shdlc_becomes (with_shdlc_ended l (is_up l.controller.side.phase)) (shdlc_turned (reset_with l.controller.side w) ts)
 shdlc_happens_at_controller l Cut = shdlc_silent l (new_end 4)
 shdlc_happens_at_controller l Stop = shdlc_silent l (stopped l.controller.side)
 

@@ -31,7 +31,8 @@ pub record TakesAlike (e : EndState) (o : List Fragment) (c : Control) : Type 0 
   pub acked : (taken e c).session.acked ≡ (if (take_answer e c).began then 0 else e.session.acked + (take_answer e c).acked)
   pub acc : (taken e c).session.acc ≡ left_waiting (take_answer e c).began (e.session.acc ++ option_to_list (take_answer e c).accepted)
 
-same_windows : (old new : EndState) → new.own_window ≡ old.own_window → new.peer_window ≡ old.peer_window → new.session.window ≡ old.session.window → IsNarrow old → IsNarrow new
+same_windows : (old new : EndState) → new.own_window ≡ old.own_window → new.peer_window ≡ old.peer_window → new.session.window ≡ old.session.window
+    → IsNarrow old → IsNarrow new
 same_windows old new own peer session h =
     let P : ℕ → Type 0 = λ n. n ≤ 4 in
     record { own = subst P (sym own) h.own; peer = subst P (sym peer) h.peer; session = subst P (sym session) h.session }
@@ -54,7 +55,8 @@ received_alike e o x ns info = go e.ready (ahead e.session ns == 0) (nat_lt (ahe
     gap : EndState → EndState
     gap h = record h { due = h.due ++ Rej_due ∷ []; session = record h.session { gap_open = true } }
 
-    all : (h : EndState) → h.own_window ≡ e.own_window → h.peer_window ≡ e.peer_window → h.session.window ≡ e.session.window → IsNarrow (in_phase Up e) → IsNarrow h
+    all : (h : EndState) → h.own_window ≡ e.own_window → h.peer_window ≡ e.peer_window → h.session.window ≡ e.session.window
+        → IsNarrow (in_phase Up e) → IsNarrow h
     all h = same_windows (in_phase Up e) h
 
     go : (r b c d : Bool) →
@@ -72,7 +74,8 @@ received_alike e o x ns info = go e.ready (ahead e.session ns == 0) (nat_lt (ahe
     go true false false d = (refl, refl, all (repeated f) refl refl refl, λ h. h, refl, sym (append-nil e.session.acc))
     go false b c d = (refl, refl, all (discarded f) refl refl refl, λ h. h, refl, sym (append-nil e.session.acc))
 
-fragment_alike : (e : EndState) (o : List Fragment) (ns nr : ℕ) (info : Fragment) (q : Option ℕ) → place_of e.session nr ≡ q → TakesAlike (in_phase Up e) o (I ns nr info)
+fragment_alike : (e : EndState) (o : List Fragment) (ns nr : ℕ) (info : Fragment) (q : Option ℕ) → place_of e.session nr ≡ q
+    → TakesAlike (in_phase Up e) o (I ns nr info)
 fragment_alike e o ns nr info None at =
     record { same = rw at; answer = rw at; out = rw at; narrow = rw at (λ h. h); session = rw at (λ h. h); acked = rw at (omega arith); acc = rw at (sym (append-nil e.session.acc)) }
 fragment_alike e o ns nr info (Some x) at =
@@ -80,7 +83,8 @@ fragment_alike e o ns nr info (Some x) at =
     let w = place_of-within e.session nr x at in
     record { same = rw at r.0; answer = rw at; out = rw at r.1; narrow = rw at r.2; session = rw at r.3; acked = rw at (r.4 ∙ omega arith); acc = rw at r.5 }
 
-some_narrow : (e new : EndState) → new.own_window ≡ e.own_window → new.peer_window ≡ e.peer_window → new.session.window ≡ e.session.window → IsNarrow (in_phase Up e) → IsNarrow new
+some_narrow : (e new : EndState) → new.own_window ≡ e.own_window → new.peer_window ≡ e.peer_window → new.session.window ≡ e.session.window
+    → IsNarrow (in_phase Up e) → IsNarrow new
 some_narrow e new own peer session h = same_windows (in_phase Up e) new own peer session h
 
 kind_alike : (e : EndState) (o : List Fragment) (k : Kind) (nr : ℕ) (q : Option ℕ) → place_of e.session nr ≡ q → TakesAlike (in_phase Up e) o (S k nr)
@@ -99,21 +103,25 @@ kind_alike e o Rnr nr None at =
 kind_alike e o Rnr nr (Some x) at =
     let w = place_of-within e.session nr x at in
     record { same = rw at; answer = rw at; out = rw at; narrow = rw at (some_narrow e (made_busy (in_phase Up e) x) refl refl refl); session = rw at (λ h. h); acked = rw at (omega arith); acc = rw at (sym (append-nil e.session.acc)) }
-kind_alike e o Srej nr q at = record { same = refl; answer = refl; out = refl; narrow = λ h. h; session = λ h. h; acked = omega arith; acc = sym (append-nil e.session.acc) }
+kind_alike e o Srej nr q at =
+    record { same = refl; answer = refl; out = refl; narrow = λ h. h; session = λ h. h; acked = omega arith; acc = sym (append-nil e.session.acc) }
 
 lesser_own : (e : EndState) (w : ℕ) → IsNarrow e → min e.own_window w ≤ 4
 lesser_own e w h = let own = h.own in omega arith
 
-begun_narrow : (p : LinkState) (e : EndState) (w : ℕ) (due : List Due) → IsNarrow (in_phase p e) → IsNarrow (up_with (record e { due = due }) (min e.own_window w))
+begun_narrow : (p : LinkState) (e : EndState) (w : ℕ) (due : List Due) → IsNarrow (in_phase p e)
+    → IsNarrow (up_with (record e { due = due }) (min e.own_window w))
 begun_narrow p e w due h = record { own = h.own; peer = h.peer; session = lesser_own (in_phase p e) w h }
 
 reset_alike : (p : LinkState) (e : EndState) (o : List Fragment) (w caps : ℕ) (b : Bool) → (w == 0) ≡ b → TakesAlike (in_phase p e) o (Rset w caps)
 reset_alike Up e o w caps true at =
     record { same = rw at; answer = rw at; out = rw at; narrow = rw at (λ h. h); session = rw at (λ h. h); acked = rw at (omega arith); acc = rw at (sym (append-nil e.session.acc)) }
-reset_alike Up e o w caps false at = record { same = rw at; answer = rw at; out = rw at; narrow = rw at (begun_narrow Up e (min w 4) (Ua_due ∷ [])); session = rw at (λ h. tt); acked = rw at; acc = rw at }
+reset_alike Up e o w caps false at =
+    record { same = rw at; answer = rw at; out = rw at; narrow = rw at (begun_narrow Up e (min w 4) (Ua_due ∷ [])); session = rw at (λ h. tt); acked = rw at; acc = rw at }
 reset_alike Down e o w caps true at =
     record { same = rw at; answer = rw at; out = rw at; narrow = rw at (λ h. h); session = rw at (λ h. h); acked = rw at (omega arith); acc = rw at (sym (append-nil e.session.acc)) }
-reset_alike Down e o w caps false at = record { same = rw at; answer = rw at; out = rw at; narrow = rw at (begun_narrow Down e (min w 4) (e.due ++ Ua_due ∷ [])); session = rw at (λ h. tt); acked = rw at; acc = rw at }
+reset_alike Down e o w caps false at =
+    record { same = rw at; answer = rw at; out = rw at; narrow = rw at (begun_narrow Down e (min w 4) (e.due ++ Ua_due ∷ [])); session = rw at (λ h. tt); acked = rw at; acc = rw at }
 reset_alike Waiting e o w caps true at =
     record { same = rw at; answer = refl; out = rw at; narrow = rw at (λ h. h); session = rw at (λ h. h); acked = rw at (omega arith); acc = rw at (sym (append-nil e.session.acc)) }
 reset_alike Waiting e o w caps false at = record {
@@ -133,21 +141,33 @@ alike_in : (p : LinkState) (e : EndState) (o : List Fragment) (c : Control) → 
 alike_in Up e o (I ns nr info) = fragment_alike e o ns nr info (place_of e.session nr) refl
 alike_in Up e o (S k nr) = kind_alike e o k nr (place_of e.session nr) refl
 alike_in Up e o (Rset w caps) = reset_alike Up e o w caps (w == 0) refl
-alike_in Up e o Ua = record { same = refl; answer = refl; out = refl; narrow = λ h. h; session = λ h. h; acked = omega arith; acc = sym (append-nil e.session.acc) }
-alike_in Up e o (Act act again) = record { same = refl; answer = refl; out = refl; narrow = λ h. h; session = λ h. h; acked = omega arith; acc = sym (append-nil e.session.acc) }
-alike_in Up e o Clt = record { same = refl; answer = refl; out = refl; narrow = λ h. h; session = λ h. h; acked = omega arith; acc = sym (append-nil e.session.acc) }
-alike_in Down e o (I ns nr info) = record { same = refl; answer = refl; out = refl; narrow = λ h. h; session = λ h. h; acked = omega arith; acc = sym (append-nil e.session.acc) }
-alike_in Down e o (S k nr) = record { same = refl; answer = refl; out = refl; narrow = λ h. h; session = λ h. h; acked = omega arith; acc = sym (append-nil e.session.acc) }
+alike_in Up e o Ua =
+    record { same = refl; answer = refl; out = refl; narrow = λ h. h; session = λ h. h; acked = omega arith; acc = sym (append-nil e.session.acc) }
+alike_in Up e o (Act act again) =
+    record { same = refl; answer = refl; out = refl; narrow = λ h. h; session = λ h. h; acked = omega arith; acc = sym (append-nil e.session.acc) }
+alike_in Up e o Clt =
+    record { same = refl; answer = refl; out = refl; narrow = λ h. h; session = λ h. h; acked = omega arith; acc = sym (append-nil e.session.acc) }
+alike_in Down e o (I ns nr info) =
+    record { same = refl; answer = refl; out = refl; narrow = λ h. h; session = λ h. h; acked = omega arith; acc = sym (append-nil e.session.acc) }
+alike_in Down e o (S k nr) =
+    record { same = refl; answer = refl; out = refl; narrow = λ h. h; session = λ h. h; acked = omega arith; acc = sym (append-nil e.session.acc) }
 alike_in Down e o (Rset w caps) = reset_alike Down e o w caps (w == 0) refl
-alike_in Down e o Ua = record { same = refl; answer = refl; out = refl; narrow = λ h. h; session = λ h. h; acked = omega arith; acc = sym (append-nil e.session.acc) }
-alike_in Down e o (Act act again) = record { same = refl; answer = refl; out = refl; narrow = λ h. h; session = λ h. h; acked = omega arith; acc = sym (append-nil e.session.acc) }
-alike_in Down e o Clt = record { same = refl; answer = refl; out = refl; narrow = λ h. h; session = λ h. h; acked = omega arith; acc = sym (append-nil e.session.acc) }
-alike_in Waiting e o (I ns nr info) = record { same = refl; answer = refl; out = refl; narrow = λ h. h; session = λ h. h; acked = omega arith; acc = sym (append-nil e.session.acc) }
-alike_in Waiting e o (S k nr) = record { same = refl; answer = refl; out = refl; narrow = λ h. h; session = λ h. h; acked = omega arith; acc = sym (append-nil e.session.acc) }
+alike_in Down e o Ua =
+    record { same = refl; answer = refl; out = refl; narrow = λ h. h; session = λ h. h; acked = omega arith; acc = sym (append-nil e.session.acc) }
+alike_in Down e o (Act act again) =
+    record { same = refl; answer = refl; out = refl; narrow = λ h. h; session = λ h. h; acked = omega arith; acc = sym (append-nil e.session.acc) }
+alike_in Down e o Clt =
+    record { same = refl; answer = refl; out = refl; narrow = λ h. h; session = λ h. h; acked = omega arith; acc = sym (append-nil e.session.acc) }
+alike_in Waiting e o (I ns nr info) =
+    record { same = refl; answer = refl; out = refl; narrow = λ h. h; session = λ h. h; acked = omega arith; acc = sym (append-nil e.session.acc) }
+alike_in Waiting e o (S k nr) =
+    record { same = refl; answer = refl; out = refl; narrow = λ h. h; session = λ h. h; acked = omega arith; acc = sym (append-nil e.session.acc) }
 alike_in Waiting e o (Rset w caps) = reset_alike Waiting e o w caps (w == 0) refl
 alike_in Waiting e o Ua = record { same = refl; answer = refl; out = refl; narrow = accepted_narrow e; session = λ h. tt; acked = refl; acc = refl }
-alike_in Waiting e o (Act act again) = record { same = refl; answer = refl; out = refl; narrow = λ h. h; session = λ h. h; acked = omega arith; acc = sym (append-nil e.session.acc) }
-alike_in Waiting e o Clt = record { same = refl; answer = refl; out = refl; narrow = λ h. h; session = λ h. h; acked = omega arith; acc = sym (append-nil e.session.acc) }
+alike_in Waiting e o (Act act again) =
+    record { same = refl; answer = refl; out = refl; narrow = λ h. h; session = λ h. h; acked = omega arith; acc = sym (append-nil e.session.acc) }
+alike_in Waiting e o Clt =
+    record { same = refl; answer = refl; out = refl; narrow = λ h. h; session = λ h. h; acked = omega arith; acc = sym (append-nil e.session.acc) }
 
 pub taken_alike : (e : EndState) (o : List Fragment) (c : Control) → TakesAlike e o c
 taken_alike e o c = alike_in e.phase e o c
@@ -187,7 +207,8 @@ waits_narrow p e due tries h = record { own = h.own; peer = omega arith; session
 
 up_ticks : (e : EndState) (o : List Fragment) (b t u : Bool) → runs_timer (record e.session { out = o }) ≡ b → runs_timer e.session ≡ b
     → nat_lt (e.timer + 1) 10 ≡ t → nat_lt e.tries 5 ≡ u → TicksAlike (in_phase Up e) o
-up_ticks e o false t u q r p1 p2 = record { same = rw (q, r); answer = rw (q, r); out = rw r; narrow = rw r (λ h. h); session = rw r (λ h. h); acked = rw r; acc = rw r }
+up_ticks e o false t u q r p1 p2 =
+    record { same = rw (q, r); answer = rw (q, r); out = rw r; narrow = rw r (λ h. h); session = rw r (λ h. h); acked = rw r; acc = rw r }
 up_ticks e o true true u q r p1 p2 = record {
   same = rw (q, r, p1);
   answer = rw (q, r, p1);
@@ -297,7 +318,8 @@ idle_ready Up s h = tt
 idle_ready Down s h = ap (λ (x : Session). record x { answered_rnr = false }) h
 idle_ready Waiting s h = ap (λ (x : Session). record x { answered_rnr = false }) h
 
-readies_in : (e : EndState) (o : List Fragment) (old new answered : Bool) → ReadiesAlike (record e { ready = old; session = record e.session { answered_rnr = answered } }) o new
+readies_in : (e : EndState) (o : List Fragment) (old new answered : Bool)
+    → ReadiesAlike (record e { ready = old; session = record e.session { answered_rnr = answered } }) o new
 readies_in e o true true a = record { same = refl; out = refl; acked = refl; narrow = λ h. h; session = λ h. h }
 readies_in e o false false a = record { same = refl; out = refl; acked = refl; narrow = λ h. h; session = λ h. h }
 readies_in e o true false a = record {
@@ -362,7 +384,8 @@ none_sent Up s info due h = tt
 none_sent Down s info due h = let n : fragment_due no_session ≡ Some info = subst (λ (x : Session). fragment_due x ≡ Some info) h due in cc
 none_sent Waiting s info due h = let n : fragment_due no_session ≡ Some info = subst (λ (x : Session). fragment_due x ≡ Some info) h due in cc
 
-fetches_none : (e : EndState) (o : List Fragment) (q : Option Fragment) → fragment_due (record e.session { out = o }) ≡ q → fragment_due e.session ≡ q → FetchesAlike (record e { due = [] }) o
+fetches_none : (e : EndState) (o : List Fragment) (q : Option Fragment) → fragment_due (record e.session { out = o }) ≡ q → fragment_due e.session ≡ q
+    → FetchesAlike (record e { due = [] }) o
 fetches_none e o None r s = record { frame = rw (r, s); same = rw (r, s); out = rw s; acked = rw s; narrow = rw s (λ h. h); session = rw s (λ h. h) }
 fetches_none e o (Some info) r s = record {
   frame = rw (r, s);
@@ -373,15 +396,22 @@ fetches_none e o (Some info) r s = record {
   session = rw s (none_sent e.phase e.session info s);
 }
 
-fetches_in : (e : EndState) (o : List Fragment) (due : List Due) → fragment_due (record e.session { out = o }) ≡ fragment_due e.session → FetchesAlike (record e { due = due }) o
+fetches_in : (e : EndState) (o : List Fragment) (due : List Due) → fragment_due (record e.session { out = o }) ≡ fragment_due e.session
+    → FetchesAlike (record e { due = due }) o
 fetches_in e o [] same = fetches_none e o (fragment_due e.session) same refl
-fetches_in e o (Rr_due ∷ due) same = record { frame = refl; same = refl; out = refl; acked = refl; narrow = λ h. record { own = h.own; peer = h.peer; session = h.session }; session = λ h. h }
-fetches_in e o (Rej_due ∷ due) same = record { frame = refl; same = refl; out = refl; acked = refl; narrow = λ h. record { own = h.own; peer = h.peer; session = h.session }; session = λ h. h }
-fetches_in e o (Rnr_due ∷ due) same = record { frame = refl; same = refl; out = refl; acked = refl; narrow = λ h. record { own = h.own; peer = h.peer; session = h.session }; session = λ h. h }
-fetches_in e o (Rset_due ∷ due) same = record { frame = refl; same = refl; out = refl; acked = refl; narrow = λ h. record { own = h.own; peer = h.peer; session = h.session }; session = λ h. h }
-fetches_in e o (Ua_due ∷ due) same = record { frame = refl; same = refl; out = refl; acked = refl; narrow = λ h. record { own = h.own; peer = h.peer; session = h.session }; session = λ h. h }
+fetches_in e o (Rr_due ∷ due) same =
+    record { frame = refl; same = refl; out = refl; acked = refl; narrow = λ h. record { own = h.own; peer = h.peer; session = h.session }; session = λ h. h }
+fetches_in e o (Rej_due ∷ due) same =
+    record { frame = refl; same = refl; out = refl; acked = refl; narrow = λ h. record { own = h.own; peer = h.peer; session = h.session }; session = λ h. h }
+fetches_in e o (Rnr_due ∷ due) same =
+    record { frame = refl; same = refl; out = refl; acked = refl; narrow = λ h. record { own = h.own; peer = h.peer; session = h.session }; session = λ h. h }
+fetches_in e o (Rset_due ∷ due) same =
+    record { frame = refl; same = refl; out = refl; acked = refl; narrow = λ h. record { own = h.own; peer = h.peer; session = h.session }; session = λ h. h }
+fetches_in e o (Ua_due ∷ due) same =
+    record { frame = refl; same = refl; out = refl; acked = refl; narrow = λ h. record { own = h.own; peer = h.peer; session = h.session }; session = λ h. h }
 
-pub fetched_alike : (e : EndState) (o waiting : List Fragment) → e.session.out ≡ o ++ waiting → e.session.window ≤ 4 → (waiting ≡ []) ⊎ (length o ≡ e.session.acked + 4)
+pub fetched_alike : (e : EndState) (o waiting : List Fragment) → e.session.out ≡ o ++ waiting → e.session.window ≤ 4
+    → (waiting ≡ []) ⊎ (length o ≡ e.session.acked + 4)
     → FetchesAlike e o
 fetched_alike e o waiting out window full = fetches_in e o e.due (due_alike e.session o waiting out window full)
 
@@ -457,7 +487,8 @@ stands_stopped k new waiting e h kept =
 -- ## Offering what waits
 
 -- more fragments wait behind the others
-pub stands_put : (k : KeptEnd) (waiting more : List Fragment) (e : EndState) → e.phase ≡ Up → StandsBefore k waiting e → StandsBefore k (waiting ++ more) (put_out e more)
+pub stands_put : (k : KeptEnd) (waiting more : List Fragment) (e : EndState) → e.phase ≡ Up → StandsBefore k waiting e
+    → StandsBefore k (waiting ++ more) (put_out e more)
 stands_put k waiting more e up h =
     let n = h.narrow in
     record {
@@ -528,7 +559,8 @@ brings_received e x ns info = go e.ready (ahead e.session ns == 0) (nat_lt (ahea
     gap : EndState → EndState
     gap h = record h { due = h.due ++ Rej_due ∷ []; session = record h.session { gap_open = true } }
 
-    go : (r b c d : Bool) → stopped (if r then (if b then accepted f info else (if c then (if d then f else gap f) else repeated f)) else discarded f) ≡ stopped (in_phase Up e)
+    go : (r b c d : Bool)
+        → stopped (if r then (if b then accepted f info else (if c then (if d then f else gap f) else repeated f)) else discarded f) ≡ stopped (in_phase Up e)
     go true true c d = refl
     go true false true true = refl
     go true false true false = refl
@@ -542,7 +574,8 @@ brings_up e ns nr info (Some x) at = record { up = refl; stays = refl; goes_on =
 no_fragment : (f : Fragment) → None ≡ Some f → ⊥
 no_fragment f e = cc
 
-none_brought : (p : LinkState) (e : EndState) (w caps : ℕ) (b : Bool) (f : Fragment) → (w == 0) ≡ b → (take_answer (in_phase p e) (Rset w caps)).accepted ≡ Some f → ⊥
+none_brought : (p : LinkState) (e : EndState) (w caps : ℕ) (b : Bool) (f : Fragment) → (w == 0) ≡ b
+    → (take_answer (in_phase p e) (Rset w caps)).accepted ≡ Some f → ⊥
 none_brought Up e w caps true f at is = let h : None ≡ Some f = rw at at is in no_fragment f h
 none_brought Up e w caps false f at is = let h : None ≡ Some f = rw at at is in no_fragment f h
 none_brought Down e w caps true f at is = let h : None ≡ Some f = rw at at is in no_fragment f h
@@ -577,9 +610,11 @@ pub record TakesOn (e : EndState) (c : Control) : Type 0 where
   pub out : (taken e c).session.out ≡ left_waiting (is_some (take_answer e c).ended) e.session.out
   pub acked : (taken e c).session.acked ≡ (if is_some (take_answer e c).ended then 0 else e.session.acked + (take_answer e c).acked)
   pub acc : (taken e c).session.acc ≡ left_waiting (is_some (take_answer e c).ended) (e.session.acc ++ option_to_list (take_answer e c).accepted)
-  pub waiting : (waiting : List Fragment) → ((e.phase ≡ Up → ⊥) → waiting ≡ []) → left_waiting (take_answer e c).began waiting ≡ left_waiting (is_some (take_answer e c).ended) waiting
+  pub waiting : (waiting : List Fragment) → ((e.phase ≡ Up → ⊥) → waiting ≡ [])
+      → left_waiting (take_answer e c).began waiting ≡ left_waiting (is_some (take_answer e c).ended) waiting
 
-reset_ends : (e : EndState) (w caps : ℕ) (b : Bool) → (w == 0) ≡ b → (take_answer (in_phase Up e) (Rset w caps)).began ≡ is_some (take_answer (in_phase Up e) (Rset w caps)).ended
+reset_ends : (e : EndState) (w caps : ℕ) (b : Bool) → (w == 0) ≡ b
+    → (take_answer (in_phase Up e) (Rset w caps)).began ≡ is_some (take_answer (in_phase Up e) (Rset w caps)).ended
 reset_ends e w caps true at = rw at
 reset_ends e w caps false at = rw at
 

@@ -11,7 +11,8 @@ pub AreRows-lower : {X : Type 0} (key : X → ℕ) (lower low high : ℕ) (rows 
 AreRows-lower key lower low high [] le h = tt
 AreRows-lower key lower low high (row ∷ rows) le h = let from = h.0 in (omega arith, h.1, h.2)
 
-pub AreRows-filter : {X : Type 0} (key : X → ℕ) (low high : ℕ) (kept : X → Bool) (rows : List X) → AreRows key low high rows → AreRows key low high (filter kept rows)
+pub AreRows-filter : {X : Type 0} (key : X → ℕ) (low high : ℕ) (kept : X → Bool) (rows : List X) → AreRows key low high rows
+    → AreRows key low high (filter kept rows)
 AreRows-filter key low high kept [] h = tt
 AreRows-filter key low high kept (row ∷ rows) h =
     let low_le = h.0 in
@@ -20,7 +21,8 @@ AreRows-filter key low high kept (row ∷ rows) h =
     (λ yes. (h.0, h.1, rest)) (λ no. AreRows-lower key low (key row + 1) high (filter kept rows) (omega arith) rest)
 
 -- a change that leaves the keys
-pub AreRows-map : {X : Type 0} (key : X → ℕ) (change : X → X) (low high : ℕ) (rows : List X) → ((row : X) → key (change row) ≡ key row) → AreRows key low high rows → AreRows key low high (map change rows)
+pub AreRows-map : {X : Type 0} (key : X → ℕ) (change : X → X) (low high : ℕ) (rows : List X) → ((row : X) → key (change row) ≡ key row)
+    → AreRows key low high rows → AreRows key low high (map change rows)
 AreRows-map key change low high [] keeps h = tt
 AreRows-map key change low high (row ∷ rows) keeps h =
     let same = keeps row in
@@ -79,7 +81,8 @@ without-same key k row rows same = ap (λ b. cond (not b) (row ∷ without_row k
 without-other : {X : Type 0} (key : X → ℕ) (k : ℕ) (row : X) (rows : List X) → (key row ≡ k → ⊥) → without_row key k (row ∷ rows) ≡ row ∷ without_row key k rows
 without-other key k row rows other = ap (λ b. cond (not b) (row ∷ without_row key k rows) (without_row key k rows)) (ne_eqb (key row) k other)
 
-pub AreRows-with_row : {X : Type 0} (key : X → ℕ) (low high : ℕ) (row : X) (rows : List X) → AreRows key low high rows → low ≤ key row → key row < high → AreRows key low high (with_row key row rows)
+pub AreRows-with_row : {X : Type 0} (key : X → ℕ) (low high : ℕ) (row : X) (rows : List X) → AreRows key low high rows → low ≤ key row
+    → key row < high → AreRows key low high (with_row key row rows)
 AreRows-with_row key low high row [] h low_le below = (low_le, below, tt)
 AreRows-with_row {X} key low high row (r ∷ rows) h low_le below =
     let k = key row in
@@ -113,7 +116,8 @@ place-below key k row rows lt = cond-true (ltb (key row) k) (1 + place key k row
 place-above : {X : Type 0} (key : X → ℕ) (k : ℕ) (row : X) (rows : List X) → k ≤ key row → place key k (row ∷ rows) ≡ 0
 place-above key k row rows le = cond-false (ltb (key row) k) (1 + place key k rows) 0 (le-ltb (key row) k le)
 
-take-place : {X : Type 0} (key : X → ℕ) (k low high : ℕ) (rows : List X) → AreRows key low high rows → take (place key k (without_row key k rows)) (without_row key k rows) ≡ rows_before key k rows
+take-place : {X : Type 0} (key : X → ℕ) (k low high : ℕ) (rows : List X) → AreRows key low high rows
+    → take (place key k (without_row key k rows)) (without_row key k rows) ≡ rows_before key k rows
 take-place key k low high [] h = refl
 take-place key k low high (r ∷ rows) h =
     let rest = take-place key k (key r + 1) high rows h.2 in
@@ -130,7 +134,8 @@ take-place key k low high (r ∷ rows) h =
       ]
     ]
 
-drop-place : {X : Type 0} (key : X → ℕ) (k low high : ℕ) (rows : List X) → AreRows key low high rows → drop (place key k (without_row key k rows)) (without_row key k rows) ≡ rows_behind key k rows
+drop-place : {X : Type 0} (key : X → ℕ) (k low high : ℕ) (rows : List X) → AreRows key low high rows
+    → drop (place key k (without_row key k rows)) (without_row key k rows) ≡ rows_behind key k rows
 drop-place key k low high [] h = refl
 drop-place key k low high (r ∷ rows) h =
     let rest = drop-place key k (key r + 1) high rows h.2 in
@@ -148,18 +153,22 @@ drop-place key k low high (r ∷ rows) h =
       ]
     ]
 
-pub inserted_is_put : {X : Type 0} (key : X → ℕ) (low high : ℕ) (row : X) (rows : List X) → AreRows key low high rows → insert (without_row key (key row) rows) (prefix_len (λ r. ltb (key r) (key row)) (without_row key (key row) rows)) row ≡ with_row key row rows
+pub inserted_is_put : {X : Type 0} (key : X → ℕ) (low high : ℕ) (row : X) (rows : List X) → AreRows key low high rows
+    → insert (without_row key (key row) rows) (prefix_len (λ r. ltb (key r) (key row)) (without_row key (key row) rows)) row ≡ with_row key row rows
 inserted_is_put key low high row rows h =
     ap (λ front. front ++ row ∷ drop (place key (key row) (without_row key (key row) rows)) (without_row key (key row) rows)) (take-place key (key row) low high rows h)
     ∙ ap (λ back. rows_before key (key row) rows ++ row ∷ back) (drop-place key (key row) low high rows h)
 
 -- the same, as the code's calls say it
-pub put_by_insert : {X : Type 0} (key : X → ℕ) (low high : ℕ) (row : X) (rows taken seen new : List X) (n : ℕ) → AreRows key low high rows → taken ≡ without_row key (key row) rows → seen ≡ taken → n ≡ prefix_len (λ r. ltb (key r) (key row)) seen → new ≡ insert taken n row → new ≡ with_row key row rows
+pub put_by_insert : {X : Type 0} (key : X → ℕ) (low high : ℕ) (row : X) (rows taken seen new : List X) (n : ℕ) → AreRows key low high rows
+    → taken ≡ without_row key (key row) rows → seen ≡ taken → n ≡ prefix_len (λ r. ltb (key r) (key row)) seen → new ≡ insert taken n row
+    → new ≡ with_row key row rows
 put_by_insert key low high row rows taken seen new n h taken_is seen_is n_is new_is =
     let put = inserted_is_put key low high row rows h in cc
 
 -- there is room for a row where all keys stay below the number of places
-pub length-without_row : {X : Type 0} (key : X → ℕ) (low high : ℕ) (row : X) (rows : List X) → AreRows key low high rows → low ≤ key row → key row < high → length (without_row key (key row) rows) < high - low
+pub length-without_row : {X : Type 0} (key : X → ℕ) (low high : ℕ) (row : X) (rows : List X) → AreRows key low high rows → low ≤ key row
+    → key row < high → length (without_row key (key row) rows) < high - low
 length-without_row key low high row rows h low_le below =
     let put = AreRows-with_row key low high row rows h low_le below in
     let few = length-rows key low high (with_row key row rows) put in
@@ -186,7 +195,8 @@ find-append {X} test (x ∷ xs) ys =
     (λ yes. cond-true (test x) (Some x) (find test (xs ++ ys)) yes) (λ no. cond-false (test x) (Some x) (find test (xs ++ ys)) no ∙ rest)
 
 -- a filter that keeps each row with key k, or none
-row_of-kept : {X : Type 0} (key : X → ℕ) (kept : ℕ → Bool) (k : ℕ) (rows : List X) → kept k ≡ true → row_of key k (filter (λ r. kept (key r)) rows) ≡ row_of key k rows
+row_of-kept : {X : Type 0} (key : X → ℕ) (kept : ℕ → Bool) (k : ℕ) (rows : List X) → kept k ≡ true
+    → row_of key k (filter (λ r. kept (key r)) rows) ≡ row_of key k rows
 row_of-kept key kept k [] keeps = refl
 row_of-kept {X} key kept k (r ∷ rows) keeps =
     let rest = row_of-kept key kept k rows keeps in
@@ -211,14 +221,16 @@ row_of-dropped {X} key kept k (r ∷ rows) drops =
           (λ no. rest)
     ]
 
-pub row_of-without_row : {X : Type 0} (key : X → ℕ) (gone : ℕ) (rows : List X) (k : ℕ) → row_of key k (without_row key gone rows) ≡ cond (eqb gone k) None (row_of key k rows)
+pub row_of-without_row : {X : Type 0} (key : X → ℕ) (gone : ℕ) (rows : List X) (k : ℕ)
+    → row_of key k (without_row key gone rows) ≡ cond (eqb gone k) None (row_of key k rows)
 row_of-without_row key gone rows k =
     elim (cases_eq gone k) [
       | inl same ↦ row_of-dropped key (λ j. not (eqb j gone)) k rows (ap not (eq-eqb k gone (sym same))) ∙ sym (cond-true (eqb gone k) None (row_of key k rows) (eq-eqb gone k same))
       | inr other ↦ row_of-kept key (λ j. not (eqb j gone)) k rows (ap not (ne_eqb k gone (λ same. other (sym same)))) ∙ sym (cond-false (eqb gone k) None (row_of key k rows) (ne_eqb gone k other))
     ]
 
-pub row_of-with_row : {X : Type 0} (key : X → ℕ) (row : X) (rows : List X) (k : ℕ) → row_of key k (with_row key row rows) ≡ cond (eqb (key row) k) (Some row) (row_of key k rows)
+pub row_of-with_row : {X : Type 0} (key : X → ℕ) (row : X) (rows : List X) (k : ℕ)
+    → row_of key k (with_row key row rows) ≡ cond (eqb (key row) k) (Some row) (row_of key k rows)
 row_of-with_row {X} key row rows k =
     let found = row_of key k rows in
     let behind = rows_behind key (key row) rows in
@@ -240,7 +252,8 @@ row_of-with_row {X} key row rows k =
     ]
 
 -- the key of a row that is found lies between the bounds
-pub row_of-within : {X : Type 0} (key : X → ℕ) (low high k : ℕ) (rows : List X) → AreRows key low high rows → IsSome (row_of key k rows) → (low ≤ k) × (k < high)
+pub row_of-within : {X : Type 0} (key : X → ℕ) (low high k : ℕ) (rows : List X) → AreRows key low high rows → IsSome (row_of key k rows)
+    → (low ≤ k) × (k < high)
 row_of-within key low high k [] h some = absurd (cc some)
 row_of-within {X} key low high k (row ∷ rows) h some =
     let from = h.0 in

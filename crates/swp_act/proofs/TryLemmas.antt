@@ -22,13 +22,16 @@ phase_after (suc n) p = phase_after n (phase_ticked p)
 
 -- one tick of an end that waits
 tick_counts : (t k : ℕ) → k < 9 → phase_ticked (Awaiting t k) ≡ Awaiting t (k + 1)
-tick_counts t k low = let no : leb 10 (k + 1) ≡ false = grind (arith, common_steps) in ap (λ b. cond b (cond (leb 3 t) Inactive (Awaiting (t + 1) 0)) (Awaiting t (k + 1))) no
+tick_counts t k low =
+    let no : leb 10 (k + 1) ≡ false = grind (arith, common_steps) in ap (λ b. cond b (cond (leb 3 t) Inactive (Awaiting (t + 1) 0)) (Awaiting t (k + 1))) no
 
 tick_tries : (t : ℕ) → t < 3 → phase_ticked (Awaiting t 9) ≡ Awaiting (t + 1) 0
 tick_tries t low = let no : leb 3 t ≡ false = grind (arith, common_steps) in ap (λ b. cond b Inactive (Awaiting (t + 1) 0)) no
 
 -- the first of n + 1 more ticks: it is the tenth since the t-th try, or it isn't
-waits_by_place : (n t k : ℕ) (b : Bool) → leb 9 k ≡ b → k < 10 → t + (k + suc n) / 10 ≤ 3 → ((u i : ℕ) → i < 10 → u + (i + n) / 10 ≤ 3 → phase_after n (Awaiting u i) ≡ Awaiting (u + (i + n) / 10) ((i + n) % 10)) → phase_after n (phase_ticked (Awaiting t k)) ≡ Awaiting (t + (k + suc n) / 10) ((k + suc n) % 10)
+waits_by_place : (n t k : ℕ) (b : Bool) → leb 9 k ≡ b → k < 10 → t + (k + suc n) / 10 ≤ 3
+    → ((u i : ℕ) → i < 10 → u + (i + n) / 10 ≤ 3 → phase_after n (Awaiting u i) ≡ Awaiting (u + (i + n) / 10) ((i + n) % 10))
+    → phase_after n (phase_ticked (Awaiting t k)) ≡ Awaiting (t + (k + suc n) / 10) ((k + suc n) % 10)
 waits_by_place n t k true e low fits more =
     let nine : k ≡ 9 = grind (arith, common_steps) in
     let a : (t + 1) + (0 + n) / 10 ≡ t + (k + suc n) / 10 = omega arith in
@@ -74,7 +77,8 @@ answer_is last t n small fits =
     given_up : ActOut
     given_up = record { send = None; became_active = false; ended_link = false; sync = None; gave_up = Some 3 }
 
-    by_tenth : (b : Bool) → eqb ((n + 1) % 10) 0 ≡ b → leb 10 (n % 10 + 1) ≡ eqb ((n + 1) % 10) 0 → out_ticked (Awaiting (t + n / 10) (n % 10)) last ≡ answer_to_tick last t (n + 1)
+    by_tenth : (b : Bool) → eqb ((n + 1) % 10) 0 ≡ b → leb 10 (n % 10 + 1) ≡ eqb ((n + 1) % 10) 0
+        → out_ticked (Awaiting (t + n / 10) (n % 10)) last ≡ answer_to_tick last t (n + 1)
     by_tenth true e same =
         let d : (n + 1) % 10 ≡ 0 = grind (arith, common_steps) in
         let third = same_third (leb 3 (t + n / 10)) (eqb (n + 1) (ticks_from t)) d refl refl in
@@ -114,7 +118,8 @@ answer_after last t n small fits =
     ap (λ p. out_ticked p last) (waits n t 0 (omega arith) (omega arith))
     ∙ (ap (λ m. out_ticked (Awaiting (t + m / 10) (m % 10)) last) plain ∙ answer_is last t n small fits)
 
-pub uicc_tries : (s : UiccAct) (id : ℕ) (between : List ActEvent) → AllByRecursion IsNoPowerMode between → ticks_in between < 30 → (uicc_step (uicc_after s (Start id ∷ between)) Tick).1 ≡ answer_to_tick (Some (SyncId id)) 1 (ticks_in between + 1)
+pub uicc_tries : (s : UiccAct) (id : ℕ) (between : List ActEvent) → AllByRecursion IsNoPowerMode between → ticks_in between < 30
+    → (uicc_step (uicc_after s (Start id ∷ between)) Tick).1 ≡ answer_to_tick (Some (SyncId id)) 1 (ticks_in between + 1)
 uicc_tries s id between quiet few =
     ap (λ u. (uicc_step u Tick).1) (uicc_kept (record { phase = Awaiting 1 0; last = Some (SyncId id) }) between quiet)
     ∙ answer_after (Some (SyncId id)) 1 (ticks_in between) (omega arith) few
@@ -124,15 +129,20 @@ clf_waits power id t between small quiet few =
     ap (λ u. (clf_step u Tick).1) (clf_kept (record { phase = Awaiting t 0; last = Some (PowerMode power); power = power }) between quiet)
     ∙ answer_after (Some (PowerMode power)) t (ticks_in between) small few
 
-pub clf_tries_first : (s : ClfAct) (id : ℕ) (between : List ActEvent) → ((tries ticks : ℕ) → s.phase ≡ Awaiting tries ticks → ⊥) → AllByRecursion IsNoReady between → ticks_in between < 30 → (clf_step (clf_after s (Take (SyncId id) false ∷ between)) Tick).1 ≡ answer_to_tick (Some (PowerMode s.power)) 1 (ticks_in between + 1)
+pub clf_tries_first : (s : ClfAct) (id : ℕ) (between : List ActEvent) → ((tries ticks : ℕ) → s.phase ≡ Awaiting tries ticks → ⊥)
+    → AllByRecursion IsNoReady between → ticks_in between < 30
+    → (clf_step (clf_after s (Take (SyncId id) false ∷ between)) Tick).1 ≡ answer_to_tick (Some (PowerMode s.power)) 1 (ticks_in between + 1)
 clf_tries_first s id between idle quiet few = by_phase s.phase s.last s.power idle
   where
-    by_phase : (p : Phase) (last : Option Act) (power : ℕ) → ((tries ticks : ℕ) → p ≡ Awaiting tries ticks → ⊥) → (clf_step (clf_after (record { phase = p; last = last; power = power }) (Take (SyncId id) false ∷ between)) Tick).1 ≡ answer_to_tick (Some (PowerMode power)) 1 (ticks_in between + 1)
+    by_phase : (p : Phase) (last : Option Act) (power : ℕ) → ((tries ticks : ℕ) → p ≡ Awaiting tries ticks → ⊥)
+        → (clf_step (clf_after (record { phase = p; last = last; power = power }) (Take (SyncId id) false ∷ between)) Tick).1 ≡ answer_to_tick (Some (PowerMode power)) 1 (ticks_in between + 1)
     by_phase Inactive last power idle = clf_waits power id 1 between (omega arith) quiet few
     by_phase (Awaiting tries ticks) last power idle = absurd (idle tries ticks refl)
     by_phase Active last power idle = clf_waits power id 1 between (omega arith) quiet few
 
-pub clf_tries_later : (s : ClfAct) (id tries ticks : ℕ) (between : List ActEvent) → s.phase ≡ Awaiting tries ticks → tries ≤ 3 → AllByRecursion IsNoReady between → ticks_in between < ticks_from tries → (clf_step (clf_after s (Take (SyncId id) false ∷ between)) Tick).1 ≡ answer_to_tick (Some (PowerMode s.power)) tries (ticks_in between + 1)
+pub clf_tries_later : (s : ClfAct) (id tries ticks : ℕ) (between : List ActEvent) → s.phase ≡ Awaiting tries ticks → tries ≤ 3
+    → AllByRecursion IsNoReady between → ticks_in between < ticks_from tries
+    → (clf_step (clf_after s (Take (SyncId id) false ∷ between)) Tick).1 ≡ answer_to_tick (Some (PowerMode s.power)) tries (ticks_in between + 1)
 clf_tries_later s id tries ticks between waiting small quiet few =
     ap (λ p. (clf_step (clf_after (record { phase = p; last = s.last; power = s.power }) (Take (SyncId id) false ∷ between)) Tick).1) waiting
     ∙ clf_waits s.power id tries between small quiet few
@@ -141,7 +151,8 @@ none_is_not : (n : ℕ) → None ≡ Some n → ⊥
 none_is_not n e = cc
 
 -- an end gives up only while it waits
-ticked_up : (p : Phase) (last : Option Act) → (n : ℕ) → (out_ticked p last).gave_up ≡ Some n → (n ≡ 3) × (tries ticks : ℕ) × (p ≡ Awaiting tries ticks) × (3 ≤ tries) × (9 ≤ ticks)
+ticked_up : (p : Phase) (last : Option Act) → (n : ℕ) → (out_ticked p last).gave_up ≡ Some n
+    → (n ≡ 3) × (tries ticks : ℕ) × (p ≡ Awaiting tries ticks) × (3 ≤ tries) × (9 ≤ ticks)
 ticked_up Inactive last n some = absurd (none_is_not n some)
 ticked_up (Awaiting tries ticks) last n some = by_tests (leb 10 (ticks + 1)) (leb 3 tries) refl refl
   where
@@ -151,12 +162,14 @@ ticked_up (Awaiting tries ticks) last n some = by_tests (leb 10 (ticks + 1)) (le
     by_tests false b p q = absurd (none_is_not n (rw p at some))
 ticked_up Active last n some = absurd (none_is_not n some)
 
-pub uicc_gives_up : (s : UiccAct) (e : ActEvent) → (n : ℕ) → (uicc_step s e).1.gave_up ≡ Some n → (n ≡ 3) × (e ≡ Tick) × (tries ticks : ℕ) × (s.phase ≡ Awaiting tries ticks) × (3 ≤ tries) × (9 ≤ ticks)
+pub uicc_gives_up : (s : UiccAct) (e : ActEvent) → (n : ℕ) → (uicc_step s e).1.gave_up ≡ Some n
+    → (n ≡ 3) × (e ≡ Tick) × (tries ticks : ℕ) × (s.phase ≡ Awaiting tries ticks) × (3 ≤ tries) × (9 ≤ ticks)
 uicc_gives_up s (Start value) n some = absurd (none_is_not n some)
 uicc_gives_up s (Take act true) n some = absurd (none_is_not n some)
 uicc_gives_up s (Take (PowerMode code) false) n some = by_code (leb code 1) s.phase refl some
   where
-    by_code : (b : Bool) (p : Phase) → leb code 1 ≡ b → (cond b (uicc_powered p s) (s, no_act_out)).1.gave_up ≡ Some n → (n ≡ 3) × (Take (PowerMode code) false ≡ Tick) × (tries ticks : ℕ) × (s.phase ≡ Awaiting tries ticks) × (3 ≤ tries) × (9 ≤ ticks)
+    by_code : (b : Bool) (p : Phase) → leb code 1 ≡ b → (cond b (uicc_powered p s) (s, no_act_out)).1.gave_up ≡ Some n
+        → (n ≡ 3) × (Take (PowerMode code) false ≡ Tick) × (tries ticks : ℕ) × (s.phase ≡ Awaiting tries ticks) × (3 ≤ tries) × (9 ≤ ticks)
     by_code true Inactive e some = absurd (none_is_not n some)
     by_code true (Awaiting tries ticks) e some = absurd (none_is_not n some)
     by_code true Active e some = absurd (none_is_not n some)
@@ -166,18 +179,21 @@ uicc_gives_up s (Take (SyncId id) false) n some = absurd (none_is_not n some)
 uicc_gives_up s Tick n some = let up = ticked_up s.phase s.last n some in (up.0, refl, up.1, up.2, up.3, up.4, up.5)
 uicc_gives_up s Stop n some = absurd (none_is_not n some)
 
-pub clf_gives_up : (s : ClfAct) (e : ActEvent) → (n : ℕ) → (clf_step s e).1.gave_up ≡ Some n → (n ≡ 3) × (e ≡ Tick) × (tries ticks : ℕ) × (s.phase ≡ Awaiting tries ticks) × (3 ≤ tries) × (9 ≤ ticks)
+pub clf_gives_up : (s : ClfAct) (e : ActEvent) → (n : ℕ) → (clf_step s e).1.gave_up ≡ Some n
+    → (n ≡ 3) × (e ≡ Tick) × (tries ticks : ℕ) × (s.phase ≡ Awaiting tries ticks) × (3 ≤ tries) × (9 ≤ ticks)
 clf_gives_up s (Start value) n some = absurd (none_is_not n some)
 clf_gives_up s (Take act true) n some = absurd (none_is_not n some)
 clf_gives_up s (Take (SyncId id) false) n some = by_phase s.phase some
   where
-    by_phase : (p : Phase) → (clf_synced p s id).1.gave_up ≡ Some n → (n ≡ 3) × (Take (SyncId id) false ≡ Tick) × (tries ticks : ℕ) × (s.phase ≡ Awaiting tries ticks) × (3 ≤ tries) × (9 ≤ ticks)
+    by_phase : (p : Phase) → (clf_synced p s id).1.gave_up ≡ Some n
+        → (n ≡ 3) × (Take (SyncId id) false ≡ Tick) × (tries ticks : ℕ) × (s.phase ≡ Awaiting tries ticks) × (3 ≤ tries) × (9 ≤ ticks)
     by_phase Inactive some = absurd (none_is_not n some)
     by_phase (Awaiting tries ticks) some = absurd (none_is_not n some)
     by_phase Active some = absurd (none_is_not n some)
 clf_gives_up s (Take Ready false) n some = by_phase s.phase some
   where
-    by_phase : (p : Phase) → (clf_readied p s).1.gave_up ≡ Some n → (n ≡ 3) × (Take Ready false ≡ Tick) × (tries ticks : ℕ) × (s.phase ≡ Awaiting tries ticks) × (3 ≤ tries) × (9 ≤ ticks)
+    by_phase : (p : Phase) → (clf_readied p s).1.gave_up ≡ Some n
+        → (n ≡ 3) × (Take Ready false ≡ Tick) × (tries ticks : ℕ) × (s.phase ≡ Awaiting tries ticks) × (3 ≤ tries) × (9 ≤ ticks)
     by_phase Inactive some = absurd (none_is_not n some)
     by_phase (Awaiting tries ticks) some = absurd (none_is_not n some)
     by_phase Active some = absurd (none_is_not n some)

@@ -70,7 +70,8 @@ added high low first second behind h l a b =
     ∙ ap (λ xs. sum_from_front high first ++ xs) (sum-append low [] second behind (l ∙ sym b))
 
 -- the bits of a byte that is added to another
-bits_of_sum : (bits : List Bool) (n b : ℕ) → length bits ≡ 8 → n ≡ spelled_number bits → b < 256 → bits_of_byte (bit_xor n b) ≡ sum_from_front bits (bits_of_byte b)
+bits_of_sum : (bits : List Bool) (n b : ℕ) → length bits ≡ 8 → n ≡ spelled_number bits → b < 256
+    → bits_of_byte (bit_xor n b) ≡ sum_from_front bits (bits_of_byte b)
 bits_of_sum bits n b eight is small =
     ap bits_of_byte index
     ∙ number_of-injective (bits_of_byte (spelled_number top)) top (length-byte (spelled_number top) ∙ sym long) (number_of_byte (spelled_number top) within)

@@ -30,7 +30,8 @@ readings_on-append place (bit ∷ bits) more older =
     ∙ ap (λ n. readings_on n more (readings_on place (bit ∷ bits) older)) (omega arith)
 
 -- bits that end no mark move no start
-pub start_of-readings_on : (place : ℕ) (bits : List Bool) (older : List ReadSymbol) → HasNoMark (symbols older) bits → start_of (readings_on place bits older) ≡ start_of older
+pub start_of-readings_on : (place : ℕ) (bits : List Bool) (older : List ReadSymbol) → HasNoMark (symbols older) bits
+    → start_of (readings_on place bits older) ≡ start_of older
 start_of-readings_on place [] older quiet = refl
 start_of-readings_on place (bit ∷ bits) older quiet =
     start_of-readings_on (place + 1) bits (with_reading (Some (symbol_of bit)) place older) quiet.1
@@ -41,7 +42,8 @@ quiet_verdict None = refl
 quiet_verdict (Some since) = refl
 
 -- no line comes with bits that end no mark
-pub lines_on-quiet : (wire : Wire) (place : ℕ) (bits : List Bool) (older : List ReadSymbol) → HasNoMark (symbols older) bits → lines_on wire place bits older ≡ []
+pub lines_on-quiet : (wire : Wire) (place : ℕ) (bits : List Bool) (older : List ReadSymbol) → HasNoMark (symbols older) bits
+    → lines_on wire place bits older ≡ []
 lines_on-quiet wire place [] older quiet = refl
 lines_on-quiet wire place (bit ∷ bits) older quiet =
     let seen = symbols older in
@@ -56,7 +58,8 @@ abbrev pub front_on : ℕ → List Bool → Option ℕ → Option ℕ
 front_on place [] before = before
 front_on place (bit ∷ bits) before = front_on (place + 1) bits (front_after (symbol_of bit) place before)
 
-pub front_of-readings_on : (place : ℕ) (bits : List Bool) (older : List ReadSymbol) → front_of (readings_on place bits older) ≡ front_on place bits (front_of older)
+pub front_of-readings_on : (place : ℕ) (bits : List Bool) (older : List ReadSymbol)
+    → front_of (readings_on place bits older) ≡ front_on place bits (front_of older)
 front_of-readings_on place [] older = refl
 front_of-readings_on place (bit ∷ bits) older = front_of-readings_on (place + 1) bits (with_reading (Some (symbol_of bit)) place older)
 
@@ -75,7 +78,8 @@ front_behind_zero place front ones at (false ∷ bits) h e = front_behind_zero (
 pub front_at_last_zero : (place ones at : ℕ) (bits : List Bool) (before : Option ℕ) → has_zero bits ≡ true → at + run_after ones bits + 1 ≡ place + length bits
     → front_on place bits before ≡ Some at
 front_at_last_zero place ones at [] before z e = absurd (cc)
-front_at_last_zero place ones at (true ∷ bits) before z e = front_at_last_zero (place + 1) (suc ones) at bits (front_after (symbol_of true) place before) z (omega arith)
+front_at_last_zero place ones at (true ∷ bits) before z e =
+    front_at_last_zero (place + 1) (suc ones) at bits (front_after (symbol_of true) place before) z (omega arith)
 front_at_last_zero place ones at (false ∷ bits) before z e = front_behind_zero (place + 1) place 0 at bits (omega arith) (omega arith)
 
 -- ---- the front behind the bits of a number
@@ -120,11 +124,13 @@ readings_further place from to n x older order within =
     ∙ ap (λ xs. readings_on place xs older) (sym (take-add from (to - from) bits) ∙ ap (λ k. take k bits) (omega (arith, order)))
 
 -- the run behind the first bits
-pub run_behind_readings : (place : ℕ) (bits : List Bool) (older : List ReadSymbol) → run_of (symbols (readings_on place bits older)) ≡ run_after (run_of (symbols older)) bits
+pub run_behind_readings : (place : ℕ) (bits : List Bool) (older : List ReadSymbol)
+    → run_of (symbols (readings_on place bits older)) ≡ run_after (run_of (symbols older)) bits
 run_behind_readings place bits older = ap run_of (symbols-readings_on place bits older) ∙ run_of-read_on (symbols older) bits
 
 -- no mark ends where the word has none
-pub quiet_between : (word : Word) (place from to : ℕ) (older : List ReadSymbol) → from ≤ to → to ≤ 64 → IsWordBehind word (run_of (symbols older)) → NoMarkEnds word from to
+pub quiet_between : (word : Word) (place from to : ℕ) (older : List ReadSymbol) → from ≤ to → to ≤ 64 → IsWordBehind word (run_of (symbols older))
+    → NoMarkEnds word from to
     → HasNoMark (symbols (readings_on place (take from (word_bits word)) older)) (take (to - from) (drop from (word_bits word)))
 quiet_between word place from to older order within behind quiet =
     let bits = word_bits word in
@@ -136,7 +142,8 @@ quiet_between word place from to older order within behind quiet =
     ∙ ap (λ k. word.marks / 2 ^ (64 - k) % 2 ^ (to - from)) sum ∙ quiet)
 
 -- nor does one where a further bit has none
-pub quiet_more : (word : Word) (from last : ℕ) → from ≤ last → last < 64 → NoMarkEnds word from last → word.marks / 2 ^ (63 - last) % 2 ≡ 0 → NoMarkEnds word from (last + 1)
+pub quiet_more : (word : Word) (from last : ℕ) → from ≤ last → last < 64 → NoMarkEnds word from last → word.marks / 2 ^ (63 - last) % 2 ≡ 0
+    → NoMarkEnds word from (last + 1)
 quiet_more word from last order within quiet none =
     let n : ℕ = word.marks / 2 ^ (63 - last) in
     let half : n / 2 ^ 1 ≡ word.marks / 2 ^ (64 - last) = shr-shr word.marks (63 - last) 1 ∙ ap (λ k. word.marks / 2 ^ k) (omega (arith, within)) in
@@ -145,7 +152,8 @@ quiet_more word from last order within quiet none =
     ∙ ap₂ (λ a b. a * 2 ^ 1 + b) (ap (λ m. m % 2 ^ (last - from)) half ∙ quiet) none
 
 -- nor does one where no mark ends up to a bit, nor from there on
-pub quiet_further : (word : Word) (from mid to : ℕ) → from ≤ mid → mid ≤ to → to ≤ 64 → NoMarkEnds word from mid → NoMarkEnds word mid to → NoMarkEnds word from to
+pub quiet_further : (word : Word) (from mid to : ℕ) → from ≤ mid → mid ≤ to → to ≤ 64 → NoMarkEnds word from mid → NoMarkEnds word mid to
+    → NoMarkEnds word from to
 quiet_further word from mid to order further within quiet none =
     let n : ℕ = word.marks / 2 ^ (64 - to) in
     let upper : n / 2 ^ (to - mid) ≡ word.marks / 2 ^ (64 - mid) = shr-shr word.marks (64 - to) (to - mid) ∙ ap (λ k. word.marks / 2 ^ k) (omega (arith, further, within)) in
@@ -182,7 +190,8 @@ readings_more place x last older h =
     ∙ ap (λ xs. readings_on place xs older) (sym (word_bits-more x last h))
 
 -- no line comes with a bit that ends no mark
-pub quiet_line : (wire : Wire) (bit : Bool) (older : List ReadSymbol) → mark_of (symbol_of bit ∷ symbols older) ≡ no_mark → line_with wire (Some (symbol_of bit)) older ≡ []
+pub quiet_line : (wire : Wire) (bit : Bool) (older : List ReadSymbol) → mark_of (symbol_of bit ∷ symbols older) ≡ no_mark
+    → line_with wire (Some (symbol_of bit)) older ≡ []
 quiet_line wire b older none =
     ap (λ fed. verdict_line wire (start_of older) fed) (ap (λ mark. verdict_after mark (since_start (symbols older))) none ∙ quiet_verdict (since_start (symbols older)))
 
@@ -194,7 +203,8 @@ one_there x last h =
     ap₂ (λ k xs. take k xs) one left
 
 -- no line comes with a bit of a word that ends no mark
-pub quiet_line_at : (word : Word) (wire : Wire) (place last : ℕ) (older : List ReadSymbol) → last < 64 → IsWordBehind word (run_of (symbols older)) → word.marks / 2 ^ (63 - last) % 2 ≡ 0
+pub quiet_line_at : (word : Word) (wire : Wire) (place last : ℕ) (older : List ReadSymbol) → last < 64 → IsWordBehind word (run_of (symbols older))
+    → word.marks / 2 ^ (63 - last) % 2 ≡ 0
     → line_with wire (Some (symbol_of (bit word.bits (63 - last)))) (readings_on place (take last (word_bits word)) older) ≡ []
 quiet_line_at word wire place last older h behind none =
     let before = readings_on place (take last (word_bits word)) older in

@@ -41,7 +41,8 @@ lines_behind-append older (byte ∷ bytes) more =
     ∙ ap (λ seen. (new ++ lines_with (byte ∷ older) bytes) ++ lines_with seen more) (sym (reverse_onto byte bytes older))
 
 -- one more of the further bytes
-pub reverse-more : (older bytes : List ℕ) (i : ℕ) → i < length bytes → get_or bytes i 0 ∷ (reverse (take i bytes) ++ older) ≡ reverse (take (i + 1) bytes) ++ older
+pub reverse-more : (older bytes : List ℕ) (i : ℕ) → i < length bytes
+    → get_or bytes i 0 ∷ (reverse (take i bytes) ++ older) ≡ reverse (take (i + 1) bytes) ++ older
 reverse-more older bytes i h =
     ap (λ xs. xs ++ older) (sym (reverse-append (take i bytes) (get_or bytes i 0 ∷ [])) ∙ ap reverse (sym (take_more bytes i 0 h)))
 
@@ -97,7 +98,8 @@ s1_silent (byte ∷ bytes) older e =
     ∙ ap (λ lines. line_at S2 (byte ∷ older) ++ lines) (s1_silent bytes (byte ∷ older) none.1)
 
 -- Where both readers have read the bits of further bytes, the decoder stands for these too.
-pub stands_behind : (old new : Decoder) (bytes older : List ℕ) (first second : List Bool) → AreBits S1 bytes first → AreBits S2 bytes second → DecoderStandsFor old older
+pub stands_behind : (old new : Decoder) (bytes older : List ℕ) (first second : List Bool) → AreBits S1 bytes first → AreBits S2 bytes second
+    → DecoderStandsFor old older
     → new.count ≡ old.count + length bytes → ReadsSignal new.s1 (readings_on old.count first (signal S1 older)) → ReadsSignal new.s2 (readings_on old.count second (signal S2 older))
     → DecoderStandsFor new (reverse bytes ++ older)
 stands_behind old new bytes older first second s1 s2 stands count reads_s1 reads_s2 = record {
@@ -143,7 +145,8 @@ line_there : (wire : Wire) (bytes older : List ℕ) (bits : List Bool) (i : ℕ)
 line_there wire bytes older bits i are h = ap₂ (line_with wire) (AreBits-at wire i bytes bits are h) (signal_at wire bytes older bits i are)
 
 -- where no mark ends on either wire from one place up to another, the lines that come with the bytes through the other are those of its bits
-pub lines_through : (text bytes older : List ℕ) (first second : List Bool) (from last : ℕ) → AreBits S1 bytes first → AreBits S2 bytes second → from ≤ last → last < length bytes
+pub lines_through : (text bytes older : List ℕ) (first second : List Bool) (from last : ℕ) → AreBits S1 bytes first → AreBits S2 bytes second
+    → from ≤ last → last < length bytes
     → HasNoMark (symbols (readings_on (length older) (take from first) (signal S1 older))) (take (last - from) (drop from first))
     → HasNoMark (symbols (readings_on (length older) (take from second) (signal S2 older))) (take (last - from) (drop from second))
     → ((text ++ lines_with older (take from bytes))

@@ -35,7 +35,8 @@ bits_there bytes bits i are h = let there = symbol_there S1 bytes bits i are h i
     with_bit None bit e = absurd (no_break bit e)
 
 -- bytes that have bits, and more of them
-pub AreBits-append : (wire : Wire) (bytes more : List ℕ) (bits further : List Bool) → AreBits wire bytes bits → AreBits wire more further → AreBits wire (bytes ++ more) (bits ++ further)
+pub AreBits-append : (wire : Wire) (bytes more : List ℕ) (bits further : List Bool) → AreBits wire bytes bits → AreBits wire more further
+    → AreBits wire (bytes ++ more) (bits ++ further)
 AreBits-append wire [] more [] further are later = later
 AreBits-append wire [] more (bit ∷ bits) further are later = absurd are
 AreBits-append wire (byte ∷ bytes) more [] further are later = absurd are

@@ -39,7 +39,8 @@ mask_reversed p (x ∷ xs) =
     ∙ mask_more (map p (reverse xs)) (map p xs) (p x) (length-map (reverse xs) p ∙ length-reverse xs ∙ sym (length-map xs p)) (mask_reversed p xs)
 
 -- what holds for each sixteen bytes holds for a list of sixteen
-for_sixteen : (P : List ℕ → Type 0) → ((a b c d e f g h i j k l m n o p : ℕ) → P (a ∷ b ∷ c ∷ d ∷ e ∷ f ∷ g ∷ h ∷ i ∷ j ∷ k ∷ l ∷ m ∷ n ∷ o ∷ p ∷ [])) → (xs : List ℕ) → length xs ≡ 16 → P xs
+for_sixteen : (P : List ℕ → Type 0) → ((a b c d e f g h i j k l m n o p : ℕ) → P (a ∷ b ∷ c ∷ d ∷ e ∷ f ∷ g ∷ h ∷ i ∷ j ∷ k ∷ l ∷ m ∷ n ∷ o ∷ p ∷ []))
+    → (xs : List ℕ) → length xs ≡ 16 → P xs
 for_sixteen P each [] sixteen = absurd (omega arith)
 for_sixteen P each (a ∷ []) sixteen = absurd (omega arith)
 for_sixteen P each (a ∷ b ∷ []) sixteen = absurd (omega arith)
@@ -190,7 +191,8 @@ has_bits None = false
 some_checks : agree_below is_some (λ x. has_bits (period_at x)) 256 ≡ true
 some_checks = refl
 
-pub all_some : (xs : List ℕ) (bits : List Bool) → ((i : ℕ) → get_or xs i 0 < 256) → AreBits S1 xs bits → spelled_number (map is_some xs) + 1 ≡ 2 ^ length (map is_some xs)
+pub all_some : (xs : List ℕ) (bits : List Bool) → ((i : ℕ) → get_or xs i 0 < 256) → AreBits S1 xs bits
+    → spelled_number (map is_some xs) + 1 ≡ 2 ^ length (map is_some xs)
 all_some [] bits small are = refl
 all_some (x ∷ xs) [] small are = absurd are
 all_some (x ∷ xs) (bit ∷ bits) small are =
@@ -204,11 +206,13 @@ all_some (x ∷ xs) (bit ∷ bits) small are =
 power_of_sixteen : (xs : List ℕ) (p : ℕ → Bool) → length xs ≡ 16 → 2 ^ length (map p xs) ≡ 65536
 power_of_sixteen xs p sixteen = ap (λ n. 2 ^ n) (length-map xs p ∙ sixteen)
 
-pub all_where : (xs : List ℕ) (a b c d : ℕ) → length xs ≡ 16 → a ≡ spelled_number (map has_neither xs) → b ≡ spelled_number (map has_first xs) → c ≡ spelled_number (map has_second xs)
+pub all_where : (xs : List ℕ) (a b c d : ℕ) → length xs ≡ 16 → a ≡ spelled_number (map has_neither xs) → b ≡ spelled_number (map has_first xs)
+    → c ≡ spelled_number (map has_second xs)
     → d ≡ spelled_number (map has_both xs) → a + b + c + d ≡ 65535 → spelled_number (map is_some xs) + 1 ≡ 2 ^ length (map is_some xs)
 all_where xs a b c d sixteen is_a is_b is_c is_d sum = omega (arith, number_some xs, power_of_sixteen xs is_some sixteen, is_a, is_b, is_c, is_d, sum)
 
-pub sum_where : (xs : List ℕ) (a b c d : ℕ) → length xs ≡ 16 → a ≡ spelled_number (map has_neither xs) → b ≡ spelled_number (map has_first xs) → c ≡ spelled_number (map has_second xs)
+pub sum_where : (xs : List ℕ) (a b c d : ℕ) → length xs ≡ 16 → a ≡ spelled_number (map has_neither xs) → b ≡ spelled_number (map has_first xs)
+    → c ≡ spelled_number (map has_second xs)
     → d ≡ spelled_number (map has_both xs) → spelled_number (map is_some xs) + 1 ≡ 2 ^ length (map is_some xs) → a + b + c + d ≡ 65535
 sum_where xs a b c d sixteen is_a is_b is_c is_d all = omega (arith, number_some xs, power_of_sixteen xs is_some sixteen, is_a, is_b, is_c, is_d, all)
 

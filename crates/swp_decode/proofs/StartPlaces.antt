@@ -7,7 +7,8 @@ use Rattle.swp_decode.specs.Readings.{ReadSymbol, symbols, front_after, front_of
 use Rattle.swp_decode.specs.Starts.{place_in_front, first_bit, IsSinceStart}
 
 -- the first 1 bit of a run
-front_of_one : (r : ReadSymbol) (older : List ReadSymbol) → r.symbol ≡ bit_1 → run_of (symbols older) ≡ 0 → front_of (r ∷ older) ≡ Some (place_in_front (r ∷ older))
+front_of_one : (r : ReadSymbol) (older : List ReadSymbol) → r.symbol ≡ bit_1 → run_of (symbols older) ≡ 0
+    → front_of (r ∷ older) ≡ Some (place_in_front (r ∷ older))
 front_of_one r [] is e = ap (λ s. front_after s r.place None) is
 front_of_one r (f ∷ older) is e = ap (λ s. front_after s r.place (front_of (f ∷ older))) is ∙ by_symbol f.symbol refl
   where

@@ -174,7 +174,8 @@ more_than_word bytes partial bits more value width surplus kept l n h few = reco
 bytes_from-bits_of : (bytes : List ℕ) → AreBytes bytes → bytes_from (length bytes) (bits_of bytes) ≡ bytes
 unfolding bits_of_byte
 bytes_from-bits_of [] h = refl
-bytes_from-bits_of (b ∷ bytes) h = ap (λ x. x ∷ bytes_from (length bytes) (bits_of bytes)) (number_of_byte b h.0) ∙ ap (λ xs. b ∷ xs) (bytes_from-bits_of bytes h.1)
+bytes_from-bits_of (b ∷ bytes) h =
+    ap (λ x. x ∷ bytes_from (length bytes) (bits_of bytes)) (number_of_byte b h.0) ∙ ap (λ xs. b ∷ xs) (bytes_from-bits_of bytes h.1)
 
 -- bytes whose bits begin with these are these, as far as they go
 pub bytes_in_front : (bytes : List ℕ) (bits junk : List Bool) (n : ℕ) → AreBytes bytes → bits_of bytes ≡ bits ++ junk → length bits ≡ 8 * n → n ≤ length bytes
@@ -192,7 +193,8 @@ bytes_in_front bytes bits junk n are same l h =
     ∙ bytes_from-bits_of front (AreBytes-take n bytes are)
 
 -- the bytes of a content, from those of the whole words and of the word under way, which is moved to the top
-pub content_bytes : (bytes : List ℕ) (partial last n : ℕ) (bits end : List Bool) → KeepsBits bytes partial (bits ++ end) → length bits ≡ 8 * n → length end < 8 → 0 < length end
+pub content_bytes : (bytes : List ℕ) (partial last n : ℕ) (bits end : List Bool) → KeepsBits bytes partial (bits ++ end) → length bits ≡ 8 * n
+    → length end < 8 → 0 < length end
     → last ≡ partial * 2 ^ (64 - length (bits ++ end) % 64) % 2 ^ 64 → bytes_of_bits bits ≡ take n (bytes ++ to_be_bytes w64 last)
 content_bytes bytes partial last n bits end kept l short some is =
     bytes_in_front (bytes ++ to_be_bytes w64 last) bits (end ++ zeros) n (AreBytes-append bytes (to_be_bytes w64 last) kept.in_range (word_in_range last))

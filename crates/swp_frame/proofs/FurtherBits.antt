@@ -6,7 +6,8 @@ use Rattle.swp_frame.specs.Signal.{Symbol, bit_0, bit_1, symbol_of, run_of, mark
 use Rattle.swp_frame.specs.Words.{run_after}
 
 -- where no mark ends, a frame that is open stays open, and one that isn't doesn't open
-pub quiet_since : (seen : List Symbol) (bits : List Bool) → HasNoMark seen bits → since_start (read_on seen bits) ≡ option_map (λ since. read_on since bits) (since_start seen)
+pub quiet_since : (seen : List Symbol) (bits : List Bool) → HasNoMark seen bits
+    → since_start (read_on seen bits) ≡ option_map (λ since. read_on since bits) (since_start seen)
 quiet_since seen [] h = same (since_start seen)
   where
     same : (before : Option (List Symbol)) → before ≡ option_map (λ since. since) before
@@ -19,7 +20,8 @@ quiet_since seen (next ∷ bits) h =
     one true e = rw e refl
     one false e = rw e refl
 
-    twice : (before : Option (List Symbol)) → option_map (λ since. read_on since bits) (option_map (λ since. symbol_of next ∷ since) before) ≡ option_map (λ since. read_on (symbol_of next ∷ since) bits) before
+    twice : (before : Option (List Symbol))
+        → option_map (λ since. read_on since bits) (option_map (λ since. symbol_of next ∷ since) before) ≡ option_map (λ since. read_on (symbol_of next ∷ since) bits) before
     twice None = refl
     twice (Some x) = refl
 

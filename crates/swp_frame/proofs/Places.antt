@@ -310,7 +310,8 @@ run_after-zero ones k [] = run_after-ones k 0 ∙ omega arith
 run_after-zero ones k (true ∷ bits) = run_after-zero (suc ones) k bits
 run_after-zero ones k (false ∷ bits) = run_after-zero 0 k bits
 
-pub run_at_end : (w n ones before : ℕ) → EndsIn w n ones → (w ≤ ones → run_after before (low_bits w n) ≡ before + w) × (ones < w → run_after before (low_bits w n) ≡ ones)
+pub run_at_end : (w n ones before : ℕ) → EndsIn w n ones
+    → (w ≤ ones → run_after before (low_bits w n) ≡ before + w) × (ones < w → run_after before (low_bits w n) ≡ ones)
 run_at_end w n ones before (all_ones over is) = ((λ _. ap (run_after before) is ∙ run_after-ones w before), (λ lt. absurd (omega (arith, lt, over))))
 run_at_end w n ones before (last_zero lt is) =
     ((λ over. absurd (omega (arith, lt, over))), (λ _. ap (run_after before) is ∙ run_after-zero before ones (low_bits (w - suc ones) (n / 2 ^ suc ones))))

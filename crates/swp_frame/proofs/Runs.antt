@@ -6,7 +6,8 @@ use Rattle.swp_frame.specs.declared.content.Content.{Content}
 use Rattle.swp_frame.specs.Signal.{Symbol, bit_0, bit_1, break, run_of, start_mark, end_mark, no_mark, since_mark, since_start, unstuffed}
 use Rattle.swp_frame.specs.Kept.{before_run, run_bits, with_zero, CountsLastZero, KeepsSince, KeepsOpen}
 
-zero_run : (starts : Bool) (before : Option (List Symbol)) (since : List Symbol) → since_mark (cond starts start_mark no_mark) bit_0 before ≡ Some since → run_of since ≡ 0
+zero_run : (starts : Bool) (before : Option (List Symbol)) (since : List Symbol)
+    → since_mark (cond starts start_mark no_mark) bit_0 before ≡ Some since → run_of since ≡ 0
 zero_run true before [] e = refl
 zero_run true before (x ∷ since) e = absurd (cc)
 zero_run false None since e = absurd (cc)
@@ -92,7 +93,8 @@ pub zero_content : (since : List Symbol) (content : Bool) → content ≡ not (e
     → reverse (unstuffed since) ++ added false content ≡ reverse (unstuffed (bit_0 ∷ since))
 zero_content since content is = go (eqb (run_of since) 5) content is
   where
-    go : (put_in content : Bool) → content ≡ not put_in → reverse (unstuffed since) ++ added false content ≡ reverse (cond put_in (unstuffed since) (false ∷ unstuffed since))
+    go : (put_in content : Bool) → content ≡ not put_in
+        → reverse (unstuffed since) ++ added false content ≡ reverse (cond put_in (unstuffed since) (false ∷ unstuffed since))
     go true content e = rw e (append-nil (reverse (unstuffed since)))
     go false content e = rw e (sym (reverse-append (false ∷ []) (unstuffed since)))
 

@@ -49,7 +49,8 @@ room writer bytes writes h = omega (arith, writes.sized, length-bits_of bytes)
 pub room_for_end : (writer : FrameWriter) (bytes : List ℕ) → Writes writer (bits_of bytes) → length bytes ≤ 32 → length writer.bits.items + 8 ≤ 323
 room_for_end writer bytes writes h = omega (arith, writes.sized, length-bits_of bytes)
 
-pub ended : (writer : FrameWriter) (content : List Bool) → Writes writer content → writer.bits.items ++ end_of_frame ≡ start_of_frame ++ stuffed content ++ end_of_frame
+pub ended : (writer : FrameWriter) (content : List Bool) → Writes writer content
+    → writer.bits.items ++ end_of_frame ≡ start_of_frame ++ stuffed content ++ end_of_frame
 ended writer content writes =
     ap (λ xs. xs ++ end_of_frame)
     (sym (append-nil writer.bits.items) ∙ sym (writes.spelled []) ∙ ap (λ xs. start_of_frame ++ stuffed xs) (append-nil content))

@@ -33,7 +33,8 @@ lines-ended line rest lacks =
     ∙ ap (λ parts. strip_carriage_return line ∷ lines_of_parts parts) (sym more.2))
 
 -- the lines of bytes that begin with ended ones
-pub lines-all_ended : (whole : List (List ℕ)) (rest : List ℕ) → AllLackLineFeed whole → lines (flat_map ended_line whole ++ rest) ≡ map strip_carriage_return whole ++ lines rest
+pub lines-all_ended : (whole : List (List ℕ)) (rest : List ℕ) → AllLackLineFeed whole
+    → lines (flat_map ended_line whole ++ rest) ≡ map strip_carriage_return whole ++ lines rest
 lines-all_ended [] rest lack = refl
 lines-all_ended (line ∷ whole) rest lack =
     ap lines (append_assoc (ended_line line) (flat_map ended_line whole) rest ∙ append_assoc line (10 ∷ []) (flat_map ended_line whole ++ rest))
@@ -41,7 +42,8 @@ lines-all_ended (line ∷ whole) rest lack =
     ∙ ap (λ ls. strip_carriage_return line ∷ ls) (lines-all_ended whole rest lack.1))
 
 -- what begins without an LF is the front of the first part
-split-lacks : (x rest f : List ℕ) (m : List (List ℕ)) → LacksLineFeed x → slice_split (λ b. eqb b 10) rest ≡ f ∷ m → slice_split (λ b. eqb b 10) (x ++ rest) ≡ (x ++ f) ∷ m
+split-lacks : (x rest f : List ℕ) (m : List (List ℕ)) → LacksLineFeed x → slice_split (λ b. eqb b 10) rest ≡ f ∷ m
+    → slice_split (λ b. eqb b 10) (x ++ rest) ≡ (x ++ f) ∷ m
 split-lacks [] rest f m lacks is = is
 split-lacks (b ∷ x) rest f m lacks is =
     let first : eqb b 10 ≡ false = lacks 0 b (omega arith) in
@@ -63,7 +65,8 @@ strip_long l n long = go (eqb (get_or l (length l - 1) 0) 13)
     go true = omega (arith, length-take (length l - 1) l)
     go false = omega arith
 
-long_first : (bytes g : List ℕ) (m : List (List ℕ)) (n : ℕ) → n + 1 < length g → slice_split (λ b. eqb b 10) bytes ≡ g ∷ m → FirstLine bytes (λ line. n < length line)
+long_first : (bytes g : List ℕ) (m : List (List ℕ)) (n : ℕ) → n + 1 < length g → slice_split (λ b. eqb b 10) bytes ≡ g ∷ m
+    → FirstLine bytes (λ line. n < length line)
 long_first bytes g [] n long is =
     let some : eqb (length g) 0 ≡ false = grind (arith, common_steps) in
     record { line = g; more = []; lines_are = ap lines_of_parts is ∙ ap (λ b. cond b [] (g ∷ [])) some; holds = omega arith }
@@ -82,7 +85,8 @@ some_line b rest =
     let parts = split_some rest in
     by_byte (eqb b 10) refl parts.0 parts.1 parts.2
   where
-    split_is : (t : Bool) → eqb b 10 ≡ t → slice_split (λ c. eqb c 10) (b ∷ rest) ≡ cond t ([] ∷ slice_split (λ c. eqb c 10) rest) (onto_first b (slice_split (λ c. eqb c 10) rest))
+    split_is : (t : Bool) → eqb b 10 ≡ t
+        → slice_split (λ c. eqb c 10) (b ∷ rest) ≡ cond t ([] ∷ slice_split (λ c. eqb c 10) rest) (onto_first b (slice_split (λ c. eqb c 10) rest))
     split_is t is = ap (λ u. cond u ([] ∷ slice_split (λ c. eqb c 10) rest) (onto_first b (slice_split (λ c. eqb c 10) rest))) is
 
     by_byte : (t : Bool) → eqb b 10 ≡ t → (f : List ℕ) (m : List (List ℕ)) → slice_split (λ c. eqb c 10) rest ≡ f ∷ m → FirstLine (b ∷ rest) (λ line. Unit {0})

@@ -19,7 +19,8 @@ use Rattle.swp_tool.proofs.Reading.{front_so_far, played_transcript}
 ended_same : (s : Schedule) → ((ended s).header ≡ s.header) × ((ended s).lines ≡ s.lines)
 ended_same s = go s.stop s.header
   where
-    go : (o : Option Stop) (h : Option Header) → ((ended (record s { stop = o; header = h })).header ≡ h) × ((ended (record s { stop = o; header = h })).lines ≡ s.lines)
+    go : (o : Option Stop) (h : Option Header)
+        → ((ended (record s { stop = o; header = h })).header ≡ h) × ((ended (record s { stop = o; header = h })).lines ≡ s.lines)
     go None None = (refl, refl)
     go None (Some h) = (refl, refl)
     go (Some x) h = (refl, refl)
@@ -61,7 +62,8 @@ halted_at_end tells halt.TooMany count bytes text before after h is = absurd h
 halted_at_end tells halt.NoMemory count bytes text before after h is = (text, h, is)
 
 -- before the first byte
-pub nothing_played : (tells : Bool) (p : Pieces) (input before : List ℕ) → HasRead p [] [] → p.replay.text.items ≡ [] → IsUnderWay tells p input input before before
+pub nothing_played : (tells : Bool) (p : Pieces) (input before : List ℕ) → HasRead p [] [] → p.replay.text.items ≡ []
+    → IsUnderWay tells p input input before before
 nothing_played tells p input before read gathered = record {
   bytes = [];
   text = [];

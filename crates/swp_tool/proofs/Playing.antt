@@ -31,7 +31,8 @@ pub stepped_more : (w : World) (most : ℕ) → WasStepped w most → WasStepped
 stepped_more w most was = record { lines = was.lines; history = was.history; stands = was.stands; few = omega (arith, was.few) }
 
 -- before a header nothing was gathered
-before_header : (w : Option World) (header : Option Header) (lines : List Line) (text : List ℕ) → header ≡ None → IsAt w header lines text → (lines ≡ []) × (text ≡ [])
+before_header : (w : Option World) (header : Option Header) (lines : List Line) (text : List ℕ) → header ≡ None → IsAt w header lines text
+    → (lines ≡ []) × (text ≡ [])
 before_header None None lines text none at = at
 before_header (Some w) None lines text none at = absurd at
 before_header w (Some h) lines text none at = absurd (cc)

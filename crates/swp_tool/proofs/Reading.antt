@@ -94,7 +94,8 @@ played_transcript r s written h = go r.world s.header h.at
 -- ## Pieces
 
 -- how the lines go on behind what was read
-pub lines_on : (p : Pieces) (bytes written rest : List ℕ) → (h : HasRead p bytes written) → lines (bytes ++ rest) ≡ map strip_carriage_return h.whole ++ lines (p.partial.items ++ rest)
+pub lines_on : (p : Pieces) (bytes written rest : List ℕ) → (h : HasRead p bytes written)
+    → lines (bytes ++ rest) ≡ map strip_carriage_return h.whole ++ lines (p.partial.items ++ rest)
 lines_on p bytes written rest h =
     ap (λ b. lines (b ++ rest)) h.cut
     ∙ (ap lines (append_assoc (flat_map ended_line h.whole) p.partial.items rest) ∙ lines-all_ended h.whole (p.partial.items ++ rest) h.lack)
@@ -118,7 +119,8 @@ stops_next p bytes written rest why text h line more next stop transcript =
     }
 
 -- the transcript of the whole lines so far is that of some of the first lines
-pub front_so_far : (p : Pieces) (bytes written rest text : List ℕ) (h : HasRead p bytes written) → IsTranscript (schedule_so_far h.whole) text → IsFrontTranscript (bytes ++ rest) text
+pub front_so_far : (p : Pieces) (bytes written rest text : List ℕ) (h : HasRead p bytes written) → IsTranscript (schedule_so_far h.whole) text
+    → IsFrontTranscript (bytes ++ rest) text
 front_so_far p bytes written rest text h transcript =
     record { front = map strip_carriage_return h.whole; back = lines (p.partial.items ++ rest); lines_are = lines_on p bytes written rest h; transcript = transcript }
 
@@ -163,7 +165,8 @@ halts_too_many_in p before written (byte ∷ more) some reading full h =
     subst P (append_assoc before (byte ∷ []) more)
     (halts_more halt.TooMany p.replay.count (before ++ byte ∷ []) more text (halts_too_many p before written byte reading full h))
 
-pub halts_too_long : (p : Pieces) (before written bytes : List ℕ) → p.replay.count < 20000 → 9001 < length p.partial.items + length bytes → LacksLineFeed bytes → HasRead p before written
+pub halts_too_long : (p : Pieces) (before written bytes : List ℕ) → p.replay.count < 20000 → 9001 < length p.partial.items + length bytes
+    → LacksLineFeed bytes → HasRead p before written
     → Halts (halt.Fault fault.TooLong) p.replay.count (before ++ bytes) (written ++ p.replay.text.items)
 halts_too_long p before written bytes room long lacks h = λ rest.
     let x = p.partial.items ++ bytes in
@@ -205,13 +208,15 @@ read_more p q before written bytes lacks items replay h =
 
 flat_ended-push : (whole : List (List ℕ)) (line : List ℕ) → flat_map ended_line (whole ++ line ∷ []) ≡ flat_map ended_line whole ++ ended_line line
 flat_ended-push [] line = append-nil (ended_line line)
-flat_ended-push (x ∷ whole) line = ap (λ l. ended_line x ++ l) (flat_ended-push whole line) ∙ sym (append_assoc (ended_line x) (flat_map ended_line whole) (ended_line line))
+flat_ended-push (x ∷ whole) line =
+    ap (λ l. ended_line x ++ l) (flat_ended-push whole line) ∙ sym (append_assoc (ended_line x) (flat_map ended_line whole) (ended_line line))
 
 lack-push : (whole : List (List ℕ)) (line : List ℕ) → AllLackLineFeed whole → LacksLineFeed line → AllLackLineFeed (whole ++ line ∷ [])
 lack-push [] line lack this = (this, tt)
 lack-push (x ∷ whole) line lack this = (lack.0, lack-push whole line lack.1 this)
 
-strip-push : (whole : List (List ℕ)) (line : List ℕ) → map strip_carriage_return (whole ++ line ∷ []) ≡ map strip_carriage_return whole ++ strip_carriage_return line ∷ []
+strip-push : (whole : List (List ℕ)) (line : List ℕ)
+    → map strip_carriage_return (whole ++ line ∷ []) ≡ map strip_carriage_return whole ++ strip_carriage_return line ∷ []
 strip-push [] line = refl
 strip-push (x ∷ whole) line = ap (λ l. strip_carriage_return x ∷ l) (strip-push whole line)
 
@@ -237,7 +242,8 @@ read_line_ended p q bytes written h none played =
     }
 
 -- the line was not played: it has a fault, or there was no memory
-pub halts_at_line : (p : Pieces) (why : Halt) (count : ℕ) (now bytes written : List ℕ) → HasRead p bytes written → count ≡ p.replay.count → now ≡ p.replay.text.items
+pub halts_at_line : (p : Pieces) (why : Halt) (count : ℕ) (now bytes written : List ℕ) → HasRead p bytes written → count ≡ p.replay.count
+    → now ≡ p.replay.text.items
     → ((s : Schedule) (w : List ℕ) → HasPlayed p.replay s w → HaltsAt why s (strip_carriage_return p.partial.items))
     → Halts why count (bytes ++ 10 ∷ []) (written ++ now)
 halts_at_line p why count now bytes written h count_is now_is halts =
@@ -279,7 +285,8 @@ played_all p bytes written h none =
     ∙ (ap (λ l. map strip_carriage_return h.whole ++ lines (l ++ [])) none ∙ append-nil (map strip_carriage_return h.whole)) in
     subst P (ap (λ l. with_lines nothing_read l) (sym is)) h.played
 
-rest_is : (p : Pieces) (bytes written : List ℕ) (h : HasRead p bytes written) → 0 < length p.partial.items → lines (p.partial.items ++ []) ≡ p.partial.items ∷ []
+rest_is : (p : Pieces) (bytes written : List ℕ) (h : HasRead p bytes written) → 0 < length p.partial.items
+    → lines (p.partial.items ++ []) ≡ p.partial.items ∷ []
 rest_is p bytes written h some = ap lines (append-nil p.partial.items) ∙ lines-lacks p.partial.items h.partial_lacks some
 
 -- the line under way was played
@@ -294,7 +301,8 @@ played_rest p r bytes written h some played =
     (played (schedule_so_far h.whole) written h.played)
 
 -- the line under way was not played
-pub halts_at_rest : (p : Pieces) (why : Halt) (count : ℕ) (now bytes written : List ℕ) → HasRead p bytes written → 0 < length p.partial.items → count ≡ p.replay.count → now ≡ p.replay.text.items
+pub halts_at_rest : (p : Pieces) (why : Halt) (count : ℕ) (now bytes written : List ℕ) → HasRead p bytes written → 0 < length p.partial.items
+    → count ≡ p.replay.count → now ≡ p.replay.text.items
     → ((s : Schedule) (w : List ℕ) → HasPlayed p.replay s w → HaltsAt why s p.partial.items)
     → HaltsAtEnd why count bytes (written ++ now)
 halts_at_rest p why count now bytes written h some count_is now_is halts =
@@ -319,7 +327,8 @@ halts_at_rest p why count now bytes written h some count_is now_is halts =
     go halt.NoMemory any = end_of bytes (λ b. IsFrontTranscript b text) (front_so_far p bytes written [] text h transcript)
 
 -- the last line was gathered
-pub closed : (r : Replay) (bytes written text : List ℕ) → HasPlayed r (schedule_read bytes) written → (r.world ≡ None → ⊥) → text ≡ r.text.items ++ done_line r.count
+pub closed : (r : Replay) (bytes written text : List ℕ) → HasPlayed r (schedule_read bytes) written → (r.world ≡ None → ⊥)
+    → text ≡ r.text.items ++ done_line r.count
     → IsCompleteTranscript bytes (written ++ text)
 closed r bytes written text h up is =
     let s = schedule_read bytes in
@@ -333,7 +342,8 @@ closed r bytes written text h up is =
           ∙ ap (λ n. (written ++ r.text.items) ++ done_line n) (h.count_is ∙ ap (λ x. x.count) (sym same)));
     }
   where
-    go : (o : Option Stop) → o ≡ None → (header : Option Header) (w : Option World) → IsAt w header (schedule_read bytes).lines (written ++ r.text.items) → (w ≡ None → ⊥)
+    go : (o : Option Stop) → o ≡ None → (header : Option Header) (w : Option World)
+        → IsAt w header (schedule_read bytes).lines (written ++ r.text.items) → (w ≡ None → ⊥)
         → ended (record (schedule_read bytes) { stop = o; header = header }) ≡ record (schedule_read bytes) { stop = o; header = header }
     go None is' (Some x) w at up' = refl
     go None is' None None at up' = absurd (up' refl)
@@ -372,7 +382,8 @@ pub no_memory_at_end : (r : Replay) (bytes written : List ℕ) → HasPlayed r (
 no_memory_at_end r bytes written h =
     record { front = lines bytes; back = []; lines_are = sym (append-nil (lines bytes)); transcript = played_transcript r (schedule_read bytes) written h }
 
-pub halts_closing : (r : Replay) (why : Halt) (count : ℕ) (now bytes written : List ℕ) → HasPlayed r (schedule_read bytes) written → count ≡ r.count → now ≡ r.text.items
+pub halts_closing : (r : Replay) (why : Halt) (count : ℕ) (now bytes written : List ℕ) → HasPlayed r (schedule_read bytes) written → count ≡ r.count
+    → now ≡ r.text.items
     → (why ≡ halt.NoMemory) ⊎ ((why ≡ halt.Fault fault.Order) × (r.world ≡ None)) → HaltsAtEnd why count bytes (written ++ now)
 halts_closing r why count now bytes written h count_is now_is cause =
     let P : ℕ → Type 0 = λ n. HaltsAtEnd why n bytes (written ++ now) in

@@ -14,7 +14,8 @@ use Rattle.swp_tool.specs.Decodings.{IsDecoding, HasDecoded, IsFrontOfLines, IsF
 use Rattle.swp_tool.proofs.Ending.{behind}
 
 -- before the first byte
-pub nothing_decoded : (tells : Bool) (d : Decoding) (input before : List ℕ) → DecoderStandsFor d.decoder [] → d.text.items ≡ [] → HasDecoded tells d input input before before
+pub nothing_decoded : (tells : Bool) (d : Decoding) (input before : List ℕ) → DecoderStandsFor d.decoder [] → d.text.items ≡ []
+    → HasDecoded tells d input input before before
 nothing_decoded tells d input before stands none = record {
   bytes = [];
   input_is = refl;
@@ -77,7 +78,8 @@ step_decodes tells d e byte earlier bytes before after h stands items =
     }
 
 -- how many bytes were read
-pub count_read : (tells : Bool) (d : Decoding) (earlier bytes before after : List ℕ) → IsDecoding tells d earlier bytes before after → d.decoder.count ≡ length bytes
+pub count_read : (tells : Bool) (d : Decoding) (earlier bytes before after : List ℕ) → IsDecoding tells d earlier bytes before after
+    → d.decoder.count ≡ length bytes
 count_read tells d earlier bytes before after h = h.stands.count ∙ length-reverse bytes
 
 -- with the last line behind the lines, the whole text is there

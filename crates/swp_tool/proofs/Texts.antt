@@ -19,10 +19,12 @@ front_is_more old x text a items is front =
 
 step_texts-append : (a b : List Step) → flat_map step_text (a ++ b) ≡ flat_map step_text a ++ flat_map step_text b
 step_texts-append [] b = refl
-step_texts-append (x ∷ a) b = ap (λ l. step_text x ++ l) (step_texts-append a b) ∙ sym (append_assoc (step_text x) (flat_map step_text a) (flat_map step_text b))
+step_texts-append (x ∷ a) b =
+    ap (λ l. step_text x ++ l) (step_texts-append a b) ∙ sym (append_assoc (step_text x) (flat_map step_text a) (flat_map step_text b))
 
 -- the transcript of a history with one line more
-pub text_of-step : (t : History) (line : Line) → transcript_of (with_step t line) ≡ transcript_of t ++ (entry_line (entry.Echo line) ++ entry_lines (noted (outcome_of (host_of t.header) (link_at t) line)))
+pub text_of-step : (t : History) (line : Line)
+    → transcript_of (with_step t line) ≡ transcript_of t ++ (entry_line (entry.Echo line) ++ entry_lines (noted (outcome_of (host_of t.header) (link_at t) line)))
 text_of-step t line =
     let front = entry_line (entry.Head t.header) ++ entry_lines t.opening in
     let step : Step = record { line = line; outcome = outcome_of (host_of t.header) (link_at t) line } in

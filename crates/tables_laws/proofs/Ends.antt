@@ -22,14 +22,16 @@ was_there t pid (Some row) is = (row, is, same_ends row)
 as_before : (t : HciTables) (pid : ℕ) → IfSome (pipe_at t.rows pid) (WasThere t pid)
 as_before t pid = was_there t pid (pipe_at t.rows pid) refl
 
-filtered : (t : HciTables) (pid : ℕ) (test : PipeRow → Bool) (o : Option PipeRow) → pipe_at t.rows pid ≡ o → IfSome (option_and_then (if_passes test) o) (WasThere t pid)
+filtered : (t : HciTables) (pid : ℕ) (test : PipeRow → Bool) (o : Option PipeRow) → pipe_at t.rows pid ≡ o
+    → IfSome (option_and_then (if_passes test) o) (WasThere t pid)
 filtered t pid test None is = tt
 filtered t pid test (Some row) is = cond_both (test row) (Some row) None (λ o. IfSome o (WasThere t pid)) (λ yes. (row, is, same_ends row)) (λ no. tt)
 
 set_opened : ℕ → Bool → PipeRow → PipeRow
 set_opened pid opened row = cond (eqb row.pid pid) (as_opened opened row) row
 
-changed : (t : HciTables) (pid other : ℕ) (opened : Bool) (o : Option PipeRow) → pipe_at t.rows pid ≡ o → IfSome (option_map (set_opened other opened) o) (WasThere t pid)
+changed : (t : HciTables) (pid other : ℕ) (opened : Bool) (o : Option PipeRow) → pipe_at t.rows pid ≡ o
+    → IfSome (option_map (set_opened other opened) o) (WasThere t pid)
 unfolding set_opened
 changed t pid other opened None is = tt
 changed t pid other opened (Some row) is =

@@ -6,7 +6,8 @@ use Rattle.std.specs.Option.{option_map, option_and_then}
 use Rattle.std.proofs.lemmas.Bool.{cond_both, cond-true, cond-false, cases_eq, eq-eqb, ne_eqb, eqb-true}
 use Rattle.sorted_rows.specs.Rows.{AreRows, row_of}
 
-pub row_of-map : {X : Type 0} (key : X → ℕ) (change : X → X) (k : ℕ) (rows : List X) → ((row : X) → key (change row) ≡ key row) → row_of key k (map change rows) ≡ option_map change (row_of key k rows)
+pub row_of-map : {X : Type 0} (key : X → ℕ) (change : X → X) (k : ℕ) (rows : List X) → ((row : X) → key (change row) ≡ key row)
+    → row_of key k (map change rows) ≡ option_map change (row_of key k rows)
 row_of-map key change k [] keeps = refl
 row_of-map {X} key change k (row ∷ rows) keeps =
     let rest = row_of-map key change k rows keeps in
@@ -27,7 +28,8 @@ row_of-above key k low high (row ∷ rows) less h =
 abbrev pub if_passes : {X : Type 0} → (X → Bool) → X → Option X
 if_passes test row = cond (test row) (Some row) None
 
-pub row_of-filter : {X : Type 0} (key : X → ℕ) (low high : ℕ) (test : X → Bool) (k : ℕ) (rows : List X) → AreRows key low high rows → row_of key k (filter test rows) ≡ option_and_then (if_passes test) (row_of key k rows)
+pub row_of-filter : {X : Type 0} (key : X → ℕ) (low high : ℕ) (test : X → Bool) (k : ℕ) (rows : List X) → AreRows key low high rows
+    → row_of key k (filter test rows) ≡ option_and_then (if_passes test) (row_of key k rows)
 row_of-filter key low high test k [] h = refl
 row_of-filter {X} key low high test k (row ∷ rows) h =
     let rest = row_of-filter key (key row + 1) high test k rows h.2 in
@@ -57,7 +59,8 @@ all-filter test (x ∷ xs) =
     (λ yes. ap (λ b. b && list_all test (filter test xs)) yes ∙ rest) (λ no. rest)
 
 -- a row that is found has the key, and what each row has
-pub found_is : {X : Type 0} (key : X → ℕ) (P : X → Type 0) (k : ℕ) (rows : List X) (row : X) → AllByRecursion P rows → row_of key k rows ≡ Some row → P row × (key row ≡ k)
+pub found_is : {X : Type 0} (key : X → ℕ) (P : X → Type 0) (k : ℕ) (rows : List X) (row : X) → AllByRecursion P rows → row_of key k rows ≡ Some row
+    → P row × (key row ≡ k)
 found_is key P k [] row each e = absurd (cc e)
 found_is {X} key P k (r ∷ rows) row each e =
     let Is : X → Type 0 = λ x. P x × (key x ≡ k) in

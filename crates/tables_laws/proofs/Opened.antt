@@ -32,10 +32,13 @@ filtered_static test (Some s) e = refl
 
 filtered_row : (test : PipeRow → Bool) (o : Option PipeRow) → Opened (option_and_then (if_passes test) o) → Opened o
 filtered_row test None e = absurd (false≢true e)
-filtered_row test (Some row) e = cond_both (test row) (Some row) None (λ o. Opened o → row.opened ≡ true) (λ yes opened. opened) (λ no closed. absurd (false≢true closed)) e
+filtered_row test (Some row) e =
+    cond_both (test row) (Some row) None (λ o. Opened o → row.opened ≡ true) (λ yes opened. opened) (λ no closed. absurd (false≢true closed)) e
 
 -- a static pipe behind an opening or closing of one
-static_step : (statics : List (ℕ × ℕ)) (h p : ℕ) (opened : Bool) (host pid : ℕ) → p < 2 → pid < 2 → static_opened (with_static statics h p opened) host pid ≡ true → (static_opened statics host pid ≡ true) ⊎ (opens host pid (SetOpened h p opened) ≡ true)
+static_step : (statics : List (ℕ × ℕ)) (h p : ℕ) (opened : Bool) (host pid : ℕ) → p < 2 → pid < 2
+    → static_opened (with_static statics h p opened) host pid ≡ true
+    → (static_opened statics host pid ≡ true) ⊎ (opens host pid (SetOpened h p opened) ≡ true)
 static_step statics h p true host pid low pid_low e =
     let Some_is : Option (ℕ × ℕ) → Type 0 = λ o. is_some o ≡ true in
     cond_both (eqb (static_place (h, p)) (static_place (host, pid))) (Some (h, p)) (row_of static_place (static_place (host, pid)) statics) (λ o. Some_is o → (static_opened statics host pid ≡ true) ⊎ (opens host pid (SetOpened h p true) ≡ true))
@@ -58,14 +61,16 @@ nothing_of [] = tt
 nothing_of (row ∷ rows) = (tt, nothing_of rows)
 
 -- a dynamic pipe behind an opening or closing of one
-dynamic_step : (p : ℕ) (opened : Bool) (pid : ℕ) (o : Option PipeRow) → ((row : PipeRow) → o ≡ Some row → row.pid ≡ pid) → Opened (option_map (λ row. cond (eqb row.pid p) (as_opened opened row) row) o) → Opened o ⊎ ((opened && eqb p pid) ≡ true)
+dynamic_step : (p : ℕ) (opened : Bool) (pid : ℕ) (o : Option PipeRow) → ((row : PipeRow) → o ≡ Some row → row.pid ≡ pid)
+    → Opened (option_map (λ row. cond (eqb row.pid p) (as_opened opened row) row) o) → Opened o ⊎ ((opened && eqb p pid) ≡ true)
 dynamic_step p opened pid None key e = absurd (false≢true e)
 dynamic_step p opened pid (Some row) key e =
     cond_both (eqb row.pid p) (as_opened opened row) row (λ r. r.opened ≡ true → (row.opened ≡ true) ⊎ ((opened && eqb p pid) ≡ true))
     (λ same yes. let here = eqb-true row.pid p same in inr (and_from opened (eqb p pid) yes (eq-eqb p pid (sym here ∙ key row refl))))
     (λ other yes. inl yes) e
 
-opened_static : (t : HciTables) (command : Command) (host pid : ℕ) → pid < 2 → AreTables t → IsCommand command → static_opened (apply t command).statics host pid ≡ true → (static_opened t.statics host pid ≡ true) ⊎ (opens host pid command ≡ true)
+opened_static : (t : HciTables) (command : Command) (host pid : ℕ) → pid < 2 → AreTables t → IsCommand command
+    → static_opened (apply t command).statics host pid ≡ true → (static_opened t.statics host pid ≡ true) ⊎ (opens host pid command ≡ true)
 opened_static t (Create row) host pid low h may e = inl e
 opened_static t (Delete gone) host pid low h may e = inl e
 opened_static t (Clear gone) host pid low h may e =
@@ -80,7 +85,8 @@ opened_static t (SetOpened other p opened) host pid low h may e =
 opened_static t (Set other gate param value) host pid low h may e = inl e
 opened_static t (Sync other id) host pid low h may e = inl e
 
-opened_dynamic : (t : HciTables) (command : Command) (host pid : ℕ) → 2 ≤ pid → AreTables t → IsCommand command → dynamic_opened (apply t command).rows pid ≡ true → (dynamic_opened t.rows pid ≡ true) ⊎ (opens host pid command ≡ true)
+opened_dynamic : (t : HciTables) (command : Command) (host pid : ℕ) → 2 ≤ pid → AreTables t → IsCommand command
+    → dynamic_opened (apply t command).rows pid ≡ true → (dynamic_opened t.rows pid ≡ true) ⊎ (opens host pid command ≡ true)
 opened_dynamic t (Create row) host pid from h may e =
     cond_both (eqb row.pid pid) (Some (as_opened false row)) (pipe_at t.rows pid) (λ o. Opened o → (dynamic_opened t.rows pid ≡ true) ⊎ (false ≡ true))
     (λ same closed. inr closed)
@@ -109,7 +115,8 @@ opened_dynamic t (SetOpened other p opened) host pid from h may e =
 opened_dynamic t (Set other gate param value) host pid from h may e = inl e
 opened_dynamic t (Sync other id) host pid from h may e = inl e
 
-opened-apply : (t : HciTables) (command : Command) (host pid : ℕ) → AreTables t → IsCommand command → is_pipe_opened (apply t command) host pid ≡ true → (is_pipe_opened t host pid ≡ true) ⊎ (opens host pid command ≡ true)
+opened-apply : (t : HciTables) (command : Command) (host pid : ℕ) → AreTables t → IsCommand command → is_pipe_opened (apply t command) host pid ≡ true
+    → (is_pipe_opened t host pid ≡ true) ⊎ (opens host pid command ≡ true)
 opened-apply t command host pid h may e =
     let u = apply t command in
     elim (cases_Bool (ltb pid 2)) [
@@ -125,7 +132,8 @@ opened-apply t command host pid h may e =
           ]
     ]
 
-opened-after : (t : HciTables) (commands : List Command) (host pid : ℕ) → AllByRecursion IsCommand commands → AreTables t → is_pipe_opened (after_commands t commands) host pid ≡ true → (is_pipe_opened t host pid ≡ true) ⊎ (list_any (opens host pid) commands ≡ true)
+opened-after : (t : HciTables) (commands : List Command) (host pid : ℕ) → AllByRecursion IsCommand commands → AreTables t
+    → is_pipe_opened (after_commands t commands) host pid ≡ true → (is_pipe_opened t host pid ≡ true) ⊎ (list_any (opens host pid) commands ≡ true)
 opened-after t [] host pid may h e = inl e
 opened-after t (command ∷ commands) host pid may h e =
     elim (opened-after (apply t command) commands host pid may.1 (AreTables-apply t command may.0 h) e) [
@@ -146,7 +154,8 @@ closed t host pid e =
     (λ static now. false≢true now)
     (λ dynamic now. closed_row (pipe_at t.rows pid) (subst Opened (row_of-map pid_of (as_opened false) pid t.rows (λ row. refl)) now)) e
 
-pub opened-after_close : (t : HciTables) (commands : List Command) (host pid : ℕ) → AreTables t → AllByRecursion IsCommand commands → is_pipe_opened (after_commands (close t) commands) host pid ≡ true → IsTrue (list_any (opens host pid) commands)
+pub opened-after_close : (t : HciTables) (commands : List Command) (host pid : ℕ) → AreTables t → AllByRecursion IsCommand commands
+    → is_pipe_opened (after_commands (close t) commands) host pid ≡ true → IsTrue (list_any (opens host pid) commands)
 opened-after_close t commands host pid h may e =
     elim (opened-after (close t) commands host pid may (AreTables-close t h) e) [
       | inl before ↦ absurd (closed t host pid before)

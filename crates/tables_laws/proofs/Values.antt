@@ -62,7 +62,9 @@ all_ones (x ∷ xs) e =
     let parts = and_parts (eqb x 255) (list_all (λ b. eqb b 255) xs) e in
     ap (λ y. y ∷ xs) (eqb-true x 255 parts.0) ∙ ap (λ ys. 255 ∷ ys) (all_ones xs parts.1)
 
-default_bytes : (identity : Bool) (value : List ℕ) → cond identity (eqb (length value) 8 && list_all (λ b. eqb b 255) value) (eqb (length value) 0) ≡ true → value ≡ cond identity (replicate 8 255) []
+default_bytes : (identity : Bool) (value : List ℕ)
+    → cond identity (eqb (length value) 8 && list_all (λ b. eqb b 255) value) (eqb (length value) 0) ≡ true
+    → value ≡ cond identity (replicate 8 255) []
 default_bytes true value e =
     let parts = and_parts (eqb (length value) 8) (list_all (λ b. eqb b 255) value) e in
     all_ones value parts.1 ∙ ap (λ n. replicate n 255) (eqb-true (length value) 8 parts.0)
@@ -71,7 +73,8 @@ default_bytes false value e = nil_from_length value (eqb-true (length value) 0 e
 default_is : (param : ℕ) (value : List ℕ) → is_default param value ≡ true → value ≡ default_of param
 default_is param value e = default_bytes (eqb param 1) value e
 
-taken_out : (param : ℕ) (here : Bool) (value : List ℕ) (o : Option RegValue) → (here ≡ true → default_of param ≡ value) → read param (cond here None o) ≡ cond here value (read param o)
+taken_out : (param : ℕ) (here : Bool) (value : List ℕ) (o : Option RegValue) → (here ≡ true → default_of param ≡ value)
+    → read param (cond here None o) ≡ cond here value (read param o)
 taken_out param true value o is = is refl
 taken_out param false value o is = refl
 
@@ -79,7 +82,8 @@ put_in : (param : ℕ) (here : Bool) (v : RegValue) (o : Option RegValue) → re
 put_in param true v o = refl
 put_in param false v o = refl
 
-value_at-with_value : (values : List RegValue) (h gate p : ℕ) (value : List ℕ) (host param : ℕ) → (p ≡ 1) ⊎ (p ≡ 3) → (param ≡ 1) ⊎ (param ≡ 3) → value_at (with_value values h gate p value) host 0 param ≡ cond (eqb h host && eqb p param) value (value_at values host 0 param)
+value_at-with_value : (values : List RegValue) (h gate p : ℕ) (value : List ℕ) (host param : ℕ) → (p ≡ 1) ⊎ (p ≡ 3) → (param ≡ 1) ⊎ (param ≡ 3)
+    → value_at (with_value values h gate p value) host 0 param ≡ cond (eqb h host && eqb p param) value (value_at values host 0 param)
 value_at-with_value values h gate p value host param one other =
     let v : RegValue = record { host = h; gate = gate; param = p; value = record { items = value } } in
     let old = row_of place_of_value (value_place host param) values in
@@ -95,16 +99,19 @@ value_at-with_value values h gate p value host param one other =
     ∙ put_in param (eqb h host && eqb p param) v old))
 
 -- a value that is found is one of this host
-found_host : (values : List RegValue) (host param : ℕ) (v : RegValue) → (param ≡ 1) ⊎ (param ≡ 3) → AreValues values → row_of place_of_value (value_place host param) values ≡ Some v → v.host ≡ host
+found_host : (values : List RegValue) (host param : ℕ) (v : RegValue) → (param ≡ 1) ⊎ (param ≡ 3) → AreValues values
+    → row_of place_of_value (value_place host param) values ≡ Some v → v.host ≡ host
 found_host values host param v which h is =
     let found = found_is place_of_value IsPresent (value_place host param) values v h.present is in
     let kept = (and_parts (is_kept v.host v.gate v.param) (not (is_default v.param v.value.items)) found.0).0 in
     (same_place v.host v.param host param (kept_param v.host v.gate v.param kept) which found.1).0
 
 eqb_turned : (a b : ℕ) → eqb a b ≡ eqb b a
-eqb_turned a b = elim (cases_eq a b) [ inl same ↦ eq-eqb a b same ∙ sym (eq-eqb b a (sym same)) | inr differ ↦ ne_eqb a b differ ∙ sym (ne_eqb b a (λ same. differ (sym same))) ]
+eqb_turned a b =
+    elim (cases_eq a b) [ inl same ↦ eq-eqb a b same ∙ sym (eq-eqb b a (sym same)) | inr differ ↦ ne_eqb a b differ ∙ sym (ne_eqb b a (λ same. differ (sym same))) ]
 
-cleared_read : (param h host : ℕ) (o : Option RegValue) → ((v : RegValue) → o ≡ Some v → v.host ≡ host) → read param (option_and_then (if_passes (λ v. not (eqb v.host h))) o) ≡ cond (eqb h host) (default_of param) (read param o)
+cleared_read : (param h host : ℕ) (o : Option RegValue) → ((v : RegValue) → o ≡ Some v → v.host ≡ host)
+    → read param (option_and_then (if_passes (λ v. not (eqb v.host h))) o) ≡ cond (eqb h host) (default_of param) (read param o)
 cleared_read param h host None is = cond_both (eqb h host) (default_of param) (default_of param) (λ x. default_of param ≡ x) (λ yes. refl) (λ no. refl)
 cleared_read param h host (Some v) is =
     ap (λ n. read param (cond (not (eqb n h)) (Some v) None)) (is v refl)
@@ -114,7 +121,8 @@ cleared_read param h host (Some v) is =
     by_test true = refl
     by_test false = refl
 
-pub value_at-without_host : (values : List RegValue) (h host param : ℕ) → (param ≡ 1) ⊎ (param ≡ 3) → AreValues values → value_at (values_without_host values h) host 0 param ≡ cond (eqb h host) (default_of param) (value_at values host 0 param)
+pub value_at-without_host : (values : List RegValue) (h host param : ℕ) → (param ≡ 1) ⊎ (param ≡ 3) → AreValues values
+    → value_at (values_without_host values h) host 0 param ≡ cond (eqb h host) (default_of param) (value_at values host 0 param)
 value_at-without_host values h host param which are =
     ap (read param) (row_of-filter place_of_value 2 16 (λ v. not (eqb v.host h)) (value_place host param) values are.sorted)
     ∙ cleared_read param h host (row_of place_of_value (value_place host param) values) (λ v is. found_host values host param v which are is)
@@ -123,7 +131,8 @@ unkept : (here kept : Bool) (x y : List ℕ) → kept ≡ false → cond here x 
 unkept true kept x y other = sym (cond-true (not kept) x y (not_from_false kept other))
 unkept false kept x y other = refl
 
-pub values-apply : (t : HciTables) (command : Command) (host param : ℕ) → AreTables t → IsCommand command → IsTrue (is_kept host 0 param) → value_at (apply t command).values host 0 param ≡ told_value t command host param
+pub values-apply : (t : HciTables) (command : Command) (host param : ℕ) → AreTables t → IsCommand command → IsTrue (is_kept host 0 param)
+    → value_at (apply t command).values host 0 param ≡ told_value t command host param
 values-apply t (Create row) host param h may kept = refl
 values-apply t (Delete pid) host param h may kept = refl
 values-apply t (Clear gone) host param h may kept = value_at-without_host t.values gone host param (kept_param host 0 param kept) h.values

@@ -26,7 +26,8 @@ HasFault header ws f None = Unit {0}
 HasFault header ws f (Some row) =
     IsTrue (may_stand row.place header) → (by_row header (Some row) ws ≡ Err f) ↔ (words_fault (has_nodes header) (hosts_of header) row ws ≡ Some f)
 
-speaks : (header : Header) (row : FormRow) (ws : List (List ℕ)) → Says header row ws → words_fault header.hci header.hosts.items row ws ≡ None → IsSome (read_of row.name ws)
+speaks : (header : Header) (row : FormRow) (ws : List (List ℕ)) → Says header row ws → words_fault header.hci header.hosts.items row ws ≡ None
+    → IsSome (read_of row.name ws)
 speaks header row ws says h = let said = says (no_fault header.hci header.hosts.items row ws h) in subst IsSome (sym said.1) refl
 
 line_iff : (header : Header) (row : FormRow) (ws : List (List ℕ)) (f : LineFault) → Says header row ws
@@ -37,7 +38,8 @@ header_iff : (ws : List (List ℕ)) (f : LineFault) → HasFault None ws f (Some
 header_iff ws f stands =
     unless_iff _ _ f (λ h. let said = says_header ws (no_fault false [] header_row ws h) in subst IsSome (sym said.1) refl)
 
-bare_iff : (header : Header) (row : FormRow) (ws : List (List ℕ)) (f : LineFault) (t : Bool) → header.hci ≡ t → (header.hci ≡ false → Says header row ws) → IsTrue (not t)
+bare_iff : (header : Header) (row : FormRow) (ws : List (List ℕ)) (f : LineFault) (t : Bool) → header.hci ≡ t
+    → (header.hci ≡ false → Says header row ws) → IsTrue (not t)
     → (cond (not t) (unless_fault (words_fault header.hci header.hosts.items row ws) (read_of row.name ws)) (Err fault.Order) ≡ Err f)
     ↔ (words_fault header.hci header.hosts.items row ws ≡ Some f)
 bare_iff header row ws f true e says stands = cc
@@ -74,18 +76,21 @@ faults (Some header) first ws f =
       ),
     ) (λ e. tt)
 
-pub fault_iff : (header : Option Header) (first : List ℕ) (row : FormRow) (ws : List (List ℕ)) (f : LineFault) → row_for first ≡ Some row → IsTrue (may_stand row.place header)
+pub fault_iff : (header : Option Header) (first : List ℕ) (row : FormRow) (ws : List (List ℕ)) (f : LineFault) → row_for first ≡ Some row
+    → IsTrue (may_stand row.place header)
     → (by_row header (row_for first) ws ≡ Err f) ↔ (words_fault (has_nodes header) (hosts_of header) row ws ≡ Some f)
 fault_iff header first row ws f e stands =
     let P : Option FormRow → Type 0 = λ o. (by_row header o ws ≡ Err f) ↔ (words_fault (has_nodes header) (hosts_of header) row ws ≡ Some f) in
     subst P (sym e) (subst (HasFault header ws f) e (faults header first ws f) stands)
 
 -- a host that a line is refused for isn't in the header
-words_unknown : (header : Header) (ws : List (List ℕ)) (id : ℕ) → by_words (Some header) ws ≡ Err (fault.Host id) → list_any (λ host. host == id) header.hosts.items ≡ false
+words_unknown : (header : Header) (ws : List (List ℕ)) (id : ℕ) → by_words (Some header) ws ≡ Err (fault.Host id)
+    → list_any (λ host. host == id) header.hosts.items ≡ false
 words_unknown header [] id h = cc
 words_unknown header (first ∷ ws) id h = go (is_comment first) h
   where
-    go : (t : Bool) → cond t (Ok read.Skip) (by_row (Some header) (row_for first) ws) ≡ Err (fault.Host id) → list_any (λ host. host == id) header.hosts.items ≡ false
+    go : (t : Bool) → cond t (Ok read.Skip) (by_row (Some header) (row_for first) ws) ≡ Err (fault.Host id)
+        → list_any (λ host. host == id) header.hosts.items ≡ false
     go true e = cc
     go false e = row_unknown header first ws id e
 
@@ -95,6 +100,7 @@ not_there xs q none h = let there = found_in xs q h in cc
 pub host_is_unknown : (header : Header) (bytes : List ℕ) (id : ℕ) → line_of (Some header) bytes ≡ Err (fault.Host id) → ¬ Contains header.hosts.items id
 host_is_unknown header bytes id h = not_there header.hosts.items id (go (nat_lt 9000 (length bytes)) h)
   where
-    go : (t : Bool) → cond t (Err fault.TooLong) (by_words (Some header) (words bytes)) ≡ Err (fault.Host id) → list_any (λ host. host == id) header.hosts.items ≡ false
+    go : (t : Bool) → cond t (Err fault.TooLong) (by_words (Some header) (words bytes)) ≡ Err (fault.Host id)
+        → list_any (λ host. host == id) header.hosts.items ≡ false
     go true e = cc
     go false e = words_unknown header (words bytes) id e

@@ -66,7 +66,8 @@ end_clean : (e : End) → IsClean (end_text e)
 end_clean e =
     (end_word e, list_all-append is_inside (byte_text e.link) (cond e.at_host 104 99 ∷ []) ∙ rw (hex_all_inside (e.link ∷ []), side_inside e.at_host) refl)
 
-digit_inside : (c : ℕ) (cs : List ℕ) (t : Bool) → is_ascii_digit c ≡ t → (t && all_ascii_digits cs) ≡ true → (all_ascii_digits cs ≡ true → list_all is_inside cs ≡ true)
+digit_inside : (c : ℕ) (cs : List ℕ) (t : Bool) → is_ascii_digit c ≡ t → (t && all_ascii_digits cs) ≡ true
+    → (all_ascii_digits cs ≡ true → list_all is_inside cs ≡ true)
     → (is_inside c && list_all is_inside cs) ≡ true
 digit_inside c cs true e h k = let inside : is_inside c ≡ true = grind (arith, nat_tests) in rw inside (k h)
 digit_inside c cs false e h k = cc

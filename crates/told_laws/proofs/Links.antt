@@ -397,7 +397,8 @@ link_taken n l h = by l.to_controller refl
 pub link_ticked : (n : ℕ) (l : Link) → LinkIs n l → LinkIs (n + 12) (ticks_at_controller l [] GoesOut)
 link_ticked n l h = link_input n l Tick (end_ticked n l.controller.side h.near.side) h
 
-link_reset : (n : ℕ) (window : Option ℕ) (l : Link) → IsLowWindow window → LinkIs n l → LinkIs (n + 12) (happens_at_controller l (Step (AsksReset window) [] GoesOut))
+link_reset : (n : ℕ) (window : Option ℕ) (l : Link) → IsLowWindow window → LinkIs n l
+    → LinkIs (n + 12) (happens_at_controller l (Step (AsksReset window) [] GoesOut))
 link_reset n window l low h = link_input n l (Reset window) (end_reset n l.controller.side window low h.near.side) h
 
 link_held : (n : ℕ) (held : Bool) (l : Link) → LinkIs n l → LinkIs (n + 12) (happens_at_controller l (Step NoInput (Hold held ∷ []) GoesOut))

@@ -100,7 +100,8 @@ tick_tries : (n : ℕ) (e : LinkEnd) → EndIs n e → IfTries (gave_up_by e Has
 tick_tries n e h =
     subst (λ b. IfTries (cond b (tick_answer e.shdlc).gave_up (act_answer e.role ActTick).gave_up)) (sym (opens n e h)) (few_tries e.shdlc h.ranged)
 
-noted_input : (n : ℕ) (who : End) (h : NumberedEnd) (i : LinkInput) → h.emitted ≤ n → h.took ≤ n → EndIs n (after_input h.side i) → IfTries (gave_up_by h.side i)
+noted_input : (n : ℕ) (who : End) (h : NumberedEnd) (i : LinkInput) → h.emitted ≤ n → h.took ≤ n → EndIs n (after_input h.side i)
+    → IfTries (gave_up_by h.side i)
     → AreNoted n (told_of who h i)
 noted_input n who h i a b is tries =
     noted_told n who (number_of h) (report h.side i) (whole_acked (after_input h.side i)) (number_low n h a b) (acked_low n (after_input h.side i) is) tries
@@ -157,7 +158,8 @@ noted_held : (n : ℕ) (who : End) (l : Link) (held : Bool) → LinkIs n l → A
 noted_held n who l held h =
     let e : LinkEnd = turn l.controller.side (Hold held) in noted_puts n who (frames_out e) n l (out_is n e (end_held n l.controller.side held h.near.side)) h
 
-noted_reset : (n : ℕ) (who : End) (l : Link) (window : Option ℕ) → IsLowWindow window → LinkIs n l → AreNoted n (step_entries who l (AsksReset window) [] GoesOut)
+noted_reset : (n : ℕ) (who : End) (l : Link) (window : Option ℕ) → IsLowWindow window → LinkIs n l
+    → AreNoted n (step_entries who l (AsksReset window) [] GoesOut)
 noted_reset n who l window low h =
     let i : LinkInput = Reset window in
     let is : EndIs n (after_input l.controller.side i) = end_reset n l.controller.side window low h.near.side in

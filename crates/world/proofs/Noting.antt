@@ -42,7 +42,8 @@ down_entries : (h : ℕ) (who : Which) (o : Option Cause) → entries_for h (map
 down_entries h who None = refl
 down_entries h who (Some cause) = refl
 
-gave_up_entries : (h : ℕ) (who : Which) (o : Option ℕ) → entries_for h (map (GaveUp who) (option_to_list o)) ≡ map (entry.GaveUp (end_of h who)) (option_to_list o)
+gave_up_entries : (h : ℕ) (who : Which) (o : Option ℕ)
+    → entries_for h (map (GaveUp who) (option_to_list o)) ≡ map (entry.GaveUp (end_of h who)) (option_to_list o)
 gave_up_entries h who None = refl
 gave_up_entries h who (Some tries) = refl
 

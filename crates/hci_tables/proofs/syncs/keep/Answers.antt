@@ -15,4 +15,5 @@ insert-requires c =
     (lit< tt, (omega arith, omega arith))
 
 pub returns : goal.returns
-returns c = put_by_insert sync_host 1 8 (c.args.host, c.args.id) c.args.syncs.now.items _ _ _ _ c.requires.sorted c.take_out.ensures c.as_slice.ensures.value c.place_in-at.ensures c.insert.ensures.items
+returns c =
+    put_by_insert sync_host 1 8 (c.args.host, c.args.id) c.args.syncs.now.items _ _ _ _ c.requires.sorted c.take_out.ensures c.as_slice.ensures.value c.place_in-at.ensures c.insert.ensures.items

@@ -9,7 +9,8 @@ length_more : (n : ℕ) → 10000 ≤ n → n < 2 ^ 32 → length (decimal n) �
 length_more n h small = ap length (more_digits_of n h small) ∙ length-append (decimal (n / 10000)) (four_digits (n % 10000))
 
 -- what stands before the last four digits, with these
-more_behind : (n : ℕ) (front text : List ℕ) → 10000 ≤ n → n < 2 ^ 32 → text ≡ front ++ decimal (n / 10000) → text ++ four_digits (n % 10000) ≡ front ++ decimal n
+more_behind : (n : ℕ) (front text : List ℕ) → 10000 ≤ n → n < 2 ^ 32 → text ≡ front ++ decimal (n / 10000)
+    → text ++ four_digits (n % 10000) ≡ front ++ decimal n
 more_behind n front text h small is =
     ap (λ xs. xs ++ four_digits (n % 10000)) is
     ∙ append_assoc front (decimal (n / 10000)) (four_digits (n % 10000))
@@ -40,7 +41,8 @@ push_four_digits-requires-then-n-ge10000-clause-room t c =
     omega (arith, more, ap length (first_of_five c.args.n c.if-n-ge100000.false), c.push.ensures.len, c.requires.room)
 
 pub push_four_digits-requires-then-n-ge1000-clause-room : goal.push_four_digits-requires-then-n-ge1000-clause-room
-push_four_digits-requires-then-n-ge1000-clause-room t c = omega (arith, ap length (four_digits_of c.args.n c.if-n-ge1000.true c.if-n-ge10000.false), c.requires.room)
+push_four_digits-requires-then-n-ge1000-clause-room t c =
+    omega (arith, ap length (four_digits_of c.args.n c.if-n-ge1000.true c.if-n-ge10000.false), c.requires.room)
 
 pub push_text-requires : goal.push_text-requires
 push_text-requires t c = omega (arith, ap length (three_digits_of c.args.n c.if-n-ge100.true c.if-n-ge1000.false), c.requires.room)

@@ -2,10 +2,12 @@ use Rattle.link_end.proofs.NodeLemmas.{act_sent, link_sent}
 use Rattle.link_end.proofs.«end».End.next_out.Goals as goal
 
 pub returns-in-Some-clause-stands : goal.returns-in-Some-clause-stands
-returns-in-Some-clause-stands c pool m h = (act_sent pool c.args.self.now c.take_front.new.acts m c.in-Some.act h c.in-Some.ensures.act c.in-Some.ensures.rest).1
+returns-in-Some-clause-stands c pool m h =
+    (act_sent pool c.args.self.now c.take_front.new.acts m c.in-Some.act h c.in-Some.ensures.act c.in-Some.ensures.rest).1
 
 pub returns-in-Some-clause-answer : goal.returns-in-Some-clause-answer
-returns-in-Some-clause-answer c pool m h = (act_sent pool c.args.self.now c.take_front.new.acts m c.in-Some.act h c.in-Some.ensures.act c.in-Some.ensures.rest).0
+returns-in-Some-clause-answer c pool m h =
+    (act_sent pool c.args.self.now c.take_front.new.acts m c.in-Some.act h c.in-Some.ensures.act c.in-Some.ensures.rest).0
 
 pub returns-in-None-clause-stands : goal.returns-in-None-clause-stands
 returns-in-None-clause-stands c pool m h =

@@ -26,7 +26,8 @@ returns-in-Frame-clause-stands c m seen h hs =
     subst P (c.in-Frame.ensures.answer seen hs) (c.take_lpdu.ensures.stands m h)
 
 pub returns-in-Frame-clause-answer : goal.returns-in-Frame-clause-answer
-returns-in-Frame-clause-answer c m seen h hs = c.take_lpdu.ensures.answer m h ∙ ap (λ (u : Given). told_some m (unit_input u)) (c.in-Frame.ensures.answer seen hs)
+returns-in-Frame-clause-answer c m seen h hs =
+    c.take_lpdu.ensures.answer m h ∙ ap (λ (u : Given). told_some m (unit_input u)) (c.in-Frame.ensures.answer seen hs)
 
 pub returns-in-Refused-clause-stands : goal.returns-in-Refused-clause-stands
 returns-in-Refused-clause-stands c m seen h hs =

@@ -9,13 +9,16 @@ use Rattle.link_messages.proofs.OutgoingLemmas.{looks_at, looks_on, slice_get_in
 use Rattle.link_messages.proofs.outbox.Outbox.fragment_at.Goals as goal
 
 pub fragment_count-count-requires : goal.fragment_count-count-requires
-fragment_count-count-requires c = (looks_at c.loop-queued.pool c.args.self.now c.loop-queued.at c.loop-queued.place c.in-Some.queued.now c.loop-queued.invariant.0 c.in-Some.ensures).0
+fragment_count-count-requires c =
+    (looks_at c.loop-queued.pool c.args.self.now c.loop-queued.at c.loop-queued.place c.in-Some.queued.now c.loop-queued.invariant.0 c.in-Some.ensures).0
 
 pub fragment_of-requires-clause-live : goal.fragment_of-requires-clause-live
-fragment_of-requires-clause-live c = (looks_at c.loop-queued.pool c.args.self.now c.loop-queued.at c.loop-queued.place c.in-Some.queued.now c.loop-queued.invariant.0 c.in-Some.ensures).0
+fragment_of-requires-clause-live c =
+    (looks_at c.loop-queued.pool c.args.self.now c.loop-queued.at c.loop-queued.place c.in-Some.queued.now c.loop-queued.invariant.0 c.in-Some.ensures).0
 
 pub fragment_of-requires-clause-pipe : goal.fragment_of-requires-clause-pipe
-fragment_of-requires-clause-pipe c = (looks_at c.loop-queued.pool c.args.self.now c.loop-queued.at c.loop-queued.place c.in-Some.queued.now c.loop-queued.invariant.0 c.in-Some.ensures).1
+fragment_of-requires-clause-pipe c =
+    (looks_at c.loop-queued.pool c.args.self.now c.loop-queued.at c.loop-queued.place c.in-Some.queued.now c.loop-queued.invariant.0 c.in-Some.ensures).1
 
 pub returns-then-place-count-clause-fragment : goal.returns-then-place-count-clause-fragment
 returns-then-place-count-clause-fragment c =

@@ -9,7 +9,8 @@ pub overflow_add-self : goal.overflow_add-self
 overflow_add-self c = omega (arith, cut_low c.args.pool.now c.args.self.now c.requires)
 
 pub returns-in-Some-clause-fragment : goal.returns-in-Some-clause-fragment
-returns-in-Some-clause-fragment c = drop_at (fragments_of (queued_messages c.args.pool.now c.args.self.now)) c.args.self.now.cut c.in-Some.info c.in-Some.ensures.fragment
+returns-in-Some-clause-fragment c =
+    drop_at (fragments_of (queued_messages c.args.pool.now c.args.self.now)) c.args.self.now.cut c.in-Some.info c.in-Some.ensures.fragment
 
 pub returns-in-Some-clause-none : goal.returns-in-Some-clause-none
 returns-in-Some-clause-none c = (

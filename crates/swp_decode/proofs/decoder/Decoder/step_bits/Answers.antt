@@ -68,7 +68,8 @@ read_between-requires-2-clause-order c =
     not_past c.marks.marks (bit_or c.word-s1.result.marks c.word-s2.result.marks) c.marks.invariant.0 c.marks.read_s2 kept.within kept.marks kept.before_s2
 
 -- a wire whose bits were read up to a place, with the bits of its word
-bits_of_word : (wire : Wire) (bytes : List ℕ) (given : ℕ) (word : Word) → word.bits ≡ given → AreBits wire bytes (low_bits 64 given) → AreBits wire bytes (word_bits word)
+bits_of_word : (wire : Wire) (bytes : List ℕ) (given : ℕ) (word : Word) → word.bits ≡ given → AreBits wire bytes (low_bits 64 given)
+    → AreBits wire bytes (word_bits word)
 bits_of_word wire bytes given word is are = rw is are
 
 -- the line that comes with a bit of a word
@@ -76,7 +77,8 @@ abbrev line_of_word : Wire → Word → ℕ → ℕ → List ReadSymbol → List
 line_of_word wire word place last older = line_with wire (Some (symbol_of (bit word.bits (63 - last)))) (readings_on place (take last (word_bits word)) older)
 
 -- the lines of both wires are those of the bytes
-through : (text bytes older : List ℕ) (word1 word2 : Word) (place from last : ℕ) → length bytes ≡ 64 → AreBits S1 bytes (word_bits word1) → AreBits S2 bytes (word_bits word2)
+through : (text bytes older : List ℕ) (word1 word2 : Word) (place from last : ℕ) → length bytes ≡ 64 → AreBits S1 bytes (word_bits word1)
+    → AreBits S2 bytes (word_bits word2)
     → from ≤ last → last < 64 → place ≡ length older
     → HasNoMark (symbols (readings_on (length older) (take from (word_bits word1)) (signal S1 older))) (take (last - from) (drop from (word_bits word1)))
     → HasNoMark (symbols (readings_on (length older) (take from (word_bits word2)) (signal S2 older))) (take (last - from) (drop from (word_bits word2)))

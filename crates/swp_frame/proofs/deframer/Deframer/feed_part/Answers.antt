@@ -8,7 +8,8 @@ use Rattle.swp_frame.proofs.FurtherBits.{quiet_since, run_of-read_on}
 use Rattle.swp_frame.proofs.Places.{same_run}
 use Rattle.swp_frame.proofs.deframer.Deframer.feed_part.Goals as goal
 
-new_run : (ones after : ℕ) (seen : List Symbol) (more : List Bool) → ones ≡ min 7 (run_of seen) → after ≡ min 7 (run_after ones more) → after ≡ min 7 (run_of (read_on seen more))
+new_run : (ones after : ℕ) (seen : List Symbol) (more : List Bool) → ones ≡ min 7 (run_of seen) → after ≡ min 7 (run_after ones more)
+    → after ≡ min 7 (run_of (read_on seen more))
 new_run ones after seen more is e = e ∙ same_run ones (run_of seen) more (omega (arith, is)) ∙ ap (λ n. min 7 n) (sym (run_of-read_on seen more))
 
 pub returns-in_default : goal.returns-in_default
