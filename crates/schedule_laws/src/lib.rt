@@ -1,0 +1,22 @@
+//! Schedules of worlds of nodes whose header and lines are in their ranges: what the laws of such worlds ask for holds of each of
+//! them. Nothing here runs.
+#![tactic(auto)]
+
+ghost use Rattle.std.specs.Prelude.{List};
+ghost use Rattle.std.specs.List.{AllByRecursion};
+ghost use Rattle.trace_model.specs.declared.line.Header.{Header};
+ghost use Rattle.trace_model.specs.declared.line.Line.{Line};
+ghost use Rattle.node_links.specs.Runs.{ArePlayable};
+ghost use Rattle.kept_laws.specs.Hosts.{AreHosts, IsSentByHost};
+ghost use Rattle.node_readings.specs.Worlds.{IsInitOfHost};
+ghost use Rattle.schedule_laws.specs.Ranges.{AreNodeLinesOf, IsNodeHeader};
+
+/// The hosts of a header of a world of nodes are from 01 to 07 and all different. The lines that may stand below it can be played:
+/// a message that is sent isn't empty, its pipe isn't reserved, and a window is from 1 to 4; messages are sent by hosts; and inits are
+/// those of hosts, none of whose commands is longer than 4,096 bytes.
+pub fn lines_in_their_ranges_can_be_played()
+    ensures hosts { (header : Header) → IsNodeHeader header → AreHosts header.hosts.items }
+    ensures playable { (header : Header) (lines : List Line) → AreNodeLinesOf header lines → ArePlayable lines }
+    ensures sent { (header : Header) (lines : List Line) → IsNodeHeader header → AreNodeLinesOf header lines → AllByRecursion IsSentByHost lines }
+    ensures inits { (header : Header) (lines : List Line) → AreNodeLinesOf header lines → AllByRecursion IsInitOfHost lines }
+{}
