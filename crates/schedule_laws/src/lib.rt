@@ -2,12 +2,15 @@
 //! them. Nothing here runs.
 #![tactic(auto)]
 
-ghost use Rattle.std.specs.Prelude.{List};
+ghost use Rattle.std.specs.Prelude.{◌≡◌, ◌++◌, ℕ, ◌*◌, ◌≤◌, List, length};
 ghost use Rattle.std.specs.List.{AllByRecursion};
+ghost use Rattle.trace_model.specs.declared.entry.Entry.{Entry};
 ghost use Rattle.trace_model.specs.declared.line.Header.{Header};
 ghost use Rattle.trace_model.specs.declared.line.Line.{Line};
+ghost use Rattle.node_world.specs.NodeHistories.{FollowsNodes, NodeHistory, node_entries};
+ghost use Rattle.node_world.specs.NodeFilters.{commands_in};
 ghost use Rattle.node_links.specs.Runs.{ArePlayable};
-ghost use Rattle.kept_laws.specs.Hosts.{AreHosts, IsSentByHost};
+ghost use Rattle.kept_laws.specs.Hosts.{AreHosts, IsFew, IsSentByHost};
 ghost use Rattle.node_readings.specs.Worlds.{IsInitOfHost};
 ghost use Rattle.schedule_laws.specs.Ranges.{AreNodeLinesOf, IsNodeHeader};
 
@@ -19,4 +22,14 @@ pub fn lines_in_their_ranges_can_be_played()
     ensures playable { (header : Header) (lines : List Line) → AreNodeLinesOf header lines → ArePlayable lines }
     ensures sent { (header : Header) (lines : List Line) → IsNodeHeader header → AreNodeLinesOf header lines → AllByRecursion IsSentByHost lines }
     ensures inits { (header : Header) (lines : List Line) → AreNodeLinesOf header lines → AllByRecursion IsInitOfHost lines }
+{}
+
+/// Over a history that follows such a schedule no node ever has more commands than 4,200 for each line. So behind 20,000 lines, as many
+/// as a schedule has at most, none has more than a journal counts.
+pub fn commands_of_a_schedule_are_few()
+    ensures bounded { (header : Header) (lines : List Line) (t : NodeHistory) → FollowsNodes header lines t → IsNodeHeader header →
+        AreNodeLinesOf header lines → (front back : List Entry) (n : ℕ) → node_entries t ≡ front ++ back →
+        length (commands_in front n) ≤ 4200 * length lines }
+    ensures few { (header : Header) (lines : List Line) (t : NodeHistory) → FollowsNodes header lines t → IsNodeHeader header →
+        AreNodeLinesOf header lines → length lines ≤ 20000 → IsFew (node_entries t) }
 {}
