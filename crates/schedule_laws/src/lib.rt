@@ -1,5 +1,5 @@
 //! Schedules of worlds of nodes whose header and lines are in their ranges: what the laws of such worlds ask for holds of each of
-//! them. Nothing here runs.
+//! them, so every history that follows one is legal. Nothing here runs.
 #![tactic(auto)]
 
 ghost use Rattle.std.specs.Prelude.{◌≡◌, ◌++◌, ℕ, ◌*◌, ◌≤◌, List, length};
@@ -12,6 +12,7 @@ ghost use Rattle.node_world.specs.NodeFilters.{commands_in};
 ghost use Rattle.node_links.specs.Runs.{ArePlayable};
 ghost use Rattle.kept_laws.specs.Hosts.{AreHosts, IsFew, IsSentByHost};
 ghost use Rattle.node_readings.specs.Worlds.{IsInitOfHost};
+ghost use Rattle.node_order.specs.Legal.{LegalNodes};
 ghost use Rattle.schedule_laws.specs.Ranges.{AreNodeLinesOf, IsNodeHeader};
 
 /// The hosts of a header of a world of nodes are from 01 to 07 and all different. The lines that may stand below it can be played:
@@ -32,4 +33,11 @@ pub fn commands_of_a_schedule_are_few()
         length (commands_in front n) ≤ 4200 * length lines }
     ensures few { (header : Header) (lines : List Line) (t : NodeHistory) → FollowsNodes header lines t → IsNodeHeader header →
         AreNodeLinesOf header lines → length lines ≤ 20000 → IsFew (node_entries t) }
+{}
+
+/// Every history that follows a schedule of a world of nodes is legal. It asks for nothing but that the header and the lines are in
+/// their ranges, and that there are 20,000 lines at most.
+pub fn every_history_of_a_schedule_is_legal()
+    ensures { (header : Header) (lines : List Line) (t : NodeHistory) → FollowsNodes header lines t → IsNodeHeader header →
+        AreNodeLinesOf header lines → length lines ≤ 20000 → LegalNodes t }
 {}
