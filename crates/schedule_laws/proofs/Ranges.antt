@@ -9,7 +9,7 @@ use Rattle.std.proofs.lemmas.Bool.{ne_eqb}
 use Rattle.std.proofs.lemmas.Cmp.{ranked}
 use Rattle.std.proofs.lemmas.List.Elements.{recursion_from_All}
 use Rattle.std.proofs.lemmas.Map.Keys.{sorted_head, sorted_tail, sorted_from_strictly_increasing}
-use Rattle.trace_model.specs.Lines.{IsHost}
+use Rattle.trace_model.specs.Lines.{IsHost, IsLineOf}
 use Rattle.trace_model.specs.declared.line.Header.{Header}
 use Rattle.trace_model.specs.declared.line.Line.{Line}
 use Rattle.trace_model.specs.declared.line.Line.TheVariants as line
@@ -66,6 +66,23 @@ hosts_few header is =
 each_line : (P Q : Line → Type 0) → ((l : Line) → P l → Q l) → (lines : List Line) → AllByRecursion P lines → AllByRecursion Q lines
 each_line P Q one [] a = tt
 each_line P Q one (l ∷ lines) a = (one l a.0, each_line P Q one lines a.1)
+
+-- what may be said below a header today is in these ranges
+pub in_range : (header : Header) (l : Line) → IsLineOf header l → IsNodeLineOf header l
+in_range header (line.Boot node) is = absurd is
+in_range header (line.Cut node) is = absurd is
+in_range header (line.Activate host sync power) is = absurd is
+in_range header (line.Arm node nth fill) is = absurd is
+in_range header (line.Init e identity pipes) is = absurd is
+in_range header (line.Tables node) is = absurd is
+in_range header (line.Send e pid message) is = is
+in_range header (line.Reset e window) is = is
+in_range header (line.Deliver e count) is = is
+in_range header (line.Lose e) is = is
+in_range header (line.Damage e places) is = is
+in_range header (line.Tick times) is = is
+in_range header (line.Busy e) is = is
+in_range header (line.Ready e) is = is
 
 playable_line : (header : Header) (l : Line) → IsNodeLineOf header l → IsPlayable l
 playable_line header (line.Send e pid message) is = (is.pipe, is.some)

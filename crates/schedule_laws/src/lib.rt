@@ -7,13 +7,20 @@ ghost use Rattle.std.specs.List.{AllByRecursion};
 ghost use Rattle.trace_model.specs.declared.entry.Entry.{Entry};
 ghost use Rattle.trace_model.specs.declared.line.Header.{Header};
 ghost use Rattle.trace_model.specs.declared.line.Line.{Line};
+ghost use Rattle.trace_model.specs.Lines.{IsLineOf};
 ghost use Rattle.node_world.specs.NodeHistories.{FollowsNodes, NodeHistory, node_entries};
 ghost use Rattle.node_world.specs.NodeFilters.{commands_in};
 ghost use Rattle.node_links.specs.Runs.{ArePlayable};
 ghost use Rattle.kept_laws.specs.Hosts.{AreHosts, IsFew, IsSentByHost};
 ghost use Rattle.node_readings.specs.Worlds.{IsInitOfHost};
 ghost use Rattle.node_order.specs.Legal.{LegalNodes};
-ghost use Rattle.schedule_laws.specs.Ranges.{AreNodeLinesOf, IsNodeHeader};
+ghost use Rattle.schedule_laws.specs.Ranges.{AreNodeLinesOf, IsNodeHeader, IsNodeLineOf};
+
+/// A line that may stand below a header, as a reader of schedules takes it, is in its range. The forms of nodes aren't among these
+/// lines yet: a reader that takes them owes that they are in their ranges, and that a header of nodes is.
+pub fn lines_that_may_stand_are_in_their_ranges()
+    ensures { (header : Header) (said : Line) → IsLineOf header said → IsNodeLineOf header said }
+{}
 
 /// The hosts of a header of a world of nodes are from 01 to 07 and all different. The lines that may stand below it can be played:
 /// a message that is sent isn't empty, its pipe isn't reserved, and a window is from 1 to 4; messages are sent by hosts; and inits are
