@@ -25,6 +25,9 @@ impl Default for ActDue {
 pub fn bring_to_front(acts: &mut ArrayVec<ActDue, 8>)
     ensures { acts.new.items ≡ map kept_in_front acts.old.items }
 {
+    if acts.is_empty() {
+        return;
+    }
     let mut moved = ArrayVec::new();
     for act in acts.as_slice() {
         moved.push(ActDue {
@@ -39,6 +42,9 @@ pub fn bring_to_front(acts: &mut ArrayVec<ActDue, 8>)
 pub fn bring_nearer(acts: &mut ArrayVec<ActDue, 8>)
     ensures { acts.new.items ≡ map kept_nearer acts.old.items }
 {
+    if acts.is_empty() {
+        return;
+    }
     let mut moved = ArrayVec::new();
     for act in acts.as_slice() {
         moved.push(ActDue {
