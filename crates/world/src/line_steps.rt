@@ -1,16 +1,18 @@
 //! What each line does, seen from the end that it speaks of.
-ghost use Rattle.std.specs.Prelude.{◌≡◌, ℕ, ◌+◌, ◌<◌, ◌≤◌, ◌^◌, [], List, IfOk, OnErr, None, false};
+ghost use Rattle.std.specs.Prelude.{◌≡◌, ℕ, ◌+◌, ◌<◌, ◌≤◌, ◌^◌, [], List, length, OnOk, OnErr, None, false};
 ghost use Rattle.trace_model.specs.declared.line.Header.{Header};
+ghost use Rattle.trace_model.specs.declared.line.Line.TheVariants as line;
 ghost use Rattle.trace_model.specs.declared.line.End.{End as NamedEnd};
 ghost use Rattle.trace_model.specs.Lines.{IsLineOf};
 ghost use Rattle.message_link.specs.Links.{Link};
-ghost use Rattle.history.specs.Follows.{misread};
+ghost use Rattle.history.specs.Follows.{machine_of, misread};
 ghost use Rattle.world.specs.Lines.{SidesStandFor, Does, HaveSent, IsMisread, end_for};
 
 use crate::damage_line::{Misread, damage_line};
 use crate::lines::{busy_line, lose_line, ready_line, reset_line, send_line};
 use crate::repeats::{deliver_line, tick_line};
 use crate::side::Side;
+use arrayvec::ArrayVec;
 use std::alloc::{AllocError, Global};
 use trace_model::{End, Entry, Line};
 
@@ -30,8 +32,34 @@ pub(crate) fn end_of(line: &Line, controller: End) -> End
     }
 }
 
+// Plays a line `damage`: where another frame is read in place of the first one on the wire, it is put into `other`.
+fn play_damage(
+    alloc: Global,
+    at: End,
+    places: &ArrayVec<u16, 16>,
+    near: &mut Side,
+    far: &mut Side,
+    resets: &mut u32,
+    entries: &mut Vec<Entry>,
+    other: &mut Option<Misread>,
+) -> Result<(), AllocError>
+    requires state { (l : Link) × SidesStandFor near.old far.old resets.old at l × (length (machine_of l at).sent < 2 ^ 32) }
+    requires room { resets.old + 12 < 2 ^ 32 }
+    requires nothing { entries.old.items ≡ [] }
+    ensures stands { (l : Link) → SidesStandFor near.old far.old resets.old at l → length (machine_of l at).sent < 2 ^ 32
+        → OnOk result (other.new ≡ None → Does near.new far.new resets.new at l (line.Damage at places.now) entries.new.items) }
+    ensures misread { (l : Link) → SidesStandFor near.old far.old resets.old at l
+        → OnOk result (IsMisread l (line.Damage at places.now) other.new) }
+    ensures told { (l : Link) → SidesStandFor near.old far.old resets.old at l
+        → OnErr result (misread l (line.Damage at places.now) ≡ None) }
+    ensures grows { resets.new ≤ resets.old + 12 }
+{
+    *other = damage_line(alloc, at, places, near, far, resets, entries)?;
+    Ok(())
+}
+
 /// Plays a line on a link, seen from the end that it speaks of; the near side is that of this end. Where the line damages a frame
-/// so that another one is read in its place, that is answered, and nothing happens.
+/// so that another one is read in its place, both are put into `other`, which was none before, and nothing happens.
 pub(crate) fn play_line(
     alloc: Global,
     line: &Line,
@@ -40,53 +68,57 @@ pub(crate) fn play_line(
     far: &mut Side,
     resets: &mut u32,
     entries: &mut Vec<Entry>,
-) -> Result<Option<Misread>, AllocError>
+    other: &mut Option<Misread>,
+) -> Result<(), AllocError>
     requires state { (l : Link) × SidesStandFor near.old far.old resets.old at l × HaveSent l 20000 }
     requires line { (header : Header) × IsLineOf header line.now }
     requires seen { (controller : NamedEnd) × (controller.at_host ≡ false) × (at ≡ end_for controller line.now) }
     requires room { resets.old + 2400 < 2 ^ 32 }
     requires nothing { entries.old.items ≡ [] }
+    requires none { other.old ≡ None }
     ensures stands { (l : Link) → SidesStandFor near.old far.old resets.old at l → HaveSent l 20000
-        → IfOk result (λ other. other ≡ None → Does near.new far.new resets.new at l line.now entries.new.items) }
-    ensures misread { (l : Link) → SidesStandFor near.old far.old resets.old at l → IfOk result (IsMisread l line.now) }
+        → OnOk result (other.new ≡ None → Does near.new far.new resets.new at l line.now entries.new.items) }
+    ensures misread { (l : Link) → SidesStandFor near.old far.old resets.old at l → OnOk result (IsMisread l line.now other.new) }
     ensures told { (l : Link) → SidesStandFor near.old far.old resets.old at l → OnErr result (misread l line.now ≡ None) }
     ensures grows { resets.new ≤ resets.old + 2400 }
 {
     match line {
         Line::Send { pid, message, .. } => {
             send_line(at, near, far, resets, *pid, message, entries)?;
-            Ok(None)
+            Ok(())
         }
         Line::Deliver { count, .. } => {
             deliver_line(alloc, at, *count, near, far, resets, entries)?;
-            Ok(None)
+            Ok(())
         }
         Line::Lose { .. } => {
             lose_line(at, near, far, *resets, entries)?;
-            Ok(None)
+            Ok(())
         }
-        Line::Damage { places, .. } => damage_line(alloc, at, places, near, far, resets, entries),
+        Line::Damage { places, .. } => {
+            play_damage(alloc, at, places, near, far, resets, entries, other)
+        }
         Line::Tick { times } => {
             tick_line(at, *times, near, far, resets, entries)?;
-            Ok(None)
+            Ok(())
         }
         Line::Reset { window, .. } => {
             reset_line(at, near, far, resets, *window, entries)?;
-            Ok(None)
+            Ok(())
         }
         Line::Busy { .. } => {
             busy_line(at, near, far, resets, entries)?;
-            Ok(None)
+            Ok(())
         }
         Line::Ready { .. } => {
             ready_line(at, near, far, resets, entries)?;
-            Ok(None)
+            Ok(())
         }
-        Line::Boot { .. } => Ok(None),
-        Line::Cut { .. } => Ok(None),
-        Line::Activate { .. } => Ok(None),
-        Line::Arm { .. } => Ok(None),
-        Line::Init { .. } => Ok(None),
-        Line::Tables { .. } => Ok(None),
+        Line::Boot { .. } => Ok(()),
+        Line::Cut { .. } => Ok(()),
+        Line::Activate { .. } => Ok(()),
+        Line::Arm { .. } => Ok(()),
+        Line::Init { .. } => Ok(()),
+        Line::Tables { .. } => Ok(()),
     }
 }

@@ -7,7 +7,8 @@ ghost use Rattle.block_pool.specs.Pool.{PoolState, IsLive, chain_bytes};
 use block_pool::{Chain, Pool};
 use link_end::{LinkEnd, LinkReport, ResetRefused, SendRefused};
 use std::alloc::{AllocError, Global};
-use swp_base::{Cause, Lpdu, NoMemory, Role};
+use swp_base::{Cause, Control, Lpdu, NoMemory, Role};
+use swp_lpdu::LpduFault;
 use trace_model::{End, Entry, NoCause, Octets};
 
 /// The owners of blocks in the pool of a bare end: one for what it sends, and one for what comes.
@@ -35,8 +36,8 @@ pub(crate) struct Node {
 }
 
 impl Node {
-    ghost use Rattle.std.specs.Prelude.{◌≡◌, ℕ, ◌<◌, ◌≤◌, ◌^◌, [], ◌∷◌, ◌++◌, OnOk, OnErr, IfOk, IfErr, IfSome, IsOk, ◌↔◌, None, Some, Ok, length, map, option_map};
-    ghost use Rattle.swp_base.specs.declared.control_frames.Control.{Control};
+    ghost use Rattle.std.specs.Prelude.{◌≡◌, ℕ, ◌<◌, ◌≤◌, ◌^◌, [], ◌∷◌, ◌++◌, OnOk, OnErr, IfOk, IfErr, IfSome, IsOk, ◌↔◌, List, None, Some, Ok, length, map, option_map};
+    ghost use Rattle.swp_base.specs.declared.control_frames.Control.{Control as Frame};
     ghost use Rattle.swp_lpdu.specs.Controls.{lpdu_of, control_of};
     ghost use Rattle.hcp_packet.specs.Packets.{IsSendable};
     ghost use Rattle.link_machine.specs.Machine.{LinkEnd as Machine, Bare, Message, report, new_link_end, after_input, next_frame, turn, give_refusal, reset_refusal, whole_acked};
@@ -72,24 +73,15 @@ impl Node {
         ensures counted { self.new ≡ record self.old { acked = acked_on self.old.acked report.now } }
         ensures noted { OnOk result (entries.new.items ≡ entries.old.items ++ reported place.at place.session report.now self.new.acked) }
     {
-        let Place { at, session } = place;
         if report.ended.is_some() {
             self.acked = 0;
         }
         self.acked = self.acked.saturating_add(u32::from(report.acked));
-        note_some(down_entry(at, report.ended), entries)?;
-        note_some(entry_if(report.began, Entry::Up { at, session }), entries)?;
-        note_some(
-            entry_if(report.became_active, Entry::Active { at }),
-            entries,
-        )?;
-        note_some(gave_up_entry(at, report.gave_up), entries)?;
-        let acked = Entry::Acked {
-            at,
-            session,
-            count: self.acked,
-        };
-        note_some(entry_if(report.acked > 0, acked), entries)
+        note_down(place.at, report.ended, entries)?;
+        note_up(place, report.began, entries)?;
+        note_active(place.at, report.became_active, entries)?;
+        note_gave_up(place.at, report.gave_up, entries)?;
+        note_acked(place, report.acked > 0, self.acked, entries)
     }
 
     // The message that came, where one did, is noted, and its blocks are given back.
@@ -118,20 +110,21 @@ impl Node {
         Ok(())
     }
 
-    /// Takes a frame, and notes what it did and the message that it brought.
+    /// Takes what a frame says, and notes what it did and the message that it brought.
     pub(crate) fn take(
         &mut self,
         alloc: Global,
         place: Place,
-        lpdu: &Lpdu,
+        read: &Result<Control, LpduFault>,
         entries: &mut Vec<Entry>,
     ) -> Result<(), AllocError>
-        requires { (m : Machine) × NodeStandsFor self.old m × HasFewDue m }
-        ensures { (m : Machine) (c : Control) → NodeStandsFor self.old m → HasFewDue m → control_of lpdu.now ≡ Ok c → length m.sent < 2 ^ 32
+        requires stands { (m : Machine) × NodeStandsFor self.old m × HasFewDue m }
+        requires read { (lpdu : List ℕ) × (read.now ≡ control_of lpdu) }
+        ensures { (m : Machine) (c : Frame) → NodeStandsFor self.old m → HasFewDue m → read.now ≡ Ok c → length m.sent < 2 ^ 32
             → OnOk result (NodeStandsFor self.new (turn (after_input m (Take c)) FetchMessage)
             × AreNoted place.at entries.old.items entries.new.items (told (side_of place.at) place.session (report m (Take c)) (whole_acked (after_input m (Take c))))) }
     {
-        let report = self.end.take_lpdu(&mut self.pool, lpdu);
+        let report = self.end.take_read(&mut self.pool, read);
         self.note(place, &report, entries)?;
         self.note_message(alloc, place, entries)
     }
@@ -207,39 +200,59 @@ impl Node {
     }
 }
 
-// The entry of a session that ended, where one did.
-fn down_entry(at: End, ended: Option<Cause>) -> Option<Entry>
-    ensures { option_to_list result ≡ map (Entry.Down at) (option_to_list ended) }
+// A session that ended, where one did, is noted.
+fn note_down(at: End, ended: Option<Cause>, entries: &mut Vec<Entry>) -> Result<(), AllocError>
+    ensures { OnOk result (entries.new.items ≡ entries.old.items ++ map (Entry.Down at) (option_to_list ended)) }
 {
-    match ended {
-        Some(cause) => Some(Entry::Down { at, cause }),
-        None => None,
+    if let Some(cause) = ended {
+        entries.push(Entry::Down { at, cause })?;
     }
+    Ok(())
 }
 
-// The entry of an end that gave up after so many tries, where it did.
-fn gave_up_entry(at: End, gave_up: Option<u8>) -> Option<Entry>
-    ensures { option_to_list result ≡ map (Entry.GaveUp at) (option_to_list gave_up) }
+// A session that began, where one did, is noted.
+fn note_up(place: Place, began: bool, entries: &mut Vec<Entry>) -> Result<(), AllocError>
+    ensures { OnOk result (entries.new.items ≡ entries.old.items ++ noted_if began (Entry.Up place.at place.session)) }
 {
-    match gave_up {
-        Some(tries) => Some(Entry::GaveUp { at, tries }),
-        None => None,
+    if began {
+        let Place { at, session } = place;
+        entries.push(Entry::Up { at, session })?;
     }
+    Ok(())
 }
 
-// This entry, if so.
-fn entry_if(so: bool, entry: Entry) -> Option<Entry>
-    ensures { option_to_list result ≡ noted_if so entry }
+// That the end is activated, where it is now, is noted.
+fn note_active(at: End, active: bool, entries: &mut Vec<Entry>) -> Result<(), AllocError>
+    ensures { OnOk result (entries.new.items ≡ entries.old.items ++ noted_if active (Entry.Active at)) }
 {
-    if so { Some(entry) } else { None }
+    if active {
+        entries.push(Entry::Active { at })?;
+    }
+    Ok(())
 }
 
-// An entry, where there is one, is noted.
-fn note_some(entry: Option<Entry>, entries: &mut Vec<Entry>) -> Result<(), AllocError>
-    ensures { OnOk result (entries.new.items ≡ entries.old.items ++ option_to_list entry) }
+// That the end gave up after so many tries, where it did, is noted.
+fn note_gave_up(at: End, gave_up: Option<u8>, entries: &mut Vec<Entry>) -> Result<(), AllocError>
+    ensures { OnOk result (entries.new.items ≡ entries.old.items ++ map (Entry.GaveUp at) (option_to_list gave_up)) }
 {
-    if let Some(entry) = entry {
-        entries.push(entry)?;
+    if let Some(tries) = gave_up {
+        entries.push(Entry::GaveUp { at, tries })?;
+    }
+    Ok(())
+}
+
+// How many messages of the session are acknowledged is noted, where there are more of them.
+fn note_acked(
+    place: Place,
+    more: bool,
+    count: u32,
+    entries: &mut Vec<Entry>,
+) -> Result<(), AllocError>
+    ensures { OnOk result (entries.new.items ≡ entries.old.items ++ noted_if more (Entry.Acked place.at place.session count)) }
+{
+    if more {
+        let Place { at, session } = place;
+        entries.push(Entry::Acked { at, session, count })?;
     }
     Ok(())
 }

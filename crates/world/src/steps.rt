@@ -23,6 +23,7 @@ use crate::side::Side;
 use crate::wire::{Flying, grow_older, is_reset, put_last};
 use std::alloc::{AllocError, Global};
 use swp_base::Lpdu;
+use swp_lpdu::read_lpdu;
 use trace_model::{End, Entry, LostCause, NoCause, Octets};
 
 /// The most frames that a bare end sends at one moment: 8 control frames and 4 fragments.
@@ -120,13 +121,14 @@ pub(crate) fn take_frame(
     let Some(flying) = near.wire.pop_front() else {
         return Ok(());
     };
+    let read = read_lpdu(&flying.lpdu);
     entries.push(Entry::Took {
         at,
-        lpdu: flying.lpdu.copied(),
+        lpdu: flying.lpdu,
     })?;
     near.took = near.took.max(flying.number);
     let place = near.place(at);
-    near.node.take(alloc, place, &flying.lpdu, entries)?;
+    near.node.take(alloc, place, &read, entries)?;
     send_all(at, near, far, resets, entries)
 }
 

@@ -10,8 +10,7 @@ ghost use Rattle.world.specs.Sides.{AreNoted};
 
 use circular_buffer::HeapCircularBuffer;
 use std::alloc::{AllocError, Global};
-use swp_base::{Control, Lpdu, NoMemory};
-use swp_lpdu::read_lpdu;
+use swp_base::{Lpdu, NoMemory};
 use trace_model::{End, Entry, LostCause};
 
 /// The most frames on one wire. This project's own.
@@ -19,6 +18,9 @@ const MOST: usize = 64;
 
 /// The age in ticks at which a tick takes a frame away. This project's own.
 const LIFE: u8 = 4;
+
+/// The first byte of an RSET.
+const RSET: u8 = 0xF9;
 
 /// A frame on its way.
 #[derive(Debug, Drop)]
@@ -42,15 +44,7 @@ pub(crate) fn empty_wire(alloc: Global) -> Result<HeapCircularBuffer<Flying>, Al
 pub(crate) fn is_reset(lpdu: &Lpdu) -> bool
     ensures { (c : Frame) → control_of lpdu.now ≡ Ok c → result ≡ is_rset c }
 {
-    match read_lpdu(lpdu) {
-        Ok(Control::Rset { .. }) => true,
-        Ok(Control::I { .. }) => false,
-        Ok(Control::S { .. }) => false,
-        Ok(Control::Ua) => false,
-        Ok(Control::Act { .. }) => false,
-        Ok(Control::Clt) => false,
-        Err(_fault) => false,
-    }
+    lpdu.bytes()[0] == RSET
 }
 
 /// A frame stands last on a wire to an end. Where the wire is full, the oldest frame on it is lost.

@@ -99,7 +99,8 @@ impl World {
         self.entries.clear();
         self.stepped += 1;
         let at = end_of(line, controller_end(&self.header));
-        let other = if at.at_host {
+        let mut other = None;
+        if at.at_host {
             play_line(
                 alloc,
                 line,
@@ -108,7 +109,8 @@ impl World {
                 &mut self.controller,
                 &mut self.resets,
                 &mut self.entries,
-            )?
+                &mut other,
+            )?;
         } else {
             play_line(
                 alloc,
@@ -118,8 +120,9 @@ impl World {
                 &mut self.host,
                 &mut self.resets,
                 &mut self.entries,
-            )?
-        };
+                &mut other,
+            )?;
+        }
         match other {
             Some(Misread { sent, read }) => Err(WorldFault::Undetected { sent, read }),
             None => Ok(()),

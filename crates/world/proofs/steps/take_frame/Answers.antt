@@ -16,10 +16,13 @@ returns-in_default-clause-stands c l h short =
     takes_none c.args.near.now c.args.far.now c.args.resets.now l (FetchMessage ∷ []) c.args.at p.new.self p.result c.args.entries.now.items h
     p.ensures.value c.in_default.is p.ensures.items
 
-pub take-requires : goal.take-requires
-take-requires c =
+pub take-requires-clause-stands : goal.take-requires-clause-stands
+take-requires-clause-stands c =
     let s = c.requires.state in
     (s.0.controller.side, s.1.here.has.node, room_here c.args.near.now c.args.far.now c.args.resets.now s.0 s.1)
+
+pub take-requires-clause-read : goal.take-requires-clause-read
+take-requires-clause-read c = (c.in-Some.flying.lpdu, c.read_lpdu-read.ensures.says)
 
 pub send_all-requires-clause-state : goal.send_all-requires-clause-state
 send_all-requires-clause-state c =
@@ -31,7 +34,7 @@ send_all-requires-clause-state c =
     let f = takes_first c.args.near.now c.args.far.now c.args.resets.now s.0 p.new.self c.in-Some.flying p.result s.1 p.ensures.value c.in-Some.is
     p.ensures.items in
     let e : LinkEnd = turn (after_input m (Take f.x.frame)) FetchMessage in
-    let t = c.in_ok-take.ensures m f.x.frame s.1.here.has.node room (reads_first s.0 p.new.self c.in-Some.flying f) s.2 in (
+    let t = c.in_ok-take.ensures m f.x.frame s.1.here.has.node room (c.read_lpdu-read.ensures.says ∙ reads_first s.0 p.new.self c.in-Some.flying f) s.2 in (
       left_after s.0 f.x f.xs,
       e,
       taken_midway c.args.near.now c.args.far.now c.args.resets.now s.0 c.take.new.self p.new.self c.in-Some.flying c.max-near.result e f s.1 t.0
@@ -47,7 +50,7 @@ returns-clause-stands c l h short =
     let f = takes_first c.args.near.now c.args.far.now c.args.resets.now l p.new.self c.in-Some.flying p.result h p.ensures.value c.in-Some.is
     p.ensures.items in
     let e : LinkEnd = turn (after_input m (Take f.x.frame)) FetchMessage in
-    let t = c.in_ok-take.ensures m f.x.frame h.here.has.node room (reads_first l p.new.self c.in-Some.flying f) short in
+    let t = c.in_ok-take.ensures m f.x.frame h.here.has.node room (c.read_lpdu-read.ensures.says ∙ reads_first l p.new.self c.in-Some.flying f) short in
     on_ok c.send_all.result
     (c.send_all.ensures.stands (left_after l f.x f.xs) e
     (taken_midway c.args.near.now c.args.far.now c.args.resets.now l c.take.new.self p.new.self c.in-Some.flying c.max-near.result e f h t.0
@@ -55,4 +58,4 @@ returns-clause-stands c l h short =
     (λ r. taken c.args.near.now c.args.far.now c.send_all.new.near c.send_all.new.far c.args.resets.now c.send_all.new.resets l c.args.at
     c.place-place.result p.new.self c.in-Some.flying c.max-near.result c.args.entries.now.items c.push.new.self.items c.take.new.entries.items
     c.send_all.new.entries.items f h c.max-near.ensures c.place-place.ensures
-    (c.in_ok-push.ensures.items ∙ ap (λ (b : List ℕ). c.args.entries.now.items ++ entry.Took c.args.at b ∷ []) c.copied.ensures) t.1 r)
+    c.in_ok-push.ensures.items t.1 r)

@@ -1,31 +1,41 @@
-use Rattle.std.proofs.Common.{subst, ap, ◌∙◌}
+use Rattle.std.proofs.Common.{subst, ap, sym, ◌∙◌}
 use Rattle.link_machine.specs.Machine.{LinkInput, after_input, lpdu_input, report}
 use Rattle.link_machine.specs.Machine.LinkInput.{Take}
 use Rattle.link_machine.proofs.Reports.{take_so}
 use Rattle.link_end.specs.Ends.{EndStandsFor}
 use Rattle.link_end.specs.Reports.{report_told as told_of}
+use Rattle.link_end.proofs.AccountLemmas.{rests, rests_may_take}
 use Rattle.world.specs.Noting.{acked_on}
 use Rattle.world.proofs.Results.{on_ok}
 use Rattle.world.proofs.Nodes.{is_sound, input_done, with_message, taken_input, can_fetch}
 use Rattle.world.proofs.node.Node.take.Goals as goal
 
+pub take_read-report-requires-clause-ready : goal.take_read-report-requires-clause-ready
+take_read-report-requires-clause-ready c =
+    let kept = c.args.self.now.«end».link in
+    let s = c.requires.stands in
+    rests_may_take kept c.args.self.now.pool (rests kept c.args.self.now.pool s.0 s.1.has.stands s.1.has.accounts s.1.fetched)
+
 pub note_message-requires : goal.note_message-requires
 note_message-requires c =
-    let t = c.take_lpdu-report in
-    let m = c.requires.0 in (
-      after_input m (lpdu_input c.args.lpdu.now),
-      can_fetch c.args.self.now t.new.self t.new.pool m (after_input m (lpdu_input c.args.lpdu.now)) (acked_on c.args.self.now.acked t.result)
-          c.note.new.self c.requires.1 (t.ensures.stands m c.requires.1.has.stands) t.ensures.elsewhere c.note.ensures.counted,
+    let t = c.take_read-report in
+    let m = c.requires.stands.0 in
+    let has = c.requires.stands.1.has in
+    let read = c.requires.read in (
+      after_input m (lpdu_input read.0),
+      can_fetch c.args.self.now t.new.self t.new.pool m (after_input m (lpdu_input read.0)) (acked_on c.args.self.now.acked t.result)
+          c.note.new.self c.requires.stands.1 (t.ensures.stands m read.0 has.stands read.1) t.ensures.elsewhere c.note.ensures.counted,
     )
 
 pub returns : goal.returns
 returns c m frame h room is few =
-    let t = c.take_lpdu-report in
-    let input = taken_input c.args.lpdu.now frame is in
+    let t = c.take_read-report in
+    let read = c.requires.read in
+    let input = taken_input read.0 frame (sym read.1 ∙ is) in
     let P : LinkInput → Type 0 = λ i. EndStandsFor t.new.self.link t.new.pool (after_input m i) in
     let done = input_done c.args.self.now t.new.self t.new.pool m (Take frame) t.result c.note.new.self c.args.place.at c.args.place.session
-    c.args.entries.now.items c.note.new.entries.items h.has (subst P input (t.ensures.stands m h.has.stands)) t.ensures.elsewhere
-    (t.ensures.answer m h.has.stands ∙ ap (λ i. told_of (report m i)) input)
+    c.args.entries.now.items c.note.new.entries.items h.has (subst P input (t.ensures.stands m read.0 h.has.stands read.1)) t.ensures.elsewhere
+    (t.ensures.answer m read.0 h.has.stands read.1 ∙ ap (λ i. told_of (report m i)) input)
     (take_so m frame (is_sound m h.has.reached)) tt few c.note.ensures.counted c.in_ok-note.ensures.noted in
     on_ok c.note_message.result (c.note_message.ensures (after_input m (Take frame)) done.has) (λ f.
     with_message c.note.new.self c.note_message.new.self m frame c.args.place.at c.args.place.session c.args.entries.now.items
