@@ -1,45 +1,41 @@
 -- How growing text goes on.
 use Rattle.std.proofs.Common.{◌≡◌, ℕ, ◌+◌, ◌≤◌, ◌/◌, ◌%◌, ◌<◌, true, false, List, [], ◌∷◌, ◌++◌, length, take, refl, sym, ◌∙◌, ap, ap₂, subst, arith, slice_index, append_assoc, length-append, get_or, ◌^◌, append-nil}
-use Rattle.std.proofs.lemmas.List.{take-append-le, take_all}
+use Rattle.std.proofs.lemmas.List.{take_more}
+use Rattle.std.proofs.lemmas.Grind.{flat_map-append}
 use Rattle.std.specs.Fmt.{decimal}
 use Rattle.std.proofs.lemmas.Fmt.{decimal_step}
 use Rattle.hex.specs.Hex.{encode_with, encode_upper, upper_digits}
 use Rattle.schedule_text.specs.declared.text.Text.{Text}
+use Rattle.trace_model.specs.declared.entry.Entry.{Entry}
 use Rattle.schedule_text.specs.Words.{spaced}
-use Rattle.schedule_text.specs.Growth.{HoldsText, HoldsWords, IsFront}
+use Rattle.schedule_text.specs.Entries.{entry_line, entry_lines}
+use Rattle.schedule_text.specs.Growth.{Start, HoldsText, HoldsWords}
 
--- before anything is appended
-pub holds_nothing : (start : List ℕ) (t : Text) → t.bytes.items ≡ start → t.waiting.items ≡ [] → t.short ≡ false → HoldsText start [] t
-holds_nothing start t b w s =
-    record { whole = λ _. ([], b ∙ sym (append-nil start), sym w); front = λ e. cc }
+-- text behind text
+abbrev pub behind : Start → List ℕ → Start
+behind start text = record { mark = start.mark; before = start.before ++ text }
 
--- memory runs out where nothing waits
-pub holds_none : (start text more : List ℕ) (t u : Text) → t.short ≡ false → t.waiting.items ≡ [] → 0 < length more → u.short ≡ true
-    → u.bytes.items ≡ t.bytes.items → HoldsText start text t → HoldsText start (text ++ more) u
-holds_none start text more t u s w some su b h =
-    let f = h.whole s in
-    let front : text ≡ f.0 = f.2 ∙ ap (λ x. f.0 ++ x) w ∙ append-nil f.0 in
+pub holds_from : (start : Start) (text : List ℕ) (t : Text) → HoldsText start text t → HoldsText (behind start text) [] t
+holds_from start text t h =
+    let e : start.before ++ text ≡ (start.before ++ text) ++ [] = sym (append-nil (start.before ++ text)) in
     record {
-      whole = λ e. cc;
-      front = λ _. (
-        length text,
-        rw length-append (omega arith),
-        b ∙ f.1 ∙ ap (λ x. start ++ x) (sym front ∙ sym (take-append-le (length text) text more (omega arith) ∙ take_all (length text) text (omega arith))),
-      );
+      whole = λ s. h.whole s ∙ e;
+      mark_is = h.mark_is;
+      marked = h.marked;
+      within = subst (λ x. start.mark ≤ length x) e h.within;
+      kept = h.kept ∙ ap (λ x. take start.mark x) e;
     }
 
--- where there is no memory for what waits, a shorter front of the text stands there
-pub front_unflushed : (start text : List ℕ) (t : Text) → t.short ≡ false → 0 < length t.waiting.items → HoldsText start text t
-    → IsFront start text t.bytes.items
-front_unflushed start text t s some h =
-    let f = h.whole s in
-    let front : take (length f.0) text ≡ f.0 = ap (λ x. take (length f.0) x) f.2 ∙ take-append-le (length f.0) f.0 t.waiting.items (omega arith) ∙ take_all (length f.0) f.0 (omega arith) in
-    (length f.0, rw (f.2, length-append) (omega arith), f.1 ∙ ap (λ x. start ++ x) (sym front))
-
-pub holds_unflushed : (start text : List ℕ) (t u : Text) → t.short ≡ false → u.short ≡ true → 0 < length t.waiting.items → u.bytes.items ≡ t.bytes.items
-    → HoldsText start text t → HoldsText start text u
-holds_unflushed start text t u s su some b h =
-    record { whole = λ e. cc; front = λ _. subst (IsFront start text) (sym b) (front_unflushed start text t s some h) }
+pub holds_back : (start : Start) (text more : List ℕ) (t : Text) → HoldsText (behind start text) more t → HoldsText start (text ++ more) t
+holds_back start text more t h =
+    let e : (start.before ++ text) ++ more ≡ start.before ++ (text ++ more) = append_assoc start.before text more in
+    record {
+      whole = λ s. h.whole s ∙ e;
+      mark_is = h.mark_is;
+      marked = h.marked;
+      within = subst (λ x. start.mark ≤ length x) e h.within;
+      kept = h.kept ∙ ap (λ x. take start.mark x) e;
+    }
 
 -- one more word
 pub spaced-push : (first word : List ℕ) (more : List (List ℕ)) → spaced (first ∷ (more ++ word ∷ [])) ≡ spaced (first ∷ more) ++ (32 ∷ word)
@@ -47,18 +43,18 @@ spaced-push first word [] = refl
 spaced-push first word (m ∷ ms) = ap (λ t. first ++ (32 ∷ t)) (spaced-push m word ms) ∙ sym (append_assoc first (32 ∷ spaced (m ∷ ms)) (32 ∷ word))
 
 -- a space and a word behind it
-pub holds_word : (start first word : List ℕ) (more : List (List ℕ)) (t : Text) → HoldsText start ((spaced (first ∷ more) ++ (32 ∷ [])) ++ word) t
+pub holds_word : (start : Start) (first word : List ℕ) (more : List (List ℕ)) (t : Text) → HoldsText start ((spaced (first ∷ more) ++ (32 ∷ [])) ++ word) t
     → HoldsWords start (first ∷ (more ++ word ∷ [])) t
 holds_word start first word more t h =
     subst (λ x. HoldsText start x t) (append_assoc (spaced (first ∷ more)) (32 ∷ []) word ∙ sym (spaced-push first word more)) h
 
 -- a space and a word at once
-pub holds_spaced : (start first word : List ℕ) (more : List (List ℕ)) (t : Text) → HoldsText start (spaced (first ∷ more) ++ (32 ∷ word)) t
+pub holds_spaced : (start : Start) (first word : List ℕ) (more : List (List ℕ)) (t : Text) → HoldsText start (spaced (first ∷ more) ++ (32 ∷ word)) t
     → HoldsWords start (first ∷ (more ++ word ∷ [])) t
 holds_spaced start first word more t h = subst (λ x. HoldsText start x t) (sym (spaced-push first word more)) h
 
 -- behind a word more letters of it
-pub holds_longer : (start first word letters : List ℕ) (more : List (List ℕ)) (t : Text)
+pub holds_longer : (start : Start) (first word letters : List ℕ) (more : List (List ℕ)) (t : Text)
     → HoldsText start (spaced (first ∷ (more ++ word ∷ [])) ++ letters) t → HoldsWords start (first ∷ (more ++ (word ++ letters) ∷ [])) t
 holds_longer start first word letters more t h =
     subst (λ x. HoldsText start x t)
@@ -75,8 +71,7 @@ unfolding encode_with
 encode-nil = refl
 
 -- the digits of two more bytes behind those of a front
-pub holds_two : (start text front two upper lower : List ℕ) (t : Text) → length two ≡ 2 → upper ≡ encode_upper (get_or two 0 0 ∷ [])
-    → lower ≡ encode_upper (get_or two 1 0 ∷ [])
+pub holds_two : (start : Start) (text front two upper lower : List ℕ) (t : Text) → length two ≡ 2 → upper ≡ encode_upper (get_or two 0 0 ∷ []) → lower ≡ encode_upper (get_or two 1 0 ∷ [])
     → HoldsText start ((text ++ encode_upper front) ++ (get_or upper 0 0 ∷ get_or upper 1 0 ∷ get_or lower 0 0 ∷ get_or lower 1 0 ∷ [])) t
     → HoldsText start (text ++ encode_upper (front ++ two)) t
 unfolding encode_with
@@ -90,16 +85,25 @@ holds_two start text front (a ∷ b ∷ []) upper lower t e u l h =
 holds_two start text front (a ∷ b ∷ c ∷ two) upper lower t e u l h = absurd (omega arith)
 
 -- the last digit of a number
-pub holds_digit : (start text : List ℕ) (n : ℕ) (t : Text) → 10 ≤ n → n < 2 ^ 64
+pub holds_digit : (start : Start) (text : List ℕ) (n : ℕ) (t : Text) → 10 ≤ n → n < 2 ^ 64
     → HoldsText start ((text ++ decimal (n / 10)) ++ ((48 + n % 10) ∷ [])) t → HoldsText start (text ++ decimal n) t
 holds_digit start text n t large fits h =
     subst (λ x. HoldsText start x t) (append_assoc text (decimal (n / 10)) ((48 + n % 10) ∷ []) ∙ ap (λ t. text ++ t) (sym (decimal_step n large fits))) h
 
 -- a line and what stands behind its LF
-pub holds_line : (start text behind more : List ℕ) (t : Text) → behind ≡ more → HoldsText start ((text ++ (10 ∷ [])) ++ behind) t
+pub holds_line : (start : Start) (text behind more : List ℕ) (t : Text) → behind ≡ more → HoldsText start ((text ++ (10 ∷ [])) ++ behind) t
     → HoldsText start (text ++ (10 ∷ more)) t
 holds_line start text behind more t e h =
     subst (λ x. HoldsText start x t) (append_assoc text (10 ∷ []) behind ∙ ap (λ b. text ++ (10 ∷ b)) e) h
+
+-- entries and one more
+pub one_entry_more : (start : Start) (before : List ℕ) (entries : List Entry) (entry : Entry) (i : ℕ) (t : Text) → i < length entries → entry ≡ get_or entries i entry
+    → HoldsText start ((before ++ entry_lines (take i entries)) ++ entry_line entry) t → HoldsText start (before ++ entry_lines (take (i + 1) entries)) t
+one_entry_more start before entries entry i t within is h =
+    let next : take (i + 1) entries ≡ take i entries ++ entry ∷ [] = take_more entries i entry within ∙ ap (λ e. take i entries ++ e ∷ []) (sym is) in
+    let lines : entry_lines (take (i + 1) entries) ≡ entry_lines (take i entries) ++ entry_line entry =
+    ap entry_lines next ∙ (flat_map-append entry_line (take i entries) (entry ∷ []) ∙ ap (λ l. entry_lines (take i entries) ++ l) (append-nil (entry_line entry))) in
+    subst (λ x. HoldsText start x t) (append_assoc before (entry_lines (take i entries)) (entry_line entry) ∙ ap (λ l. before ++ l) (sym lines)) h
 
 -- words that follow one another
 pub two_more : (ws : List (List ℕ)) (a b : List ℕ) (more : List (List ℕ)) → ((ws ++ a ∷ []) ++ b ∷ []) ++ more ≡ ws ++ a ∷ b ∷ more

@@ -1,12 +1,15 @@
 -- Which words are pairs of hexadecimal digits, and how many.
-use Rattle.std.proofs.Common.{◌≡◌, ◌%◌, ◌/◌, ℕ, true, List, length, refl, ap, arith, Some, None, Result, Ok, Err}
+use Rattle.std.proofs.Common.{◌≡◌, ◌==◌, ◌+◌, ◌*◌, ◌%◌, ◌/◌, ℕ, Bool, true, false, cond, List, [], ◌∷◌, length, slice_index, refl, sym, ◌∙◌, ap, ap₂, arith, Option, Some, None, Result, Ok, Err, eqb-true}
+use Rattle.std.proofs.lemmas.Bool.{eqb-false}
+use Rattle.std.specs.Result.{result_ok}
 use Rattle.std.specs.List.{list_all}
-use Rattle.std.specs.Option.{option_map}
+use Rattle.std.specs.Option.{option_map, option_and_then}
 use Rattle.std.proofs.lemmas.List.Sums.{AllPass-from_list_all, list_all-from_AllPass}
-use Rattle.hex.specs.Hex.{decode_of, is_hex_digit}
+use Rattle.hex.specs.Hex.{decode_of, decode_pairs, digit_or_error, hex_digit_value, is_hex_digit, ◌>>=◌}
 use Rattle.hex.specs.declared.error.FromHexError.{FromHexError}
+use Rattle.hex.specs.declared.error.FromHexError.TheVariants.{OddLength, InvalidStringLength}
 use Rattle.hex.proofs.HexLemmas.{decode_of-ok, decode_of-digits}
-use Rattle.schedule_text.specs.Values.{bytes_value}
+use Rattle.schedule_text.specs.Values.{byte_value, bytes_value}
 
 -- an even number of digits stands for half as many bytes
 pub bytes_of_digits : (word : List ℕ) → length word % 2 ≡ 0 → list_all is_hex_digit word ≡ true
@@ -27,3 +30,39 @@ no_bytes word (Err f) e other = rw e refl
 
 pub bytes_of_others : (word : List ℕ) → (length word % 2 ≡ 0 → list_all is_hex_digit word ≡ true → ⊥) → option_map length (bytes_value word) ≡ None
 bytes_of_others word other = ap (option_map length) (no_bytes word (decode_of word) refl other)
+
+-- two digits stand for a byte
+abbrev both_read : ℕ → ℕ → Option ℕ → Option ℕ → Result (List ℕ) FromHexError
+both_read high low x y = (digit_or_error high 0 x >>= (λ h. digit_or_error low 1 y >>= (λ l. Ok (h * 16 + l)))) >>= (λ byte. Ok (byte ∷ []))
+
+both_digits : (high low : ℕ) (x y : Option ℕ) → option_map (λ bytes. slice_index bytes 0) (result_ok (both_read high low x y)) ≡ option_and_then (λ h. option_map (λ l. h * 16 + l) y) x
+both_digits high low None y = refl
+both_digits high low (Some h) None = refl
+both_digits high low (Some h) (Some l) = refl
+
+byte_of_two : (high low : ℕ) (x y : Option ℕ) → hex_digit_value high ≡ x → hex_digit_value low ≡ y
+    → byte_value (high ∷ low ∷ []) ≡ option_and_then (λ h. option_map (λ l. h * 16 + l) y) x
+unfolding decode_pairs
+byte_of_two high low x y ex ey =
+    both_digits high low (hex_digit_value high) (hex_digit_value low) ∙ ap₂ (λ x y. option_and_then (λ h. option_map (λ l. h * 16 + l) y) x) ex ey
+
+pub no_high : (high low : ℕ) → hex_digit_value high ≡ None → None ≡ byte_value (high ∷ low ∷ [])
+no_high high low e = sym (byte_of_two high low None (hex_digit_value low) e refl)
+
+pub no_low : (high low h : ℕ) → hex_digit_value high ≡ Some h → hex_digit_value low ≡ None → None ≡ byte_value (high ∷ low ∷ [])
+no_low high low h e f = sym (byte_of_two high low (Some h) None e f)
+
+pub two_digits : (high low h l : ℕ) → hex_digit_value high ≡ Some h → hex_digit_value low ≡ Some l → Some (h * 16 + l) ≡ byte_value (high ∷ low ∷ [])
+two_digits high low h l e f = sym (byte_of_two high low (Some h) (Some l) e f)
+
+-- other words stand for no byte
+no_byte : (odd short : Bool) (r : Result (List ℕ) FromHexError) → (odd ≡ false → short ≡ true → ⊥)
+    → option_map (λ bytes. slice_index bytes 0) (result_ok (cond odd (Err OddLength) (cond short r (Err InvalidStringLength)))) ≡ None
+no_byte true short r h = refl
+no_byte false true r h = absurd (h refl refl)
+no_byte false false r h = refl
+
+pub byte_of_others : (word : List ℕ) → (length word ≡ 2 → ⊥) → byte_value word ≡ None
+byte_of_others word other =
+    no_byte (length word % 2 == 1) (length word / 2 == 1) (decode_pairs 0 word)
+    (λ even half. other (let e = eqb-false (length word % 2) 1 even in let h = eqb-true (length word / 2) 1 half in omega (arith, e, h)))

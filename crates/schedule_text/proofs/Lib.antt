@@ -1,4 +1,5 @@
 pub mod AgainLemmas
+mod AtOnceLemmas
 pub mod FaultsLemmas
 pub mod FormsLemmas
 pub mod GrowthLemmas

@@ -125,7 +125,7 @@ by_its_words : (header : Option Header) (ws : List (List ℕ)) (r : Read) → le
     → line_of header (spaced ws) ≡ Ok r
 by_its_words header ws r short each h = rw (le-ltb 9000 (length (spaced ws)) short, words-spaced ws each) h
 
-again : (hci : Bool) (hosts : List ℕ) (row : FormRow) (ws : List (List ℕ)) (r : Read) → Right hci hosts row ws → read_of row.name ws ≡ Some r
+pub again : (hci : Bool) (hosts : List ℕ) (row : FormRow) (ws : List (List ℕ)) (r : Read) → Right hci hosts row ws → read_of row.name ws ≡ Some r
     → unless_fault (words_fault hci hosts row ws) (read_of row.name ws) ≡ Ok r
 again hci hosts row ws r right reads = rw (right_words hci hosts row ws right, reads) refl
 

@@ -1,5 +1,6 @@
 -- The texts of lines and entries.
 use Rattle.std.specs.Prelude.{ℕ, ◌/◌, ◌%◌, if◌then◌else◌, List, [], ◌∷◌, ◌++◌, length, map, Option, Some, None, codes}
+use Rattle.std.specs.List.{flat_map}
 use Rattle.std.specs.Fmt.{decimal}
 use Rattle.hex.specs.Hex.{encode_upper}
 use Rattle.swp_base.specs.declared.link_terms.Cause.{Cause}
@@ -151,3 +152,7 @@ entry_text said = spaced (entry_words said)
 -- an entry as a line of the transcript, and tables as several
 abbrev pub entry_line : Entry → List ℕ
 entry_line said = entry_text said ++ (10 ∷ lines_behind said)
+
+-- entries, one after another
+abbrev pub entry_lines : List Entry → List ℕ
+entry_lines entries = flat_map entry_line entries

@@ -1,18 +1,26 @@
 -- Text that grows at the end of a vector until memory runs out.
-use Rattle.std.specs.Prelude.{◌≡◌, ◌<◌, ℕ, true, false, List, ◌++◌, length, take}
+use Rattle.std.specs.Prelude.{◌≡◌, ◌≤◌, ℕ, false, List, ◌++◌, length, take}
 use Rattle.schedule_text.specs.declared.text.Text.{Text}
 use Rattle.schedule_text.specs.Words.{spaced}
 
--- Behind what stood there at the start stands the text, but for its end, which waits. Where memory ran out, a shorter front of it
--- stands there.
-pub record HoldsText (start text : List ℕ) (t : Text) : Type 0 where
-  pub whole : t.short ≡ false → (front : List ℕ) × (t.bytes.items ≡ start ++ front) × (text ≡ front ++ t.waiting.items)
-  pub front : t.short ≡ true → (n : ℕ) × (n < length text) × (t.bytes.items ≡ start ++ take n text)
+-- what stands there before a text, and how many bytes of it stand there in any case
+pub record Start : Type 0 where
+  pub mark : ℕ
+  pub before : List ℕ
+
+-- before anything is appended
+abbrev pub start_of : List ℕ → Start
+start_of items = record { mark = length items; before = items }
+
+-- Behind what stood there before stands the text, whose end waits, unless memory ran out. What stood in front of the mark stands there
+-- in any case.
+pub record HoldsText (start : Start) (text : List ℕ) (t : Text) : Type 0 where
+  pub whole : t.short ≡ false → t.bytes.items ++ t.waiting.items ≡ start.before ++ text
+  pub mark_is : t.mark ≡ start.mark
+  pub marked : start.mark ≤ length t.bytes.items
+  pub within : start.mark ≤ length (start.before ++ text)
+  pub kept : take start.mark t.bytes.items ≡ take start.mark (start.before ++ text)
 
 -- the same of words with one space between them
-abbrev pub HoldsWords : List ℕ → List (List ℕ) → Text → Type 0
+abbrev pub HoldsWords : Start → List (List ℕ) → Text → Type 0
 HoldsWords start ws t = HoldsText start (spaced ws) t
-
--- behind what stood there stands a front of the text, and not all of it
-abbrev pub IsFront : List ℕ → List ℕ → List ℕ → Type 0
-IsFront start text items = (n : ℕ) × (n < length text) × (items ≡ start ++ take n text)

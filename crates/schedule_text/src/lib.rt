@@ -1,6 +1,7 @@
 //! The texts of a run: the lines of a schedule are read, and the entries of a transcript are written.
 #![tactic(auto)]
 
+mod at_once;
 mod fault;
 mod forms;
 mod laws;
@@ -14,4 +15,4 @@ mod write;
 pub use fault::LineFault;
 pub use laws::texts_are_read_again;
 pub use read::{Read, read_line};
-pub use write::write_entry;
+pub use write::{write_entry, write_opening, write_step};

@@ -9,6 +9,7 @@ ghost use Rattle.schedule_text.specs.Forms.{row_for};
 ghost use Rattle.schedule_text.specs.Answers.{IsSaidOrNoMemory, IsReadOrNoMemory, CanBeRead, IsInGrammar, IsSkipped, IsOutOfOrder};
 
 use crate::LineFault;
+use crate::at_once::read_at_once;
 use crate::forms::{Name, Place, form_of};
 use crate::rules::fault_in;
 use crate::values::{byte_of, end_of, number_of};
@@ -76,6 +77,11 @@ fn read_words(
     requires { length rest.now ≤ 9000 }
     ensures { IsReadOrNoMemory result (by_row (option_copied header.entry) (row_for first.now) (words rest.now)) }
 {
+    if let Some(below) = header {
+        if let Some(read) = read_at_once(alloc, below, first, rest) {
+            return Ok(read);
+        }
+    }
     let Some(form) = form_of(first) else {
         return Err(if header.is_some() {
             LineFault::Word

@@ -1,9 +1,9 @@
 //! Text that grows at the end of a vector until memory runs out.
-ghost use Rattle.std.specs.Prelude.{◌≡◌, true, false, List, ℕ, [], ◌∷◌, ◌++◌, map, if◌then◌else◌};
+ghost use Rattle.std.specs.Prelude.{◌≡◌, ◌<◌, true, false, List, ℕ, [], ◌∷◌, ◌++◌, map, take, length, if◌then◌else◌};
 ghost use Rattle.std.specs.Fmt.{decimal};
 ghost use Rattle.hex.specs.Hex.{encode_upper};
 ghost use Rattle.schedule_text.specs.Entries.{end_text, byte_text, two_bytes_text, number_words};
-ghost use Rattle.schedule_text.specs.Growth.{HoldsText, HoldsWords, IsFront};
+ghost use Rattle.schedule_text.specs.Growth.{Start, HoldsText, HoldsWords};
 ghost use Rattle.schedule_text.specs.Parts.{part_words, parts_words};
 
 use arrayvec::ArrayVec;
@@ -39,12 +39,14 @@ pub(crate) enum Part<'a> {
     EachThree(&'a [[u8; 3]]),
 }
 
-/// Text that grows at the end of a vector. What comes last waits, so that a line is appended at once. Once memory has run out
-/// nothing is appended.
+/// Text that grows at the end of a vector. What comes last waits, so that it is appended at once. Once memory has run out nothing
+/// is appended, and in the end the vector has what it had at first.
 #[derive(Drop)]
 pub(crate) struct Text {
     pub bytes: Vec<u8>,
-    pub waiting: ArrayVec<u8, 64>,
+    /// How many bytes stood there at first.
+    pub mark: usize,
+    pub waiting: ArrayVec<u8, 128>,
     pub short: bool,
 }
 
@@ -52,7 +54,7 @@ impl Text {
     /// Appends bytes.
     #[inline(always)]
     pub(crate) fn push(&mut self, bytes: &[u8])
-        ensures { (start text : List ℕ) → HoldsText start text self.old
+        ensures { (start : Start) (text : List ℕ) → HoldsText start text self.old
             → HoldsText start (text ++ bytes.now) self.new }
     {
         if self.waiting.try_extend_from_slice(bytes).is_err() {
@@ -60,23 +62,11 @@ impl Text {
         }
     }
 
-    /// Appends lines, or nothing.
-    #[inline(always)]
-    pub(crate) fn lines(&mut self, bytes: &[u8])
-        ensures { (start text : List ℕ) → HoldsText start text self.old
-            → HoldsText start (text ++ bytes.now) self.new }
-    {
-        if bytes.is_empty() {
-            return;
-        }
-        self.push_behind(bytes);
-    }
-
     /// Appends bytes for which there is no room beside those that wait.
     #[cold]
     #[inline(never)]
-    fn push_behind(&mut self, bytes: &[u8])
-        ensures { (start text : List ℕ) → HoldsText start text self.old
+    pub(crate) fn push_behind(&mut self, bytes: &[u8])
+        ensures { (start : Start) (text : List ℕ) → HoldsText start text self.old
             → HoldsText start (text ++ bytes.now) self.new }
     {
         self.flush();
@@ -91,7 +81,7 @@ impl Text {
 
     /// Appends what waits to the vector.
     fn flush(&mut self)
-        ensures same { (start text : List ℕ) → HoldsText start text self.old → HoldsText start text self.new }
+        ensures same { (start : Start) (text : List ℕ) → HoldsText start text self.old → HoldsText start text self.new }
         ensures none { self.new.short ≡ false → self.new.waiting.items ≡ [] }
     {
         if self.short {
@@ -103,24 +93,33 @@ impl Text {
         }
     }
 
-    /// Appends what waits to the vector, behind which nothing more comes.
+    /// Appends nothing more, since there is no memory for what comes next.
+    #[cold]
+    pub(crate) fn give_up(&mut self)
+        ensures { (start : Start) (text more : List ℕ) → HoldsText start text self.old → HoldsText start (text ++ more) self.new }
+    {
+        self.short = true;
+    }
+
+    /// Appends what waits to the vector, behind which nothing more comes. Where memory has run out, the vector has what it had at
+    /// first.
     #[inline(always)]
     pub(crate) fn finish(&mut self)
-        ensures all { self.new.short ≡ false → (start text : List ℕ) → HoldsText start text self.old → self.new.bytes.items ≡ start ++ text }
-        ensures front { self.new.short ≡ true → (start text : List ℕ) → HoldsText start text self.old → IsFront start text self.new.bytes.items }
+        ensures all { self.new.short ≡ false → (start : Start) (text : List ℕ) → HoldsText start text self.old → self.new.bytes.items ≡ start.before ++ text }
+        ensures none { self.new.short ≡ true → (start : Start) (text : List ℕ) → HoldsText start text self.old → self.new.bytes.items ≡ take start.mark (start.before ++ text) }
     {
-        if self.short {
-            return;
+        if !self.short {
+            match self.bytes.extend_from_slice(self.waiting.as_slice()) {
+                Ok(()) => return,
+                Err(_) => self.short = true,
+            }
         }
-        match self.bytes.extend_from_slice(self.waiting.as_slice()) {
-            Ok(()) => {}
-            Err(_) => self.short = true,
-        }
+        self.bytes.truncate(self.mark);
     }
 
     /// Appends a word and behind it parts, as the first ones of a line.
     pub(crate) fn entry(&mut self, word: &[u8], parts: &[Part<'_>])
-        ensures { (start : List ℕ) → HoldsText start [] self.old
+        ensures { (start : Start) → HoldsText start [] self.old
             → HoldsWords start (word.now ∷ parts_words parts.now) self.new }
     {
         self.push(word);
@@ -129,7 +128,7 @@ impl Text {
 
     /// Appends parts, a space before each word.
     pub(crate) fn parts(&mut self, parts: &[Part<'_>])
-        ensures { (start first : List ℕ) (more : List (List ℕ)) → HoldsWords start (first ∷ more) self.old
+        ensures { (start : Start) (first : List ℕ) (more : List (List ℕ)) → HoldsWords start (first ∷ more) self.old
             → HoldsWords start (first ∷ (more ++ parts_words parts.now)) self.new }
     {
         for part in parts {
@@ -138,7 +137,7 @@ impl Text {
     }
 
     fn part(&mut self, part: &Part<'_>)
-        ensures { (start first : List ℕ) (more : List (List ℕ)) → HoldsWords start (first ∷ more) self.old
+        ensures { (start : Start) (first : List ℕ) (more : List (List ℕ)) → HoldsWords start (first ∷ more) self.old
             → HoldsWords start (first ∷ (more ++ part_words part.now)) self.new }
     {
         match part {
@@ -157,7 +156,7 @@ impl Text {
     }
 
     fn two_bytes(&mut self, number: u16)
-        ensures { (start first : List ℕ) (more : List (List ℕ)) → HoldsWords start (first ∷ more) self.old
+        ensures { (start : Start) (first : List ℕ) (more : List (List ℕ)) → HoldsWords start (first ∷ more) self.old
             → HoldsWords start (first ∷ (more ++ two_bytes_text number ∷ [])) self.new }
     {
         let [high, low] = number.to_be_bytes();
@@ -165,7 +164,7 @@ impl Text {
     }
 
     pub(crate) fn maybe(&mut self, number: Option<u8>)
-        ensures { (start first : List ℕ) (more : List (List ℕ)) → HoldsWords start (first ∷ more) self.old
+        ensures { (start : Start) (first : List ℕ) (more : List (List ℕ)) → HoldsWords start (first ∷ more) self.old
             → HoldsWords start (first ∷ (more ++ number_words number)) self.new }
     {
         if let Some(number) = number {
@@ -174,7 +173,7 @@ impl Text {
     }
 
     fn numbers(&mut self, numbers: &[u16])
-        ensures { (start first : List ℕ) (more : List (List ℕ)) → HoldsWords start (first ∷ more) self.old
+        ensures { (start : Start) (first : List ℕ) (more : List (List ℕ)) → HoldsWords start (first ∷ more) self.old
             → HoldsWords start (first ∷ (more ++ map decimal numbers.now)) self.new }
     {
         for number in numbers {
@@ -183,7 +182,7 @@ impl Text {
     }
 
     fn each_byte(&mut self, bytes: &[u8])
-        ensures { (start first : List ℕ) (more : List (List ℕ)) → HoldsWords start (first ∷ more) self.old
+        ensures { (start : Start) (first : List ℕ) (more : List (List ℕ)) → HoldsWords start (first ∷ more) self.old
             → HoldsWords start (first ∷ (more ++ map byte_text bytes.now)) self.new }
     {
         for byte in bytes {
@@ -192,7 +191,7 @@ impl Text {
     }
 
     fn each_three(&mut self, threes: &[[u8; 3]])
-        ensures { (start first : List ℕ) (more : List (List ℕ)) → HoldsWords start (first ∷ more) self.old
+        ensures { (start : Start) (first : List ℕ) (more : List (List ℕ)) → HoldsWords start (first ∷ more) self.old
             → HoldsWords start (first ∷ (more ++ map encode_upper threes.now)) self.new }
     {
         for three in threes {
@@ -203,7 +202,7 @@ impl Text {
     /// Appends a space and a word.
     #[inline]
     pub(crate) fn word(&mut self, word: &[u8])
-        ensures { (start first : List ℕ) (more : List (List ℕ)) → HoldsWords start (first ∷ more) self.old
+        ensures { (start : Start) (first : List ℕ) (more : List (List ℕ)) → HoldsWords start (first ∷ more) self.old
             → HoldsWords start (first ∷ (more ++ word.now ∷ [])) self.new }
     {
         self.push(b" ");
@@ -213,7 +212,7 @@ impl Text {
     /// Appends a space and an end, as `02c` or `02h`.
     #[inline]
     pub(crate) fn end(&mut self, at: End)
-        ensures { (start first : List ℕ) (more : List (List ℕ)) → HoldsWords start (first ∷ more) self.old
+        ensures { (start : Start) (first : List ℕ) (more : List (List ℕ)) → HoldsWords start (first ∷ more) self.old
             → HoldsWords start (first ∷ (more ++ end_text at ∷ [])) self.new }
     {
         let [high, low, letter] = end_letters(at);
@@ -223,7 +222,7 @@ impl Text {
     /// Appends a space and a byte as two hexadecimal digits.
     #[inline]
     pub(crate) fn byte(&mut self, byte: u8)
-        ensures { (start first : List ℕ) (more : List (List ℕ)) → HoldsWords start (first ∷ more) self.old
+        ensures { (start : Start) (first : List ℕ) (more : List (List ℕ)) → HoldsWords start (first ∷ more) self.old
             → HoldsWords start (first ∷ (more ++ byte_text byte ∷ [])) self.new }
     {
         let [high, low] = hex_digits(byte);
@@ -232,7 +231,7 @@ impl Text {
 
     /// Appends a space and bytes as pairs of hexadecimal digits.
     pub(crate) fn hex(&mut self, bytes: &[u8])
-        ensures { (start first : List ℕ) (more : List (List ℕ)) → HoldsWords start (first ∷ more) self.old
+        ensures { (start : Start) (first : List ℕ) (more : List (List ℕ)) → HoldsWords start (first ∷ more) self.old
             → HoldsWords start (first ∷ (more ++ encode_upper bytes.now ∷ [])) self.new }
     {
         match bytes.split_first() {
@@ -246,7 +245,7 @@ impl Text {
 
     /// Appends bytes as pairs of hexadecimal digits, two bytes at once.
     fn pairs(&mut self, bytes: &[u8])
-        ensures { (start text : List ℕ) → HoldsText start text self.old
+        ensures { (start : Start) (text : List ℕ) → HoldsText start text self.old
             → HoldsText start (text ++ encode_upper bytes.now) self.new }
     {
         let mut left = bytes;
@@ -264,7 +263,7 @@ impl Text {
     /// Appends a space and a decimal number.
     #[inline]
     pub(crate) fn number(&mut self, number: u64)
-        ensures { (start first : List ℕ) (more : List (List ℕ)) → HoldsWords start (first ∷ more) self.old
+        ensures { (start : Start) (first : List ℕ) (more : List (List ℕ)) → HoldsWords start (first ∷ more) self.old
             → HoldsWords start (first ∷ (more ++ decimal number ∷ [])) self.new }
     {
         if number < 10 {
@@ -278,14 +277,14 @@ impl Text {
     /// Appends a space and a decimal number.
     #[inline]
     pub(crate) fn short_number(&mut self, number: u32)
-        ensures { (start first : List ℕ) (more : List (List ℕ)) → HoldsWords start (first ∷ more) self.old
+        ensures { (start : Start) (first : List ℕ) (more : List (List ℕ)) → HoldsWords start (first ∷ more) self.old
             → HoldsWords start (first ∷ (more ++ decimal number ∷ [])) self.new }
     {
         self.number(u64::from(number));
     }
 
     fn digits(&mut self, number: u64)
-        ensures { (start text : List ℕ) → HoldsText start text self.old
+        ensures { (start : Start) (text : List ℕ) → HoldsText start text self.old
             → HoldsText start (text ++ decimal number) self.new }
     {
         if number < 10 {

@@ -1,30 +1,57 @@
 //! What one word of a line stands for.
-ghost use Rattle.std.specs.Prelude.{◌≡◌, nat_le};
+ghost use Rattle.std.specs.Prelude.{◌≡◌, ◌<◌, [], ◌∷◌, nat_le, IfSome};
+ghost use Rattle.hex.specs.Hex.{hex_digit_value};
 ghost use Rattle.schedule_text.specs.Values.{byte_value, end_value, number_in, digits_number, option_if, side_value};
 
 use trace_model::End;
 
 /// The byte of two hexadecimal digits, of either case.
+#[inline]
 pub(crate) fn byte_of(word: &[u8]) -> Option<u8>
     ensures { result ≡ byte_value word.now }
 {
-    let mut byte = [0];
-    match hex::decode_to_slice(word, &mut byte) {
-        Ok(()) => Some(byte[0]),
-        Err(_) => None,
+    match word {
+        [high, low] => pair_of(*high, *low),
+        _ => None,
+    }
+}
+
+#[inline(always)]
+fn pair_of(high: u8, low: u8) -> Option<u8>
+    ensures { result ≡ byte_value (high ∷ low ∷ []) }
+{
+    let first = digit_of(high)?;
+    let second = digit_of(low)?;
+    Some(first * 16 + second)
+}
+
+/// The value of a hexadecimal digit, of either case.
+#[inline(always)]
+fn digit_of(digit: u8) -> Option<u8>
+    ensures value { result ≡ hex_digit_value digit }
+    ensures small { IfSome result (λ n. n < 16) }
+{
+    match digit {
+        b'0'..=b'9' => Some(digit - b'0'),
+        b'A'..=b'F' => Some(digit - (b'A' - 10)),
+        b'a'..=b'f' => Some(digit - (b'a' - 10)),
+        _ => None,
     }
 }
 
 /// The end that a word names, as `02c` or `02h`.
+#[inline]
 pub(crate) fn end_of(word: &[u8]) -> Option<End>
     ensures { result ≡ end_value word.now }
 {
-    let &[_, _, letter] = word else {
-        return None;
-    };
-    let link = byte_of(&word[..2])?;
-    let at_host = side_of(letter)?;
-    Some(End { link, at_host })
+    match word {
+        [high, low, letter] => {
+            let link = pair_of(*high, *low)?;
+            let at_host = side_of(*letter)?;
+            Some(End { link, at_host })
+        }
+        _ => None,
+    }
 }
 
 fn side_of(letter: u8) -> Option<bool>

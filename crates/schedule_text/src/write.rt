@@ -1,11 +1,11 @@
 //! An entry of a transcript is written.
-ghost use Rattle.std.specs.Prelude.{◌≡◌, List, ℕ, [], ◌∷◌, ◌++◌, OnOk, OnErr, IfOk, codes, if◌then◌else◌};
+ghost use Rattle.std.specs.Prelude.{◌≡◌, List, ℕ, [], ◌∷◌, ◌++◌, OnOk, OnErr, IfOk, codes, take, false, if◌then◌else◌};
 ghost use Rattle.std.specs.Fmt.{decimal};
 ghost use Rattle.hex.specs.Hex.{encode_upper};
 ghost use Rattle.tables_text.specs.Tables.{hex_or_dash};
 ghost use Rattle.schedule_text.specs.Parts.{part_words};
-ghost use Rattle.schedule_text.specs.Entries.{end_text, byte_text, number_words, header_words, line_words, down_word, lost_word, cause_words, command_words, count_words, entry_words, lines_behind, entry_line};
-ghost use Rattle.schedule_text.specs.Growth.{HoldsText, HoldsWords, IsFront};
+ghost use Rattle.schedule_text.specs.Entries.{end_text, byte_text, number_words, header_words, line_words, down_word, lost_word, cause_words, command_words, count_words, entry_words, lines_behind, entry_line, entry_lines};
+ghost use Rattle.schedule_text.specs.Growth.{Start, start_of, HoldsText, HoldsWords};
 
 use crate::text::Part::{
     self, Byte, Bytes, Count, EachByte, EachThree, End, Maybe, Number, Numbers, TwoBytes, Word,
@@ -19,24 +19,121 @@ use swp_base::{Cause, NoMemory};
 use trace_model::{End as At, Entry, Header, Line, LostCause, NoCause};
 
 /// Appends an entry as a line of the transcript, LF included, and tables as several lines (this project's own text). Where
-/// there is no memory for all of it, `out` has its old bytes and then a shorter front of it, which may be empty.
+/// there is no memory for all of it, `out` stays as it was.
 pub fn write_entry(alloc: Global, entry: &Entry, out: &mut Vec<u8>) -> Result<(), NoMemory>
     ensures ok { OnOk result (out.new.items ≡ out.old.items ++ entry_line entry.now) }
-    ensures err { OnErr result (IsFront out.old.items (entry_line entry.now) out.new.items) }
+    ensures err { OnErr result (out.new.items ≡ out.old.items) }
 {
-    let behind = lines_behind(alloc, entry)?;
-    let mut text = Text {
+    let mut text = text_behind(alloc, out);
+    write_whole(alloc, &mut text, entry);
+    hand_back(alloc, &mut text, out)
+}
+
+/// Appends a line of the schedule as it is repeated, and the entries below it. Where there is no memory for all of them, `out` stays
+/// as it was.
+pub fn write_step(
+    alloc: Global,
+    line: &Line,
+    entries: &[Entry],
+    out: &mut Vec<u8>,
+) -> Result<(), NoMemory>
+    ensures ok { OnOk result (out.new.items ≡ out.old.items ++ (entry_line (Entry.Echo line.now) ++ entry_lines entries.now)) }
+    ensures err { OnErr result (out.new.items ≡ out.old.items) }
+{
+    let mut text = text_behind(alloc, out);
+    write_echo(&mut text, line);
+    write_each(alloc, &mut text, entries);
+    hand_back(alloc, &mut text, out)
+}
+
+/// Appends the header of a schedule as it is repeated, and the entries below it. Where there is no memory for all of them, `out`
+/// stays as it was.
+pub fn write_opening(
+    alloc: Global,
+    header: &Header,
+    entries: &[Entry],
+    out: &mut Vec<u8>,
+) -> Result<(), NoMemory>
+    ensures ok { OnOk result (out.new.items ≡ out.old.items ++ (entry_line (Entry.Head header.now) ++ entry_lines entries.now)) }
+    ensures err { OnErr result (out.new.items ≡ out.old.items) }
+{
+    let mut text = text_behind(alloc, out);
+    write_head(&mut text, header);
+    write_each(alloc, &mut text, entries);
+    hand_back(alloc, &mut text, out)
+}
+
+/// Text that grows behind what a vector has, which is taken.
+#[inline(always)]
+fn text_behind(alloc: Global, out: &mut Vec<u8>) -> Text
+    ensures { HoldsText (start_of out.old.items) [] result }
+{
+    Text {
+        mark: out.len(),
         bytes: mem::replace(out, Vec::new(alloc)),
         waiting: ArrayVec::new(),
         short: false,
-    };
-    write_words(&mut text, entry);
-    text.push(b"\n");
-    text.lines(behind.as_slice());
+    }
+}
+
+/// Gives the vector back, with the text behind what it had, or as it was.
+#[inline(always)]
+fn hand_back(alloc: Global, text: &mut Text, out: &mut Vec<u8>) -> Result<(), NoMemory>
+    ensures ok { OnOk result ((start : Start) (all : List ℕ) → HoldsText start all text.old → out.new.items ≡ start.before ++ all) }
+    ensures err { OnErr result ((start : Start) (all : List ℕ) → HoldsText start all text.old → out.new.items ≡ take start.mark (start.before ++ all)) }
+{
     text.finish();
-    let Text { bytes, short, .. } = text;
-    *out = bytes;
+    *out = mem::replace(&mut text.bytes, Vec::new(alloc));
+    let short = text.short;
     if short { Err(NoMemory) } else { Ok(()) }
+}
+
+fn write_each(alloc: Global, text: &mut Text, entries: &[Entry])
+    ensures { (start : Start) (before : List ℕ) → HoldsText start before text.old
+        → HoldsText start (before ++ entry_lines entries.now) text.new }
+{
+    for entry in entries {
+        write_whole(alloc, text, entry);
+    }
+}
+
+/// Appends an entry with all its lines.
+#[inline(always)]
+fn write_whole(alloc: Global, text: &mut Text, entry: &Entry)
+    ensures { (start : Start) (before : List ℕ) → HoldsText start before text.old
+        → HoldsText start (before ++ entry_line entry.now) text.new }
+{
+    if has_rows(entry) {
+        write_with_rows(alloc, text, entry);
+        return;
+    }
+    write_words(text, entry);
+    end_line(text);
+}
+
+fn has_rows(entry: &Entry) -> bool
+    ensures { result ≡ false → lines_behind entry.now ≡ [] }
+{
+    match entry {
+        Entry::Tables { .. } => true,
+        _ => false,
+    }
+}
+
+#[cold]
+#[inline(never)]
+fn write_with_rows(alloc: Global, text: &mut Text, entry: &Entry)
+    ensures { (start : Start) (before : List ℕ) → HoldsText start before text.old
+        → HoldsText start (before ++ entry_line entry.now) text.new }
+{
+    match lines_behind(alloc, entry) {
+        Ok(lines) => {
+            write_words(text, entry);
+            end_line(text);
+            text.push_behind(lines.as_slice());
+        }
+        Err(_) => text.give_up(),
+    }
 }
 
 fn lines_behind(alloc: Global, entry: &Entry) -> Result<Vec<u8>, AllocError>
@@ -49,8 +146,31 @@ fn lines_behind(alloc: Global, entry: &Entry) -> Result<Vec<u8>, AllocError>
     Ok(lines)
 }
 
+#[inline(always)]
+fn end_line(text: &mut Text)
+    ensures { (start : Start) (line : List ℕ) → HoldsText start line text.old → HoldsText start (line ++ 10 ∷ []) text.new }
+{
+    text.push(b"\n");
+}
+
+fn write_head(text: &mut Text, header: &Header)
+    ensures { (start : Start) → HoldsText start [] text.old → HoldsText start (entry_line (Entry.Head header.now)) text.new }
+{
+    text.entry(b">", &[]);
+    write_header(text, header);
+    end_line(text);
+}
+
+fn write_echo(text: &mut Text, line: &Line)
+    ensures { (start : Start) → HoldsText start [] text.old → HoldsText start (entry_line (Entry.Echo line.now)) text.new }
+{
+    text.push(b">");
+    write_line(text, line);
+    end_line(text);
+}
+
 fn write_words(text: &mut Text, entry: &Entry)
-    ensures { (start : List ℕ) → HoldsText start [] text.old
+    ensures { (start : Start) → HoldsText start [] text.old
         → HoldsWords start (entry_words entry.now) text.new }
 {
     match entry {
@@ -114,7 +234,7 @@ fn write_words(text: &mut Text, entry: &Entry)
 
 #[inline(never)]
 fn write_at(text: &mut Text, word: &[u8], at: At)
-    ensures { (start : List ℕ) → HoldsText start [] text.old
+    ensures { (start : Start) → HoldsText start [] text.old
         → HoldsWords start (word.now ∷ end_text at ∷ []) text.new }
 {
     text.entry(word, &[End(at)]);
@@ -122,7 +242,7 @@ fn write_at(text: &mut Text, word: &[u8], at: At)
 
 #[inline(never)]
 fn write_at_word(text: &mut Text, word: &[u8], at: At, other: &[u8])
-    ensures { (start : List ℕ) → HoldsText start [] text.old
+    ensures { (start : Start) → HoldsText start [] text.old
         → HoldsWords start (word.now ∷ end_text at ∷ other.now ∷ []) text.new }
 {
     text.entry(word, &[End(at), Word(other)]);
@@ -130,7 +250,7 @@ fn write_at_word(text: &mut Text, word: &[u8], at: At, other: &[u8])
 
 #[inline(never)]
 fn write_at_byte(text: &mut Text, word: &[u8], at: At, byte: u8)
-    ensures { (start : List ℕ) → HoldsText start [] text.old
+    ensures { (start : Start) → HoldsText start [] text.old
         → HoldsWords start (word.now ∷ end_text at ∷ byte_text byte ∷ []) text.new }
 {
     text.entry(word, &[End(at), Byte(byte)]);
@@ -138,7 +258,7 @@ fn write_at_byte(text: &mut Text, word: &[u8], at: At, byte: u8)
 
 #[inline(never)]
 fn write_at_number(text: &mut Text, word: &[u8], at: At, number: u32)
-    ensures { (start : List ℕ) → HoldsText start [] text.old
+    ensures { (start : Start) → HoldsText start [] text.old
         → HoldsWords start (word.now ∷ end_text at ∷ decimal number ∷ []) text.new }
 {
     text.entry(word, &[End(at), Number(number)]);
@@ -146,7 +266,7 @@ fn write_at_number(text: &mut Text, word: &[u8], at: At, number: u32)
 
 #[inline(always)]
 fn write_at_numbers(text: &mut Text, word: &[u8], at: At, first: u32, second: u32)
-    ensures { (start : List ℕ) → HoldsText start [] text.old
+    ensures { (start : Start) → HoldsText start [] text.old
         → HoldsWords start (word.now ∷ end_text at ∷ decimal first ∷ decimal second ∷ []) text.new }
 {
     text.push(word);
@@ -157,7 +277,7 @@ fn write_at_numbers(text: &mut Text, word: &[u8], at: At, first: u32, second: u3
 
 #[inline(always)]
 fn write_frame(text: &mut Text, word: &[u8], at: At, bytes: &[u8])
-    ensures { (start : List ℕ) → HoldsText start [] text.old
+    ensures { (start : Start) → HoldsText start [] text.old
         → HoldsWords start (word.now ∷ end_text at ∷ encode_upper bytes.now ∷ []) text.new }
 {
     text.push(word);
@@ -167,7 +287,7 @@ fn write_frame(text: &mut Text, word: &[u8], at: At, bytes: &[u8])
 
 #[inline(always)]
 fn write_message(text: &mut Text, word: &[u8], at: At, session: u32, pid: u8, message: &[u8])
-    ensures { (start : List ℕ) → HoldsText start [] text.old
+    ensures { (start : Start) → HoldsText start [] text.old
         → HoldsWords start (word.now ∷ end_text at ∷ decimal session ∷ byte_text pid ∷ encode_upper message.now ∷ []) text.new }
 {
     text.push(word);
@@ -179,7 +299,7 @@ fn write_message(text: &mut Text, word: &[u8], at: At, session: u32, pid: u8, me
 
 #[inline(never)]
 fn write_node(text: &mut Text, word: &[u8], node: u8)
-    ensures { (start : List ℕ) → HoldsText start [] text.old
+    ensures { (start : Start) → HoldsText start [] text.old
         → HoldsWords start (word.now ∷ byte_text node ∷ []) text.new }
 {
     text.entry(word, &[Byte(node)]);
@@ -187,7 +307,7 @@ fn write_node(text: &mut Text, word: &[u8], node: u8)
 
 #[inline(never)]
 fn write_node_number(text: &mut Text, word: &[u8], node: u8, number: u32)
-    ensures { (start : List ℕ) → HoldsText start [] text.old
+    ensures { (start : Start) → HoldsText start [] text.old
         → HoldsWords start (word.now ∷ byte_text node ∷ decimal number ∷ []) text.new }
 {
     text.entry(word, &[Byte(node), Number(number)]);
@@ -195,7 +315,7 @@ fn write_node_number(text: &mut Text, word: &[u8], node: u8, number: u32)
 
 #[inline(never)]
 fn write_loss(text: &mut Text, at: At, bytes: &[u8], cause: LostCause)
-    ensures { (start : List ℕ) → HoldsText start [] text.old
+    ensures { (start : Start) → HoldsText start [] text.old
         → HoldsWords start (codes "lost" ∷ end_text at ∷ encode_upper bytes.now ∷ lost_word cause ∷ []) text.new }
 {
     text.entry(
@@ -206,7 +326,7 @@ fn write_loss(text: &mut Text, at: At, bytes: &[u8], cause: LostCause)
 
 #[inline(never)]
 fn write_turn(text: &mut Text, at: At, pid: u8, message: &[u8])
-    ensures { (start : List ℕ) → HoldsText start [] text.old
+    ensures { (start : Start) → HoldsText start [] text.old
         → HoldsWords start (codes "turn" ∷ end_text at ∷ byte_text pid ∷ encode_upper message.now ∷ []) text.new }
 {
     text.entry(b"turn", &[End(at), Byte(pid), Bytes(message)]);
@@ -214,7 +334,7 @@ fn write_turn(text: &mut Text, at: At, pid: u8, message: &[u8])
 
 #[inline(never)]
 fn write_ask(text: &mut Text, host: u8, message: &[u8])
-    ensures { (start : List ℕ) → HoldsText start [] text.old
+    ensures { (start : Start) → HoldsText start [] text.old
         → HoldsWords start (codes "ask" ∷ byte_text host ∷ encode_upper message.now ∷ []) text.new }
 {
     text.entry(b"ask", &[Byte(host), Bytes(message)]);
@@ -222,7 +342,7 @@ fn write_ask(text: &mut Text, host: u8, message: &[u8])
 
 #[inline(never)]
 fn write_init_made(text: &mut Text, at: At, count: u32)
-    ensures { (start : List ℕ) → HoldsText start [] text.old
+    ensures { (start : Start) → HoldsText start [] text.old
         → HoldsWords start (codes "init" ∷ end_text at ∷ codes "made" ∷ decimal count ∷ []) text.new }
 {
     text.entry(b"init", &[End(at), Word(b"made"), Number(count)]);
@@ -230,7 +350,7 @@ fn write_init_made(text: &mut Text, at: At, count: u32)
 
 #[inline(never)]
 fn write_init_failed(text: &mut Text, at: At, code: u8)
-    ensures { (start : List ℕ) → HoldsText start [] text.old
+    ensures { (start : Start) → HoldsText start [] text.old
         → HoldsWords start (codes "init" ∷ end_text at ∷ codes "failed" ∷ byte_text code ∷ []) text.new }
 {
     text.entry(b"init", &[End(at), Word(b"failed"), Byte(code)]);
@@ -238,7 +358,7 @@ fn write_init_failed(text: &mut Text, at: At, code: u8)
 
 #[inline(never)]
 fn write_counts(text: &mut Text, node: u8, tables: &Tables)
-    ensures { (start : List ℕ) → HoldsText start [] text.old
+    ensures { (start : Start) → HoldsText start [] text.old
         → HoldsWords start (count_words node tables.now) text.new }
 {
     text.entry(
@@ -282,7 +402,7 @@ fn cause_of_loss(cause: LostCause) -> &'static [u8]
 
 #[inline(never)]
 fn write_header(text: &mut Text, header: &Header)
-    ensures { (start first : List ℕ) (more : List (List ℕ)) → HoldsWords start (first ∷ more) text.old
+    ensures { (start : Start) (first : List ℕ) (more : List (List ℕ)) → HoldsWords start (first ∷ more) text.old
         → HoldsWords start (first ∷ (more ++ header_words header.now)) text.new }
 {
     text.parts(&[
@@ -301,7 +421,7 @@ fn world_of(hci: bool) -> &'static [u8]
 
 #[inline(never)]
 fn write_line(text: &mut Text, line: &Line)
-    ensures { (start first : List ℕ) (more : List (List ℕ)) → HoldsWords start (first ∷ more) text.old
+    ensures { (start : Start) (first : List ℕ) (more : List (List ℕ)) → HoldsWords start (first ∷ more) text.old
         → HoldsWords start (first ∷ (more ++ line_words line.now)) text.new }
 {
     match line {
@@ -347,7 +467,7 @@ fn write_line(text: &mut Text, line: &Line)
 
 #[inline(always)]
 fn write_send(text: &mut Text, at: At, pid: u8, message: &[u8])
-    ensures { (start first : List ℕ) (more : List (List ℕ)) → HoldsWords start (first ∷ more) text.old
+    ensures { (start : Start) (first : List ℕ) (more : List (List ℕ)) → HoldsWords start (first ∷ more) text.old
         → HoldsWords start (first ∷ (more ++ codes "send" ∷ end_text at ∷ byte_text pid ∷ encode_upper message.now ∷ [])) text.new }
 {
     text.word(b"send");
@@ -358,7 +478,7 @@ fn write_send(text: &mut Text, at: At, pid: u8, message: &[u8])
 
 #[inline(always)]
 fn write_deliver(text: &mut Text, at: At, count: Option<u8>)
-    ensures { (start first : List ℕ) (more : List (List ℕ)) → HoldsWords start (first ∷ more) text.old
+    ensures { (start : Start) (first : List ℕ) (more : List (List ℕ)) → HoldsWords start (first ∷ more) text.old
         → HoldsWords start (first ∷ (more ++ codes "deliver" ∷ end_text at ∷ number_words count)) text.new }
 {
     text.word(b"deliver");
@@ -368,7 +488,7 @@ fn write_deliver(text: &mut Text, at: At, count: Option<u8>)
 
 #[inline(never)]
 fn write_cause(text: &mut Text, cause: NoCause)
-    ensures { (start first : List ℕ) (more : List (List ℕ)) → HoldsWords start (first ∷ more) text.old
+    ensures { (start : Start) (first : List ℕ) (more : List (List ℕ)) → HoldsWords start (first ∷ more) text.old
         → HoldsWords start (first ∷ (more ++ cause_words cause)) text.new }
 {
     match cause {
@@ -390,7 +510,7 @@ fn write_cause(text: &mut Text, cause: NoCause)
 
 #[inline(never)]
 fn write_command(text: &mut Text, command: &Command)
-    ensures { (start first : List ℕ) (more : List (List ℕ)) → HoldsWords start (first ∷ more) text.old
+    ensures { (start : Start) (first : List ℕ) (more : List (List ℕ)) → HoldsWords start (first ∷ more) text.old
         → HoldsWords start (first ∷ (more ++ command_words command.now)) text.new }
 {
     match command {

@@ -16,7 +16,7 @@ use Rattle.schedule_text.specs.declared.fault.LineFault.{LineFault}
 use Rattle.schedule_text.specs.declared.read.Read.{Read}
 use Rattle.schedule_text.specs.declared.read.Read.TheVariants as read
 use Rattle.schedule_text.specs.Answers.{IsInGrammar}
-use Rattle.schedule_text.specs.Entries.{entry_line}
+use Rattle.schedule_text.specs.Entries.{entry_line, entry_lines}
 use Rattle.schedule_text.specs.Lines.{line_of}
 use Rattle.schedule_text.proofs.LinesLemmas.{line_fits}
 use Rattle.history.specs.Histories.{Step, History}
@@ -29,7 +29,7 @@ use Rattle.told_laws.proofs.Coming.{told_in}
 use Rattle.swp_tool.specs.declared.status.Status.{Status}
 use Rattle.swp_tool.specs.declared.status.Status.TheVariants as status
 use Rattle.swp_tool.specs.Schedules.{Stop, Too_many, Schedule, nothing_read, misread_behind, with_played, with_said, with_line, with_lines, ended, schedule_of}
-use Rattle.swp_tool.specs.Transcripts.{entry_lines, step_text, transcript_of, done_line, whole_text, IsTranscriptOf, IsTextOf, TellsEntries, TellsHistory}
+use Rattle.swp_tool.specs.Transcripts.{step_text, transcript_of, done_line, whole_text, IsTranscriptOf, IsTextOf, TellsEntries, TellsHistory}
 use Rattle.swp_tool.specs.Pieces.{IsCompleteTranscript, schedule_read}
 use Rattle.swp_tool.specs.Runs.{AppendsText, Replayed}
 

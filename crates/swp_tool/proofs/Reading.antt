@@ -224,31 +224,43 @@ so_far-push : (whole : List (List ℕ)) (line : List ℕ) → schedule_so_far (w
 so_far-push whole line =
     ap (λ l. with_lines nothing_read l) (strip-push whole line) ∙ with_lines-append nothing_read (map strip_carriage_return whole) (strip_carriage_return line ∷ [])
 
--- the line was played
-pub read_line_ended : (p q : Pieces) (bytes written : List ℕ) → HasRead p bytes written → q.partial.items ≡ []
-    → ((s : Schedule) (w : List ℕ) → HasPlayed p.replay s w → HasPlayed q.replay (with_line s (strip_carriage_return p.partial.items)) w)
-    → HasRead q (bytes ++ 10 ∷ []) written
-read_line_ended p q bytes written h none played =
-    let whole = h.whole ++ p.partial.items ∷ [] in
+-- the line was played: with these bytes the one under way has ended
+pub read_when : (p q : Pieces) (bytes written line tail : List ℕ) → HasRead p bytes written → p.partial.items ++ tail ≡ ended_line line → LacksLineFeed line → q.partial.items ≡ []
+    → ((s : Schedule) (w : List ℕ) → HasPlayed p.replay s w → HasPlayed q.replay (with_line s (strip_carriage_return line)) w) → HasRead q (bytes ++ tail) written
+read_when p q bytes written line tail h ends lacks none played =
+    let whole = h.whole ++ line ∷ [] in
     let P : Schedule → Type 0 = λ s. HasPlayed q.replay s written in
     record {
       whole = whole;
-      cut = ap (λ b. b ++ 10 ∷ []) h.cut
-          ∙ (append_assoc (flat_map ended_line h.whole) p.partial.items (10 ∷ [])
-          ∙ (sym (flat_ended-push h.whole p.partial.items) ∙ (sym (append-nil (flat_map ended_line whole)) ∙ ap (λ l. flat_map ended_line whole ++ l) (sym none))));
-      lack = lack-push h.whole p.partial.items h.lack h.partial_lacks;
+      cut = ap (λ b. b ++ tail) h.cut
+          ∙ (append_assoc (flat_map ended_line h.whole) p.partial.items tail
+          ∙ (ap (λ l. flat_map ended_line h.whole ++ l) ends
+          ∙ (sym (flat_ended-push h.whole line) ∙ (sym (append-nil (flat_map ended_line whole)) ∙ ap (λ l. flat_map ended_line whole ++ l) (sym none)))));
+      lack = lack-push h.whole line h.lack lacks;
       partial_lacks = (let Q : List ℕ → Type 0 = λ l. LacksLineFeed l in subst Q (sym none) (λ k d within. absurd (omega arith)));
-      played = subst P (sym (so_far-push h.whole p.partial.items)) (played (schedule_so_far h.whole) written h.played);
+      played = subst P (sym (so_far-push h.whole line)) (played (schedule_so_far h.whole) written h.played);
     }
 
--- the line was not played: it has a fault, or there was no memory
-pub halts_at_line : (p : Pieces) (why : Halt) (count : ℕ) (now bytes written : List ℕ) → HasRead p bytes written → count ≡ p.replay.count
-    → now ≡ p.replay.text.items
-    → ((s : Schedule) (w : List ℕ) → HasPlayed p.replay s w → HaltsAt why s (strip_carriage_return p.partial.items))
-    → Halts why count (bytes ++ 10 ∷ []) (written ++ now)
-halts_at_line p why count now bytes written h count_is now_is halts =
-    let P : ℕ → Type 0 = λ n. Halts why n (bytes ++ 10 ∷ []) (written ++ now) in
-    let Q : List ℕ → Type 0 = λ l. Halts why p.replay.count (bytes ++ 10 ∷ []) (written ++ l) in
+pub read_line_ended : (p q : Pieces) (bytes written : List ℕ) → HasRead p bytes written → q.partial.items ≡ []
+    → ((s : Schedule) (w : List ℕ) → HasPlayed p.replay s w → HasPlayed q.replay (with_line s (strip_carriage_return p.partial.items)) w)
+    → HasRead q (bytes ++ 10 ∷ []) written
+read_line_ended p q bytes written h none played = read_when p q bytes written p.partial.items (10 ∷ []) h refl h.partial_lacks none played
+
+-- the same of a line that lies whole in a piece
+pub read_whole_line : (p q : Pieces) (bytes written line : List ℕ) → HasRead p bytes written → p.partial.items ≡ [] → LacksLineFeed line → q.partial.items ≡ []
+    → ((s : Schedule) (w : List ℕ) → HasPlayed p.replay s w → HasPlayed q.replay (with_line s (strip_carriage_return line)) w)
+    → HasRead q (bytes ++ ended_line line) written
+read_whole_line p q bytes written line h nothing lacks none played =
+    read_when p q bytes written line (ended_line line) h (ap (λ l. l ++ ended_line line) nothing) lacks none played
+
+-- With these bytes the line under way has ended, and it was not played: it has a fault, or there was no memory.
+pub halts_when : (p : Pieces) (why : Halt) (count : ℕ) (now bytes written line tail : List ℕ) → HasRead p bytes written → count ≡ p.replay.count → now ≡ p.replay.text.items
+    → ((rest : List ℕ) → lines (p.partial.items ++ (tail ++ rest)) ≡ strip_carriage_return line ∷ lines rest)
+    → ((s : Schedule) (w : List ℕ) → HasPlayed p.replay s w → HaltsAt why s (strip_carriage_return line))
+    → Halts why count (bytes ++ tail) (written ++ now)
+halts_when p why count now bytes written line tail h count_is now_is next halts =
+    let P : ℕ → Type 0 = λ n. Halts why n (bytes ++ tail) (written ++ now) in
+    let Q : List ℕ → Type 0 = λ l. Halts why p.replay.count (bytes ++ tail) (written ++ l) in
     subst P (sym count_is) (subst Q (sym now_is) (go why (halts (schedule_so_far h.whole) written h.played)))
   where
     text : List ℕ
@@ -257,19 +269,32 @@ halts_at_line p why count now bytes written h count_is now_is halts =
     transcript : IsTranscript (schedule_so_far h.whole) text
     transcript = played_transcript p.replay (schedule_so_far h.whole) written h.played
 
-    go : (w : Halt) → HaltsAt w (schedule_so_far h.whole) (strip_carriage_return p.partial.items) → Halts w p.replay.count (bytes ++ 10 ∷ []) text
+    go : (w : Halt) → HaltsAt w (schedule_so_far h.whole) (strip_carriage_return line) → Halts w p.replay.count (bytes ++ tail) text
     go (halt.Fault f) stop = λ rest.
         let R : List ℕ → Type 0 = λ b. StopsAt b (AtFault f) (p.replay.count + 1) text in
-        subst R (sym (append_assoc bytes (10 ∷ []) rest))
-        (stops_next p bytes written (10 ∷ rest) (AtFault f) text h (strip_carriage_return p.partial.items) (lines rest) (lines-ended p.partial.items rest h.partial_lacks) stop transcript)
+        subst R (sym (append_assoc bytes tail rest))
+        (stops_next p bytes written (tail ++ rest) (AtFault f) text h (strip_carriage_return line) (lines rest) (next rest) stop transcript)
     go halt.Undetected stop = λ rest.
         let R : List ℕ → Type 0 = λ b. StopsAt b AtMisread (p.replay.count + 1) text in
-        subst R (sym (append_assoc bytes (10 ∷ []) rest))
-        (stops_next p bytes written (10 ∷ rest) AtMisread text h (strip_carriage_return p.partial.items) (lines rest) (lines-ended p.partial.items rest h.partial_lacks) stop transcript)
+        subst R (sym (append_assoc bytes tail rest))
+        (stops_next p bytes written (tail ++ rest) AtMisread text h (strip_carriage_return line) (lines rest) (next rest) stop transcript)
     go halt.TooMany never = absurd never
     go halt.NoMemory any = λ rest.
         let R : List ℕ → Type 0 = λ b. IsFrontTranscript b text in
-        subst R (sym (append_assoc bytes (10 ∷ []) rest)) (front_so_far p bytes written (10 ∷ rest) text h transcript)
+        subst R (sym (append_assoc bytes tail rest)) (front_so_far p bytes written (tail ++ rest) text h transcript)
+
+pub halts_at_line : (p : Pieces) (why : Halt) (count : ℕ) (now bytes written : List ℕ) → HasRead p bytes written → count ≡ p.replay.count → now ≡ p.replay.text.items
+    → ((s : Schedule) (w : List ℕ) → HasPlayed p.replay s w → HaltsAt why s (strip_carriage_return p.partial.items))
+    → Halts why count (bytes ++ 10 ∷ []) (written ++ now)
+halts_at_line p why count now bytes written h count_is now_is halts =
+    halts_when p why count now bytes written p.partial.items (10 ∷ []) h count_is now_is (λ rest. lines-ended p.partial.items rest h.partial_lacks) halts
+
+pub halts_at_whole_line : (p : Pieces) (why : Halt) (count : ℕ) (now bytes written line : List ℕ) → HasRead p bytes written → p.partial.items ≡ [] → LacksLineFeed line
+    → count ≡ p.replay.count → now ≡ p.replay.text.items → ((s : Schedule) (w : List ℕ) → HasPlayed p.replay s w → HaltsAt why s (strip_carriage_return line))
+    → Halts why count (bytes ++ ended_line line) (written ++ now)
+halts_at_whole_line p why count now bytes written line h nothing lacks count_is now_is halts =
+    halts_when p why count now bytes written line (ended_line line) h count_is now_is
+    (λ rest. ap (λ l. lines (l ++ (ended_line line ++ rest))) nothing ∙ (ap lines (append_assoc line (10 ∷ []) rest) ∙ lines-ended line rest lacks)) halts
 
 -- ## The end of the bytes
 

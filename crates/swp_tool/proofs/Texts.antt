@@ -6,16 +6,10 @@ use Rattle.std.specs.List.{flat_map}
 use Rattle.std.proofs.lemmas.List.{append-nil}
 use Rattle.trace_model.specs.declared.line.Line.{Line}
 use Rattle.trace_model.specs.declared.entry.Entry.TheVariants as entry
-use Rattle.schedule_text.specs.Entries.{entry_line}
-use Rattle.schedule_text.specs.Growth.{IsFront}
+use Rattle.schedule_text.specs.Entries.{entry_line, entry_lines}
 use Rattle.history.specs.Histories.{Step, History, noted}
 use Rattle.history.specs.Follows.{host_of, link_at, with_step, outcome_of}
-use Rattle.swp_tool.specs.Transcripts.{entry_lines, step_text, transcript_of}
-
--- a front of a text behind more text is more text
-pub front_is_more : (old x text a items : List ℕ) → a ≡ old ++ x → IsFront a text items → (more : List ℕ) × (items ≡ old ++ more)
-front_is_more old x text a items is front =
-    (x ++ take front.0 text, front.2 ∙ (ap (λ l. l ++ take front.0 text) is ∙ append_assoc old x (take front.0 text)))
+use Rattle.swp_tool.specs.Transcripts.{step_text, transcript_of}
 
 step_texts-append : (a b : List Step) → flat_map step_text (a ++ b) ≡ flat_map step_text a ++ flat_map step_text b
 step_texts-append [] b = refl

@@ -6,17 +6,13 @@ use Rattle.trace_model.specs.declared.entry.Entry.{Entry}
 use Rattle.trace_model.specs.declared.entry.Entry.TheVariants as entry
 use Rattle.trace_model.specs.declared.line.Header.{Header}
 use Rattle.trace_model.specs.declared.line.Line.{Line}
-use Rattle.schedule_text.specs.Entries.{entry_line}
+use Rattle.schedule_text.specs.Entries.{entry_line, entry_lines}
 use Rattle.history.specs.Histories.{Step, History, noted}
 use Rattle.history.specs.Follows.{Follows}
 use Rattle.history.specs.Legal.{Legal}
 use Rattle.text_laws.specs.Ranges.{IsNumber, IsEntry}
 use Rattle.told_laws.specs.Told.{entries_told}
 use Rattle.swp_tool.specs.Schedules.{Schedule}
-
--- entries, each as a line
-abbrev pub entry_lines : List Entry → List ℕ
-entry_lines entries = flat_map entry_line entries
 
 -- a line of the schedule and what is noted below it
 abbrev pub step_text : Step → List ℕ

@@ -10,7 +10,6 @@ mod replaying;
 mod status;
 mod tables;
 mod top;
-mod transcript;
 
 pub use status::{Status, exit_code, status_text};
 pub use top::{Ended, run};

@@ -119,10 +119,33 @@ impl Pieces {
         if self.replay.count == MAX_LINES {
             return Err(Halt::TooMany);
         }
+        if self.partial.is_empty() && bytes.len() <= MAX_LINE + 1 {
+            return self.play_whole(alloc, bytes);
+        }
         if let Err(why) = self.keep(bytes) {
             return Err(why);
         }
         match self.end_line(alloc) {
+            Ok(()) => Ok(()),
+            Err(why) => Err(why),
+        }
+    }
+
+    /// Plays a line that lies whole in a piece, where it stands.
+    fn play_whole(&mut self, alloc: Global, bytes: &[u8]) -> Result<(), Halt>
+        requires reading { IsReading self.old }
+        requires none { self.old.partial.items ≡ [] }
+        requires lacks { LacksLineFeed bytes.now }
+        requires short { length bytes.now ≤ 9001 }
+        requires room { self.old.replay.count < 20000 }
+        ensures read { OnOk result ((before written : List ℕ) → HasRead self.old before written → HasRead self.new (before ++ ended_line bytes.now) written) }
+        ensures reading { OnOk result (IsReading self.new) }
+        ensures counted { self.new.replay.count ≤ 20000 }
+        ensures progress { OnOk result (bytes_left self.new + length (ended_line bytes.now) ≤ bytes_left self.old) }
+        ensures halts { IfErr result (λ why. (before written : List ℕ) → HasRead self.old before written
+            → Halts why self.new.replay.count (before ++ ended_line bytes.now) (written ++ self.new.replay.text.items)) }
+    {
+        match self.replay.play(alloc, without_carriage_return(bytes)) {
             Ok(()) => Ok(()),
             Err(why) => Err(why),
         }

@@ -10,11 +10,10 @@ ghost use Rattle.history.specs.Histories.{History};
 ghost use Rattle.history.specs.Follows.{link_at, misread, opened};
 ghost use Rattle.world.specs.Worlds.{WorldStandsFor, HasRoomForLine, world_header};
 
-use crate::transcript::note;
-use schedule_text::{LineFault, Read, read_line};
+use schedule_text::{LineFault, Read, read_line, write_opening, write_step};
 use std::alloc::{AllocError, Global};
 use swp_base::NoMemory;
-use trace_model::{Entry, Header, Line};
+use trace_model::{Header, Line};
 use world::{World, WorldFault};
 
 /// Why a replay does not go on.
@@ -104,7 +103,7 @@ impl Replay {
                 Ok(())
             }
             Ok(Read::Header(header)) => self.begin(alloc, &header),
-            Ok(Read::Line(line)) => self.go_on(alloc, line),
+            Ok(Read::Line(line)) => self.go_on(alloc, &line),
         }
     }
 
@@ -127,14 +126,14 @@ impl Replay {
     }
 
     /// Steps the world by the next line, which is one below the header.
-    fn go_on(&mut self, alloc: Global, line: Line) -> Result<(), Halt>
-        requires world { IsSomeAnd self.old.world (λ w. IsLineOf (world_header w) line) }
+    fn go_on(&mut self, alloc: Global, line: &Line) -> Result<(), Halt>
+        requires world { IsSomeAnd self.old.world (λ w. IsLineOf (world_header w) line.now) }
         requires few { HasFew self.old }
         requires next { self.old.count < 20000 }
         ensures played { OnOk result ((s : Schedule) (written : List ℕ) → HasPlayed self.old s written
-            → HasPlayed self.new (with_said s (Ok (Read.Line line))) written) }
+            → HasPlayed self.new (with_said s (Ok (Read.Line line.now))) written) }
         ensures halts { IfErr result (λ why. (s : Schedule) (written : List ℕ) → HasPlayed self.old s written
-            → HaltsBefore why (with_said s (Ok (Read.Line line)))) }
+            → HaltsBefore why (with_said s (Ok (Read.Line line.now)))) }
         ensures few { OnOk result (HasFew self.new) }
         ensures count { OnOk result (self.new.count ≡ self.old.count + 1) }
         ensures same { OnErr result (self.new.text.items ≡ self.old.text.items) }
@@ -188,34 +187,23 @@ fn open(alloc: Global, header: &Header, text: &mut Vec<u8>) -> Result<World, Hal
     ensures same { OnErr result (text.new.items ≡ text.old.items) }
 {
     let world = World::new(alloc, header)?;
-    let echo = echo_of(header)?;
-    note(alloc, &echo, world.entries(), text)?;
+    write_opening(alloc, header, world.entries(), text)?;
     Ok(world)
 }
 
-/// The header as it is repeated in the transcript.
-fn echo_of(header: &Header) -> Result<Entry, NoMemory>
-    ensures { IfOk result (λ entry. entry ≡ Entry.Head header.now) }
-{
-    match header.clone() {
-        Ok(header) => Ok(Entry::Head(header)),
-        Err(_) => Err(NoMemory),
-    }
-}
-
 /// Steps a world by a line, and gathers the text of the line and of what it caused.
-fn step(alloc: Global, world: &mut World, line: Line, text: &mut Vec<u8>) -> Result<(), Halt>
-    requires line { IsLineOf (world_header world.old) line }
+fn step(alloc: Global, world: &mut World, line: &Line, text: &mut Vec<u8>) -> Result<(), Halt>
+    requires line { IsLineOf (world_header world.old) line.now }
     requires room { HasRoomForLine world.old }
     ensures runs { OnOk result ((header : Header) (lines : List Line) (before : List ℕ) → Runs world.old header lines (before ++ text.old.items)
-        → Runs world.new header (lines ++ line ∷ []) (before ++ text.new.items)) }
-    ensures told { OnOk result ((header : Header) (lines : List Line) (t : History) → WorldStandsFor world.old header lines t → misread (link_at t) line ≡ None) }
+        → Runs world.new header (lines ++ line.now ∷ []) (before ++ text.new.items)) }
+    ensures told { OnOk result ((header : Header) (lines : List Line) (t : History) → WorldStandsFor world.old header lines t → misread (link_at t) line.now ≡ None) }
     ensures stepped { OnOk result ((most : ℕ) → WasStepped world.old most → WasStepped world.new (most + 1)) }
     ensures halts { IfErr result (λ why. (header : Header) (lines : List Line) (t : History) → WorldStandsFor world.old header lines t
-        → HaltsOn why (misread (link_at t) line)) }
+        → HaltsOn why (misread (link_at t) line.now)) }
     ensures same { OnErr result (text.new.items ≡ text.old.items) }
 {
-    world.step(alloc, &line)?;
-    note(alloc, &Entry::Echo(line), world.entries(), text)?;
+    world.step(alloc, line)?;
+    write_step(alloc, line, world.entries(), text)?;
     Ok(())
 }

@@ -6,5 +6,5 @@ use Rattle.schedule_text.proofs.read.read_words.Goals as goal
 
 pub said-requires : goal.said-requires
 said-requires c =
-    can_be_read c.nodes.result c.hosts.result.now c.args.first.now (row_of_form c.in-Some.form) (words c.args.rest.now) c.in-Some.ensures
+    can_be_read c.nodes.result c.hosts.result.now c.args.first.now (row_of_form c.in-Some-form_of.form) (words c.args.rest.now) c.in-Some-form_of.ensures
     (sym c.fault_in.ensures ∙ c.in_default-fault_in.is)

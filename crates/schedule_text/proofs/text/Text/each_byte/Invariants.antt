@@ -1,9 +1,9 @@
 use Rattle.std.proofs.Common.{List, ℕ, ◌∷◌, ◌++◌, map, take}
 use Rattle.schedule_text.specs.Entries.{byte_text}
-use Rattle.schedule_text.specs.Growth.{HoldsWords}
+use Rattle.schedule_text.specs.Growth.{Start, HoldsWords}
 use Rattle.schedule_text.proofs.text.Text.each_byte.Given as goal
 
 abbrev pub invariant-loop-byte : goal.invariant-loop-byte
 invariant-loop-byte l =
-    (start first : List ℕ) (more : List (List ℕ)) → HoldsWords start (first ∷ more) l.fn.self
+    (start : Start) (first : List ℕ) (more : List (List ℕ)) → HoldsWords start (first ∷ more) l.fn.self
     → HoldsWords start (first ∷ (more ++ map byte_text (take l.byte-index l.bytes))) l.self

@@ -1,9 +1,9 @@
 use Rattle.std.proofs.Common.{List, ℕ, ◌∷◌, ◌++◌, map, take}
 use Rattle.hex.specs.Hex.{encode_upper}
-use Rattle.schedule_text.specs.Growth.{HoldsWords}
+use Rattle.schedule_text.specs.Growth.{Start, HoldsWords}
 use Rattle.schedule_text.proofs.text.Text.each_three.Given as goal
 
 abbrev pub invariant-loop-three : goal.invariant-loop-three
 invariant-loop-three l =
-    (start first : List ℕ) (more : List (List ℕ)) → HoldsWords start (first ∷ more) l.fn.self
+    (start : Start) (first : List ℕ) (more : List (List ℕ)) → HoldsWords start (first ∷ more) l.fn.self
     → HoldsWords start (first ∷ (more ++ map encode_upper (take l.three-index l.threes))) l.self

@@ -1,9 +1,9 @@
 use Rattle.std.proofs.Common.{List, ℕ, ◌∷◌, ◌++◌, map, take}
 use Rattle.std.specs.Fmt.{decimal}
-use Rattle.schedule_text.specs.Growth.{HoldsWords}
+use Rattle.schedule_text.specs.Growth.{Start, HoldsWords}
 use Rattle.schedule_text.proofs.text.Text.numbers.Given as goal
 
 abbrev pub invariant-loop-number : goal.invariant-loop-number
 invariant-loop-number l =
-    (start first : List ℕ) (more : List (List ℕ)) → HoldsWords start (first ∷ more) l.fn.self
+    (start : Start) (first : List ℕ) (more : List (List ℕ)) → HoldsWords start (first ∷ more) l.fn.self
     → HoldsWords start (first ∷ (more ++ map decimal (take l.number-index l.numbers))) l.self

@@ -1,13 +1,13 @@
 use Rattle.std.proofs.Common.{◌≡◌, List, ℕ, ◌++◌, length}
 use Rattle.hex.specs.Hex.{encode_upper}
-use Rattle.schedule_text.specs.Growth.{HoldsText}
+use Rattle.schedule_text.specs.Growth.{Start, HoldsText}
 use Rattle.schedule_text.proofs.text.Text.pairs.Given as goal
 
 -- the digits of a front of the bytes were appended
 abbrev pub invariant-twos : goal.invariant-twos
 invariant-twos l =
     (front : List ℕ) × ((front ++ l.left ≡ l.bytes)
-    × ((start text : List ℕ) → HoldsText start text l.fn.self → HoldsText start (text ++ encode_upper front) l.self))
+    × ((start : Start) (text : List ℕ) → HoldsText start text l.fn.self → HoldsText start (text ++ encode_upper front) l.self))
 
 abbrev pub decreases-twos : goal.decreases-twos
 decreases-twos l = length l.left

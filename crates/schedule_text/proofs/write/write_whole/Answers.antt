@@ -1,0 +1,13 @@
+use Rattle.std.proofs.Common.{[], ◌∷◌, ◌++◌, sym, subst}
+use Rattle.schedule_text.specs.Words.{spaced}
+use Rattle.schedule_text.specs.Entries.{entry_words, lines_behind}
+use Rattle.schedule_text.specs.Growth.{HoldsText}
+use Rattle.schedule_text.proofs.GrowthLemmas.{behind, holds_from, holds_back}
+use Rattle.schedule_text.proofs.write.write_whole.Goals as goal
+
+pub returns : goal.returns
+returns c = λ start before h.
+    let words = spaced (entry_words c.args.entry.now) in
+    holds_back start before (words ++ (10 ∷ lines_behind c.args.entry.now)) _
+    (subst (λ more. HoldsText (behind start before) (words ++ (10 ∷ more)) c.end_line.new.text) (sym (c.has_rows.ensures c.if-has_rows.false))
+    (c.end_line.ensures (behind start before) words (c.write_words.ensures (behind start before) (holds_from start before c.args.text.now h))))

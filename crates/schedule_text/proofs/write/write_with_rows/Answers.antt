@@ -1,0 +1,14 @@
+use Rattle.std.proofs.Common.{◌≡◌, [], ◌∷◌, ◌++◌, ◌∙◌}
+use Rattle.schedule_text.specs.Words.{spaced}
+use Rattle.schedule_text.specs.Entries.{entry_words, lines_behind}
+use Rattle.schedule_text.proofs.GrowthLemmas.{behind, holds_from, holds_back, holds_line}
+use Rattle.schedule_text.proofs.write.write_with_rows.Goals as goal
+
+pub returns-in-Ok : goal.returns-in-Ok
+returns-in-Ok c = λ start before h.
+    let words = spaced (entry_words c.args.entry.now) in
+    let rows : c.as_slice.result.now ≡ lines_behind c.args.entry.now = c.as_slice.ensures.value ∙ c.in-Ok.ensures in
+    holds_back start before (words ++ (10 ∷ lines_behind c.args.entry.now)) _
+    (holds_line (behind start before) words c.as_slice.result.now (lines_behind c.args.entry.now) _ rows
+    (c.push_behind.ensures (behind start before) (words ++ 10 ∷ [])
+    (c.end_line.ensures (behind start before) words (c.write_words.ensures (behind start before) (holds_from start before c.args.text.now h)))))

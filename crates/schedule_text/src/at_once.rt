@@ -1,0 +1,90 @@
+//! Lines of the two forms that most lines have are read at once where they have no fault. Each other line is left to the table of
+//! the forms.
+ghost use Rattle.std.specs.Prelude.{◌≡◌, ◌==◌, ◌||◌, not, codes, Some, Ok, IfSome};
+ghost use Rattle.std.specs.List.{list_any};
+ghost use Rattle.schedule_text.specs.Words.{words};
+ghost use Rattle.schedule_text.specs.Forms.{row_for};
+ghost use Rattle.schedule_text.specs.Lines.{by_row};
+
+use crate::read::Read;
+use crate::values::{byte_of, end_of};
+use crate::words::next_word;
+use std::alloc::Global;
+use trace_model::{End, Header, Line, Octets};
+
+/// The most digits of a message (this project's own).
+const MOST_DIGITS: usize = 9000;
+
+/// What a line below a header says, if it has one of these forms and no fault, and there is memory for its message.
+#[inline]
+pub(crate) fn read_at_once(
+    alloc: Global,
+    header: &Header,
+    first: &[u8],
+    rest: &[u8],
+) -> Option<Read>
+    ensures { IfSome result (λ read. Ok read ≡ by_row (Some header.now) (row_for first.now) (words rest.now)) }
+{
+    match first {
+        b"send" => send_at_once(alloc, header, rest),
+        b"deliver" => deliver_at_once(header, rest),
+        _ => None,
+    }
+}
+
+/// `send E PID HEX`
+fn send_at_once(alloc: Global, header: &Header, rest: &[u8]) -> Option<Read>
+    ensures { IfSome result (λ read. Ok read ≡ by_row (Some header.now) (row_for (codes "send")) (words rest.now)) }
+{
+    let (first, more) = next_word(rest)?;
+    let (second, more) = next_word(more)?;
+    let (third, more) = next_word(more)?;
+    if next_word(more).is_some() {
+        return None;
+    }
+    let at = end_of(first)?;
+    let pid = byte_of(second)?;
+    if !knows(header, at.link) || !may_send(header, at) || 0x70 <= pid {
+        return None;
+    }
+    if third.len() < 2 || MOST_DIGITS < third.len() {
+        return None;
+    }
+    match hex::decode(alloc, third) {
+        Ok(bytes) => Some(Read::Line(Line::Send {
+            at,
+            pid,
+            message: Octets { bytes },
+        })),
+        Err(_) => None,
+    }
+}
+
+/// Whether an end of this world may send.
+fn may_send(header: &Header, at: End) -> bool
+    ensures { result ≡ (not header.now.hci || at.at_host) }
+{
+    !header.hci || at.at_host
+}
+
+/// `deliver E`
+fn deliver_at_once(header: &Header, rest: &[u8]) -> Option<Read>
+    ensures { IfSome result (λ read. Ok read ≡ by_row (Some header.now) (row_for (codes "deliver")) (words rest.now)) }
+{
+    let (first, more) = next_word(rest)?;
+    if next_word(more).is_some() {
+        return None;
+    }
+    let at = end_of(first)?;
+    if !knows(header, at.link) {
+        return None;
+    }
+    Some(Read::Line(Line::Deliver { at, count: None }))
+}
+
+/// Whether the header names a host.
+fn knows(header: &Header, host: u8) -> bool
+    ensures { result ≡ list_any (λ known. known == host) header.now.hosts.items }
+{
+    header.hosts.as_slice().iter().any(|known| *known == host)
+}
