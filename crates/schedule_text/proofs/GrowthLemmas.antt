@@ -71,7 +71,8 @@ unfolding encode_with
 encode-nil = refl
 
 -- the digits of two more bytes behind those of a front
-pub holds_two : (start : Start) (text front two upper lower : List ℕ) (t : Text) → length two ≡ 2 → upper ≡ encode_upper (get_or two 0 0 ∷ []) → lower ≡ encode_upper (get_or two 1 0 ∷ [])
+pub holds_two : (start : Start) (text front two upper lower : List ℕ) (t : Text) → length two ≡ 2 → upper ≡ encode_upper (get_or two 0 0 ∷ [])
+    → lower ≡ encode_upper (get_or two 1 0 ∷ [])
     → HoldsText start ((text ++ encode_upper front) ++ (get_or upper 0 0 ∷ get_or upper 1 0 ∷ get_or lower 0 0 ∷ get_or lower 1 0 ∷ [])) t
     → HoldsText start (text ++ encode_upper (front ++ two)) t
 unfolding encode_with
@@ -97,7 +98,8 @@ holds_line start text behind more t e h =
     subst (λ x. HoldsText start x t) (append_assoc text (10 ∷ []) behind ∙ ap (λ b. text ++ (10 ∷ b)) e) h
 
 -- entries and one more
-pub one_entry_more : (start : Start) (before : List ℕ) (entries : List Entry) (entry : Entry) (i : ℕ) (t : Text) → i < length entries → entry ≡ get_or entries i entry
+pub one_entry_more : (start : Start) (before : List ℕ) (entries : List Entry) (entry : Entry) (i : ℕ) (t : Text) → i < length entries
+    → entry ≡ get_or entries i entry
     → HoldsText start ((before ++ entry_lines (take i entries)) ++ entry_line entry) t → HoldsText start (before ++ entry_lines (take (i + 1) entries)) t
 one_entry_more start before entries entry i t within is h =
     let next : take (i + 1) entries ≡ take i entries ++ entry ∷ [] = take_more entries i entry within ∙ ap (λ e. take i entries ++ e ∷ []) (sym is) in

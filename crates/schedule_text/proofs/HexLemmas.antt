@@ -35,7 +35,8 @@ bytes_of_others word other = ap (option_map length) (no_bytes word (decode_of wo
 abbrev both_read : ℕ → ℕ → Option ℕ → Option ℕ → Result (List ℕ) FromHexError
 both_read high low x y = (digit_or_error high 0 x >>= (λ h. digit_or_error low 1 y >>= (λ l. Ok (h * 16 + l)))) >>= (λ byte. Ok (byte ∷ []))
 
-both_digits : (high low : ℕ) (x y : Option ℕ) → option_map (λ bytes. slice_index bytes 0) (result_ok (both_read high low x y)) ≡ option_and_then (λ h. option_map (λ l. h * 16 + l) y) x
+both_digits : (high low : ℕ) (x y : Option ℕ)
+    → option_map (λ bytes. slice_index bytes 0) (result_ok (both_read high low x y)) ≡ option_and_then (λ h. option_map (λ l. h * 16 + l) y) x
 both_digits high low None y = refl
 both_digits high low (Some h) None = refl
 both_digits high low (Some h) (Some l) = refl

@@ -9,8 +9,8 @@ pub record Start : Type 0 where
   pub before : List ℕ
 
 -- before anything is appended
-abbrev pub start_of : List ℕ → Start
-start_of items = record { mark = length items; before = items }
+abbrev pub start_in : List ℕ → Start
+start_in items = record { mark = length items; before = items }
 
 -- Behind what stood there before stands the text, whose end waits, unless memory ran out. What stood in front of the mark stands there
 -- in any case.

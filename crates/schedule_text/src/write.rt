@@ -5,7 +5,7 @@ ghost use Rattle.hex.specs.Hex.{encode_upper};
 ghost use Rattle.tables_text.specs.Tables.{hex_or_dash};
 ghost use Rattle.schedule_text.specs.Parts.{part_words};
 ghost use Rattle.schedule_text.specs.Entries.{end_text, byte_text, number_words, header_words, line_words, down_word, lost_word, cause_words, command_words, count_words, entry_words, lines_behind, entry_line, entry_lines};
-ghost use Rattle.schedule_text.specs.Growth.{Start, start_of, HoldsText, HoldsWords};
+ghost use Rattle.schedule_text.specs.Growth.{Start, start_in, HoldsText, HoldsWords};
 
 use crate::text::Part::{
     self, Byte, Bytes, Count, EachByte, EachThree, End, Maybe, Number, Numbers, TwoBytes, Word,
@@ -66,7 +66,7 @@ pub fn write_opening(
 /// Text that grows behind what a vector has, which is taken.
 #[inline(always)]
 fn text_behind(alloc: Global, out: &mut Vec<u8>) -> Text
-    ensures { HoldsText (start_of out.old.items) [] result }
+    ensures { HoldsText (start_in out.old.items) [] result }
 {
     Text {
         mark: out.len(),

@@ -225,7 +225,8 @@ so_far-push whole line =
     ap (λ l. with_lines nothing_read l) (strip-push whole line) ∙ with_lines-append nothing_read (map strip_carriage_return whole) (strip_carriage_return line ∷ [])
 
 -- the line was played: with these bytes the one under way has ended
-pub read_when : (p q : Pieces) (bytes written line tail : List ℕ) → HasRead p bytes written → p.partial.items ++ tail ≡ ended_line line → LacksLineFeed line → q.partial.items ≡ []
+pub read_when : (p q : Pieces) (bytes written line tail : List ℕ) → HasRead p bytes written → p.partial.items ++ tail ≡ ended_line line
+    → LacksLineFeed line → q.partial.items ≡ []
     → ((s : Schedule) (w : List ℕ) → HasPlayed p.replay s w → HasPlayed q.replay (with_line s (strip_carriage_return line)) w) → HasRead q (bytes ++ tail) written
 read_when p q bytes written line tail h ends lacks none played =
     let whole = h.whole ++ line ∷ [] in
@@ -254,7 +255,8 @@ read_whole_line p q bytes written line h nothing lacks none played =
     read_when p q bytes written line (ended_line line) h (ap (λ l. l ++ ended_line line) nothing) lacks none played
 
 -- With these bytes the line under way has ended, and it was not played: it has a fault, or there was no memory.
-pub halts_when : (p : Pieces) (why : Halt) (count : ℕ) (now bytes written line tail : List ℕ) → HasRead p bytes written → count ≡ p.replay.count → now ≡ p.replay.text.items
+pub halts_when : (p : Pieces) (why : Halt) (count : ℕ) (now bytes written line tail : List ℕ) → HasRead p bytes written → count ≡ p.replay.count
+    → now ≡ p.replay.text.items
     → ((rest : List ℕ) → lines (p.partial.items ++ (tail ++ rest)) ≡ strip_carriage_return line ∷ lines rest)
     → ((s : Schedule) (w : List ℕ) → HasPlayed p.replay s w → HaltsAt why s (strip_carriage_return line))
     → Halts why count (bytes ++ tail) (written ++ now)
@@ -283,13 +285,15 @@ halts_when p why count now bytes written line tail h count_is now_is next halts 
         let R : List ℕ → Type 0 = λ b. IsFrontTranscript b text in
         subst R (sym (append_assoc bytes tail rest)) (front_so_far p bytes written (tail ++ rest) text h transcript)
 
-pub halts_at_line : (p : Pieces) (why : Halt) (count : ℕ) (now bytes written : List ℕ) → HasRead p bytes written → count ≡ p.replay.count → now ≡ p.replay.text.items
+pub halts_at_line : (p : Pieces) (why : Halt) (count : ℕ) (now bytes written : List ℕ) → HasRead p bytes written → count ≡ p.replay.count
+    → now ≡ p.replay.text.items
     → ((s : Schedule) (w : List ℕ) → HasPlayed p.replay s w → HaltsAt why s (strip_carriage_return p.partial.items))
     → Halts why count (bytes ++ 10 ∷ []) (written ++ now)
 halts_at_line p why count now bytes written h count_is now_is halts =
     halts_when p why count now bytes written p.partial.items (10 ∷ []) h count_is now_is (λ rest. lines-ended p.partial.items rest h.partial_lacks) halts
 
-pub halts_at_whole_line : (p : Pieces) (why : Halt) (count : ℕ) (now bytes written line : List ℕ) → HasRead p bytes written → p.partial.items ≡ [] → LacksLineFeed line
+pub halts_at_whole_line : (p : Pieces) (why : Halt) (count : ℕ) (now bytes written line : List ℕ) → HasRead p bytes written → p.partial.items ≡ []
+    → LacksLineFeed line
     → count ≡ p.replay.count → now ≡ p.replay.text.items → ((s : Schedule) (w : List ℕ) → HasPlayed p.replay s w → HaltsAt why s (strip_carriage_return line))
     → Halts why count (bytes ++ ended_line line) (written ++ now)
 halts_at_whole_line p why count now bytes written line h nothing lacks count_is now_is halts =
