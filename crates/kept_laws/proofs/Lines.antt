@@ -35,7 +35,7 @@ use Rattle.kept_laws.proofs.Ticking.{ticks_goes}
 
 -- ## What may happen
 
-abbrev MayAllHappen : NodeWorld → List Happening → Type 0
+abbrev pub MayAllHappen : NodeWorld → List Happening → Type 0
 MayAllHappen w [] = Unit {0}
 MayAllHappen w (c ∷ causes) = MayHappen w c × MayAllHappen (world_step w c).0 causes
 
@@ -150,7 +150,7 @@ module _ (hosts : List ℕ) (are : AreHosts hosts) where
       node_is : node_at w (node_of e) ≡ Some r
       node_is = ap (node_at w) link_is ∙ running
 
-  line_may : (w : NodeWorld) (l : Line) → IsSentByHost l → refusal_in w l ≡ None → MayAllHappen w (happenings w l)
+  pub line_may : (w : NodeWorld) (l : Line) → IsSentByHost l → refusal_in w l ≡ None → MayAllHappen w (happenings w l)
   line_may w (line.Send e pid message) side e2 =
       (send_may w e pid message side (first_none (if_off w (node_of e)) (if_not_sent w e (pid, message)) e2).1, tt)
   line_may w (line.Deliver e count) side none = takes_may e (taken_of count (frames_at w e)) w

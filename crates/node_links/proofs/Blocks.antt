@@ -134,7 +134,7 @@ ready_acked s r = go s.ready r refl s.session.answered_rnr refl where
   go false true p true q = rw (p, q) refl
   go false true p false q = rw (p, q) refl
 
-turn_within : (e : LinkEnd) (t : Turn) → IsWithin e → IsWithin (turn e t)
+pub turn_within : (e : LinkEnd) (t : Turn) → IsWithin e → IsWithin (turn e t)
 turn_within e (Give m) a = go (give_refusal e m) refl where
   go : (o : Option Refused) → give_refusal e m ≡ o → IsWithin (turn e (Give m))
   go None q = let is : turn e (Give m) ≡ given e m = rw q refl in subst IsWithin (sym is) (given_within e m q a)
@@ -151,7 +151,7 @@ turn_within e SetAside a = go (nat_lt 0 (spare e)) refl where
   go false q = let is : turn e SetAside ≡ e = rw q refl in subst IsWithin (sym is) a
 turn_within e Release a = record { room = omega (arith, a.room); forgot = a.forgot }
 
-turns_within : (e : LinkEnd) (ts : List Turn) → IsWithin e → IsWithin (turned e ts)
+pub turns_within : (e : LinkEnd) (ts : List Turn) → IsWithin e → IsWithin (turned e ts)
 turns_within e [] a = a
 turns_within e (t ∷ ts) a = turns_within (turn e t) ts (turn_within e t a)
 
@@ -168,7 +168,7 @@ frames_acked : (n : ℕ) (s : EndState) → (after_frames n s).session.acked ≡
 frames_acked zero s = refl
 frames_acked (suc n) s = frames_acked n (fetched s) ∙ fetched_acked s
 
-sent_within : (e : LinkEnd) → IsWithin e → IsWithin (sent_all e)
+pub sent_within : (e : LinkEnd) → IsWithin e → IsWithin (sent_all e)
 sent_within e a = same_within e (sent_all e) refl (frames_acked most_frames e.shdlc) (after_frames-phase most_frames e.shdlc) refl a
 
 fetch_within : (e : LinkEnd) → IsWithin e → IsWithin (frame_fetched e)
@@ -265,7 +265,7 @@ reset_within e window a = go (reset_refusal e) refl where
       subst IsWithin (sym is) (moved_within e (is_some (if_up e.shdlc Asked)) false (reset_with e.shdlc w) (reset_shift e.shdlc w Asked (reset_tells e q).1) a)
   go (Some why) q = let is : after_input e (Reset window) ≡ e = rw q refl in subst IsWithin (sym is) a
 
-input_within : (e : LinkEnd) (i : LinkInput) → IsWithin e → IsWithin (after_input e i)
+pub input_within : (e : LinkEnd) (i : LinkInput) → IsWithin e → IsWithin (after_input e i)
 input_within e (Take c) a = took_within e c a
 input_within e TakeUnknown a = same_within e (after_input e TakeUnknown) refl refl refl refl a
 input_within e (TakeBroken fault) a = a
@@ -276,7 +276,7 @@ input_within e Stop a = activated_within (moved e true (stopped e.shdlc)) ActSto
 input_within e (FromNode t) a = turn_within e t a
 input_within e Fetch a = fetch_within e a
 
-new_within : (e : LinkEnd) → IsWithin e → IsWithin (new_link_end (renewed e.role))
+pub new_within : (e : LinkEnd) → IsWithin e → IsWithin (new_link_end (renewed e.role))
 new_within e a = go e.role where
   go : (r : Role) → IsWithin (new_link_end (renewed r))
   go Bare = record { room = omega arith; forgot = λ no. refl }

@@ -82,7 +82,7 @@ none_noticed halves (h ∷ hosts) x = go (cases_Bool (eqb h x)) (none_noticed ha
 
 -- ## Links
 
-side_map : (f : Site → Site) → ((s : Site) → (f s).host ≡ s.host) → ((s : Site) → (f s).link.controller.side ≡ s.link.controller.side)
+pub side_map : (f : Site → Site) → ((s : Site) → (f s).host ≡ s.host) → ((s : Site) → (f s).link.controller.side ≡ s.link.controller.side)
     → (sites : List Site) (n : ℕ) → (link_to (map f sites) n).controller.side ≡ (link_to sites n).controller.side
 side_map f host side [] n = refl
 side_map f host side (s ∷ sites) n = go (cases_Bool (eqb s.host n)) (side_map f host side sites n) where
@@ -91,7 +91,7 @@ side_map f host side (s ∷ sites) n = go (cases_Bool (eqb s.host n)) (side_map 
   go (inl is) later = let here : eqb (f s).host n ≡ true = ap (λ k. eqb k n) (host s) ∙ is in rw (is, here) (side s)
   go (inr off) later = let there : eqb (f s).host n ≡ false = ap (λ k. eqb k n) (host s) ∙ off in rw (off, there) later
 
-side_with : (h : ℕ) (f : Site → Site) → ((s : Site) → (f s).host ≡ s.host) → ((s : Site) → (f s).link.controller.side ≡ s.link.controller.side)
+pub side_with : (h : ℕ) (f : Site → Site) → ((s : Site) → (f s).host ≡ s.host) → ((s : Site) → (f s).link.controller.side ≡ s.link.controller.side)
     → (sites : List Site) (n : ℕ) → (link_to (with_site h f sites) n).controller.side ≡ (link_to sites n).controller.side
 side_with h f host side sites n = side_map (λ (s : Site). changed_if (eqb s.host h) f s) (λ s. hosts (eqb s.host h) s) (λ s. sides (eqb s.host h) s) sites n where
   hosts : (b : Bool) (s : Site) → (changed_if b f s).host ≡ s.host
@@ -109,7 +109,7 @@ far_side l e = ap (λ (h : NumberedEnd). h.side) (here_host (exchanged l) e)
 far_tick : (l : Link) (ts : List Turn) (ending : Ending) → (exchanged (ticks_at_controller (exchanged l) ts ending)).controller.side ≡ l.controller.side
 far_tick l ts ending = ap (λ (h : NumberedEnd). h.side) (tick_host (exchanged l) ts ending)
 
-lost_side : (e : End) (why : Loss) (l : Link) → (happens l (at e (Lose why))).controller.side ≡ l.controller.side
+pub lost_side : (e : End) (why : Loss) (l : Link) → (happens l (at e (Lose why))).controller.side ≡ l.controller.side
 lost_side e why l = go e.at_host refl where
   go : (b : Bool) → e.at_host ≡ b → (happens l (at e (Lose why))).controller.side ≡ l.controller.side
   go true q = rw q refl
@@ -463,7 +463,7 @@ host_tick_side s = go s.node refl where
   go None e = rw e (far_tick s.link [] GoesOut)
   go (Some r) e = rw e (far_tick s.link (turns_at (k r) s.host) (ending_of (k r)))
 
-hosts_tick_side : (sites : List Site) (n : ℕ) → (link_to (hosts_tick sites).0 n).controller.side ≡ (link_to sites n).controller.side
+pub hosts_tick_side : (sites : List Site) (n : ℕ) → (link_to (hosts_tick sites).0 n).controller.side ≡ (link_to sites n).controller.side
 hosts_tick_side [] n = refl
 hosts_tick_side (s ∷ sites) n = go (cases_Bool (eqb s.host n)) (hosts_tick_side sites n) where
   go : (eqb s.host n ≡ true) ⊎ (eqb s.host n ≡ false) → (link_to (hosts_tick sites).0 n).controller.side ≡ (link_to sites n).controller.side

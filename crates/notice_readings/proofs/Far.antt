@@ -216,9 +216,9 @@ commits c w a = go (fails_within (length (commit_writes w.core.journal w.core.ta
   go true q = rw q (record {
     number = a.number;
     far = far-append (w.entries ++ entry.Command w.core.node c ∷ []) (entry.Cut w.core.node ∷ [])
-        (far-append w.entries (entry.Command w.core.node c ∷ []) a.far (tt, tt)) (a.number, tt);
+        (far-append w.entries (entry.Command w.core.node c ∷ []) a.far (a.number, tt)) (a.number, tt);
   })
-  go false q = rw q (record { number = a.number; far = far-append w.entries (entry.Command w.core.node c ∷ []) a.far (tt, tt) })
+  go false q = rw q (record { number = a.number; far = far-append w.entries (entry.Command w.core.node c ∷ []) a.far (a.number, tt) })
 
 does : (h : ℕ) (d : Deed) (w : Work) → IsOwn d → IsHostWork w → IsHostWork (done h d w)
 does h (Commits c) w q a = commits c w a

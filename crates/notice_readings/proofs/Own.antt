@@ -28,13 +28,16 @@ use Rattle.node_machine.specs.Controller.{asked_at, answers_on, commit_deeds, li
 use Rattle.node_machine.specs.HostReplies.{replies, accepts, is_welcome, pipe_named_in, pipe_created, pipe_deleted, pipes_cleared, notified_deeds, orders_of, is_same, learns, init_agreed, init_deeds, deleted_by, created_by, learned, response_deeds, is_gate, gate_of_pipe, ordered_deeds, host_deeds}
 use Rattle.node_machine.specs.Node.{NodeInput, input_at, forgotten, owed, all_owed, synced}
 
--- a host may note it: it tells of no end of a controller, of no creation that is asked for, and not of the power of a controller
+-- a host may note it: it tells of no end of a controller, of no creation that is asked for, and neither of the power nor of the
+-- commands of a controller
 abbrev pub IsFar : Entry → Type 0
 IsFar (entry.Sent e n pid message) = e.at_host ≡ true
 IsFar (entry.Turn e pid message) = e.at_host ≡ true
 IsFar (entry.Down e cause) = e.at_host ≡ true
 IsFar (entry.Ask h message) = ⊥
 IsFar (entry.Cut n) = eqb n 0 ≡ false
+IsFar (entry.Command n c) = eqb n 0 ≡ false
+IsFar (entry.Booted n k) = eqb n 0 ≡ false
 IsFar _ = Unit {0}
 
 -- a host may do it
