@@ -1,0 +1,17 @@
+pub mod Rows
+pub mod Asks
+pub mod Deciding
+pub mod Outcomes
+pub mod Reading
+pub mod Doing
+pub mod Deeds
+pub mod Turning
+pub mod Asides
+pub mod Coming
+pub mod Steps
+pub mod Sides
+pub mod Near
+pub mod Events
+pub mod Worlds
+pub mod Knowing
+pub mod Lines
