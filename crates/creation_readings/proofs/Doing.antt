@@ -48,7 +48,7 @@ abbrev pub EndAt : ℕ → List Creation → Option Port → Type 0
 EndAt n l None = (n ≡ 0) × (l ≡ [])
 EndAt n l (Some p) = EndHas n l p.side
 
-give_aside : (e : LinkEnd) (m : Message) → (turn e (Give m)).aside ≡ e.aside
+pub give_aside : (e : LinkEnd) (m : Message) → (turn e (Give m)).aside ≡ e.aside
 give_aside e m = go (give_refusal e m) refl where
   go : (o : Option Refused) → give_refusal e m ≡ o → (turn e (Give m)).aside ≡ e.aside
   go None q = rw q refl

@@ -1,7 +1,7 @@
 -- What a controller knows of the creations that wait, and the blocks that it sets aside for them, are what is read.
 use Rattle.std.proofs.Common.{◌≡◌, ◌⊎◌, inl, inr, ℕ, ◌≤◌, ◌||◌, Bool, true, false, cond, eqb, List, [], ◌∷◌, ◌++◌, length, sym, refl, ap, ◌∙◌, subst, arith}
 use Rattle.std.specs.Prelude.{Option, Some, None, is_some, slice_index}
-use Rattle.std.specs.List.{list_any}
+use Rattle.std.specs.List.{AllByRecursion, list_any}
 use Rattle.std.specs.Option.{option_map_or}
 use Rattle.std.proofs.lemmas.Bool.{cases_Bool, eqb-true, eq-eqb, true≢false}
 use Rattle.trace_model.specs.declared.entry.Entry.{Entry}
@@ -14,8 +14,8 @@ use Rattle.node_world.specs.World.{NodeWorld, Site, site_at, link_to, end_c}
 use Rattle.node_world.specs.NodeFilters.{asking_in, aside_in}
 use Rattle.node_telling.specs.Telling.{hosts_in}
 use Rattle.node_readings.specs.Noticed.{ends_between}
-use Rattle.creation_readings.specs.Creations.{creations_at, creations_of, IsReadSo, is_asked_pipe, KnowsAsRead, IfKnowsAsRead}
-use Rattle.creation_readings.specs.Worlds.{HasSetAside, KeepsCreations}
+use Rattle.creation_readings.specs.Creations.{creations_at, creations_of, IsReadSo, is_asked_pipe, KnowsAsRead, IfKnowsAsRead, AsidesAreRead}
+use Rattle.creation_readings.specs.Worlds.{HasNoneAside, HasSetAside, KeepsCreations}
 use Rattle.creation_readings.proofs.Doing.{takes_short}
 use Rattle.creation_readings.proofs.Asks.{asked_of, one_of, waits, desks_wait}
 use Rattle.creation_readings.proofs.Near.{none_side, desks_back}
@@ -225,7 +225,7 @@ if_known hosts t w a = go w.controller refl where
 
 -- ## Blocks
 
-pub aside_is : (hosts : List ℕ) (t : List Entry) (w : NodeWorld) → KeepsCreations hosts t w → (h : ℕ)
+aside_is : (hosts : List ℕ) (t : List Entry) (w : NodeWorld) → KeepsCreations hosts t w → (h : ℕ)
     → aside_in t (end_c h) ≡ (link_to w.sites h).controller.side.aside
 aside_is hosts t w a h = go (asking_in t h) (creations_of w.controller h) (a.read h) ∙ sym (a.ends h).aside where
   go : (r : Option (List ℕ)) (l : List Creation) → IsReadSo r l → cond (is_some r) 1 0 ≡ length l
@@ -234,6 +234,16 @@ aside_is hosts t w a h = go (asking_in t h) (creations_of w.controller h) (a.rea
   go None (c ∷ l) k = absurd k
   go (Some m) [] k = absurd k
   go (Some m) (c ∷ d ∷ l) k = absurd k
+
+none_aside : (sites : List Site) (h : ℕ) → AllByRecursion HasNoneAside sites → (link_to sites h).host.side.aside ≡ 0
+none_aside [] h a = refl
+none_aside (s ∷ sites) h a = go (cases_Bool (eqb s.host h)) (none_aside sites h a.1) where
+  go : (eqb s.host h ≡ true) ⊎ (eqb s.host h ≡ false) → (link_to sites h).host.side.aside ≡ 0 → (link_to (s ∷ sites) h).host.side.aside ≡ 0
+  go (inl is) later = rw is a.0
+  go (inr off) later = rw off later
+
+pub asides_are : (hosts : List ℕ) (t : List Entry) (w : NodeWorld) → KeepsCreations hosts t w → AsidesAreRead t w
+asides_are hosts t w a h = (aside_is hosts t w a h, sym (none_aside w.sites h a.hosts_aside))
 
 -- while a creation waits there is room for its answer, once the block for it is released
 pub finds_room : (hosts : List ℕ) (t : List Entry) (w : NodeWorld) → KeepsCreations hosts t w → (h : ℕ) (message answer : List ℕ)

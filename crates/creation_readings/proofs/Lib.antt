@@ -12,6 +12,8 @@ pub mod Steps
 pub mod Sides
 pub mod Near
 pub mod Events
+pub mod HostSides
+pub mod HostWorlds
 pub mod Worlds
 pub mod Knowing
 pub mod Lines

@@ -43,6 +43,7 @@ use Rattle.creation_readings.specs.Creations.{creations_of}
 use Rattle.creation_readings.specs.Worlds.{HasSetAside, KeepsCreations}
 use Rattle.creation_readings.proofs.Rows.{new_proper}
 use Rattle.creation_readings.proofs.Asides.{input_aside}
+use Rattle.creation_readings.proofs.HostWorlds.{event_none, new_none}
 use Rattle.creation_readings.proofs.Near.{Reads, new_ready}
 use Rattle.creation_readings.proofs.Events.{Beside, beside_reads, far_beside, begins_beside, memory_beside, lost_beside, cut_reads, boots_reads, near_step, near_tick}
 
@@ -244,6 +245,7 @@ event_keeps hosts t w c are a boots may few =
       due = b.due;
       read = b.read;
       ends = b.ends;
+      hosts_aside = event_none t w c a.notices (near_good (all_aged w).0 (aged_good w a.notices.sites)) a.hosts_aside;
     }
 
 -- ## The beginning
@@ -264,4 +266,5 @@ begin_keeps hosts are = record {
   due = tt;
   read = λ x. tt;
   ends = λ x. new_ends (replicate 65536 255) hosts x;
+  hosts_aside = new_none (replicate 65536 255) hosts;
 }

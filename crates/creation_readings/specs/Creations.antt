@@ -5,8 +5,8 @@ use Rattle.std.specs.Option.{option_map_or}
 use Rattle.trace_model.specs.declared.entry.Entry.{Entry}
 use Rattle.node_machine.specs.Parts.{Creation, Desk, Running, Port}
 use Rattle.node_machine.specs.Controller.{creation_in, asks_for, waiting_pipes}
-use Rattle.node_world.specs.World.{NodeWorld, Site}
-use Rattle.node_world.specs.NodeFilters.{asking_in}
+use Rattle.node_world.specs.World.{NodeWorld, Site, link_to, end_c, end_h}
+use Rattle.node_world.specs.NodeFilters.{asking_in, aside_in}
 use Rattle.node_readings.specs.Noticed.{ends_between}
 use Rattle.notice_readings.specs.Notices.{IsNoticeOf}
 
@@ -48,3 +48,11 @@ pub record KnowsAsRead (hosts : List ℕ) (t : List Entry) (ports : List Port) :
 abbrev pub IfKnowsAsRead : List ℕ → List Entry → List Site → Option Running → Type 0
 IfKnowsAsRead hosts t sites None = Unit {0}
 IfKnowsAsRead hosts t sites (Some r) = KnowsAsRead hosts t (ends_between sites r)
+
+-- ## Blocks set aside
+
+-- The blocks that each end has set aside are those that are read.
+abbrev pub AsidesAreRead : List Entry → NodeWorld → Type 0
+AsidesAreRead t w =
+    (h : ℕ)
+    → (aside_in t (end_c h) ≡ (link_to w.sites h).controller.side.aside) × (aside_in t (end_h h) ≡ (link_to w.sites h).host.side.aside)

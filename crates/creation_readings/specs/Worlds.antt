@@ -12,7 +12,7 @@ use Rattle.gate_admin.specs.Decide.{ends_of}
 use Rattle.link_machine.specs.Machine.{LinkEnd, in_use}
 use Rattle.node_machine.specs.Parts.{Creation, Desk, Running}
 use Rattle.node_machine.specs.Controller.{creation_in}
-use Rattle.node_world.specs.World.{NodeWorld, link_to}
+use Rattle.node_world.specs.World.{NodeWorld, Site, link_to}
 use Rattle.node_world.specs.NodeFilters.{Book, book_in, asking_in}
 use Rattle.kept_laws.specs.Worlds.{AllKeep}
 use Rattle.notice_readings.specs.Worlds.{KeepsNotices}
@@ -68,7 +68,11 @@ abbrev pub AreAwaited : Option Running → Type 0
 AreAwaited None = Unit {0}
 AreAwaited (Some r) = AllByRecursion (λ (d : Desk). IfAwaited (creation_in d.notice)) r.desks
 
--- The creation of each host is the one that is read, and its end is ready for the answer.
+-- no block is set aside at the end of a host
+abbrev pub HasNoneAside : Site → Type 0
+HasNoneAside s = s.link.host.side.aside ≡ 0
+
+-- The creation of each host is the one that is read, and a block is set aside for its answer; hosts set none aside.
 pub record KeepsCreations (hosts : List ℕ) (t : List Entry) (w : NodeWorld) : Type 0 where
   pub kept : AllKeep hosts t w
   pub notices : KeepsNotices t w
@@ -76,3 +80,4 @@ pub record KeepsCreations (hosts : List ℕ) (t : List Entry) (w : NodeWorld) : 
   pub due : AreAwaited w.controller
   pub read : (h : ℕ) → IsReadSo (asking_in t h) (creations_of w.controller h)
   pub ends : (h : ℕ) → HasSetAside (creations_of w.controller h) (link_to w.sites h).controller.side
+  pub hosts_aside : AllByRecursion HasNoneAside w.sites
