@@ -1,20 +1,22 @@
 -- What a controller knows of the creations that wait, and the blocks that it sets aside for them, are what is read.
 use Rattle.std.proofs.Common.{◌≡◌, ◌⊎◌, inl, inr, ℕ, ◌≤◌, ◌||◌, Bool, true, false, cond, eqb, List, [], ◌∷◌, ◌++◌, length, sym, refl, ap, ◌∙◌, subst, arith}
-use Rattle.std.specs.Prelude.{Option, Some, None, is_some, slice_index}
-use Rattle.std.specs.List.{AllByRecursion, list_any}
+use Rattle.std.specs.Prelude.{◌&&◌, not, is_none, Option, Some, None, is_some, slice_index}
+use Rattle.std.specs.List.{AllByRecursion, find, list_any, range_with_len}
 use Rattle.std.specs.Option.{option_map_or}
 use Rattle.std.proofs.lemmas.Bool.{cases_Bool, eqb-true, eq-eqb, true≢false}
 use Rattle.trace_model.specs.declared.entry.Entry.{Entry}
 use Rattle.hci_tables.specs.declared.command.Command.{Command}
 use Rattle.link_machine.specs.Machine.{LinkEnd, turn, give_refusal}
 use Rattle.link_machine.specs.Machine.Turn.{Release}
+use Rattle.pipe_table.specs.declared.row.PipeRow.{PipeRow}
+use Rattle.pipe_table.specs.PipeRows.{pipe_at, is_free, lowest_free}
 use Rattle.node_machine.specs.Parts.{Creation, Running, Port}
 use Rattle.node_machine.specs.Controller.{asked_at, asks_for, pipe_of, waiting_pipes}
 use Rattle.node_world.specs.World.{NodeWorld, Site, site_at, link_to, end_c}
 use Rattle.node_world.specs.NodeFilters.{asking_in, aside_in}
 use Rattle.node_telling.specs.Telling.{hosts_in}
 use Rattle.node_readings.specs.Noticed.{ends_between}
-use Rattle.creation_readings.specs.Creations.{creations_at, creations_of, IsReadSo, is_asked_pipe, KnowsAsRead, IfKnowsAsRead, AsidesAreRead}
+use Rattle.creation_readings.specs.Creations.{creations_at, creations_of, IsReadSo, is_asked_pipe, asked_pipes, KnowsAsRead, IfKnowsAsRead, AsidesAreRead}
 use Rattle.creation_readings.specs.Worlds.{HasNoneAside, HasSetAside, KeepsCreations}
 use Rattle.creation_readings.proofs.Doing.{takes_short}
 use Rattle.creation_readings.proofs.Asks.{asked_of, one_of, waits, desks_wait}
@@ -175,6 +177,29 @@ module _ (pid : ℕ) where
     by (inl here) later = record { which = x; holds = here }
     by (inr tail) later = later tail
 
+-- ## The pipe that is given
+
+any_asked : (t : List Entry) (pid : ℕ) (hosts : List ℕ) → list_any (λ p. eqb p pid) (asked_pipes t hosts) ≡ list_any (is_asked_pipe t pid) hosts
+any_asked t pid [] = refl
+any_asked t pid (h ∷ hosts) = go (asking_in t h) refl (any_asked t pid hosts) where
+  go : (r : Option (List ℕ)) → asking_in t h ≡ r
+      → list_any (λ p. eqb p pid) (asked_pipes t hosts) ≡ list_any (is_asked_pipe t pid) hosts
+      → list_any (λ p. eqb p pid) (asked_pipes t (h ∷ hosts)) ≡ list_any (is_asked_pipe t pid) (h ∷ hosts)
+  go None e later = rw e later
+  go (Some m) e later = rw e (ap (λ b. eqb (slice_index m 5) pid || b) later)
+
+find_same : (f g : ℕ → Bool) → ((n : ℕ) → f n ≡ g n) → (ns : List ℕ) → find f ns ≡ find g ns
+find_same f g same [] = refl
+find_same f g same (n ∷ ns) =
+    ap (λ b. cond b (Some n) (find f ns)) (same n) ∙ ap (λ o. cond (g n) (Some n) o) (find_same f g same ns)
+
+-- two lists that keep the same pipes leave the same one
+given_same : (rows : List PipeRow) (kept other : List ℕ) → ((pid : ℕ) → list_any (λ p. eqb p pid) kept ≡ list_any (λ p. eqb p pid) other)
+    → lowest_free rows kept ≡ lowest_free rows other
+unfolding lowest_free
+given_same rows kept other same =
+    find_same (is_free rows kept) (is_free rows other) (λ pid. ap (λ b. is_none (pipe_at rows pid) && not b) (same pid)) (range_with_len 2 110)
+
 -- ## A controller
 
 module _ (hosts : List ℕ) (t : List Entry) (w : NodeWorld) (a : KeepsCreations hosts t w) (r : Running) (runs : w.controller ≡ Some r) where
@@ -208,13 +233,18 @@ module _ (hosts : List ℕ) (t : List Entry) (w : NodeWorld) (a : KeepsCreations
         subst (λ l. list_any (is_asked_pipe t pid) l ≡ true) a.kept.hosts_are
         (any_site pid (is_asked_pipe t pid) w.sites x s q (sym (pipe_is pid x) ∙ e))
 
+  waiting_is : (pid : ℕ) → list_any (λ p. eqb p pid) (waiting_pipes ports) ≡ list_any (is_asked_pipe t pid) hosts
+  waiting_is pid =
+      two_ways (list_any (λ p. eqb p pid) (waiting_pipes ports)) (list_any (is_asked_pipe t pid) hosts)
+      (λ e. let s : HasAsker pid ports = asker_of pid ports e in in_hosts pid s.asker s.waits_there)
+      (λ e. let s : Any pid (is_asked_pipe t pid) = any_of pid (is_asked_pipe t pid) hosts e in
+      asker_waits pid s.which ports (pipe_is pid s.which ∙ s.holds))
+
   pub known_is : KnowsAsRead hosts t ports
   known_is = record {
     asks = λ h. asks_some h ports ∙ sym (read_some (asking_in t h) (waits h (asked_of ports)) (read_of h));
-    waiting = λ pid. two_ways (list_any (λ p. eqb p pid) (waiting_pipes ports)) (list_any (is_asked_pipe t pid) hosts)
-        (λ e. let s : HasAsker pid ports = asker_of pid ports e in in_hosts pid s.asker s.waits_there)
-        (λ e. let s : Any pid (is_asked_pipe t pid) = any_of pid (is_asked_pipe t pid) hosts e in
-        asker_waits pid s.which ports (pipe_is pid s.which ∙ s.holds));
+    waiting = waiting_is;
+    given = λ rows. given_same rows (waiting_pipes ports) (asked_pipes t hosts) (λ pid. waiting_is pid ∙ sym (any_asked t pid hosts));
   }
 
 pub if_known : (hosts : List ℕ) (t : List Entry) (w : NodeWorld) → KeepsCreations hosts t w → IfKnowsAsRead hosts t w.sites w.controller

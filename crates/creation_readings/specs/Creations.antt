@@ -1,8 +1,10 @@
 -- The creations that wait at a controller, by their askers, and what is read of them.
 use Rattle.std.specs.Prelude.{◌≡◌, ℕ, ◌==◌, Bool, false, List, [], ◌∷◌, is_some, slice_index, Option, Some, None}
 use Rattle.std.specs.List.{filter, filter_map, list_any}
-use Rattle.std.specs.Option.{option_map_or}
+use Rattle.std.specs.Option.{option_map, option_map_or}
 use Rattle.trace_model.specs.declared.entry.Entry.{Entry}
+use Rattle.pipe_table.specs.declared.row.PipeRow.{PipeRow}
+use Rattle.pipe_table.specs.PipeRows.{lowest_free}
 use Rattle.node_machine.specs.Parts.{Creation, Desk, Running, Port}
 use Rattle.node_machine.specs.Controller.{creation_in, asks_for, waiting_pipes}
 use Rattle.node_world.specs.World.{NodeWorld, Site, link_to, end_c, end_h}
@@ -39,10 +41,16 @@ CreationsAreRead t w = (h : ℕ) → IsReadSo (asking_in t h) (creations_of w.co
 abbrev pub is_asked_pipe : List Entry → ℕ → ℕ → Bool
 is_asked_pipe t pid h = option_map_or (λ (message : List ℕ). slice_index message 5 == pid) (asking_in t h) false
 
--- Of each host it is read whether a creation that it asked for waits, and of each pipe whether it is that of a creation that waits.
+-- the pipes for which these hosts asked, as they are read
+abbrev pub asked_pipes : List Entry → List ℕ → List ℕ
+asked_pipes t hosts = filter_map (λ h. option_map (λ (message : List ℕ). slice_index message 5) (asking_in t h)) hosts
+
+-- Of each host it is read whether a creation that it asked for waits, and of each pipe whether it is that of a creation that waits; so
+-- is the pipe that is given next, whatever pipes there are.
 pub record KnowsAsRead (hosts : List ℕ) (t : List Entry) (ports : List Port) : Type 0 where
   pub asks : (h : ℕ) → asks_for ports h ≡ is_some (asking_in t h)
   pub waiting : (pid : ℕ) → list_any (λ p. p == pid) (waiting_pipes ports) ≡ list_any (is_asked_pipe t pid) hosts
+  pub given : (rows : List PipeRow) → lowest_free rows (waiting_pipes ports) ≡ lowest_free rows (asked_pipes t hosts)
 
 -- a controller knows it so, while it runs
 abbrev pub IfKnowsAsRead : List ℕ → List Entry → List Site → Option Running → Type 0

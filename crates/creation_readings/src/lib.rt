@@ -49,7 +49,7 @@ pub fn waiting_creations_are_read_off_histories()
 
 /// So what a controller that runs knows of creations is what is read, at each moment between events and behind any lines: a host asks
 /// for one exactly where one of it is read, and a pipe is that of a creation that waits exactly where one with its number is read of a
-/// host of the world.
+/// host of the world. So the pipe that it gives next is the least one that is free by what is read.
 pub fn a_controller_knows_the_creations_that_are_read()
     ensures moment { (hosts : List ℕ) (t : List Entry) (w : NodeWorld) → KeepsCreations hosts t w → IfKnowsAsRead hosts t w.sites w.controller }
     ensures lines { (header : Header) (lines : List Line) (t : NodeHistory) → FollowsNodes header lines t → AreHosts header.hosts.items →
