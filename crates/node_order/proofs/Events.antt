@@ -36,16 +36,19 @@ use Rattle.node_links.proofs.Sites.{MayCome, clf_line, uicc_line, can_come, can_
 use Rattle.node_links.proofs.Worlds.{AreTrueDesks, IsFineNode, IsFineSite, IsFineWorld, AtHostOnly, CanReach, half_clean, near_clean, fine_clean, ports_fine, turns_fine, may_here, memory_fine}
 use Rattle.node_links.proofs.Playing.{plain_reach, starts_fine, starts_then}
 use Rattle.node_telling.specs.Telling.{of_link, TellOf, HasEnds, IfItRuns, hosts_in, IsOrderly, IfOff}
+use Rattle.node_telling.specs.Standing.{StandsOf}
 use Rattle.node_telling.proofs.Mute.{AreMute}
+use Rattle.node_telling.proofs.Powers.{entries_uncut, clear_stands, away_stands}
+use Rattle.node_telling.proofs.Shapes.{clear_lost}
 use Rattle.node_telling.proofs.Accounts.{of_other}
 use Rattle.node_telling.proofs.Parts.{IsStep}
-use Rattle.node_telling.proofs.Nodes.{site_host, link_is, ports_for, is_step, controller_tells}
+use Rattle.node_telling.proofs.Nodes.{site_host, link_is, ports_for, own_power, other_power, is_step, controller_tells, controller_stands}
 use Rattle.node_telling.proofs.Worlds.{site_is, node_is, HostDoes, host_does_step, host_does_begin}
 use Rattle.node_telling.proofs.Events.{memory_goes, comes_goes}
 use Rattle.node_readings.proofs.NoticedWorlds.{far_side}
 use Rattle.node_order.specs.Told.{IsLinkTold}
 use Rattle.node_order.proofs.Unnoticed.{IfNone, IsHostWork, AreUnnoticed, all_done_none, steps_none, runs_none}
-use Rattle.node_order.proofs.Knowing.{told_more, told_same, cut_clf, cut_uicc, Knows, Each, each_empty, each_map, each_site}
+use Rattle.node_order.proofs.Knowing.{told_more, LeaveLink, told_same, cut_clf, cut_uicc, Knows, Each, each_empty, each_map, each_site}
 
 -- a world that is orderly, and whose nodes send what may be sent
 pub record IsWell (w : NodeWorld) : Type 0 where
@@ -92,6 +95,7 @@ module _ (w : NodeWorld) (t : List Entry) (a : IsWell w) (each : Each t w) (k : 
         let e : LinkEvent = AtController (Step here (turns_at v s.host) (ending_of v)) in
         let number : s.host ≡ h = site_host w.sites h s there in
         let P : ℕ → Type 0 = λ m. TellOf h s.link (AtController (Step (comes_to k comes m) (turns_at v m) (ending_of v))) u in
+        let S : ℕ → Type 0 = λ m. StandsOf h s.link (AtController (Step (comes_to k comes m) (turns_at v m) (ending_of v))) u in
         record {
           told = told_more h s.link e t u (
             can_come s.link here (may_here k comes s.host may) fine.link.line.clf,
@@ -101,7 +105,8 @@ module _ (w : NodeWorld) (t : List Entry) (a : IsWell w) (each : Each t w) (k : 
                   (clf_line s.link.controller.side.role fine.link.line.clf),
             ),
           )
-              (subst P (sym number) (controller_tells w r k comes h s a.orderly node there i q)) b.told;
+              (subst P (sym number) (controller_tells w r k comes h s a.orderly node there i q))
+              (subst S (sym number) (controller_stands w r k comes h s a.orderly node there i q)) b.told;
           near = off v.cut refl fine.link.line.clf;
           far = let F : LinkEnd → Type 0 = IfOff s.node (new_link_end (Uicc new_uicc)) in
               subst F (sym (near_side s.link (Step here (turns_at v s.host) (ending_of v)))) b.far;
@@ -201,7 +206,7 @@ module _ (w : NodeWorld) (t : List Entry) (a : IsWell w) (each : Each t w) (k : 
               can_end s.link.host.side.role (ending_of worked)
                   (uicc_line s.link.host.side.role site_fine.link.line.uicc),
             ),
-          ) told.own b.told;
+          ) told.own told.stands b.told;
           near = subst N (sym (far_side s.link (Step comes (turns_at worked s.host) (ending_of worked)))) b.near;
           far = off worked.cut refl;
           none = runs_none worked (plain _ (record { host = host; none = ports_none r.desks desks_none }));
@@ -271,7 +276,7 @@ module _ (w : NodeWorld) (t : List Entry) (a : IsWell w) (each : Each t w) (k : 
           let one : s ≡ x = cc in
           let R : Site → Type 0 = λ z. Knows t w.controller k z → Knows (t ++ u) w.controller k (after_host comes (host_work s r comes f) z) in
           subst R one (own s there r n) b)
-          (λ h z. (does s r there n).others h z) each)
+          (λ h z. record { none = (does s r there n).others h z; stands = (does s r there n).leaves h z }) each)
 
       go : (x : Option Site) → site_at w.sites k ≡ x → P (host_does w k comes f)
       go None e = subst P (sym (none_is e)) (each_empty t w each)
@@ -317,7 +322,7 @@ begins_each w t k deeds m f u a each =
 pub each_beside : (w : NodeWorld) (memory : Memory) (t u : List Entry) (k : ℕ) (g : Site → Site) → ((s : Site) → (g s).host ≡ s.host)
     → ((s : Site) → (g s).link ≡ s.link)
     → ((s : Site) → IfOff s.node (new_link_end (Uicc new_uicc)) s.link.host.side → IfOff (g s).node (new_link_end (Uicc new_uicc)) s.link.host.side)
-    → ((s : Site) → IfNone s.node → IfNone (g s).node) → ((h : ℕ) → of_link h u ≡ []) → Each t w
+    → ((s : Site) → IfNone s.node → IfNone (g s).node) → ((h : ℕ) → LeaveLink h u) → Each t w
     → Each (t ++ u) (record { memory = memory; controller = w.controller; sites = with_site k g w.sites })
 each_beside w memory t u k g keeps links far none q each =
     each_site w memory w.controller t u k g keeps (λ h s b. b)
@@ -342,10 +347,10 @@ memory_each n m w t each = go (n == 0)
 
     go : (b : Bool) → Each (t ++ []) (by b)
     go true = each_empty t (by true) (λ h s found. each h s found)
-    go false = each_beside w w.memory t [] n (λ s. record s { memory = m }) (λ s. refl) (λ s. refl) (λ s b. b) (λ s b. b) (λ h. refl) each
+    go false = each_beside w w.memory t [] n (λ s. record s { memory = m }) (λ s. refl) (λ s. refl) (λ s b. b) (λ s b. b) (λ h. record { none = refl; stands = λ x. refl }) each
 
 pub power_each : (n : ℕ) (w : NodeWorld) (t : List Entry) → IsWell w → Each t w → Each (t ++ entry.Cut n ∷ []) (loses_power_at n w)
-power_each n w t a each = go (n == 0)
+power_each n w t a each = go (n == 0) refl
   where
     u : List Entry
     u = entry.Cut n ∷ []
@@ -357,35 +362,37 @@ power_each n w t a each = go (n == 0)
     near : EndEvent
     near = Step NoInput [] CutOff
 
-    go : (b : Bool) → Each (t ++ entry.Cut n ∷ []) (by b)
-    go true =
+    go : (b : Bool) → (n == 0) ≡ b → Each (t ++ entry.Cut n ∷ []) (by b)
+    go true zero =
         each_map w w.memory None t u (λ (s : Site). record s { link = happens s.link (AtController near) }) (λ s. refl)
         (λ h s found b.
         let fine : IsFineSite s = site_is IsFineSite w.sites h s a.fine.sites found in
         let F : LinkEnd → Type 0 = IfOff s.node (new_link_end (Uicc new_uicc)) in
         record {
-          told = told_more h s.link (AtController near) t u (tt, (tt, clf_line s.link.controller.side.role fine.link.line.clf)) refl b.told;
+          told = told_more h s.link (AtController near) t u (tt, (tt, clf_line s.link.controller.side.role fine.link.line.clf)) refl
+              (λ x. rw zero refl) b.told;
           near = cut_clf s.link NoInput [] None refl tt fine.link.line.clf;
           far = subst F (sym (near_side s.link near)) b.far;
           none = b.none;
         }) each
-    go false =
+    go false zero =
         each_site w w.memory w.controller t u n host_cut (λ s. refl) (λ h s b. b)
         (λ s found b.
         let fine : IsFineSite s = site_is IsFineSite w.sites n s a.fine.sites found in
         let N : LinkEnd → Type 0 = IfOff w.controller (new_link_end (Clf new_clf)) in
         record {
-          told = told_more n s.link (AtHost near) t u (tt, (tt, uicc_line s.link.host.side.role fine.link.line.uicc)) refl b.told;
+          told = told_more n s.link (AtHost near) t u (tt, (tt, uicc_line s.link.host.side.role fine.link.line.uicc)) refl (own_power n zero)
+              b.told;
           near = subst N (sym (far_side s.link near)) b.near;
           far = cut_uicc (exchanged s.link) NoInput [] None refl tt fine.link.line.uicc;
           none = tt;
-        }) (λ h z. refl) each
+        }) (λ h z. record { none = refl; stands = other_power n h zero z }) each
 
 new_none : (hosts : List ℕ) → AllByRecursion (λ (d : Desk). d.notice ≡ None) (map new_desk hosts)
 new_none [] = tt
 new_none (h ∷ hosts) = (refl, new_none hosts)
 
-node_each : (n : ℕ) (r : Running) (w : NodeWorld) (t u : List Entry) → IfNone (Some r) → ((h : ℕ) → of_link h u ≡ []) → Each t w
+node_each : (n : ℕ) (r : Running) (w : NodeWorld) (t u : List Entry) → IfNone (Some r) → ((h : ℕ) → LeaveLink h u) → Each t w
     → Each (t ++ u) (with_node n r w)
 node_each n r w t u none q each = go (n == 0)
   where
@@ -423,7 +430,8 @@ boots_each w t n a each = go (fails_within (length (boot_writes (memory_at w n).
 
     go : (b : Bool) → Each (t ++ (by b).1) (by b).0
     go true = power_each n written t well kept
-    go false = node_each n r written t (entry.Booted n (count_of r.core.journal) ∷ []) (new_none (links_of w n)) (λ h. refl) kept
+    go false = node_each n r written t (entry.Booted n (count_of r.core.journal) ∷ []) (new_none (links_of w n))
+        (λ h. record { none = refl; stands = λ x. refl }) kept
 
 -- ## Losses
 
@@ -505,12 +513,19 @@ lost_each w t e why each = go e.at_host refl
         let N : LinkEnd → Type 0 = IfOff (counts why e.link w.controller) new_near in
         let F : LinkEnd → Type 0 = IfOff s.node new_far in
         record {
-          told = subst T (sym q) (told_more e.link s.link (AtController (Lose why)) t u tt told b.told);
+          told = subst T (sym q) (told_more e.link s.link (AtController (Lose why)) t u tt told
+              (clear_stands e.link u (first_lost Controller why s.link.to_controller) (entries_uncut e.link (first_lost Controller why (link_to w.sites e.link).to_controller))
+              (clear_lost Controller why s.link.to_controller) told) b.told);
           near = subst N (sym (near_left e.at_host s.link)) (counts_off why e.link w.controller new_near s.link.controller.side b.near);
           far = subst F (sym (far_left e.at_host s.link)) b.far;
           none = b.none;
         })
-        (λ h z. of_other e.link h (first_lost Controller why (link_to w.sites e.link).to_controller) z) each
+        (λ h z.
+        let none : of_link h u ≡ [] = of_other e.link h (first_lost Controller why (link_to w.sites e.link).to_controller) z in
+        record {
+          none = none;
+          stands = away_stands h u (entries_uncut e.link (first_lost Controller why (link_to w.sites e.link).to_controller)) none;
+        }) each
     go true q =
         let u : List Entry = (by true).1 in
         each_site w w.memory w.controller t u e.link (λ s. record (lost s) { node = counts why e.link s.node }) (λ s. refl) (λ h s b. b)
@@ -521,12 +536,19 @@ lost_each w t e why each = go e.at_host refl
         let N : LinkEnd → Type 0 = IfOff w.controller new_near in
         let F : LinkEnd → Type 0 = IfOff (counts why e.link s.node) new_far in
         record {
-          told = subst T (sym q) (told_more e.link s.link (AtHost (Lose why)) t u tt told b.told);
+          told = subst T (sym q) (told_more e.link s.link (AtHost (Lose why)) t u tt told
+              (clear_stands e.link u (first_lost Host why s.link.to_host) (entries_uncut e.link (first_lost Host why (link_to w.sites e.link).to_host))
+              (clear_lost Host why s.link.to_host) told) b.told);
           near = subst N (sym (near_left e.at_host s.link)) b.near;
           far = subst F (sym (far_left e.at_host s.link)) (counts_off why e.link s.node new_far s.link.host.side b.far);
           none = counts_none why e.link s.node b.none;
         })
-        (λ h z. of_other e.link h (first_lost Host why (link_to w.sites e.link).to_host) z) each
+        (λ h z.
+        let none : of_link h u ≡ [] = of_other e.link h (first_lost Host why (link_to w.sites e.link).to_host) z in
+        record {
+          none = none;
+          stands = away_stands h u (entries_uncut e.link (first_lost Host why (link_to w.sites e.link).to_host)) none;
+        }) each
 
 -- ## Activation
 

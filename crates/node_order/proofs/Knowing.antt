@@ -1,6 +1,7 @@
 -- What is known of each link of a world of nodes by what was noted so far, and how it lasts as links go on.
 use Rattle.std.proofs.Common.{◌≡◌, ℕ, ◌==◌, Bool, true, false, List, [], ◌∷◌, ◌++◌, Option, Some, None, map, refl, ap, sym, subst, ◌∙◌, append-nil}
 use Rattle.std.proofs.lemmas.Bool.{eqb-true}
+use Rattle.std.proofs.lemmas.List.Sums.{fold-append}
 use Rattle.swp_base.specs.InMemory.{Memory}
 use Rattle.swp_act.specs.Activation.{new_clf, new_uicc}
 use Rattle.trace_model.specs.declared.entry.Entry.{Entry}
@@ -21,6 +22,7 @@ use Rattle.node_links.specs.Runs.{new_line}
 use Rattle.node_links.proofs.Ends.{here_clf, here_uicc}
 use Rattle.node_links.proofs.Sites.{run_of_more}
 use Rattle.node_telling.specs.Telling.{of_link, TellOf, IfOff}
+use Rattle.node_telling.specs.Standing.{Standing, new_standing, stands_noted, standing, law_noted, standing_by_law, StandsOf}
 use Rattle.node_telling.proofs.Accounts.{of-append}
 use Rattle.node_telling.proofs.Parts.{IsStep}
 use Rattle.node_telling.proofs.Steps.{notes-append}
@@ -32,12 +34,14 @@ use Rattle.node_order.proofs.Unnoticed.{IfNone}
 -- ## One link
 
 -- one event more
-pub told_more : (h : ℕ) (l : Link) (e : LinkEvent) (t u : List Entry) → IsEvent l e → TellOf h l e u → IsLinkTold h l t → IsLinkTold h (happens l e) (t ++ u)
-told_more h l e t u can tells a =
+pub told_more : (h : ℕ) (l : Link) (e : LinkEvent) (t u : List Entry) → IsEvent l e → TellOf h l e u → StandsOf h l e u → IsLinkTold h l t
+    → IsLinkTold h (happens l e) (t ++ u)
+told_more h l e t u can tells stands a =
     let O : List Entry → List Entry = of_link h in
     let es : List LinkEvent = a.events in
     let last : entries (after_link_events new_line es) (e ∷ []) ≡ event_entries l e =
     append-nil (event_entries (after_link_events new_line es) e) ∙ ap (λ k. event_entries k e) a.run.is in
+    let x : Standing = standing_by_law h new_standing (entries new_line es) in
     record {
       events = es ++ e ∷ [];
       run = run_of_more es l e can a.run;
@@ -47,14 +51,27 @@ told_more h l e t u can tells a =
           ∙ (ap (λ z. O (entries_for h (entries new_line es)) ++ z) (tells ∙ ap (λ z. O (entries_for h z)) (sym last))
           ∙ sym (ap (λ z. O (entries_for h z)) (entries-append es (e ∷ []) new_line)
           ∙ notes-append h (entries new_line es) (entries (after_link_events new_line es) (e ∷ [])))));
+      stands =
+          fold-append (stands_noted h) new_standing t u
+          ∙ (ap (λ z. standing h z u) a.stands
+          ∙ (stands x
+          ∙ (ap (standing_by_law h x) (sym last)
+          ∙ sym (ap (standing_by_law h new_standing) (entries-append es (e ∷ []) new_line)
+          ∙ fold-append (law_noted h) new_standing (entries new_line es) (entries (after_link_events new_line es) (e ∷ []))))));
     }
 
-pub told_same : (h : ℕ) (l : Link) (t u : List Entry) → of_link h u ≡ [] → IsLinkTold h l t → IsLinkTold h l (t ++ u)
+-- these entries tell nothing of a link
+pub record LeaveLink (h : ℕ) (u : List Entry) : Type 0 where
+  pub none : of_link h u ≡ []
+  pub stands : (x : Standing) → standing h x u ≡ x
+
+pub told_same : (h : ℕ) (l : Link) (t u : List Entry) → LeaveLink h u → IsLinkTold h l t → IsLinkTold h l (t ++ u)
 told_same h l t u q a =
     record {
       events = a.events;
       run = a.run;
-      told = of-append h t u ∙ (ap (λ z. of_link h t ++ z) q ∙ (append-nil (of_link h t) ∙ a.told));
+      told = of-append h t u ∙ (ap (λ z. of_link h t ++ z) q.none ∙ (append-nil (of_link h t) ∙ a.told));
+      stands = fold-append (stands_noted h) new_standing t u ∙ (q.stands (standing h new_standing t) ∙ a.stands);
     }
 
 -- ## Ends whose nodes lose power
@@ -168,7 +185,7 @@ module _ (w : NodeWorld) (memory : Memory) (o : Option Running) (t u : List Entr
       → ((r : ℕ) (s : Site) → IfOff w.controller (new_link_end (Clf new_clf)) s.link.controller.side
       → IfOff o (new_link_end (Clf new_clf)) s.link.controller.side)
       → ((s : Site) → site_at w.sites k ≡ Some s → Knows t w.controller k s → Knows (t ++ u) o k (g s))
-      → ((h : ℕ) → (k == h) ≡ false → of_link h u ≡ []) → Each t w
+      → ((h : ℕ) → (k == h) ≡ false → LeaveLink h u) → Each t w
       → Each (t ++ u) (record { memory = memory; controller = o; sites = map (λ (s : Site). changed_if (s.host == k) g s) w.sites })
   each_site k g keeps off own others a =
       each_map (λ (s : Site). changed_if (s.host == k) g s) (λ s. changed_host (s.host == k) g s (keeps s)) (λ h s found b. go h s found b (s.host == k) refl) a

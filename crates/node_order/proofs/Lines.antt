@@ -113,7 +113,7 @@ new_each content (k ∷ hosts) h s q = go (k == h) refl (new_each content hosts 
         let one : new_site content k ≡ s = cc in
         let P : Site → Type 0 = λ z. Knows [] None h z in
         subst P one (record {
-          told = record { events = []; run = record { allowed = tt; is = refl }; told = refl };
+          told = record { events = []; run = record { allowed = tt; is = refl }; told = refl; stands = refl };
           near = refl;
           far = refl;
           none = tt;

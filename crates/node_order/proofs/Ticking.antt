@@ -313,7 +313,7 @@ ticks_each w t a up each h v q = go (site_at w.sites h) refl
 
     some : (s : Site) → site_at w.sites h ≡ Some s → Knows (t ++ u) (world_ticks w).0.controller h v
     some s found = subst K one (record {
-      told = let T : Link → Type 0 = λ l. IsLinkTold h l (t ++ u) in subst T c.is (told_more h s.link event t u can c.told b.told);
+      told = let T : Link → Type 0 = λ l. IsLinkTold h l (t ++ u) in subst T c.is (told_more h s.link event t u can c.told c.stands b.told);
       near = let N : LinkEnd → Type 0 = IfOff (controller_ticks old).0.controller (new_link_end (Clf new_clf)) in
           subst N (sym (host_tick_side x)) (near_after old old_clf old_off h x c.near_there);
       far = after_it.off;

@@ -6,19 +6,29 @@ use Rattle.link_machine.specs.Machine.{messages_got, whole_among}
 use Rattle.message_link.specs.Links.{Talk, Link, LinkEvent, number_of, talk_of}
 use Rattle.message_link.specs.Quiet.{IsQuiet, losses_of}
 use Rattle.link_entries.specs.Entries.{entries}
+use Rattle.link_entries.specs.Sessions.{number_now as session_at}
 use Rattle.history.specs.Filters.{sent_in, got_in, acked_in}
 use Rattle.history.specs.Legal.{IsDelivered}
 use Rattle.history.specs.Steps.{entries_for}
 use Rattle.node_world.specs.World.{end_c, end_h}
+use Rattle.node_world.specs.NodeFilters.{session_now}
 use Rattle.node_links.specs.Runs.{IsRunOf, new_line}
 use Rattle.node_telling.specs.Telling.{of_link}
+use Rattle.node_telling.specs.Standing.{new_standing, standing, standing_by_law}
 
--- Some events of the law of one link, each of which may happen, make the link with this host of a new one, and what these entries tell
--- of it is what that law notes of them.
+-- Some events of the law of one link, each of which may happen, make the link with this host of a new one, what these entries tell
+-- of it is what that law notes of them, and so they tell how it stands, with all cuts of the power of its nodes.
 pub record IsLinkTold (h : ℕ) (l : Link) (t : List Entry) : Type 0 where
   pub events : List LinkEvent
   pub run : IsRunOf events l
   pub told : of_link h t ≡ of_link h (entries_for h (entries new_line events))
+  pub stands : standing h new_standing t ≡ standing_by_law h new_standing (entries new_line events)
+
+-- The session of each end of the link with this host is the one that is read off these entries: the number of it where the end is up,
+-- and none where it isn't, as while its node doesn't run.
+pub record AreSessionsRead (t : List Entry) (h : ℕ) (l : Link) : Type 0 where
+  pub controller : session_now t (end_c h) 0 ≡ session_at l.controller
+  pub host : session_now t (end_h h) h ≡ session_at l.host
 
 -- what an end has of a session is what is read off these entries: the messages sent and got, and how many are acknowledged whole
 pub record IsReadOff (t : List Entry) (e : End) (n : ℕ) (talk : Talk) : Type 0 where

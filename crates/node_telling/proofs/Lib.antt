@@ -3,6 +3,8 @@ pub mod Walks
 pub mod Accounts
 pub mod Away
 pub mod Parts
+pub mod Powers
+pub mod Shapes
 pub mod Steps
 pub mod Late
 pub mod Ticks

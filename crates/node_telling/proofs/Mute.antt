@@ -36,7 +36,7 @@ use Rattle.node_machine.specs.HostReplies.{replies, accepts, is_welcome, pipe_na
 use Rattle.node_machine.specs.Turns.{deeds_of}
 use Rattle.node_machine.specs.Node.{NodeInput, input_at, forgotten, owed, all_owed, synced}
 
--- what a node notes beside its links, its turns and its boots
+-- what a node notes beside its links, its turns, its boots and its power
 abbrev pub IsPlain : Entry → Type 0
 IsPlain (entry.Held e need spare) = Unit {0}
 IsPlain (entry.Ask host message) = Unit {0}
@@ -46,7 +46,6 @@ IsPlain (entry.AnyOk node count) = Unit {0}
 IsPlain (entry.InitSame e) = Unit {0}
 IsPlain (entry.InitMade e count) = Unit {0}
 IsPlain (entry.InitFailed e code) = Unit {0}
-IsPlain (entry.Cut node) = Unit {0}
 IsPlain _ = ⊥
 
 -- it tells of no link
@@ -59,7 +58,6 @@ plain_said (entry.AnyOk node count) p = refl
 plain_said (entry.InitSame e) p = refl
 plain_said (entry.InitMade e count) p = refl
 plain_said (entry.InitFailed e code) p = refl
-plain_said (entry.Cut node) p = refl
 plain_said x p = absurd p
 
 -- what is noted as an init ends is so

@@ -12,6 +12,7 @@ use Rattle.message_link.specs.Links.{NumberedEnd, Comes, new_link, exchanged, nu
 use Rattle.message_link.specs.Links.Comes.{NextFrame, AsksReset, Starts, Stops, NoInput}
 use Rattle.message_link.specs.Links.EndEvent.{Step}
 use Rattle.message_link.specs.Links.LinkEvent.{AtController, AtHost}
+use Rattle.link_entries.specs.Entries.{step_entries}
 use Rattle.link_entries.specs.Entries.End.{Controller, Host}
 use Rattle.history.specs.Steps.{entries_for}
 use Rattle.node_machine.specs.Parts.{Desk, Running, Port, Work, Deed}
@@ -26,6 +27,10 @@ use Rattle.node_telling.proofs.Mute.{AreMute}
 use Rattle.node_telling.proofs.Accounts.{of-append, of_other, at_host}
 use Rattle.node_telling.proofs.Away.{Away}
 use Rattle.node_telling.proofs.Parts.{IsStep}
+use Rattle.node_telling.specs.Standing.{Standing, without_power, after_power, standing, StandsOf}
+use Rattle.node_telling.proofs.Walks.{AreUncut}
+use Rattle.node_telling.proofs.Powers.{entries_uncut, begins_powered, steps_powered}
+use Rattle.node_telling.proofs.Shapes.{shaped_step, twice, IsAtEnd, step_stands, step_away, own_frames, all_frames}
 use Rattle.node_telling.proofs.Steps.{only, Opening, Goes, stepped, begun, closed, frames_of, away_steps, away_begun}
 
 -- ## Lists
@@ -146,26 +151,51 @@ module _ (w : NodeWorld) (r : Running) (k : ℕ) (comes : Comes) (h : ℕ) (s : 
       f : Site → List Entry
       f x = frames_noted Controller x.host (wires_for x.link (comes_to k comes x.host)) v
 
+  -- what comes to its end of the link
+  given : (i : LinkInput) → input_of (link_to w.sites k) comes ≡ Some i → (b : Bool) → (h == k) ≡ b
+      → input_of s.link (cond b comes NoInput) ≡ cond b (Some i) None
+  given i q true e = ap (λ l. input_of l comes) (sym link ∙ ap (link_to w.sites) (eqb-true h k e)) ∙ q
+  given i q false e = refl
+
+  is_so : (i : LinkInput) (b : Bool) → IsStep (cond b comes NoInput) (cond b (Some i) None)
+  is_so i true = is_step comes i
+  is_so i false = tt
+
   pub controller_tells : (i : LinkInput) → input_of (link_to w.sites k) comes ≡ Some i
       → TellOf h s.link (AtController (Step (comes_to k comes h) (turns_at (controller_work w r k comes (steps (AtEnd k i))) h)
       (ending_of (controller_work w r k comes (steps (AtEnd k i))))))
       (after_controller w k comes (controller_work w r k comes (steps (AtEnd k i)))).1
   controller_tells i q =
-      controller_closed (input_here k i h) (steps (AtEnd k i) Start) (given (h == k) refl) (is_so (h == k))
+      controller_closed (input_here k i h) (steps (AtEnd k i) Start) (given i q (h == k) refl) (is_so i (h == k))
       (stepped h Controller s.link (comes_to k comes h) (input_here k i h) k i Start opened (ap (λ n. input_here k i n) here))
     where
-      given : (b : Bool) → (h == k) ≡ b → input_of s.link (cond b comes NoInput) ≡ cond b (Some i) None
-      given true e = ap (λ l. input_of l comes) (sym link ∙ ap (link_to w.sites) (eqb-true h k e)) ∙ q
-      given false e = refl
-
-      is_so : (b : Bool) → IsStep (cond b comes NoInput) (cond b (Some i) None)
-      is_so true = is_step comes i
-      is_so false = tt
-
       here : opened.port.desk.host ≡ h
       here = eqb-true opened.port.desk.host h (at_host Start.ports h opened.port opened.here)
 
+  -- and how the link stands behind it
+  pub controller_stands : (i : LinkInput) → input_of (link_to w.sites k) comes ≡ Some i
+      → StandsOf h s.link (AtController (Step (comes_to k comes h) (turns_at (controller_work w r k comes (steps (AtEnd k i))) h)
+      (ending_of (controller_work w r k comes (steps (AtEnd k i))))))
+      (after_controller w k comes (controller_work w r k comes (steps (AtEnd k i)))).1
+  controller_stands i q =
+      let v : Work = controller_work w r k comes (steps (AtEnd k i)) in
+      let out = all_frames Controller (λ x. wires_for x.link (comes_to k comes x.host)) v w.sites in
+      step_stands h 0 Controller (λ x. refl) v (flat_map (λ x. frames_noted Controller x.host (wires_for x.link (comes_to k comes x.host)) v) w.sites)
+      (step_entries Controller s.link (comes_to k comes h) (turns_at v h) (ending_of v))
+      (steps_powered h 0 (without_power Controller) (λ x. refl) (twice Controller) (AtEnd k i) Start node.number refl
+      (entries_uncut k (arrival Controller (link_to w.sites k) comes)))
+      out.0 out.1
+      (shaped_step Controller s.link (comes_to k comes h) (turns_at v h) (ending_of v) (input_here k i h) (given i q (h == k) refl) (is_so i (h == k)))
+      (controller_tells i q)
+
 -- ## A host
+
+-- the power of a host is that of its own end, and of no other link
+pub own_power : (h : ℕ) → (h == 0) ≡ false → (x : Standing) → after_power h h x ≡ without_power Host x
+own_power h host x = let same = same_number h in rw (host, same) refl
+
+pub other_power : (k h : ℕ) → (k == 0) ≡ false → (k == h) ≡ false → (x : Standing) → after_power h k x ≡ x
+other_power k h host q x = rw (host, q) refl
 
 module _ (s : Site) (r : Running) (comes : Comes) (host : (s.host == 0) ≡ false) (node : HasEnds s.host (s.host ∷ []) r) where
   abbrev pub HostStart : Work
@@ -222,6 +252,22 @@ module _ (s : Site) (r : Running) (comes : Comes) (host : (s.host == 0) ≡ fals
   pub record HostTells (v : Work) : Type 0 where
     pub own : TellOf s.host s.link (AtHost (Step comes (turns_at v s.host) (ending_of v))) (noted_by v)
     pub others : (h : ℕ) → (s.host == h) ≡ false → of_link h (noted_by v) ≡ []
+    pub stands : StandsOf s.host s.link (AtHost (Step comes (turns_at v s.host) (ending_of v))) (noted_by v)
+    pub leaves : (h : ℕ) → (s.host == h) ≡ false → (x : Standing) → standing h x (noted_by v) ≡ x
+
+  -- how links stand behind what a host does
+  start_uncut : AreUncut HostStart.entries
+  start_uncut = entries_uncut s.host (arrival Host (exchanged s.link) comes)
+
+  pub host_stands : (o : Option LinkInput) (v : Work) → input_of (exchanged s.link) comes ≡ o → IsStep comes o
+      → IsAtEnd s.host s.host Host (own_power s.host host) v
+      → TellOf s.host s.link (AtHost (Step comes (turns_at v s.host) (ending_of v))) (noted_by v)
+      → StandsOf s.host s.link (AtHost (Step comes (turns_at v s.host) (ending_of v))) (noted_by v)
+  host_stands o v q c a told =
+      let out = own_frames Host s.host (wires_for (exchanged s.link) comes) v in
+      step_stands s.host s.host Host (own_power s.host host) v (frames_noted Host s.host (wires_for (exchanged s.link) comes) v)
+      (step_entries Host (exchanged s.link) comes (turns_at v s.host) (ending_of v)) a out.0 out.1
+      (shaped_step Host (exchanged s.link) comes (turns_at v s.host) (ending_of v) o q c) told
 
   pub host_steps : (i : LinkInput) → input_of (exchanged s.link) comes ≡ Some i → HostTells (host_work s r comes (steps (AtEnd s.host i)))
   host_steps i q =
@@ -229,10 +275,18 @@ module _ (s : Site) (r : Running) (comes : Comes) (host : (s.host == 0) ≡ fals
       (at_host HostStart.ports s.host host_opened.port host_opened.here) in
       let same : input_here s.host i s.host ≡ Some i = ap (λ b. cond b (Some i) None) (same_number s.host) in
       let v : Work = steps (AtEnd s.host i) HostStart in
+      let own : TellOf s.host s.link (AtHost (Step comes (turns_at v s.host) (ending_of v))) (noted_by v) = host_closed (Some i) v q (is_step comes i)
+      (stepped s.host Host (exchanged s.link) comes (Some i) s.host i HostStart host_opened (ap (λ n. input_here s.host i n) here ∙ same)) in
+      let others : (h : ℕ) → (s.host == h) ≡ false → of_link h (noted_by v) ≡ [] = λ h z.
+      away_closed h v z (away_steps h s.host i HostStart (host_away h z)) in
+      let out = own_frames Host s.host (wires_for (exchanged s.link) comes) v in
       record {
-        own = host_closed (Some i) v q (is_step comes i)
-            (stepped s.host Host (exchanged s.link) comes (Some i) s.host i HostStart host_opened (ap (λ n. input_here s.host i n) here ∙ same));
-        others = λ h z. away_closed h v z (away_steps h s.host i HostStart (host_away h z));
+        own = own;
+        others = others;
+        stands = host_stands (Some i) v q (is_step comes i)
+            (steps_powered s.host s.host (without_power Host) (own_power s.host host) (twice Host) (AtEnd s.host i) HostStart node.number refl start_uncut) own;
+        leaves = λ h z. step_away h s.host (other_power s.host h host z) v _
+            (steps_powered h s.host (λ x. x) (other_power s.host h host z) (λ x. refl) (AtEnd s.host i) HostStart node.number refl start_uncut) out.0 (others h z);
       }
 
 -- a host does these things of itself
@@ -241,8 +295,17 @@ pub host_begins : (s : Site) (r : Running) (host : (s.host == 0) ≡ false) (nod
 host_begins s r host node deeds m =
     let start : Work = HostStart s r NoInput host node in
     let v : Work = begins_with s.host deeds start in
+    let own : TellOf s.host s.link (AtHost (Step NoInput (turns_at v s.host) (ending_of v))) (noted_by s r NoInput host node v) =
+    host_closed s r NoInput host node None v refl tt
+    (begun s.host Host (exchanged s.link) NoInput None s.host deeds start m (host_opened s r NoInput host node) refl) in
+    let others : (h : ℕ) → (s.host == h) ≡ false → of_link h (noted_by s r NoInput host node v) ≡ [] = λ h z.
+    away_closed s r NoInput host node h v z (away_begun h s.host deeds start m (host_away s r NoInput host node h z)) in
+    let out = own_frames Host s.host (wires_for (exchanged s.link) NoInput) v in
     record {
-      own = host_closed s r NoInput host node None v refl tt
-          (begun s.host Host (exchanged s.link) NoInput None s.host deeds start m (host_opened s r NoInput host node) refl);
-      others = λ h z. away_closed s r NoInput host node h v z (away_begun h s.host deeds start m (host_away s r NoInput host node h z));
+      own = own;
+      others = others;
+      stands = host_stands s r NoInput host node None v refl tt
+          (begins_powered s.host s.host (without_power Host) (own_power s.host host) (twice Host) s.host deeds start m node.number refl tt) own;
+      leaves = λ h z. step_away h s.host (other_power s.host h host z) v _
+          (begins_powered h s.host (λ x. x) (other_power s.host h host z) (λ x. refl) s.host deeds start m node.number refl tt) out.0 (others h z);
     }

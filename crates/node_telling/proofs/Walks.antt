@@ -1,5 +1,5 @@
 -- A fact of a node lasts over all that it does in a step, where it lasts over entries that tell of no link, over changes of what is
--- kept of an end, over turns, and over what changes neither ends nor entries.
+-- kept of an end, over turns, over the loss of power, and over what changes neither ends nor entries.
 use Rattle.std.proofs.Common.{◌≡◌, ℕ, Bool, true, false, List, [], ◌∷◌, ◌++◌, length, Option, Some, None, refl}
 use Rattle.std.specs.List.{AllByRecursion}
 use Rattle.std.specs.Option.{option_map_or}
@@ -34,6 +34,22 @@ plain_silent : (t : List Entry) → ArePlain t → AreSilent t
 plain_silent [] a = tt
 plain_silent (x ∷ t) a = (plain_said x a.0, plain_silent t a.1)
 
+-- they tell of no loss of power
+abbrev pub IsUncut : Entry → Type 0
+IsUncut (entry.Cut node) = ⊥
+IsUncut _ = Unit {0}
+
+abbrev pub AreUncut : List Entry → Type 0
+AreUncut t = AllByRecursion IsUncut t
+
+one_uncut : (x : Entry) → IsPlain x → IsUncut x
+one_uncut (entry.Cut node) p = p
+one_uncut x p = tt
+
+plain_uncut : (t : List Entry) → ArePlain t → AreUncut t
+plain_uncut [] a = tt
+plain_uncut (x ∷ t) a = (one_uncut x a.0, plain_uncut t a.1)
+
 -- a turn of a node that fetches no message
 abbrev pub IsNoFetch : Turn → Type 0
 IsNoFetch FetchMessage = ⊥
@@ -57,7 +73,8 @@ module _ (Of : Work → Type 0)
     (note : (es : List Entry) (w : Work) → ArePlain es → Of w → Of (noting es w))
     (desk : (k : ℕ) (f : Desk → Desk) (w : Work) → ((d : Desk) → (f d).host ≡ d.host) → Of w → Of (with_desk k f w))
     (turns : (k : ℕ) (t : Turn) (w : Work) → IsNoFetch t → Of w → Of (turn_at k t w))
-    (beside : (w v : Work) → v.core.node ≡ w.core.node → v.ports ≡ w.ports → v.entries ≡ w.entries → Of w → Of v) where
+    (beside : (w v : Work) → v.cut ≡ w.cut → v.core.node ≡ w.core.node → v.ports ≡ w.ports → v.entries ≡ w.entries → Of w → Of v)
+    (loses : (writes : List Write) (w : Work) → Of w → Of (loses_power writes w)) where
   commits : (c : Command) (w : Work) → Of w → Of (commit c w)
   commits c w a = go (fails_within (length writes) w.plan)
     where
@@ -75,10 +92,8 @@ module _ (Of : Work → Type 0)
       by false = keeps c writes begun
 
       go : (b : Bool) → Of (by b)
-      go true =
-          let v : Work = record begun { writes = begun.writes ++ writes; plan = None; cut = true } in
-          note (entry.Cut w.core.node ∷ []) v (tt, tt) (beside begun v refl refl refl noted)
-      go false = beside begun (keeps c writes begun) refl refl refl noted
+      go true = loses writes begun noted
+      go false = beside begun (keeps c writes begun) refl refl refl refl noted
 
   tells : (k : ℕ) (about : About) (message : List ℕ) (w : Work) → Of w → Of (notified k about message w)
   tells k about message w a =
@@ -99,12 +114,12 @@ module _ (Of : Work → Type 0)
   does k (SetsErrors errors) w i a = desk k (λ d. record d { errors = errors }) w (λ d. refl) a
   does k (Orders message) w i a =
       let v : Work = record w { core = record w.core { command = Some message } } in
-      turns k (Give (1, message)) v tt (beside w v refl refl refl a)
-  does k Hears w i a = beside w (record w { core = record w.core { command = None } }) refl refl refl a
-  does k (GoesOn x) w i a = beside w (record w { core = record w.core { init = Some x } }) refl refl refl a
+      turns k (Give (1, message)) v tt (beside w v refl refl refl refl a)
+  does k Hears w i a = beside w (record w { core = record w.core { command = None } }) refl refl refl refl a
+  does k (GoesOn x) w i a = beside w (record w { core = record w.core { init = Some x } }) refl refl refl refl a
   does k (Ends x) w i a =
       let v : Work = record w { core = record w.core { init = None } } in
-      note (x ∷ []) v (i, tt) (beside w v refl refl refl a)
+      note (x ∷ []) v (i, tt) (beside w v refl refl refl refl a)
 
   pub every_do : (k : ℕ) (deeds : List Deed) (w : Work) → AreMute deeds → Of w → Of (all_done k deeds w)
   every_do k [] w i a = a
@@ -158,25 +173,32 @@ module _ (Of : Work → Type 0)
       unless Of passes (unless_cut (all_done 0 owing) (all_done 0 syncs (all_done 0 freed w))) (λ v b. going _ v b)
       (unless Of (all_done 0 owing) (all_done 0 syncs (all_done 0 freed w)) (λ v b. all 0 owing v o b) one)
 
--- what lasts over all that is noted of no link, and over all turns
+-- what lasts over all that is noted of no link and tells of no power, over all turns, and over the loss of power
 module _ (Of : Work → Type 0)
-    (note : (es : List Entry) (w : Work) → AreSilent es → Of w → Of (noting es w))
+    (note : (es : List Entry) (w : Work) → AreSilent es → AreUncut es → Of w → Of (noting es w))
     (desk : (k : ℕ) (f : Desk → Desk) (w : Work) → ((d : Desk) → (f d).host ≡ d.host) → Of w → Of (with_desk k f w))
     (turns : (k : ℕ) (t : Turn) (w : Work) → Of w → Of (turn_at k t w))
-    (beside : (w v : Work) → v.core.node ≡ w.core.node → v.ports ≡ w.ports → v.entries ≡ w.entries → Of w → Of v) where
-  pub all_do : (k : ℕ) (deeds : List Deed) (w : Work) → AreMute deeds → Of w → Of (all_done k deeds w)
-  all_do k deeds w i a = every_do Of (λ es v p b. note es v (plain_silent es p) b) desk (λ j t v n b. turns j t v b) beside k deeds w i a
+    (beside : (w v : Work) → v.cut ≡ w.cut → v.core.node ≡ w.core.node → v.ports ≡ w.ports → v.entries ≡ w.entries → Of w → Of v)
+    (loses : (writes : List Write) (w : Work) → Of w → Of (loses_power writes w)) where
+  plainly : (es : List Entry) (w : Work) → ArePlain es → Of w → Of (noting es w)
+  plainly es w p a = note es w (plain_silent es p) (plain_uncut es p) a
+
+  any : (k : ℕ) (t : Turn) (w : Work) → IsNoFetch t → Of w → Of (turn_at k t w)
+  any k t w n a = turns k t w a
+
+  pub all_last : (k : ℕ) (deeds : List Deed) (w : Work) → AreMute deeds → Of w → Of (all_done k deeds w)
+  all_last k deeds w i a = every_do Of plainly desk any beside loses k deeds w i a
 
   handling : (k : ℕ) (m : Message) (deeds : List Deed) (w : Work) → AreMute deeds → Of w → Of (handles k m deeds w)
   handling k m deeds w f a =
       let told : Work = noting (entry.Turn (end_of_node w.core k) m.0 m.1 ∷ []) w in
       let fetched : Work = turn_at k FetchMessage told in
-      all_do k deeds (with_desk k (λ d. record d { holds = false }) fetched) f
+      all_last k deeds (with_desk k (λ d. record d { holds = false }) fetched) f
       (desk k (λ d. record d { holds = false }) fetched (λ d. refl)
-      (turns k FetchMessage told (note (entry.Turn (end_of_node w.core k) m.0 m.1 ∷ []) w (refl, tt) a)))
+      (turns k FetchMessage told (note (entry.Turn (end_of_node w.core k) m.0 m.1 ∷ []) w (refl, tt) (tt, tt) a)))
 
   having : (k : ℕ) (messages : List Message) (w : Work) → Of w → Of (have_turns k messages w)
-  having k [] w a = lets Of (λ es v p b. note es v (plain_silent es p) b) desk (λ j t v n b. turns j t v b) beside k w a
+  having k [] w a = lets Of plainly desk any beside loses k w a
   having k (m ∷ messages) w a = go (lack w.ports (needs k deeds)) (λ v b. having k messages v b)
     where
       deeds : List Deed
@@ -188,8 +210,28 @@ module _ (Of : Work → Type 0)
 
       go : (o : Option (ℕ × ℕ)) → ((v : Work) → Of v → Of (have_turns k messages v)) → Of (by o)
       go None later = unless Of (have_turns k messages) (handles k m deeds w) later (handling k m deeds w (deeds_mute w.core w.ports k m) a)
-      go (Some short) later = holds Of (λ es v p b. note es v (plain_silent es p) b) desk (λ j t v n b. turns j t v b) beside k short w a
+      go (Some short) later = holds Of plainly desk any beside loses k short w a
+
+  pub rest_lasts : (freed syncs owing : List Deed) (w : Work) → AreMute freed → AreMute syncs → AreMute owing → Of w
+      → Of (answers_and_passes freed syncs owing w)
+  rest_lasts freed syncs owing w f s o a = rest_of Of all_last (λ k v b. having k _ v b) freed syncs owing w f s o a
+
+-- what lasts over all that is noted of no link, also of power, and over all turns
+module _ (Of : Work → Type 0)
+    (note : (es : List Entry) (w : Work) → AreSilent es → Of w → Of (noting es w))
+    (desk : (k : ℕ) (f : Desk → Desk) (w : Work) → ((d : Desk) → (f d).host ≡ d.host) → Of w → Of (with_desk k f w))
+    (turns : (k : ℕ) (t : Turn) (w : Work) → Of w → Of (turn_at k t w))
+    (beside : (w v : Work) → v.core.node ≡ w.core.node → v.ports ≡ w.ports → v.entries ≡ w.entries → Of w → Of v) where
+  lost : (writes : List Write) (w : Work) → Of w → Of (loses_power writes w)
+  lost writes w a =
+      let v : Work = record w { writes = w.writes ++ writes; plan = None; cut = true } in
+      note (entry.Cut w.core.node ∷ []) v (refl, tt) (beside w v refl refl refl a)
+
+  pub all_do : (k : ℕ) (deeds : List Deed) (w : Work) → AreMute deeds → Of w → Of (all_done k deeds w)
+  all_do k deeds w i a =
+      all_last Of (λ es v s u b. note es v s b) desk turns (λ x v c n p q b. beside x v n p q b) lost k deeds w i a
 
   pub rest : (freed syncs owing : List Deed) (w : Work) → AreMute freed → AreMute syncs → AreMute owing → Of w
       → Of (answers_and_passes freed syncs owing w)
-  rest freed syncs owing w f s o a = rest_of Of all_do (λ k v b. having k _ v b) freed syncs owing w f s o a
+  rest freed syncs owing w f s o a =
+      rest_lasts Of (λ es v s u b. note es v s b) desk turns (λ x v c n p q b. beside x v n p q b) lost freed syncs owing w f s o a

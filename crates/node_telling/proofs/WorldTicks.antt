@@ -4,6 +4,7 @@ use Rattle.std.specs.Prelude.{if◌then◌else◌, is_some}
 use Rattle.std.specs.List.{AllByRecursion, find, flat_map}
 use Rattle.std.specs.Option.{option_map_or}
 use Rattle.std.proofs.lemmas.Bool.{eqb-true}
+use Rattle.std.proofs.lemmas.List.Sums.{fold-append}
 use Rattle.swp_act.specs.Activation.{new_clf, new_uicc}
 use Rattle.trace_model.specs.declared.entry.Entry.{Entry}
 use Rattle.shdlc_core.specs.Machine.{is_waiting}
@@ -28,11 +29,15 @@ use Rattle.node_machine.specs.Node.NodeInput.{TimePasses}
 use Rattle.node_world.specs.World.{Site, NodeWorld, site_at, link_to, port_for, work_of, ending_of, turns_at, runs_on, frames_noted, all_aged, is_late_at, ticked_so, controller_ticks, host_ticks, hosts_tick, world_ticks}
 use Rattle.kept_laws.specs.Hosts.{AreDifferent}
 use Rattle.node_telling.specs.Telling.{of_link, TellOf, HasEnds, IfItRuns, hosts_in, IsOrderly, GoesSo, Tells, is_due, NoneDue, IfOff, IfDue, IsTimely}
+use Rattle.node_telling.specs.Standing.{Standing, without_power, stands_noted, standing, law_noted, standing_by_law, StandsOf}
+use Rattle.node_telling.proofs.Walks.{AreUncut}
+use Rattle.node_telling.proofs.Powers.{uncut_flat, entries_uncut, clear_stands, steps_powered}
+use Rattle.node_telling.proofs.Shapes.{clear-append, clear_aged, IsShaped, shaped_tick, shaped_step, twice, step_stands, step_away, own_frames, all_frames}
 use Rattle.node_telling.proofs.Accounts.{of-append, of_other}
 use Rattle.node_telling.proofs.Away.{Away}
 use Rattle.node_telling.proofs.Parts.{tick_is}
 use Rattle.node_telling.proofs.Steps.{only, notes-append, Opening, in_parts, closed, frames_of}
-use Rattle.node_telling.proofs.Nodes.{site_host, link_is, ports_for, hosts_same, Stands, stands, host_opened, host_away}
+use Rattle.node_telling.proofs.Nodes.{site_host, link_is, ports_for, hosts_same, Stands, stands, own_power, other_power, host_opened, host_away}
 use Rattle.node_telling.proofs.Worlds.{site_is}
 use Rattle.node_telling.proofs.Events.{tells_one, site_map, orderly_map}
 use Rattle.node_telling.proofs.Ticks.{older, not_late, late_parts, IfLate, Ticked, ticked, away_tick}
@@ -114,6 +119,23 @@ module _ (h : ℕ) where
           of-append h k.entries (frames_noted Host x.host (exchanged x.link) k)
           ∙ (ap (λ t. t ++ of_link h (frames_noted Host x.host (exchanged x.link) k)) away.told ∙ frames_of h x.host Host (exchanged x.link) k q)
 
+  -- and it leaves how the link stands
+  other_leaves : (x : Site) → (x.host == 0) ≡ false → IfItRuns x.host (x.host ∷ []) x.node → (x.host == h) ≡ false → (y : Standing)
+      → standing h y (host_ticks x).1 ≡ y
+  other_leaves x host a q y = go x.node a (other_host x host a q)
+    where
+      by : Option Running → Site × List Entry
+      by None = (record x { link = exchanged (ticks_at_controller (exchanged x.link) [] GoesOut) }, [])
+      by (Some n) = after_tick x (host_tick x n)
+
+      go : (o : Option Running) → IfItRuns x.host (x.host ∷ []) o → of_link h (by o).1 ≡ [] → standing h y (by o).1 ≡ y
+      go None b none = refl
+      go (Some n) b none =
+          let k : Work = host_tick x n in
+          step_away h x.host (other_power x.host h host q) k (frames_noted Host x.host (exchanged x.link) k)
+          (steps_powered h x.host (λ z. z) (other_power x.host h host q) (λ z. refl) TimePasses (work_of n x.memory.plan (λ j. x.link.host) []) b.number refl tt)
+          (own_frames Host x.host (exchanged x.link) k).0 none y
+
   abbrev pub AreNumbered : List Site → Type 0
   AreNumbered sites = AllByRecursion (λ (x : Site). (x.host == 0) ≡ false) sites
 
@@ -126,6 +148,34 @@ module _ (h : ℕ) where
   other_hosts (x ∷ sites) b a q =
       of-append h (host_ticks x).1 (hosts_tick sites).1
       ∙ (ap (λ t. t ++ of_link h (hosts_tick sites).1) (other_host x b.0 a.0 q.0) ∙ other_hosts sites b.1 a.1 q.1)
+
+  others_leave : (sites : List Site) → AreNumbered sites → AreNodes sites → AllByRecursion (λ n. (n == h) ≡ false) (hosts_in sites) → (y : Standing)
+      → standing h y (hosts_tick sites).1 ≡ y
+  others_leave [] b a q y = refl
+  others_leave (x ∷ sites) b a q y =
+      fold-append (stands_noted h) y (host_ticks x).1 (hosts_tick sites).1
+      ∙ (ap (λ z. standing h z (hosts_tick sites).1) (other_leaves x b.0 a.0 q.0 y) ∙ others_leave sites b.1 a.1 q.1 y)
+
+  stands_only : (sites : List Site) (x : Site) → AreDifferent (hosts_in sites) → AreNumbered sites → AreNodes sites → site_at sites h ≡ Some x → (y : Standing)
+      → standing h y (hosts_tick sites).1 ≡ standing h y (host_ticks x).1
+  stands_only [] x d b a q y = absurd (cc q)
+  stands_only (z ∷ sites) x d b a q y = go (z.host == h) refl (stands_only sites x d.1 b.1 a.1)
+    where
+      both : standing h y (hosts_tick (z ∷ sites)).1 ≡ standing h (standing h y (host_ticks z).1) (hosts_tick sites).1
+      both = fold-append (stands_noted h) y (host_ticks z).1 (hosts_tick sites).1
+
+      go : (c : Bool) → (z.host == h) ≡ c
+          → (site_at sites h ≡ Some x → (y : Standing) → standing h y (hosts_tick sites).1 ≡ standing h y (host_ticks x).1)
+          → standing h y (hosts_tick (z ∷ sites)).1 ≡ standing h y (host_ticks x).1
+      go true e later =
+          let is : Some z ≡ Some x = rw e at q in
+          let one : z ≡ x = cc in
+          let A : ℕ → Type 0 = λ n. AllByRecursion (λ k. (k == n) ≡ false) (hosts_in sites) in
+          both
+          ∙ (others_leave sites b.1 a.1 (subst A (eqb-true z.host h e) d.0) (standing h y (host_ticks z).1)
+          ∙ ap (λ (v : Site). standing h y (host_ticks v).1) one)
+      go false e later =
+          both ∙ (ap (λ v. standing h v (hosts_tick sites).1) (other_leaves z b.0 a.0 e y) ∙ later (rw e at q) y)
 
   -- of a link its host's tick tells alone
   hosts_only : (sites : List Site) (x : Site) → AreDifferent (hosts_in sites) → AreNumbered sites → AreNodes sites → site_at sites h ≡ Some x
@@ -189,6 +239,7 @@ pub record Far (x : Site) : Type 0 where
   pub turns : had.turns ≡ host_turns x x.node
   pub is : (host_ticks x).0.link ≡ exchanged (ticks_at_controller (exchanged x.link) had.turns had.ending)
   pub told : of_link x.host (host_ticks x).1 ≡ of_link x.host (entries_for x.host (tick_entries Host (exchanged x.link) had))
+  pub stands : (y : Standing) → standing x.host y (host_ticks x).1 ≡ standing_by_law x.host y (tick_entries Host (exchanged x.link) had)
 
 -- what a host that runs notes of its own link
 host_tells : (x : Site) (n : Running) → (x.host == 0) ≡ false → HasEnds x.host (x.host ∷ []) n → AllByRecursion (λ (d : Desk). is_due d ≡ false) n.desks
@@ -202,6 +253,19 @@ host_tells x n host node young =
     let done : Ticked x.host Host l false k = ticked x.host Host l false _ begun late tt in
     of-append x.host k.entries (frames_noted Host x.host l k)
     ∙ (in_parts x.host Host l NoInput (Some Tick) false k done ∙ ap (λ z. of_link x.host (entries_for x.host z)) (sym (tick_is Host l (had k x.host))))
+
+-- and how that link stands behind it
+host_stands_so : (x : Site) (n : Running) → (x.host == 0) ≡ false → HasEnds x.host (x.host ∷ []) n → AllByRecursion (λ (d : Desk). is_due d ≡ false) n.desks
+    → (y : Standing)
+    → standing x.host y (after_tick x (host_tick x n)).1 ≡ standing_by_law x.host y (tick_entries Host (exchanged x.link) (had (host_tick x n) x.host))
+host_stands_so x n host node young =
+    let k : Work = host_tick x n in
+    let l : Link = exchanged x.link in
+    let out = own_frames Host x.host l k in
+    step_stands x.host x.host Host (own_power x.host host) k (frames_noted Host x.host l k) (tick_entries Host l (had k x.host))
+    (steps_powered x.host x.host (without_power Host) (own_power x.host host) (twice Host) TimePasses (work_of n x.memory.plan (λ j. x.link.host) []) node.number
+    refl tt)
+    out.0 out.1 (shaped_tick Host l (had k x.host)) (host_tells x n host node young)
 
 far : (x : Site) → (x.host == 0) ≡ false → IfItRuns x.host (x.host ∷ []) x.node → IfOff x.node (new_link_end (Uicc new_uicc)) x.link.host.side
     → NoneDue x.node → Far x
@@ -217,12 +281,15 @@ far x host node off young = go x.node refl node off young
       is = ap (λ (z : Site × List Entry). z.0.link) (none_is q);
       told = ap (λ (z : Site × List Entry). of_link x.host z.1) (none_is q)
           ∙ sym (ap (λ z. of_link x.host (entries_for x.host z)) (still_far Host (exchanged x.link) f));
+      stands = λ v. ap (λ (z : Site × List Entry). standing x.host v z.1) (none_is q)
+          ∙ sym (ap (standing_by_law x.host v) (still_far Host (exchanged x.link) f));
     }
     go (Some r) q n f y = record {
       had = had (host_tick x r) x.host;
       turns = sym (ap (host_turns x) q);
       is = ap (λ (z : Site × List Entry). z.0.link) (host_is x r q);
       told = ap (λ (z : Site × List Entry). of_link x.host z.1) (host_is x r q) ∙ host_tells x r host n y;
+      stands = λ v. ap (λ (z : Site × List Entry). standing x.host v z.1) (host_is x r q) ∙ host_stands_so x r host n y v;
     }
 
 -- ## The tick of the controller
@@ -252,6 +319,7 @@ pub record Near (w : NodeWorld) (h : ℕ) (s : Site) : Type 0 where
   pub turns : had.turns ≡ near_turns w h w.controller
   pub there : site_at (controller_ticks w).0.sites h ≡ Some (record s { link = between late s.link had })
   pub told : of_link h (controller_ticks w).1 ≡ of_link h (entries_for h (near_notes late s.link had))
+  pub stands : (x : Standing) → standing h x (controller_ticks w).1 ≡ standing_by_law h x (near_notes late s.link had)
   pub ready : late ≡ true → is_waiting s.link.controller.side.shdlc ≡ false
 
 module _ (w : NodeWorld) (h : ℕ) (s : Site) (orderly : IsOrderly w) (found : site_at w.sites h ≡ Some s) where
@@ -315,6 +383,22 @@ module _ (w : NodeWorld) (h : ℕ) (s : Site) (orderly : IsOrderly w) (found : s
         noted_is (near_notes false s.link (had k h))
         (in_parts h Controller s.link NoInput (Some Tick) false k a ∙ ap (λ z. of_link h (entries_for h z)) (sym (tick_is Controller s.link (had k h))))
 
+    shaped_is : (b : Bool) → IsShaped Controller (ending_of k) (near_notes b s.link (had k h))
+    shaped_is false = shaped_tick Controller s.link (had k h)
+    shaped_is true =
+        let S : List Noted → Type 0 = IsShaped Controller (ending_of k) in
+        subst S (sym (append-nil (step_entries Controller s.link (AsksReset None) (turns_at k h) (ending_of k))))
+        (shaped_step Controller s.link (AsksReset None) (turns_at k h) (ending_of k) (Some (Reset None)) refl tt)
+
+    stands_is : (b : Bool) → Ticked h Controller s.link b k → (x : Standing)
+        → standing h x (k.entries ++ flat_map (λ (x : Site). frames_noted Controller x.host x.link k) w.sites)
+        ≡ standing_by_law h x (near_notes b s.link (had k h))
+    stands_is b a =
+        let out = all_frames Controller (λ (x : Site). x.link) k w.sites in
+        step_stands h 0 Controller (λ x. refl) k (flat_map (λ (x : Site). frames_noted Controller x.host x.link k) w.sites) (near_notes b s.link (had k h))
+        (steps_powered h 0 (without_power Controller) (λ x. refl) (twice Controller) TimePasses Begun node.number refl tt)
+        out.0 out.1 (shaped_is b) (told_is b a)
+
     -- an end that is up doesn't wait
     ready_is : (b : Bool) → IfLate b s.link.controller.side → b ≡ true → is_waiting s.link.controller.side.shdlc ≡ false
     ready_is true up q = let u = up.1 in rw u refl
@@ -349,6 +433,7 @@ module _ (w : NodeWorld) (h : ℕ) (s : Site) (orderly : IsOrderly w) (found : s
                   (ap (λ n. ticked_so s.link (is_late_at k n) (turns_at k n) (ending_of k)) number_is
                   ∙ (ap (λ c. ticked_so s.link c (turns_at k h) (ending_of k)) (late_is b a) ∙ so_is b (up_late b q))));
               told = ap (λ (z : NodeWorld × List Entry). of_link h z.1) near_is ∙ told_is b a;
+              stands = λ x. ap (λ (z : NodeWorld × List Entry). standing h x z.1) near_is ∙ stands_is b a x;
               ready = ready_is b (up_late b q);
             }
 
@@ -370,6 +455,8 @@ module _ (w : NodeWorld) (h : ℕ) (s : Site) (orderly : IsOrderly w) (found : s
         there = ap (λ (z : NodeWorld × List Entry). site_at z.0.sites h) (none_is q) ∙ site_map f (λ x. refl) w.sites h s found;
         told = ap (λ (z : NodeWorld × List Entry). of_link h z.1) (none_is q)
             ∙ sym (ap (λ z. of_link h (entries_for h z)) (still_near Controller s.link x));
+        stands = λ y. ap (λ (z : NodeWorld × List Entry). standing h y z.1) (none_is q)
+            ∙ sym (ap (standing_by_law h y) (still_near Controller s.link x));
         ready = λ e. absurd (cc e);
       }
       go (Some r) q n x d = runs_so r q n d
@@ -415,6 +502,7 @@ pub record Ticking (w : NodeWorld) (h : ℕ) (s : Site) : Type 0 where
   pub there : site_at (world_ticks w).0.sites h ≡ Some (host_ticks (record s { link = between late (aged s.link) near })).0
   pub is : happens s.link (tick_event late near far) ≡ (host_ticks (record s { link = between late (aged s.link) near })).0.link
   pub told : TellOf h s.link (tick_event late near far) (world_ticks w).1
+  pub stands : StandsOf h s.link (tick_event late near far) (world_ticks w).1
 
 module _ (w : NodeWorld) (h : ℕ) (s : Site) (orderly : IsOrderly w) (found : site_at w.sites h ≡ Some s) (timely : IsTimely w h s) where
   abbrev older_site : Site → Site
@@ -481,6 +569,45 @@ module _ (w : NodeWorld) (h : ℕ) (s : Site) (orderly : IsOrderly w) (found : s
       ∙ (ap (λ t. of_link h (entries_for h (aged_notes s)) ++ t) both
       ∙ sym (notes-append h (aged_notes s) (one ++ far_notes))))
 
+  aged_uncut : (sites : List Site) → AreUncut (flat_map (λ (x : Site). entries_for x.host (aged_notes x)) sites)
+  aged_uncut sites = uncut_flat (λ (x : Site). entries_for x.host (aged_notes x)) (λ x. entries_uncut x.host (aged_notes x)) sites
+
+  old_stands : (x : Standing) → standing h x (all_aged w).1 ≡ standing_by_law h x (aged_notes s)
+  old_stands =
+      clear_stands h (all_aged w).1 (aged_notes s) (aged_uncut w.sites)
+      (clear-append (aged_entries Controller s.link.to_controller) (aged_entries Host s.link.to_host) (clear_aged Controller s.link.to_controller)
+      (clear_aged Host s.link.to_host)) old_told
+
+  far_stands : (x : Standing) → standing h x (hosts_tick (controller_ticks old).0.sites).1 ≡ standing_by_law h x far_notes
+  far_stands x =
+      let P : ℕ → Type 0 = λ m. (y : Standing) → standing m y (host_ticks mine).1 ≡ standing_by_law m y far_notes in
+      stands_only h (controller_ticks old).0.sites mine next_orderly.different next_orderly.hosts next_orderly.nodes first.there x
+      ∙ subst P number second.stands x
+
+  stands_all : (x : Standing) → standing h x (world_ticks w).1
+      ≡ standing_by_law h x (aged_notes s ++ (near_notes first.late (aged s.link) first.had ++ far_notes))
+  stands_all x =
+      let far : List Entry = (hosts_tick (controller_ticks old).0.sites).1 in
+      let one : List Noted = near_notes first.late (aged s.link) first.had in
+      let y : Standing = standing_by_law h x (aged_notes s) in
+      fold-append (stands_noted h) x (all_aged w).1 ((controller_ticks old).1 ++ far)
+      ∙ (ap (λ z. standing h z ((controller_ticks old).1 ++ far)) (old_stands x)
+      ∙ (fold-append (stands_noted h) y (controller_ticks old).1 far
+      ∙ (ap (λ z. standing h z far) (first.stands y)
+      ∙ (far_stands (standing_by_law h y one)
+      ∙ (sym (fold-append (law_noted h) y one far_notes) ∙ sym (fold-append (law_noted h) x (aged_notes s) (one ++ far_notes)))))))
+
+  event_stands : (b : Bool) (l : Link) (c n : Node) (x : Standing)
+      → standing_by_law h x ((aged_entries Controller l.to_controller ++ aged_entries Host l.to_host)
+      ++ (near_notes b (aged l) c ++ tick_entries Host (exchanged (between b (aged l) c)) n))
+      ≡ standing_by_law h x (event_entries l (tick_event b c n))
+  event_stands true l c n x =
+      ap (standing_by_law h x) (append_assoc (aged_entries Controller l.to_controller) (aged_entries Host l.to_host)
+      (near_notes true (aged l) c ++ tick_entries Host (exchanged (between true (aged l) c)) n))
+  event_stands false l c n x =
+      ap (standing_by_law h x) (append_assoc (aged_entries Controller l.to_controller) (aged_entries Host l.to_host)
+      (near_notes false (aged l) c ++ tick_entries Host (exchanged (between false (aged l) c)) n))
+
   event_told : (b : Bool) (l : Link) (c n : Node)
       → of_link h (entries_for h ((aged_entries Controller l.to_controller ++ aged_entries Host l.to_host)
       ++ (near_notes b (aged l) c ++ tick_entries Host (exchanged (between b (aged l) c)) n)))
@@ -509,6 +636,7 @@ module _ (w : NodeWorld) (h : ℕ) (s : Site) (orderly : IsOrderly w) (found : s
     there = hosts_at h (controller_ticks old).0.sites mine first.there;
     is = happens_is first.late s.link first.had second.had ∙ sym second.is;
     told = told_all ∙ event_told first.late s.link first.had second.had;
+    stands = λ x. stands_all x ∙ event_stands first.late s.link first.had second.had x;
   }
 
   pub tick_goes : GoesSo h s (world_ticks w).0 (world_ticks w).1

@@ -13,6 +13,7 @@ use Rattle.node_machine.specs.Node.{steps, begins_with}
 use Rattle.node_machine.specs.Node.NodeInput.{AtEnd}
 use Rattle.node_world.specs.World.{Site, NodeWorld, site_at, link_to, input_of, ending_of, turns_at, frames_noted, wires_for, comes_to, controller_work, controller_does, host_work, host_does}
 use Rattle.node_telling.specs.Telling.{of_link, TellOf, HasEnds, hosts_in, IsOrderly, IfItRuns}
+use Rattle.node_telling.specs.Standing.{Standing, standing, StandsOf}
 use Rattle.node_telling.proofs.Mute.{AreMute}
 use Rattle.node_telling.proofs.Nodes.{site_host, controller_tells, HostTells, host_steps, host_begins}
 
@@ -44,6 +45,8 @@ controller_steps w r k comes i h s orderly q input found =
 pub record HostDoes (w : NodeWorld) (k : ℕ) (comes : Comes) (f : Work → Work) (s : Site) (r : Running) : Type 0 where
   pub own : TellOf k s.link (AtHost (Step comes (turns_at (host_work s r comes f) s.host) (ending_of (host_work s r comes f)))) (host_does w k comes f).1
   pub others : (h : ℕ) → (k == h) ≡ false → of_link h (host_does w k comes f).1 ≡ []
+  pub stands : StandsOf k s.link (AtHost (Step comes (turns_at (host_work s r comes f) s.host) (ending_of (host_work s r comes f)))) (host_does w k comes f).1
+  pub leaves : (h : ℕ) → (k == h) ≡ false → (x : Standing) → standing h x (host_does w k comes f).1 ≡ x
 
 module _ (w : NodeWorld) (s : Site) (r : Running) (k : ℕ) (orderly : IsOrderly w) (found : site_at w.sites k ≡ Some s) (runs : s.node ≡ Some r) where
   number : s.host ≡ k
@@ -64,6 +67,9 @@ module _ (w : NodeWorld) (s : Site) (r : Running) (k : ℕ) (orderly : IsOrderly
       record {
         own = ap (of_link k) is ∙ subst P number a.own;
         others = λ h z. ap (of_link h) is ∙ (ap (λ n. of_link h (noted n)) (sym number) ∙ a.others h (ap (λ n. n == h) number ∙ z));
+        stands = let S : ℕ → Type 0 = λ n. StandsOf n s.link (AtHost (Step comes (turns_at v s.host) (ending_of v))) (noted n) in
+            λ x. ap (standing k x) is ∙ subst S number a.stands x;
+        leaves = λ h z x. ap (standing h x) is ∙ (ap (λ n. standing h x (noted n)) (sym number) ∙ a.leaves h (ap (λ n. n == h) number ∙ z) x);
       }
 
   pub host_does_step : (comes : Comes) (i : LinkInput) → input_of (exchanged s.link) comes ≡ Some i → HostDoes w k comes (steps (AtEnd k i)) s r

@@ -6,6 +6,7 @@ use Rattle.std.proofs.lemmas.Bool.{eqb-true, eq-eqb, true≢false}
 use Rattle.trace_model.specs.declared.entry.Entry.{Entry}
 use Rattle.trace_model.specs.declared.entry.Entry.TheVariants as entry
 use Rattle.trace_model.specs.declared.line.End.{End}
+use Rattle.journal_laws.specs.Writes.{Write}
 use Rattle.link_machine.specs.Machine.{Message, Refused, Turn, give_refusal}
 use Rattle.link_machine.specs.Machine.Turn.{Give, Hold, FetchMessage, SetAside, Release}
 use Rattle.link_entries.specs.Entries.{End as Side, sent_unless}
@@ -13,7 +14,7 @@ use Rattle.link_entries.specs.Entries.End.{Controller, Host}
 use Rattle.history.specs.Filters.{same_end}
 use Rattle.history.specs.Steps.{end_of, entries_for}
 use Rattle.node_machine.specs.Parts.{Desk, Core, Port, Work, Deed}
-use Rattle.node_machine.specs.Carrying.{own_side, end_of_node, noting, unless_cut, port_at, changed_if, with_desk, after_turn, noted_of, turn_at, needs, lack, all_done}
+use Rattle.node_machine.specs.Carrying.{own_side, end_of_node, noting, unless_cut, port_at, changed_if, with_desk, after_turn, noted_of, turn_at, loses_power, needs, lack, all_done}
 use Rattle.node_machine.specs.Turns.{deeds_of, handles, holds_back, have_turns}
 use Rattle.node_machine.specs.Node.{answers_and_passes}
 use Rattle.node_telling.proofs.Mute.{AreMute, deeds_mute}
@@ -152,16 +153,20 @@ module _ (e : End) (who : Side) (own : Bool) (mine : own ≡ true → has_side w
   pub turns : (ms : List Message) (k : ℕ) (t : Turn) (w : Work) → IsNoFetch t → At ms w → At ms (turn_at k t w)
   turns ms k t w n a = at_turn ms k t w (λ p q z. known_turn own ms t p n (subst (Known ms) q a.port)) a
 
-  pub beside : (ms : List Message) (w v : Work) → v.core.node ≡ w.core.node → v.ports ≡ w.ports → v.entries ≡ w.entries → At ms w → At ms v
-  beside ms w v core ports entries a =
+  pub beside : (ms : List Message) (w v : Work) → v.cut ≡ w.cut → v.core.node ≡ w.core.node → v.ports ≡ w.ports → v.entries ≡ w.entries → At ms w
+      → At ms v
+  beside ms w v cut core ports entries a =
       record {
         side = ap (λ (x : ℕ). if x == 0 then Controller else Host) core ∙ a.side;
         port = subst (λ ps. Known ms (port_at ps e.link)) (sym ports) a.port;
         goes = subst (λ t. Goes e begin t ms) (sym entries) a.goes;
       }
 
+  loses : (ms : List Message) (writes : List Write) (w : Work) → At ms w → At ms (loses_power writes w)
+  loses ms writes w a = record { side = a.side; port = a.port; goes = still (entry.Cut w.core.node ∷ []) w ms (refl, tt) a.goes }
+
   pub all_do : (ms : List Message) (k : ℕ) (deeds : List Deed) (w : Work) → AreMute deeds → At ms w → At ms (all_done k deeds w)
-  all_do ms k deeds w i a = every_do (At ms) (note ms) (desk ms) (turns ms) (beside ms) k deeds w i a
+  all_do ms k deeds w i a = every_do (At ms) (note ms) (desk ms) (turns ms) (beside ms) (loses ms) k deeds w i a
 
   -- ## Turns of other ends
 
@@ -203,7 +208,7 @@ module _ (e : End) (who : Side) (own : Bool) (mine : own ≡ true → has_side w
 
   have_other : (ms : List Message) (k : ℕ) → same_end (end_of k who) e ≡ false → (messages : List Message) (w : Work) → At ms w
       → At ms (have_turns k messages w)
-  have_other ms k off [] w a = lets (At ms) (note ms) (desk ms) (turns ms) (beside ms) k w a
+  have_other ms k off [] w a = lets (At ms) (note ms) (desk ms) (turns ms) (beside ms) (loses ms) k w a
   have_other ms k off (m ∷ messages) w a = go (lack w.ports (needs k deeds)) (λ v b. have_other ms k off messages v b)
     where
       deeds : List Deed
@@ -216,7 +221,7 @@ module _ (e : End) (who : Side) (own : Bool) (mine : own ≡ true → has_side w
       go : (o : Option (ℕ × ℕ)) → ((v : Work) → At ms v → At ms (have_turns k messages v)) → At ms (by o)
       go None later =
           unless (At ms) (have_turns k messages) (handles k m deeds w) later (handles_other ms k m deeds w off (deeds_mute w.core w.ports k m) a)
-      go (Some short) later = holds (At ms) (note ms) (desk ms) (turns ms) (beside ms) k short w a
+      go (Some short) later = holds (At ms) (note ms) (desk ms) (turns ms) (beside ms) (loses ms) k short w a
 
   -- ## Turns of this end
 
@@ -264,7 +269,7 @@ module _ (e : End) (who : Side) (own : Bool) (mine : own ≡ true → has_side w
 
   have_mine : (k : ℕ) → same_end (end_of k who) e ≡ true → own ≡ true → (messages : List Message) (w : Work) → At messages w
       → Stands (have_turns k messages w)
-  have_mine k on is [] w a = record { waiting = []; at = lets (At []) (note []) (desk []) (turns []) (beside []) k w a }
+  have_mine k on is [] w a = record { waiting = []; at = lets (At []) (note []) (desk []) (turns []) (beside []) (loses []) k w a }
   have_mine k on is (m ∷ messages) w a = go (lack w.ports (needs k deeds)) (λ v b. have_mine k on is messages v b)
     where
       deeds : List Deed
@@ -279,7 +284,7 @@ module _ (e : End) (who : Side) (own : Bool) (mine : own ≡ true → has_side w
           goes_on (have_turns k messages) (handles k m deeds w) messages later (handles_mine k m messages deeds w on is (deeds_mute w.core w.ports k m) a)
       go (Some short) later =
           let all : List Message = m ∷ messages in
-          record { waiting = all; at = holds (At all) (note all) (desk all) (turns all) (beside all) k short w a }
+          record { waiting = all; at = holds (At all) (note all) (desk all) (turns all) (beside all) (loses all) k short w a }
 
   -- ## A pass
 
@@ -294,7 +299,7 @@ module _ (e : End) (who : Side) (own : Bool) (mine : own ≡ true → has_side w
 
       by : (b : Bool) (o : Option Port) → same_end (end_of k who) e ≡ true → own ≡ b → Knows e who begin came b ms o
           → Stands (have_turns k (option_map_or (λ (p : Port). p.side.got) o []) w)
-      by b None on q known = record { waiting = ms; at = lets (At ms) (note ms) (desk ms) (turns ms) (beside ms) k w a.at }
+      by b None on q known = record { waiting = ms; at = lets (At ms) (note ms) (desk ms) (turns ms) (beside ms) (loses ms) k w a.at }
       by true (Some p) on q known = subst (λ l. Stands (have_turns k l w)) (sym known.1) (have_mine k on q ms w a.at)
       by false (Some p) on q known = absurd (true≢false (sym (link_is k on).1 ∙ known.1))
 

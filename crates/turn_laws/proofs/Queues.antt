@@ -70,7 +70,6 @@ plain_still e (entry.AnyOk node count) p = refl
 plain_still e (entry.InitSame f) p = refl
 plain_still e (entry.InitMade f count) p = refl
 plain_still e (entry.InitFailed f code) p = refl
-plain_still e (entry.Cut node) p = refl
 plain_still e x p = absurd p
 
 pub all_still : (e : End) (t : List Entry) → ArePlain t → AreStill e t

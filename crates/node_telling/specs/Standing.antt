@@ -1,0 +1,80 @@
+-- How the link with one host stands, as it is read off what is noted: the session that each end has, and the frames on both wires.
+use Rattle.std.specs.Prelude.{◌≡◌, ℕ, ◌==◌, if◌then◌else◌, List, [], ◌∷◌, ◌++◌, drop, Option, Some, None}
+use Rattle.std.specs.List.{fold}
+use Rattle.trace_model.specs.declared.entry.Entry.{Entry}
+use Rattle.trace_model.specs.declared.entry.Entry.TheVariants as entry
+use Rattle.trace_model.specs.declared.line.End.{End}
+use Rattle.message_link.specs.Links.{Link, LinkEvent}
+use Rattle.link_entries.specs.Entries.{End as Side, Entry as Noted, event_entries}
+use Rattle.link_entries.specs.Entries.End.{Controller, Host}
+use Rattle.link_entries.specs.Entries.Entry.{Cut}
+use Rattle.history.specs.Filters.{Saying, said}
+use Rattle.history.specs.Filters.Saying.{Begins, Ends, Puts, Takes, Loses}
+use Rattle.history.specs.Steps.{entry_of}
+
+-- the number of the session of each end, while it has one, and the frames on their way to each end, first the one that it takes next
+pub record Standing : Type 0 where
+  pub controller : Option ℕ
+  pub host : Option ℕ
+  pub to_controller : List (List ℕ)
+  pub to_host : List (List ℕ)
+
+-- nothing was noted yet
+abbrev pub new_standing : Standing
+new_standing = record { controller = None; host = None; to_controller = []; to_host = [] }
+
+-- ## After an entry
+
+-- this was said of the controller's end
+abbrev pub said_near : Saying → Standing → Standing
+said_near (Begins n) x = record x { controller = Some n }
+said_near Ends x = record x { controller = None }
+said_near (Puts frame) x = record x { to_host = x.to_host ++ frame ∷ [] }
+said_near (Takes frame) x = record x { to_controller = drop 1 x.to_controller }
+said_near (Loses frame) x = record x { to_controller = drop 1 x.to_controller }
+said_near _ x = x
+
+-- this was said of the host's end
+abbrev pub said_far : Saying → Standing → Standing
+said_far (Begins n) x = record x { host = Some n }
+said_far Ends x = record x { host = None }
+said_far (Puts frame) x = record x { to_controller = x.to_controller ++ frame ∷ [] }
+said_far (Takes frame) x = record x { to_host = drop 1 x.to_host }
+said_far (Loses frame) x = record x { to_host = drop 1 x.to_host }
+said_far _ x = x
+
+-- this was said of one of its ends, or of another link
+abbrev pub stands_said : ℕ → Standing → Option (End × Saying) → Standing
+stands_said h x None = x
+stands_said h x (Some (e, s)) = if e.link == h then (if e.at_host then said_far s x else said_near s x) else x
+
+-- the power of the node of one of its ends is cut: that end has no session, and both wires are empty
+abbrev pub without_power : Side → Standing → Standing
+without_power Controller x = record x { controller = None; to_controller = []; to_host = [] }
+without_power Host x = record x { host = None; to_controller = []; to_host = [] }
+
+-- the power of this node is cut
+abbrev pub after_power : ℕ → ℕ → Standing → Standing
+after_power h n x = if n == 0 then without_power Controller x else (if n == h then without_power Host x else x)
+
+abbrev pub stands_noted : ℕ → Standing → Entry → Standing
+stands_noted h x (entry.Cut n) = after_power h n x
+stands_noted h x e = stands_said h x (said e)
+
+-- ## After entries
+
+-- how the link with this host stands behind these entries, where it stood so before
+abbrev pub standing : ℕ → Standing → List Entry → Standing
+standing h x t = fold (stands_noted h) x t
+
+-- how it stands by what the law of one link notes
+abbrev pub law_noted : ℕ → Standing → Noted → Standing
+law_noted h x (Cut who) = without_power who x
+law_noted h x n = fold (λ y e. stands_said h y (said e)) x (entry_of h n)
+
+abbrev pub standing_by_law : ℕ → Standing → List Noted → Standing
+standing_by_law h x notes = fold (law_noted h) x notes
+
+-- these entries tell how the link stands as that law tells it of an event there
+abbrev pub StandsOf : ℕ → Link → LinkEvent → List Entry → Type 0
+StandsOf h l event t = (x : Standing) → standing h x t ≡ standing_by_law h x (event_entries l event)
