@@ -1,46 +1,44 @@
 -- Every history of a world of nodes is legal.
-use Rattle.std.proofs.Common.{◌≡◌, ℕ, List, ◌++◌, Some, sym, subst}
+use Rattle.std.proofs.Common.{◌≡◌, ◌==◌, ℕ, false, List, ◌++◌, Some, sym, subst}
 use Rattle.std.specs.List.{AllByRecursion}
 use Rattle.trace_model.specs.declared.entry.Entry.{Entry}
 use Rattle.trace_model.specs.declared.line.Header.{Header}
 use Rattle.trace_model.specs.declared.line.Line.{Line}
-use Rattle.message_link.specs.Links.{LinkEvent}
-use Rattle.message_link.specs.Settled.{AreUpTogether, IsSettled, sure_of}
 use Rattle.node_world.specs.World.{Site, new_world, site_at}
 use Rattle.node_world.specs.Lines.{Occurrence}
 use Rattle.node_world.specs.NodeHistories.{NodeHistory, FollowsNodes, entries_in, node_entries, occurrences_in}
-use Rattle.node_links.specs.Runs.{IsRunOf, new_line, ArePlayable}
-use Rattle.node_links.proofs.Obeying.{settles}
+use Rattle.node_links.specs.Runs.{ArePlayable}
 use Rattle.kept_laws.specs.Hosts.{AreHosts, IsFew, IsSentByHost}
 use Rattle.kept_laws.proofs.Kept.{are_kept, are_allowed}
 use Rattle.node_telling.specs.Telling.{world_behind}
 use Rattle.node_readings.proofs.NoticedWorlds.{numbers}
 use Rattle.turn_laws.proofs.Lines.{in_turn}
-use Rattle.node_order.specs.Told.{HasDelivered}
+use Rattle.node_order.specs.Told.{HasDelivered, HasSettled}
 use Rattle.node_order.specs.Legal.{AtEachEvent, CompleteNodes, LegalNodes}
 use Rattle.node_order.proofs.Knowing.{Knows}
-use Rattle.node_order.proofs.Lines.{history_so}
+use Rattle.node_order.proofs.Lines.{IsSo, host_number, history_so}
 use Rattle.node_order.proofs.Ordered.{in_order, joined}
-use Rattle.node_order.proofs.Quiet.{delivered}
+use Rattle.node_order.proofs.Quiet.{delivered, has_settled}
 
 module _ (header : Header) (lines : List Line) (t : NodeHistory) (follows : FollowsNodes header lines t) (are : AreHosts header.hosts.items)
     (playable : ArePlayable lines) where
   -- what holds of each link by what is known of it holds at the end of each event
   each_event : (P : List Entry → ℕ → Site → Type 0)
-      → ((front : List Occurrence) (h : ℕ) (s : Site)
+      → ((front : List Occurrence) (h : ℕ) (s : Site) → (h == 0) ≡ false
       → Knows (entries_in front) (world_behind (new_world header.hosts.items) front).controller h s → P (entries_in front) h s)
       → AtEachEvent t P
   each_event P one =
       let Q : Header → Type 0 = λ x. (front back : List Occurrence) → occurrences_in t ≡ front ++ back → (h : ℕ) (s : Site)
       → site_at (world_behind (new_world x.hosts.items) front).sites h ≡ Some s → P (entries_in front) h s in
-      subst Q (sym follows.header_is) (λ front back q h s found. one front h s ((history_so header lines t follows are playable front back q).each h s found))
+      subst Q (sym follows.header_is) (λ front back q h s found.
+      let a : IsSo header.hosts.items (entries_in front) (world_behind (new_world header.hosts.items) front) =
+      history_so header lines t follows are playable front back q in
+      one front h s (host_number (world_behind (new_world header.hosts.items) front) h s a.well.orderly found) (a.each h s found))
 
   pub complete : CompleteNodes t
   complete = record {
-    delivered = each_event (λ entries h s. HasDelivered entries h s.link) (λ front h s a. delivered h s.link (entries_in front) a.told);
-    settled = each_event
-        (λ entries h s. (events : List LinkEvent) → IsRunOf events s.link → IsSettled s.link (sure_of new_line events) → AreUpTogether s.link)
-        (λ front h s a. settles s.link);
+    delivered = each_event (λ entries h s. HasDelivered entries h s.link) (λ front h s host a. delivered h s.link (entries_in front) a.told host);
+    settled = each_event (λ entries h s. HasSettled entries h s.link) (λ front h s host a. has_settled h s.link (entries_in front) a.told host);
     joined = joined header lines t follows are playable;
   }
 

@@ -16,10 +16,12 @@ use Rattle.node_world.specs.NodeHistories.{LineStep, NodeHistory, FollowsNodes, 
 use Rattle.node_links.specs.Runs.{IsPlayable, ArePlayable}
 use Rattle.node_links.proofs.Playing.{MayHappen, AreLasting, plain_reach, sending_fine, step_fine, repeated, damaged, runs_then, world_fine}
 use Rattle.kept_laws.specs.Hosts.{AreHosts}
-use Rattle.node_telling.specs.Telling.{of_link, hosts_in, world_behind}
+use Rattle.node_telling.specs.Telling.{of_link, hosts_in, IsOrderly, world_behind}
 use Rattle.node_telling.proofs.Lasting.{AllMay, events_of_steps, AllHold, front_holds, lines_hold, behind_lines}
 use Rattle.node_telling.proofs.Accounts.{of-append}
 use Rattle.node_telling.proofs.Orderly.{step_orderly, new_orderly}
+use Rattle.node_telling.proofs.Nodes.{site_host}
+use Rattle.node_telling.proofs.Worlds.{site_is}
 use Rattle.node_telling.proofs.Events.{sending_mute}
 use Rattle.node_readings.specs.Noticed.{NoticesAreUp}
 use Rattle.node_readings.proofs.NoticedWorlds.{event_up, numbers, lines_up}
@@ -36,6 +38,11 @@ pub record IsSo (hosts : List ℕ) (t : List Entry) (w : NodeWorld) : Type 0 whe
   pub up : NoticesAreUp w
   pub each : Each t w
   pub strange : (h : ℕ) → IsStrange h hosts → of_link h t ≡ []
+
+-- a host isn't 00
+pub host_number : (w : NodeWorld) (h : ℕ) (s : Site) → IsOrderly w → site_at w.sites h ≡ Some s → (h == 0) ≡ false
+host_number w h s a found =
+    ap (λ n. n == 0) (sym (site_host w.sites h s found)) ∙ site_is (λ (x : Site). (x.host == 0) ≡ false) w.sites h s a.hosts found
 
 -- ## One thing that happens
 

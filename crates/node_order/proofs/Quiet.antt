@@ -1,26 +1,31 @@
 -- What the ends of a link have of their sessions is read off a history, and so is that a quiet link has delivered all.
-use Rattle.std.proofs.Common.{◌≡◌, ℕ, cond, List, length, ap, sym, subst, ◌∙◌}
+use Rattle.std.proofs.Common.{◌≡◌, ℕ, ◌==◌, false, cond, List, length, Some, ap, sym, subst, ◌∙◌}
 use Rattle.trace_model.specs.declared.entry.Entry.{Entry}
 use Rattle.hcp_packet.specs.Packets.{good_of}
 use Rattle.shdlc_core.specs.declared.answers.LinkState.TheVariants.{Up}
+use Rattle.session_laws.specs.Losses.{Losses}
+use Rattle.history.specs.Legal.{IsDelivered}
 use Rattle.link_machine.specs.Machine.{Message}
 use Rattle.message_link.specs.Links.{Talk, NumberedEnd, Link, number_of, talk_now, talk_of, ended_talk}
 use Rattle.message_link.specs.Links.IsStart.{IsLine}
-use Rattle.message_link.specs.Quiet.{AllDelivered}
+use Rattle.message_link.specs.Quiet.{AllDelivered, IsQuiet, losses_of}
+use Rattle.message_link.specs.Settled.{AreUpTogether}
 use Rattle.message_link.proofs.Whole.{one_number}
 use Rattle.link_entries.specs.Entries.{Entry as Noted, entries}
 use Rattle.link_entries.specs.Entries.End.{Controller, Host}
 use Rattle.link_entries.specs.Sessions.{IsRead}
 use Rattle.link_entries.proofs.Books.{up_talk}
+use Rattle.link_entries.proofs.Hearing.{up_session, session_up}
 use Rattle.link_entries.proofs.Lasting.{same_number}
 use Rattle.link_entries.proofs.Running.{read_here, read_there}
 use Rattle.history.specs.Steps.{entries_for}
 use Rattle.history_laws.proofs.Noted.{sent-all, got-all, acked-all}
 use Rattle.node_world.specs.World.{end_c, end_h}
 use Rattle.node_links.specs.Runs.{new_line}
-use Rattle.node_links.proofs.Obeying.{delivers_to_host, delivers_to_controller}
-use Rattle.node_order.specs.Told.{IsLinkTold, IsReadOff, AreReadOff, HasDelivered}
+use Rattle.node_links.proofs.Obeying.{delivers_to_host, delivers_to_controller, settles}
+use Rattle.node_order.specs.Told.{IsLinkTold, IsReadOff, AreReadOff, AreSessionsRead, IsUntroubled, AreUpWith, HasDelivered, HasSettled}
 use Rattle.node_order.proofs.Prefix.{sent_alike, got_alike, acked_alike}
+use Rattle.node_order.proofs.Sessions.{are_read}
 
 module _ (h : ℕ) (l : Link) (t : List Entry) (a : IsLinkTold h l t) where
   abbrev notes : List Noted
@@ -71,22 +76,57 @@ module _ (h : ℕ) (l : Link) (t : List Entry) (a : IsLinkTold h l t) where
       let Q : ℕ → Type 0 = λ n. IsReadOff t (end_h h) n (talk_now l.host.side) in
       subst Q (sym (numbers near up)) (subst P (talk_up l.host up) (read_host (number_of l.host)))
 
-  pub delivered : HasDelivered t h l
-  delivered = record {
-    to_host = λ events r q.
-        let near = near_now q.controller in
-        let far = far_now q.controller q.host in
-        let all : AllDelivered (talk_now l.controller.side) (talk_now l.host.side) = delivers_to_host l events r q in
+  module _ (host : (h == 0) ≡ false) where
+    -- what is read of both ends says that they are up, and the number
+    up_near : (n : ℕ) → AreUpWith t h n → (l.controller.side.shdlc.phase ≡ Up) × (number_of l.controller ≡ n)
+    up_near n u = session_up l.controller n (sym (are_read h l t host a).controller ∙ u.controller)
+
+    up_far : (n : ℕ) → AreUpWith t h n → l.host.side.shdlc.phase ≡ Up
+    up_far n u = (session_up l.host n (sym (are_read h l t host a).host ∙ u.host)).0
+
+    quiet : (n : ℕ) (m : Losses) → AreUpWith t h n → IsUntroubled l m → IsQuiet l m
+    quiet n m u s =
         record {
-          got = far.got ∙ (all.got ∙ ap good_of (sym near.sent));
-          acked = near.acked ∙ (all.acked ∙ ap (λ (ms : List Message). length ms) (sym near.sent));
-        };
-    to_controller = λ events r q.
-        let near = near_now q.controller in
-        let far = far_now q.controller q.host in
-        let all : AllDelivered (talk_now l.host.side) (talk_now l.controller.side) = delivers_to_controller l events r q in
+          controller = (up_near n u).0;
+          host = up_far n u;
+          lost = s.lost;
+          rnr = s.rnr;
+          to_controller = s.to_controller;
+          to_host = s.to_host;
+        }
+
+    pub delivered : HasDelivered t h l
+    delivered = record {
+      to_host = λ n u events r s.
+          let q : IsQuiet l (losses_of new_line events) = quiet n (losses_of new_line events) u s in
+          let near = near_now q.controller in
+          let far = far_now q.controller q.host in
+          let all : AllDelivered (talk_now l.controller.side) (talk_now l.host.side) = delivers_to_host l events r q in
+          let P : ℕ → Type 0 = λ m. IsDelivered t (end_c h) m in
+          subst P (up_near n u).1 (record {
+            got = far.got ∙ (all.got ∙ ap good_of (sym near.sent));
+            acked = near.acked ∙ (all.acked ∙ ap (λ (ms : List Message). length ms) (sym near.sent));
+          });
+      to_controller = λ n u events r s.
+          let q : IsQuiet l (losses_of new_line events) = quiet n (losses_of new_line events) u s in
+          let near = near_now q.controller in
+          let far = far_now q.controller q.host in
+          let all : AllDelivered (talk_now l.host.side) (talk_now l.controller.side) = delivers_to_controller l events r q in
+          let P : ℕ → Type 0 = λ m. IsDelivered t (end_h h) m in
+          subst P (up_near n u).1 (record {
+            got = near.got ∙ (all.got ∙ ap good_of (sym far.sent));
+            acked = far.acked ∙ (all.acked ∙ ap (λ (ms : List Message). length ms) (sym far.sent));
+          });
+    }
+
+    pub has_settled : HasSettled t h l
+    has_settled events r s =
+        let both : AreUpTogether l = settles l events r s in
+        let read : AreSessionsRead t h l = are_read h l t host a in
         record {
-          got = near.got ∙ (all.got ∙ ap good_of (sym far.sent));
-          acked = far.acked ∙ (all.acked ∙ ap (λ (ms : List Message). length ms) (sym far.sent));
-        };
-  }
+          number = number_of l.controller;
+          up = record {
+            controller = read.controller ∙ up_session l.controller both.controller;
+            host = read.host ∙ (up_session l.host both.host ∙ ap (λ n. Some n) (sym both.number));
+          };
+        }

@@ -2,16 +2,13 @@
 use Rattle.std.specs.Prelude.{◌≡◌, ℕ, false, List, ◌++◌, Some}
 use Rattle.std.specs.List.{list_any}
 use Rattle.trace_model.specs.declared.entry.Entry.{Entry}
-use Rattle.message_link.specs.Links.{LinkEvent}
-use Rattle.message_link.specs.Settled.{AreUpTogether, IsSettled, sure_of}
 use Rattle.history.specs.Legal.{IsInOrder, is_chain_fault}
 use Rattle.node_world.specs.World.{Site, new_world, site_at}
 use Rattle.node_world.specs.Lines.{Occurrence}
 use Rattle.node_world.specs.NodeHistories.{NodeHistory, entries_in, node_entries, occurrences_in}
 use Rattle.node_world.specs.NodeLegal.{Allowed, AreInTurn, Kept}
-use Rattle.node_links.specs.Runs.{IsRunOf, new_line}
 use Rattle.node_telling.specs.Telling.{world_behind}
-use Rattle.node_order.specs.Told.{HasDelivered}
+use Rattle.node_order.specs.Told.{HasDelivered, HasSettled}
 
 -- At each moment messages are in order.
 abbrev pub PrefixNodes : NodeHistory → Type 0
@@ -27,7 +24,7 @@ AtEachEvent t P =
 -- ends by packets that can't be joined.
 pub record CompleteNodes (t : NodeHistory) : Type 0 where
   pub delivered : AtEachEvent t (λ entries h s. HasDelivered entries h s.link)
-  pub settled : AtEachEvent t (λ entries h s. (events : List LinkEvent) → IsRunOf events s.link → IsSettled s.link (sure_of new_line events) → AreUpTogether s.link)
+  pub settled : AtEachEvent t (λ entries h s. HasSettled entries h s.link)
   pub joined : list_any is_chain_fault (node_entries t) ≡ false
 
 -- A legal history of nodes. Of the answers it says that messages have their turns in the order in which they came.

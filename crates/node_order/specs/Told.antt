@@ -1,10 +1,12 @@
 -- What a history of a world of nodes tells of one of its links.
-use Rattle.std.specs.Prelude.{◌≡◌, ℕ, List}
+use Rattle.std.specs.Prelude.{◌≡◌, ℕ, false, List, [], Some}
 use Rattle.trace_model.specs.declared.entry.Entry.{Entry}
 use Rattle.trace_model.specs.declared.line.End.{End}
 use Rattle.link_machine.specs.Machine.{messages_got, whole_among}
-use Rattle.message_link.specs.Links.{Talk, Link, LinkEvent, number_of, talk_of}
-use Rattle.message_link.specs.Quiet.{IsQuiet, losses_of}
+use Rattle.session_laws.specs.Losses.{Losses, sans}
+use Rattle.message_link.specs.Links.{Talk, Link, LinkEvent, talk_of}
+use Rattle.message_link.specs.Quiet.{losses_of}
+use Rattle.message_link.specs.Settled.{IsSettled, sure_of}
 use Rattle.link_entries.specs.Entries.{entries}
 use Rattle.link_entries.specs.Sessions.{number_now as session_at}
 use Rattle.history.specs.Filters.{sent_in, got_in, acked_in}
@@ -41,9 +43,33 @@ pub record AreReadOff (t : List Entry) (h : ℕ) (l : Link) : Type 0 where
   pub controller : (n : ℕ) → IsReadOff t (end_c h) n (talk_of l.controller n)
   pub host : (n : ℕ) → IsReadOff t (end_h h) n (talk_of l.host n)
 
--- Where both ends of the link with this host are up in one session, no frame but of activation was lost and no RNR made since the first
--- of them came up in it, and both wires hold none but of activation, all that each end sent in it has come, as it is noted.
+-- no frame of a link but of activation was lost and no RNR made since the first of its ends came up in the session that goes on, and both
+-- wires hold none but of activation
+pub record IsUntroubled (l : Link) (n : Losses) : Type 0 where
+  pub lost : n.lost ≡ false
+  pub rnr : n.rnr ≡ false
+  pub to_controller : sans l.to_controller ≡ []
+  pub to_host : sans l.to_host ≡ []
+
+-- both ends of the link with this host are up in the session with this number, as it is read off these entries
+pub record AreUpWith (t : List Entry) (h n : ℕ) : Type 0 where
+  pub controller : session_now t (end_c h) 0 ≡ Some n
+  pub host : session_now t (end_h h) h ≡ Some n
+
+-- Where both ends of the link with this host are up in one session and the link is still, all that each end sent in that session has
+-- come, all as it is noted.
 pub record HasDelivered (t : List Entry) (h : ℕ) (l : Link) : Type 0 where
-  pub to_host : (events : List LinkEvent) → IsRunOf events l → IsQuiet l (losses_of new_line events) → IsDelivered t (end_c h) (number_of l.controller)
-  pub to_controller : (events : List LinkEvent) → IsRunOf events l → IsQuiet l (losses_of new_line events)
-      → IsDelivered t (end_h h) (number_of l.controller)
+  pub to_host : (n : ℕ) → AreUpWith t h n → (events : List LinkEvent) → IsRunOf events l → IsUntroubled l (losses_of new_line events)
+      → IsDelivered t (end_c h) n
+  pub to_controller : (n : ℕ) → AreUpWith t h n → (events : List LinkEvent) → IsRunOf events l → IsUntroubled l (losses_of new_line events)
+      → IsDelivered t (end_h h) n
+
+-- they are so in one session
+pub record AreBothUp (t : List Entry) (h : ℕ) : Type 0 where
+  pub number : ℕ
+  pub up : AreUpWith t h number
+
+-- Where a reset put the last RSET on the link, nothing kept its answer back, and no frame is on its way but those of activation, both
+-- ends are up in one session, as it is noted.
+abbrev pub HasSettled : List Entry → ℕ → Link → Type 0
+HasSettled t h l = (events : List LinkEvent) → IsRunOf events l → IsSettled l (sure_of new_line events) → AreBothUp t h

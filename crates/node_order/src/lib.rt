@@ -14,7 +14,7 @@ ghost use Rattle.node_links.specs.Runs.{ArePlayable};
 ghost use Rattle.kept_laws.specs.Hosts.{AreHosts, IsFew, IsSentByHost};
 ghost use Rattle.node_telling.specs.Telling.{IsTimely, world_behind};
 ghost use Rattle.node_order.specs.Legal.{LegalNodes, PrefixNodes};
-ghost use Rattle.node_order.specs.Told.{AreReadOff, AreSessionsRead, HasDelivered, IsLinkTold};
+ghost use Rattle.node_order.specs.Told.{AreReadOff, AreSessionsRead, HasDelivered, HasSettled, IsLinkTold};
 
 /// At the end of each event of a history of hosts from 01 to 07 that are all different, each end is new while its node doesn't run, a
 /// notice comes to its hundredth tick only at an end that is active and up, and none does at a host: so what is said of ticks of such
@@ -57,19 +57,24 @@ pub fn messages_are_in_order_in_each_history()
         ArePlayable lines → list_any is_chain_fault (node_entries t) ≡ false }
 {}
 
-/// At the end of each event of such a history, where both ends of a link are up in one session, no frame but of activation was lost and
-/// no RNR made since the first of them came up in it, and both wires hold none but of activation, the other end got all good messages
-/// that an end sent in that session, and all that it sent are acknowledged, as the history notes it.
+/// At the end of each event of such a history, where both ends of a link are up in one session, as it is read off the entries, no frame
+/// of the link but of activation was lost and no RNR made since the first of them came up in it, and both wires hold none but of
+/// activation, the other end got all good messages that an end sent in that session, and all that it sent are acknowledged, as the
+/// history notes it (`delivered`). And where a reset put the last RSET on the link, nothing kept its answer back and no frame is on its
+/// way but those of activation, both ends are up in one session, as it is read off the entries (`settled`).
 pub fn quiet_links_have_delivered_all_in_each_history()
-    ensures { (header : Header) (lines : List Line) (t : NodeHistory) → FollowsNodes header lines t → AreHosts header.hosts.items →
+    ensures delivered { (header : Header) (lines : List Line) (t : NodeHistory) → FollowsNodes header lines t → AreHosts header.hosts.items →
         ArePlayable lines → (front back : List Occurrence) → occurrences_in t ≡ front ++ back → (h : ℕ) (s : Site) →
         site_at (world_behind (new_world header.hosts.items) front).sites h ≡ Some s → HasDelivered (entries_in front) h s.link }
+    ensures settled { (header : Header) (lines : List Line) (t : NodeHistory) → FollowsNodes header lines t → AreHosts header.hosts.items →
+        ArePlayable lines → (front back : List Occurrence) → occurrences_in t ≡ front ++ back → (h : ℕ) (s : Site) →
+        site_at (world_behind (new_world header.hosts.items) front).sites h ≡ Some s → HasSettled (entries_in front) h s.link }
 {}
 
 /// Every history that follows a schedule is legal: messages are in order at each moment, at the end of each event quiet links have
 /// delivered all and resets have brought both ends up, pipes between hosts were made as whitelists allow, commands are kept over power
-/// cuts, and messages have their turns in the order in which they came. It asks for hosts from 01 to 07 that are all different, for lines that can be played, for messages that hosts
-/// send, and that no node has more commands than a journal counts.
+/// cuts, and messages have their turns in the order in which they came. It asks for hosts from 01 to 07 that are all different, for
+/// lines that can be played, for messages that hosts send, and that no node has more commands than a journal counts.
 pub fn every_history_of_nodes_is_legal()
     ensures { (header : Header) (lines : List Line) (t : NodeHistory) → FollowsNodes header lines t → AreHosts header.hosts.items →
         ArePlayable lines → AllByRecursion IsSentByHost lines → IsFew (node_entries t) → LegalNodes t }
