@@ -21,7 +21,7 @@ use Rattle.hci_store.specs.Recordable.{IsRecordable}
 use Rattle.hci_store.specs.Committing.{record_fits, snapshot_bodies, room_writes, with_room, commit_writes, committed}
 use Rattle.kept_laws.specs.Finds.{Knows, FindsRoom}
 use Rattle.kept_laws.proofs.Commits.{says_of, can, room_knows, next_of}
-use Rattle.cut_laws.specs.Gates.{opens_gate}
+use Rattle.kept_laws.specs.Gates.{opens_gate}
 use Rattle.cut_laws.proofs.Filled.{IsFilled}
 use Rattle.cut_laws.proofs.Gates.{EndsInGate, ends_append, gate_opened, gate_closed}
 use Rattle.cut_laws.proofs.Commits.{Torn, torn, many, parts, commit_opened, record_same}

@@ -20,7 +20,7 @@ use Rattle.hci_store.specs.Committing.{record_fits, room_writes, with_room, comm
 use Rattle.hci_store.proofs.CutShort.{room_count}
 use Rattle.kept_laws.specs.Finds.{BootFinds, Knows, FindsRoom}
 use Rattle.kept_laws.proofs.Commits.{says_of, has_room, finds_still, room_knows, room_left, commit_knows, commit_count}
-use Rattle.cut_laws.specs.Gates.{opens_gate}
+use Rattle.kept_laws.specs.Gates.{opens_gate}
 use Rattle.cut_laws.proofs.Filled.{IsFilled, planned_filled, filled_cut, filled_append}
 use Rattle.cut_laws.proofs.Gates.{ends_append, gate_opened, gate_closed}
 

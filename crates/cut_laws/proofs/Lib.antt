@@ -3,3 +3,11 @@ pub mod Gates
 pub mod Commits
 pub mod Banks
 pub mod Steps
+pub mod Standing
+pub mod Worlds
+pub mod Powers
+pub mod Places
+pub mod Ticking
+pub mod Events
+pub mod Histories
+mod Examples

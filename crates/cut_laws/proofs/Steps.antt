@@ -24,7 +24,7 @@ use Rattle.kept_laws.specs.Books.{StillRuns}
 use Rattle.kept_laws.proofs.Planned.{plan_on}
 use Rattle.kept_laws.proofs.Commits.{finds_closed, commit_count}
 use Rattle.kept_laws.proofs.Books.{book_more, book_command, closed_command, closed_book}
-use Rattle.cut_laws.specs.Gates.{opens_gate}
+use Rattle.kept_laws.specs.Gates.{opens_gate}
 use Rattle.cut_laws.proofs.Commits.{planned_opened, planned_closed}
 
 -- ## The plan
@@ -99,7 +99,7 @@ module _ (n : ℕ) (hosts : List ℕ) (old : Memory) (before : List Entry) (c : 
   memory_is : (after_planned (commit c w).writes old).content ≡ (after_planned writes r.memory).content
   memory_is = ap (λ (v : Work). (after_planned v.writes old).content) is_lost ∙ ap (λ (m : Memory). m.content) (r.written writes)
 
-  plan_at : opens_gate (length (commit c w).writes) old.plan ≡ opens_gate (length writes) r.memory.plan
+  pub plan_at : opens_gate (length (commit c w).writes) old.plan ≡ opens_gate (length writes) r.memory.plan
   plan_at = ap (λ (v : Work). opens_gate (length v.writes) old.plan) is_lost ∙ by_plan r.memory.plan refl where
     left_is : (after_planned w.writes old).plan ≡ r.memory.plan
     left_is = ap (λ l. (after_planned l old).plan) (sym (append-nil w.writes)) ∙ ap (λ (m : Memory). m.plan) (r.written [])

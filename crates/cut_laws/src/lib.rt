@@ -1,7 +1,8 @@
 //! Which commit a boot finds where the power went in its writes: the law of a commit that was cut, over a memory whose failing write
-//! is planned. Nothing here runs.
+//! is planned; and over whole histories exactly which commands each boot finds, and where the power goes. Nothing here runs.
 #![tactic(auto)]
 
+ghost use Rattle.std.specs.List.{AllByRecursion};
 ghost use Rattle.std.specs.Prelude.{◌≡◌, ◌⊎◌, ℕ, ◌-◌, ◌^◌, ◌<◌, ◌++◌, List, length, min, true, false};
 ghost use Rattle.swp_base.specs.InMemory.{Memory};
 ghost use Rattle.journal_laws.specs.declared.state.State.{State};
@@ -15,12 +16,17 @@ ghost use Rattle.hci_tables.specs.Tables.{HciTables, AreTables, no_tables, apply
 ghost use Rattle.hci_store.specs.Recordable.{IsRecordable};
 ghost use Rattle.hci_store.specs.Committing.{room_writes, with_room, commit_writes, committed};
 ghost use Rattle.trace_model.specs.declared.entry.Entry.{Entry};
+ghost use Rattle.trace_model.specs.declared.line.Header.{Header};
+ghost use Rattle.trace_model.specs.declared.line.Line.{Line};
 ghost use Rattle.node_machine.specs.Parts.{Work};
 ghost use Rattle.node_machine.specs.Carrying.{commit};
 ghost use Rattle.node_world.specs.NodeFilters.{commands_in};
+ghost use Rattle.node_world.specs.NodeHistories.{FollowsNodes, NodeHistory, node_entries};
+ghost use Rattle.kept_laws.specs.Hosts.{AreHosts, IsFew, IsSentByHost};
 ghost use Rattle.kept_laws.specs.Books.{StillRuns};
 ghost use Rattle.kept_laws.specs.Finds.{BootFinds, Knows, FindsRoom};
-ghost use Rattle.cut_laws.specs.Gates.{opens_gate};
+ghost use Rattle.kept_laws.specs.Gates.{opens_gate};
+ghost use Rattle.cut_laws.specs.Histories.{AreCutAsPlanned, AreFoundExactly, StandsInMemories};
 
 /// A node commits a command that may be recorded and finds room, and one of its writes fails. The last of them is that of the record's
 /// gate, also where a snapshot is written first. A boot finds the command exactly where that one failed and left 5A; wherever else the
@@ -68,4 +74,30 @@ pub fn a_cut_step_is_found_exactly_where_its_last_gate_was_opened()
         → IsCommand c → FindsRoom w.core.journal c → (commit c w).cut ≡ true → opens_gate (length (commit c w).writes) old.plan ≡ false
         → BootFinds (after_planned (commit c w).writes old).content (after_commands no_tables (commands_in (before ++ w.entries) n))
         (min (length (commands_in (before ++ w.entries) n)) (2 ^ 32 - 1)) }
+{}
+
+/// Over every history that follows a schedule: each boot of a node finds one command less than were noted before it exactly where the
+/// last one is lost, and else all of them. It is lost where one of its writes failed, and that one wasn't its last, or left another byte
+/// than 5A at the gate; then the node's cut stood directly behind it. Which writes a command makes, and which of them fails, is read off
+/// the history alone: off the plans that were set, the boots and the commands before it. It asks for hosts from 01 to 07 that are all
+/// different, for messages that hosts send, and that no node has more commands than a journal counts.
+pub fn boots_find_exactly_the_commands_that_are_read()
+    ensures { (header : Header) (lines : List Line) (t : NodeHistory) → FollowsNodes header lines t → AreHosts header.hosts.items →
+        AllByRecursion IsSentByHost lines → IsFew (node_entries t) → AreFoundExactly t }
+{}
+
+/// Over every such history the power of a node goes exactly as planned: but for a line that cuts it, a cut comes exactly at the write
+/// that is to fail, of those since the plan was set. It stands directly behind the command in whose writes that one is; or it is the one
+/// entry of a boot that formats the memory, which then doesn't answer. A command whose writes all go through has no cut behind it, and
+/// with a write that failed the plan is spent. It asks for what `boots_find_exactly_the_commands_that_are_read` asks for.
+pub fn power_goes_exactly_as_planned()
+    ensures { (header : Header) (lines : List Line) (t : NodeHistory) → FollowsNodes header lines t → AreHosts header.hosts.items →
+        AllByRecursion IsSentByHost lines → IsFew (node_entries t) → AreCutAsPlanned t }
+{}
+
+/// Such a history stands in the memories of its nodes: at the end of each event the memory of each node, its bytes and the plan that is
+/// left, is the one that is read off the history until then. It asks for what `boots_find_exactly_the_commands_that_are_read` asks for.
+pub fn histories_stand_in_memories()
+    ensures { (header : Header) (lines : List Line) (t : NodeHistory) → FollowsNodes header lines t → AreHosts header.hosts.items →
+        AllByRecursion IsSentByHost lines → IsFew (node_entries t) → StandsInMemories t }
 {}

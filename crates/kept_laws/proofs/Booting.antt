@@ -74,7 +74,7 @@ good_found content =
 -- ## What it finds
 
 module _ (content : List ℕ) (t : HciTables) (many : ℕ) (f : BootFinds content t many) where
-  says : Says content (state_of content)
+  pub says : Says content (state_of content)
   says = record { size = f.size; state_is = refl; sound = f.keeps.sound }
 
   same_tables : close t ≡ close (close (tables_of content))
@@ -102,7 +102,7 @@ module _ (content : List ℕ) (t : HciTables) (many : ℕ) (f : BootFinds conten
     count_formatted : count_of formatted ≡ many
     count_formatted = counted content (state_of content) formatted says started_is ∙ f.keeps.count_is
 
-    left_formatted : (j : ℕ) (left : List ℕ) → IsCut j format_writes content left → BootFinds left t many
+    pub left_formatted : (j : ℕ) (left : List ℕ) → IsCut j format_writes content left → BootFinds left t many
     left_formatted j left cut =
         either (left_finds format_writes content left t t many many j (format_all_or_nothing content (state_of content) says none) cut f after_it) where
           after_it : BootFinds (after_writes format_writes content) t many

@@ -1,5 +1,5 @@
 -- What a node keeps while it does the deeds of a message.
-use Rattle.std.specs.List.{AllByRecursion}
+use Rattle.std.specs.List.{AllByRecursion, fold}
 use Rattle.std.proofs.Common.{eqb, eqb-true, ◌≡◌, ◌⊎◌, inl, inr, ℕ, ◌+◌, ◌-◌, ◌^◌, min, true, false, List, [], ◌∷◌, ◌++◌, length, sym, refl, ap, ◌∙◌, subst, arith, append_assoc, length-append}
 use Rattle.std.specs.Prelude.{Option, Some, None}
 use Rattle.std.proofs.lemmas.Bool.{cases_Bool}
@@ -29,6 +29,8 @@ use Rattle.node_world.specs.NodeFilters.{tables_in, Book, with_command, book_in,
 use Rattle.node_world.specs.NodeLegal.{IsAllowedBy, last_in}
 use Rattle.node_world.specs.NodeLegal.Last.{CutBehindCommand}
 use Rattle.kept_laws.specs.Finds.{BootFinds, FindsRoom}
+use Rattle.kept_laws.specs.Reckonings.{Reckoning, reckoning_of, reckoned}
+use Rattle.kept_laws.proofs.Reckoned.{fold_book, make_more, make_ok, command_makes}
 use Rattle.kept_laws.specs.Books.{IsOf, WouldFind, StillRuns, HasLostPower}
 use Rattle.kept_laws.specs.Deeds.{IsOnOrder, MayBeDone}
 use Rattle.kept_laws.proofs.Planned.{planned_whole, after_planned-append}
@@ -60,6 +62,13 @@ module _ (n : ℕ) (hosts : List ℕ) (old : Memory) (before : List Entry) where
     told_then z =
         subst (λ t. IsAllowedBy t c) (r.tables_are ∙ ap (tables_in seen) (sym r.number)) (fit (sym r.number ∙ z)).0
 
+    abbrev start : Reckoning
+    start = reckoning_of true (book_in before n) old
+
+    -- the tables are those that are read with the memory
+    tables_read : (fold (reckoned n) start w.entries).book.tables ≡ w.core.tables
+    tables_read = ap (λ (b : Book). b.tables) (fold_book n start w.entries ∙ sym (book_more before w.entries n)) ∙ sym r.tables_are
+
     book_begun : book_in (before ++ (w.entries ++ entry.Command w.core.node c ∷ [])) n ≡ with_command c (book_in seen n)
     book_begun = ap (λ l. book_in l n) (sym (append_assoc before w.entries (entry.Command w.core.node c ∷ []))) ∙ book_command seen w.core.node n c r.number
 
@@ -84,6 +93,9 @@ module _ (n : ℕ) (hosts : List ℕ) (old : Memory) (before : List Entry) where
           written = λ more. ap (λ l. after_planned l old) (append_assoc w.writes writes more) ∙ r.written
               (writes ++ more) ∙ after_planned-append writes more r.memory now;
           plan_is = ap (plan_behind writes) r.plan_is ∙ sym (planned_whole writes r.memory now).1;
+          made = make_more n start w.entries (entry.Command w.core.node c ∷ []) r.memory (after_planned writes r.memory) r.made
+              (command_makes n w.core.node (fold (reckoned n) start w.entries) c r.memory w.core.journal w.core.tables r.number r.made.memory_is
+              r.knows.state_is tables_read r.made.on r.made.none_due now);
           number = r.number;
           hosts_are = r.hosts_are;
           knows = planned_knows r.memory w.core.journal w.core.tables c r.knows r.sorted r.recordable may room now;
@@ -102,6 +114,8 @@ module _ (n : ℕ) (hosts : List ℕ) (old : Memory) (before : List Entry) where
         let now : fails_within (length writes) r.memory.plan ≡ true = ap (fails_within (length writes)) (sym r.plan_is) ∙ fails in
         record {
           off = refl;
+          command = c;
+          lost = record { hosts = hosts; work = w; ran = r; may = may; room = room; fails = fails; is = refl };
           would = would_at _ left _ (with_command c (book_in seen n)) _ CutBehindCommand memory_is book_is last_is
               (either (planned_left r.memory w.core.journal w.core.tables c r.knows r.sorted r.recordable may room now));
           told = told_append before (w.entries ++ entry.Command w.core.node c ∷ []) (entry.Cut w.core.node ∷ [])
@@ -158,6 +172,7 @@ module _ (n : ℕ) (hosts : List ℕ) (old : Memory) (before : List Entry) where
     memory = r.memory;
     written = r.written;
     plan_is = r.plan_is;
+    made = make_ok n (reckoning_of true (book_in before n) old) w.entries w.core.node (count_of w.core.journal) r.memory r.made;
     number = r.number;
     hosts_are = r.hosts_are;
     knows = r.knows;
@@ -201,6 +216,7 @@ module _ (n : ℕ) (hosts : List ℕ) (old : Memory) (before : List Entry) where
     memory = r.memory;
     written = r.written;
     plan_is = r.plan_is;
+    made = r.made;
     number = r.number;
     hosts_are = hosts_map changed (λ p. changed_host (eqb p.desk.host h) change p refl) a.ports ∙ r.hosts_are;
     knows = r.knows;

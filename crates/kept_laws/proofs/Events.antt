@@ -46,7 +46,7 @@ use Rattle.kept_laws.proofs.Booting.{boot_told, boot_runs, boot_lost, cut_keeps}
 use Rattle.kept_laws.proofs.Sites.{hosts_in, site_found, hosts_same, map_sites, with_site_twice}
 use Rattle.kept_laws.proofs.Worlds.{Goes, goes_not, goes_then, controller_goes, host_goes, controller_steps, host_steps}
 
-no_order : (command order : Option (List ℕ)) (init : Option Init) → is_some command ≡ false → IsOnOrder command init → IsOnOrder order init
+pub no_order : (command order : Option (List ℕ)) (init : Option Init) → is_some command ≡ false → IsOnOrder command init → IsOnOrder order init
 no_order None None None off on = tt
 no_order None (Some o) None off on = tt
 no_order None order (Some i) off on = absurd on

@@ -30,7 +30,7 @@ use Rattle.kept_laws.proofs.Lines.{TellsRight, TellRight, Schedule, schedule_goe
 
 -- ## The beginning
 
-blank_finds : (content : List ℕ) → IsUnformatted content → BootFinds content no_tables 0
+pub blank_finds : (content : List ℕ) → IsUnformatted content → BootFinds content no_tables 0
 blank_finds content blank =
     let is : journal content ≡ unformatted = no_journal content blank.closed in
     record {

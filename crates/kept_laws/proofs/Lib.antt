@@ -2,6 +2,7 @@ pub mod Snapshots
 pub mod Planned
 pub mod Commits
 pub mod Books
+pub mod Reckoned
 pub mod Asking
 pub mod Plainly
 pub mod Doing

@@ -39,7 +39,7 @@ abbrev pub MayAllHappen : NodeWorld → List Happening → Type 0
 MayAllHappen w [] = Unit {0}
 MayAllHappen w (c ∷ causes) = MayHappen w c × MayAllHappen (world_step w c).0 causes
 
-few_front : (xs ys : List Entry) → IsFew (xs ++ ys) → IsFew xs
+pub few_front : (xs ys : List Entry) → IsFew (xs ++ ys) → IsFew xs
 few_front xs ys few front back n is = few front (back ++ ys) n (ap (λ l. l ++ ys) is ∙ append_assoc front back ys)
 
 module _ (hosts : List ℕ) (are : AreHosts hosts) where

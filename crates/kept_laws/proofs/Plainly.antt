@@ -20,6 +20,8 @@ use Rattle.node_world.specs.NodeFilters.{Book, book_in}
 use Rattle.node_machine.specs.Controller.{creation_in, asked_at}
 use Rattle.node_laws.specs.Waiting.{MayWait}
 use Rattle.kept_laws.specs.Finds.{Knows}
+use Rattle.kept_laws.specs.Reckonings.{reckoning_of, MakeOf}
+use Rattle.kept_laws.proofs.Reckoned.{plain_idles, make_idle}
 use Rattle.kept_laws.specs.Books.{IsPlain, IsOf, AreToldBehind, WaitsAbout, WaitsFor, WaitsAt, hosts_of_ends, StillRuns}
 use Rattle.kept_laws.proofs.Asking.{NoneNew, same_new, new_then, may_still, map_new, changed_new}
 use Rattle.kept_laws.proofs.Books.{plain_book, plain_told, plain_own, all_append, told_append}
@@ -63,6 +65,8 @@ runs_plainly n hosts old before w v r p = record {
   memory = r.memory;
   written = λ more. ap (λ ws. after_planned (ws ++ more) old) p.writes ∙ r.written more;
   plan_is = p.plan ∙ r.plan_is;
+  made = subst (λ l. MakeOf n (reckoning_of true (book_in before n) old) l r.memory) (sym p.entries)
+      (make_idle n (reckoning_of true (book_in before n) old) w.entries p.more r.memory r.made (plain_idles n p.more p.plain));
   number = p.node ∙ r.number;
   hosts_are = p.hosts ∙ r.hosts_are;
   knows = subst (λ s. Knows r.memory.content s v.core.tables) (sym p.journal) (subst (λ t. Knows r.memory.content w.core.journal t) (sym p.tables) r.knows);

@@ -1,5 +1,5 @@
 -- What a node keeps between its steps.
-use Rattle.std.proofs.Common.{◌≡◌, inl, inr, ℕ, ◌-◌, ◌^◌, min, false, cond, eqb, List, [], ◌∷◌, ◌++◌, length, map, sym, refl, ap, ◌∙◌, subst, append-nil}
+use Rattle.std.proofs.Common.{◌≡◌, inl, inr, ℕ, ◌-◌, ◌^◌, min, true, false, cond, eqb, List, [], ◌∷◌, ◌++◌, length, map, sym, refl, ap, ◌∙◌, subst, append-nil}
 use Rattle.std.specs.Prelude.{Option, Some, None}
 use Rattle.std.specs.List.{AllByRecursion, fold}
 use Rattle.std.proofs.lemmas.Bool.{ne_eqb}
@@ -15,6 +15,8 @@ use Rattle.node_world.specs.World.{port_for, work_of, runs_on}
 use Rattle.node_world.specs.NodeFilters.{Book, with_command, with_found, book_after, book_in}
 use Rattle.node_world.specs.NodeLegal.{Last, last_after, last_in}
 use Rattle.kept_laws.specs.Finds.{Knows}
+use Rattle.kept_laws.specs.Reckonings.{reckoning_of}
+use Rattle.kept_laws.proofs.Reckoned.{idle_make, plain_idles}
 use Rattle.kept_laws.specs.Books.{IsPlain, IsOf, AreToldBehind, WaitsFor, WaitsAt, WouldFind, hosts_of_ends, StillRuns}
 use Rattle.kept_laws.specs.Worlds.{RunsSo, IfRuns, NodeKeeps}
 use Rattle.kept_laws.proofs.Books.{book_more, last_more, plain_book, plain_last, plain_told, plain_own, closed_book, finds_all}
@@ -117,6 +119,7 @@ runs_begun n hosts t m r halves es plain k = record {
   memory = m;
   written = λ more. refl;
   plan_is = refl;
+  made = idle_make n (reckoning_of true (book_in t n) m) m es refl refl refl refl (plain_idles n es plain);
   number = k.number;
   hosts_are = port_hosts halves r.desks ∙ k.hosts_are;
   knows = k.knows;

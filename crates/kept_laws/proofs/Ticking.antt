@@ -60,7 +60,7 @@ record SitesTick (t : List Entry) (sites : List Site) (p : List Site × List Ent
   told : AreToldBehind t p.1
   others : (n : ℕ) → AllByRecursion (λ k. eqb k n ≡ false) (hosts_in sites) → IsSame n t (t ++ p.1)
 
-moved : (t u : List Entry) (h : ℕ) (es : List Entry) → u ≡ t ++ es → AllByRecursion (IsOf h) es → (sites : List Site)
+pub moved : (t u : List Entry) (h : ℕ) (es : List Entry) → u ≡ t ++ es → AllByRecursion (IsOf h) es → (sites : List Site)
     → AllByRecursion (λ k. eqb k h ≡ false) (hosts_in sites)
     → AllByRecursion (SiteKeeps t) sites → AllByRecursion (SiteKeeps u) sites
 moved t u h es is own [] off all = tt
@@ -108,19 +108,19 @@ sites_tick (s ∷ sites) t different hosts all =
               (rest.others n off.1));
         }
 
-none_zero : (hosts : List ℕ) → AllByRecursion IsHost hosts → AllByRecursion (λ k. eqb k 0 ≡ false) hosts
+pub none_zero : (hosts : List ℕ) → AllByRecursion IsHost hosts → AllByRecursion (λ k. eqb k 0 ≡ false) hosts
 none_zero [] all = tt
 none_zero (h ∷ hosts) all = (ne_eqb h 0 (λ e. omega (arith, e, all.0.0)), none_zero hosts all.1)
 
 module _ (hosts : List ℕ) (are : AreHosts hosts) where
-  aged_goes : (t : List Entry) (w : NodeWorld) → AllKeep hosts t w → GoesBy hosts are t (all_aged w)
+  pub aged_goes : (t : List Entry) (w : NodeWorld) → AllKeep hosts t w → GoesBy hosts are t (all_aged w)
   aged_goes t w all =
       plain_goes hosts are t w (all_aged w).0 (all_aged w).1 (λ (s : Site). record s { link = aged s.link }) all
       (plain_flat (λ (s : Site). entries_for s.host (aged_entries Controller s.link.to_controller ++ aged_entries Host s.link.to_host))
       (λ s. plain_entries s.host (aged_entries Controller s.link.to_controller ++ aged_entries Host s.link.to_host)) w.sites)
       refl all.controller (λ s. refl) (λ s k. k)
 
-  near_ticks : (t : List Entry) (w : NodeWorld) → AllKeep hosts t w → GoesBy hosts are t (controller_ticks w)
+  pub near_ticks : (t : List Entry) (w : NodeWorld) → AllKeep hosts t w → GoesBy hosts are t (controller_ticks w)
   near_ticks t w all = by_node w.controller refl all.controller where
     by_node : (o : Option Running) → w.controller ≡ o → NodeKeeps 0 hosts t w.memory o → GoesBy hosts are t (controller_ticks w)
     by_node None e k =

@@ -7,17 +7,22 @@ use Rattle.trace_model.specs.declared.entry.Entry.TheVariants as entry
 use Rattle.journal_laws.specs.Banks.{current}
 use Rattle.journal_laws.specs.Writes.{Write}
 use Rattle.journal_laws.specs.Journal.{count_of}
-use Rattle.journal_laws.specs.Planned.{after_planned}
+use Rattle.journal_laws.specs.Planned.{fails_within, after_planned}
+use Rattle.hci_tables.specs.declared.command.Command.{Command}
 use Rattle.hci_tables.specs.Commands.{IsCommand}
+use Rattle.hci_tables.specs.Bodies.{body_of}
 use Rattle.hci_tables.specs.Tables.{AreTables, no_tables, after_commands}
 use Rattle.hci_store.specs.Recordable.{IsRecordable}
+use Rattle.hci_store.specs.Committing.{commit_writes}
 use Rattle.node_machine.specs.Parts.{About, Notice, Port, Work}
 use Rattle.node_machine.specs.Parts.About.{Waits, Forgotten, Removed}
+use Rattle.node_machine.specs.Carrying.{noting, loses_power}
 use Rattle.node_world.specs.NodeFilters.{Book, book_in, commands_in, tables_in}
 use Rattle.node_world.specs.NodeLegal.{Last, last_in, FindsCommands, IsAllowedBy}
 use Rattle.node_world.specs.NodeLegal.Last.{CutBehindCommand}
 use Rattle.node_laws.specs.Waiting.{MayWait}
-use Rattle.kept_laws.specs.Finds.{BootFinds, Knows}
+use Rattle.kept_laws.specs.Finds.{BootFinds, Knows, FindsRoom}
+use Rattle.kept_laws.specs.Reckonings.{reckoning_of, MakeOf}
 
 -- ## Entries
 
@@ -79,12 +84,13 @@ abbrev pub hosts_of_ends : List Port → List ℕ
 hosts_of_ends ports = map (λ (p : Port). p.desk.host) ports
 
 -- The node n has links to these hosts, had this memory as the step began, and these entries were noted before. It runs: it keeps
--- exactly the tables and the count of the commands that were noted, and its memory holds them.
+-- exactly the tables and the count of the commands that were noted, and its memory holds them; the entries make this memory.
 pub record StillRuns (n : ℕ) (hosts : List ℕ) (old : Memory) (before : List Entry) (w : Work) : Type 0 where
   pub on : w.cut ≡ false
   pub memory : Memory
   pub written : (more : List Write) → after_planned (w.writes ++ more) old ≡ after_planned more memory
   pub plan_is : w.plan ≡ memory.plan
+  pub made : MakeOf n (reckoning_of true (book_in before n) old) w.entries memory
   pub number : w.core.node ≡ n
   pub hosts_are : hosts_of_ends w.ports ≡ hosts
   pub knows : Knows memory.content w.core.journal w.core.tables
@@ -97,9 +103,21 @@ pub record StillRuns (n : ℕ) (hosts : List ℕ) (old : Memory) (before : List 
   pub waits : AllByRecursion WaitsAt w.ports
   pub allowed : n ≡ 0 → MayWait w.core.tables w.ports
 
+-- A node ran so, and lost its power in the writes of this command, which may be recorded and finds room.
+pub record HasLostIn (n : ℕ) (old : Memory) (before : List Entry) (command : Command) (w : Work) : Type 0 where
+  pub hosts : List ℕ
+  pub work : Work
+  pub ran : StillRuns n hosts old before work
+  pub may : IsCommand command
+  pub room : FindsRoom work.core.journal command
+  pub fails : fails_within (length (commit_writes work.core.journal work.core.tables (body_of command))) work.plan ≡ true
+  pub is : w ≡ loses_power (commit_writes work.core.journal work.core.tables (body_of command)) (noting (entry.Command work.core.node command ∷ []) work)
+
 -- it has lost its power in a write, and its memory holds all commands that were noted, or all but the last one
 pub record HasLostPower (n : ℕ) (old : Memory) (before : List Entry) (w : Work) : Type 0 where
   pub off : w.cut ≡ true
+  pub command : Command
+  pub lost : HasLostIn n old before command w
   pub would : WouldFind (after_planned w.writes old).content (book_in (before ++ w.entries) n) (last_in (before ++ w.entries) n)
   pub told : AreToldBehind before w.entries
   pub own : AllByRecursion (IsOf n) w.entries
