@@ -9,7 +9,8 @@ use Rattle.node_world.specs.Lines.{Occurrence}
 use Rattle.node_world.specs.NodeHistories.{NodeHistory, FollowsNodes, entries_in, node_entries, occurrences_in}
 use Rattle.node_links.specs.Runs.{ArePlayable}
 use Rattle.kept_laws.specs.Hosts.{AreHosts, IsFew, IsSentByHost}
-use Rattle.kept_laws.proofs.Kept.{are_kept, are_allowed}
+use Rattle.kept_laws.proofs.Kept.{are_allowed}
+use Rattle.cut_laws.proofs.Histories.{kept_exactly}
 use Rattle.node_telling.specs.Telling.{world_behind}
 use Rattle.node_readings.proofs.NoticedWorlds.{numbers}
 use Rattle.turn_laws.proofs.Lines.{in_turn}
@@ -49,6 +50,6 @@ legal header lines t follows are playable sent few =
       in_order = in_order header lines t follows are playable;
       complete = complete header lines t follows are playable;
       allowed = are_allowed header lines t follows are sent few;
-      kept = are_kept header lines t follows are sent few;
+      kept = kept_exactly header lines t follows are sent few;
       in_turn = in_turn header lines t follows are.different (numbers header.hosts.items are.all);
     }

@@ -6,7 +6,9 @@ use Rattle.history.specs.Legal.{IsInOrder, is_chain_fault}
 use Rattle.node_world.specs.World.{Site, new_world, site_at}
 use Rattle.node_world.specs.Lines.{Occurrence}
 use Rattle.node_world.specs.NodeHistories.{NodeHistory, entries_in, node_entries, occurrences_in}
-use Rattle.node_world.specs.NodeLegal.{Allowed, AreInTurn, Kept}
+use Rattle.node_world.specs.NodeLegal.{Allowed, AreInTurn}
+use Rattle.cut_laws.specs.Histories.{KeptExactly}
+use Rattle.node_links.specs.Runs.{IsRunOf, new_line}
 use Rattle.node_telling.specs.Telling.{world_behind}
 use Rattle.node_order.specs.Told.{HasDelivered, HasSettled}
 
@@ -32,5 +34,5 @@ pub record LegalNodes (t : NodeHistory) : Type 0 where
   pub in_order : PrefixNodes t
   pub complete : CompleteNodes t
   pub allowed : Allowed (node_entries t)
-  pub kept : Kept t
+  pub kept : KeptExactly t
   pub in_turn : AreInTurn (node_entries t)

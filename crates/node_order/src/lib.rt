@@ -73,8 +73,9 @@ pub fn quiet_links_have_delivered_all_in_each_history()
 
 /// Every history that follows a schedule is legal: messages are in order at each moment, at the end of each event quiet links have
 /// delivered all and resets have brought both ends up, pipes between hosts were made as whitelists allow, commands are kept over power
-/// cuts, and messages have their turns in the order in which they came. It asks for hosts from 01 to 07 that are all different, for
-/// lines that can be played, for messages that hosts send, and that no node has more commands than a journal counts.
+/// cuts, exactly those that are read to stand in the memories, and messages have their turns in the order in which they came. It asks for
+/// hosts from 01 to 07 that are all different, for lines that can be played, for messages that hosts send, and that no node has more
+/// commands than a journal counts.
 pub fn every_history_of_nodes_is_legal()
     ensures { (header : Header) (lines : List Line) (t : NodeHistory) → FollowsNodes header lines t → AreHosts header.hosts.items →
         ArePlayable lines → AllByRecursion IsSentByHost lines → IsFew (node_entries t) → LegalNodes t }
