@@ -248,7 +248,7 @@ module _ (hosts : List ℕ) (are : AreHosts hosts) (n : ℕ) where
         (stands_now (t ++ []) (record r { memory = record r.memory { plan = Some plan } }) (with_memory n armed w) armed (node_at w n) now
         (armed_stands n t r (memory_at w n) plan (node_at w n) stands)) in
         subst (λ j. GoesExactly n t r (Arms j plan) (with_memory j (record (memory_at w j) { plan = Some plan }) w, [])) (sym same) (record {
-          planned = (tt, stands.none_due);
+          planned = (tt, ap (λ (x : Reckoning). x.due) here ∙ stands.none_due);
           booted = λ before behind many at_it. none_here _ n many before behind at_it;
           stands = after_it;
           there = now.there;
@@ -259,7 +259,7 @@ module _ (hosts : List ℕ) (are : AreHosts hosts) (n : ℕ) where
         none_here P j many (e ∷ before) behind at_it = absurd (cc at_it)
     by_node (inr other) =
         usual n t r (Arms k plan) (with_memory k (record (memory_at w k) { plan = Some plan }) w, [])
-        (ap (λ b. cond b (record r { memory = record r.memory { plan = Some plan } }) r) other) (λ z. z)
+        (ap (λ b. cond b (record r { memory = record r.memory { plan = Some plan } }) r) other) (λ z. rw other z)
         (same_exact t r w (with_memory k (record (memory_at w k) { plan = Some plan }) w) []
         (same_memory k n w (record (memory_at w k) { plan = Some plan }) (eqb-false k n other) there) tt stands)
 

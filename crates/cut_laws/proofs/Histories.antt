@@ -1,7 +1,13 @@
 -- What is known of each node at each event of a history.
-use Rattle.std.proofs.Common.{◌≡◌, ◌⊎◌, inl, inr, ℕ, suc, ◌-◌, ◌^◌, ◌≤◌, ◌||◌, true, false, eqb, List, [], ◌∷◌, ◌++◌, length, map, sym, refl, ap, ◌∙◌, subst, arith, append_assoc, append-nil}
-use Rattle.std.specs.Prelude.{Some, None, replicate}
-use Rattle.std.specs.List.{AllByRecursion, list_any, flat_map}
+use Rattle.std.proofs.Common.{◌≡◌, ◌⊎◌, inl, inr, ℕ, suc, ◌-◌, ◌^◌, ◌≤◌, ◌||◌, true, false, eqb, List, [], ◌∷◌, ◌++◌, length, map, sym, refl, ap, ◌∙◌, subst, arith, append_assoc, append-nil, Bool, cond}
+use Rattle.std.specs.Option.{option_map_or}
+use Rattle.std.proofs.lemmas.List.Folds.{list_any-append}
+use Rattle.swp_base.specs.InMemory.{Memory}
+use Rattle.journal_laws.specs.declared.banks.Side.{Side}
+use Rattle.journal_laws.specs.Banks.{current}
+use Rattle.journal_laws.specs.Operations.{format_writes}
+use Rattle.std.specs.Prelude.{Option, IsSome, Some, None, replicate}
+use Rattle.std.specs.List.{AllByRecursion, list_any, flat_map, fold}
 use Rattle.std.proofs.lemmas.Bool.{cond_both, cases_Bool, cond-true, cond-false, eqb-true, true≢false}
 use Rattle.std.proofs.lemmas.Grind.{flat_map-append}
 use Rattle.std.proofs.lemmas.List.Sums.{fold-append}
@@ -11,14 +17,14 @@ use Rattle.trace_model.specs.declared.line.Header.{Header}
 use Rattle.trace_model.specs.declared.line.Line.{Line}
 use Rattle.journal_laws.specs.Planned.{after_planned}
 use Rattle.node_machine.specs.Node.{boot_writes}
-use Rattle.node_world.specs.World.Happening.{Boots, Arms}
+use Rattle.node_world.specs.World.Happening.{Boots, IsCut, Gives, Inits, Takes, Loses, Ticks, Resets, Activates, Arms}
 use Rattle.node_world.specs.NodeLegal.{last_in, FindsCommands}
 use Rattle.node_world.specs.NodeLegal.Last.{CutBehindCommand}
 use Rattle.node_world.specs.World.{NodeWorld, Site, Happening, new_memory, new_site, new_world, node_at, site_at, memory_at, world_step}
 use Rattle.node_world.specs.Lines.{Occurrence, happenings}
 use Rattle.node_world.specs.NodeHistories.{LineStep, NodeHistory, FollowsNodes, occurrences_of, occurrences_in, entries_in, node_entries}
-use Rattle.node_world.specs.NodeFilters.{Book, new_book, book_in, commands_in}
-use Rattle.kept_laws.specs.Reckonings.{Reckoning, reckoning_of}
+use Rattle.node_world.specs.NodeFilters.{Book, new_book, with_found, book_in, commands_in}
+use Rattle.kept_laws.specs.Reckonings.{Reckoning, reckoning_of, with_written, reckoned, IsAsRead, EachIsAsRead}
 use Rattle.kept_laws.specs.Hosts.{AreHosts, IsFew, IsSentByHost}
 use Rattle.kept_laws.specs.Worlds.{AllKeep, MayHappen}
 use Rattle.kept_laws.proofs.Lines.{MayAllHappen, line_may, world_goes}
@@ -26,7 +32,7 @@ use Rattle.kept_laws.proofs.Kept.{all_begin, blank_finds, are_kept}
 use Rattle.journal_laws.proofs.Opening.{fresh}
 use Rattle.node_telling.specs.Telling.{world_behind}
 use Rattle.node_telling.proofs.Lasting.{AllMay, AreCaused, lines_caused}
-use Rattle.cut_laws.specs.Histories.{FindsBy, FindsExactly, begun_by, with_event, reckoned_within, reckoning_in, IsNodeOf, AreFoundExactly, StandsInMemories, IsCutAsPlanned, AreCutAsPlanned, KeptExactly}
+use Rattle.cut_laws.specs.Histories.{boots_it, BootsWriteSo, FindsBy, FindsExactly, begun_by, with_event, reckoned_within, reckoning_in, IsNodeOf, AreFoundExactly, StandsInMemories, IsCutAsPlanned, AreCutAsPlanned, KeptExactly}
 use Rattle.cut_laws.proofs.Standing.{Stands, book_then}
 use Rattle.cut_laws.proofs.Worlds.{IsThere, StandsAt, memory_far, node_far}
 use Rattle.cut_laws.proofs.Events.{GoesExactly, event_exact}
@@ -43,6 +49,7 @@ begins n = record {
   many = 0;
   which = refl;
   finds = blank_finds (replicate 65536 255) (fresh 65536 (omega arith));
+  used = λ on. absurd (true≢false (sym on));
 }
 
 site_in : (content : List ℕ) (hosts : List ℕ) (n : ℕ) → list_any (λ h. eqb h n) hosts ≡ true
@@ -87,6 +94,59 @@ node_begins hosts n is = by_number (cases_Bool (eqb n 0)) where
 entries-append : (xs ys : List Occurrence) → entries_in (xs ++ ys) ≡ entries_in xs ++ entries_in ys
 entries-append xs ys = flat_map-append (λ (o : Occurrence). o.entries) xs ys
 
+or_false_left : (a b : Bool) → (a || (b || false)) ≡ false → a ≡ false
+or_false_left true b is = is
+or_false_left false b is = refl
+
+or_false_right : (a b : Bool) → (a || (b || false)) ≡ false → b ≡ false
+or_false_right true b is = absurd (true≢false is)
+or_false_right false true is = is
+or_false_right false false is = refl
+
+abbrev pub blank : List ℕ
+blank = replicate 65536 255
+
+-- a node that doesn't run, over a memory that is blank
+pub record IsNew (r : Reckoning) : Type 0 where
+  pub off : r.runs ≡ false
+  pub content : r.memory.content ≡ blank
+
+abbrev pub boots_in : ℕ → List Occurrence → Bool
+boots_in n events = list_any (λ (o : Occurrence). boots_it n o.cause) events
+
+-- entries in which it doesn't boot leave it so
+new_one : (n : ℕ) (r : Reckoning) (e : Entry) → IsAsRead n r e → IsNew r → IsNew (reckoned n r e)
+new_one n r (entry.Command k c) as_read new =
+    cond_both (eqb k n) (with_written c r) r IsNew (λ is. absurd (true≢false (sym (as_read (eqb-true k n is)) ∙ new.off))) (λ _. new)
+new_one n r (entry.Booted k j) as_read new =
+    cond_both (eqb k n) (record r { runs = true; book = with_found j r.book; lost = false }) r IsNew (λ is. absurd (as_read (eqb-true k n is))) (λ _. new)
+new_one n r (entry.Cut k) as_read new =
+    cond_both (eqb k n) (record r { runs = false; due = false }) r IsNew (λ _. record { off = refl; content = new.content }) (λ _. new)
+new_one n r _ as_read new = new
+
+new_all : (n : ℕ) (r : Reckoning) (es : List Entry) → EachIsAsRead n r es → IsNew r → IsNew (fold (reckoned n) r es)
+new_all n r [] each new = new
+new_all n r (e ∷ es) each new = new_all n (reckoned n r e) es each.2 (new_one n r e each.1 new)
+
+new_event : (n : ℕ) (r : Reckoning) (c : Happening) (es : List Entry) → boots_it n c ≡ false → IsCutAsPlanned n r c es → IsNew r
+    → IsNew (reckoned_within n c r es)
+new_event n r (Boots k) es none planned new =
+    let each : EachIsAsRead n r es = rw none at planned in
+    subst (λ x. IsNew (fold (reckoned n) x es))
+    (sym (ap (λ b. cond b (record r { memory = after_planned (boot_writes r.memory.content) r.memory }) r) none)) (new_all n r es each new)
+new_event n r (IsCut k) es none planned new =
+    subst (λ l. IsNew (fold (reckoned n) r l)) (sym planned) (new_one n r (entry.Cut k) tt new)
+new_event n r (Arms k plan) es none planned new =
+    new_all n (begun_by n (Arms k plan) r) es planned.0
+    (cond_both (eqb k n) (record r { memory = record r.memory { plan = Some plan } }) r IsNew (λ _. record { off = new.off; content = new.content }) (λ _. new))
+new_event n r (Gives e m) es none planned new = new_all n r es planned.0 new
+new_event n r (Inits e identity pipes) es none planned new = new_all n r es planned.0 new
+new_event n r (Takes e) es none planned new = new_all n r es planned.0 new
+new_event n r (Loses e why) es none planned new = new_all n r es planned.0 new
+new_event n r Ticks es none planned new = new_all n r es planned.0 new
+new_event n r (Resets e window) es none planned new = new_all n r es planned.0 new
+new_event n r (Activates h sync power) es none planned new = new_all n r es planned.0 new
+
 module _ (hosts : List ℕ) (are : AreHosts hosts) (n : ℕ) where
   -- what is known before each of these events, and behind all of them
   pub record IsKnown (front : List Occurrence) (w : NodeWorld) (events : List Occurrence) : Type 0 where
@@ -95,6 +155,7 @@ module _ (hosts : List ℕ) (are : AreHosts hosts) (n : ℕ) where
     pub few : IsFew (entries_in front ++ entries_in events)
     pub there : IsThere w n
     pub stands : StandsAt n (entries_in front) (reckoning_in front n) w
+    pub new : boots_in n front ≡ false → IsNew (reckoning_in front n)
 
   goes : (front : List Occurrence) (w : NodeWorld) (o : Occurrence) (events : List Occurrence) → IsKnown front w (o ∷ events)
       → GoesExactly n (entries_in front) (reckoning_in front n) o.cause (world_step w o.cause)
@@ -121,6 +182,12 @@ module _ (hosts : List ℕ) (are : AreHosts hosts) (n : ℕ) where
         few = subst IsFew (sym (append_assoc (entries_in front) o.entries (entries_in events)) ∙ ap (λ l. l ++ entries_in events)
             (sym (entries-append front (o ∷ []) ∙ ap (λ l. entries_in front ++ l) (append-nil o.entries)))) k.few;
         there = g.there;
+        new = λ none.
+            let both : (boots_in n front || (boots_it n o.cause || false)) ≡ false =
+            sym (list_any-append (λ (x : Occurrence). boots_it n x.cause) front (o ∷ [])) ∙ none in
+            let first : boots_in n front ≡ false = or_false_left (boots_in n front) (boots_it n o.cause) both in
+            let last : boots_it n o.cause ≡ false = or_false_right (boots_in n front) (boots_it n o.cause) both in
+            subst IsNew (sym read) (new_event n (reckoning_in front n) o.cause es last g.planned (k.new first));
         stands = subst (λ t. StandsAt n t (reckoning_in (front ++ o ∷ []) n) (world_step w o.cause).0) (sym here)
             (subst (λ r. StandsAt n (entries_in front ++ es) r (world_step w o.cause).0) (sym read) g.stands);
       }
@@ -182,10 +249,11 @@ module _ (header : Header) (lines : List Line) (t : NodeHistory) (follows : Foll
         few = subst (λ l. IsFew (entries_in l)) is few;
         there = b.there;
         stands = b.stands;
+        new = λ none. record { off = refl; content = refl };
       })
 
   pub found_exactly : AreFoundExactly t
-  found_exactly front back o before behind n many node is at_it = (finds, cut_behind) where
+  found_exactly front back o before behind n many node is at_it = (of_entries, cut_behind) where
     k : IsKnown header.hosts.items are n front (world_behind w0 front) (o ∷ back)
     k = known n node front (o ∷ back) is
 
@@ -203,6 +271,9 @@ module _ (header : Header) (lines : List Line) (t : NodeHistory) (follows : Foll
 
     book_is : (reckoned_within n o.cause (reckoning_in front n) before).book ≡ book_in seen n
     book_is = book_then n (entries_in front) (begun_by n o.cause (reckoning_in front n)) before (begun_book n o.cause (reckoning_in front n) ∙ k.stands.book_is)
+
+    of_entries : FindsBy (reckoned_within n o.cause (reckoning_in front n) before).lost many (length (commands_in seen n))
+    of_entries = subst (λ (b : Book). FindsBy (reckoned_within n o.cause (reckoning_in front n) before).lost many (length b.commands)) book_is finds
 
     cut_behind : (reckoned_within n o.cause (reckoning_in front n) before).lost ≡ true → last_in seen n ≡ CutBehindCommand
     cut_behind lost = by_which ((are_kept header lines t follows are sides few).found seen (behind ++ entries_in back) n many entries_are) where
@@ -222,10 +293,26 @@ module _ (header : Header) (lines : List Line) (t : NodeHistory) (follows : Foll
   stands_in_memories front back n node is =
       ap (λ l. memory_at (world_behind (new_world l) front) n) hosts_are ∙ sym (known n node front back is).stands.memory_is
 
+  -- what a boot writes, by whether a bank is in use
+  writes_none : (content : List ℕ) → IsSome (current content) → boot_writes content ≡ []
+  writes_none content some = by_bank (current content) refl some where
+    by_bank : (b : Option Side) → current content ≡ b → IsSome b → boot_writes content ≡ []
+    by_bank None is used = absurd (true≢false (sym used))
+    by_bank (Some side) is used = ap (λ p. option_map_or (λ _. []) p format_writes) is
+
+  pub boots_write_so : BootsWriteSo t
+  boots_write_so front back n node is =
+      let k : IsKnown header.hosts.items are n front (world_behind w0 front) back = known n node front back is in (
+        λ booted. writes_none (reckoning_in front n).memory.content
+            (subst (λ (m : Memory). IsSome (current m.content)) (sym k.stands.memory_is) (k.stands.used booted)),
+        λ none. ap boot_writes (k.new none).content ∙ ap (λ p. option_map_or (λ _. []) p format_writes) (fresh 65536 (omega arith)).closed,
+      )
+
   pub kept_exactly : KeptExactly t
   kept_exactly = record {
     kept = are_kept header lines t follows are sides few;
     found = found_exactly;
     cut = cut_as_planned;
+    boots = boots_write_so;
     stands = stands_in_memories;
   }

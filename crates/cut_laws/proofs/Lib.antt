@@ -10,4 +10,6 @@ pub mod Places
 pub mod Ticking
 pub mod Events
 pub mod Histories
+pub mod Counting
 mod Examples
+pub mod Ending

@@ -1,6 +1,6 @@
 -- What a boot, a cut or a plan leaves of what is known of each node.
 use Rattle.std.proofs.Common.{◌≡◌, ℕ, ◌-◌, ◌^◌, ◌≤◌, min, Bool, true, false, cond, List, [], ◌∷◌, ◌++◌, take, length, sym, refl, ap, ◌∙◌, subst, arith, append-nil}
-use Rattle.std.specs.Prelude.{Option, Some, None}
+use Rattle.std.specs.Prelude.{Option, Some, None, is_some}
 use Rattle.std.specs.Option.{option_map_or}
 use Rattle.std.specs.List.{fold}
 use Rattle.std.proofs.lemmas.Bool.{eq-eqb, true≢false}
@@ -25,9 +25,9 @@ use Rattle.kept_laws.specs.Finds.{BootFinds}
 use Rattle.kept_laws.specs.Worlds.{RunsSo}
 use Rattle.kept_laws.proofs.Books.{closed_book}
 use Rattle.kept_laws.proofs.Planned.{planned_cut}
-use Rattle.kept_laws.proofs.Commits.{finds_closed}
+use Rattle.kept_laws.proofs.Commits.{finds_closed, used_of}
 use Rattle.kept_laws.proofs.Booting.{says, left_formatted}
-use Rattle.cut_laws.proofs.Standing.{all_found, Stands, book_then}
+use Rattle.cut_laws.proofs.Standing.{all_found, Stands, book_then, still_booted}
 
 -- a boot whose writes are cut leaves what it would have found
 finds_cut : (m : Memory) (t : HciTables) (many : ℕ) → BootFinds m.content t many → fails_within (length (boot_writes m.content)) m.plan ≡ true
@@ -41,6 +41,14 @@ finds_cut m t many f fails = by_bank (current m.content) refl where
       let formats : boot_writes m.content ≡ format_writes = ap (λ p. option_map_or (λ _. []) p format_writes) is in
       left_formatted m.content t many f is cut.0 (after_planned (boot_writes m.content) m).content
       (subst (λ w. IsCut cut.0 w m.content (after_planned (boot_writes m.content) m).content) formats cut.1)
+
+-- only a boot that formats can be cut
+blank_then : (m : Memory) → fails_within (length (boot_writes m.content)) m.plan ≡ true → current m.content ≡ None
+blank_then m fails = by_bank (current m.content) refl where
+  by_bank : (o : Option Side) → current m.content ≡ o → current m.content ≡ None
+  by_bank None is = is
+  by_bank (Some side) is =
+      absurd (true≢false (sym fails ∙ ap (λ p. fails_within (length (option_map_or (λ _. []) p format_writes)) m.plan) is ∙ none_within m.plan))
 
 least : (lost : Bool) (many all : ℕ) → FindsBy lost many all → many ≤ all
 least true many all is = omega (arith, is)
@@ -61,6 +69,7 @@ runs_stands n links t m q r k on book memory none found_all = record {
       (subst (λ x. BootFinds m.content (after_commands no_tables r.book.commands) x) (k.count_is ∙ ap (λ (b : Book). min (length b.commands) (2 ^ 32 - 1)) (sym book))
       (finds_closed m.content q.core.tables (after_commands no_tables r.book.commands) (count_of q.core.journal) k.knows.finds
       (ap close k.tables_are ∙ closed_book t n ∙ ap (λ (b : Book). close (after_commands no_tables b.commands)) (sym book))));
+  used = λ on. used_of m.content q.core.journal q.core.tables k.knows;
 }
 
 module _ (n : ℕ) (t : List Entry) (r : Reckoning) (m : Memory) where
@@ -85,6 +94,8 @@ module _ (n : ℕ) (t : List Entry) (r : Reckoning) (m : Memory) where
     many = s.many;
     which = s.which;
     finds = finds_cut m (after_commands no_tables (take s.many r.book.commands)) (min s.many (2 ^ 32 - 1)) s.finds fails;
+    used = λ on.
+        absurd (true≢false (sym (s.used (sym (still_booted n t (entry.Cut n ∷ []) refl) ∙ on)) ∙ ap is_some (blank_then m fails)));
   })
 
   pub boot_found : (links : List ℕ) (node : Option Running) → Stands n t r m node → length r.book.commands ≤ 2 ^ 32 - 1
@@ -103,7 +114,8 @@ module _ (n : ℕ) (t : List Entry) (r : Reckoning) (m : Memory) where
       → RunsSo n links (after_planned (boot_writes m.content) m).content (t ++ entry.Booted n k ∷ []) q
       → Stands n (t ++ entry.Booted n k ∷ []) (fold (reckoned n) booting (entry.Booted n k ∷ [])) (after_planned (boot_writes m.content) m) (Some q)
   boot_run links k node q s runs =
-      runs_stands n links (t ++ entry.Booted n k ∷ []) (after_planned (boot_writes m.content) m) q (fold (reckoned n) booting (entry.Booted n k ∷ [])) runs (ap (λ (x : Reckoning). x.runs) booted_is)
+      runs_stands n links (t ++ entry.Booted n k ∷ []) (after_planned (boot_writes m.content) m) q (fold (reckoned n) booting (entry.Booted n k ∷ [])) runs
+      (ap (λ (x : Reckoning). x.runs) booted_is)
       (book_then n t booting (entry.Booted n k ∷ []) s.book_is)
       (ap (λ (x : Reckoning). x.memory) booted_is ∙ booting_memory s.memory_is)
       (ap (λ (x : Reckoning). x.due) booted_is ∙ s.none_due)
@@ -123,6 +135,7 @@ module _ (n : ℕ) (t : List Entry) (r : Reckoning) (m : Memory) where
     many = s.many;
     which = s.which;
     finds = s.finds;
+    used = λ on. s.used (sym (still_booted n t (entry.Cut n ∷ []) refl) ∙ on);
   }) where
     cut_is : fold (reckoned n) r (entry.Cut n ∷ []) ≡ record r { runs = false; due = false }
     cut_is = ap (λ b. cond b (record r { runs = false; due = false }) r) (eq-eqb n n refl)
@@ -140,4 +153,5 @@ module _ (n : ℕ) (t : List Entry) (r : Reckoning) (m : Memory) where
         many = s.many;
         which = s.which;
         finds = s.finds;
+        used = s.used;
       })

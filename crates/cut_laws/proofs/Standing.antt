@@ -1,12 +1,14 @@
 -- What is known of a node by what is read of it, and what an event of one node leaves of that.
-use Rattle.std.proofs.Common.{◌≡◌, ◌⊎◌, inl, inr, ℕ, suc, ◌-◌, ◌^◌, ◌&&◌, min, Bool, true, false, not, cond, List, [], ◌∷◌, ◌++◌, take, length, map, sym, refl, ap, ◌∙◌, subst, arith, append_assoc, append-nil, length-append}
-use Rattle.std.specs.Prelude.{Option, Some, is_some}
-use Rattle.std.specs.List.{AllByRecursion, fold}
-use Rattle.std.proofs.lemmas.Bool.{cases_Bool, eq-eqb, true≢false}
+use Rattle.std.proofs.Common.{◌≡◌, ◌⊎◌, inl, inr, ℕ, suc, ◌-◌, ◌^◌, ◌&&◌, ◌||◌, min, Bool, true, false, not, cond, List, [], ◌∷◌, ◌++◌, take, length, map, sym, refl, ap, ◌∙◌, subst, arith, append_assoc, append-nil, length-append}
+use Rattle.std.specs.Prelude.{Option, Some, IsSome, is_some}
+use Rattle.std.specs.List.{AllByRecursion, fold, list_any}
+use Rattle.std.proofs.lemmas.List.Folds.{list_any-append}
+use Rattle.std.proofs.lemmas.Bool.{cases_Bool, ne_eqb, eq-eqb, true≢false}
 use Rattle.std.proofs.Math.Seq.{take-append_seam, take-length}
 use Rattle.swp_base.specs.InMemory.{Memory}
 use Rattle.trace_model.specs.declared.entry.Entry.{Entry}
 use Rattle.trace_model.specs.declared.entry.Entry.TheVariants as entry
+use Rattle.journal_laws.specs.Banks.{current}
 use Rattle.journal_laws.specs.Writes.{Write}
 use Rattle.journal_laws.specs.Journal.{count_of}
 use Rattle.journal_laws.specs.Planned.{fails_within, after_planned}
@@ -23,10 +25,10 @@ use Rattle.kept_laws.specs.Reckonings.{Reckoning, reckoning_of, writes_of, with_
 use Rattle.kept_laws.specs.Finds.{BootFinds}
 use Rattle.kept_laws.specs.Books.{StillRuns, HasLostIn}
 use Rattle.kept_laws.proofs.Books.{book_more, closed_book}
-use Rattle.kept_laws.proofs.Commits.{finds_closed}
+use Rattle.kept_laws.proofs.Commits.{finds_closed, used_of, planned_used}
 use Rattle.kept_laws.proofs.Doing.{GoesOn_or_lost}
 use Rattle.kept_laws.proofs.Reckoned.{IsNothingFor, fold_book, fold_more, idle_fold, idle_each, each_more, writes_are, reckoned_command}
-use Rattle.cut_laws.specs.Histories.{FindsBy}
+use Rattle.cut_laws.specs.Histories.{FindsBy, is_boot_of}
 use Rattle.cut_laws.proofs.Steps.{plan_at, step_opened, step_closed}
 
 -- A boot would find so many of these commands.
@@ -43,6 +45,7 @@ pub record Stands (n : ℕ) (t : List Entry) (r : Reckoning) (m : Memory) (node 
   pub many : ℕ
   pub which : FindsBy r.lost many (length r.book.commands)
   pub finds : FindsMany m.content r.book.commands many
+  pub used : list_any (is_boot_of n) t ≡ true → IsSome (current m.content)
 
 -- so it is after these entries, and each cut among them is due
 pub record Exact (n : ℕ) (t : List Entry) (r : Reckoning) (es : List Entry) (m : Memory) (node : Option Running) : Type 0 where
@@ -67,6 +70,25 @@ less_found content commands c finds =
 pub one_more : (commands : List Command) (c : Command) → suc (length commands) ≡ length (commands ++ c ∷ [])
 one_more commands c = omega (arith, length-append commands (c ∷ []))
 
+-- ## Boots
+
+nothing_boots : (n : ℕ) (r : Reckoning) (e : Entry) → IsNothingFor n e → is_boot_of n e ≡ false
+nothing_boots n r (entry.Booted m k) x = ne_eqb m n (x.as_read r)
+nothing_boots n r _ x = refl
+
+none_boots : (n : ℕ) (r : Reckoning) (es : List Entry) → AllByRecursion (IsNothingFor n) es → list_any (is_boot_of n) es ≡ false
+none_boots n r [] all = refl
+none_boots n r (e ∷ es) all =
+    ap (λ b. b || list_any (is_boot_of n) es) (nothing_boots n r e all.0) ∙ none_boots n r es all.1
+
+-- entries without a boot of the node
+pub still_booted : (n : ℕ) (t es : List Entry) → list_any (is_boot_of n) es ≡ false → list_any (is_boot_of n) (t ++ es) ≡ list_any (is_boot_of n) t
+still_booted n t es none =
+    list_any-append (is_boot_of n) t es ∙ ap (λ b. list_any (is_boot_of n) t || b) none ∙ either (list_any (is_boot_of n) t) where
+      either : (b : Bool) → (b || false) ≡ b
+      either true = refl
+      either false = refl
+
 -- ## Nothing of the node
 
 pub exact_idle : (n : ℕ) (t : List Entry) (r : Reckoning) (es : List Entry) (m k : Memory) (node later : Option Running) → Stands n t r m node
@@ -85,6 +107,8 @@ exact_idle n t r es m k node later s all memory runs =
         which = subst (λ (x : Reckoning). FindsBy x.lost s.many (length x.book.commands)) (sym same) s.which;
         finds = subst (λ (x : Reckoning). FindsMany k.content x.book.commands s.many) (sym same)
             (subst (λ (x : Memory). FindsMany x.content r.book.commands s.many) (sym memory) s.finds);
+        used = λ on.
+            subst (λ (x : Memory). IsSome (current x.content)) (sym memory) (s.used (sym (still_booted n t es (none_boots n r es all)) ∙ on));
       };
     }
 
@@ -126,6 +150,8 @@ module _ (n : ℕ) (links : List ℕ) (t : List Entry) (m : Memory) (q : Running
           (subst (λ (x : Memory). BootFinds x.content (after_commands no_tables commands) (min (length commands) (2 ^ 32 - 1))) (sym memory_is)
           (subst (λ x. BootFinds run.memory.content (after_commands no_tables commands) x) count_is
           (finds_closed run.memory.content k.core.tables (after_commands no_tables commands) (count_of k.core.journal) run.knows.finds closed)));
+      used = λ on.
+          subst (λ (x : Memory). IsSome (current x.content)) (sym memory_is) (used_of run.memory.content k.core.journal k.core.tables run.knows);
     };
   } where
     runs : runs_on k ≡ Some (record { core = k.core; desks = map (λ (p : Port). p.desk) k.ports })
@@ -276,6 +302,10 @@ module _ (n : ℕ) (links : List ℕ) (t : List Entry) (m : Memory) (q : Running
         many = found.0;
         which = found.1;
         finds = found.2;
+        used = λ on.
+            subst (λ (x : Memory). IsSome (current x.content)) (sym (ap (λ (x : Work). after_planned x.writes m) l.is ∙ l.ran.written writes))
+            (planned_used l.ran.memory work.core.journal work.core.tables c l.ran.knows l.ran.sorted l.ran.recordable l.may l.room
+            (ap (fails_within (length writes)) (sym l.ran.plan_is) ∙ l.fails));
       });
     }
 

@@ -3,13 +3,14 @@ use Rattle.std.specs.Prelude.{◌≡◌, ℕ, suc, ◌==◌, ◌||◌, Bool, tru
 use Rattle.std.specs.List.{fold, list_any}
 use Rattle.trace_model.specs.declared.entry.Entry.{Entry}
 use Rattle.trace_model.specs.declared.entry.Entry.TheVariants as entry
+use Rattle.journal_laws.specs.Operations.{format_writes}
 use Rattle.journal_laws.specs.Planned.{fails_within, after_planned}
 use Rattle.node_machine.specs.Node.{boot_writes}
 use Rattle.node_world.specs.World.{Happening, new_memory, new_world, memory_at}
 use Rattle.node_world.specs.World.Happening.{Boots, IsCut, Arms}
 use Rattle.node_world.specs.Lines.{Occurrence}
 use Rattle.node_world.specs.NodeHistories.{NodeHistory, occurrences_in, entries_in}
-use Rattle.node_world.specs.NodeFilters.{new_book}
+use Rattle.node_world.specs.NodeFilters.{new_book, commands_in}
 use Rattle.node_world.specs.NodeLegal.{Kept, last_in}
 use Rattle.node_world.specs.NodeLegal.Last.{CutBehindCommand}
 use Rattle.kept_laws.specs.Reckonings.{Reckoning, reckoning_of, reckoned, EachIsAsRead}
@@ -50,7 +51,7 @@ FindsExactly r found = FindsBy r.lost found (length r.book.commands)
 
 -- a boot behind these entries finds exactly the commands that are read, and where the last one is lost, the cut stood directly behind it
 abbrev pub IsFoundExactly : List Entry → ℕ → Reckoning → ℕ → Type 0
-IsFoundExactly t n r found = FindsExactly r found × (r.lost ≡ true → last_in t n ≡ CutBehindCommand)
+IsFoundExactly t n r found = FindsBy r.lost found (length (commands_in t n)) × (r.lost ≡ true → last_in t n ≡ CutBehindCommand)
 
 -- Each boot finds all commands of its node, but for the last one exactly where the power went directly behind it, and the write at which
 -- it went wasn't that command's last one, or left its gate closed.
@@ -80,7 +81,7 @@ IsCutAsPlanned n r (Boots node) es = by_node (node == n) where
   by_node true = IsBootedBy (fails_within (length (boot_writes r.memory.content)) r.memory.plan) n r es
   by_node false = EachIsAsRead n r es
 IsCutAsPlanned n r (IsCut node) es = es ≡ entry.Cut node ∷ []
-IsCutAsPlanned n r cause es = EachIsAsRead n r es × ((fold (reckoned n) r es).due ≡ false)
+IsCutAsPlanned n r cause es = EachIsAsRead n (begun_by n cause r) es × ((reckoned_within n cause r es).due ≡ false)
 
 -- So it is at each event.
 abbrev pub AreCutAsPlanned : NodeHistory → Type 0
@@ -88,9 +89,29 @@ AreCutAsPlanned t =
     (front back : List Occurrence) (o : Occurrence) (n : ℕ) → IsNodeOf t.header.hosts.items n → occurrences_in t ≡ front ++ (o ∷ back)
     → IsCutAsPlanned n (reckoning_in front n) o.cause o.entries
 
+-- ## How many writes there are
+
+-- the entry is a boot of this node
+abbrev pub is_boot_of : ℕ → Entry → Bool
+is_boot_of n (entry.Booted node found) = node == n
+is_boot_of n _ = false
+
+-- this boots the node
+abbrev pub boots_it : ℕ → Happening → Bool
+boots_it n (Boots node) = node == n
+boots_it n _ = false
+
+-- Where a node has booted, a boot writes nothing; and where none of its boots was even begun, it makes the two writes of a format.
+abbrev pub BootsWriteSo : NodeHistory → Type 0
+BootsWriteSo t =
+    (front back : List Occurrence) (n : ℕ) → IsNodeOf t.header.hosts.items n → occurrences_in t ≡ front ++ back
+    → (list_any (is_boot_of n) (entries_in front) ≡ true → boot_writes (reckoning_in front n).memory.content ≡ [])
+    × (list_any (λ (o : Occurrence). boots_it n o.cause) front ≡ false → boot_writes (reckoning_in front n).memory.content ≡ format_writes)
+
 -- Commands are kept over power cuts, and exactly these; the power goes as it is planned, and the history stands in the memories.
 pub record KeptExactly (t : NodeHistory) : Type 0 where
   pub kept : Kept t
   pub found : AreFoundExactly t
   pub cut : AreCutAsPlanned t
+  pub boots : BootsWriteSo t
   pub stands : StandsInMemories t

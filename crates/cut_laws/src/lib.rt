@@ -3,30 +3,37 @@
 #![tactic(auto)]
 
 ghost use Rattle.std.specs.List.{AllByRecursion};
-ghost use Rattle.std.specs.Prelude.{◌≡◌, ◌⊎◌, ℕ, ◌-◌, ◌^◌, ◌<◌, ◌++◌, List, length, min, true, false};
+ghost use Rattle.std.specs.Prelude.{◌≡◌, ◌⊎◌, ℕ, ◌-◌, ◌^◌, ◌<◌, ◌++◌, List, [], ◌∷◌, length, min, true, false, if◌then◌else◌, IsSome};
 ghost use Rattle.swp_base.specs.InMemory.{Memory};
 ghost use Rattle.journal_laws.specs.declared.state.State.{State};
 ghost use Rattle.journal_laws.specs.Banks.{current};
-ghost use Rattle.journal_laws.specs.Journal.{count_of};
+ghost use Rattle.journal_laws.specs.Journal.{count_of, is_open_beside, state_of};
 ghost use Rattle.journal_laws.specs.Planned.{fails_within, after_planned};
 ghost use Rattle.hci_tables.specs.declared.command.Command.{Command};
 ghost use Rattle.hci_tables.specs.Commands.{IsCommand};
 ghost use Rattle.hci_tables.specs.Bodies.{body_of};
 ghost use Rattle.hci_tables.specs.Tables.{HciTables, AreTables, no_tables, apply, after_commands};
 ghost use Rattle.hci_store.specs.Recordable.{IsRecordable};
-ghost use Rattle.hci_store.specs.Committing.{room_writes, with_room, commit_writes, committed};
+ghost use Rattle.hci_store.specs.Committing.{record_fits, room_writes, with_room, commit_writes, committed};
 ghost use Rattle.trace_model.specs.declared.entry.Entry.{Entry};
+ghost use Rattle.trace_model.specs.declared.entry.Entry.TheVariants as entry;
 ghost use Rattle.trace_model.specs.declared.line.Header.{Header};
 ghost use Rattle.trace_model.specs.declared.line.Line.{Line};
 ghost use Rattle.node_machine.specs.Parts.{Work};
 ghost use Rattle.node_machine.specs.Carrying.{commit};
+ghost use Rattle.node_machine.specs.Node.{NodeInput, steps};
+ghost use Rattle.node_world.specs.World.{frames_noted};
+ghost use Rattle.message_link.specs.Links.{Link};
+ghost use Rattle.link_entries.specs.Entries.{End as Side};
+ghost use Rattle.kept_laws.specs.Deeds.{IsOnOrder};
 ghost use Rattle.node_world.specs.NodeFilters.{commands_in};
 ghost use Rattle.node_world.specs.NodeHistories.{FollowsNodes, NodeHistory, node_entries};
-ghost use Rattle.kept_laws.specs.Hosts.{AreHosts, IsFew, IsSentByHost};
+ghost use Rattle.kept_laws.specs.Hosts.{AreHosts, IsFew, IsNodeNumber, IsSentByHost};
 ghost use Rattle.kept_laws.specs.Books.{StillRuns};
 ghost use Rattle.kept_laws.specs.Finds.{BootFinds, Knows, FindsRoom};
 ghost use Rattle.kept_laws.specs.Gates.{opens_gate};
-ghost use Rattle.cut_laws.specs.Histories.{AreCutAsPlanned, AreFoundExactly, StandsInMemories};
+ghost use Rattle.kept_laws.specs.Reckonings.{Reckoning, writes_of};
+ghost use Rattle.cut_laws.specs.Histories.{AreCutAsPlanned, AreFoundExactly, BootsWriteSo, StandsInMemories};
 
 /// A node commits a command that may be recorded and finds room, and one of its writes fails. The last of them is that of the record's
 /// gate, also where a snapshot is written first. A boot finds the command exactly where that one failed and left 5A; wherever else the
@@ -100,4 +107,25 @@ pub fn power_goes_exactly_as_planned()
 pub fn histories_stand_in_memories()
     ensures { (header : Header) (lines : List Line) (t : NodeHistory) → FollowsNodes header lines t → AreHosts header.hosts.items →
         AllByRecursion IsSentByHost lines → IsFew (node_entries t) → StandsInMemories t }
+{}
+
+/// A command whose record fits makes two writes. One whose record doesn't, where a bank is in use, makes four, and five where the gate
+/// of the other bank stands open. Over every history that follows a schedule a boot makes none where the node has booted before, and the
+/// two of a format where no boot of it was begun yet; after boots that were cut the bytes in its memory decide. It asks of histories for
+/// what `boots_find_exactly_the_commands_that_are_read` asks for.
+pub fn commands_and_boots_make_so_many_writes()
+    ensures fits { (c : Command) (r : Reckoning) → record_fits (state_of r.memory.content) (body_of c) ≡ true → length (writes_of c r) ≡ 2 }
+    ensures snapshot { (c : Command) (r : Reckoning) → record_fits (state_of r.memory.content) (body_of c) ≡ false → IsSome (current r.memory.content) →
+        length (writes_of c r) ≡ (if is_open_beside r.memory.content then 5 else 4) }
+    ensures boots { (header : Header) (lines : List Line) (t : NodeHistory) → FollowsNodes header lines t → AreHosts header.hosts.items →
+        AllByRecursion IsSentByHost lines → IsFew (node_entries t) → BootsWriteSo t }
+{}
+
+/// A step of a node in which it loses its power ends with that: the last two of its entries are the command in whose writes the power
+/// went, and the cut; and no frame goes out of its ends. So a cut ends its node's part of an event.
+pub fn a_step_that_loses_its_power_ends_with_its_cut()
+    ensures step { (n : ℕ) (hosts : List ℕ) (old : Memory) (before : List Entry) (input : NodeInput) (w : Work) → IsNodeNumber n → AreHosts hosts →
+        StillRuns n hosts old before w → IsOnOrder w.core.command w.core.init → (steps input w).cut ≡ true →
+        (front : List Entry) × ((c : Command) × ((steps input w).entries ≡ front ++ (entry.Command n c ∷ entry.Cut n ∷ []))) }
+    ensures frames { (who : Side) (h : ℕ) (l : Link) (w : Work) → w.cut ≡ true → frames_noted who h l w ≡ [] }
 {}
