@@ -2,7 +2,8 @@
 use Rattle.std.proofs.Common.{◌≡◌, ℕ, ◌==◌, Bool, true, false, cond, List, [], ◌∷◌, ◌++◌, length, Option, Some, None, map, refl, ap, sym, subst, ◌∙◌, append-nil, append_assoc}
 use Rattle.std.specs.Prelude.{is_some, min, ◌+◌}
 use Rattle.std.specs.List.{AllByRecursion}
-use Rattle.std.proofs.lemmas.Bool.{eqb-true}
+use Rattle.std.proofs.lemmas.Bool.{eqb-true, true≢false}
+use Rattle.std.proofs.lemmas.List.Sums.{fold-append}
 use Rattle.swp_base.specs.InMemory.{Memory}
 use Rattle.swp_act.specs.Activation.{new_clf, new_uicc}
 use Rattle.trace_model.specs.declared.entry.Entry.{Entry}
@@ -19,6 +20,10 @@ use Rattle.message_link.specs.Links.Comes.{Starts, NoInput}
 use Rattle.message_link.specs.Links.Loss.{OnDemand, Broken, Unread, TooOld, TooMany}
 use Rattle.message_link.specs.Links.EndEvent.{Step, Lose}
 use Rattle.message_link.specs.Links.LinkEvent.{AtController, AtHost}
+use Rattle.message_link.specs.Links.IsStart.{IsLine}
+use Rattle.message_link.proofs.Whole.{from_start}
+use Rattle.node_links.specs.Runs.{new_line}
+use Rattle.node_world.specs.World.Happening.{Activates}
 use Rattle.link_entries.specs.Entries.{first_lost}
 use Rattle.link_entries.specs.Entries.End.{Controller, Host}
 use Rattle.history.specs.Steps.{at, entries_for}
@@ -36,10 +41,10 @@ use Rattle.node_links.proofs.Sites.{MayCome, clf_line, uicc_line, can_come, can_
 use Rattle.node_links.proofs.Worlds.{AreTrueDesks, IsFineNode, IsFineSite, IsFineWorld, AtHostOnly, CanReach, half_clean, near_clean, fine_clean, ports_fine, turns_fine, may_here, memory_fine}
 use Rattle.node_links.proofs.Playing.{plain_reach, starts_fine, starts_then}
 use Rattle.node_telling.specs.Telling.{of_link, TellOf, HasEnds, IfItRuns, hosts_in, IsOrderly, IfOff}
-use Rattle.node_telling.specs.Standing.{StandsOf}
+use Rattle.node_telling.specs.Standing.{Standing, with_empty_wires, as_event_begins, stands_noted, standing, StandsOf}
 use Rattle.node_telling.proofs.Mute.{AreMute}
 use Rattle.node_telling.proofs.Powers.{entries_uncut, clear_stands, away_stands}
-use Rattle.node_telling.proofs.Shapes.{clear_lost}
+use Rattle.node_telling.proofs.Shapes.{clear_lost, shaped_step}
 use Rattle.node_telling.proofs.Accounts.{of_other}
 use Rattle.node_telling.proofs.Parts.{IsStep}
 use Rattle.node_telling.proofs.Nodes.{site_host, link_is, ports_for, own_power, other_power, is_step, controller_tells, controller_stands}
@@ -48,7 +53,8 @@ use Rattle.node_telling.proofs.Events.{memory_goes, comes_goes}
 use Rattle.node_readings.proofs.NoticedWorlds.{far_side}
 use Rattle.node_order.specs.Told.{IsLinkTold}
 use Rattle.node_order.proofs.Unnoticed.{IfNone, IsHostWork, AreUnnoticed, all_done_none, steps_none, runs_none}
-use Rattle.node_order.proofs.Knowing.{told_more, LeaveLink, told_same, cut_clf, cut_uicc, Knows, Each, each_empty, each_map, each_site}
+use Rattle.node_order.proofs.Knowing.{told_more, LeaveLink, told_same, cut_clf, cut_uicc, Knows, Each, later, each_empty, each_alike, was_there, each_map, each_site}
+use Rattle.node_order.proofs.Wires.{Shown, clear_unstarted, shown_more, opened, step_shown, AreEmpty, started_empty, empty_shown}
 
 -- a world that is orderly, and whose nodes send what may be sent
 pub record IsWell (w : NodeWorld) : Type 0 where
@@ -61,7 +67,7 @@ near_side l e = ap (λ (h : NumberedEnd). h.side) (here_host l e)
 
 -- ## Steps of the controller
 
-module _ (w : NodeWorld) (t : List Entry) (a : IsWell w) (each : Each t w) (k : ℕ) (comes : Comes) (i : LinkInput) (may : MayCome comes)
+module _ (w : NodeWorld) (t : List Entry) (X : ℕ → Standing) (a : IsWell w) (each : Each t X w) (k : ℕ) (comes : Comes) (i : LinkInput) (may : MayCome comes)
     (q : input_of (link_to w.sites k) comes ≡ Some i) where
   module _ (r : Running) (runs : w.controller ≡ Some r) where
     abbrev v : Work
@@ -88,7 +94,12 @@ module _ (w : NodeWorld) (t : List Entry) (a : IsWell w) (each : Each t w) (k : 
     node : HasEnds 0 (hosts_in w.sites) r
     node = node_is 0 (hosts_in w.sites) w.controller r a.orderly.controller runs
 
-    one : (h : ℕ) (s : Site) → site_at w.sites h ≡ Some s → Knows t w.controller h s → Knows (t ++ u) (runs_on v) h (link_after_controller k comes v s)
+    -- how each link stands behind it
+    abbrev Y : ℕ → Standing
+    Y h = standing h (opened (comes_to k comes h) (X h)) u
+
+    one : (h : ℕ) (s : Site) → site_at w.sites h ≡ Some s → Knows t (X h) w.controller h s
+        → Knows (t ++ u) (Y h) (runs_on v) h (link_after_controller k comes v s)
     one h s there b =
         let fine : IsFineSite s = site_is IsFineSite w.sites h s a.fine.sites there in
         let here : Comes = comes_to k comes s.host in
@@ -107,6 +118,11 @@ module _ (w : NodeWorld) (t : List Entry) (a : IsWell w) (each : Each t w) (k : 
           )
               (subst P (sym number) (controller_tells w r k comes h s a.orderly node there i q))
               (subst S (sym number) (controller_stands w r k comes h s a.orderly node there i q)) b.told;
+          shown = let W : ℕ → Type 0 = λ m. Shown (happens s.link e) (standing h (opened (comes_to k comes m) (X h)) u) in
+              subst W number (step_shown h Controller here (ending_of v) s.link e t u (X h) b.told
+              (shaped_step Controller s.link here (turns_at v s.host) (ending_of v) (cond (s.host == k) (Some i) None) (arrives (s.host == k) refl)
+              (is_so (s.host == k)))
+              (subst S (sym number) (controller_stands w r k comes h s a.orderly node there i q)) b.shown);
           near = off v.cut refl fine.link.line.clf;
           far = let F : LinkEnd → Type 0 = IfOff s.node (new_link_end (Uicc new_uicc)) in
               subst F (sym (near_side s.link (Step here (turns_at v s.host) (ending_of v)))) b.far;
@@ -139,11 +155,13 @@ module _ (w : NodeWorld) (t : List Entry) (a : IsWell w) (each : Each t w) (k : 
             (happens s.link (AtController (Step (comes_to k comes s.host) (turns_at v s.host) (ending_of v)))).controller.side in
             subst G (sym some) tt
 
-    after : Each (t ++ u) (after_controller w k comes v).0
-    after = each_map w (after_planned v.writes w.memory) (runs_on v) t u (link_after_controller k comes v) (λ s. refl) one each
+    pub after : Each (t ++ u) Y (after_controller w k comes v).0
+    after = each_map w (after_planned v.writes w.memory) (runs_on v) t u X Y (link_after_controller k comes v) (λ s. refl) one each
 
-  pub controller_each : Each (t ++ (controller_does w k comes (steps (AtEnd k i))).1) (controller_does w k comes (steps (AtEnd k i))).0
-  controller_each = go w.controller refl
+  pub controller_each : ((h : ℕ) → opened (comes_to k comes h) (X h) ≡ X h)
+      → Each (t ++ (controller_does w k comes (steps (AtEnd k i))).1) (later X (controller_does w k comes (steps (AtEnd k i))).1)
+      (controller_does w k comes (steps (AtEnd k i))).0
+  controller_each plain = go w.controller refl
     where
       off_is : w.controller ≡ None → controller_does w k comes (steps (AtEnd k i)) ≡ (w, [])
       off_is e = rw e refl
@@ -153,20 +171,23 @@ module _ (w : NodeWorld) (t : List Entry) (a : IsWell w) (each : Each t w) (k : 
       on_is r e = rw e refl
 
       P : NodeWorld × List Entry → Type 0
-      P z = Each (t ++ z.1) z.0
+      P z = Each (t ++ z.1) (later X z.1) z.0
 
       go : (o : Option Running) → w.controller ≡ o → P (controller_does w k comes (steps (AtEnd k i)))
-      go None e = subst P (sym (off_is e)) (each_empty t w each)
-      go (Some r) e = subst P (sym (on_is r e)) (after r e)
+      go None e = subst P (sym (off_is e)) (each_empty t X w each)
+      go (Some r) e =
+          subst P (sym (on_is r e)) (each_alike (t ++ u r e) (Y r e) (later X (u r e)) (after_controller w k comes (v r e)).0
+          (λ h. ap (λ x. standing h x (u r e)) (plain h)) (after r e))
 
 -- ## Steps of a host
 
-module _ (w : NodeWorld) (t : List Entry) (a : IsWell w) (each : Each t w) (k : ℕ) (comes : Comes) (f : Work → Work)
+module _ (w : NodeWorld) (t : List Entry) (X : ℕ → Standing) (a : IsWell w) (each : Each t X w) (k : ℕ) (comes : Comes) (f : Work → Work)
     (reach : AllByRecursion (AtHostOnly (CanReach comes) k) w.sites)
     (does : (s : Site) (r : Running) → site_at w.sites k ≡ Some s → s.node ≡ Some r → HostDoes w k comes f s r)
     (fine : (v : Work) → IsFineWork v → IsFineWork (f v)) (plain : (v : Work) → IsHostWork v → IsHostWork (f v))
     (o : Option LinkInput) (so : IsStep comes o)
-    (q : (s : Site) → site_at w.sites k ≡ Some s → input_of (exchanged s.link) comes ≡ o) where
+    (q : (s : Site) → site_at w.sites k ≡ Some s → input_of (exchanged s.link) comes ≡ o)
+    (plain_wires : (s : Site) → site_at w.sites k ≡ Some s → opened comes (X k) ≡ X k) where
   module _ (s : Site) (there : site_at w.sites k ≡ Some s) (r : Running) (runs : s.node ≡ Some r) where
     abbrev worked : Work
     worked = host_work s r comes f
@@ -192,7 +213,7 @@ module _ (w : NodeWorld) (t : List Entry) (a : IsWell w) (each : Each t w) (k : 
         fine (work_of r s.memory.plan (λ j. half_in (exchanged s.link) comes) (entries_for s.host (arrival Host (exchanged s.link) comes)))
         (ports_fine (λ j. half_in (exchanged s.link) comes) (λ j. half_clean (exchanged s.link) comes site_fine.link.line.far) r.desks host_desks)
 
-    own : Knows t w.controller k s → Knows (t ++ noted) w.controller k (after_host comes worked s)
+    own : Knows t (X k) w.controller k s → Knows (t ++ noted) (later X noted k) w.controller k (after_host comes worked s)
     own b =
         let e : LinkEvent = AtHost (Step comes (turns_at worked s.host) (ending_of worked)) in
         let can : CanReach comes s = site_is (AtHostOnly (CanReach comes) k) w.sites k s reach there (ap (λ n. n == k) number ∙ same_number k) in
@@ -207,6 +228,9 @@ module _ (w : NodeWorld) (t : List Entry) (a : IsWell w) (each : Each t w) (k : 
                   (uicc_line s.link.host.side.role site_fine.link.line.uicc),
             ),
           ) told.own told.stands b.told;
+          shown = subst (λ x. Shown (happens s.link e) (standing k x noted)) (plain_wires s there)
+              (step_shown k Host comes (ending_of worked) s.link e t noted (X k) b.told
+              (shaped_step Host (exchanged s.link) comes (turns_at worked s.host) (ending_of worked) o (q s there) so) told.stands b.shown);
           near = subst N (sym (far_side s.link (Step comes (turns_at worked s.host) (ending_of worked)))) b.near;
           far = off worked.cut refl;
           none = runs_none worked (plain _ (record { host = host; none = ports_none r.desks desks_none }));
@@ -248,11 +272,11 @@ module _ (w : NodeWorld) (t : List Entry) (a : IsWell w) (each : Each t w) (k : 
             (happens_at_controller (exchanged s.link) (Step comes (turns_at worked s.host) (ending_of worked))).controller.side in
             subst G (sym some) tt
 
-  pub host_each : Each (t ++ (host_does w k comes f).1) (host_does w k comes f).0
+  pub host_each : Each (t ++ (host_does w k comes f).1) (later X (host_does w k comes f).1) (host_does w k comes f).0
   host_each = go (site_at w.sites k) refl
     where
       P : NodeWorld × List Entry → Type 0
-      P z = Each (t ++ z.1) z.0
+      P z = Each (t ++ z.1) (later X z.1) z.0
 
       none_is : site_at w.sites k ≡ None → host_does w k comes f ≡ (w, [])
       none_is e = rw e refl
@@ -265,28 +289,34 @@ module _ (w : NodeWorld) (t : List Entry) (a : IsWell w) (each : Each t w) (k : 
       on_is s r e n = rw (e, n) refl
 
       runs : (s : Site) → site_at w.sites k ≡ Some s → (x : Option Running) → s.node ≡ x → P (host_does w k comes f)
-      runs s there None n = subst P (sym (off_is s there n)) (each_empty t w each)
+      runs s there None n = subst P (sym (off_is s there n)) (each_empty t X w each)
       runs s there (Some r) n =
           let u : List Entry = (host_does w k comes f).1 in
-          let Q : NodeWorld → Type 0 = λ z. Each (t ++ u) z in
+          let Q : NodeWorld → Type 0 = λ z. Each (t ++ u) (later X u) z in
           subst Q (sym (on_is s r there n))
-          (each_site w w.memory w.controller t u k (after_host comes (host_work s r comes f)) (λ x. refl) (λ h x b. b)
+          (each_site w w.memory w.controller t u X k (after_host comes (host_work s r comes f)) (λ x. refl) (λ h x b. b)
           (λ x found b.
           let same : Some s ≡ Some x = sym there ∙ found in
           let one : s ≡ x = cc in
-          let R : Site → Type 0 = λ z. Knows t w.controller k z → Knows (t ++ u) w.controller k (after_host comes (host_work s r comes f) z) in
+          let R : Site → Type 0 = λ z. Knows t (X k) w.controller k z → Knows (t ++ u) (later X u k) w.controller k (after_host comes (host_work s r comes f) z) in
           subst R one (own s there r n) b)
           (λ h z. record { none = (does s r there n).others h z; stands = (does s r there n).leaves h z }) each)
 
       go : (x : Option Site) → site_at w.sites k ≡ x → P (host_does w k comes f)
-      go None e = subst P (sym (none_is e)) (each_empty t w each)
+      go None e = subst P (sym (none_is e)) (each_empty t X w each)
       go (Some s) e = runs s e s.node refl
 
 -- ## What comes to an end
 
-pub comes_each : (w : NodeWorld) (t : List Entry) (e : End) (comes : Comes) → IsWell w → Each t w → MayCome comes
-    → AllByRecursion (AtHostOnly (CanReach comes) e.link) w.sites → Each (t ++ (comes_at w e comes).1) (comes_at w e comes).0
-comes_each w t e comes a each may reach = go (input_of (seen_from e (link_to w.sites e.link)) comes) e.at_host refl refl
+-- activation neither begins nor ends
+plain_at : (comes : Comes) → ((x : Standing) → opened comes x ≡ x) → (b : Bool) (x : Standing) → opened (cond b comes NoInput) x ≡ x
+plain_at comes plain true x = plain x
+plain_at comes plain false x = refl
+
+pub comes_each : (w : NodeWorld) (t : List Entry) (X : ℕ → Standing) (e : End) (comes : Comes) → IsWell w → Each t X w → MayCome comes
+    → AllByRecursion (AtHostOnly (CanReach comes) e.link) w.sites → ((x : Standing) → opened comes x ≡ x)
+    → Each (t ++ (comes_at w e comes).1) (later X (comes_at w e comes).1) (comes_at w e comes).0
+comes_each w t X e comes a each may reach plain = go (input_of (seen_from e (link_to w.sites e.link)) comes) e.at_host refl refl
   where
     by : Option LinkInput → Bool → NodeWorld × List Entry
     by None at_host = (w, [])
@@ -296,61 +326,66 @@ comes_each w t e comes a each may reach = go (input_of (seen_from e (link_to w.s
     seen : Bool → Link → Link
     seen b l = cond b (exchanged l) l
 
-    go : (o : Option LinkInput) (b : Bool) → input_of (seen_from e (link_to w.sites e.link)) comes ≡ o → e.at_host ≡ b → Each (t ++ (by o b).1) (by o b).0
-    go None b q r = each_empty t w each
+    go : (o : Option LinkInput) (b : Bool) → input_of (seen_from e (link_to w.sites e.link)) comes ≡ o → e.at_host ≡ b
+        → Each (t ++ (by o b).1) (later X (by o b).1) (by o b).0
+    go None b q r = each_empty t X w each
     go (Some i) true q r =
         let input : (s : Site) → site_at w.sites e.link ≡ Some s → input_of (exchanged s.link) comes ≡ Some i =
         λ s found. ap (λ l. input_of (exchanged l) comes) (sym (link_is w.sites e.link s found))
         ∙ (ap (λ b. input_of (seen b (link_to w.sites e.link)) comes) (sym r) ∙ q) in
-        host_each w t a each e.link comes (steps (AtEnd e.link i)) reach
+        host_each w t X a each e.link comes (steps (AtEnd e.link i)) reach
         (λ s n found runs. host_does_step w s n e.link a.orderly found runs comes i (input s found))
-        (λ v b. steps_fine (AtEnd e.link i) v b) (λ v b. steps_none (AtEnd e.link i) v b) (Some i) (is_step comes i) input
+        (λ v b. steps_fine (AtEnd e.link i) v b) (λ v b. steps_none (AtEnd e.link i) v b) (Some i) (is_step comes i) input (λ s found. plain (X e.link))
     go (Some i) false q r =
-        controller_each w t a each e.link comes i may (ap (λ b. input_of (seen b (link_to w.sites e.link)) comes) (sym r) ∙ q)
+        controller_each w t X a each e.link comes i may (ap (λ b. input_of (seen b (link_to w.sites e.link)) comes) (sym r) ∙ q)
+        (λ h. plain_at comes plain (h == e.link) (X h))
 
-pub begins_each : (w : NodeWorld) (t : List Entry) (k : ℕ) (deeds : List Deed) → AreMute deeds → AreFine deeds → AreUnnoticed deeds
-    → IsWell w → Each t w
-    → Each (t ++ (host_does w k NoInput (begins_with k deeds)).1) (host_does w k NoInput (begins_with k deeds)).0
-begins_each w t k deeds m f u a each =
-    host_each w t a each k NoInput (begins_with k deeds) (plain_reach k NoInput tt w.sites)
+pub begins_each : (w : NodeWorld) (t : List Entry) (X : ℕ → Standing) (k : ℕ) (deeds : List Deed) → AreMute deeds → AreFine deeds → AreUnnoticed deeds
+    → IsWell w → Each t X w
+    → Each (t ++ (host_does w k NoInput (begins_with k deeds)).1) (later X (host_does w k NoInput (begins_with k deeds)).1)
+    (host_does w k NoInput (begins_with k deeds)).0
+begins_each w t X k deeds m f u a each =
+    host_each w t X a each k NoInput (begins_with k deeds) (plain_reach k NoInput tt w.sites)
     (λ s r found runs. host_does_begin w s r k a.orderly found runs deeds m) (λ v b. all_done_fine k deeds v f b) (λ v b. all_done_none k deeds v u b)
-    None tt (λ s found. refl)
+    None tt (λ s found. refl) (λ s found. refl)
 
 -- ## Power and memories
 
 -- where only what is no link and no notice of a host changes, and nothing is told
-pub each_beside : (w : NodeWorld) (memory : Memory) (t u : List Entry) (k : ℕ) (g : Site → Site) → ((s : Site) → (g s).host ≡ s.host)
+pub each_beside : (w : NodeWorld) (memory : Memory) (t u : List Entry) (X : ℕ → Standing) (k : ℕ) (g : Site → Site) → ((s : Site) → (g s).host ≡ s.host)
     → ((s : Site) → (g s).link ≡ s.link)
     → ((s : Site) → IfOff s.node (new_link_end (Uicc new_uicc)) s.link.host.side → IfOff (g s).node (new_link_end (Uicc new_uicc)) s.link.host.side)
-    → ((s : Site) → IfNone s.node → IfNone (g s).node) → ((h : ℕ) → LeaveLink h u) → Each t w
-    → Each (t ++ u) (record { memory = memory; controller = w.controller; sites = with_site k g w.sites })
-each_beside w memory t u k g keeps links far none q each =
-    each_site w memory w.controller t u k g keeps (λ h s b. b)
+    → ((s : Site) → IfNone s.node → IfNone (g s).node) → ((h : ℕ) → LeaveLink h u) → Each t X w
+    → Each (t ++ u) (later X u) (record { memory = memory; controller = w.controller; sites = with_site k g w.sites })
+each_beside w memory t u X k g keeps links far none q each =
+    each_site w memory w.controller t u X k g keeps (λ h s b. b)
     (λ s found b.
     let T : Link → Type 0 = λ l. IsLinkTold k l (t ++ u) in
     let N : Link → Type 0 = λ l. IfOff w.controller (new_link_end (Clf new_clf)) l.controller.side in
     let F : Link → Type 0 = λ l. IfOff (g s).node (new_link_end (Uicc new_uicc)) l.host.side in
     record {
       told = subst T (sym (links s)) (told_same k s.link t u (q k) b.told);
+      shown = subst (λ l. Shown l (later X u k)) (sym (links s)) (subst (Shown s.link) (sym ((q k).stands (X k))) b.shown);
       near = subst N (sym (links s)) b.near;
       far = subst F (sym (links s)) (far s b.far);
       none = none s b.none;
     })
     (λ h z. q h) each
 
-pub memory_each : (n : ℕ) (m : Memory) (w : NodeWorld) (t : List Entry) → Each t w → Each (t ++ []) (with_memory n m w)
-memory_each n m w t each = go (n == 0)
+pub memory_each : (n : ℕ) (m : Memory) (w : NodeWorld) (t : List Entry) (X : ℕ → Standing) → Each t X w → Each (t ++ []) (later X []) (with_memory n m w)
+memory_each n m w t X each = go (n == 0)
   where
     by : Bool → NodeWorld
     by true = record w { memory = m }
     by false = record w { sites = with_site n (λ s. record s { memory = m }) w.sites }
 
-    go : (b : Bool) → Each (t ++ []) (by b)
-    go true = each_empty t (by true) (λ h s found. each h s found)
-    go false = each_beside w w.memory t [] n (λ s. record s { memory = m }) (λ s. refl) (λ s. refl) (λ s b. b) (λ s b. b) (λ h. record { none = refl; stands = λ x. refl }) each
+    go : (b : Bool) → Each (t ++ []) (later X []) (by b)
+    go true = each_empty t X (by true) (λ h s found. each h s found)
+    go false = each_beside w w.memory t [] X n (λ s. record s { memory = m }) (λ s. refl) (λ s. refl) (λ s b. b) (λ s b. b) (λ h. record { none = refl; stands = λ x. refl }) each
 
-pub power_each : (n : ℕ) (w : NodeWorld) (t : List Entry) → IsWell w → Each t w → Each (t ++ entry.Cut n ∷ []) (loses_power_at n w)
-power_each n w t a each = go (n == 0) refl
+pub power_each : (n : ℕ) (w : NodeWorld) (t : List Entry) (X : ℕ → Standing) → IsWell w → Each t X w
+    → Each (t ++ entry.Cut n ∷ []) (later X (entry.Cut n ∷ [])) (loses_power_at n w)
+power_each n w t X a each = go (n == 0) refl
   where
     u : List Entry
     u = entry.Cut n ∷ []
@@ -362,27 +397,29 @@ power_each n w t a each = go (n == 0) refl
     near : EndEvent
     near = Step NoInput [] CutOff
 
-    go : (b : Bool) → (n == 0) ≡ b → Each (t ++ entry.Cut n ∷ []) (by b)
+    go : (b : Bool) → (n == 0) ≡ b → Each (t ++ entry.Cut n ∷ []) (later X (entry.Cut n ∷ [])) (by b)
     go true zero =
-        each_map w w.memory None t u (λ (s : Site). record s { link = happens s.link (AtController near) }) (λ s. refl)
+        each_map w w.memory None t u X (later X u) (λ (s : Site). record s { link = happens s.link (AtController near) }) (λ s. refl)
         (λ h s found b.
         let fine : IsFineSite s = site_is IsFineSite w.sites h s a.fine.sites found in
         let F : LinkEnd → Type 0 = IfOff s.node (new_link_end (Uicc new_uicc)) in
         record {
           told = told_more h s.link (AtController near) t u (tt, (tt, clf_line s.link.controller.side.role fine.link.line.clf)) refl
               (λ x. rw zero refl) b.told;
+          shown = shown_more h s.link (AtController near) t u (X h) b.told (tt, tt) (λ x. rw zero refl) b.shown;
           near = cut_clf s.link NoInput [] None refl tt fine.link.line.clf;
           far = subst F (sym (near_side s.link near)) b.far;
           none = b.none;
         }) each
     go false zero =
-        each_site w w.memory w.controller t u n host_cut (λ s. refl) (λ h s b. b)
+        each_site w w.memory w.controller t u X n host_cut (λ s. refl) (λ h s b. b)
         (λ s found b.
         let fine : IsFineSite s = site_is IsFineSite w.sites n s a.fine.sites found in
         let N : LinkEnd → Type 0 = IfOff w.controller (new_link_end (Clf new_clf)) in
         record {
           told = told_more n s.link (AtHost near) t u (tt, (tt, uicc_line s.link.host.side.role fine.link.line.uicc)) refl (own_power n zero)
               b.told;
+          shown = shown_more n s.link (AtHost near) t u (X n) b.told (tt, tt) (own_power n zero) b.shown;
           near = subst N (sym (far_side s.link near)) b.near;
           far = cut_uicc (exchanged s.link) NoInput [] None refl tt fine.link.line.uicc;
           none = tt;
@@ -392,22 +429,29 @@ new_none : (hosts : List ℕ) → AllByRecursion (λ (d : Desk). d.notice ≡ No
 new_none [] = tt
 new_none (h ∷ hosts) = (refl, new_none hosts)
 
-node_each : (n : ℕ) (r : Running) (w : NodeWorld) (t u : List Entry) → IfNone (Some r) → ((h : ℕ) → LeaveLink h u) → Each t w
-    → Each (t ++ u) (with_node n r w)
-node_each n r w t u none q each = go (n == 0)
+node_each : (n : ℕ) (r : Running) (w : NodeWorld) (t u : List Entry) (X : ℕ → Standing) → IfNone (Some r) → ((h : ℕ) → LeaveLink h u) → Each t X w
+    → Each (t ++ u) (later X u) (with_node n r w)
+node_each n r w t u X none q each = go (n == 0)
   where
     by : Bool → NodeWorld
     by true = record w { controller = Some r }
     by false = record w { sites = with_site n (λ s. record s { node = Some r }) w.sites }
 
-    go : (b : Bool) → Each (t ++ u) (by b)
+    go : (b : Bool) → Each (t ++ u) (later X u) (by b)
     go true = λ h s found.
-        let b : Knows t w.controller h s = each h s found in
-        record { told = told_same h s.link t u (q h) b.told; near = tt; far = b.far; none = b.none }
-    go false = each_beside w w.memory t u n (λ s. record s { node = Some r }) (λ s. refl) (λ s. refl) (λ s b. tt) (λ s b. none) q each
+        let b : Knows t (X h) w.controller h s = each h s found in
+        record {
+          told = told_same h s.link t u (q h) b.told;
+          shown = subst (Shown s.link) (sym ((q h).stands (X h))) b.shown;
+          near = tt;
+          far = b.far;
+          none = b.none;
+        }
+    go false = each_beside w w.memory t u X n (λ s. record s { node = Some r }) (λ s. refl) (λ s. refl) (λ s b. tt) (λ s b. none) q each
 
-pub boots_each : (w : NodeWorld) (t : List Entry) (n : ℕ) → IsWell w → Each t w → Each (t ++ (boots w n).1) (boots w n).0
-boots_each w t n a each = go (fails_within (length (boot_writes (memory_at w n).content)) (memory_at w n).plan)
+pub boots_each : (w : NodeWorld) (t : List Entry) (X : ℕ → Standing) (n : ℕ) → IsWell w → Each t X w
+    → Each (t ++ (boots w n).1) (later X (boots w n).1) (boots w n).0
+boots_each w t X n a each = go (fails_within (length (boot_writes (memory_at w n).content)) (memory_at w n).plan)
   where
     m : Memory
     m = after_planned (boot_writes (memory_at w n).content) (memory_at w n)
@@ -418,8 +462,8 @@ boots_each w t n a each = go (fails_within (length (boot_writes (memory_at w n).
     r : Running
     r = found n (links_of w n) (memory_at w n).content
 
-    kept : Each t written
-    kept = let P : List Entry → Type 0 = λ z. Each z written in subst P (append-nil t) (memory_each n m w t each)
+    kept : Each t X written
+    kept = let P : List Entry → Type 0 = λ z. Each z X written in subst P (append-nil t) (memory_each n m w t X each)
 
     well : IsWell written
     well = record { orderly = (memory_goes n m w a.orderly).orderly; fine = memory_fine n m w a.fine }
@@ -428,9 +472,9 @@ boots_each w t n a each = go (fails_within (length (boot_writes (memory_at w n).
     by true = (loses_power_at n written, entry.Cut n ∷ [])
     by false = (with_node n r written, entry.Booted n (count_of r.core.journal) ∷ [])
 
-    go : (b : Bool) → Each (t ++ (by b).1) (by b).0
-    go true = power_each n written t well kept
-    go false = node_each n r written t (entry.Booted n (count_of r.core.journal) ∷ []) (new_none (links_of w n))
+    go : (b : Bool) → Each (t ++ (by b).1) (later X (by b).1) (by b).0
+    go true = power_each n written t X well kept
+    go false = node_each n r written t (entry.Booted n (count_of r.core.journal) ∷ []) X (new_none (links_of w n))
         (λ h. record { none = refl; stands = λ x. refl }) kept
 
 -- ## Losses
@@ -463,8 +507,9 @@ counts_off Unread h o new e a = a
 counts_off TooOld h o new e a = a
 counts_off TooMany h o new e a = a
 
-pub lost_each : (w : NodeWorld) (t : List Entry) (e : End) (why : Loss) → Each t w → Each (t ++ (frame_lost w e why).1) (frame_lost w e why).0
-lost_each w t e why each = go e.at_host refl
+pub lost_each : (w : NodeWorld) (t : List Entry) (X : ℕ → Standing) (e : End) (why : Loss) → Each t X w
+    → Each (t ++ (frame_lost w e why).1) (later X (frame_lost w e why).1) (frame_lost w e why).0
+lost_each w t X e why each = go e.at_host refl
   where
     event : Bool → LinkEvent
     event b = cond b (AtHost (Lose why)) (AtController (Lose why))
@@ -501,10 +546,10 @@ lost_each w t e why each = go e.at_host refl
     allowed true l = tt
     allowed false l = tt
 
-    go : (b : Bool) → e.at_host ≡ b → Each (t ++ (by b).1) (by b).0
+    go : (b : Bool) → e.at_host ≡ b → Each (t ++ (by b).1) (later X (by b).1) (by b).0
     go false q =
         let u : List Entry = (by false).1 in
-        each_site w w.memory (counts why e.link w.controller) t u e.link lost (λ s. refl)
+        each_site w w.memory (counts why e.link w.controller) t u X e.link lost (λ s. refl)
         (λ h s b. counts_off why e.link w.controller new_near s.link.controller.side b)
         (λ s there b.
         let T : Bool → Type 0 = λ c. IsLinkTold e.link (happens s.link (event c)) (t ++ u) in
@@ -516,6 +561,11 @@ lost_each w t e why each = go e.at_host refl
           told = subst T (sym q) (told_more e.link s.link (AtController (Lose why)) t u tt told
               (clear_stands e.link u (first_lost Controller why s.link.to_controller) (entries_uncut e.link (first_lost Controller why (link_to w.sites e.link).to_controller))
               (clear_lost Controller why s.link.to_controller) told) b.told);
+          shown = let S : Bool → Type 0 = λ c. Shown (happens s.link (event c)) (standing e.link (X e.link) u) in
+              subst S (sym q) (shown_more e.link s.link (AtController (Lose why)) t u (X e.link) b.told
+              (clear_unstarted (first_lost Controller why s.link.to_controller) (clear_lost Controller why s.link.to_controller))
+              (clear_stands e.link u (first_lost Controller why s.link.to_controller) (entries_uncut e.link (first_lost Controller why (link_to w.sites e.link).to_controller))
+              (clear_lost Controller why s.link.to_controller) told) b.shown);
           near = subst N (sym (near_left e.at_host s.link)) (counts_off why e.link w.controller new_near s.link.controller.side b.near);
           far = subst F (sym (far_left e.at_host s.link)) b.far;
           none = b.none;
@@ -528,7 +578,7 @@ lost_each w t e why each = go e.at_host refl
         }) each
     go true q =
         let u : List Entry = (by true).1 in
-        each_site w w.memory w.controller t u e.link (λ s. record (lost s) { node = counts why e.link s.node }) (λ s. refl) (λ h s b. b)
+        each_site w w.memory w.controller t u X e.link (λ s. record (lost s) { node = counts why e.link s.node }) (λ s. refl) (λ h s b. b)
         (λ s there b.
         let T : Bool → Type 0 = λ c. IsLinkTold e.link (happens s.link (event c)) (t ++ u) in
         let told : TellOf e.link s.link (AtHost (Lose why)) u =
@@ -539,6 +589,11 @@ lost_each w t e why each = go e.at_host refl
           told = subst T (sym q) (told_more e.link s.link (AtHost (Lose why)) t u tt told
               (clear_stands e.link u (first_lost Host why s.link.to_host) (entries_uncut e.link (first_lost Host why (link_to w.sites e.link).to_host))
               (clear_lost Host why s.link.to_host) told) b.told);
+          shown = let S : Bool → Type 0 = λ c. Shown (happens s.link (event c)) (standing e.link (X e.link) u) in
+              subst S (sym q) (shown_more e.link s.link (AtHost (Lose why)) t u (X e.link) b.told
+              (clear_unstarted (first_lost Host why s.link.to_host) (clear_lost Host why s.link.to_host))
+              (clear_stands e.link u (first_lost Host why s.link.to_host) (entries_uncut e.link (first_lost Host why (link_to w.sites e.link).to_host))
+              (clear_lost Host why s.link.to_host) told) b.shown);
           near = subst N (sym (near_left e.at_host s.link)) b.near;
           far = subst F (sym (far_left e.at_host s.link)) (counts_off why e.link s.node new_far s.link.host.side b.far);
           none = counts_none why e.link s.node b.none;
@@ -552,13 +607,78 @@ lost_each w t e why each = go e.at_host refl
 
 -- ## Activation
 
-pub activates_each : (w : NodeWorld) (t : List Entry) (h sync power : ℕ) → is_some w.controller ≡ true → IsWell w → Each t w
-    → Each (t ++ (activates w h sync power).1) (activates w h sync power).0
-activates_each w t h sync power runs a each =
-    let near : NodeWorld × List Entry = comes_at w (end_c h) (Starts power) in
-    let far : NodeWorld × List Entry = comes_at near.0 (end_h h) (Starts sync) in
-    let well : IsWell near.0 = record { orderly = (comes_goes w (end_c h) (Starts power) a.orderly).orderly; fine = starts_fine w h power a.fine } in
-    let first : Each (t ++ near.1) near.0 = controller_each w t a each h (Starts power) (Start power) tt refl in
-    let P : List Entry → Type 0 = λ z. Each z far.0 in
-    subst P (append_assoc t near.1 far.1)
-    (comes_each near.0 (t ++ near.1) (end_h h) (Starts sync) well first tt (starts_then w h sync power runs a.fine))
+-- the wires of the link are empty as activation has begun at the controller's end
+module _ (w : NodeWorld) (t : List Entry) (X : ℕ → Standing) (a : IsWell w) (each : Each t X w) (h power : ℕ) where
+  abbrev AreOpened : NodeWorld → Type 0
+  AreOpened v = (s : Site) → site_at v.sites h ≡ Some s → AreEmpty s.link
+
+  opened_so : (r : Running) → w.controller ≡ Some r
+      → AreOpened (after_controller w h (Starts power) (controller_work w r h (Starts power) (steps (AtEnd h (Start power))))).0
+  opened_so r runs s there =
+      let v : Work = controller_work w r h (Starts power) (steps (AtEnd h (Start power))) in
+      let was = was_there (link_after_controller h (Starts power) v) (λ x. refl) w.sites h s there in
+      let l : Link = was.site.link in
+      let b : Knows t (X h) w.controller h was.site = each h was.site was.there in
+      let fine : IsFineSite was.site = site_is IsFineSite w.sites h was.site a.fine.sites was.there in
+      let P : Link → Type 0 = λ k. k.controller.side.acts ≡ [] in
+      let acts : l.controller.side.acts ≡ [] =
+      subst P b.told.run.is (from_start new_line IsLine b.told.events b.told.run.allowed).good.controller.now.acts in
+      let here : (was.site.host == h) ≡ true = ap (λ n. n == h) (site_host w.sites h was.site was.there) ∙ same_number h in
+      let Q : Comes → Type 0 = λ c. AreEmpty (happens l (AtController (Step c (turns_at v was.site.host) (ending_of v)))) in
+      let R : Site → Type 0 = λ z. AreEmpty z.link in
+      subst R was.is
+      (subst (λ b. Q (cond b (Starts power) NoInput)) (sym here)
+      (started_empty l power (turns_at v was.site.host) (ending_of v) fine.link.line.clf acts))
+
+begun_at : (b : Bool) (power : ℕ) (x : Standing) → opened (cond b (Starts power) NoInput) x ≡ cond b (with_empty_wires x) x
+begun_at true power x = refl
+begun_at false power x = refl
+
+pub activates_each : (w : NodeWorld) (t : List Entry) (X : ℕ → Standing) (h sync power : ℕ) → is_some w.controller ≡ true → IsWell w → Each t X w
+    → Each (t ++ (activates w h sync power).1) (λ k. standing k (as_event_begins k (Activates h sync power) (X k)) (activates w h sync power).1)
+    (activates w h sync power).0
+activates_each w t X h sync power runs a each = go w.controller refl runs
+  where
+    near : NodeWorld × List Entry
+    near = comes_at w (end_c h) (Starts power)
+
+    far : NodeWorld × List Entry
+    far = comes_at near.0 (end_h h) (Starts sync)
+
+    well : IsWell near.0
+    well = record { orderly = (comes_goes w (end_c h) (Starts power) a.orderly).orderly; fine = starts_fine w h power a.fine }
+
+    Z : ℕ → Standing
+    Z k = standing k (opened (comes_to h (Starts power) k) (X k)) near.1
+
+    on_is : (r : Running) → w.controller ≡ Some r
+        → near ≡ after_controller w h (Starts power) (controller_work w r h (Starts power) (steps (AtEnd h (Start power))))
+    on_is r e = rw e refl
+
+    First : NodeWorld × List Entry → Type 0
+    First z = Each (t ++ z.1) (λ k. standing k (opened (comes_to h (Starts power) k) (X k)) z.1) z.0
+
+    then_far : Each (t ++ near.1) Z near.0 → AreOpened w t X a each h power near.0 → Each ((t ++ near.1) ++ far.1) (later Z far.1) far.0
+    then_far first clean =
+        host_each near.0 (t ++ near.1) Z well first h (Starts sync) (steps (AtEnd h (Start sync))) (starts_then w h sync power runs a.fine)
+        (λ s n found runs. host_does_step near.0 s n h well.orderly found runs (Starts sync) (Start sync) refl)
+        (λ v b. steps_fine (AtEnd h (Start sync)) v b) (λ v b. steps_none (AtEnd h (Start sync)) v b) (Some (Start sync)) tt (λ s found. refl)
+        (λ s found. empty_shown s.link (Z h) (clean s found) (first h s found).shown)
+
+    alike : (k : ℕ) → later Z far.1 k ≡ standing k (as_event_begins k (Activates h sync power) (X k)) (near.1 ++ far.1)
+    alike k =
+        ap (λ x. standing k (standing k x near.1) far.1) (begun_at (k == h) power (X k))
+        ∙ sym (fold-append (stands_noted k) (as_event_begins k (Activates h sync power) (X k)) near.1 far.1)
+
+    go : (o : Option Running) → w.controller ≡ o → is_some o ≡ true
+        → Each (t ++ (near.1 ++ far.1)) (λ k. standing k (as_event_begins k (Activates h sync power) (X k)) (near.1 ++ far.1)) far.0
+    go None e q = absurd (true≢false (sym q))
+    go (Some r) e q =
+        let first : Each (t ++ near.1) Z near.0 =
+        subst First (sym (on_is r e)) (after w t X a each h (Starts power) (Start power) tt refl r e) in
+        let clean : AreOpened w t X a each h power near.0 =
+        subst (λ (z : NodeWorld × List Entry). AreOpened w t X a each h power z.0) (sym (on_is r e)) (opened_so w t X a each h power r e) in
+        let P : List Entry → Type 0 = λ z. Each z (λ k. standing k (as_event_begins k (Activates h sync power) (X k)) (near.1 ++ far.1)) far.0 in
+        subst P (append_assoc t near.1 far.1)
+        (each_alike ((t ++ near.1) ++ far.1) (later Z far.1) (λ k. standing k (as_event_begins k (Activates h sync power) (X k)) (near.1 ++ far.1)) far.0 alike
+        (then_far first clean))

@@ -30,6 +30,7 @@ use Rattle.node_telling.proofs.Nodes.{site_host, swapped}
 use Rattle.node_telling.proofs.Events.{site_map, entries-append}
 use Rattle.node_order.specs.Told.{IsLinkTold}
 use Rattle.node_order.proofs.Unnoticed.{IfNone}
+use Rattle.node_order.proofs.Wires.{Shown}
 
 -- ## One link
 
@@ -122,20 +123,29 @@ cut_uicc l comes ts o q c a =
 
 -- ## Worlds
 
--- the link with a host is told, its ends are new while their nodes don't run, and its host has no notice of a controller
-pub record Knows (t : List Entry) (o : Option Running) (h : ℕ) (s : Site) : Type 0 where
+-- the link with a host is told, its wires are those that are read, its ends are new while their nodes don't run, and its host has no
+-- notice of a controller
+pub record Knows (t : List Entry) (x : Standing) (o : Option Running) (h : ℕ) (s : Site) : Type 0 where
   pub told : IsLinkTold h s.link t
+  pub shown : Shown s.link x
   pub near : IfOff o (new_link_end (Clf new_clf)) s.link.controller.side
   pub far : IfOff s.node (new_link_end (Uicc new_uicc)) s.link.host.side
   pub none : IfNone s.node
 
 -- so it is with each link
-abbrev pub Each : List Entry → NodeWorld → Type 0
-Each t w = (h : ℕ) (s : Site) → site_at w.sites h ≡ Some s → Knows t w.controller h s
+abbrev pub Each : List Entry → (ℕ → Standing) → NodeWorld → Type 0
+Each t X w = (h : ℕ) (s : Site) → site_at w.sites h ≡ Some s → Knows t (X h) w.controller h s
+
+-- how each link stands behind more entries
+abbrev pub later : (ℕ → Standing) → List Entry → ℕ → Standing
+later X u h = standing h (X h) u
 
 -- nothing was noted
-pub each_empty : (t : List Entry) (w : NodeWorld) → Each t w → Each (t ++ []) w
-each_empty t w a = let P : List Entry → Type 0 = λ z. Each z w in subst P (sym (append-nil t)) a
+pub each_empty : (t : List Entry) (X : ℕ → Standing) (w : NodeWorld) → Each t X w → Each (t ++ []) (later X []) w
+each_empty t X w a = let P : List Entry → Type 0 = λ z. Each z X w in subst P (sym (append-nil t)) a
+
+pub each_alike : (t : List Entry) (X Y : ℕ → Standing) (w : NodeWorld) → ((h : ℕ) → X h ≡ Y h) → Each t X w → Each t Y w
+each_alike t X Y w same a h s found = subst (λ x. Knows t x w.controller h s) (same h) (a h s found)
 
 pub site_none : (f : Site → Site) → ((s : Site) → (f s).host ≡ s.host) → (sites : List Site) (h : ℕ) → site_at sites h ≡ None → site_at (map f sites) h ≡ None
 site_none f keeps [] h q = refl
@@ -166,14 +176,14 @@ was_there f keeps sites h v q = go (site_at sites h) refl
         let is : Some (f s) ≡ Some v = sym (site_map f keeps sites h s e) ∙ q in
         record { site = s; there = e; is = cc }
 
-module _ (w : NodeWorld) (memory : Memory) (o : Option Running) (t u : List Entry) where
+module _ (w : NodeWorld) (memory : Memory) (o : Option Running) (t u : List Entry) (X : ℕ → Standing) where
   -- each site becomes another one
-  pub each_map : (f : Site → Site) → ((s : Site) → (f s).host ≡ s.host)
-      → ((h : ℕ) (s : Site) → site_at w.sites h ≡ Some s → Knows t w.controller h s → Knows (t ++ u) o h (f s)) → Each t w
-      → Each (t ++ u) (record { memory = memory; controller = o; sites = map f w.sites })
-  each_map f keeps one a h v q =
+  pub each_map : (Y : ℕ → Standing) (f : Site → Site) → ((s : Site) → (f s).host ≡ s.host)
+      → ((h : ℕ) (s : Site) → site_at w.sites h ≡ Some s → Knows t (X h) w.controller h s → Knows (t ++ u) (Y h) o h (f s)) → Each t X w
+      → Each (t ++ u) Y (record { memory = memory; controller = o; sites = map f w.sites })
+  each_map Y f keeps one a h v q =
       let was = was_there f keeps w.sites h v q in
-      let P : Site → Type 0 = λ s. Knows (t ++ u) o h s in
+      let P : Site → Type 0 = λ s. Knows (t ++ u) (Y h) o h s in
       subst P was.is (one h was.site was.there (a h was.site was.there))
 
   changed_host : (b : Bool) (g : Site → Site) (s : Site) → (g s).host ≡ s.host → (changed_if b g s).host ≡ s.host
@@ -184,21 +194,24 @@ module _ (w : NodeWorld) (memory : Memory) (o : Option Running) (t u : List Entr
   pub each_site : (k : ℕ) (g : Site → Site) → ((s : Site) → (g s).host ≡ s.host)
       → ((r : ℕ) (s : Site) → IfOff w.controller (new_link_end (Clf new_clf)) s.link.controller.side
       → IfOff o (new_link_end (Clf new_clf)) s.link.controller.side)
-      → ((s : Site) → site_at w.sites k ≡ Some s → Knows t w.controller k s → Knows (t ++ u) o k (g s))
-      → ((h : ℕ) → (k == h) ≡ false → LeaveLink h u) → Each t w
-      → Each (t ++ u) (record { memory = memory; controller = o; sites = map (λ (s : Site). changed_if (s.host == k) g s) w.sites })
+      → ((s : Site) → site_at w.sites k ≡ Some s → Knows t (X k) w.controller k s → Knows (t ++ u) (later X u k) o k (g s))
+      → ((h : ℕ) → (k == h) ≡ false → LeaveLink h u) → Each t X w
+      → Each (t ++ u) (later X u) (record { memory = memory; controller = o; sites = map (λ (s : Site). changed_if (s.host == k) g s) w.sites })
   each_site k g keeps off own others a =
-      each_map (λ (s : Site). changed_if (s.host == k) g s) (λ s. changed_host (s.host == k) g s (keeps s)) (λ h s found b. go h s found b (s.host == k) refl) a
+      each_map (later X u) (λ (s : Site). changed_if (s.host == k) g s) (λ s. changed_host (s.host == k) g s (keeps s)) (λ h s found b. go h s found b (s.host == k) refl) a
     where
-      go : (h : ℕ) (s : Site) → site_at w.sites h ≡ Some s → Knows t w.controller h s → (b : Bool) → (s.host == k) ≡ b → Knows (t ++ u) o h (changed_if b g s)
+      go : (h : ℕ) (s : Site) → site_at w.sites h ≡ Some s → Knows t (X h) w.controller h s → (b : Bool) → (s.host == k) ≡ b
+          → Knows (t ++ u) (later X u h) o h (changed_if b g s)
       go h s found b true q =
           let is : k ≡ h = sym (eqb-true s.host k q) ∙ site_host w.sites h s found in
-          let P : ℕ → Type 0 = λ n. Knows (t ++ u) o n (g s) in
-          let Q : ℕ → Type 0 = λ n. Knows t w.controller n s in
+          let P : ℕ → Type 0 = λ n. Knows (t ++ u) (later X u n) o n (g s) in
+          let Q : ℕ → Type 0 = λ n. Knows t (X n) w.controller n s in
           subst P is (own s (ap (site_at w.sites) is ∙ found) (subst Q (sym is) b))
       go h s found b false q =
+          let leave : LeaveLink h u = others h (swapped h k (ap (λ n. n == k) (sym (site_host w.sites h s found)) ∙ q)) in
           record {
-            told = told_same h s.link t u (others h (swapped h k (ap (λ n. n == k) (sym (site_host w.sites h s found)) ∙ q))) b.told;
+            told = told_same h s.link t u leave b.told;
+            shown = subst (Shown s.link) (sym (leave.stands (X h))) b.shown;
             near = off h s b.near;
             far = b.far;
             none = b.none;

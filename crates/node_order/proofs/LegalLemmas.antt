@@ -12,6 +12,7 @@ use Rattle.kept_laws.specs.Hosts.{AreHosts, IsFew, IsSentByHost}
 use Rattle.kept_laws.proofs.Kept.{are_allowed}
 use Rattle.cut_laws.proofs.Histories.{kept_exactly}
 use Rattle.node_telling.specs.Telling.{world_behind}
+use Rattle.node_telling.specs.Standing.{standing_behind}
 use Rattle.node_readings.proofs.NoticedWorlds.{numbers}
 use Rattle.turn_laws.proofs.Lines.{in_turn}
 use Rattle.node_order.specs.Told.{HasDelivered, HasSettled}
@@ -26,13 +27,13 @@ module _ (header : Header) (lines : List Line) (t : NodeHistory) (follows : Foll
   -- what holds of each link by what is known of it holds at the end of each event
   each_event : (P : List Entry → ℕ → Site → Type 0)
       → ((front : List Occurrence) (h : ℕ) (s : Site) → (h == 0) ≡ false
-      → Knows (entries_in front) (world_behind (new_world header.hosts.items) front).controller h s → P (entries_in front) h s)
+      → Knows (entries_in front) (standing_behind h front) (world_behind (new_world header.hosts.items) front).controller h s → P (entries_in front) h s)
       → AtEachEvent t P
   each_event P one =
       let Q : Header → Type 0 = λ x. (front back : List Occurrence) → occurrences_in t ≡ front ++ back → (h : ℕ) (s : Site)
       → site_at (world_behind (new_world x.hosts.items) front).sites h ≡ Some s → P (entries_in front) h s in
       subst Q (sym follows.header_is) (λ front back q h s found.
-      let a : IsSo header.hosts.items (entries_in front) (world_behind (new_world header.hosts.items) front) =
+      let a : IsSo header.hosts.items front (world_behind (new_world header.hosts.items) front) =
       history_so header lines t follows are playable front back q in
       one front h s (host_number (world_behind (new_world header.hosts.items) front) h s a.well.orderly found) (a.each h s found))
 

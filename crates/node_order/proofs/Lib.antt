@@ -4,6 +4,7 @@ pub mod Events
 pub mod Ticking
 pub mod Strangers
 pub mod Lines
+pub mod Wires
 pub mod Sessions
 pub mod Prefix
 pub mod Ordered

@@ -1,6 +1,8 @@
 -- Whatever lines are played, each link of the world is told.
 use Rattle.std.proofs.Common.{◌≡◌, ℕ, ◌==◌, Bool, true, false, List, [], ◌∷◌, ◌++◌, Some, None, map, refl, ap, sym, subst, ◌∙◌, append-nil, arith}
 use Rattle.std.specs.Prelude.{cond, is_some, replicate, unwrap_or}
+use Rattle.std.proofs.lemmas.List.Concat.{flat_map-append}
+use Rattle.std.proofs.lemmas.List.Sums.{fold-append}
 use Rattle.trace_model.specs.declared.entry.Entry.{Entry}
 use Rattle.trace_model.specs.declared.line.Header.{Header}
 use Rattle.trace_model.specs.declared.line.Line.{Line}
@@ -12,12 +14,13 @@ use Rattle.node_machine.specs.Parts.Deed.{Sends, Orders}
 use Rattle.node_world.specs.World.{Site, NodeWorld, Happening, new_site, new_world, site_at, memory_at, sending, beginning, world_step}
 use Rattle.node_world.specs.World.Happening.{Boots, IsCut, Gives, Inits, Takes, Loses, Ticks, Resets, Activates, Arms}
 use Rattle.node_world.specs.Lines.{refusal_in, if_off, happenings, frames_at, Occurrence}
-use Rattle.node_world.specs.NodeHistories.{LineStep, NodeHistory, FollowsNodes, steps_from, world_after, occurrences_in, entries_in, node_entries}
+use Rattle.node_world.specs.NodeHistories.{LineStep, NodeHistory, FollowsNodes, steps_from, world_after, occurrences_in, entries_in}
 use Rattle.node_links.specs.Runs.{IsPlayable, ArePlayable}
 use Rattle.node_links.proofs.Playing.{MayHappen, AreLasting, plain_reach, sending_fine, step_fine, repeated, damaged, runs_then, world_fine}
 use Rattle.kept_laws.specs.Hosts.{AreHosts}
 use Rattle.node_telling.specs.Telling.{of_link, hosts_in, IsOrderly, world_behind}
-use Rattle.node_telling.proofs.Lasting.{AllMay, events_of_steps, AllHold, front_holds, lines_hold, behind_lines}
+use Rattle.node_telling.proofs.Lasting.{AllMay, events_of_steps, occurs, EachHolds, front_each, lines_each, behind_lines}
+use Rattle.node_telling.specs.Standing.{Standing, new_standing, as_event_begins, standing, standing_behind}
 use Rattle.node_telling.proofs.Accounts.{of-append}
 use Rattle.node_telling.proofs.Orderly.{step_orderly, new_orderly}
 use Rattle.node_telling.proofs.Nodes.{site_host}
@@ -26,18 +29,18 @@ use Rattle.node_telling.proofs.Events.{sending_mute}
 use Rattle.node_readings.specs.Noticed.{NoticesAreUp}
 use Rattle.node_readings.proofs.NoticedWorlds.{event_up, numbers, lines_up}
 use Rattle.node_order.proofs.Unnoticed.{AreUnnoticed}
-use Rattle.node_order.proofs.Knowing.{Knows, Each}
+use Rattle.node_order.proofs.Knowing.{Knows, Each, each_alike}
 use Rattle.node_order.proofs.Events.{IsWell, comes_each, begins_each, memory_each, power_each, boots_each, lost_each, activates_each}
 use Rattle.node_order.proofs.Ticking.{ticks_each}
 use Rattle.node_order.proofs.Strangers.{IsStrange, step_kept, step_none}
 
--- a world, and what was noted until then
-pub record IsSo (hosts : List ℕ) (t : List Entry) (w : NodeWorld) : Type 0 where
+-- a world, and what happened until then
+pub record IsSo (hosts : List ℕ) (os : List Occurrence) (w : NodeWorld) : Type 0 where
   pub hosts_are : hosts_in w.sites ≡ hosts
   pub well : IsWell w
   pub up : NoticesAreUp w
-  pub each : Each t w
-  pub strange : (h : ℕ) → IsStrange h hosts → of_link h t ≡ []
+  pub each : Each (entries_in os) (λ h. standing_behind h os) w
+  pub strange : (h : ℕ) → IsStrange h hosts → of_link h (entries_in os) ≡ []
 
 -- a host isn't 00
 pub host_number : (w : NodeWorld) (h : ℕ) (s : Site) → IsOrderly w → site_at w.sites h ≡ Some s → (h == 0) ≡ false
@@ -54,32 +57,47 @@ sending_unnoticed h m = go _
     go false = (tt, tt)
 
 module _ (hosts : List ℕ) where
-  step_each : (w : NodeWorld) (t : List Entry) (c : Happening) → MayHappen w c → IsSo hosts t w → Each (t ++ (world_step w c).1) (world_step w c).0
-  step_each w t (Boots n) m a = boots_each w t n a.well a.each
-  step_each w t (IsCut n) m a = power_each n w t a.well a.each
-  step_each w t (Gives e message) m a =
-      begins_each w t e.link (sending e.link message) (sending_mute e.link message) (sending_fine e.link message m) (sending_unnoticed e.link message) a.well
+  step_each : (w : NodeWorld) (os : List Occurrence) (c : Happening) → MayHappen w c → IsSo hosts os w
+      → Each (entries_in os ++ (world_step w c).1) (λ h. standing h (as_event_begins h c (standing_behind h os)) (world_step w c).1) (world_step w c).0
+  step_each w os (Boots n) m a = boots_each w (entries_in os) (λ h. standing_behind h os) n a.well a.each
+  step_each w os (IsCut n) m a = power_each n w (entries_in os) (λ h. standing_behind h os) a.well a.each
+  step_each w os (Gives e message) m a =
+      begins_each w (entries_in os) (λ h. standing_behind h os) e.link (sending e.link message) (sending_mute e.link message)
+      (sending_fine e.link message m) (sending_unnoticed e.link message) a.well a.each
+  step_each w os (Inits e identity pipes) m a =
+      begins_each w (entries_in os) (λ h. standing_behind h os) e.link (beginning identity pipes) (tt, (tt, tt)) (tt, (omega arith, tt)) (tt, (tt, tt)) a.well
       a.each
-  step_each w t (Inits e identity pipes) m a =
-      begins_each w t e.link (beginning identity pipes) (tt, (tt, tt)) (tt, (omega arith, tt)) (tt, (tt, tt)) a.well a.each
-  step_each w t (Takes e) m a = comes_each w t e NextFrame a.well a.each tt (plain_reach e.link NextFrame tt w.sites)
-  step_each w t (Loses e why) m a = lost_each w t e why a.each
-  step_each w t Ticks m a = ticks_each w t a.well a.up a.each
-  step_each w t (Resets e window) m a = comes_each w t e (AsksReset window) a.well a.each m (plain_reach e.link (AsksReset window) m w.sites)
-  step_each w t (Activates h sync power) m a = activates_each w t h sync power m a.well a.each
-  step_each w t (Arms n plan) m a = memory_each n (record (memory_at w n) { plan = Some plan }) w t a.each
+  step_each w os (Takes e) m a =
+      comes_each w (entries_in os) (λ h. standing_behind h os) e NextFrame a.well a.each tt (plain_reach e.link NextFrame tt w.sites) (λ x. refl)
+  step_each w os (Loses e why) m a = lost_each w (entries_in os) (λ h. standing_behind h os) e why a.each
+  step_each w os Ticks m a = ticks_each w (entries_in os) (λ h. standing_behind h os) a.well a.up a.each
+  step_each w os (Resets e window) m a =
+      comes_each w (entries_in os) (λ h. standing_behind h os) e (AsksReset window) a.well a.each m (plain_reach e.link (AsksReset window) m w.sites) (λ x. refl)
+  step_each w os (Activates h sync power) m a = activates_each w (entries_in os) (λ h. standing_behind h os) h sync power m a.well a.each
+  step_each w os (Arms n plan) m a =
+      memory_each n (record (memory_at w n) { plan = Some plan }) w (entries_in os) (λ h. standing_behind h os) a.each
 
-  step_so : (w : NodeWorld) (t : List Entry) (c : Happening) → MayHappen w c → IsSo hosts t w → IsSo hosts (t ++ (world_step w c).1) (world_step w c).0
-  step_so w t c m a =
+  step_so : (os : List Occurrence) (w : NodeWorld) (c : Happening) → IsSo hosts os w → MayHappen w c
+      → IsSo hosts (os ++ occurs w c ∷ []) (world_step w c).0
+  step_so os w c a m =
+      let u : List Entry = (world_step w c).1 in
+      let v : NodeWorld = (world_step w c).0 in
+      let more : entries_in os ++ u ≡ entries_in (os ++ occurs w c ∷ []) =
+      sym (flat_map-append (λ (o : Occurrence). o.entries) os (occurs w c ∷ []) ∙ ap (λ z. entries_in os ++ z) (append-nil u)) in
+      let stands : (h : ℕ) → standing h (as_event_begins h c (standing_behind h os)) u ≡ standing_behind h (os ++ occurs w c ∷ []) = λ h.
+      sym (fold-append (λ (x : Standing) (o : Occurrence). standing h (as_event_begins h o.cause x) o.entries) new_standing os (occurs w c ∷ [])) in
+      let E : List Entry → Type 0 = λ z. Each z (λ h. standing_behind h (os ++ occurs w c ∷ [])) v in
       record {
         hosts_are = step_kept w c ∙ a.hosts_are;
         well = record { orderly = step_orderly w c a.well.orderly; fine = step_fine w c m a.well.fine };
         up = event_up w c a.well.orderly a.up;
-        each = step_each w t c m a;
+        each = subst E more
+            (each_alike (entries_in os ++ u) (λ h. standing h (as_event_begins h c (standing_behind h os)) u) (λ h. standing_behind h (os ++ occurs w c ∷ [])) v stands
+            (step_each w os c m a));
         strange = λ h q.
-            of-append h t (world_step w c).1
-            ∙ (ap (λ z. z ++ of_link h (world_step w c).1) (a.strange h q)
-            ∙ step_none h w c a.well.orderly (subst (IsStrange h) (sym a.hosts_are) q));
+            ap (of_link h) (sym more)
+            ∙ (of-append h (entries_in os) u
+            ∙ (ap (λ z. z ++ of_link h u) (a.strange h q) ∙ step_none h w c a.well.orderly (subst (IsStrange h) (sym a.hosts_are) q)));
       }
 
 -- ## Lines
@@ -110,17 +128,18 @@ line_may w (line.Tables n) p q = tt
 
 -- ## Schedules
 
-new_each : (content : List ℕ) (hosts : List ℕ) (h : ℕ) (s : Site) → site_at (map (new_site content) hosts) h ≡ Some s → Knows [] None h s
+new_each : (content : List ℕ) (hosts : List ℕ) (h : ℕ) (s : Site) → site_at (map (new_site content) hosts) h ≡ Some s → Knows [] new_standing None h s
 new_each content [] h s q = absurd (cc q)
 new_each content (k ∷ hosts) h s q = go (k == h) refl (new_each content hosts h s)
   where
-    go : (b : Bool) → (k == h) ≡ b → (site_at (map (new_site content) hosts) h ≡ Some s → Knows [] None h s) → Knows [] None h s
+    go : (b : Bool) → (k == h) ≡ b → (site_at (map (new_site content) hosts) h ≡ Some s → Knows [] new_standing None h s) → Knows [] new_standing None h s
     go true e later =
         let is : Some (new_site content k) ≡ Some s = rw e at q in
         let one : new_site content k ≡ s = cc in
-        let P : Site → Type 0 = λ z. Knows [] None h z in
+        let P : Site → Type 0 = λ z. Knows [] new_standing None h z in
         subst P one (record {
           told = record { events = []; run = record { allowed = tt; is = refl }; told = refl; stands = refl };
+          shown = record { to_controller = refl; to_host = refl };
           near = refl;
           far = refl;
           none = tt;
@@ -144,20 +163,17 @@ new_so hosts are =
 
 -- behind any first events of a history
 pub history_so : (header : Header) (lines : List Line) (t : NodeHistory) → FollowsNodes header lines t → AreHosts header.hosts.items → ArePlayable lines
-    → (front back : List Occurrence) → occurrences_in t ≡ front ++ back
-    → IsSo header.hosts.items (entries_in front) (world_behind (new_world header.hosts.items) front)
+    → (front back : List Occurrence) → occurrences_in t ≡ front ++ back → IsSo header.hosts.items front (world_behind (new_world header.hosts.items) front)
 history_so header lines t follows are p front back q =
     let hosts : List ℕ = header.hosts.items in
-    let lasts : (u : List Entry) (w : NodeWorld) (c : Happening) → IsSo hosts u w → MayHappen w c → IsSo hosts (u ++ (world_step w c).1) (world_step w c).0 =
-    λ u w c a m. step_so hosts w u c m a in
-    let P : List Occurrence → Type 0 = λ events. AllHold (IsSo hosts) MayHappen IsPlayable lasts line_may [] (new_world hosts) events in
+    let P : List Occurrence → Type 0 = λ events. EachHolds (IsSo hosts) MayHappen IsPlayable (step_so hosts) line_may [] (new_world hosts) events in
     let is : events_of_steps (steps_from (new_world hosts) lines) ≡ front ++ back = ap events_of_steps (sym follows.steps_are) ∙ q in
-    front_holds (IsSo hosts) MayHappen IsPlayable lasts line_may front back [] (new_world hosts)
-    (subst P is (lines_hold (IsSo hosts) MayHappen IsPlayable lasts line_may lines [] (new_world hosts) (new_so hosts are) p))
+    front_each (IsSo hosts) MayHappen IsPlayable (step_so hosts) line_may front back [] (new_world hosts)
+    (subst P is (lines_each (IsSo hosts) MayHappen IsPlayable (step_so hosts) line_may lines [] (new_world hosts) (new_so hosts are) p))
 
 -- behind all of them
 pub all_so_behind : (header : Header) (lines : List Line) (t : NodeHistory) → FollowsNodes header lines t → AreHosts header.hosts.items → ArePlayable lines
-    → IsSo header.hosts.items (node_entries t) (world_behind (new_world header.hosts.items) (occurrences_in t))
+    → IsSo header.hosts.items (occurrences_in t) (world_behind (new_world header.hosts.items) (occurrences_in t))
 all_so_behind header lines t follows are p = history_so header lines t follows are p (occurrences_in t) [] (sym (append-nil (occurrences_in t)))
 
 -- the world behind all events of a history is the one behind its lines

@@ -8,7 +8,8 @@ use Rattle.trace_model.specs.declared.line.Line.{Line}
 use Rattle.history.specs.Legal.{IsInOrder, is_chain_fault}
 use Rattle.history_laws.proofs.Ordered.{AtEnd}
 use Rattle.node_world.specs.World.{Site, NodeWorld, new_world, site_at}
-use Rattle.node_world.specs.NodeHistories.{FollowsNodes, NodeHistory, node_entries, occurrences_in}
+use Rattle.node_world.specs.Lines.{Occurrence}
+use Rattle.node_world.specs.NodeHistories.{FollowsNodes, NodeHistory, entries_in, node_entries, occurrences_in}
 use Rattle.node_links.specs.Runs.{ArePlayable}
 use Rattle.kept_laws.specs.Hosts.{AreHosts}
 use Rattle.node_telling.specs.Telling.{of_link, hosts_in, world_behind}
@@ -37,7 +38,10 @@ whether w h = go (site_at w.sites h) refl
     go None q = IsNone (none w.sites q)
     go (Some s) q = Stands s q
 
-module _ (hosts : List ℕ) (t : List Entry) (w : NodeWorld) (a : IsSo hosts t w) where
+module _ (hosts : List ℕ) (os : List Occurrence) (w : NodeWorld) (a : IsSo hosts os w) where
+  abbrev t : List Entry
+  t = entries_in os
+
   -- at each end of each link
   order_so : (front back : List Entry) → t ≡ front ++ back → (e : End) (n : ℕ) → AtEnd front e n
   order_so front back q e n = go (whether w e.link)
@@ -64,11 +68,11 @@ module _ (hosts : List ℕ) (t : List Entry) (w : NodeWorld) (a : IsSo hosts t w
 pub in_order : (header : Header) (lines : List Line) (t : NodeHistory) → FollowsNodes header lines t → AreHosts header.hosts.items → ArePlayable lines
     → PrefixNodes t
 in_order header lines t follows are p front back q =
-    in_order_so header.hosts.items (node_entries t) (world_behind (new_world header.hosts.items) (occurrences_in t))
+    in_order_so header.hosts.items (occurrences_in t) (world_behind (new_world header.hosts.items) (occurrences_in t))
     (all_so_behind header lines t follows are p) front back q
 
 pub joined : (header : Header) (lines : List Line) (t : NodeHistory) → FollowsNodes header lines t → AreHosts header.hosts.items → ArePlayable lines
     → list_any is_chain_fault (node_entries t) ≡ false
 joined header lines t follows are p =
-    joined_so header.hosts.items (node_entries t) (world_behind (new_world header.hosts.items) (occurrences_in t))
+    joined_so header.hosts.items (occurrences_in t) (world_behind (new_world header.hosts.items) (occurrences_in t))
     (all_so_behind header lines t follows are p)

@@ -29,6 +29,7 @@ use Rattle.node_links.proofs.Works.{steps_fine}
 use Rattle.node_links.proofs.Sites.{AreNodes, tick_allowed, reset_allowed}
 use Rattle.node_links.proofs.Worlds.{AreTrueDesks, IsFineNode, IsFineSite, AreFineSites, AreClean, near_clean, ports_fine, turns_fine}
 use Rattle.node_telling.specs.Telling.{IfItRuns, is_due, NoneDue, IfOff, IfDue, IsTimely}
+use Rattle.node_telling.specs.Standing.{Standing}
 use Rattle.node_telling.proofs.Nodes.{link_is, ports_for}
 use Rattle.node_telling.proofs.Worlds.{site_is}
 use Rattle.node_telling.proofs.WorldTicks.{host_tick, host_is, tick_host, host_turns, between, between_far, near_tick, near_turns, tick_event, Ticking, ticking}
@@ -36,7 +37,8 @@ use Rattle.node_readings.specs.Noticed.{IfNoticedUp, NoticesAreUp}
 use Rattle.node_readings.proofs.NoticedWorlds.{host_tick_side}
 use Rattle.node_order.specs.Told.{IsLinkTold}
 use Rattle.node_order.proofs.Unnoticed.{IfNone, steps_none, runs_none}
-use Rattle.node_order.proofs.Knowing.{told_more, renewed_clf, renewed_uicc, Knows, Each, site_none, WasThere, was_there}
+use Rattle.node_order.proofs.Knowing.{told_more, renewed_clf, renewed_uicc, Knows, Each, later, site_none, WasThere, was_there}
+use Rattle.node_order.proofs.Wires.{Shown, tick_unstarted, shown_more}
 use Rattle.node_order.proofs.Events.{IsWell}
 
 -- ## Every world is timely
@@ -84,8 +86,9 @@ due_some d q = go d.notice refl
     go None e = let z : false ≡ true = rw e at q in absurd (true≢false (sym z))
     go (Some n) e = rw e refl
 
-pub timely : (w : NodeWorld) (t : List Entry) (h : ℕ) (s : Site) → NoticesAreUp w → site_at w.sites h ≡ Some s → Knows t w.controller h s → IsTimely w h s
-timely w t h s up found a =
+pub timely : (w : NodeWorld) (t : List Entry) (x : Standing) (h : ℕ) (s : Site) → NoticesAreUp w → site_at w.sites h ≡ Some s
+    → Knows t x w.controller h s → IsTimely w h s
+timely w t x h s up found a =
     record { controller = a.near; host = a.far; up = due w.controller up; young = none_due s.node a.none }
   where
     due : (o : Option Running) → IfNoticedUp w.sites o → IfDue o h s.link.controller.side
@@ -281,8 +284,9 @@ near_none w h q = go w.controller refl
           link = ticked_so s.link (is_late_at (near_tick w r) s.host) (turns_at (near_tick w r) s.host) (ending_of (near_tick w r));
         }) (λ s. refl) w.sites h q)
 
-pub ticks_each : (w : NodeWorld) (t : List Entry) → IsWell w → NoticesAreUp w → Each t w → Each (t ++ (world_ticks w).1) (world_ticks w).0
-ticks_each w t a up each h v q = go (site_at w.sites h) refl
+pub ticks_each : (w : NodeWorld) (t : List Entry) (X : ℕ → Standing) → IsWell w → NoticesAreUp w → Each t X w
+    → Each (t ++ (world_ticks w).1) (later X (world_ticks w).1) (world_ticks w).0
+ticks_each w t X a up each h v q = go (site_at w.sites h) refl
   where
     old : NodeWorld
     old = (all_aged w).0
@@ -293,7 +297,7 @@ ticks_each w t a up each h v q = go (site_at w.sites h) refl
     u : List Entry
     u = (world_ticks w).1
 
-    none : site_at w.sites h ≡ None → Knows (t ++ u) (world_ticks w).0.controller h v
+    none : site_at w.sites h ≡ None → Knows (t ++ u) (later X u h) (world_ticks w).0.controller h v
     none e =
         let is : None ≡ Some v =
         sym (hosts_none (controller_ticks old).0.sites h (near_none old h (site_none older (λ s. refl) w.sites h e))) ∙ q in
@@ -311,20 +315,22 @@ ticks_each w t a up each h v q = go (site_at w.sites h) refl
         let P : Site → Type 0 = λ z. IfOff w.controller (new_link_end (Clf new_clf)) z.link.controller.side in
         subst P was.is (each k was.site was.there).near
 
-    some : (s : Site) → site_at w.sites h ≡ Some s → Knows (t ++ u) (world_ticks w).0.controller h v
+    some : (s : Site) → site_at w.sites h ≡ Some s → Knows (t ++ u) (later X u h) (world_ticks w).0.controller h v
     some s found = subst K one (record {
       told = let T : Link → Type 0 = λ l. IsLinkTold h l (t ++ u) in subst T c.is (told_more h s.link event t u can c.told c.stands b.told);
+      shown = let S : Link → Type 0 = λ l. Shown l (later X u h) in
+          subst S c.is (shown_more h s.link event t u (X h) b.told (tick_unstarted c.late s.link c.near c.far) c.stands b.shown);
       near = let N : LinkEnd → Type 0 = IfOff (controller_ticks old).0.controller (new_link_end (Clf new_clf)) in
           subst N (sym (host_tick_side x)) (near_after old old_clf old_off h x c.near_there);
       far = after_it.off;
       none = after_it.none;
     })
       where
-        b : Knows t w.controller h s
+        b : Knows t (X h) w.controller h s
         b = each h s found
 
         c : Ticking w h s
-        c = ticking w h s a.orderly found (timely w t h s up found b)
+        c = ticking w h s a.orderly found (timely w t (X h) h s up found b)
 
         x : Site
         x = record s { link = between c.late (aged s.link) c.near }
@@ -362,11 +368,11 @@ ticks_each w t a up each h v q = go (site_at w.sites h) refl
             (subst U (sym far_is) fine.link.line.uicc) (subst F (sym far_is) b.far) b.none
 
         K : Site → Type 0
-        K z = Knows (t ++ u) (world_ticks w).0.controller h z
+        K z = Knows (t ++ u) (later X u h) (world_ticks w).0.controller h z
 
         one : (host_ticks x).0 ≡ v
         one = let is : Some (host_ticks x).0 ≡ Some v = sym c.there ∙ q in cc
 
-    go : (o : Option Site) → site_at w.sites h ≡ o → Knows (t ++ u) (world_ticks w).0.controller h v
+    go : (o : Option Site) → site_at w.sites h ≡ o → Knows (t ++ u) (later X u h) (world_ticks w).0.controller h v
     go None e = none e
     go (Some s) e = some s e

@@ -1,8 +1,10 @@
 -- What a history of a world of nodes tells of one of its links.
-use Rattle.std.specs.Prelude.{◌≡◌, ℕ, false, List, [], Some}
+use Rattle.std.specs.Prelude.{◌≡◌, ℕ, false, List, [], map, Some}
 use Rattle.trace_model.specs.declared.entry.Entry.{Entry}
 use Rattle.trace_model.specs.declared.line.End.{End}
 use Rattle.link_machine.specs.Machine.{messages_got, whole_among}
+use Rattle.swp_lpdu.specs.Controls.{lpdu_of}
+use Rattle.session_laws.specs.Sessions.{OnWire}
 use Rattle.session_laws.specs.Losses.{Losses, sans}
 use Rattle.message_link.specs.Links.{Talk, Link, LinkEvent, talk_of}
 use Rattle.message_link.specs.Quiet.{losses_of}
@@ -13,10 +15,11 @@ use Rattle.history.specs.Filters.{sent_in, got_in, acked_in}
 use Rattle.history.specs.Legal.{IsDelivered}
 use Rattle.history.specs.Steps.{entries_for}
 use Rattle.node_world.specs.World.{end_c, end_h}
+use Rattle.node_world.specs.Lines.{Occurrence}
 use Rattle.node_world.specs.NodeFilters.{session_now}
 use Rattle.node_links.specs.Runs.{IsRunOf, new_line}
 use Rattle.node_telling.specs.Telling.{of_link}
-use Rattle.node_telling.specs.Standing.{new_standing, standing, standing_by_law}
+use Rattle.node_telling.specs.Standing.{new_standing, standing, standing_behind, standing_by_law}
 
 -- Some events of the law of one link, each of which may happen, make the link with this host of a new one, what these entries tell
 -- of it is what that law notes of them, and so they tell how it stands, with all cuts of the power of its nodes.
@@ -31,6 +34,15 @@ pub record IsLinkTold (h : ℕ) (l : Link) (t : List Entry) : Type 0 where
 pub record AreSessionsRead (t : List Entry) (h : ℕ) (l : Link) : Type 0 where
   pub controller : session_now t (end_c h) 0 ≡ session_at l.controller
   pub host : session_now t (end_h h) h ≡ session_at l.host
+
+-- the bytes of the frames on a wire
+abbrev pub frames_on : List OnWire → List (List ℕ)
+frames_on w = map (λ (x : OnWire). lpdu_of x.frame) w
+
+-- The frames on both wires of the link with this host are those that are read off these events.
+pub record AreWiresRead (events : List Occurrence) (h : ℕ) (l : Link) : Type 0 where
+  pub to_controller : (standing_behind h events).to_controller ≡ frames_on l.to_controller
+  pub to_host : (standing_behind h events).to_host ≡ frames_on l.to_host
 
 -- what an end has of a session is what is read off these entries: the messages sent and got, and how many are acknowledged whole
 pub record IsReadOff (t : List Entry) (e : End) (n : ℕ) (talk : Talk) : Type 0 where

@@ -14,7 +14,7 @@ ghost use Rattle.node_links.specs.Runs.{ArePlayable};
 ghost use Rattle.kept_laws.specs.Hosts.{AreHosts, IsFew, IsSentByHost};
 ghost use Rattle.node_telling.specs.Telling.{IsTimely, world_behind};
 ghost use Rattle.node_order.specs.Legal.{LegalNodes, PrefixNodes};
-ghost use Rattle.node_order.specs.Told.{AreReadOff, AreSessionsRead, HasDelivered, HasSettled, IsLinkTold};
+ghost use Rattle.node_order.specs.Told.{AreReadOff, AreSessionsRead, AreWiresRead, HasDelivered, HasSettled, IsLinkTold};
 
 /// At the end of each event of a history of hosts from 01 to 07 that are all different, each end is new while its node doesn't run, a
 /// notice comes to its hundredth tick only at an end that is active and up, and none does at a host: so what is said of ticks of such
@@ -45,6 +45,15 @@ pub fn sessions_are_read_off_histories_of_nodes()
     ensures { (header : Header) (lines : List Line) (t : NodeHistory) → FollowsNodes header lines t → AreHosts header.hosts.items →
         ArePlayable lines → (front back : List Occurrence) → occurrences_in t ≡ front ++ back → (h : ℕ) (s : Site) →
         site_at (world_behind (new_world header.hosts.items) front).sites h ≡ Some s → AreSessionsRead (entries_in front) h s.link }
+{}
+
+/// At the end of each event of such a history the frames on both wires of each link are those that are read off the events: each frame
+/// that is put on a wire stands behind those before it, what is taken or lost is the first one, and both wires are empty as the power
+/// of a node of the link is cut, and as an activation of the link begins.
+pub fn wires_are_read_off_histories_of_nodes()
+    ensures { (header : Header) (lines : List Line) (t : NodeHistory) → FollowsNodes header lines t → AreHosts header.hosts.items →
+        ArePlayable lines → (front back : List Occurrence) → occurrences_in t ≡ front ++ back → (h : ℕ) (s : Site) →
+        site_at (world_behind (new_world header.hosts.items) front).sites h ≡ Some s → AreWiresRead front h s.link }
 {}
 
 /// At each moment of such a history, between any two entries, each end has got in each session a front of the good messages that the

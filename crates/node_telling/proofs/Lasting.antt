@@ -2,6 +2,7 @@
 use Rattle.std.proofs.Common.{◌≡◌, ℕ, zero, suc, Bool, true, false, List, [], ◌∷◌, ◌++◌, sym, refl, ap, ◌∙◌, subst, append_assoc, append-nil}
 use Rattle.std.specs.Prelude.{Option, Some, None, is_some, replicate, unwrap_or}
 use Rattle.std.specs.List.{AllByRecursion, flat_map}
+use Rattle.std.proofs.lemmas.List.Concat.{flat_map-append}
 use Rattle.trace_model.specs.declared.entry.Entry.{Entry}
 use Rattle.trace_model.specs.declared.entry.NoCause.{NoCause}
 use Rattle.trace_model.specs.declared.entry.NoCause.TheVariants as cause
@@ -165,127 +166,114 @@ behind_lines (l ∷ lines) w =
     behind-append (occurrences_of (line_step w l).1) (events_of_steps (steps_from v lines)) w
     ∙ (ap (λ x. world_behind x (events_of_steps (steps_from v lines))) (behind_line w l) ∙ behind_lines lines v)
 
--- ## Causes
+-- an event of a world
+abbrev pub occurs : NodeWorld → Happening → Occurrence
+occurs w c = record { cause = c; entries = (world_step w c).1 }
 
--- each of these events notes what its cause makes of the world before it, and may happen there
-abbrev pub AreCaused : (NodeWorld → Happening → Type 0) → NodeWorld → List Occurrence → Type 0
-AreCaused May w [] = Unit {0}
-AreCaused May w (o ∷ events) = (o.entries ≡ (world_step w o.cause).1) × May w o.cause × AreCaused May (world_step w o.cause).0 events
-
-module _ (May : NodeWorld → Happening → Type 0) (Is : Line → Type 0)
+-- what holds of a world by the events before it
+module _ (Holds : List Occurrence → NodeWorld → Type 0) (May : NodeWorld → Happening → Type 0) (Is : Line → Type 0)
+    (lasts : (os : List Occurrence) (w : NodeWorld) (c : Happening) → Holds os w → May w c → Holds (os ++ occurs w c ∷ []) (world_step w c).0)
     (line_may : (w : NodeWorld) (l : Line) → Is l → refusal_in w l ≡ None → AllMay May w (happenings w l)) where
-  caused-append : (xs ys : List Occurrence) (w : NodeWorld) → AreCaused May w xs → AreCaused May (world_behind w xs) ys → AreCaused May w (xs ++ ys)
-  caused-append [] ys w a b = b
-  caused-append (o ∷ xs) ys w a b = (a.0, a.1, caused-append xs ys (world_step w o.cause).0 a.2 b)
-
-  all_caused : (causes : List Happening) (w : NodeWorld) → AllMay May w causes → AreCaused May w (all_happen w causes).1
-  all_caused [] w may = tt
-  all_caused (c ∷ causes) w may = go (can_happen w c) (all_caused causes (world_step w c).0 may.1)
-    where
-      later : NodeWorld × List Occurrence
-      later = all_happen (world_step w c).0 causes
-
-      by : Bool → NodeWorld × List Occurrence
-      by true = (later.0, record { cause = c; entries = (world_step w c).1 } ∷ later.1)
-      by false = (w, [])
-
-      go : (b : Bool) → AreCaused May (world_step w c).0 later.1 → AreCaused May w (by b).1
-      go true z = (refl, may.0, z)
-      go false z = tt
-
-  line_caused : (w : NodeWorld) (l : Line) → Is l → AreCaused May w (occurrences_of (line_step w l).1)
-  line_caused w l is = by_refusal (refusal_in w l) refl where
-    Fine : NodeWorld × LineOutcome → Type 0
-    Fine o = AreCaused May w (occurrences_of o.1)
-
-    by_refusal : (o : Option NoCause) → refusal_in w l ≡ o → Fine (line_step w l)
-    by_refusal (Some cause) e = subst Fine (sym (refused_is w l cause e)) tt
-    by_refusal None e =
-        subst Fine (sym (goes_is w l e)) (subst (AreCaused May w) (sym (caused_is w l)) (all_caused (happenings w l) w (line_may w l is e)))
-
-  pub lines_caused : (lines : List Line) (w : NodeWorld) → AllByRecursion Is lines → AreCaused May w (events_of_steps (steps_from w lines))
-  lines_caused [] w are = tt
-  lines_caused (l ∷ lines) w are =
-      let v : NodeWorld = (line_step w l).0 in
-      caused-append (occurrences_of (line_step w l).1) (events_of_steps (steps_from v lines)) w (line_caused w l are.0)
-      (subst (λ x. AreCaused May x (events_of_steps (steps_from v lines))) (sym (behind_line w l)) (lines_caused lines v are.1))
-
--- ## What lasts
-
-module _ (Holds : List Entry → NodeWorld → Type 0) (May : NodeWorld → Happening → Type 0) (Is : Line → Type 0)
-    (lasts : (t : List Entry) (w : NodeWorld) (c : Happening) → Holds t w → May w c → Holds (t ++ (world_step w c).1) (world_step w c).0)
-    (line_may : (w : NodeWorld) (l : Line) → Is l → refusal_in w l ≡ None → AllMay May w (happenings w l)) where
-  nothing : (t : List Entry) (w : NodeWorld) → Holds t w → Holds (t ++ []) w
-  nothing t w all = subst (λ l. Holds l w) (sym (append-nil t)) all
+  nothing : (os : List Occurrence) (w : NodeWorld) → Holds os w → Holds (os ++ []) w
+  nothing os w all = subst (λ l. Holds l w) (sym (append-nil os)) all
 
   -- ## Events
 
   -- it holds before each of these events, and behind all of them
-  abbrev pub AllHold : List Entry → NodeWorld → List Occurrence → Type 0
-  AllHold t w [] = Holds t w
-  AllHold t w (o ∷ events) = Holds t w × AllHold (t ++ o.entries) (world_step w o.cause).0 events
+  abbrev pub EachHolds : List Occurrence → NodeWorld → List Occurrence → Type 0
+  EachHolds os w [] = Holds os w
+  EachHolds os w (o ∷ events) = Holds os w × EachHolds (os ++ o ∷ []) (world_step w o.cause).0 events
 
-  all_happen_hold : (causes : List Happening) (t : List Entry) (w : NodeWorld) → Holds t w → AllMay May w causes → AllHold t w (all_happen w causes).1
-  all_happen_hold [] t w all may = all
-  all_happen_hold (c ∷ causes) t w all may =
-      go (can_happen w c) (all_happen_hold causes (t ++ (world_step w c).1) (world_step w c).0 (lasts t w c all may.0) may.1)
+  all_happen_hold : (causes : List Happening) (os : List Occurrence) (w : NodeWorld) → Holds os w → AllMay May w causes
+      → EachHolds os w (all_happen w causes).1
+  all_happen_hold [] os w all may = all
+  all_happen_hold (c ∷ causes) os w all may =
+      go (can_happen w c) (all_happen_hold causes (os ++ occurs w c ∷ []) (world_step w c).0 (lasts os w c all may.0) may.1)
     where
       later : NodeWorld × List Occurrence
       later = all_happen (world_step w c).0 causes
 
       by : Bool → NodeWorld × List Occurrence
-      by true = (later.0, record { cause = c; entries = (world_step w c).1 } ∷ later.1)
+      by true = (later.0, occurs w c ∷ later.1)
       by false = (w, [])
 
-      go : (b : Bool) → AllHold (t ++ (world_step w c).1) (world_step w c).0 later.1 → AllHold t w (by b).1
+      go : (b : Bool) → EachHolds (os ++ occurs w c ∷ []) (world_step w c).0 later.1 → EachHolds os w (by b).1
       go true z = (all, z)
       go false z = all
 
   -- behind the first of them
-  pub front_holds : (front back : List Occurrence) (t : List Entry) (w : NodeWorld) → AllHold t w (front ++ back)
-      → Holds (t ++ entries_in front) (world_behind w front)
-  front_holds [] [] t w a = nothing t w a
-  front_holds [] (o ∷ back) t w a = nothing t w a.0
-  front_holds (o ∷ front) back t w a =
-      subst (λ x. Holds x (world_behind w (o ∷ front))) (append_assoc t o.entries (entries_in front))
-      (front_holds front back (t ++ o.entries) (world_step w o.cause).0 a.1)
+  pub front_each : (front back : List Occurrence) (os : List Occurrence) (w : NodeWorld) → EachHolds os w (front ++ back)
+      → Holds (os ++ front) (world_behind w front)
+  front_each [] [] os w a = nothing os w a
+  front_each [] (o ∷ back) os w a = nothing os w a.0
+  front_each (o ∷ front) back os w a =
+      subst (λ x. Holds x (world_behind w (o ∷ front))) (append_assoc os (o ∷ []) front) (front_each front back (os ++ o ∷ []) (world_step w o.cause).0 a.1)
 
-  hold-append : (xs ys : List Occurrence) (t : List Entry) (w : NodeWorld) → AllHold t w xs
-      → (Holds (t ++ entries_in xs) (world_behind w xs) → AllHold (t ++ entries_in xs) (world_behind w xs) ys) → AllHold t w (xs ++ ys)
-  hold-append [] ys t w a later = subst (λ x. AllHold x w ys) (append-nil t) (later (nothing t w a))
-  hold-append (o ∷ xs) ys t w a later =
+  hold-append : (xs ys : List Occurrence) (os : List Occurrence) (w : NodeWorld) → EachHolds os w xs
+      → (Holds (os ++ xs) (world_behind w xs) → EachHolds (os ++ xs) (world_behind w xs) ys) → EachHolds os w (xs ++ ys)
+  hold-append [] ys os w a later = subst (λ x. EachHolds x w ys) (append-nil os) (later (nothing os w a))
+  hold-append (o ∷ xs) ys os w a later =
       let v : NodeWorld = (world_step w o.cause).0 in
-      let same : (t ++ o.entries) ++ entries_in xs ≡ t ++ (o.entries ++ entries_in xs) = append_assoc t o.entries (entries_in xs) in (
+      let same : (os ++ o ∷ []) ++ xs ≡ os ++ (o ∷ xs) = append_assoc os (o ∷ []) xs in (
         a.0,
-        hold-append xs ys (t ++ o.entries) v a.1
-            (λ z. subst (λ x. AllHold x (world_behind v xs) ys) (sym same) (later (subst (λ x. Holds x (world_behind v xs)) same z))),
+        hold-append xs ys (os ++ o ∷ []) v a.1
+            (λ z. subst (λ x. EachHolds x (world_behind v xs) ys) (sym same) (later (subst (λ x. Holds x (world_behind v xs)) same z))),
       )
 
   -- ## Lines
 
-  line_holds : (t : List Entry) (w : NodeWorld) (l : Line) → Holds t w → Is l → AllHold t w (occurrences_of (line_step w l).1)
-  line_holds t w l all is = by_refusal (refusal_in w l) refl where
+  line_holds : (os : List Occurrence) (w : NodeWorld) (l : Line) → Holds os w → Is l → EachHolds os w (occurrences_of (line_step w l).1)
+  line_holds os w l all is = by_refusal (refusal_in w l) refl where
     Fine : NodeWorld × LineOutcome → Type 0
-    Fine o = AllHold t w (occurrences_of o.1)
+    Fine o = EachHolds os w (occurrences_of o.1)
 
     by_refusal : (o : Option NoCause) → refusal_in w l ≡ o → Fine (line_step w l)
     by_refusal (Some cause) e = subst Fine (sym (refused_is w l cause e)) all
     by_refusal None e =
         subst Fine (sym (goes_is w l e))
-        (subst (AllHold t w) (sym (caused_is w l)) (all_happen_hold (happenings w l) t w all (line_may w l is e)))
+        (subst (EachHolds os w) (sym (caused_is w l)) (all_happen_hold (happenings w l) os w all (line_may w l is e)))
 
   -- ## Schedules
 
-  pub lines_hold : (lines : List Line) (t : List Entry) (w : NodeWorld) → Holds t w → AllByRecursion Is lines
-      → AllHold t w (events_of_steps (steps_from w lines))
-  lines_hold [] t w all are = all
-  lines_hold (l ∷ lines) t w all are =
+  pub lines_each : (lines : List Line) (os : List Occurrence) (w : NodeWorld) → Holds os w → AllByRecursion Is lines
+      → EachHolds os w (events_of_steps (steps_from w lines))
+  lines_each [] os w all are = all
+  lines_each (l ∷ lines) os w all are =
       let v : NodeWorld = (line_step w l).0 in
       let here : List Occurrence = occurrences_of (line_step w l).1 in
       let later : List Occurrence = events_of_steps (steps_from v lines) in
-      hold-append here later t w (line_holds t w l all are.0)
-      (λ z. subst (λ x. AllHold (t ++ entries_in here) x later) (sym (behind_line w l))
-      (lines_hold lines (t ++ entries_in here) v (subst (λ x. Holds (t ++ entries_in here) x) (behind_line w l) z) are.1))
+      hold-append here later os w (line_holds os w l all are.0)
+      (λ z. subst (λ x. EachHolds (os ++ here) x later) (sym (behind_line w l))
+      (lines_each lines (os ++ here) v (subst (λ x. Holds (os ++ here) x) (behind_line w l) z) are.1))
+
+-- what holds of a world by the entries before it
+module _ (Holds : List Entry → NodeWorld → Type 0) (May : NodeWorld → Happening → Type 0) (Is : Line → Type 0)
+    (lasts : (t : List Entry) (w : NodeWorld) (c : Happening) → Holds t w → May w c → Holds (t ++ (world_step w c).1) (world_step w c).0)
+    (line_may : (w : NodeWorld) (l : Line) → Is l → refusal_in w l ≡ None → AllMay May w (happenings w l)) where
+  abbrev pub Behind : List Entry → List Occurrence → NodeWorld → Type 0
+  Behind t os w = Holds (t ++ entries_in os) w
+
+  pub goes_on_so : (t : List Entry) (os : List Occurrence) (w : NodeWorld) (c : Happening) → Behind t os w → May w c
+      → Behind t (os ++ occurs w c ∷ []) (world_step w c).0
+  goes_on_so t os w c all may =
+      let u : List Entry = (world_step w c).1 in
+      let same : entries_in (os ++ occurs w c ∷ []) ≡ entries_in os ++ u =
+      flat_map-append (λ (o : Occurrence). o.entries) os (occurs w c ∷ []) ∙ ap (λ z. entries_in os ++ z) (append-nil u) in
+      subst (λ z. Holds z (world_step w c).0) (append_assoc t (entries_in os) u ∙ ap (λ z. t ++ z) (sym same)) (lasts (t ++ entries_in os) w c all may)
+
+  -- it holds before each of these events, and behind all of them
+  abbrev pub AllHold : List Entry → NodeWorld → List Occurrence → Type 0
+  AllHold t w events = EachHolds (Behind t) May Is (goes_on_so t) line_may [] w events
+
+  -- behind the first of them
+  pub front_holds : (front back : List Occurrence) (t : List Entry) (w : NodeWorld) → AllHold t w (front ++ back)
+      → Holds (t ++ entries_in front) (world_behind w front)
+  front_holds front back t w a = front_each (Behind t) May Is (goes_on_so t) line_may front back [] w a
+
+  pub lines_hold : (lines : List Line) (t : List Entry) (w : NodeWorld) → Holds t w → AllByRecursion Is lines
+      → AllHold t w (events_of_steps (steps_from w lines))
+  lines_hold lines t w all are =
+      lines_each (Behind t) May Is (goes_on_so t) line_may lines [] w (subst (λ z. Holds z w) (sym (append-nil t)) all) are
 
   pub lines_last : (lines : List Line) (t : List Entry) (w : NodeWorld) → Holds t w → AllByRecursion Is lines
       → Holds (t ++ entries_of_steps (steps_from w lines)) (world_after w lines)

@@ -30,7 +30,7 @@ use Rattle.node_telling.proofs.Parts.{IsStep}
 use Rattle.node_telling.specs.Standing.{Standing, without_power, after_power, standing, StandsOf}
 use Rattle.node_telling.proofs.Walks.{AreUncut}
 use Rattle.node_telling.proofs.Powers.{entries_uncut, begins_powered, steps_powered}
-use Rattle.node_telling.proofs.Shapes.{shaped_step, twice, IsAtEnd, step_stands, step_away, own_frames, all_frames}
+use Rattle.node_telling.proofs.Shapes.{shaped_step, twice, IsAtEnd, comes_stands, step_away, own_frames, all_frames}
 use Rattle.node_telling.proofs.Steps.{only, Opening, Goes, stepped, begun, closed, frames_of, away_steps, away_begun}
 
 -- ## Lists
@@ -179,12 +179,11 @@ module _ (w : NodeWorld) (r : Running) (k : ℕ) (comes : Comes) (h : ℕ) (s : 
       (after_controller w k comes (controller_work w r k comes (steps (AtEnd k i)))).1
   controller_stands i q =
       let v : Work = controller_work w r k comes (steps (AtEnd k i)) in
-      let out = all_frames Controller (λ x. wires_for x.link (comes_to k comes x.host)) v w.sites in
-      step_stands h 0 Controller (λ x. refl) v (flat_map (λ x. frames_noted Controller x.host (wires_for x.link (comes_to k comes x.host)) v) w.sites)
-      (step_entries Controller s.link (comes_to k comes h) (turns_at v h) (ending_of v))
+      comes_stands h 0 Controller (λ x. refl) v (flat_map (λ x. frames_noted Controller x.host (wires_for x.link (comes_to k comes x.host)) v) w.sites)
+      (comes_to k comes h) (step_entries Controller s.link (comes_to k comes h) (turns_at v h) (ending_of v))
       (steps_powered h 0 (without_power Controller) (λ x. refl) (twice Controller) (AtEnd k i) Start node.number refl
       (entries_uncut k (arrival Controller (link_to w.sites k) comes)))
-      out.0 out.1
+      (all_frames Controller (λ x. wires_for x.link (comes_to k comes x.host)) v w.sites)
       (shaped_step Controller s.link (comes_to k comes h) (turns_at v h) (ending_of v) (input_here k i h) (given i q (h == k) refl) (is_so i (h == k)))
       (controller_tells i q)
 
@@ -264,9 +263,8 @@ module _ (s : Site) (r : Running) (comes : Comes) (host : (s.host == 0) ≡ fals
       → TellOf s.host s.link (AtHost (Step comes (turns_at v s.host) (ending_of v))) (noted_by v)
       → StandsOf s.host s.link (AtHost (Step comes (turns_at v s.host) (ending_of v))) (noted_by v)
   host_stands o v q c a told =
-      let out = own_frames Host s.host (wires_for (exchanged s.link) comes) v in
-      step_stands s.host s.host Host (own_power s.host host) v (frames_noted Host s.host (wires_for (exchanged s.link) comes) v)
-      (step_entries Host (exchanged s.link) comes (turns_at v s.host) (ending_of v)) a out.0 out.1
+      comes_stands s.host s.host Host (own_power s.host host) v (frames_noted Host s.host (wires_for (exchanged s.link) comes) v) comes
+      (step_entries Host (exchanged s.link) comes (turns_at v s.host) (ending_of v)) a (own_frames Host s.host (wires_for (exchanged s.link) comes) v)
       (shaped_step Host (exchanged s.link) comes (turns_at v s.host) (ending_of v) o q c) told
 
   pub host_steps : (i : LinkInput) → input_of (exchanged s.link) comes ≡ Some i → HostTells (host_work s r comes (steps (AtEnd s.host i)))

@@ -54,9 +54,10 @@ said_of_link h (e ∷ t) x = go (is_of h (said e)) refl (said_of_link h t)
 
 -- ## What the law of one link notes
 
--- no power is cut
+-- no power is cut, and no activation begins or ends
 abbrev pub IsClear : Noted → Type 0
 IsClear (Cut who) = ⊥
+IsClear (Restarted who) = ⊥
 IsClear _ = Unit {0}
 
 abbrev pub AreClear : List Noted → Type 0

@@ -15,7 +15,7 @@ use Rattle.message_link.specs.Links.{NumberedEnd, Link, Ending, Comes, Loss, Nod
 use Rattle.message_link.specs.Links.Ending.{GoesOut, CutOff}
 use Rattle.message_link.specs.Links.Comes.{NextFrame, AsksReset, Starts, Stops, NoInput}
 use Rattle.message_link.specs.Links.Loss.{TooOld, TooMany}
-use Rattle.link_entries.specs.Entries.{End as Side, Entry as Noted, far, if_so, told, told_of, turn_entry, sent_unless, turn_entries, first_lost, pushed_out, wire_with, puts_entries, ending_entries, rest_entries, input_entries, left_after, restart_entries, step_entries, aged_entries, tick_entries}
+use Rattle.link_entries.specs.Entries.{End as Side, Entry as Noted, far, if_so, told, told_of, turn_entry, sent_unless, turn_entries, first_lost, pushed_out, wire_with, puts_entries, ending_entries, rest_entries, input_entries, left_after, step_entries, aged_entries, tick_entries}
 use Rattle.link_entries.specs.Entries.End.{Controller, Host}
 use Rattle.link_entries.specs.Entries.Entry.{Up, Down, Active, GaveUp, Acked, Got, Took, Lost, Restarted, Cut}
 use Rattle.history.specs.Filters.{said}
@@ -34,6 +34,7 @@ use Rattle.node_telling.proofs.Parts.{IsStep}
 pub clear-append : (xs ys : List Noted) → AreClear xs → AreClear ys → AreClear (xs ++ ys)
 clear-append [] ys a b = b
 clear-append (Cut w ∷ xs) ys a b = absurd a.0
+clear-append (Restarted w ∷ xs) ys a b = absurd a.0
 clear-append (x ∷ xs) ys a b = (a.0, clear-append xs ys a.1 b)
 
 clear_so : (b : Bool) (x : Noted) → AreClear (x ∷ []) → AreClear (if_so b x)
@@ -136,35 +137,79 @@ shaped_input : (who : Side) (l : Link) (i : LinkInput) (ts : List Turn) (ending 
 shaped_input who l i ts ending =
     shaped_told who i l.controller (with_ended l (is_some (ended_by l.controller.side i))) (after_input l.controller.side i) ts ending
 
-shaped_restart : (who : Side) (l : Link) (i : LinkInput) (ts : List Turn) (ending : Ending) → IsShaped who ending (restart_entries who l i ts ending)
-shaped_restart who l i ts ending =
-    let e : LinkEnd = after_input l.controller.side i in
-    shaped_behind who ending (Restarted who ∷ []) (told_of who l.controller i ++ rest_entries who (silent l e) e ts ending) (tt, tt)
-    (shaped_told who i l.controller (silent l e) e ts ending)
-
 pub shaped_tick : (who : Side) (l : Link) (node : Node) → IsShaped who node.ending (tick_entries who l node)
 shaped_tick who l node = shaped_input who l HasTick node.turns node.ending
 
+-- what is noted of a step behind the beginning of activation
+abbrev pub opened_by : Side → Comes → List Noted
+opened_by who (Starts value) = Restarted who ∷ []
+opened_by who Stops = Restarted who ∷ []
+opened_by who _ = []
+
+-- a step, behind the beginning or the end of activation where it has one
+pub record IsStepShaped (who : Side) (comes : Comes) (ending : Ending) (notes : List Noted) : Type 0 where
+  pub rest : List Noted
+  pub shaped : IsShaped who ending rest
+  pub is : notes ≡ opened_by who comes ++ rest
+
 pub shaped_step : (who : Side) (l : Link) (comes : Comes) (ts : List Turn) (ending : Ending) (o : Option LinkInput) → input_of l comes ≡ o → IsStep comes o
-    → IsShaped who ending (step_entries who l comes ts ending)
+    → IsStepShaped who comes ending (step_entries who l comes ts ending)
 shaped_step who l NextFrame ts ending None q c = absurd c
 shaped_step who l NextFrame ts ending (Some i) q c = go l.to_controller q
   where
     at_wire : List OnWire → Link
     at_wire w = record l { to_controller = w }
 
-    go : (w : List OnWire) → input_of (at_wire w) NextFrame ≡ Some i → IsShaped who ending (step_entries who (at_wire w) NextFrame ts ending)
+    go : (w : List OnWire) → input_of (at_wire w) NextFrame ≡ Some i → IsStepShaped who NextFrame ending (step_entries who (at_wire w) NextFrame ts ending)
     go [] e = absurd (cc e)
     go (x ∷ xs) e =
         let k : Link = at_wire (x ∷ xs) in
         let near : NumberedEnd = record k.controller { took = took_with k.controller.took x } in
-        shaped_behind who ending (Took who x.frame ∷ [])
-        (told_of who near (Take x.frame) ++ rest_entries who (left_after k x xs) (after_input k.controller.side (Take x.frame)) ts ending) (tt, tt)
-        (shaped_told who (Take x.frame) near (left_after k x xs) (after_input k.controller.side (Take x.frame)) ts ending)
-shaped_step who l (AsksReset window) ts ending o q c = shaped_input who l (Reset window) ts ending
-shaped_step who l (Starts value) ts ending o q c = shaped_restart who l (Start value) ts ending
-shaped_step who l Stops ts ending o q c = shaped_restart who l Stop ts ending
-shaped_step who l NoInput ts ending o q c = shaped_rest who l l.controller.side ts ending
+        let rest : List Noted = told_of who near (Take x.frame) ++ rest_entries who (left_after k x xs) (after_input k.controller.side (Take x.frame)) ts ending in
+        record {
+          rest = Took who x.frame ∷ rest;
+          shaped = shaped_behind who ending (Took who x.frame ∷ []) rest (tt, tt)
+              (shaped_told who (Take x.frame) near (left_after k x xs) (after_input k.controller.side (Take x.frame)) ts ending);
+          is = refl;
+        }
+shaped_step who l (AsksReset window) ts ending o q c = record { rest = _; shaped = shaped_input who l (Reset window) ts ending; is = refl }
+shaped_step who l (Starts value) ts ending o q c =
+    let e : LinkEnd = after_input l.controller.side (Start value) in
+    record {
+      rest = told_of who l.controller (Start value) ++ rest_entries who (silent l e) e ts ending;
+      shaped = shaped_told who (Start value) l.controller (silent l e) e ts ending;
+      is = refl;
+    }
+shaped_step who l Stops ts ending o q c =
+    let e : LinkEnd = after_input l.controller.side Stop in
+    record {
+      rest = told_of who l.controller Stop ++ rest_entries who (silent l e) e ts ending;
+      shaped = shaped_told who Stop l.controller (silent l e) e ts ending;
+      is = refl;
+    }
+shaped_step who l NoInput ts ending o q c = record { rest = _; shaped = shaped_rest who l l.controller.side ts ending; is = refl }
+
+opened_same : (h : ℕ) (who : Side) (comes : Comes) (notes rest : List Noted) → notes ≡ opened_by who comes ++ rest
+    → of_link h (entries_for h notes) ≡ of_link h (entries_for h rest)
+opened_same h who comes notes rest q = ap (λ z. of_link h (entries_for h z)) q ∙ by comes
+  where
+    by : (c : Comes) → of_link h (entries_for h (opened_by who c ++ rest)) ≡ of_link h (entries_for h rest)
+    by NextFrame = refl
+    by (AsksReset window) = refl
+    by (Starts value) = refl
+    by Stops = refl
+    by NoInput = refl
+
+pub opened_stands : (h : ℕ) (who : Side) (comes : Comes) (notes rest : List Noted) → notes ≡ opened_by who comes ++ rest → (x : Standing)
+    → standing_by_law h x notes ≡ standing_by_law h x rest
+opened_stands h who comes notes rest q x = ap (standing_by_law h x) q ∙ by comes
+  where
+    by : (c : Comes) → standing_by_law h x (opened_by who c ++ rest) ≡ standing_by_law h x rest
+    by NextFrame = refl
+    by (AsksReset window) = refl
+    by (Starts value) = refl
+    by Stops = refl
+    by NoInput = refl
 
 -- ## Nodes
 
@@ -236,6 +281,14 @@ step_stands h n who powers w frames notes a uncut none s told x = go w.cut refl
         ∙ (a.stands x
         ∙ (ap here q
         ∙ (ap (without_power who) (ap (standing_said h x) (sym all) ∙ said_is) ∙ sym (law_is true q))))
+
+-- so it is with the step of an end
+pub comes_stands : (h n : ℕ) (who : Side) (powers : (x : Standing) → after_power h n x ≡ without_power who x) (w : Work) (frames : List Entry) (comes : Comes)
+    (notes : List Noted) → IsAtEnd h n who powers w → AreUncut frames × (w.cut ≡ true → frames ≡ []) → IsStepShaped who comes (ending_of w) notes
+    → of_link h (w.entries ++ frames) ≡ of_link h (entries_for h notes) → (x : Standing) → standing h x (w.entries ++ frames) ≡ standing_by_law h x notes
+comes_stands h n who powers w frames comes notes a out s told x =
+    step_stands h n who powers w frames s.rest a out.0 out.1 s.shaped (told ∙ opened_same h who comes notes s.rest s.is) x
+    ∙ sym (opened_stands h who comes notes s.rest s.is x)
 
 -- a step of a node that has no end on the link
 pub step_away : (h n : ℕ) (powers : (x : Standing) → after_power h n x ≡ x) (w : Work) (frames : List Entry) → Powered h n (λ x. x) powers (λ x. refl) w

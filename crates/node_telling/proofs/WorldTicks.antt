@@ -32,7 +32,7 @@ use Rattle.node_telling.specs.Telling.{of_link, TellOf, HasEnds, IfItRuns, hosts
 use Rattle.node_telling.specs.Standing.{Standing, without_power, stands_noted, standing, law_noted, standing_by_law, StandsOf}
 use Rattle.node_telling.proofs.Walks.{AreUncut}
 use Rattle.node_telling.proofs.Powers.{uncut_flat, entries_uncut, clear_stands, steps_powered}
-use Rattle.node_telling.proofs.Shapes.{clear-append, clear_aged, IsShaped, shaped_tick, shaped_step, twice, step_stands, step_away, own_frames, all_frames}
+use Rattle.node_telling.proofs.Shapes.{clear-append, clear_aged, IsShaped, IsStepShaped, shaped_tick, shaped_step, twice, step_stands, step_away, own_frames, all_frames}
 use Rattle.node_telling.proofs.Accounts.{of-append, of_other}
 use Rattle.node_telling.proofs.Away.{Away}
 use Rattle.node_telling.proofs.Parts.{tick_is}
@@ -388,7 +388,9 @@ module _ (w : NodeWorld) (h : ℕ) (s : Site) (orderly : IsOrderly w) (found : s
     shaped_is true =
         let S : List Noted → Type 0 = IsShaped Controller (ending_of k) in
         subst S (sym (append-nil (step_entries Controller s.link (AsksReset None) (turns_at k h) (ending_of k))))
-        (shaped_step Controller s.link (AsksReset None) (turns_at k h) (ending_of k) (Some (Reset None)) refl tt)
+        (let a : IsStepShaped Controller (AsksReset None) (ending_of k) (step_entries Controller s.link (AsksReset None) (turns_at k h) (ending_of k)) =
+        shaped_step Controller s.link (AsksReset None) (turns_at k h) (ending_of k) (Some (Reset None)) refl tt in
+        subst S (sym a.is) a.shaped)
 
     stands_is : (b : Bool) → Ticked h Controller s.link b k → (x : Standing)
         → standing h x (k.entries ++ flat_map (λ (x : Site). frames_noted Controller x.host x.link k) w.sites)

@@ -11,6 +11,9 @@ use Rattle.link_entries.specs.Entries.Entry.{Cut}
 use Rattle.history.specs.Filters.{Saying, said}
 use Rattle.history.specs.Filters.Saying.{Begins, Ends, Puts, Takes, Loses}
 use Rattle.history.specs.Steps.{entry_of}
+use Rattle.node_world.specs.World.{Happening}
+use Rattle.node_world.specs.World.Happening.{Activates}
+use Rattle.node_world.specs.Lines.{Occurrence}
 
 -- the number of the session of each end, while it has one, and the frames on their way to each end, first the one that it takes next
 pub record Standing : Type 0 where
@@ -61,11 +64,24 @@ abbrev pub stands_noted : ℕ → Standing → Entry → Standing
 stands_noted h x (entry.Cut n) = after_power h n x
 stands_noted h x e = stands_said h x (said e)
 
+-- activation of the link begins: both wires are empty
+abbrev pub with_empty_wires : Standing → Standing
+with_empty_wires x = record x { to_controller = []; to_host = [] }
+
+-- as an event begins: activation of the link with the host k empties its wires
+abbrev pub as_event_begins : ℕ → Happening → Standing → Standing
+as_event_begins h (Activates k sync power) x = if h == k then with_empty_wires x else x
+as_event_begins h _ x = x
+
 -- ## After entries
 
 -- how the link with this host stands behind these entries, where it stood so before
 abbrev pub standing : ℕ → Standing → List Entry → Standing
 standing h x t = fold (stands_noted h) x t
+
+-- how it stands behind these events, from the beginning on
+abbrev pub standing_behind : ℕ → List Occurrence → Standing
+standing_behind h events = fold (λ x o. standing h (as_event_begins h o.cause x) o.entries) new_standing events
 
 -- how it stands by what the law of one link notes
 abbrev pub law_noted : ℕ → Standing → Noted → Standing

@@ -7,6 +7,6 @@ use Rattle.node_order.proofs.sessions_are_read_off_histories_of_nodes.Goals as g
 
 pub returns : goal.returns
 returns c = λ header lines t follows are playable front back q h s found.
-    let a : IsSo header.hosts.items (entries_in front) (world_behind (new_world header.hosts.items) front) =
+    let a : IsSo header.hosts.items front (world_behind (new_world header.hosts.items) front) =
     history_so header lines t follows are playable front back q in
     are_read h s.link (entries_in front) (host_number (world_behind (new_world header.hosts.items) front) h s a.well.orderly found) (a.each h s found).told
