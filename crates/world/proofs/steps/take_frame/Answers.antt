@@ -1,5 +1,4 @@
-use Rattle.std.proofs.Common.{List, ℕ, ◌∷◌, [], ◌++◌, ap, ◌∙◌}
-use Rattle.trace_model.specs.declared.entry.Entry.TheVariants as entry
+use Rattle.std.proofs.Common.{◌∷◌, [], ◌∙◌}
 use Rattle.link_machine.specs.Machine.{LinkEnd, after_input, turn}
 use Rattle.link_machine.specs.Machine.LinkInput.{Take}
 use Rattle.link_machine.specs.Machine.Turn.{FetchMessage}
