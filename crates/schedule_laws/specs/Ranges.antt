@@ -16,8 +16,8 @@ pub record IsNodeHeader (header : Header) : Type 0 where
   pub rising : IsStrictlyIncreasing header.hosts.items
 
 -- a node of this world: the controller, or one of its hosts
-abbrev pub IsNodeOf : Header → ℕ → Type 0
-IsNodeOf header node = (node ≡ 0) ⊎ Contains header.hosts.items node
+abbrev pub IsNodeOfHeader : Header → ℕ → Type 0
+IsNodeOfHeader header node = (node ≡ 0) ⊎ Contains header.hosts.items node
 
 abbrev AreAllBytes : List ℕ → Type 0
 AreAllBytes bytes = All (λ b. b < 256) bytes
@@ -30,7 +30,7 @@ pub record IsActivateLine (header : Header) (host sync power : ℕ) : Type 0 whe
 
 -- one of the next 1,000 writes to the memory of a node fails, and leaves 1 to 64 bytes
 pub record IsArmLine (header : Header) (node nth : ℕ) (fill : List ℕ) : Type 0 where
-  pub known : IsNodeOf header node
+  pub known : IsNodeOfHeader header node
   pub which : (1 ≤ nth) × (nth ≤ 1000)
   pub long : (1 ≤ length fill) × (length fill ≤ 64)
   pub bytes : AreAllBytes fill
@@ -47,12 +47,12 @@ pub record IsInitLine (header : Header) (e : End) (identity : List ℕ) (pipes :
 -- A line that may stand below this header: the forms of links have the ranges that they have everywhere, and the forms of nodes
 -- these.
 abbrev pub IsNodeLineOf : Header → Line → Type 0
-IsNodeLineOf header (line.Boot node) = IsNodeOf header node
-IsNodeLineOf header (line.Cut node) = IsNodeOf header node
+IsNodeLineOf header (line.Boot node) = IsNodeOfHeader header node
+IsNodeLineOf header (line.Cut node) = IsNodeOfHeader header node
 IsNodeLineOf header (line.Activate host sync power) = IsActivateLine header host sync power
 IsNodeLineOf header (line.Arm node nth fill) = IsArmLine header node nth fill.items
 IsNodeLineOf header (line.Init e identity pipes) = IsInitLine header e identity pipes.items
-IsNodeLineOf header (line.Tables node) = IsNodeOf header node
+IsNodeLineOf header (line.Tables node) = IsNodeOfHeader header node
 IsNodeLineOf header said = IsLineOf header said
 
 abbrev pub AreNodeLinesOf : Header → List Line → Type 0
