@@ -12,10 +12,7 @@ use Rattle.shdlc_core.specs.Machine.{EndState, taken, take_answer, ticked, tick_
 use Rattle.link_machine.specs.Machine.{LinkEnd, LinkInput, Refused, is_faulty, is_open, act_answer, role_after, with_act, moved, put_down, activated, heard, had_tick, took, reset_refusal, after_input}
 use Rattle.link_machine.specs.Machine.LinkInput.{Take, TakeUnknown, TakeBroken, Tick, Reset, Start, Stop, FromNode, Fetch}
 use Rattle.node_links.specs.Notices.{IsComing}
-
-moved_aside : (e : LinkEnd) (b : Bool) (s : EndState) → (moved e b s).aside ≡ e.aside
-moved_aside e true s = refl
-moved_aside e false s = refl
+use Rattle.node_links.proofs.Blocks.{moved_aside}
 
 down_aside : (b : Bool) (e : LinkEnd) → (put_down b e).aside ≡ e.aside
 down_aside false e = refl

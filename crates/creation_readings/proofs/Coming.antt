@@ -5,8 +5,8 @@ use Rattle.std.specs.List.{AllByRecursion, flat_map}
 use Rattle.std.specs.Option.{option_map, option_map_or}
 use Rattle.std.proofs.lemmas.Bool.{cases_Bool, eqb-true, eqb-false, ne_eqb, true≢false}
 use Rattle.trace_model.specs.declared.entry.Entry.{Entry}
-use Rattle.shdlc_core.specs.declared.answers.LinkState.TheVariants.{Up, Down}
-use Rattle.link_machine.specs.Machine.{LinkEnd, LinkInput, is_open, after_input, ended_by}
+use Rattle.shdlc_core.specs.declared.answers.LinkState.TheVariants.{Up}
+use Rattle.link_machine.specs.Machine.{LinkEnd, LinkInput, after_input, ended_by}
 use Rattle.link_machine.specs.Machine.LinkInput.{Tick, Reset}
 use Rattle.link_entries.specs.Entries.End.{Controller}
 use Rattle.link_entries.specs.Entries.{told}
@@ -34,7 +34,7 @@ use Rattle.notice_readings.proofs.Far.{asks}
 use Rattle.notice_readings.proofs.Telling.{at_port}
 use Rattle.notice_readings.proofs.Doing.{controller_side}
 use Rattle.notice_readings.proofs.Shut.{input_shut}
-use Rattle.notice_readings.proofs.Stepping.{flat_reads, told_elsewhere, told_here, late_elsewhere}
+use Rattle.notice_readings.proofs.Stepping.{flat_reads, told_elsewhere, told_here, late_elsewhere, reset_ends}
 use Rattle.notice_readings.specs.Worlds.{IsShut}
 use Rattle.creation_readings.specs.Worlds.{IsProperBook}
 use Rattle.creation_readings.proofs.Asks.{Asked, asked_of, waits, asked_map}
@@ -95,13 +95,6 @@ module _ (n : ℕ) (l : List Creation) (p : Port) (fresh : IsFresh p) where
     },
     ap (λ b. cond b None r) (sym (come_over i)),
   )
-
--- an end that is up loses its session by a reset
-reset_ends : (e : LinkEnd) → IsShut e → e.shdlc.phase ≡ Up → is_some (ended_by e (Reset None)) ≡ true
-reset_ends e shut up = go (is_open e.role) refl where
-  go : (b : Bool) → is_open e.role ≡ b → is_some (ended_by e (Reset None)) ≡ true
-  go true o = rw (o, up) refl
-  go false o = let z : Up ≡ Down = sym up ∙ shut o in absurd (cc z)
 
 older_asked : (p : Port) → asked_at (with_older p) ≡ asked_at p
 older_asked p = go p.desk.notice where

@@ -29,7 +29,7 @@ use Rattle.node_telling.proofs.Steps.{without_same, forgets_same}
 use Rattle.notice_readings.proofs.Own.{IsOwn, AreOwn, host_own, forgotten_own, all_owed_own, all_synced_own}
 use Rattle.notice_readings.proofs.Doing.{all_map}
 use Rattle.notice_readings.proofs.Telling.{at_port}
-use Rattle.kept_laws.proofs.Books.{all_append}
+use Rattle.registry.proofs.ValueLemmas.{AllByRecursion-append as all_append}
 use Rattle.creation_readings.proofs.Asides.{input_aside}
 use Rattle.creation_readings.proofs.Doing.{give_aside}
 

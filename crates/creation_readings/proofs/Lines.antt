@@ -1,5 +1,5 @@
 -- What is read of creations over the events of a schedule.
-use Rattle.std.proofs.Common.{◌≡◌, ℕ, List, [], ◌∷◌, ◌++◌, sym, refl, ap, ◌∙◌, subst, append_assoc}
+use Rattle.std.proofs.Common.{◌≡◌, ℕ, List, [], ◌∷◌, ◌++◌, sym, refl, ap, ◌∙◌, subst}
 use Rattle.std.specs.Prelude.{None}
 use Rattle.std.specs.List.{AllByRecursion, flat_map}
 use Rattle.std.proofs.lemmas.List.Concat.{flat_map-append}
@@ -11,14 +11,11 @@ use Rattle.node_world.specs.Lines.{Occurrence, refusal_in, happenings}
 use Rattle.node_world.specs.NodeHistories.{LineStep, NodeHistory, FollowsNodes, steps_from, occurrences_of, occurrences_in, entries_in, node_entries, world_after}
 use Rattle.kept_laws.specs.Hosts.{AreHosts, IsFew, IsSentByHost}
 use Rattle.kept_laws.specs.Worlds.{MayHappen}
-use Rattle.kept_laws.proofs.Lines.{MayAllHappen, line_may}
+use Rattle.kept_laws.proofs.Lines.{MayAllHappen, line_may, few_front}
 use Rattle.node_telling.specs.Telling.{MayBoot, world_behind}
 use Rattle.node_telling.proofs.Lasting.{AllMay, boots_may, events_of_steps, AllHold, front_holds, lines_hold, lines_last}
 use Rattle.creation_readings.specs.Worlds.{KeepsCreations}
 use Rattle.creation_readings.proofs.Worlds.{begin_keeps, event_keeps}
-
-few_front : (xs ys : List Entry) → IsFew (xs ++ ys) → IsFew xs
-few_front xs ys few front back n is = few front (back ++ ys) n (ap (λ l. l ++ ys) is ∙ append_assoc front back ys)
 
 -- what may happen to nodes and their memories
 abbrev May : NodeWorld → Happening → Type 0

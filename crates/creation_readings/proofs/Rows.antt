@@ -10,7 +10,7 @@ use Rattle.hci_tables.specs.declared.command.Command.{Command}
 use Rattle.hci_tables.specs.declared.command.Command.TheVariants.{Create, Delete, Clear, SetOpened, Set, Sync}
 use Rattle.hci_tables.specs.Tables.{HciTables, no_tables, apply, after_commands, with_static}
 use Rattle.node_world.specs.NodeFilters.{Book, new_book, with_command, with_found}
-use Rattle.kept_laws.proofs.Books.{all_append}
+use Rattle.registry.proofs.ValueLemmas.{AllByRecursion-append as all_append}
 use Rattle.creation_readings.specs.Worlds.{IsProper, IsProperCommand, AreProper, IsProperBook}
 
 all_filter : {X : Type 0} (P : X → Type 0) (q : X → Bool) (xs : List X) → AllByRecursion P xs → AllByRecursion P (filter q xs)

@@ -1,7 +1,7 @@
 -- A whole step of a controller: the creation that a host asked for stays the one that is read.
 use Rattle.std.proofs.Common.{◌≡◌, ◌⊎◌, inl, inr, ℕ, ◌+◌, ◌-◌, ◌&&◌, Bool, true, false, not, cond, eqb, List, [], ◌∷◌, ◌++◌, length, map, sym, refl, ap, ◌∙◌, subst, append-nil, arith}
 use Rattle.std.specs.Prelude.{Option, Some, None}
-use Rattle.std.specs.List.{AllByRecursion, flat_map, filter, filter_map, list_any}
+use Rattle.std.specs.List.{AllByRecursion, flat_map, filter, filter_map}
 use Rattle.std.specs.Option.{option_map, option_map_or}
 use Rattle.std.proofs.lemmas.Bool.{cases_Bool, eqb-true}
 use Rattle.trace_model.specs.Lines.{IsHost}
@@ -36,6 +36,8 @@ use Rattle.creation_readings.proofs.Doing.{EndHas, EndAt, IsOn, IsOff, Good, man
 use Rattle.creation_readings.proofs.Deeds.{Fine, then, then_fine, pays_then}
 use Rattle.creation_readings.proofs.Turning.{passes_good}
 use Rattle.creation_readings.proofs.Coming.{ComeAt, AreFlagged, HasCome, came_near, came_tick, over_at}
+use Rattle.notice_readings.proofs.Steps.{sessions_tables}
+use Rattle.registry.proofs.ValueLemmas.{AllByRecursion-append as all_joined}
 
 answer_response : (r : Response) → is_response (answer_of r []) ≡ true
 answer_response response.Ok = refl
@@ -95,10 +97,6 @@ owed_due test (p ∷ ports) a = by_test (test p) refl (owed_due test ports a.1) 
     by_creation None q due = rw (e, q) later
     by_creation (Some c) q due = rw (e, q) (due, later)
 
-all_joined : {X : Type 0} (P : X → Type 0) (xs ys : List X) → AllByRecursion P xs → AllByRecursion P ys → AllByRecursion P (xs ++ ys)
-all_joined P [] ys a b = b
-all_joined P (x ∷ xs) ys a b = (a.0, all_joined P xs ys a.1 b)
-
 -- ## What stays of an end
 
 forgets_ended : (all : List Port) (p : Port) → (forgets all p).ended ≡ p.ended
@@ -110,12 +108,6 @@ forgets_ended all p = go (is_forgotten all (asked_at p)) refl where
 flags_left : (all ports : List Port) → AreFlagged ports → AreFlagged (map (forgets all) ports)
 flags_left all [] f = tt
 flags_left all (p ∷ ports) f = ((λ z. forgets_ended all p ∙ f.0 (sym (forgets_same all p).late ∙ z)), flags_left all ports f.1)
-
-sessions_tables : (core : Core) (ports : List Port) → (after_sessions core ports).tables ≡ core.tables
-sessions_tables core ports = go (list_any is_over ports) refl where
-  go : (b : Bool) → list_any is_over ports ≡ b → (after_sessions core ports).tables ≡ core.tables
-  go true q = rw q refl
-  go false q = rw q refl
 
 -- the creations of this asker among those that are forgotten
 freed_are : (x : ℕ) (all ports : List Port) → owes x (filter (λ (c : Creation). is_over_at all c.asker) (filter_map asked_at ports))

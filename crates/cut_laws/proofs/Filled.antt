@@ -7,7 +7,8 @@ use Rattle.swp_base.specs.InMemory.{Plan, Memory, is_next, plan_after, memory_af
 use Rattle.swp_base.specs.Outside.{overwritten}
 use Rattle.journal_laws.specs.Writes.{Write, after_writes, IsCut}
 use Rattle.journal_laws.specs.Planned.{after_planned}
-use Rattle.kept_laws.proofs.Planned.{content_on, content_torn, plan_on}
+use Rattle.kept_laws.proofs.Planned.{content_on, content_torn}
+use Rattle.journal_laws.proofs.Planned.{plan_of_memory_after as plan_on}
 
 -- The first k of these writes were made whole, and the range of the next one was filled with these bytes, over and over.
 abbrev pub IsFilled : ℕ → List ℕ → List Write → List ℕ → List ℕ → Type 0

@@ -1,7 +1,6 @@
 -- Writes of which the last opens a gate, and what is left where one of them is torn.
-use Rattle.std.proofs.Common.{◌≡◌, ◌⊎◌, inl, inr, ℕ, zero, suc, ◌+◌, ◌<◌, ◌==◌, ◌&&◌, true, false, cond, List, [], ◌∷◌, ◌++◌, length, take, drop, slice_index, sym, ap, ◌∙◌, subst, arith, append_assoc, length-take}
+use Rattle.std.proofs.Common.{◌≡◌, ◌⊎◌, inl, inr, ℕ, zero, suc, ◌+◌, ◌<◌, ◌==◌, ◌&&◌, true, false, cond, List, [], ◌∷◌, ◌++◌, length, slice_index, sym, ap, ◌∙◌, subst, arith}
 use Rattle.std.proofs.lemmas.Bool.{cases_eq, and_left, and_right, ne_eqb, eqb-true}
-use Rattle.std.proofs.lemmas.List.{get_or_at}
 use Rattle.swp_base.specs.Outside.{overwritten}
 use Rattle.swp_base.specs.InMemory.{cycled}
 use Rattle.journal_laws.specs.Banks.{is_opened_gate}
@@ -10,6 +9,7 @@ use Rattle.journal_laws.specs.Journal.{journal}
 use Rattle.journal_laws.specs.Operations.{IsAllOrNothing}
 use Rattle.journal_laws.proofs.Places.{length-overwritten}
 use Rattle.cut_laws.proofs.Filled.{IsFilled, filled_cut, one_filled}
+use Rattle.journal_laws.proofs.Cuts.{at_place as byte_there}
 
 -- the last of these writes opens a gate
 abbrev pub EndsInGate : List Write → Type 0
@@ -24,12 +24,6 @@ behind_one w (next ∷ writes) ends = ends
 pub ends_append : (first later : List Write) → EndsInGate later → EndsInGate (first ++ later)
 ends_append [] later ends = ends
 ends_append (w ∷ first) later ends = behind_one w (first ++ later) (ends_append first later ends)
-
--- the byte of a write of one byte
-byte_there : (c : List ℕ) (at g : ℕ) → at < length c → slice_index (overwritten c at (g ∷ [])) at ≡ g
-byte_there c at g within =
-    ap (λ l. slice_index l at) (append_assoc (take at c) (g ∷ []) (drop (at + 1) c))
-    ∙ get_or_at (take at c) g (drop (at + 1) c) 0 at (omega (arith, length-take at c))
 
 -- what the gate's write leaves where it is torn
 gate_filled : (fill bytes : List ℕ) → bytes ≡ 90 ∷ [] → cycled fill (length bytes) ≡ slice_index fill 0 ∷ []

@@ -21,7 +21,7 @@ use Rattle.node_machine.specs.Carrying.{noting, loses_power, commit}
 use Rattle.node_world.specs.NodeFilters.{Book, book_in, commands_in}
 use Rattle.kept_laws.specs.Finds.{BootFinds, FindsRoom}
 use Rattle.kept_laws.specs.Books.{StillRuns}
-use Rattle.kept_laws.proofs.Planned.{plan_on}
+use Rattle.journal_laws.proofs.Planned.{plan_of_memory_after as plan_on}
 use Rattle.kept_laws.proofs.Commits.{finds_closed, commit_count}
 use Rattle.kept_laws.proofs.Books.{book_more, book_command, closed_command, closed_book}
 use Rattle.kept_laws.specs.Gates.{opens_gate}

@@ -19,7 +19,7 @@ use Rattle.kept_laws.specs.Reckonings.{Reckoning, reckoned}
 use Rattle.kept_laws.specs.Books.{IsOf}
 use Rattle.kept_laws.specs.Hosts.{AreDifferent, AreHosts}
 use Rattle.kept_laws.specs.Worlds.{NodeKeeps, SiteKeeps, AllKeep}
-use Rattle.kept_laws.proofs.Books.{all_append}
+use Rattle.registry.proofs.ValueLemmas.{AllByRecursion-append as all_append}
 use Rattle.kept_laws.proofs.Plainly.{plain_entries, plain_flat}
 use Rattle.kept_laws.proofs.Doing.{GoesOn_or_lost}
 use Rattle.kept_laws.proofs.Stepping.{steps_fine}

@@ -18,7 +18,7 @@ use Rattle.kept_laws.specs.Books.{IsPlain, StillRuns}
 use Rattle.kept_laws.specs.Deeds.{IsOnOrder}
 use Rattle.kept_laws.specs.Hosts.{AreHosts}
 use Rattle.kept_laws.specs.Worlds.{NodeKeeps, SiteKeeps, AllKeep}
-use Rattle.kept_laws.proofs.Books.{all_append}
+use Rattle.registry.proofs.ValueLemmas.{AllByRecursion-append as all_append}
 use Rattle.kept_laws.proofs.Plainly.{plain_entries, plain_flat}
 use Rattle.kept_laws.proofs.Doing.{GoesOn_or_lost}
 use Rattle.kept_laws.proofs.Standing.{runs_begun, told_ended}

@@ -73,10 +73,6 @@ pub plain_own : (n : ℕ) (es : List Entry) → AllByRecursion IsPlain es → Al
 plain_own n [] all = tt
 plain_own n (e ∷ es) all = (plain_own_one n e all.0, plain_own n es all.1)
 
-pub all_append : {X : Type 0} (P : X → Type 0) (xs ys : List X) → AllByRecursion P xs → AllByRecursion P ys → AllByRecursion P (xs ++ ys)
-all_append P [] ys a b = b
-all_append P (x ∷ xs) ys a b = (a.0, all_append P xs ys a.1 b)
-
 pub told_append : (t xs ys : List Entry) → AreToldBehind t xs → AreToldBehind (t ++ xs) ys → AreToldBehind t (xs ++ ys)
 told_append t [] ys a b = subst (λ x. AreToldBehind x ys) (append-nil t) b
 told_append t (x ∷ xs) ys a b = (a.0, told_append (t ++ x ∷ []) xs ys a.1 (subst (λ l. AreToldBehind l ys) (sym (append_assoc t (x ∷ []) xs)) b))

@@ -25,10 +25,10 @@ use Rattle.hci_store.specs.Recordable.{IsRecordable}
 use Rattle.hci_store.specs.Snapshots.{snapshot_of}
 use Rattle.hci_store.specs.Stored.{HoldsTables}
 use Rattle.hci_store.specs.Committing.{record_fits, snapshot_bodies, room_writes, with_room, commit_writes, committed}
-use Rattle.hci_store.proofs.CutShort.{journal_left, holds_still, room_count}
+use Rattle.hci_store.proofs.CutShort.{journal_left, holds_still, room_count, is_body, are_bodies}
 use Rattle.hci_store.proofs.Committed.{all_recordable, holds_more, holds_snapshot}
 use Rattle.kept_laws.specs.Finds.{BootFinds, Knows, FindsRoom}
-use Rattle.kept_laws.proofs.Snapshots.{is_body, are_bodies, snapshot_fits}
+use Rattle.kept_laws.proofs.Snapshots.{snapshot_fits}
 use Rattle.kept_laws.proofs.Planned.{planned_whole, planned_cut}
 
 -- a memory that says what another one says

@@ -35,7 +35,8 @@ use Rattle.kept_laws.specs.Books.{IsOf, WouldFind, StillRuns, HasLostPower}
 use Rattle.kept_laws.specs.Deeds.{IsOnOrder, MayBeDone}
 use Rattle.kept_laws.proofs.Planned.{planned_whole, after_planned-append}
 use Rattle.kept_laws.proofs.Commits.{planned_knows, planned_left, planned_used, commit_count}
-use Rattle.kept_laws.proofs.Books.{book_command, book_more, last_cut, closed_book, closed_command, finds_all, finds_less, would_at, told_append, all_append}
+use Rattle.kept_laws.proofs.Books.{book_command, book_more, last_cut, closed_book, closed_command, finds_all, finds_less, would_at, told_append}
+use Rattle.registry.proofs.ValueLemmas.{AllByRecursion-append as all_append}
 use Rattle.kept_laws.proofs.Plainly.{hosts_map, waits_map, changed_host, changed_waits, runs_plainly, plainly_then, plainly_turn, plainly_desk, plainly_noting, plainly_core, plainly_notified, Plainly}
 
 pub uncut : (f : Work → Work) (w : Work) → w.cut ≡ false → unless_cut f w ≡ f w

@@ -24,7 +24,8 @@ use Rattle.kept_laws.specs.Reckonings.{reckoning_of, MakeOf}
 use Rattle.kept_laws.proofs.Reckoned.{plain_idles, make_idle}
 use Rattle.kept_laws.specs.Books.{IsPlain, IsOf, AreToldBehind, WaitsAbout, WaitsFor, WaitsAt, hosts_of_ends, StillRuns}
 use Rattle.kept_laws.proofs.Asking.{NoneNew, same_new, new_then, may_still, map_new, changed_new}
-use Rattle.kept_laws.proofs.Books.{plain_book, plain_told, plain_own, all_append, told_append}
+use Rattle.kept_laws.proofs.Books.{plain_book, plain_told, plain_own, told_append}
+use Rattle.registry.proofs.ValueLemmas.{AllByRecursion-append as all_append}
 
 -- nothing is written and committed, and what is noted is plain
 pub record Plainly (w v : Work) : Type 0 where

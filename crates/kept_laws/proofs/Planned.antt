@@ -8,7 +8,7 @@ use Rattle.swp_base.specs.Outside.{overwritten, one_more, IsWritten}
 use Rattle.journal_laws.specs.Writes.{Write, after_writes, IsCut, AreMade}
 use Rattle.journal_laws.specs.Planned.{fails_within, after_planned}
 use Rattle.journal_laws.proofs.Made.{made_whole, made_in_part}
-use Rattle.journal_laws.proofs.Planned.{planned_answer}
+use Rattle.journal_laws.proofs.Planned.{planned_answer, plan_of_memory_after as plan_on}
 use Rattle.node_machine.specs.Carrying.{plan_behind}
 
 pub content_on : (m : Memory) (at : ℕ) (bytes : List ℕ) → is_next m.plan ≡ false → (memory_after m at bytes).content ≡ overwritten m.content at bytes
@@ -21,11 +21,6 @@ pub content_torn : (m : Memory) (at : ℕ) (bytes : List ℕ) → is_next m.plan
 content_torn m at bytes next =
     ap (λ b. (cond b (record m { content = overwritten m.content at (torn_bytes m.plan (length bytes)); plan = None; faults = one_more m.faults })
     (record m { content = overwritten m.content at bytes; plan = plan_after m.plan })).content) next
-
-pub plan_on : (m : Memory) (at : ℕ) (bytes : List ℕ) → is_next m.plan ≡ false → (memory_after m at bytes).plan ≡ plan_after m.plan
-plan_on m at bytes later =
-    ap (λ b. (cond b (record m { content = overwritten m.content at (torn_bytes m.plan (length bytes)); plan = None; faults = one_more m.faults })
-    (record m { content = overwritten m.content at bytes; plan = plan_after m.plan })).plan) later
 
 length-torn : (plan : Option Plan) (n : ℕ) → is_next plan ≡ true → length (torn_bytes plan n) ≡ n
 length-torn None n next = absurd (true≢false (sym next))

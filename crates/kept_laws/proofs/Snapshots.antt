@@ -3,13 +3,12 @@ use Rattle.std.proofs.Common.{◌≡◌, ℕ, ◌+◌, ◌*◌, ◌-◌, ◌≤�
 use Rattle.std.specs.List.{AllByRecursion}
 use Rattle.std.proofs.lemmas.Bool.{and_parts}
 use Rattle.sorted_rows.proofs.RowLemmas.{length-rows}
-use Rattle.journal_laws.specs.Records.{IsBody, used}
+use Rattle.journal_laws.specs.Records.{used}
 use Rattle.pipe_table.specs.declared.row.PipeRow.{PipeRow}
 use Rattle.pipe_table.specs.PipeRows.{pid_of}
 use Rattle.registry.specs.declared.value.RegValue.{RegValue}
 use Rattle.registry.specs.Values.{place_of_value, is_kept}
 use Rattle.hci_tables.specs.declared.command.Command.{Command}
-use Rattle.hci_tables.specs.declared.command.Command.TheVariants.{Create, Delete, Clear, SetOpened, Set, Sync}
 use Rattle.hci_tables.specs.Commands.{is_allowed, IsCommand}
 use Rattle.hci_tables.specs.Bodies.{body_of}
 use Rattle.hci_tables.specs.Tables.{HciTables, AreTables, sync_host, static_place}
@@ -17,21 +16,6 @@ use Rattle.hci_store.specs.Recordable.{IsRecordable}
 use Rattle.hci_store.specs.Snapshots.{sync_command, set_command, create_command, open_command, static_command, snapshot_of}
 use Rattle.hci_store.specs.Committing.{snapshot_bodies}
 use Rattle.hci_store.proofs.ReadAgain.{short_value}
-
--- the body of a command is a body
-pub is_body : (c : Command) → IsCommand c → IsBody (body_of c)
-is_body (Create row) may = (omega arith, omega arith)
-is_body (Delete pid) may = (omega arith, omega arith)
-is_body (Clear host) may = (omega arith, omega arith)
-is_body (SetOpened host pid opened) may = (omega arith, omega arith)
-is_body (Set host gate param value) may =
-    let short = short_value host param value.items (and_parts (is_kept host gate param) (is_allowed host param value.items) may).1 in
-    (omega arith, omega (arith, short))
-is_body (Sync host id) may = (omega arith, omega arith)
-
-pub are_bodies : (cs : List Command) → AllByRecursion IsCommand cs → AllByRecursion IsBody (map body_of cs)
-are_bodies [] all = tt
-are_bodies (c ∷ cs) all = (is_body c all.0, are_bodies cs all.1)
 
 -- how many bytes the records of commands take
 abbrev taken : List Command → ℕ

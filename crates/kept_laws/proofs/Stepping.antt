@@ -33,7 +33,7 @@ use Rattle.node_laws.specs.Waiting.{MayWait, IsAllowedStill}
 use Rattle.node_laws.proofs.Values.{whitelist_left}
 use Rattle.node_laws.proofs.Waits.{within, same_list}
 use Rattle.kept_laws.proofs.Asking.{same_new, new_then, map_new}
-use Rattle.kept_laws.proofs.Books.{all_append}
+use Rattle.registry.proofs.ValueLemmas.{AllByRecursion-append as all_append}
 use Rattle.node_machine.specs.Turns.{passes}
 use Rattle.node_machine.specs.Node.{NodeInput, input_at, has_come, told_at, all_come, with_older, is_late, reset_late, told_late, times_out, is_over, is_over_at, is_forgotten, forgotten, forgets, owed, all_owed, without_notice, after_sessions, synced, steps}
 use Rattle.node_machine.specs.Node.NodeInput.{AtEnd, TimePasses}

@@ -19,7 +19,8 @@ use Rattle.kept_laws.specs.Books.{IsPlain, IsOf, AreToldBehind, WaitsFor}
 use Rattle.kept_laws.specs.Deeds.{IsOnOrder}
 use Rattle.kept_laws.specs.Hosts.{AreDifferent, AreHosts}
 use Rattle.kept_laws.specs.Worlds.{NodeKeeps, SiteKeeps, AllKeep}
-use Rattle.kept_laws.proofs.Books.{plain_told, plain_own, all_append, told_append}
+use Rattle.kept_laws.proofs.Books.{plain_told, plain_own, told_append}
+use Rattle.registry.proofs.ValueLemmas.{AllByRecursion-append as all_append}
 use Rattle.kept_laws.proofs.Plainly.{plain_entries, plain_flat}
 use Rattle.kept_laws.proofs.Doing.{GoesOn_or_lost}
 use Rattle.kept_laws.proofs.Standing.{plain_same, other_same, keeps_same, runs_begun, keeps_ended, told_ended}

@@ -31,8 +31,10 @@ use Rattle.message_link.proofs.Finishing.{reset_tells}
 use Rattle.node_world.specs.World.{Site, new_world}
 use Rattle.node_world.specs.NodeHistories.{world_after}
 use Rattle.node_links.specs.Runs.{new_line, ArePlayable, SharesOut}
-use Rattle.node_links.proofs.Ends.{here_is, tick_is, here_host, tick_host}
+use Rattle.node_links.proofs.Ends.{here_is, tick_is, here_host}
+use Rattle.link_entries.proofs.Together.{ticks_host as tick_host}
 use Rattle.node_links.proofs.Obeying.{obey}
+use Rattle.link_machine.proofs.Reports.{shdlc_is as moved_shdlc, moved_sent as sent_moved}
 
 -- ## Messages
 
@@ -140,7 +142,7 @@ turn_within e (Give m) a = go (give_refusal e m) refl where
   go None q = let is : turn e (Give m) ≡ given e m = rw q refl in subst IsWithin (sym is) (given_within e m q a)
   go (Some why) q = let is : turn e (Give m) ≡ e = rw q refl in subst IsWithin (sym is) a
 turn_within e (Hold held) a =
-    same_within e (turn e (Hold held)) refl (ready_acked e.shdlc (not held)) (Rattle.message_link.proofs.Ends.ready_phase e.shdlc (not held)) refl a
+    same_within e (turn e (Hold held)) refl (ready_acked e.shdlc (not held)) (Rattle.session_laws.proofs.Ties.ready-phase e.shdlc (not held)) refl a
 turn_within e FetchMessage a = same_within e (turn e FetchMessage) refl refl refl refl a
 turn_within e SetAside a = go (nat_lt 0 (spare e)) refl where
   go : (b : Bool) → nat_lt 0 (spare e) ≡ b → IsWithin (turn e SetAside)
@@ -188,15 +190,7 @@ fetch_within e a = go e.acts refl where
 
 -- ## Inputs
 
-sent_moved : (e : LinkEnd) (b : Bool) (s : EndState) → SentAfter b e (moved e b s)
-sent_moved e true s = refl
-sent_moved e false s = refl
-
-moved_shdlc : (e : LinkEnd) (b : Bool) (s : EndState) → (moved e b s).shdlc ≡ s
-moved_shdlc e true s = refl
-moved_shdlc e false s = refl
-
-moved_aside : (e : LinkEnd) (b : Bool) (s : EndState) → (moved e b s).aside ≡ e.aside
+pub moved_aside : (e : LinkEnd) (b : Bool) (s : EndState) → (moved e b s).aside ≡ e.aside
 moved_aside e true s = refl
 moved_aside e false s = refl
 

@@ -5,8 +5,6 @@ use Rattle.swp_base.specs.declared.control_frames.Control.{Control}
 use Rattle.swp_base.specs.declared.control_frames.Control.TheVariants.{I, S, Rset, Ua, Act as ActFrame, Clt}
 use Rattle.swp_act.specs.declared.ActEvent.{ActEvent}
 use Rattle.swp_act.specs.declared.ActEvent.TheVariants.{Take as ActTake, Tick as ActTick, Start as ActStart, Stop as ActStop}
-use Rattle.shdlc_core.specs.declared.answers.LinkState.{LinkState}
-use Rattle.shdlc_core.specs.declared.answers.LinkState.TheVariants.{Down, Waiting, Up}
 use Rattle.shdlc_core.specs.Machine.{taken, ticked, tick_answer, take_answer, stopped}
 use Rattle.session_laws.specs.Sessions.{OnWire, is_up}
 use Rattle.link_machine.specs.Machine.{LinkEnd, ActDue, Role, LinkInput, Turn, is_faulty, is_open, role_after, renewed, moved, put_down, activated, heard, took, had_tick, turned, after_input, ended_by, frame_fetched, sent_all, new_link_end}
@@ -21,6 +19,7 @@ use Rattle.message_link.proofs.Steps.{activated_role}
 use Rattle.link_entries.proofs.Stepping.{host_finished}
 use Rattle.link_entries.proofs.Noting.{reset_role}
 use Rattle.node_links.proofs.Got.{Clean, input_clean, turned_clean}
+use Rattle.link_entries.proofs.Settling.{down_role}
 
 -- ## One end
 
@@ -91,20 +90,7 @@ pub here_host : (l : Link) (x : EndEvent) → (happens_at_controller l x).host �
 here_host l (Step comes ts ending) = step_host l comes ts ending
 here_host l (Lose why) = refl
 
-pub tick_host : (l : Link) (ts : List Turn) (ending : Ending) → (ticks_at_controller l ts ending).host ≡ l.host
-tick_host l ts ending =
-    let b : Bool = is_some (ended_by l.controller.side Tick) in
-    host_finished (with_ended l b) (turned (after_input l.controller.side Tick) ts) ending ∙ host_ended l b
-
 -- ## Roles
-
-down_role : (e : LinkEnd) → (put_down true e).role ≡ e.role
-down_role e = go e.shdlc.phase refl
-  where
-    go : (p : LinkState) → e.shdlc.phase ≡ p → (put_down true e).role ≡ e.role
-    go Up q = rw q refl
-    go Waiting q = rw q refl
-    go Down q = rw q refl
 
 module _ (Q : Role → Type 0) (acts : (r : Role) (event : ActEvent) → Q r → Q (role_after r event)) where
   same : (e f : LinkEnd) → f.role ≡ e.role → Q e.role → Q f.role

@@ -13,7 +13,8 @@ use Rattle.message_link.specs.Links.LinkEvent.{AtController, AtHost, Ticks, Tick
 use Rattle.node_world.specs.World.{ticked_so}
 use Rattle.node_links.specs.Runs.{new_line, IsRun, IsRunOf}
 use Rattle.node_links.proofs.Got.{Clean}
-use Rattle.node_links.proofs.Ends.{here_host, tick_host, here_clf, here_uicc, here_clean, tick_clf, tick_uicc, tick_clean}
+use Rattle.node_links.proofs.Ends.{here_host, here_clf, here_uicc, here_clean, tick_clf, tick_uicc, tick_clean}
+use Rattle.link_entries.proofs.Together.{ticks_host as tick_host}
 
 -- ## Runs
 

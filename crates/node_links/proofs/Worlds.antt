@@ -31,7 +31,8 @@ use Rattle.node_world.specs.World.{Site, NodeWorld, wires_for, frames_noted, sit
 use Rattle.node_links.proofs.Got.{Clean}
 use Rattle.node_links.proofs.Deeds.{IsTrueDesk}
 use Rattle.node_links.proofs.Works.{AreFinePorts, IsFineWork, fine_at, steps_fine}
-use Rattle.node_links.proofs.Ends.{here_host, tick_host}
+use Rattle.node_links.proofs.Ends.{here_host}
+use Rattle.link_entries.proofs.Together.{ticks_host as tick_host}
 use Rattle.node_links.proofs.Sites.{IsFineLink, MayCome, controller_steps, host_steps, controller_loses, host_loses, ticks_fine}
 
 -- ## What is kept

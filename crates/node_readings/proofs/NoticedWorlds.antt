@@ -32,7 +32,8 @@ use Rattle.node_world.specs.World.Happening.{Boots, IsCut, Gives, Inits, Takes, 
 use Rattle.node_world.specs.Lines.{happenings}
 use Rattle.node_world.specs.NodeHistories.{world_after}
 use Rattle.node_links.specs.Notices.{IsNoticedUp, OnFirst}
-use Rattle.node_links.proofs.Ends.{here_host, tick_host}
+use Rattle.node_links.proofs.Ends.{here_host}
+use Rattle.link_entries.proofs.Together.{ticks_host as tick_host}
 use Rattle.node_links.proofs.Noticing.{at_all, at_host}
 use Rattle.kept_laws.specs.Hosts.{AreHosts}
 use Rattle.node_telling.specs.Telling.{HasEnds, IfItRuns, hosts_in, IsOrderly}

@@ -1,6 +1,6 @@
 -- Each event of a world but a tick tells of each link.
 use Rattle.std.proofs.Common.{◌≡◌, ℕ, ◌==◌, Bool, true, false, cond, List, [], ◌∷◌, ◌++◌, length, Option, Some, None, map, refl, ap, sym, subst, ◌∙◌, append-nil, append_assoc}
-use Rattle.std.specs.Prelude.{◌&&◌, min, ◌+◌}
+use Rattle.std.specs.Prelude.{◌&&◌, ◌+◌}
 use Rattle.std.specs.List.{AllByRecursion}
 use Rattle.std.proofs.lemmas.Bool.{eqb-true}
 use Rattle.swp_base.specs.InMemory.{Memory}
@@ -24,7 +24,7 @@ use Rattle.node_machine.specs.Parts.{Desk, Running, Work, Deed}
 use Rattle.node_machine.specs.Parts.Deed.{Sends, Orders}
 use Rattle.node_machine.specs.Carrying.{changed_if}
 use Rattle.node_machine.specs.Controller.{is_command_message}
-use Rattle.node_machine.specs.Node.{steps, begins_with, found, boot_writes, with_error, new_desk}
+use Rattle.node_machine.specs.Node.{steps, begins_with, found, boot_writes}
 use Rattle.node_machine.specs.Node.NodeInput.{AtEnd}
 use Rattle.node_world.specs.World.{Site, NodeWorld, Happening, site_at, with_site, link_to, input_of, half_in, arrival, work_of, ending_of, turns_at, runs_on, comes_to, controller_work, link_after_controller, after_controller, controller_does, host_work, after_host, host_does, frames_noted, wires_for, controller_cut, host_cut, loses_power_at, memory_at, with_memory, with_node, links_of, boots, counts, frame_lost, sending, beginning, comes_at, end_c, end_h, activates, world_step}
 use Rattle.node_world.specs.World.Happening.{Boots, IsCut, Gives, Inits, Takes, Loses, Ticks, Resets, Activates, Arms}
@@ -37,6 +37,8 @@ use Rattle.node_telling.proofs.Steps.{notes-append}
 use Rattle.node_telling.proofs.Keeping.{Keeps, steps_keep, begins_keep, runs_keep}
 use Rattle.node_telling.proofs.Nodes.{swapped, site_host, link_is, controller_tells, hosts_same as ends_same}
 use Rattle.node_telling.proofs.Worlds.{site_is, node_is, HostDoes, host_does_step, host_does_begin}
+use Rattle.kept_laws.proofs.Booting.{new_hosts as new_ends}
+use Rattle.kept_laws.proofs.Events.{error_hosts as errors_ends}
 
 -- ## Events of a link
 
@@ -320,10 +322,6 @@ power_goes n w a = go (n == 0)
         goes_site w w.memory w.controller n host_cut (entry.Cut n ∷ []) (λ s. refl) a a.controller (λ s e node. tt)
         (λ s found. tells_one n s.link (AtHost (Step NoInput [] CutOff)) (entry.Cut n ∷ []) refl) (λ h z. refl)
 
-pub new_ends : (hosts : List ℕ) → map (λ (d : Desk). d.host) (map new_desk hosts) ≡ hosts
-new_ends [] = refl
-new_ends (h ∷ hosts) = ap (λ xs. h ∷ xs) (new_ends hosts)
-
 node_goes : (n : ℕ) (r : Running) (w : NodeWorld) (t : List Entry) → r.core.node ≡ n → map (λ (d : Desk). d.host) r.desks ≡ links_of w n
     → ((h : ℕ) → of_link h t ≡ []) → IsOrderly w → EachGoesSo w (with_node n r w) t
 node_goes n r w t number ends q a = go (n == 0) refl
@@ -388,17 +386,6 @@ boots_goes w n a = go (fails_within (length (boot_writes (memory_at w n).content
         (node_goes n r written (entry.Booted n (count_of r.core.journal) ∷ []) refl (new_ends (links_of w n) ∙ links) (λ h. refl) kept.orderly)
 
 -- ## Losses
-
-errors_ends : (h : ℕ) (desks : List Desk) → map (λ (d : Desk). d.host) (with_error h desks) ≡ map (λ (d : Desk). d.host) desks
-errors_ends h [] = refl
-errors_ends h (d ∷ desks) = one (d.host == h) ∙ ap (λ xs. d.host ∷ xs) (errors_ends h desks)
-  where
-    more : Desk → Desk
-    more x = record x { errors = min 65535 (x.errors + 1) }
-
-    one : (b : Bool) → (changed_if b more d).host ∷ map (λ (d : Desk). d.host) (with_error h desks) ≡ d.host ∷ map (λ (d : Desk). d.host) (with_error h desks)
-    one true = refl
-    one false = refl
 
 counts_runs : (n : ℕ) (hosts : List ℕ) (why : Loss) (h : ℕ) (o : Option Running) → IfItRuns n hosts o → IfItRuns n hosts (counts why h o)
 counts_runs n hosts (Broken fault) h None a = tt

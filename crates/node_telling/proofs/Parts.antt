@@ -12,6 +12,7 @@ use Rattle.link_entries.specs.Entries.{End as Side, Entry as Noted, far, told_of
 use Rattle.link_entries.specs.Entries.Entry.{Emit}
 use Rattle.history.specs.Steps.{entries_for}
 use Rattle.node_world.specs.World.{input_of, half_in, arrival, wires_for}
+use Rattle.link_entries.proofs.Noting.{ended_number}
 
 -- ## Frames that go out
 
@@ -55,10 +56,6 @@ rest_is who k l n e turns ending q a =
     ∙ ap (λ z. turn_entries who n e turns ++ z) (ending_alike who k l (turned e turns) ending a)
 
 -- ## A session that ended
-
-ended_number : (l : Link) (b : Bool) → number_of (with_ended l b).controller ≡ number_of l.controller
-ended_number l true = refl
-ended_number l false = refl
 
 ended_alike : (l : Link) (b : Bool) → AreAlike (with_ended l b) l
 ended_alike l true = record { to_host = refl; resets = refl }

@@ -313,7 +313,7 @@ frames_uncut who h l w = go (port_at w.ports h)
     go None = tt
     go (Some p) = entries_uncut h (ending_entries who l p.side (ending_of w))
 
-frames_none : (who : Side) (h : ℕ) (l : Link) (w : Work) → w.cut ≡ true → frames_noted who h l w ≡ []
+pub frames_none : (who : Side) (h : ℕ) (l : Link) (w : Work) → w.cut ≡ true → frames_noted who h l w ≡ []
 frames_none who h l w q = go (port_at w.ports h)
   where
     out : LinkEnd → Bool → List Entry

@@ -9,9 +9,9 @@ use Rattle.swp_act.specs.declared.ActEvent.{ActEvent}
 use Rattle.swp_act.specs.declared.ActEvent.TheVariants.{Start as ActStart, Take as ActTake, Tick as ActTick, Stop as ActStop}
 use Rattle.shdlc_core.specs.declared.answers.LinkState.{LinkState}
 use Rattle.shdlc_core.specs.declared.answers.LinkState.TheVariants.{Down, Waiting, Up}
-use Rattle.shdlc_core.specs.Machine.{taken, take_answer, ticked, tick_answer, stopped}
+use Rattle.shdlc_core.specs.Machine.{ticked, tick_answer, stopped}
 use Rattle.session_laws.proofs.Ties.{fetched-phase}
-use Rattle.link_machine.specs.Machine.{LinkEnd, LinkInput, ActDue, Role, Turn, Refused, is_faulty, is_open, act_answer, role_after, with_act, moved, put_down, activated, heard, had_tick, took, reset_refusal, renewed, new_link_end, sent_all, frame_fetched, after_input, turn, turned}
+use Rattle.link_machine.specs.Machine.{LinkEnd, LinkInput, ActDue, Role, Turn, Refused, is_open, act_answer, role_after, with_act, moved, put_down, activated, heard, had_tick, took, reset_refusal, renewed, new_link_end, sent_all, frame_fetched, after_input, turn, turned}
 use Rattle.link_machine.specs.Machine.LinkInput.{Take, TakeUnknown, TakeBroken, Tick, Reset, Start, Stop, FromNode, Fetch}
 use Rattle.link_machine.specs.Machine.Role.{Bare, Clf, Uicc}
 use Rattle.message_link.specs.Links.{Link, Ending, EndEvent, happens_at_controller, ticks_at_controller}
@@ -22,6 +22,7 @@ use Rattle.node_links.proofs.Ends.{here_is, tick_is}
 use Rattle.node_links.proofs.Noticing.{turn-phase}
 use Rattle.node_readings.proofs.Sites.{sent_phase}
 use Rattle.notice_readings.specs.Worlds.{IsShut}
+use Rattle.link_entries.proofs.Settling.{heard_role}
 
 -- an end becomes one with its role and its phase
 same_shut : (e f : LinkEnd) → f.role ≡ e.role → f.shdlc.phase ≡ e.shdlc.phase → IsShut e → IsShut f
@@ -64,19 +65,6 @@ restart_shut : (e : LinkEnd) (event : ActEvent) → IsShut (activated (moved e t
 restart_shut e event = activated_shut (moved e true (stopped e.shdlc)) event (λ q n. refl)
 
 -- ## Inputs
-
-put_down_role : (e : LinkEnd) → (put_down true e).role ≡ e.role
-put_down_role e = go e.shdlc.phase refl where
-  go : (p : LinkState) → e.shdlc.phase ≡ p → (put_down true e).role ≡ e.role
-  go Up q = rw q refl
-  go Waiting q = rw q refl
-  go Down q = rw q refl
-
-heard_role : (e : LinkEnd) (c : Control) → (heard e c).role ≡ e.role
-heard_role e c = go (is_faulty (taken e.shdlc c).session) refl where
-  go : (b : Bool) → is_faulty (taken e.shdlc c).session ≡ b → (heard e c).role ≡ e.role
-  go true q = rw q (put_down_role e)
-  go false q = rw q (moved_role e (Rattle.std.specs.Prelude.is_some (take_answer e.shdlc c).ended) (taken e.shdlc c))
 
 heard_shut : (e : LinkEnd) (c : Control) (b : Bool) → is_open e.role ≡ b → IsShut e → IsShut (cond b (heard e c) e)
 heard_shut e c true o a = open_shut e (heard e c) (heard_role e c) o

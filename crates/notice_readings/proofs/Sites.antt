@@ -26,7 +26,8 @@ use Rattle.node_machine.specs.Node.{steps, begins_with}
 use Rattle.node_machine.specs.Node.NodeInput.{AtEnd, TimePasses}
 use Rattle.node_world.specs.World.{NodeWorld, Site, site_at, with_site, link_to, ending_of, runs_on, turns_at, input_of, half_in, arrival, wires_for, work_of, frames_noted, host_work, after_host, host_does, host_ticks, hosts_tick, comes_at, sending, beginning}
 use Rattle.node_world.specs.NodeFilters.{notice_in, asking_in}
-use Rattle.node_links.proofs.Ends.{here_host, tick_host}
+use Rattle.node_links.proofs.Ends.{here_host}
+use Rattle.link_entries.proofs.Together.{ticks_host as tick_host}
 use Rattle.node_readings.proofs.Sites.{ending_quiet}
 use Rattle.notice_readings.specs.Notices.{IsKeptNotice, notice_at}
 use Rattle.notice_readings.proofs.Reading.{reads, notice_more}

@@ -202,7 +202,7 @@ older_is r q a = record { kept = λ n. kept q.desk.notice (a.kept n); gone = a.g
   some_of (Some n) z = refl
 
 -- an end that is up loses its session by a reset
-reset_ends : (e : LinkEnd) → IsShut e → e.shdlc.phase ≡ Up → is_some (ended_by e (Reset None)) ≡ true
+pub reset_ends : (e : LinkEnd) → IsShut e → e.shdlc.phase ≡ Up → is_some (ended_by e (Reset None)) ≡ true
 reset_ends e shut up = go (is_open e.role) refl where
   go : (b : Bool) → is_open e.role ≡ b → is_some (ended_by e (Reset None)) ≡ true
   go true o = rw (o, up) refl

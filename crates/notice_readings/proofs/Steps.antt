@@ -77,7 +77,7 @@ without_right p a = go (is_over p) refl where
   go false e = rw e a
 
 -- with sessions a controller doesn't forget its tables
-sessions_tables : (core : Core) (ports : List Port) → (after_sessions core ports).tables ≡ core.tables
+pub sessions_tables : (core : Core) (ports : List Port) → (after_sessions core ports).tables ≡ core.tables
 sessions_tables core ports = go (list_any is_over ports) refl where
   go : (b : Bool) → list_any is_over ports ≡ b → (after_sessions core ports).tables ≡ core.tables
   go true q = rw q refl

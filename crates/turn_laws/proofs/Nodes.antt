@@ -26,7 +26,8 @@ use Rattle.node_world.specs.World.{Site, NodeWorld, site_at, link_to, turns_at, 
 use Rattle.kept_laws.specs.Books.{hosts_of_ends}
 use Rattle.kept_laws.specs.Hosts.{AreDifferent}
 use Rattle.node_links.specs.Notices.{IsOutside}
-use Rattle.node_links.proofs.Ends.{here_host, tick_host}
+use Rattle.node_links.proofs.Ends.{here_host}
+use Rattle.link_entries.proofs.Together.{ticks_host as tick_host}
 use Rattle.node_telling.specs.Telling.{HasEnds, hosts_in}
 use Rattle.node_telling.proofs.Mute.{AreMute}
 use Rattle.node_telling.proofs.Parts.{after_coming}

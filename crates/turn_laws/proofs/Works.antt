@@ -18,7 +18,7 @@ use Rattle.node_machine.specs.Carrying.{port_at, changed_if}
 use Rattle.node_world.specs.World.{Site, NodeWorld, site_at, with_site, turns_at, ending_of, runs_on, arrival, frames_noted, end_c, end_h}
 use Rattle.kept_laws.specs.Books.{hosts_of_ends}
 use Rattle.node_telling.proofs.Nodes.{swapped, site_host}
-use Rattle.node_telling.proofs.Events.{site_map}
+use Rattle.node_telling.proofs.Events.{site_map, changed_host as changed_site}
 use Rattle.node_telling.proofs.Frames.{lost_all, ending_all, arrival_all, wires_all}
 use Rattle.turn_laws.proofs.Queues.{Goes, goes-append, AreStill, still_goes}
 use Rattle.turn_laws.proofs.Ends.{left_by, ended_with}
@@ -131,10 +131,6 @@ pub record SiteGoes (s v : Site) (t : List Entry) : Type 0 where
   pub near : v.link.controller.side.got ≡ s.link.controller.side.got
   pub goes : (q : List Message) → FarWaits q (Some s) → OwnMoves s.host v t q
   pub others : (e : End) → same_end (end_h s.host) e ≡ false → Leaves e t
-
-changed_site : (b : Bool) (g : Site → Site) (s : Site) → (g s).host ≡ s.host → (changed_if b g s).host ≡ s.host
-changed_site true g s q = q
-changed_site false g s q = refl
 
 pub off_near : (b : Bool) → (b && false) ≡ false
 off_near true = refl

@@ -29,7 +29,8 @@ use Rattle.node_world.specs.World.{Site, NodeWorld, Happening, node_at, site_at,
 use Rattle.node_world.specs.World.Happening.{Boots, IsCut, Gives, Inits, Takes, Loses, Ticks, Resets, Activates, Arms}
 use Rattle.node_world.specs.NodeLegal.{node_number}
 use Rattle.kept_laws.proofs.Sites.{with_site_twice}
-use Rattle.node_links.proofs.Ends.{here_host, tick_host}
+use Rattle.node_links.proofs.Ends.{here_host}
+use Rattle.link_entries.proofs.Together.{ticks_host as tick_host}
 use Rattle.node_telling.specs.Telling.{HasEnds, IfItRuns, hosts_in, IsOrderly, MayBoot}
 use Rattle.node_telling.proofs.Mute.{AreMute}
 use Rattle.node_telling.proofs.Nodes.{site_host, link_is}
