@@ -1,0 +1,12 @@
+pub mod Noting
+pub mod Calm
+pub mod Setting
+pub mod Doing
+pub mod Turning
+pub mod Stepping
+pub mod Nodes
+pub mod Worlds
+pub mod Events
+pub mod Losses
+pub mod Lines
+mod Examples

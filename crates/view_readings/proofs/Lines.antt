@@ -1,0 +1,269 @@
+-- What is read of REC_ERROR of all ends over the lines of a schedule.
+use Rattle.std.proofs.Common.{◌≡◌, ℕ, ◌&&◌, Bool, true, false, cond, eqb, List, [], ◌∷◌, ◌++◌, sym, refl, ap, ◌∙◌, subst, arith, append_assoc}
+use Rattle.std.specs.Prelude.{Option, Some, None, is_some, unwrap_or, IsTrue}
+use Rattle.std.specs.List.{AllByRecursion, find}
+use Rattle.std.specs.Option.{option_map}
+use Rattle.std.proofs.lemmas.Bool.{cond_both, true≢false, ne_eqb}
+use Rattle.std.proofs.lemmas.Grind.{flat_map-append}
+use Rattle.trace_model.specs.Lines.{IsHost}
+use Rattle.trace_model.specs.declared.entry.Entry.{Entry}
+use Rattle.trace_model.specs.declared.entry.NoCause.{NoCause}
+use Rattle.trace_model.specs.declared.entry.NoCause.TheVariants as cause
+use Rattle.trace_model.specs.declared.line.End.{End}
+use Rattle.trace_model.specs.declared.line.Header.{Header}
+use Rattle.trace_model.specs.declared.line.Line.{Line}
+use Rattle.trace_model.specs.declared.line.Line.TheVariants as line
+use Rattle.session_laws.specs.Sessions.{OnWire}
+use Rattle.history.specs.Damage.{Verdict}
+use Rattle.history.specs.Damage.Verdict.{Same, LostFor, Undetected}
+use Rattle.history.specs.Follows.{first_verdict, taken_of, if_empty}
+use Rattle.link_machine.specs.Machine.{Message, Refused, give_refusal}
+use Rattle.link_machine.specs.Machine.Refused.{NotUp}
+use Rattle.message_link.specs.Links.Comes.{NextFrame, AsksReset}
+use Rattle.node_machine.specs.Parts.{Desk, Running}
+use Rattle.node_machine.specs.Parts.Deed.{Orders, Sends}
+use Rattle.node_machine.specs.Controller.{is_command_message}
+use Rattle.node_world.specs.World.{NodeWorld, site_at, Happening, node_at, node_of, memory_at, sending, beginning, new_world, world_step}
+use Rattle.node_world.specs.World.Happening.{Boots, IsCut, Gives, Inits, Takes, Loses, Ticks, Resets, Activates, Arms}
+use Rattle.node_world.specs.Lines.{first_cause, if_off, machine_in, frames_at, has_order, if_waiting, if_not_sent, refusal_in, happens_by, happenings}
+use Rattle.node_world.specs.NodeFilters.{Book}
+use Rattle.node_world.specs.Lines.{Occurrence}
+use Rattle.node_world.specs.NodeHistories.{NodeHistory, FollowsNodes, steps_from, occurrences_in, entries_in, node_entries, world_after}
+use Rattle.kept_laws.specs.Hosts.{AreHosts, IsSentByHost, IsFew}
+use Rattle.kept_laws.specs.Worlds.{AllKeep, IfRuns, MayHappen}
+use Rattle.kept_laws.proofs.Kept.{all_begin}
+use Rattle.kept_laws.proofs.Lines.{world_goes}
+use Rattle.node_telling.specs.Telling.{IsOrderly, world_behind}
+use Rattle.node_telling.proofs.Mute.{AreMute}
+use Rattle.node_telling.proofs.Orderly.{step_orderly, new_orderly}
+use Rattle.node_telling.proofs.Lasting.{AllMay, repeated_may, events_of_steps, entries_of_steps, AllHold, front_holds, lines_hold, lines_last}
+use Rattle.view_readings.specs.Errors.{ErrorCount, no_errors, errors_in, errors_of, ErrorsAreRead, MayBeCounted}
+use Rattle.view_readings.proofs.Calm.{reads, reads_append, book_reads}
+use Rattle.view_readings.proofs.Setting.{AreUnset}
+use Rattle.view_readings.proofs.Nodes.{IfKeeps}
+use Rattle.view_readings.proofs.Worlds.{far_node, near_node, host_node, own_node_is, Kept, Known, After, orderly_fine, far_begins, comes_kept, activates_kept}
+use Rattle.view_readings.proofs.Events.{ticks_kept, cut_kept, memory_kept, boots_kept}
+use Rattle.view_readings.proofs.Losses.{lost_kept}
+
+-- the end of the link with a host is no end of 00
+pub real_of : (e : End) → IsHost e.link → e.at_host ≡ true → eqb e.link 0 ≡ false
+real_of e host far = ne_eqb e.link 0 (λ z. omega (arith, z, host.0))
+
+-- ## Events
+
+module _ (e : End) (real : e.at_host ≡ true → eqb e.link 0 ≡ false) where
+  sending_unset : (h : ℕ) (m : Message) → AreUnset (sending h m)
+  sending_unset h m = cond_both (eqb m.0 1 && is_command_message m.1) (Orders m.1 ∷ []) (Sends h m ∷ []) AreUnset (λ _. (tt, tt)) (λ _. (tt, tt))
+
+  sending_mute : (h : ℕ) (m : Message) → AreMute (sending h m)
+  sending_mute h m = cond_both (eqb m.0 1 && is_command_message m.1) (Orders m.1 ∷ []) (Sends h m ∷ []) AreMute (λ _. (tt, tt)) (λ _. (tt, tt))
+
+  pub event_kept : (w : NodeWorld) (c : Happening) (x : ErrorCount) → IsOrderly w → Known e real w x → MayBeCounted w c → Kept e real w x
+      → After e real (world_step w c) x
+  event_kept w (Boots n) x orderly known may k = boots_kept e real w n x k
+  event_kept w (IsCut n) x orderly known may k = cut_kept e real w n x k
+  event_kept w (Gives a m) x orderly known may k =
+      far_begins e real w x a.link (sending a.link m) (orderly_fine w orderly) (sending_unset a.link m) (sending_mute a.link m) k
+  event_kept w (Inits a identity pipes) x orderly known may k =
+      far_begins e real w x a.link (beginning identity pipes) (orderly_fine w orderly) (tt, (tt, tt)) (tt, (tt, tt)) k
+  event_kept w (Takes a) x orderly known may k = comes_kept e real w x a NextFrame orderly known k
+  event_kept w (Loses a why) x orderly known may k = lost_kept e real w a x k why may
+  event_kept w Ticks x orderly known may k = ticks_kept e real w x orderly known k
+  event_kept w (Resets a window) x orderly known may k = comes_kept e real w x a (AsksReset window) orderly known k
+  event_kept w (Activates h sync power) x orderly known may k = activates_kept e real w x h sync power orderly known k
+  event_kept w (Arms n plan) x orderly known may k = memory_kept e real w n (record (memory_at w n) { plan = Some plan }) x k
+
+-- what is kept of all ends of links with hosts
+abbrev pub AllKept : List Entry → NodeWorld → Type 0
+AllKept t w = (e : End) (host : IsHost e.link) → Kept e (real_of e host) w (reads e t no_errors)
+
+desk_found : (e : End) (k : ℕ) (desks : List Desk) (n : ℕ) → AllByRecursion (λ (d : Desk). eqb d.host e.link ≡ true → d.errors ≡ k) desks
+    → option_map (λ (d : Desk). d.errors) (find (λ (d : Desk). eqb d.host e.link) desks) ≡ Some n → k ≡ n
+desk_found e k [] n all q = absurd (cc q)
+desk_found e k (d ∷ desks) n all q = by (eqb d.host e.link) refl (desk_found e k desks n all.1) where
+  Told : Option Desk → Type 0
+  Told o = option_map (λ (d : Desk). d.errors) o ≡ Some n
+
+  by : (b : Bool) → eqb d.host e.link ≡ b → (Told (find (λ (d : Desk). eqb d.host e.link) desks) → k ≡ n) → k ≡ n
+  by true z later =
+      let here : Some d.errors ≡ Some n = sym (ap (λ b. option_map (λ (d : Desk). d.errors) (cond b (Some d) (find (λ (d : Desk). eqb d.host e.link) desks))) z) ∙ q in
+      let is : d.errors ≡ n = cc in
+      sym (all.0 z) ∙ is
+  by false z later = later (sym (ap (λ b. option_map (λ (d : Desk). d.errors) (cond b (Some d) (find (λ (d : Desk). eqb d.host e.link) desks))) z) ∙ q)
+
+pub kept_read : (t : List Entry) (w : NodeWorld) → AllKept t w → ErrorsAreRead t w
+kept_read t w all e n host q = by (node_at w (node_of e)) refl q where
+  kept : (o : Option Running) → node_at w (node_of e) ≡ o → IfKeeps e o (reads e t no_errors)
+  kept o is = subst (λ o. IfKeeps e o (reads e t no_errors)) (sym (own_node_is e (real_of e host) w) ∙ is) (all e host)
+
+  by : (o : Option Running) → node_at w (node_of e) ≡ o → errors_of o e.link ≡ Some n → errors_in t e ≡ n
+  by None is z = absurd (cc z)
+  by (Some r) is z = desk_found e (reads e t no_errors).errors r.desks n (kept (Some r) is).desks z
+
+-- a controller that runs has the tables that are read
+pub known_tables : (hosts : List ℕ) (t : List Entry) (w : NodeWorld) (e : End) (real : e.at_host ≡ true → eqb e.link 0 ≡ false) → AllKeep hosts t w
+    → Known e real w (reads e t no_errors)
+known_tables hosts t w e real all near r q =
+    let runs : IfRuns 0 hosts w.memory.content t (Some r) = subst (IfRuns 0 hosts w.memory.content t) q all.controller.runs in
+    runs.tables_are ∙ sym (ap (λ (b : Book). b.tables) (book_reads e t no_errors))
+
+-- ## What may happen
+
+abbrev pub May : NodeWorld → Happening → Type 0
+May w c = MayHappen w c × MayBeCounted w c
+
+few_front : (xs ys : List Entry) → IsFew (xs ++ ys) → IsFew xs
+few_front xs ys few front back n is = few front (back ++ ys) n (ap (λ l. l ++ ys) is ∙ append_assoc front back ys)
+
+-- where no node has more commands than a journal counts, all nodes keep what is read
+pub record IsSo (hosts : List ℕ) (t : List Entry) (w : NodeWorld) : Type 0 where
+  pub keep : AllKeep hosts t w
+  pub orderly : IsOrderly w
+  pub errors : AllKept t w
+
+abbrev pub IfFew : List ℕ → List Entry → NodeWorld → Type 0
+IfFew hosts t w = IsFew t → IsSo hosts t w
+
+event_so : (hosts : List ℕ) → AreHosts hosts → (t : List Entry) (w : NodeWorld) (c : Happening) → IfFew hosts t w → May w c
+    → IfFew hosts (t ++ (world_step w c).1) (world_step w c).0
+event_so hosts are t w c so may few =
+    let es : List Entry = (world_step w c).1 in
+    let before : IsSo hosts t w = so (few_front t es few) in
+    record {
+      keep = (world_goes hosts are t w c before.keep may.0 (λ n. few t es n refl)).keep;
+      orderly = step_orderly w c before.orderly;
+      errors = λ e host. subst (Kept e (real_of e host) (world_step w c).0) (sym (reads_append e t es no_errors)) (event_kept e (real_of e host) w c
+          (reads e t no_errors) before.orderly (known_tables hosts t w e (real_of e host) before.keep) may.1 (before.errors e host));
+    }
+
+-- ## Lines
+
+first_none : (a b : Option NoCause) → first_cause a b ≡ None → (a ≡ None) × (b ≡ None)
+first_none None b e = (refl, e)
+first_none (Some c) b e = absurd (cc e)
+
+not_waiting : (waits : Bool) (why : Option Refused) → if_waiting waits why ≡ None → waits ≡ false
+not_waiting false why e = refl
+not_waiting true (Some NotUp) e = absurd (cc e)
+not_waiting true _ e = absurd (cc e)
+
+off_none : (o : Option Running) → (cond (is_some o) None (Some cause.Off)) ≡ None → (r : Running) × (o ≡ Some r)
+off_none None e = absurd (cc e)
+off_none (Some r) e = (r, refl)
+
+both_false : (a b : Bool) → (a && b) ≡ false → a ≡ true → b ≡ false
+both_false true b e is = e
+both_false false b e is = absurd (true≢false (sym is))
+
+none_of : (o : Option (List ℕ)) → is_some o ≡ false → o ≡ None
+none_of None e = refl
+none_of (Some x) e = absurd (true≢false e)
+
+send_may : (w : NodeWorld) (e : End) (pid : ℕ) (message : List ℕ) → IsTrue e.at_host → if_not_sent w e (pid, message) ≡ None
+    → MayHappen w (Gives e (pid, message))
+send_may w e pid message side sent r running is =
+    let waits =
+    not_waiting (eqb pid 1 && is_command_message message && has_order (node_at w (node_of e))) (give_refusal (machine_in w e) (pid, message)) sent in
+    let none : has_order (node_at w (node_of e)) ≡ false =
+    both_false (eqb pid 1 && is_command_message message) (has_order (node_at w (node_of e))) waits is in
+    none_of r.core.command (sym (ap has_order node_is) ∙ none)
+  where
+    link_is : node_of e ≡ e.link
+    link_is = ap (λ b. cond b e.link 0) side
+
+    node_is : node_at w (node_of e) ≡ Some r
+    node_is = ap (node_at w) link_is ∙ running
+
+not_empty : (wire : List OnWire) → if_empty wire ≡ None → wire ≡ [] → ⊥
+not_empty [] none e = cc none
+not_empty (x ∷ xs) none e = cc e
+
+damage_may : (w : NodeWorld) (e : End) (places : List ℕ) (wire : List OnWire) → frames_at w e ≡ wire → AllMay May w (happens_by e (first_verdict wire places))
+damage_may w e places [] here = tt
+damage_may w e places (x ∷ xs) here = by (Rattle.history.specs.Damage.verdict_on (Rattle.swp_lpdu.specs.Controls.lpdu_of x.frame) places) where
+  there : frames_at w e ≡ [] → ⊥
+  there none = let no : x ∷ xs ≡ [] = sym here ∙ none in cc no
+
+  by : (v : Verdict) → AllMay May w (happens_by e (Some v))
+  by Same = ((tt, tt), tt)
+  by (LostFor why) = ((tt, there), tt)
+  by (Undetected read) = tt
+
+line_may : (w : NodeWorld) (l : Line) → IsSentByHost l → refusal_in w l ≡ None → AllMay May w (happenings w l)
+line_may w (line.Send e pid message) side none =
+    ((send_may w e pid message side (first_none (if_off w (node_of e)) (if_not_sent w e (pid, message)) none).1, tt), tt)
+line_may w (line.Deliver e count) side none = repeated_may May (Takes e) (λ v. (tt, tt)) (taken_of count (frames_at w e)) w
+line_may w (line.Lose e) side none =
+    ((tt, not_empty (frames_at w e) (first_none (if_off w (node_of e)) (if_empty (frames_at w e)) none).1), tt)
+line_may w (line.Damage e places) side none = damage_may w e places.items (frames_at w e) refl
+line_may w (line.Tick times) side none = repeated_may May Ticks (λ v. (tt, tt)) (unwrap_or times 1) w
+line_may w (line.Reset e window) side none = ((tt, tt), tt)
+line_may w (line.Busy e) side none = tt
+line_may w (line.Ready e) side none = tt
+line_may w (line.Boot n) side none = ((tt, tt), tt)
+line_may w (line.Cut n) side none = ((off_none (node_at w n) none, tt), tt)
+line_may w (line.Activate host sync power) side none = ((tt, tt), tt)
+line_may w (line.Arm n nth fill) side none = ((tt, tt), tt)
+line_may w (line.Init e identity pipes) side none = ((tt, tt), tt)
+line_may w (line.Tables n) side none = tt
+
+-- ## Schedules
+
+pub begun_kept : (hosts : List ℕ) → AllKept [] (new_world hosts)
+begun_kept hosts e host = by e.at_host refl where
+  real : e.at_host ≡ true → eqb e.link 0 ≡ false
+  real = real_of e host
+
+  none_runs : (hosts : List ℕ) → far_node (site_at (new_world hosts).sites e.link) ≡ None
+  none_runs [] = refl
+  none_runs (h ∷ hosts) = cond_both (eqb h e.link) _ _ (λ o. far_node o ≡ None) (λ _. refl) (λ _. none_runs hosts)
+
+  by : (b : Bool) → e.at_host ≡ b → Kept e real (new_world hosts) no_errors
+  by true q = subst (λ o. IfKeeps e o no_errors) (sym (host_node e real (new_world hosts) q ∙ none_runs hosts)) refl
+  by false q = subst (λ o. IfKeeps e o no_errors) (sym (near_node e real (new_world hosts) q)) refl
+
+none_zero : (hosts : List ℕ) → AllByRecursion IsHost hosts → AllByRecursion (λ h. (eqb h 0) ≡ false) hosts
+none_zero [] all = tt
+none_zero (h ∷ hosts) all = (ne_eqb h 0 (λ z. omega (arith, z, all.0.0)), none_zero hosts all.1)
+
+pub schedule_so : (header : Header) (lines : List Line) (t : NodeHistory) → FollowsNodes header lines t → AreHosts header.hosts.items
+    → AllByRecursion IsSentByHost lines → IsFew (node_entries t)
+    → IsSo header.hosts.items (node_entries t) (world_after (new_world header.hosts.items) lines)
+schedule_so header lines t follows are sides few =
+    let hosts : List ℕ = header.hosts.items in
+    let all : IfFew hosts (node_entries t) (world_after (new_world hosts) lines) =
+    subst (λ l. IfFew hosts l (world_after (new_world hosts) lines)) (ap entries_of_steps (sym follows.steps_are))
+    (lines_last (IfFew hosts) May IsSentByHost (event_so hosts are) line_may lines [] (new_world hosts) (λ f. record {
+      keep = all_begin hosts;
+      orderly = new_orderly hosts are.different (none_zero hosts are.all);
+      errors = begun_kept hosts;
+    }) sides) in all few
+
+-- so it is at the end of each event
+pub events_so : (header : Header) (lines : List Line) (t : NodeHistory) → FollowsNodes header lines t → AreHosts header.hosts.items
+    → AllByRecursion IsSentByHost lines → IsFew (node_entries t) → (front back : List Occurrence) → occurrences_in t ≡ front ++ back
+    → IsSo header.hosts.items (entries_in front) (world_behind (new_world header.hosts.items) front)
+events_so header lines t follows are sides few front back parts =
+    let hosts : List ℕ = header.hosts.items in
+    let events : List Occurrence = events_of_steps (steps_from (new_world hosts) lines) in
+    let all : AllHold (IfFew hosts) May IsSentByHost (event_so hosts are) line_may [] (new_world hosts) events =
+    lines_hold (IfFew hosts) May IsSentByHost (event_so hosts are) line_may lines [] (new_world hosts) (λ f. record {
+      keep = all_begin hosts;
+      orderly = new_orderly hosts are.different (none_zero hosts are.all);
+      errors = begun_kept hosts;
+    }) sides in
+    let same : events ≡ front ++ back = sym (ap events_of_steps follows.steps_are) ∙ parts in
+    front_holds (IfFew hosts) May IsSentByHost (event_so hosts are) line_may front back [] (new_world hosts) (subst (AllHold (IfFew hosts) May IsSentByHost
+    (event_so hosts are) line_may [] (new_world hosts)) same all) (few_front (entries_in front) (entries_in back) (subst IsFew (ap entries_in parts
+    ∙ flat_map-append (λ (o : Occurrence). o.entries) front back) few))
+
+pub errors_read_events : (header : Header) (lines : List Line) (t : NodeHistory) → FollowsNodes header lines t → AreHosts header.hosts.items
+    → AllByRecursion IsSentByHost lines → IsFew (node_entries t) → (front back : List Occurrence) → occurrences_in t ≡ front ++ back
+    → ErrorsAreRead (entries_in front) (world_behind (new_world header.hosts.items) front)
+errors_read_events header lines t follows are sides few front back parts =
+    kept_read (entries_in front) (world_behind (new_world header.hosts.items) front) (events_so header lines t follows are sides few front back parts).errors
+
+pub errors_read : (header : Header) (lines : List Line) (t : NodeHistory) → FollowsNodes header lines t → AreHosts header.hosts.items
+    → AllByRecursion IsSentByHost lines → IsFew (node_entries t) → ErrorsAreRead (node_entries t) (world_after (new_world header.hosts.items) lines)
+errors_read header lines t follows are sides few =
+    kept_read (node_entries t) (world_after (new_world header.hosts.items) lines) (schedule_so header lines t follows are sides few).errors
