@@ -1,8 +1,9 @@
--- REC_ERROR as it is read off the entries of small runs.
+-- REC_ERROR and views as they are read off the entries of small runs.
 use Rattle.std.proofs.Common.{◌≡◌, refl, ℕ, List, [], ◌∷◌, ◌++◌}
 use Rattle.std.specs.Prelude.{true, map, Option, Some, None}
 use Rattle.trace_model.specs.declared.entry.Entry.{Entry}
-use Rattle.trace_model.specs.declared.entry.Entry.TheVariants.{Booted, Cut, Command, Lost, Turn, Sent, AnyOk}
+use Rattle.trace_model.specs.declared.entry.Entry.TheVariants.{Booted, Cut, Command, Lost, Up, Down, Turn, Ask, Sent, AnyOk}
+use Rattle.swp_base.specs.declared.link_terms.Cause.TheVariants as cause
 use Rattle.trace_model.specs.declared.entry.LostCause.TheVariants as lost
 use Rattle.trace_model.specs.declared.line.Line.{Line}
 use Rattle.trace_model.specs.declared.line.Line.TheVariants as line
@@ -14,6 +15,7 @@ use Rattle.node_world.specs.World.{NodeWorld, new_world, node_at, end_c, end_h}
 use Rattle.node_world.specs.Lines.{LineOutcome, line_step}
 use Rattle.node_world.specs.NodeHistories.{entries_in, occurrences_of}
 use Rattle.view_readings.specs.Errors.{errors_in, errors_of}
+use Rattle.view_readings.specs.Views.{view_at}
 
 -- ## Entries
 
@@ -57,6 +59,25 @@ booted_counts = refl
 full_counts : read_after (set_right ++ (Turn (end_c 2) 0 (1 ∷ 1 ∷ 255 ∷ 255 ∷ []) ∷ Sent (end_c 2) 1 0 (128 ∷ []) ∷ Lost (end_c 2) (193 ∷ []) lost.Crc ∷ []))
     ≡ 65535 ∷ 2 ∷ []
 full_counts = refl
+
+-- ## Views
+
+-- host 01 asks for a pipe to host 02, which is asked
+abbrev asked_for : List Entry
+asked_for =
+    Booted 0 0 ∷ Up (end_c 1) 1 ∷ Up (end_c 2) 1 ∷ Command 0 (command.SetOpened 1 1 true) ∷ Command 0 (command.SetOpened 2 1 true)
+    ∷ Turn (end_c 1) 1 (16 ∷ 17 ∷ 2 ∷ 18 ∷ []) ∷ Ask 2 (18 ∷ 1 ∷ 17 ∷ 2 ∷ 18 ∷ 2 ∷ []) ∷ Sent (end_c 2) 1 1 (18 ∷ 1 ∷ 17 ∷ 2 ∷ 18 ∷ 2 ∷ []) ∷ []
+
+asked_view : view_at (1 ∷ 2 ∷ 3 ∷ []) asked_for 1
+    ≡ record { hosts = 14; connected = 6; noticed = 4; asked = 4; waiting = record { items = 2 ∷ [] }; errors = 0 }
+unfolding hosts_where
+asked_view = refl
+
+-- the session of host 01 ends: its creation is forgotten, and its notice stays unanswered
+forgotten_view : view_at (1 ∷ 2 ∷ 3 ∷ []) (asked_for ++ Down (end_c 1) cause.Asked ∷ []) 2
+    ≡ record { hosts = 14; connected = 4; noticed = 4; asked = 4; waiting = record { items = [] }; errors = 0 }
+unfolding hosts_where
+forgotten_view = refl
 
 -- ## A run
 

@@ -10,3 +10,4 @@ pub mod Events
 pub mod Losses
 pub mod Lines
 mod Examples
+pub mod Viewing

@@ -1,9 +1,9 @@
 -- What is read of REC_ERROR of all ends over the lines of a schedule.
-use Rattle.std.proofs.Common.{◌≡◌, ℕ, ◌&&◌, Bool, true, false, cond, eqb, List, [], ◌∷◌, ◌++◌, sym, refl, ap, ◌∙◌, subst, arith, append_assoc}
+use Rattle.std.proofs.Common.{◌≡◌, ℕ, ◌&&◌, Bool, true, false, cond, eqb, List, [], ◌∷◌, ◌++◌, sym, refl, ap, ◌∙◌, subst, arith, append_assoc, ◌||◌}
 use Rattle.std.specs.Prelude.{Option, Some, None, is_some, unwrap_or, IsTrue}
 use Rattle.std.specs.List.{AllByRecursion, find}
 use Rattle.std.specs.Option.{option_map}
-use Rattle.std.proofs.lemmas.Bool.{cond_both, true≢false, ne_eqb}
+use Rattle.std.proofs.lemmas.Bool.{cond_both, eqb-true, true≢false, ne_eqb}
 use Rattle.std.proofs.lemmas.Grind.{flat_map-append}
 use Rattle.trace_model.specs.Lines.{IsHost}
 use Rattle.trace_model.specs.declared.entry.Entry.{Entry}
@@ -33,10 +33,13 @@ use Rattle.kept_laws.specs.Hosts.{AreHosts, IsSentByHost, IsFew}
 use Rattle.kept_laws.specs.Worlds.{AllKeep, IfRuns, MayHappen}
 use Rattle.kept_laws.proofs.Kept.{all_begin}
 use Rattle.kept_laws.proofs.Lines.{world_goes}
-use Rattle.node_telling.specs.Telling.{IsOrderly, world_behind}
+use Rattle.node_telling.specs.Telling.{HasEnds, IfItRuns, hosts_in, IsOrderly, MayBoot, world_behind}
 use Rattle.node_telling.proofs.Mute.{AreMute}
 use Rattle.node_telling.proofs.Orderly.{step_orderly, new_orderly}
-use Rattle.node_telling.proofs.Lasting.{AllMay, repeated_may, events_of_steps, entries_of_steps, AllHold, front_holds, lines_hold, lines_last}
+use Rattle.notice_readings.specs.Worlds.{KeepsNotices}
+use Rattle.notice_readings.proofs.Events.{event_read, begins_read}
+use Rattle.notice_readings.proofs.Lines.{notices_of}
+use Rattle.node_telling.proofs.Lasting.{AllMay, repeated_may, stands_none, events_of_steps, entries_of_steps, AllHold, front_holds, lines_hold, lines_last}
 use Rattle.view_readings.specs.Errors.{ErrorCount, no_errors, errors_in, errors_of, ErrorsAreRead, MayBeCounted}
 use Rattle.view_readings.proofs.Calm.{reads, reads_append, book_reads}
 use Rattle.view_readings.proofs.Setting.{AreUnset}
@@ -44,6 +47,10 @@ use Rattle.view_readings.proofs.Nodes.{IfKeeps}
 use Rattle.view_readings.proofs.Worlds.{far_node, near_node, host_node, own_node_is, Kept, Known, After, orderly_fine, far_begins, comes_kept, activates_kept}
 use Rattle.view_readings.proofs.Events.{ticks_kept, cut_kept, memory_kept, boots_kept}
 use Rattle.view_readings.proofs.Losses.{lost_kept}
+use Rattle.node_machine.specs.Controller.{view_for}
+use Rattle.node_readings.specs.Noticed.{ends_between}
+use Rattle.view_readings.specs.Views.{is_one_of, view_at, IsSameView, SessionsAreRead, PipesAreRead}
+use Rattle.view_readings.proofs.Viewing.{same_view}
 
 -- the end of the link with a host is no end of 00
 pub real_of : (e : End) → IsHost e.link → e.at_host ≡ true → eqb e.link 0 ≡ false
@@ -110,7 +117,7 @@ known_tables hosts t w e real all near r q =
 -- ## What may happen
 
 abbrev pub May : NodeWorld → Happening → Type 0
-May w c = MayHappen w c × MayBeCounted w c
+May w c = MayHappen w c × MayBeCounted w c × MayBoot w c
 
 few_front : (xs ys : List Entry) → IsFew (xs ++ ys) → IsFew xs
 few_front xs ys few front back n is = few front (back ++ ys) n (ap (λ l. l ++ ys) is ∙ append_assoc front back ys)
@@ -119,6 +126,7 @@ few_front xs ys few front back n is = few front (back ++ ys) n (ap (λ l. l ++ y
 pub record IsSo (hosts : List ℕ) (t : List Entry) (w : NodeWorld) : Type 0 where
   pub keep : AllKeep hosts t w
   pub orderly : IsOrderly w
+  pub notices : KeepsNotices t w
   pub errors : AllKept t w
 
 abbrev pub IfFew : List ℕ → List Entry → NodeWorld → Type 0
@@ -132,6 +140,7 @@ event_so hosts are t w c so may few =
     record {
       keep = (world_goes hosts are t w c before.keep may.0 (λ n. few t es n refl)).keep;
       orderly = step_orderly w c before.orderly;
+      notices = event_read t w c before.notices may.2;
       errors = λ e host. subst (Kept e (real_of e host) (world_step w c).0) (sym (reads_append e t es no_errors)) (event_kept e (real_of e host) w c
           (reads e t no_errors) before.orderly (known_tables hosts t w e (real_of e host) before.keep) may.1 (before.errors e host));
     }
@@ -185,26 +194,26 @@ damage_may w e places (x ∷ xs) here = by (Rattle.history.specs.Damage.verdict_
   there none = let no : x ∷ xs ≡ [] = sym here ∙ none in cc no
 
   by : (v : Verdict) → AllMay May w (happens_by e (Some v))
-  by Same = ((tt, tt), tt)
-  by (LostFor why) = ((tt, there), tt)
+  by Same = ((tt, tt, tt), tt)
+  by (LostFor why) = ((tt, there, tt), tt)
   by (Undetected read) = tt
 
 line_may : (w : NodeWorld) (l : Line) → IsSentByHost l → refusal_in w l ≡ None → AllMay May w (happenings w l)
 line_may w (line.Send e pid message) side none =
-    ((send_may w e pid message side (first_none (if_off w (node_of e)) (if_not_sent w e (pid, message)) none).1, tt), tt)
-line_may w (line.Deliver e count) side none = repeated_may May (Takes e) (λ v. (tt, tt)) (taken_of count (frames_at w e)) w
+    ((send_may w e pid message side (first_none (if_off w (node_of e)) (if_not_sent w e (pid, message)) none).1, tt, tt), tt)
+line_may w (line.Deliver e count) side none = repeated_may May (Takes e) (λ v. (tt, tt, tt)) (taken_of count (frames_at w e)) w
 line_may w (line.Lose e) side none =
-    ((tt, not_empty (frames_at w e) (first_none (if_off w (node_of e)) (if_empty (frames_at w e)) none).1), tt)
+    ((tt, not_empty (frames_at w e) (first_none (if_off w (node_of e)) (if_empty (frames_at w e)) none).1, tt), tt)
 line_may w (line.Damage e places) side none = damage_may w e places.items (frames_at w e) refl
-line_may w (line.Tick times) side none = repeated_may May Ticks (λ v. (tt, tt)) (unwrap_or times 1) w
-line_may w (line.Reset e window) side none = ((tt, tt), tt)
+line_may w (line.Tick times) side none = repeated_may May Ticks (λ v. (tt, tt, tt)) (unwrap_or times 1) w
+line_may w (line.Reset e window) side none = ((tt, tt, tt), tt)
 line_may w (line.Busy e) side none = tt
 line_may w (line.Ready e) side none = tt
-line_may w (line.Boot n) side none = ((tt, tt), tt)
-line_may w (line.Cut n) side none = ((off_none (node_at w n) none, tt), tt)
-line_may w (line.Activate host sync power) side none = ((tt, tt), tt)
-line_may w (line.Arm n nth fill) side none = ((tt, tt), tt)
-line_may w (line.Init e identity pipes) side none = ((tt, tt), tt)
+line_may w (line.Boot n) side none = ((tt, tt, stands_none (node_at w n) none), tt)
+line_may w (line.Cut n) side none = ((off_none (node_at w n) none, tt, tt), tt)
+line_may w (line.Activate host sync power) side none = ((tt, tt, tt), tt)
+line_may w (line.Arm n nth fill) side none = ((tt, tt, tt), tt)
+line_may w (line.Init e identity pipes) side none = ((tt, tt, tt), tt)
 line_may w (line.Tables n) side none = tt
 
 -- ## Schedules
@@ -236,6 +245,7 @@ schedule_so header lines t follows are sides few =
     (lines_last (IfFew hosts) May IsSentByHost (event_so hosts are) line_may lines [] (new_world hosts) (λ f. record {
       keep = all_begin hosts;
       orderly = new_orderly hosts are.different (none_zero hosts are.all);
+      notices = begins_read hosts are;
       errors = begun_kept hosts;
     }) sides) in all few
 
@@ -250,6 +260,7 @@ events_so header lines t follows are sides few front back parts =
     lines_hold (IfFew hosts) May IsSentByHost (event_so hosts are) line_may lines [] (new_world hosts) (λ f. record {
       keep = all_begin hosts;
       orderly = new_orderly hosts are.different (none_zero hosts are.all);
+      notices = begins_read hosts are;
       errors = begun_kept hosts;
     }) sides in
     let same : events ≡ front ++ back = sym (ap events_of_steps follows.steps_are) ∙ parts in
@@ -267,3 +278,32 @@ pub errors_read : (header : Header) (lines : List Line) (t : NodeHistory) → Fo
     → AllByRecursion IsSentByHost lines → IsFew (node_entries t) → ErrorsAreRead (node_entries t) (world_after (new_world header.hosts.items) lines)
 errors_read header lines t follows are sides few =
     kept_read (node_entries t) (world_after (new_world header.hosts.items) lines) (schedule_so header lines t follows are sides few).errors
+
+-- ## Views
+
+all_one : (hosts : List ℕ) (h : ℕ) → AllByRecursion IsHost hosts → is_one_of hosts h ≡ true → IsHost h
+all_one [] h all one = absurd (true≢false (sym one))
+all_one (k ∷ hosts) h all one = by (eqb k h) refl (all_one hosts h all.1) where
+  by : (b : Bool) → eqb k h ≡ b → (is_one_of hosts h ≡ true → IsHost h) → IsHost h
+  by true q later = subst IsHost (eqb-true k h q) all.0
+  by false q later = later (sym (ap (λ b. b || is_one_of hosts h) q) ∙ one)
+
+-- the view that a controller has is the one that is read, where sessions and creations are
+pub view_read : (header : Header) (lines : List Line) (t : NodeHistory) → FollowsNodes header lines t → AreHosts header.hosts.items
+    → AllByRecursion IsSentByHost lines → IsFew (node_entries t) → (front back : List Occurrence) → occurrences_in t ≡ front ++ back → (r : Running)
+    → (world_behind (new_world header.hosts.items) front).controller ≡ Some r
+    → SessionsAreRead (entries_in front) (world_behind (new_world header.hosts.items) front)
+    → PipesAreRead header.hosts.items (entries_in front) (ends_between (world_behind (new_world header.hosts.items) front).sites r)
+    → (h : ℕ) → is_one_of header.hosts.items h ≡ true
+    → IsSameView (view_for r.core.tables (ends_between (world_behind (new_world header.hosts.items) front).sites r) h)
+    (view_at header.hosts.items (entries_in front) h)
+view_read header lines t follows are sides few front back parts r runs sessions pipes h one =
+    let hosts : List ℕ = header.hosts.items in
+    let w : NodeWorld = world_behind (new_world hosts) front in
+    let es : List Entry = entries_in front in
+    let so : IsSo hosts es w = events_so header lines t follows are sides few front back parts in
+    let has : HasEnds 0 (hosts_in w.sites) r = subst (IfItRuns 0 (hosts_in w.sites)) runs so.orderly.controller in
+    let keeps : IfRuns 0 hosts w.memory.content es (Some r) = subst (IfRuns 0 hosts w.memory.content es) runs so.keep.controller.runs in
+    subst (λ hs. IsSameView (view_for r.core.tables (ends_between w.sites r) h) (view_at hs es h)) so.keep.hosts_are
+    (same_view es w r runs has keeps.tables_are (notices_of es w so.notices) (kept_read es w so.errors) sessions h (all_one hosts h are.all one)
+    (subst (λ hs. is_one_of hs h ≡ true) (sym so.keep.hosts_are) one) (subst (λ hs. PipesAreRead hs es (ends_between w.sites r)) (sym so.keep.hosts_are) pipes))
