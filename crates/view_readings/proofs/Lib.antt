@@ -10,4 +10,9 @@ pub mod Events
 pub mod Losses
 pub mod Lines
 mod Examples
+mod InitExamples
 pub mod Viewing
+pub mod Answering
+pub mod Going
+pub mod Beginning
+pub mod HostInits

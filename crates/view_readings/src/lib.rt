@@ -1,17 +1,31 @@
 //! What a controller and its hosts know at a point of a history of nodes, beyond tables, commands and notices, is read off its entries:
-//! REC_ERROR of each end, and the view of a controller where sessions and creations that wait are. Nothing here runs.
+//! REC_ERROR of each end, the view of a controller where sessions and creations that wait are, and, over the steps of a host, the init
+//! that runs there. Nothing here runs.
 #![tactic(auto)]
 
-ghost use Rattle.std.specs.Prelude.{◌≡◌, ◌++◌, ℕ, true, List, Some};
-ghost use Rattle.std.specs.List.{AllByRecursion};
+ghost use Rattle.std.specs.Prelude.{◌≡◌, ◌∷◌, ◌++◌, ℕ, true, false, [], List, Option, None, Some};
+ghost use Rattle.trace_model.specs.Lines.{IsHost};
+ghost use Rattle.shdlc_core.specs.declared.answers.LinkState.TheVariants.{Up};
+ghost use Rattle.link_machine.specs.Machine.{LinkInput, Message};
+ghost use Rattle.message_link.specs.Links.{Comes, exchanged};
+ghost use Rattle.message_link.specs.Links.Comes.{NoInput};
+ghost use Rattle.std.specs.List.{AllByRecursion, fold};
+ghost use Rattle.swp_base.specs.InMemory.{Memory};
+ghost use Rattle.trace_model.specs.declared.entry.Entry.TheVariants.{Booted, Cut};
 ghost use Rattle.trace_model.specs.declared.line.Header.{Header};
 ghost use Rattle.trace_model.specs.declared.line.Line.{Line};
 ghost use Rattle.hci_tables.specs.Tables.{HciTables};
 ghost use Rattle.gate_admin.specs.declared.view.LinkView.{LinkView};
 ghost use Rattle.gate_admin.specs.Decide.{decided};
-ghost use Rattle.node_machine.specs.Parts.{Running};
+ghost use Rattle.node_machine.specs.Parts.{Init, Running, Work};
+ghost use Rattle.node_machine.specs.Node.{NodeInput, begins_with, found, steps};
+ghost use Rattle.node_machine.specs.Node.NodeInput.{AtEnd};
+ghost use Rattle.node_links.specs.Notices.{IsOutside};
+ghost use Rattle.node_readings.specs.Orders.{IsFresh};
+ghost use Rattle.node_readings.specs.Worlds.{host_does_so, init_of};
+ghost use Rattle.view_readings.specs.Inits.{KeepsInit, SiteKeepsInit, init_after};
 ghost use Rattle.node_machine.specs.Controller.{view_for};
-ghost use Rattle.node_world.specs.World.{new_world};
+ghost use Rattle.node_world.specs.World.{Site, beginning, host_cut, host_ticks, input_of, new_world, sending};
 ghost use Rattle.node_world.specs.Lines.{Occurrence};
 ghost use Rattle.node_world.specs.NodeHistories.{FollowsNodes, NodeHistory, entries_in, node_entries, occurrences_in, world_after};
 ghost use Rattle.kept_laws.specs.Hosts.{AreHosts, IsFew, IsSentByHost};
@@ -53,4 +67,41 @@ pub fn the_view_of_a_controller_is_read_off_histories()
 pub fn views_that_say_the_same_decide_the_same()
     ensures { (t : HciTables) (v u : LinkView) (h pipe instruction : ℕ) (body : List ℕ) → IsSameView v u →
         decided t v h pipe instruction body ≡ decided t u h pipe instruction body }
+{}
+
+/// In each step of a host the init that runs there stays the one that is read off the entries of the step, behind the one with which the
+/// step began: with each response on pipe 01 one more of its commands is answered, and none runs behind its end, the end of the session
+/// or a cut of the host's power. So it is where the host sends a message. And behind a line that begins an init, at an end that is up,
+/// the new one runs. While an init runs, a command of it waits for its answer and the end is up.
+pub fn the_running_init_is_read()
+    ensures step { (h : ℕ) (begun : Option Init) (input : NodeInput) (w : Work) → IsHost h → IsOutside input → KeepsInit h begun w →
+        w.cut ≡ false → AllByRecursion IsFresh w.ports → KeepsInit h begun (steps input w) }
+    ensures sends { (h : ℕ) (begun : Option Init) (m : Message) (w : Work) → IsHost h → KeepsInit h begun w → w.cut ≡ false →
+        KeepsInit h begun (begins_with h (sending h m) w) }
+    ensures begins { (h : ℕ) (begun : Option Init) (identity : List ℕ) (pipes : List (List ℕ)) (w : Work) → IsHost h →
+        (k : KeepsInit h begun w) → w.cut ≡ false → w.entries ≡ [] → k.port.side.shdlc.phase ≡ Up →
+        KeepsInit h (Some (init_of identity pipes)) (begins_with h (beginning identity pipes) w) }
+{}
+
+/// A host keeps the init that is read of it, and none while it doesn't run, over each of its own events: something comes to its end, it
+/// sends a message, it begins an init at an end that is up, it has a tick, its power is cut, or it boots while it doesn't run.
+pub fn a_host_keeps_the_init_that_is_read()
+    ensures comes { (s : Site) (i : Option Init) (r : Running) (comes : Comes) (input : LinkInput) → IsHost s.host → s.node ≡ Some r →
+        SiteKeepsInit i s → input_of (exchanged s.link) comes ≡ Some input →
+        SiteKeepsInit (fold (init_after s.host) i (host_does_so s r comes (steps (AtEnd s.host input))).1)
+        (host_does_so s r comes (steps (AtEnd s.host input))).0 }
+    ensures sends { (s : Site) (i : Option Init) (r : Running) (m : Message) → IsHost s.host → s.node ≡ Some r → SiteKeepsInit i s →
+        SiteKeepsInit (fold (init_after s.host) i (host_does_so s r NoInput (begins_with s.host (sending s.host m))).1)
+        (host_does_so s r NoInput (begins_with s.host (sending s.host m))).0 }
+    ensures begins { (s : Site) (i : Option Init) (r : Running) (identity : List ℕ) (pipes : List (List ℕ)) → IsHost s.host →
+        s.node ≡ Some r → SiteKeepsInit i s → s.link.host.side.shdlc.phase ≡ Up →
+        SiteKeepsInit (fold (init_after s.host) (Some (init_of identity pipes))
+        (host_does_so s r NoInput (begins_with s.host (beginning identity pipes))).1)
+        (host_does_so s r NoInput (begins_with s.host (beginning identity pipes))).0 }
+    ensures ticks { (s : Site) (i : Option Init) → IsHost s.host → SiteKeepsInit i s →
+        SiteKeepsInit (fold (init_after s.host) i (host_ticks s).1) (host_ticks s).0 }
+    ensures cut { (s : Site) (i : Option Init) → SiteKeepsInit (fold (init_after s.host) i (Cut s.host ∷ [])) (host_cut s) }
+    ensures boots { (s : Site) (i : Option Init) (m : Memory) (content : List ℕ) (n : ℕ) → SiteKeepsInit i s → s.node ≡ None →
+        SiteKeepsInit (fold (init_after s.host) i (Booted s.host n ∷ []))
+        (record s { memory = m; node = Some (found s.host (s.host ∷ []) content) }) }
 {}
