@@ -103,16 +103,16 @@ link_neutral h pipe answer = by answer.0 answer.1 where
   by message None = (tt, tt)
   by message (Some errors) = (tt, (tt, tt))
 
-ordered_neutral : (core : Core) (errors pipe instruction : ℕ) (body : List ℕ) → AreNeutral (ordered_deeds core errors pipe instruction body)
+pub ordered_neutral : (core : Core) (errors pipe instruction : ℕ) (body : List ℕ) → AreNeutral (ordered_deeds core errors pipe instruction body)
 ordered_neutral core errors pipe instruction body =
     neutral_if (eqb pipe 1) (notified_deeds core instruction body) _ (notified_neutral core instruction body)
     (neutral_if (eqb pipe 0) (link_deeds core.node 0 (link_served errors instruction body)) _ (link_neutral core.node 0 (link_served errors instruction body))
     (neutral_if (is_gate 5 (gate_of_pipe core pipe)) (answers_on core.node pipe (identity_served gates instruction body)) [] (tt, tt) tt))
 
-learns_neutral : (core : Core) (c : Command) → AreNeutral (learns core c)
+pub learns_neutral : (core : Core) (c : Command) → AreNeutral (learns core c)
 learns_neutral core c = cond_both (is_command c && finds_room core c) (Commits c ∷ []) [] AreNeutral (λ _. (tt, tt)) (λ _. tt)
 
-learned_neutral : (core : Core) (order value : List ℕ) → AreNeutral (learned core order value)
+pub learned_neutral : (core : Core) (order value : List ℕ) → AreNeutral (learned core order value)
 learned_neutral core order value =
     neutral_if (eqb (instruction_in order) 16) (created_by core value) _ (by_row (pipe_named_in value))
     (neutral_if (eqb (instruction_in order) 17) (deleted_by core (body_in order)) _ (by_body (body_in order))

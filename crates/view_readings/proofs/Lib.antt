@@ -16,3 +16,4 @@ pub mod Answering
 pub mod Going
 pub mod Beginning
 pub mod HostInits
+pub mod Elsewhere

@@ -5,7 +5,9 @@ use Rattle.std.specs.Option.{option_map}
 use Rattle.trace_model.specs.declared.entry.Entry.{Entry}
 use Rattle.trace_model.specs.declared.entry.Entry.TheVariants as entry
 use Rattle.shdlc_core.specs.declared.answers.LinkState.TheVariants.{Up}
+use Rattle.link_entries.specs.Entries.End.{Controller, Host}
 use Rattle.history.specs.Filters.{same_end}
+use Rattle.history.specs.Steps.{end_of}
 use Rattle.message_link.specs.Links.{Link}
 use Rattle.node_machine.specs.Parts.{Init, Desk, Running, Port, Work}
 use Rattle.node_world.specs.World.{Site, Happening, runs_on, end_h}
@@ -77,3 +79,13 @@ IfRunsInit h link (Some r) = RunsInit h link r
 pub record SiteKeepsInit (i : Option Init) (s : Site) : Type 0 where
   pub read : i ≡ init_kept s.node
   pub runs : IfRunsInit s.host s.link s.node
+
+-- ## Other nodes
+
+-- an entry tells nothing of the init of a host
+abbrev pub LeavesInit : ℕ → Entry → Type 0
+LeavesInit h x = (i : Option Init) → init_after h i x ≡ i
+
+-- an end of this node on the link with the host k is no end of the host h
+abbrev pub IsNoEndOf : ℕ → ℕ → ℕ → Type 0
+IsNoEndOf h n k = same_end (end_of k (if n == 0 then Controller else Host)) (end_h h) ≡ false

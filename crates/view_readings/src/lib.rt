@@ -3,14 +3,15 @@
 //! that runs there. Nothing here runs.
 #![tactic(auto)]
 
-ghost use Rattle.std.specs.Prelude.{◌≡◌, ◌∷◌, ◌++◌, ℕ, true, false, [], List, Option, None, Some};
+ghost use Rattle.std.specs.Prelude.{◌≡◌, ◌==◌, ◌∷◌, ◌++◌, ℕ, true, false, [], List, Option, None, Some};
 ghost use Rattle.trace_model.specs.Lines.{IsHost};
 ghost use Rattle.shdlc_core.specs.declared.answers.LinkState.TheVariants.{Up};
 ghost use Rattle.link_machine.specs.Machine.{LinkInput, Message};
-ghost use Rattle.message_link.specs.Links.{Comes, exchanged};
+ghost use Rattle.message_link.specs.Links.{Comes, NumberedEnd, exchanged};
 ghost use Rattle.message_link.specs.Links.Comes.{NoInput};
 ghost use Rattle.std.specs.List.{AllByRecursion, fold};
-ghost use Rattle.swp_base.specs.InMemory.{Memory};
+ghost use Rattle.swp_base.specs.InMemory.{Memory, Plan};
+ghost use Rattle.trace_model.specs.declared.entry.Entry.{Entry};
 ghost use Rattle.trace_model.specs.declared.entry.Entry.TheVariants.{Booted, Cut};
 ghost use Rattle.trace_model.specs.declared.line.Header.{Header};
 ghost use Rattle.trace_model.specs.declared.line.Line.{Line};
@@ -23,13 +24,13 @@ ghost use Rattle.node_machine.specs.Node.NodeInput.{AtEnd};
 ghost use Rattle.node_links.specs.Notices.{IsOutside};
 ghost use Rattle.node_readings.specs.Orders.{IsFresh};
 ghost use Rattle.node_readings.specs.Worlds.{host_does_so, init_of};
-ghost use Rattle.view_readings.specs.Inits.{KeepsInit, SiteKeepsInit, init_after};
+ghost use Rattle.view_readings.specs.Inits.{IsNoEndOf, KeepsInit, LeavesInit, SiteKeepsInit, init_after};
 ghost use Rattle.node_machine.specs.Controller.{view_for};
-ghost use Rattle.node_world.specs.World.{Site, beginning, host_cut, host_ticks, input_of, new_world, sending};
+ghost use Rattle.node_world.specs.World.{Site, beginning, host_cut, host_ticks, input_of, new_world, sending, work_of};
 ghost use Rattle.node_world.specs.Lines.{Occurrence};
 ghost use Rattle.node_world.specs.NodeHistories.{FollowsNodes, NodeHistory, entries_in, node_entries, occurrences_in, world_after};
 ghost use Rattle.kept_laws.specs.Hosts.{AreHosts, IsFew, IsSentByHost};
-ghost use Rattle.node_telling.specs.Telling.{world_behind};
+ghost use Rattle.node_telling.specs.Telling.{HasEnds, world_behind};
 ghost use Rattle.node_readings.specs.Noticed.{ends_between};
 ghost use Rattle.view_readings.specs.Errors.{ErrorsAreRead};
 ghost use Rattle.view_readings.specs.Views.{IsSameView, PipesAreRead, SessionsAreRead, is_one_of, view_at};
@@ -104,4 +105,12 @@ pub fn a_host_keeps_the_init_that_is_read()
     ensures boots { (s : Site) (i : Option Init) (m : Memory) (content : List ℕ) (n : ℕ) → SiteKeepsInit i s → s.node ≡ None →
         SiteKeepsInit (fold (init_after s.host) i (Booted s.host n ∷ []))
         (record s { memory = m; node = Some (found s.host (s.host ∷ []) content) }) }
+{}
+
+/// Whatever step another node has, the controller or another host, nothing that is noted in it tells of the init of this host, where
+/// nothing that was noted first does and none of its ends is this host's.
+pub fn steps_of_others_tell_nothing_of_an_init()
+    ensures { (h n : ℕ) (hosts : List ℕ) (r : Running) (plan : Option Plan) (halves : ℕ → NumberedEnd) (es : List Entry) (input : NodeInput) →
+        (n == h) ≡ false → HasEnds n hosts r → AllByRecursion (IsNoEndOf h n) hosts → AllByRecursion (LeavesInit h) es →
+        AllByRecursion (LeavesInit h) (steps input (work_of r plan halves es)).entries }
 {}
