@@ -35,7 +35,7 @@ use Rattle.node_machine.specs.Carrying.{own_side, end_of_node, finds_room}
 use Rattle.node_machine.specs.HostReplies.{replies, accepts, is_welcome, pipe_named_in, pipe_created, pipe_deleted, pipes_cleared, notified_deeds, orders_of, is_same, learns, init_agreed, init_deeds, deleted_by, created_by, learned, response_deeds, is_gate, gate_of_pipe, ordered_deeds, host_deeds}
 use Rattle.node_world.specs.World.{end_h}
 use Rattle.node_world.specs.NodeFilters.{is_response}
-use Rattle.view_readings.specs.Inits.{with_answer, init_after}
+use Rattle.view_readings.specs.Inits.{with_response, init_after}
 
 -- what is read behind these entries, where this was read before
 abbrev pub reads_init : ℕ → List Entry → Option Init → Option Init
@@ -171,20 +171,20 @@ module _ (h : ℕ) (now : LinkState) where
     ended y command is = (is, λ some. absurd (true≢false (sym some)))
 
     -- a response came to a command of an init, and one more is read as answered
-    init_go : (code : ℕ) (value : List ℕ) (init : Option Init) → now ≡ Up → MayGo (option_map with_answer init) None init (init_deeds core code value init)
+    init_go : (code : ℕ) (value : List ℕ) (init : Option Init) → now ≡ Up → MayGo (option_map with_response init) None init (init_deeds core code value init)
     init_go code value None up = ended None None refl
     init_go code value (Some i) up =
-        cond_both (eqb code 0) (init_agreed core i value) (Ends (InitFailed (end_of_node core core.node) code) ∷ []) (MayGo (Some (with_answer i)) None (Some i))
-        (λ _. by_same (is_same core i value) refl) (λ _. ended _ None (over (Some (with_answer i)))) where
+        cond_both (eqb code 0) (init_agreed core i value) (Ends (InitFailed (end_of_node core core.node) code) ∷ []) (MayGo (Some (with_response i)) None (Some i))
+        (λ _. by_same (is_same core i value) refl) (λ _. ended _ None (over (Some (with_response i)))) where
           by_order : (o : Option (List ℕ)) → slice_get (orders_of i) (i.answered + 1) ≡ o → is_same core i value ≡ false
-              → MayGo (Some (with_answer i)) None (Some i) (init_agreed core i value)
-          by_order None q e = rw (e, q) (neutral_go (Some (with_answer i)) None (Some i) (learns core (Set core.node 0 1 (record { items = i.identity })))
+              → MayGo (Some (with_response i)) None (Some i) (init_agreed core i value)
+          by_order None q e = rw (e, q) (neutral_go (Some (with_response i)) None (Some i) (learns core (Set core.node 0 1 (record { items = i.identity })))
               (Ends (InitMade (end_of_node core core.node) (length i.pipes)) ∷ []) (learns_neutral core (Set core.node 0 1 (record { items = i.identity })))
-              (ended _ None (over (Some (with_answer i)))))
+              (ended _ None (over (Some (with_response i)))))
           by_order (Some order) q e = rw (e, q) (refl, λ some. (refl, up))
 
-          by_same : (b : Bool) → is_same core i value ≡ b → MayGo (Some (with_answer i)) None (Some i) (init_agreed core i value)
-          by_same true e = rw e (ended _ None (over (Some (with_answer i))))
+          by_same : (b : Bool) → is_same core i value ≡ b → MayGo (Some (with_response i)) None (Some i) (init_agreed core i value)
+          by_same true e = rw e (ended _ None (over (Some (with_response i))))
           by_same false e = by_order (slice_get (orders_of i) (i.answered + 1)) refl e
 
     none_of : (o : Option Init) → (is_some o ≡ true → ⊥) → o ≡ None
@@ -192,7 +192,7 @@ module _ (h : ℕ) (now : LinkState) where
     none_of (Some i) e = absurd (e refl)
 
     response_go : (code : ℕ) (value : List ℕ) → now ≡ Up → (is_some core.init ≡ true → is_some core.command ≡ true)
-        → MayGo (option_map with_answer core.init) core.command core.init (response_deeds core code value)
+        → MayGo (option_map with_response core.init) core.command core.init (response_deeds core code value)
     response_go code value up waits = by core.command refl where
       none_is : core.command ≡ None → core.init ≡ None
       none_is q = none_of core.init (λ some. true≢false (sym (waits some) ∙ ap is_some q))
@@ -204,23 +204,23 @@ module _ (h : ℕ) (now : LinkState) where
           → response_deeds core code value ≡ Hears ∷ cond (eqb code 0) (learned core order value) [] ++ init_deeds core code value core.init
       heard_is order q = rw q refl
 
-      by : (o : Option (List ℕ)) → core.command ≡ o → MayGo (option_map with_answer core.init) core.command core.init (response_deeds core code value)
-      by None q = subst (MayGo (option_map with_answer core.init) core.command core.init) (sym (silent_is q))
-          (subst (λ i. MayGo (option_map with_answer i) core.command i []) (sym (none_is q)) (ended None core.command refl))
-      by (Some order) q = subst (MayGo (option_map with_answer core.init) core.command core.init) (sym (heard_is order q))
-          (neutral_go (option_map with_answer core.init) None core.init (cond (eqb code 0) (learned core order value) []) (init_deeds core code value core.init)
+      by : (o : Option (List ℕ)) → core.command ≡ o → MayGo (option_map with_response core.init) core.command core.init (response_deeds core code value)
+      by None q = subst (MayGo (option_map with_response core.init) core.command core.init) (sym (silent_is q))
+          (subst (λ i. MayGo (option_map with_response i) core.command i []) (sym (none_is q)) (ended None core.command refl))
+      by (Some order) q = subst (MayGo (option_map with_response core.init) core.command core.init) (sym (heard_is order q))
+          (neutral_go (option_map with_response core.init) None core.init (cond (eqb code 0) (learned core order value) []) (init_deeds core code value core.init)
           (neutral_if (eqb code 0) (learned core order value) [] (learned_neutral core order value) tt) (init_go code value core.init up))
 
     -- what is read of the init behind the turn of a message
     abbrev pub answered_by : Message → Option Init → Option Init
-    answered_by m y = cond (eqb m.0 1 && is_response m.1) (option_map with_answer y) y
+    answered_by m y = cond (eqb m.0 1 && is_response m.1) (option_map with_response y) y
 
     neutral_all : (y : Option Init) (deeds : List Deed) → y ≡ core.init → (is_some core.init ≡ true → (is_some core.command ≡ true) × (now ≡ Up)) → AreNeutral deeds
         → MayGo y core.command core.init deeds
     neutral_all y deeds is waits all = subst (MayGo y core.command core.init) (append-nil deeds) (neutral_go y core.command core.init deeds [] all (is, waits))
 
     not_answered : (m : Message) (y : Option Init) → is_response m.1 ≡ false → answered_by m y ≡ y
-    not_answered m y other = ap (λ b. cond b (option_map with_answer y) y) (off (eqb m.0 1) (is_response m.1) other) where
+    not_answered m y other = ap (λ b. cond b (option_map with_response y) y) (off (eqb m.0 1) (is_response m.1) other) where
       off : (a b : Bool) → b ≡ false → (a && b) ≡ false
       off true b q = q
       off false b q = refl
@@ -277,9 +277,9 @@ module _ (h : ℕ) (now : LinkState) where
 
         by_pipe : (eqb m.0 1 ≡ true) ⊎ (eqb m.0 1 ≡ false) → Fine (cond (eqb m.0 1) (response_deeds core n (body_in m.1)) [])
         by_pipe (inl one) =
-            subst (λ b. MayGo (cond (b && is_response m.1) (option_map with_answer core.init) core.init) core.command core.init (cond b
-            (response_deeds core n (body_in m.1)) [])) (sym one) (subst (λ b. MayGo (cond b (option_map with_answer core.init) core.init) core.command core.init
+            subst (λ b. MayGo (cond (b && is_response m.1) (option_map with_response core.init) core.init) core.command core.init (cond b
+            (response_deeds core n (body_in m.1)) [])) (sym one) (subst (λ b. MayGo (cond b (option_map with_response core.init) core.init) core.command core.init
             (response_deeds core n (body_in m.1))) (sym yes) (response_go n (body_in m.1) (sym phase ∙ up_of p.side.shdlc.phase q) (λ some. (waits some).0)))
         by_pipe (inr off) =
-            subst (λ b. MayGo (cond (b && is_response m.1) (option_map with_answer core.init) core.init) core.command core.init (cond b
+            subst (λ b. MayGo (cond (b && is_response m.1) (option_map with_response core.init) core.init) core.command core.init (cond b
             (response_deeds core n (body_in m.1)) [])) (sym off) (neutral_all core.init [] refl waits tt)

@@ -42,7 +42,7 @@ use Rattle.node_world.specs.World.{end_h, work_of}
 use Rattle.node_telling.specs.Telling.{HasEnds}
 use Rattle.node_telling.proofs.Nodes.{ports_for}
 use Rattle.node_readings.proofs.Silent.{IsQuiet}
-use Rattle.view_readings.specs.Inits.{with_answer, LeavesInit, IsNoEndOf}
+use Rattle.view_readings.specs.Inits.{with_response, LeavesInit, IsNoEndOf}
 use Rattle.view_readings.proofs.Noting.{IsOwnNote, IsBeside, NotesSo, Notes, all-append, all_do, steps_note}
 use Rattle.view_readings.proofs.Answering.{AreNeutral, IsNeutral, ordered_neutral, learned_neutral, learns_neutral}
 
@@ -270,7 +270,7 @@ module _ (h n : ℕ) (other : eqb n h ≡ false) (who : Side) (is_side : cond (e
   note_leaves k x off own = absurd own
 
   turned_leaves : (k pid : ℕ) (message : List ℕ) → IsOff k → LeavesInit h (entry.Turn (end_of k who) pid message)
-  turned_leaves k pid message off = λ y. off_both (same_end (end_of k who) (end_h h)) _ (option_map with_answer y) y off
+  turned_leaves k pid message off = λ y. off_both (same_end (end_of k who) (end_h h)) _ (option_map with_response y) y off
 
   beside_leaves : (x : Entry) → IsBeside n x → LeavesInit h x
   beside_leaves (entry.Held f need spare) b = λ y. refl

@@ -32,7 +32,7 @@ use Rattle.node_world.specs.World.{end_h}
 use Rattle.node_world.specs.NodeFilters.{is_response}
 use Rattle.node_links.proofs.Noticing.{turn-phase}
 use Rattle.node_readings.proofs.Silent.{IsQuiet, host_side, told_rest, rest_quiet}
-use Rattle.view_readings.specs.Inits.{with_answer, init_after}
+use Rattle.view_readings.specs.Inits.{with_response, init_after}
 use Rattle.view_readings.proofs.Answering.{reads_init, init_append, own_end, MayGo, answered_by, host_go}
 
 -- ## What is noted of an end
@@ -250,8 +250,8 @@ module _ (h : ℕ) (host : IsHost h) (i0 : Option Init) where
           read : reads_init h said.entries i0 ≡ answered_by h now w.core b.number (side_of_host w b) m w.core.init
           read =
               init_append h w.entries (entry.Turn (end_of_node w.core h) m.0 m.1 ∷ []) i0
-              ∙ (ap (λ c. cond (c && (eqb m.0 1 && is_response m.1)) (option_map with_answer (reads_init h w.entries i0)) (reads_init h w.entries i0)) own
-              ∙ ap (λ y. cond (eqb m.0 1 && is_response m.1) (option_map with_answer y) y) (s.on on).0)
+              ∙ (ap (λ c. cond (c && (eqb m.0 1 && is_response m.1)) (option_map with_response (reads_init h w.entries i0)) (reads_init h w.entries i0)) own
+              ∙ ap (λ y. cond (eqb m.0 1 && is_response m.1) (option_map with_response y) y) (s.on on).0)
 
     noting_stands : (es : List Entry) (w : Work) → ((y : Option Init) → reads_init h es y ≡ y) → Stands now w → Stands now (noting es w)
     noting_stands es w silent s = record {

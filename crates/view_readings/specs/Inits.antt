@@ -17,12 +17,12 @@ use Rattle.node_world.specs.NodeFilters.{is_response}
 use Rattle.node_readings.specs.Worlds.{init_of}
 
 -- one more of its commands is answered
-abbrev pub with_answer : Init → Init
-with_answer i = record i { answered = i.answered + 1 }
+abbrev pub with_response : Init → Init
+with_response i = record i { answered = i.answered + 1 }
 
 -- after an entry: a response on pipe 01 has its turn at the host, its init ends, its session ends, or it loses its power
 abbrev pub init_after : ℕ → Option Init → Entry → Option Init
-init_after h i (entry.Turn f pid message) = if same_end f (end_h h) && (pid == 1 && is_response message) then option_map with_answer i else i
+init_after h i (entry.Turn f pid message) = if same_end f (end_h h) && (pid == 1 && is_response message) then option_map with_response i else i
 init_after h i (entry.InitSame f) = if same_end f (end_h h) then None else i
 init_after h i (entry.InitMade f count) = if same_end f (end_h h) then None else i
 init_after h i (entry.InitFailed f code) = if same_end f (end_h h) then None else i
