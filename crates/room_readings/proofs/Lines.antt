@@ -3,6 +3,8 @@ use Rattle.std.proofs.Common.{◌≡◌, ℕ, false, eqb, List, Some, ap, sym, �
 use Rattle.trace_model.specs.declared.entry.Entry.{Entry}
 use Rattle.message_link.specs.Links.{Link}
 use Rattle.node_world.specs.World.{Site, NodeWorld, site_at, end_c, end_h}
+use Rattle.node_world.specs.Lines.{Occurrence}
+use Rattle.node_world.specs.NodeHistories.{entries_in}
 use Rattle.node_telling.proofs.Nodes.{site_host, link_is}
 use Rattle.node_telling.proofs.Worlds.{site_is}
 use Rattle.node_order.specs.Told.{IsLinkTold, AreSessionsRead}
@@ -14,18 +16,20 @@ use Rattle.room_readings.specs.Rooms.{AreSparesRead}
 use Rattle.room_readings.proofs.Holding.{controller_end, host_end}
 
 -- the sessions of both ends of a link are read
-sessions_read : (hosts : List ℕ) (t : List Entry) (w : NodeWorld) (h : ℕ) (s : Site) → IsSo hosts t w → site_at w.sites h ≡ Some s → AreSessionsRead t h s.link
-sessions_read hosts t w h s a here =
+sessions_read : (hosts : List ℕ) (os : List Occurrence) (w : NodeWorld) (h : ℕ) (s : Site) → IsSo hosts os w → site_at w.sites h ≡ Some s
+    → AreSessionsRead (entries_in os) h s.link
+sessions_read hosts os w h s a here =
     let number : eqb h 0 ≡ false =
     ap (λ n. eqb n 0) (sym (site_host w.sites h s here)) ∙ site_is (λ (x : Site). eqb x.host 0 ≡ false) w.sites h s a.well.orderly.hosts here in
-    are_read h s.link t number (a.each h s here).told
+    are_read h s.link (entries_in os) number (a.each h s here).told
 
 -- where so are the blocks that are set aside, so is what both ends have to spare
-pub spares_read : (hosts : List ℕ) (t : List Entry) (w : NodeWorld) (h : ℕ) (s : Site) → IsSo hosts t w → AsidesAreRead t w → site_at w.sites h ≡ Some s
-    → AreSparesRead t h s.link
-spares_read hosts t w h s a asides here =
+pub spares_read : (hosts : List ℕ) (os : List Occurrence) (w : NodeWorld) (h : ℕ) (s : Site) → IsSo hosts os w → AsidesAreRead (entries_in os) w
+    → site_at w.sites h ≡ Some s → AreSparesRead (entries_in os) h s.link
+spares_read hosts os w h s a asides here =
+    let t : List Entry = entries_in os in
     let told : IsLinkTold h s.link t = (a.each h s here).told in
-    let sessions : AreSessionsRead t h s.link = sessions_read hosts t w h s a here in
+    let sessions : AreSessionsRead t h s.link = sessions_read hosts os w h s a here in
     let link = link_is w.sites h s here in
     record {
       controller = spare_is t (end_c h) s.link.controller

@@ -17,3 +17,4 @@ pub mod Going
 pub mod Beginning
 pub mod HostInits
 pub mod Elsewhere
+pub mod Whole

@@ -19,7 +19,7 @@ use Rattle.link_machine.specs.Machine.Role.{Bare}
 use Rattle.link_entries.specs.Sessions.{number_now as session_at}
 use Rattle.message_link.specs.Links.{NumberedEnd, Link, new_link}
 use Rattle.node_machine.specs.Parts.{Desk, Running, Port}
-use Rattle.node_machine.specs.Controller.{is_asked_at, is_connected_at, view_for}
+use Rattle.node_machine.specs.Controller.{is_asked_at, is_connected_at, view_for, waiting_pipes}
 use Rattle.node_machine.specs.Carrying.{port_at}
 use Rattle.node_world.specs.World.{NodeWorld, Site, site_at, link_to, port_for, end_c}
 use Rattle.node_world.specs.NodeFilters.{asking_in, is_connected_in, notice_in, session_now, tables_in}
@@ -28,7 +28,8 @@ use Rattle.node_readings.specs.Noticed.{ends_between}
 use Rattle.notice_readings.specs.Notices.{IsKeptNotice, NoticesAreRead, is_of_creation, notice_at, notice_of}
 use Rattle.notice_readings.proofs.Knowing.{noticed_is, asked_is}
 use Rattle.view_readings.specs.Errors.{ErrorsAreRead, errors_in, errors_of}
-use Rattle.view_readings.specs.Views.{is_one_of, asked_pipe_in, view_at, IsSameView, SessionsAreRead, is_asked_of, PipesAreRead}
+use Rattle.view_readings.specs.Views.{is_one_of, view_at, IsSameView}
+use Rattle.creation_readings.specs.Creations.{is_asked_pipe, asked_pipes}
 
 -- ## Lists
 
@@ -104,11 +105,19 @@ link_is sites h s q = ap (λ o. option_map_or (λ (x : Site). x.link) o (new_lin
 
 -- ## Pipes
 
-pipes_same : (t : List Entry) (pid : ℕ) (hosts : List ℕ) → list_any (is_asked_of t pid) hosts ≡ list_any (λ p. eqb p pid) (filter_map (asked_pipe_in t) hosts)
+-- the session that is read at each end of the controller is the one in which it is up, and none where it isn't
+abbrev pub SessionsAreRead : List Entry → NodeWorld → Type 0
+SessionsAreRead t w = (h : ℕ) (s : Site) → site_at w.sites h ≡ Some s → session_now t (end_c h) 0 ≡ session_at s.link.controller
+
+-- of each pipe it is read whether it is that of a creation that waits
+abbrev pub PipesAreRead : List ℕ → List Entry → List Port → Type 0
+PipesAreRead hosts t ports = (pid : ℕ) → list_any (λ p. eqb p pid) (waiting_pipes ports) ≡ list_any (is_asked_pipe t pid) hosts
+
+pipes_same : (t : List Entry) (pid : ℕ) (hosts : List ℕ) → list_any (is_asked_pipe t pid) hosts ≡ list_any (λ p. eqb p pid) (asked_pipes t hosts)
 pipes_same t pid [] = refl
 pipes_same t pid (h ∷ hosts) = by (asking_in t h) refl (pipes_same t pid hosts) where
   Same : List ℕ → Type 0
-  Same hosts = list_any (is_asked_of t pid) hosts ≡ list_any (λ p. eqb p pid) (filter_map (asked_pipe_in t) hosts)
+  Same hosts = list_any (is_asked_pipe t pid) hosts ≡ list_any (λ p. eqb p pid) (asked_pipes t hosts)
 
   by : (o : Option (List ℕ)) → asking_in t h ≡ o → Same hosts → Same (h ∷ hosts)
   by None q later = rw q later

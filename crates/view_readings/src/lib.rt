@@ -30,10 +30,11 @@ ghost use Rattle.node_world.specs.World.{Site, beginning, host_cut, host_ticks, 
 ghost use Rattle.node_world.specs.Lines.{Occurrence};
 ghost use Rattle.node_world.specs.NodeHistories.{FollowsNodes, NodeHistory, entries_in, node_entries, occurrences_in, world_after};
 ghost use Rattle.kept_laws.specs.Hosts.{AreHosts, IsFew, IsSentByHost};
+ghost use Rattle.node_links.specs.Runs.{ArePlayable};
 ghost use Rattle.node_telling.specs.Telling.{HasEnds, world_behind};
 ghost use Rattle.node_readings.specs.Noticed.{ends_between};
 ghost use Rattle.view_readings.specs.Errors.{ErrorsAreRead};
-ghost use Rattle.view_readings.specs.Views.{IsSameView, PipesAreRead, SessionsAreRead, is_one_of, view_at};
+ghost use Rattle.view_readings.specs.Views.{IsSameView, is_one_of, view_at};
 
 /// At the end of each event of a history, and behind any lines of a schedule, REC_ERROR of each end of a link, as its node keeps it while
 /// it runs, is the one that is read off the entries: 0 as the node boots, then what a command sets whose ANY_OK is sent, and one more,
@@ -50,14 +51,12 @@ pub fn errors_are_read_off_histories()
 
 /// At the end of each event of a history the view that a controller which runs has of its links, as a command of one of its hosts comes,
 /// is the one that is read off the entries: which hosts are configured, connected, have a notice to answer, or that of a creation, also of
-/// one that was forgotten, which pipes are those of creations that wait, and REC_ERROR. It asks for what `errors_are_read_off_histories` asks for, and that at that moment the sessions of the
-/// controller's ends and the pipes of creations that wait are those that are read.
+/// one that was forgotten, which pipes are those of creations that wait, and REC_ERROR. It asks for what `errors_are_read_off_histories`
+/// asks for, and for lines that can be played.
 pub fn the_view_of_a_controller_is_read_off_histories()
     ensures { (header : Header) (lines : List Line) (t : NodeHistory) → FollowsNodes header lines t → AreHosts header.hosts.items →
-        AllByRecursion IsSentByHost lines → IsFew (node_entries t) → (front back : List Occurrence) → occurrences_in t ≡ front ++ back →
+        ArePlayable lines → AllByRecursion IsSentByHost lines → IsFew (node_entries t) → (front back : List Occurrence) → occurrences_in t ≡ front ++ back →
         (r : Running) → (world_behind (new_world header.hosts.items) front).controller ≡ Some r →
-        SessionsAreRead (entries_in front) (world_behind (new_world header.hosts.items) front) →
-        PipesAreRead header.hosts.items (entries_in front) (ends_between (world_behind (new_world header.hosts.items) front).sites r) →
         (h : ℕ) → is_one_of header.hosts.items h ≡ true →
         IsSameView (view_for r.core.tables (ends_between (world_behind (new_world header.hosts.items) front).sites r) h)
         (view_at header.hosts.items (entries_in front) h) }

@@ -10,5 +10,5 @@ use Rattle.room_readings.proofs.blocks_to_spare_are_read_off_histories.Goals as 
 pub returns : goal.returns
 returns c = λ header lines t follows are playable sent few front back q h s found.
     let hosts = header.hosts.items in
-    spares_read hosts (entries_in front) (world_behind (new_world hosts) front) h s (history_so header lines t follows are playable front back q)
+    spares_read hosts front (world_behind (new_world hosts) front) h s (history_so header lines t follows are playable front back q)
     (asides_are hosts (entries_in front) (world_behind (new_world hosts) front) (history_keeps header lines t follows are sent few front back q)) found

@@ -1,0 +1,44 @@
+-- The view of a controller over whole histories: sessions and creations that wait are read there.
+use Rattle.std.proofs.Common.{◌≡◌, ℕ, true, List, ◌++◌, Option, Some, None, subst}
+use Rattle.std.specs.List.{AllByRecursion}
+use Rattle.trace_model.specs.declared.entry.Entry.{Entry}
+use Rattle.trace_model.specs.declared.line.Header.{Header}
+use Rattle.trace_model.specs.declared.line.Line.{Line}
+use Rattle.node_machine.specs.Parts.{Running}
+use Rattle.node_machine.specs.Controller.{view_for}
+use Rattle.node_world.specs.World.{NodeWorld, new_world}
+use Rattle.node_world.specs.Lines.{Occurrence}
+use Rattle.node_world.specs.NodeHistories.{NodeHistory, FollowsNodes, occurrences_in, entries_in, node_entries}
+use Rattle.node_links.specs.Runs.{ArePlayable}
+use Rattle.kept_laws.specs.Hosts.{AreHosts, IsFew, IsSentByHost}
+use Rattle.node_telling.specs.Telling.{world_behind}
+use Rattle.node_readings.specs.Noticed.{ends_between}
+use Rattle.node_order.proofs.Lines.{IsSo, host_number, history_so}
+use Rattle.node_order.proofs.Sessions.{are_read}
+use Rattle.creation_readings.specs.Creations.{IfKnowsAsRead}
+use Rattle.creation_readings.proofs.Knowing.{if_known}
+use Rattle.creation_readings.proofs.Lines.{history_keeps}
+use Rattle.view_readings.specs.Views.{is_one_of, view_at, IsSameView}
+use Rattle.view_readings.proofs.Viewing.{SessionsAreRead, PipesAreRead}
+use Rattle.view_readings.proofs.Lines.{view_read}
+
+sessions_are : (hosts : List ℕ) (os : List Occurrence) (w : NodeWorld) → IsSo hosts os w → SessionsAreRead (entries_in os) w
+sessions_are hosts os w so h s found =
+    (are_read h s.link (entries_in os) (host_number w h s so.well.orderly found) (so.each h s found).told).controller
+
+pipes_are : (hosts : List ℕ) (t : List Entry) (w : NodeWorld) (r : Running) → w.controller ≡ Some r → IfKnowsAsRead hosts t w.sites w.controller
+    → PipesAreRead hosts t (ends_between w.sites r)
+pipes_are hosts t w r runs known = (subst (IfKnowsAsRead hosts t w.sites) runs known).waiting
+
+-- the view that a controller has is the one that is read
+pub view_is : (header : Header) (lines : List Line) (t : NodeHistory) → FollowsNodes header lines t → AreHosts header.hosts.items → ArePlayable lines
+    → AllByRecursion IsSentByHost lines → IsFew (node_entries t) → (front back : List Occurrence) → occurrences_in t ≡ front ++ back → (r : Running)
+    → (world_behind (new_world header.hosts.items) front).controller ≡ Some r → (h : ℕ) → is_one_of header.hosts.items h ≡ true
+    → IsSameView (view_for r.core.tables (ends_between (world_behind (new_world header.hosts.items) front).sites r) h)
+    (view_at header.hosts.items (entries_in front) h)
+view_is header lines t follows are playable sent few front back parts r runs =
+    let hosts : List ℕ = header.hosts.items in
+    let w : NodeWorld = world_behind (new_world hosts) front in
+    view_read header lines t follows are sent few front back parts r runs
+    (sessions_are hosts front w (history_so header lines t follows are playable front back parts))
+    (pipes_are hosts (entries_in front) w r runs (if_known hosts (entries_in front) w (history_keeps header lines t follows are sent few front back parts)))
