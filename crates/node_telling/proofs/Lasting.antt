@@ -166,6 +166,53 @@ behind_lines (l ∷ lines) w =
     behind-append (occurrences_of (line_step w l).1) (events_of_steps (steps_from v lines)) w
     ∙ (ap (λ x. world_behind x (events_of_steps (steps_from v lines))) (behind_line w l) ∙ behind_lines lines v)
 
+-- ## Causes
+
+-- each of these events notes what its cause makes of the world before it, and may happen there
+abbrev pub AreCaused : (NodeWorld → Happening → Type 0) → NodeWorld → List Occurrence → Type 0
+AreCaused May w [] = Unit {0}
+AreCaused May w (o ∷ events) = (o.entries ≡ (world_step w o.cause).1) × May w o.cause × AreCaused May (world_step w o.cause).0 events
+
+module _ (May : NodeWorld → Happening → Type 0) (Is : Line → Type 0)
+    (line_may : (w : NodeWorld) (l : Line) → Is l → refusal_in w l ≡ None → AllMay May w (happenings w l)) where
+  caused-append : (xs ys : List Occurrence) (w : NodeWorld) → AreCaused May w xs → AreCaused May (world_behind w xs) ys → AreCaused May w (xs ++ ys)
+  caused-append [] ys w a b = b
+  caused-append (o ∷ xs) ys w a b = (a.0, a.1, caused-append xs ys (world_step w o.cause).0 a.2 b)
+
+  all_caused : (causes : List Happening) (w : NodeWorld) → AllMay May w causes → AreCaused May w (all_happen w causes).1
+  all_caused [] w may = tt
+  all_caused (c ∷ causes) w may = go (can_happen w c) (all_caused causes (world_step w c).0 may.1)
+    where
+      later : NodeWorld × List Occurrence
+      later = all_happen (world_step w c).0 causes
+
+      by : Bool → NodeWorld × List Occurrence
+      by true = (later.0, record { cause = c; entries = (world_step w c).1 } ∷ later.1)
+      by false = (w, [])
+
+      go : (b : Bool) → AreCaused May (world_step w c).0 later.1 → AreCaused May w (by b).1
+      go true z = (refl, may.0, z)
+      go false z = tt
+
+  line_caused : (w : NodeWorld) (l : Line) → Is l → AreCaused May w (occurrences_of (line_step w l).1)
+  line_caused w l is = by_refusal (refusal_in w l) refl where
+    Fine : NodeWorld × LineOutcome → Type 0
+    Fine o = AreCaused May w (occurrences_of o.1)
+
+    by_refusal : (o : Option NoCause) → refusal_in w l ≡ o → Fine (line_step w l)
+    by_refusal (Some cause) e = subst Fine (sym (refused_is w l cause e)) tt
+    by_refusal None e =
+        subst Fine (sym (goes_is w l e)) (subst (AreCaused May w) (sym (caused_is w l)) (all_caused (happenings w l) w (line_may w l is e)))
+
+  pub lines_caused : (lines : List Line) (w : NodeWorld) → AllByRecursion Is lines → AreCaused May w (events_of_steps (steps_from w lines))
+  lines_caused [] w are = tt
+  lines_caused (l ∷ lines) w are =
+      let v : NodeWorld = (line_step w l).0 in
+      caused-append (occurrences_of (line_step w l).1) (events_of_steps (steps_from v lines)) w (line_caused w l are.0)
+      (subst (λ x. AreCaused May x (events_of_steps (steps_from v lines))) (sym (behind_line w l)) (lines_caused lines v are.1))
+
+-- ## What lasts
+
 -- an event of a world
 abbrev pub occurs : NodeWorld → Happening → Occurrence
 occurs w c = record { cause = c; entries = (world_step w c).1 }
