@@ -18,3 +18,5 @@ pub mod Beginning
 pub mod HostInits
 pub mod Elsewhere
 pub mod Whole
+pub mod InitWorlds
+pub mod InitEvents
