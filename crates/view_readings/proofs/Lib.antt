@@ -20,3 +20,5 @@ pub mod Elsewhere
 pub mod Whole
 pub mod InitWorlds
 pub mod InitEvents
+pub mod Caused
+pub mod InitLines

@@ -147,7 +147,7 @@ event_so hosts are t w c so may few =
 
 -- ## Lines
 
-first_none : (a b : Option NoCause) → first_cause a b ≡ None → (a ≡ None) × (b ≡ None)
+pub first_none : (a b : Option NoCause) → first_cause a b ≡ None → (a ≡ None) × (b ≡ None)
 first_none None b e = (refl, e)
 first_none (Some c) b e = absurd (cc e)
 
@@ -156,7 +156,7 @@ not_waiting false why e = refl
 not_waiting true (Some NotUp) e = absurd (cc e)
 not_waiting true _ e = absurd (cc e)
 
-off_none : (o : Option Running) → (cond (is_some o) None (Some cause.Off)) ≡ None → (r : Running) × (o ≡ Some r)
+pub off_none : (o : Option Running) → (cond (is_some o) None (Some cause.Off)) ≡ None → (r : Running) × (o ≡ Some r)
 off_none None e = absurd (cc e)
 off_none (Some r) e = (r, refl)
 
@@ -231,7 +231,7 @@ begun_kept hosts e host = by e.at_host refl where
   by true q = subst (λ o. IfKeeps e o no_errors) (sym (host_node e real (new_world hosts) q ∙ none_runs hosts)) refl
   by false q = subst (λ o. IfKeeps e o no_errors) (sym (near_node e real (new_world hosts) q)) refl
 
-none_zero : (hosts : List ℕ) → AllByRecursion IsHost hosts → AllByRecursion (λ h. (eqb h 0) ≡ false) hosts
+pub none_zero : (hosts : List ℕ) → AllByRecursion IsHost hosts → AllByRecursion (λ h. (eqb h 0) ≡ false) hosts
 none_zero [] all = tt
 none_zero (h ∷ hosts) all = (ne_eqb h 0 (λ z. omega (arith, z, all.0.0)), none_zero hosts all.1)
 

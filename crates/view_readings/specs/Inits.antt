@@ -1,9 +1,11 @@
 -- The init that runs at a host, as it is read off the events of a history: it begins with its line, which is a cause of an event.
-use Rattle.std.specs.Prelude.{◌≡◌, ℕ, ◌+◌, ◌==◌, ◌&&◌, true, false, if◌then◌else◌, List, [], ◌∷◌, is_some, Option, Some, None}
+use Rattle.std.specs.Prelude.{◌≡◌, ℕ, ◌+◌, ◌==◌, ◌&&◌, true, false, if◌then◌else◌, List, [], ◌∷◌, is_some, Option, Some, None, IsTrue}
 use Rattle.std.specs.List.{fold}
 use Rattle.std.specs.Option.{option_map}
 use Rattle.trace_model.specs.declared.entry.Entry.{Entry}
 use Rattle.trace_model.specs.declared.entry.Entry.TheVariants as entry
+use Rattle.trace_model.specs.declared.line.Line.{Line}
+use Rattle.trace_model.specs.declared.line.Line.TheVariants.{Init as BeginsInit}
 use Rattle.shdlc_core.specs.declared.answers.LinkState.TheVariants.{Up}
 use Rattle.link_entries.specs.Entries.End.{Controller, Host}
 use Rattle.history.specs.Filters.{same_end}
@@ -79,6 +81,13 @@ IfRunsInit h link (Some r) = RunsInit h link r
 pub record SiteKeepsInit (i : Option Init) (s : Site) : Type 0 where
   pub read : i ≡ init_kept s.node
   pub runs : IfRunsInit s.host s.link s.node
+
+-- ## Histories
+
+-- a line that begins an init does so at a host's end
+abbrev pub IsBegunByHost : Line → Type 0
+IsBegunByHost (BeginsInit e identity pipes) = IsTrue e.at_host
+IsBegunByHost _ = Unit {0}
 
 -- ## Other nodes
 

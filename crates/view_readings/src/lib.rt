@@ -1,6 +1,6 @@
 //! What a controller and its hosts know at a point of a history of nodes, beyond tables, commands and notices, is read off its entries:
-//! REC_ERROR of each end, the view of a controller where sessions and creations that wait are, and, over the steps of a host, the init
-//! that runs there. Nothing here runs.
+//! REC_ERROR of each end, the view of a controller where sessions and creations that wait are, and the init that runs at a host. Nothing
+//! here runs.
 #![tactic(auto)]
 
 ghost use Rattle.std.specs.Prelude.{◌≡◌, ◌==◌, ◌∷◌, ◌++◌, ℕ, true, false, [], List, Option, None, Some};
@@ -24,9 +24,9 @@ ghost use Rattle.node_machine.specs.Node.NodeInput.{AtEnd};
 ghost use Rattle.node_links.specs.Notices.{IsOutside};
 ghost use Rattle.node_readings.specs.Orders.{IsFresh};
 ghost use Rattle.node_readings.specs.Worlds.{host_does_so, init_of};
-ghost use Rattle.view_readings.specs.Inits.{IsNoEndOf, KeepsInit, LeavesInit, SiteKeepsInit, init_after};
+ghost use Rattle.view_readings.specs.Inits.{IsBegunByHost, IsNoEndOf, KeepsInit, LeavesInit, SiteKeepsInit, init_after, init_in, init_kept};
 ghost use Rattle.node_machine.specs.Controller.{view_for};
-ghost use Rattle.node_world.specs.World.{Site, beginning, host_cut, host_ticks, input_of, new_world, sending, work_of};
+ghost use Rattle.node_world.specs.World.{Site, beginning, host_cut, host_ticks, input_of, new_world, node_at, sending, work_of};
 ghost use Rattle.node_world.specs.Lines.{Occurrence};
 ghost use Rattle.node_world.specs.NodeHistories.{FollowsNodes, NodeHistory, entries_in, node_entries, occurrences_in, world_after};
 ghost use Rattle.kept_laws.specs.Hosts.{AreHosts, IsFew, IsSentByHost};
@@ -112,4 +112,18 @@ pub fn steps_of_others_tell_nothing_of_an_init()
     ensures { (h n : ℕ) (hosts : List ℕ) (r : Running) (plan : Option Plan) (halves : ℕ → NumberedEnd) (es : List Entry) (input : NodeInput) →
         (n == h) ≡ false → HasEnds n hosts r → AllByRecursion (IsNoEndOf h n) hosts → AllByRecursion (LeavesInit h) es →
         AllByRecursion (LeavesInit h) (steps input (work_of r plan halves es)).entries }
+{}
+
+/// At the end of each event of a history, and behind any lines of a schedule, the init that runs at a host, with its identity, its pipes
+/// and the number of its commands that are answered, is the one that is read off the events, and none is read while none runs or the
+/// host doesn't. It begins as its line causes it; a response on pipe 01 that has its turn at the host answers one more of its commands;
+/// and it ends with its own entry, the end of the session of the host's end, or a cut of the host's power. It asks for hosts from 01 to
+/// 07 that are all different, and that lines begin inits at ends of hosts. Of a node that is no host of the header none is read.
+pub fn running_inits_are_read_off_histories()
+    ensures events { (header : Header) (lines : List Line) (t : NodeHistory) → FollowsNodes header lines t → AreHosts header.hosts.items →
+        AllByRecursion IsBegunByHost lines → (front back : List Occurrence) → occurrences_in t ≡ front ++ back → (h : ℕ) → IsHost h →
+        init_in front h ≡ init_kept (node_at (world_behind (new_world header.hosts.items) front) h) }
+    ensures lines { (header : Header) (lines : List Line) (t : NodeHistory) → FollowsNodes header lines t → AreHosts header.hosts.items →
+        AllByRecursion IsBegunByHost lines → (h : ℕ) → IsHost h →
+        init_in (occurrences_in t) h ≡ init_kept (node_at (world_after (new_world header.hosts.items) lines) h) }
 {}
