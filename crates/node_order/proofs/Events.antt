@@ -1,9 +1,8 @@
 -- Each event of a world but a tick leaves each link told.
-use Rattle.std.proofs.Common.{◌≡◌, ℕ, ◌==◌, Bool, true, false, cond, List, [], ◌∷◌, ◌++◌, length, Option, Some, None, map, refl, ap, sym, subst, ◌∙◌, append-nil, append_assoc}
+use Rattle.std.proofs.Common.{◌≡◌, ℕ, ◌==◌, Bool, true, false, cond, List, [], ◌∷◌, ◌++◌, length, Option, Some, None, map, refl, ap, sym, subst, ◌∙◌, append_assoc}
 use Rattle.std.specs.Prelude.{is_some, min, ◌+◌}
 use Rattle.std.specs.List.{AllByRecursion}
 use Rattle.std.proofs.lemmas.Bool.{eqb-true, true≢false}
-use Rattle.std.proofs.lemmas.List.Sums.{fold-append}
 use Rattle.swp_base.specs.InMemory.{Memory}
 use Rattle.swp_act.specs.Activation.{new_clf, new_uicc}
 use Rattle.trace_model.specs.declared.entry.Entry.{Entry}
@@ -41,7 +40,7 @@ use Rattle.node_links.proofs.Sites.{MayCome, clf_line, uicc_line, can_come, can_
 use Rattle.node_links.proofs.Worlds.{AreTrueDesks, IsFineNode, IsFineSite, IsFineWorld, AtHostOnly, CanReach, half_clean, near_clean, fine_clean, ports_fine, turns_fine, may_here, memory_fine}
 use Rattle.node_links.proofs.Playing.{plain_reach, starts_fine, starts_then}
 use Rattle.node_telling.specs.Telling.{of_link, TellOf, HasEnds, IfItRuns, hosts_in, IsOrderly, IfOff}
-use Rattle.node_telling.specs.Standing.{Standing, with_empty_wires, as_event_begins, stands_noted, standing, StandsOf}
+use Rattle.node_telling.specs.Standing.{StandsOf}
 use Rattle.node_telling.proofs.Mute.{AreMute}
 use Rattle.node_telling.proofs.Powers.{entries_uncut, clear_stands, away_stands}
 use Rattle.node_telling.proofs.Shapes.{clear_lost, shaped_step}
@@ -53,8 +52,9 @@ use Rattle.node_telling.proofs.Events.{memory_goes, comes_goes}
 use Rattle.node_readings.proofs.NoticedWorlds.{far_side}
 use Rattle.node_order.specs.Told.{IsLinkTold}
 use Rattle.node_order.proofs.Unnoticed.{IfNone, IsHostWork, AreUnnoticed, all_done_none, steps_none, runs_none}
-use Rattle.node_order.proofs.Knowing.{told_more, LeaveLink, told_same, cut_clf, cut_uicc, Knows, Each, later, each_empty, each_alike, was_there, each_map, each_site}
-use Rattle.node_order.proofs.Wires.{Shown, clear_unstarted, shown_more, opened, step_shown, AreEmpty, started_empty, empty_shown}
+use Rattle.node_order.proofs.Watches.{WatchedLink, watched, unwatched, opened, watch_begins, watched-append}
+use Rattle.node_order.proofs.Knowing.{IsStepOf, told_more, LeaveLink, told_same, cut_clf, cut_uicc, Knows, Each, later, each_empty, each_back, each_alike, was_there, each_map, each_site}
+use Rattle.node_order.proofs.Wires.{Shown, shown_same, clear_unstarted, shown_more, step_shown, AreEmpty, started_empty, empty_shown}
 
 -- a world that is orderly, and whose nodes send what may be sent
 pub record IsWell (w : NodeWorld) : Type 0 where
@@ -67,7 +67,7 @@ near_side l e = ap (λ (h : NumberedEnd). h.side) (here_host l e)
 
 -- ## Steps of the controller
 
-module _ (w : NodeWorld) (t : List Entry) (X : ℕ → Standing) (a : IsWell w) (each : Each t X w) (k : ℕ) (comes : Comes) (i : LinkInput) (may : MayCome comes)
+module _ (w : NodeWorld) (t : List Entry) (X : ℕ → WatchedLink) (a : IsWell w) (each : Each t X w) (k : ℕ) (comes : Comes) (i : LinkInput) (may : MayCome comes)
     (q : input_of (link_to w.sites k) comes ≡ Some i) where
   module _ (r : Running) (runs : w.controller ≡ Some r) where
     abbrev v : Work
@@ -95,34 +95,46 @@ module _ (w : NodeWorld) (t : List Entry) (X : ℕ → Standing) (a : IsWell w) 
     node = node_is 0 (hosts_in w.sites) w.controller r a.orderly.controller runs
 
     -- how each link stands behind it
-    abbrev Y : ℕ → Standing
-    Y h = standing h (opened (comes_to k comes h) (X h)) u
+    abbrev Y : ℕ → WatchedLink
+    Y h = watched h (opened (comes_to k comes h) (X h)) u
+
+    -- what happens at its end of a link
+    abbrev pub near_event : Site → LinkEvent
+    near_event s = AtController (Step (comes_to k comes s.host) (turns_at v s.host) (ending_of v))
+
+    pub near_step : (h : ℕ) (s : Site) → site_at w.sites h ≡ Some s → IsStepOf h s.link (near_event s) u
+    near_step h s there =
+        let fine : IsFineSite s = site_is IsFineSite w.sites h s a.fine.sites there in
+        let number : s.host ≡ h = site_host w.sites h s there in
+        let P : ℕ → Type 0 = λ m. TellOf h s.link (AtController (Step (comes_to k comes m) (turns_at v m) (ending_of v))) u in
+        let S : ℕ → Type 0 = λ m. StandsOf h s.link (AtController (Step (comes_to k comes m) (turns_at v m) (ending_of v))) u in
+        record {
+          can = (
+            can_come s.link (comes_to k comes s.host) (may_here k comes s.host may) fine.link.line.clf,
+            (
+              turns_fine v s.host done,
+              can_end s.link.controller.side.role (ending_of v)
+                  (clf_line s.link.controller.side.role fine.link.line.clf),
+            ),
+          );
+          tells = subst P (sym number) (controller_tells w r k comes h s a.orderly node there i q);
+          stands = subst S (sym number) (controller_stands w r k comes h s a.orderly node there i q);
+        }
 
     one : (h : ℕ) (s : Site) → site_at w.sites h ≡ Some s → Knows t (X h) w.controller h s
         → Knows (t ++ u) (Y h) (runs_on v) h (link_after_controller k comes v s)
     one h s there b =
         let fine : IsFineSite s = site_is IsFineSite w.sites h s a.fine.sites there in
         let here : Comes = comes_to k comes s.host in
-        let e : LinkEvent = AtController (Step here (turns_at v s.host) (ending_of v)) in
+        let e : LinkEvent = near_event s in
         let number : s.host ≡ h = site_host w.sites h s there in
-        let P : ℕ → Type 0 = λ m. TellOf h s.link (AtController (Step (comes_to k comes m) (turns_at v m) (ending_of v))) u in
-        let S : ℕ → Type 0 = λ m. StandsOf h s.link (AtController (Step (comes_to k comes m) (turns_at v m) (ending_of v))) u in
+        let n : IsStepOf h s.link e u = near_step h s there in
         record {
-          told = told_more h s.link e t u (
-            can_come s.link here (may_here k comes s.host may) fine.link.line.clf,
-            (
-              turns_fine v s.host done,
-              can_end s.link.controller.side.role (ending_of v)
-                  (clf_line s.link.controller.side.role fine.link.line.clf),
-            ),
-          )
-              (subst P (sym number) (controller_tells w r k comes h s a.orderly node there i q))
-              (subst S (sym number) (controller_stands w r k comes h s a.orderly node there i q)) b.told;
-          shown = let W : ℕ → Type 0 = λ m. Shown (happens s.link e) (standing h (opened (comes_to k comes m) (X h)) u) in
-              subst W number (step_shown h Controller here (ending_of v) s.link e t u (X h) b.told
+          told = told_more h s.link e t u n.can n.tells n.stands b.told;
+          shown = let W : ℕ → Type 0 = λ m. Shown (happens s.link e) (watched h (opened (comes_to k comes m) (X h)) u) in
+              subst W number (step_shown h Controller here (ending_of v) s.link e t u (X h) b.told n.can n.tells
               (shaped_step Controller s.link here (turns_at v s.host) (ending_of v) (cond (s.host == k) (Some i) None) (arrives (s.host == k) refl)
-              (is_so (s.host == k)))
-              (subst S (sym number) (controller_stands w r k comes h s a.orderly node there i q)) b.shown);
+              (is_so (s.host == k))) n.stands b.shown);
           near = off v.cut refl fine.link.line.clf;
           far = let F : LinkEnd → Type 0 = IfOff s.node (new_link_end (Uicc new_uicc)) in
               subst F (sym (near_side s.link (Step here (turns_at v s.host) (ending_of v)))) b.far;
@@ -177,11 +189,11 @@ module _ (w : NodeWorld) (t : List Entry) (X : ℕ → Standing) (a : IsWell w) 
       go None e = subst P (sym (off_is e)) (each_empty t X w each)
       go (Some r) e =
           subst P (sym (on_is r e)) (each_alike (t ++ u r e) (Y r e) (later X (u r e)) (after_controller w k comes (v r e)).0
-          (λ h. ap (λ x. standing h x (u r e)) (plain h)) (after r e))
+          (λ h. ap (λ x. watched h x (u r e)) (plain h)) (after r e))
 
 -- ## Steps of a host
 
-module _ (w : NodeWorld) (t : List Entry) (X : ℕ → Standing) (a : IsWell w) (each : Each t X w) (k : ℕ) (comes : Comes) (f : Work → Work)
+module _ (w : NodeWorld) (t : List Entry) (X : ℕ → WatchedLink) (a : IsWell w) (each : Each t X w) (k : ℕ) (comes : Comes) (f : Work → Work)
     (reach : AllByRecursion (AtHostOnly (CanReach comes) k) w.sites)
     (does : (s : Site) (r : Running) → site_at w.sites k ≡ Some s → s.node ≡ Some r → HostDoes w k comes f s r)
     (fine : (v : Work) → IsFineWork v → IsFineWork (f v)) (plain : (v : Work) → IsHostWork v → IsHostWork (f v))
@@ -213,24 +225,36 @@ module _ (w : NodeWorld) (t : List Entry) (X : ℕ → Standing) (a : IsWell w) 
         fine (work_of r s.memory.plan (λ j. half_in (exchanged s.link) comes) (entries_for s.host (arrival Host (exchanged s.link) comes)))
         (ports_fine (λ j. half_in (exchanged s.link) comes) (λ j. half_clean (exchanged s.link) comes site_fine.link.line.far) r.desks host_desks)
 
-    own : Knows t (X k) w.controller k s → Knows (t ++ noted) (later X noted k) w.controller k (after_host comes worked s)
-    own b =
-        let e : LinkEvent = AtHost (Step comes (turns_at worked s.host) (ending_of worked)) in
-        let can : CanReach comes s = site_is (AtHostOnly (CanReach comes) k) w.sites k s reach there (ap (λ n. n == k) number ∙ same_number k) in
+    -- what happens at its end
+    abbrev pub far_event : LinkEvent
+    far_event = AtHost (Step comes (turns_at worked s.host) (ending_of worked))
+
+    pub far_step : IsStepOf k s.link far_event noted
+    far_step =
         let told : HostDoes w k comes f s r = does s r there runs in
-        let N : LinkEnd → Type 0 = IfOff w.controller (new_link_end (Clf new_clf)) in
         record {
-          told = told_more k s.link e t noted (
-            can,
+          can = (
+            site_is (AtHostOnly (CanReach comes) k) w.sites k s reach there (ap (λ n. n == k) number ∙ same_number k),
             (
               turns_fine worked s.host host_done,
               can_end s.link.host.side.role (ending_of worked)
                   (uicc_line s.link.host.side.role site_fine.link.line.uicc),
             ),
-          ) told.own told.stands b.told;
-          shown = subst (λ x. Shown (happens s.link e) (standing k x noted)) (plain_wires s there)
-              (step_shown k Host comes (ending_of worked) s.link e t noted (X k) b.told
-              (shaped_step Host (exchanged s.link) comes (turns_at worked s.host) (ending_of worked) o (q s there) so) told.stands b.shown);
+          );
+          tells = told.own;
+          stands = told.stands;
+        }
+
+    own : Knows t (X k) w.controller k s → Knows (t ++ noted) (later X noted k) w.controller k (after_host comes worked s)
+    own b =
+        let e : LinkEvent = far_event in
+        let n : IsStepOf k s.link e noted = far_step in
+        let N : LinkEnd → Type 0 = IfOff w.controller (new_link_end (Clf new_clf)) in
+        record {
+          told = told_more k s.link e t noted n.can n.tells n.stands b.told;
+          shown = subst (λ x. Shown (happens s.link e) (watched k x noted)) (plain_wires s there)
+              (step_shown k Host comes (ending_of worked) s.link e t noted (X k) b.told n.can n.tells
+              (shaped_step Host (exchanged s.link) comes (turns_at worked s.host) (ending_of worked) o (q s there) so) n.stands b.shown);
           near = subst N (sym (far_side s.link (Step comes (turns_at worked s.host) (ending_of worked)))) b.near;
           far = off worked.cut refl;
           none = runs_none worked (plain _ (record { host = host; none = ports_none r.desks desks_none }));
@@ -309,12 +333,12 @@ module _ (w : NodeWorld) (t : List Entry) (X : ℕ → Standing) (a : IsWell w) 
 -- ## What comes to an end
 
 -- activation neither begins nor ends
-plain_at : (comes : Comes) → ((x : Standing) → opened comes x ≡ x) → (b : Bool) (x : Standing) → opened (cond b comes NoInput) x ≡ x
+plain_at : (comes : Comes) → ((x : WatchedLink) → opened comes x ≡ x) → (b : Bool) (x : WatchedLink) → opened (cond b comes NoInput) x ≡ x
 plain_at comes plain true x = plain x
 plain_at comes plain false x = refl
 
-pub comes_each : (w : NodeWorld) (t : List Entry) (X : ℕ → Standing) (e : End) (comes : Comes) → IsWell w → Each t X w → MayCome comes
-    → AllByRecursion (AtHostOnly (CanReach comes) e.link) w.sites → ((x : Standing) → opened comes x ≡ x)
+pub comes_each : (w : NodeWorld) (t : List Entry) (X : ℕ → WatchedLink) (e : End) (comes : Comes) → IsWell w → Each t X w → MayCome comes
+    → AllByRecursion (AtHostOnly (CanReach comes) e.link) w.sites → ((x : WatchedLink) → opened comes x ≡ x)
     → Each (t ++ (comes_at w e comes).1) (later X (comes_at w e comes).1) (comes_at w e comes).0
 comes_each w t X e comes a each may reach plain = go (input_of (seen_from e (link_to w.sites e.link)) comes) e.at_host refl refl
   where
@@ -340,7 +364,7 @@ comes_each w t X e comes a each may reach plain = go (input_of (seen_from e (lin
         controller_each w t X a each e.link comes i may (ap (λ b. input_of (seen b (link_to w.sites e.link)) comes) (sym r) ∙ q)
         (λ h. plain_at comes plain (h == e.link) (X h))
 
-pub begins_each : (w : NodeWorld) (t : List Entry) (X : ℕ → Standing) (k : ℕ) (deeds : List Deed) → AreMute deeds → AreFine deeds → AreUnnoticed deeds
+pub begins_each : (w : NodeWorld) (t : List Entry) (X : ℕ → WatchedLink) (k : ℕ) (deeds : List Deed) → AreMute deeds → AreFine deeds → AreUnnoticed deeds
     → IsWell w → Each t X w
     → Each (t ++ (host_does w k NoInput (begins_with k deeds)).1) (later X (host_does w k NoInput (begins_with k deeds)).1)
     (host_does w k NoInput (begins_with k deeds)).0
@@ -352,7 +376,7 @@ begins_each w t X k deeds m f u a each =
 -- ## Power and memories
 
 -- where only what is no link and no notice of a host changes, and nothing is told
-pub each_beside : (w : NodeWorld) (memory : Memory) (t u : List Entry) (X : ℕ → Standing) (k : ℕ) (g : Site → Site) → ((s : Site) → (g s).host ≡ s.host)
+pub each_beside : (w : NodeWorld) (memory : Memory) (t u : List Entry) (X : ℕ → WatchedLink) (k : ℕ) (g : Site → Site) → ((s : Site) → (g s).host ≡ s.host)
     → ((s : Site) → (g s).link ≡ s.link)
     → ((s : Site) → IfOff s.node (new_link_end (Uicc new_uicc)) s.link.host.side → IfOff (g s).node (new_link_end (Uicc new_uicc)) s.link.host.side)
     → ((s : Site) → IfNone s.node → IfNone (g s).node) → ((h : ℕ) → LeaveLink h u) → Each t X w
@@ -365,14 +389,14 @@ each_beside w memory t u X k g keeps links far none q each =
     let F : Link → Type 0 = λ l. IfOff (g s).node (new_link_end (Uicc new_uicc)) l.host.side in
     record {
       told = subst T (sym (links s)) (told_same k s.link t u (q k) b.told);
-      shown = subst (λ l. Shown l (later X u k)) (sym (links s)) (subst (Shown s.link) (sym ((q k).stands (X k))) b.shown);
+      shown = subst (λ l. Shown l (later X u k)) (sym (links s)) (shown_same k s.link (X k) u ((q k).stands (X k).stands) b.shown);
       near = subst N (sym (links s)) b.near;
       far = subst F (sym (links s)) (far s b.far);
       none = none s b.none;
     })
     (λ h z. q h) each
 
-pub memory_each : (n : ℕ) (m : Memory) (w : NodeWorld) (t : List Entry) (X : ℕ → Standing) → Each t X w → Each (t ++ []) (later X []) (with_memory n m w)
+pub memory_each : (n : ℕ) (m : Memory) (w : NodeWorld) (t : List Entry) (X : ℕ → WatchedLink) → Each t X w → Each (t ++ []) (later X []) (with_memory n m w)
 memory_each n m w t X each = go (n == 0)
   where
     by : Bool → NodeWorld
@@ -383,7 +407,7 @@ memory_each n m w t X each = go (n == 0)
     go true = each_empty t X (by true) (λ h s found. each h s found)
     go false = each_beside w w.memory t [] X n (λ s. record s { memory = m }) (λ s. refl) (λ s. refl) (λ s b. b) (λ s b. b) (λ h. record { none = refl; stands = λ x. refl }) each
 
-pub power_each : (n : ℕ) (w : NodeWorld) (t : List Entry) (X : ℕ → Standing) → IsWell w → Each t X w
+pub power_each : (n : ℕ) (w : NodeWorld) (t : List Entry) (X : ℕ → WatchedLink) → IsWell w → Each t X w
     → Each (t ++ entry.Cut n ∷ []) (later X (entry.Cut n ∷ [])) (loses_power_at n w)
 power_each n w t X a each = go (n == 0) refl
   where
@@ -406,7 +430,8 @@ power_each n w t X a each = go (n == 0) refl
         record {
           told = told_more h s.link (AtController near) t u (tt, (tt, clf_line s.link.controller.side.role fine.link.line.clf)) refl
               (λ x. rw zero refl) b.told;
-          shown = shown_more h s.link (AtController near) t u (X h) b.told (tt, tt) (λ x. rw zero refl) b.shown;
+          shown = shown_more h s.link (AtController near) t u (X h) b.told (tt, (tt, clf_line s.link.controller.side.role fine.link.line.clf)) refl
+              (tt, tt) (λ x. rw zero refl) b.shown;
           near = cut_clf s.link NoInput [] None refl tt fine.link.line.clf;
           far = subst F (sym (near_side s.link near)) b.far;
           none = b.none;
@@ -419,7 +444,8 @@ power_each n w t X a each = go (n == 0) refl
         record {
           told = told_more n s.link (AtHost near) t u (tt, (tt, uicc_line s.link.host.side.role fine.link.line.uicc)) refl (own_power n zero)
               b.told;
-          shown = shown_more n s.link (AtHost near) t u (X n) b.told (tt, tt) (own_power n zero) b.shown;
+          shown = shown_more n s.link (AtHost near) t u (X n) b.told (tt, (tt, uicc_line s.link.host.side.role fine.link.line.uicc)) refl (tt, tt)
+              (own_power n zero) b.shown;
           near = subst N (sym (far_side s.link near)) b.near;
           far = cut_uicc (exchanged s.link) NoInput [] None refl tt fine.link.line.uicc;
           none = tt;
@@ -429,7 +455,7 @@ new_none : (hosts : List ℕ) → AllByRecursion (λ (d : Desk). d.notice ≡ No
 new_none [] = tt
 new_none (h ∷ hosts) = (refl, new_none hosts)
 
-node_each : (n : ℕ) (r : Running) (w : NodeWorld) (t u : List Entry) (X : ℕ → Standing) → IfNone (Some r) → ((h : ℕ) → LeaveLink h u) → Each t X w
+node_each : (n : ℕ) (r : Running) (w : NodeWorld) (t u : List Entry) (X : ℕ → WatchedLink) → IfNone (Some r) → ((h : ℕ) → LeaveLink h u) → Each t X w
     → Each (t ++ u) (later X u) (with_node n r w)
 node_each n r w t u X none q each = go (n == 0)
   where
@@ -442,14 +468,14 @@ node_each n r w t u X none q each = go (n == 0)
         let b : Knows t (X h) w.controller h s = each h s found in
         record {
           told = told_same h s.link t u (q h) b.told;
-          shown = subst (Shown s.link) (sym ((q h).stands (X h))) b.shown;
+          shown = shown_same h s.link (X h) u ((q h).stands (X h).stands) b.shown;
           near = tt;
           far = b.far;
           none = b.none;
         }
     go false = each_beside w w.memory t u X n (λ s. record s { node = Some r }) (λ s. refl) (λ s. refl) (λ s b. tt) (λ s b. none) q each
 
-pub boots_each : (w : NodeWorld) (t : List Entry) (X : ℕ → Standing) (n : ℕ) → IsWell w → Each t X w
+pub boots_each : (w : NodeWorld) (t : List Entry) (X : ℕ → WatchedLink) (n : ℕ) → IsWell w → Each t X w
     → Each (t ++ (boots w n).1) (later X (boots w n).1) (boots w n).0
 boots_each w t X n a each = go (fails_within (length (boot_writes (memory_at w n).content)) (memory_at w n).plan)
   where
@@ -463,7 +489,7 @@ boots_each w t X n a each = go (fails_within (length (boot_writes (memory_at w n
     r = found n (links_of w n) (memory_at w n).content
 
     kept : Each t X written
-    kept = let P : List Entry → Type 0 = λ z. Each z X written in subst P (append-nil t) (memory_each n m w t X each)
+    kept = each_back t X written (memory_each n m w t X each)
 
     well : IsWell written
     well = record { orderly = (memory_goes n m w a.orderly).orderly; fine = memory_fine n m w a.fine }
@@ -507,7 +533,7 @@ counts_off Unread h o new e a = a
 counts_off TooOld h o new e a = a
 counts_off TooMany h o new e a = a
 
-pub lost_each : (w : NodeWorld) (t : List Entry) (X : ℕ → Standing) (e : End) (why : Loss) → Each t X w
+pub lost_each : (w : NodeWorld) (t : List Entry) (X : ℕ → WatchedLink) (e : End) (why : Loss) → Each t X w
     → Each (t ++ (frame_lost w e why).1) (later X (frame_lost w e why).1) (frame_lost w e why).0
 lost_each w t X e why each = go e.at_host refl
   where
@@ -561,8 +587,8 @@ lost_each w t X e why each = go e.at_host refl
           told = subst T (sym q) (told_more e.link s.link (AtController (Lose why)) t u tt told
               (clear_stands e.link u (first_lost Controller why s.link.to_controller) (entries_uncut e.link (first_lost Controller why (link_to w.sites e.link).to_controller))
               (clear_lost Controller why s.link.to_controller) told) b.told);
-          shown = let S : Bool → Type 0 = λ c. Shown (happens s.link (event c)) (standing e.link (X e.link) u) in
-              subst S (sym q) (shown_more e.link s.link (AtController (Lose why)) t u (X e.link) b.told
+          shown = let S : Bool → Type 0 = λ c. Shown (happens s.link (event c)) (watched e.link (X e.link) u) in
+              subst S (sym q) (shown_more e.link s.link (AtController (Lose why)) t u (X e.link) b.told tt told
               (clear_unstarted (first_lost Controller why s.link.to_controller) (clear_lost Controller why s.link.to_controller))
               (clear_stands e.link u (first_lost Controller why s.link.to_controller) (entries_uncut e.link (first_lost Controller why (link_to w.sites e.link).to_controller))
               (clear_lost Controller why s.link.to_controller) told) b.shown);
@@ -589,8 +615,8 @@ lost_each w t X e why each = go e.at_host refl
           told = subst T (sym q) (told_more e.link s.link (AtHost (Lose why)) t u tt told
               (clear_stands e.link u (first_lost Host why s.link.to_host) (entries_uncut e.link (first_lost Host why (link_to w.sites e.link).to_host))
               (clear_lost Host why s.link.to_host) told) b.told);
-          shown = let S : Bool → Type 0 = λ c. Shown (happens s.link (event c)) (standing e.link (X e.link) u) in
-              subst S (sym q) (shown_more e.link s.link (AtHost (Lose why)) t u (X e.link) b.told
+          shown = let S : Bool → Type 0 = λ c. Shown (happens s.link (event c)) (watched e.link (X e.link) u) in
+              subst S (sym q) (shown_more e.link s.link (AtHost (Lose why)) t u (X e.link) b.told tt told
               (clear_unstarted (first_lost Host why s.link.to_host) (clear_lost Host why s.link.to_host))
               (clear_stands e.link u (first_lost Host why s.link.to_host) (entries_uncut e.link (first_lost Host why (link_to w.sites e.link).to_host))
               (clear_lost Host why s.link.to_host) told) b.shown);
@@ -608,7 +634,7 @@ lost_each w t X e why each = go e.at_host refl
 -- ## Activation
 
 -- the wires of the link are empty as activation has begun at the controller's end
-module _ (w : NodeWorld) (t : List Entry) (X : ℕ → Standing) (a : IsWell w) (each : Each t X w) (h power : ℕ) where
+module _ (w : NodeWorld) (t : List Entry) (X : ℕ → WatchedLink) (a : IsWell w) (each : Each t X w) (h power : ℕ) where
   abbrev AreOpened : NodeWorld → Type 0
   AreOpened v = (s : Site) → site_at v.sites h ≡ Some s → AreEmpty s.link
 
@@ -630,12 +656,12 @@ module _ (w : NodeWorld) (t : List Entry) (X : ℕ → Standing) (a : IsWell w) 
       (subst (λ b. Q (cond b (Starts power) NoInput)) (sym here)
       (started_empty l power (turns_at v was.site.host) (ending_of v) fine.link.line.clf acts))
 
-begun_at : (b : Bool) (power : ℕ) (x : Standing) → opened (cond b (Starts power) NoInput) x ≡ cond b (with_empty_wires x) x
+begun_at : (b : Bool) (power : ℕ) (x : WatchedLink) → opened (cond b (Starts power) NoInput) x ≡ cond b (unwatched x) x
 begun_at true power x = refl
 begun_at false power x = refl
 
-pub activates_each : (w : NodeWorld) (t : List Entry) (X : ℕ → Standing) (h sync power : ℕ) → is_some w.controller ≡ true → IsWell w → Each t X w
-    → Each (t ++ (activates w h sync power).1) (λ k. standing k (as_event_begins k (Activates h sync power) (X k)) (activates w h sync power).1)
+pub activates_each : (w : NodeWorld) (t : List Entry) (X : ℕ → WatchedLink) (h sync power : ℕ) → is_some w.controller ≡ true → IsWell w → Each t X w
+    → Each (t ++ (activates w h sync power).1) (λ k. watched k (watch_begins k (Activates h sync power) (X k)) (activates w h sync power).1)
     (activates w h sync power).0
 activates_each w t X h sync power runs a each = go w.controller refl runs
   where
@@ -648,37 +674,40 @@ activates_each w t X h sync power runs a each = go w.controller refl runs
     well : IsWell near.0
     well = record { orderly = (comes_goes w (end_c h) (Starts power) a.orderly).orderly; fine = starts_fine w h power a.fine }
 
-    Z : ℕ → Standing
-    Z k = standing k (opened (comes_to h (Starts power) k) (X k)) near.1
+    Z : ℕ → WatchedLink
+    Z k = watched k (opened (comes_to h (Starts power) k) (X k)) near.1
 
     on_is : (r : Running) → w.controller ≡ Some r
         → near ≡ after_controller w h (Starts power) (controller_work w r h (Starts power) (steps (AtEnd h (Start power))))
     on_is r e = rw e refl
 
     First : NodeWorld × List Entry → Type 0
-    First z = Each (t ++ z.1) (λ k. standing k (opened (comes_to h (Starts power) k) (X k)) z.1) z.0
+    First z = Each (t ++ z.1) (λ k. watched k (opened (comes_to h (Starts power) k) (X k)) z.1) z.0
+
+    unwatched_so : (Z h).since ≡ false
+    unwatched_so = let q = same_number h in rw q refl
 
     then_far : Each (t ++ near.1) Z near.0 → AreOpened w t X a each h power near.0 → Each ((t ++ near.1) ++ far.1) (later Z far.1) far.0
     then_far first clean =
         host_each near.0 (t ++ near.1) Z well first h (Starts sync) (steps (AtEnd h (Start sync))) (starts_then w h sync power runs a.fine)
         (λ s n found runs. host_does_step near.0 s n h well.orderly found runs (Starts sync) (Start sync) refl)
         (λ v b. steps_fine (AtEnd h (Start sync)) v b) (λ v b. steps_none (AtEnd h (Start sync)) v b) (Some (Start sync)) tt (λ s found. refl)
-        (λ s found. empty_shown s.link (Z h) (clean s found) (first h s found).shown)
+        (λ s found. empty_shown s.link (Z h) (clean s found) (first h s found).shown unwatched_so)
 
-    alike : (k : ℕ) → later Z far.1 k ≡ standing k (as_event_begins k (Activates h sync power) (X k)) (near.1 ++ far.1)
+    alike : (k : ℕ) → later Z far.1 k ≡ watched k (watch_begins k (Activates h sync power) (X k)) (near.1 ++ far.1)
     alike k =
-        ap (λ x. standing k (standing k x near.1) far.1) (begun_at (k == h) power (X k))
-        ∙ sym (fold-append (stands_noted k) (as_event_begins k (Activates h sync power) (X k)) near.1 far.1)
+        ap (λ x. watched k (watched k x near.1) far.1) (begun_at (k == h) power (X k))
+        ∙ watched-append k (watch_begins k (Activates h sync power) (X k)) near.1 far.1
 
     go : (o : Option Running) → w.controller ≡ o → is_some o ≡ true
-        → Each (t ++ (near.1 ++ far.1)) (λ k. standing k (as_event_begins k (Activates h sync power) (X k)) (near.1 ++ far.1)) far.0
+        → Each (t ++ (near.1 ++ far.1)) (λ k. watched k (watch_begins k (Activates h sync power) (X k)) (near.1 ++ far.1)) far.0
     go None e q = absurd (true≢false (sym q))
     go (Some r) e q =
         let first : Each (t ++ near.1) Z near.0 =
         subst First (sym (on_is r e)) (after w t X a each h (Starts power) (Start power) tt refl r e) in
         let clean : AreOpened w t X a each h power near.0 =
         subst (λ (z : NodeWorld × List Entry). AreOpened w t X a each h power z.0) (sym (on_is r e)) (opened_so w t X a each h power r e) in
-        let P : List Entry → Type 0 = λ z. Each z (λ k. standing k (as_event_begins k (Activates h sync power) (X k)) (near.1 ++ far.1)) far.0 in
+        let P : List Entry → Type 0 = λ z. Each z (λ k. watched k (watch_begins k (Activates h sync power) (X k)) (near.1 ++ far.1)) far.0 in
         subst P (append_assoc t near.1 far.1)
-        (each_alike ((t ++ near.1) ++ far.1) (later Z far.1) (λ k. standing k (as_event_begins k (Activates h sync power) (X k)) (near.1 ++ far.1)) far.0 alike
+        (each_alike ((t ++ near.1) ++ far.1) (later Z far.1) (λ k. watched k (watch_begins k (Activates h sync power) (X k)) (near.1 ++ far.1)) far.0 alike
         (then_far first clean))

@@ -14,6 +14,7 @@ use Rattle.message_link.specs.Links.Comes.{NextFrame, AsksReset, Starts, Stops, 
 use Rattle.message_link.specs.Links.EndEvent.{Step}
 use Rattle.session_laws.specs.Sessions.{OnWire}
 use Rattle.link_entries.specs.Entries.{event_entries, entries}
+use Rattle.link_entries.specs.Reading.{kept}
 use Rattle.history.specs.Steps.{entries_for}
 use Rattle.node_machine.specs.Parts.{Running}
 use Rattle.node_machine.specs.Carrying.{changed_if}
@@ -30,7 +31,8 @@ use Rattle.node_telling.proofs.Nodes.{site_host, swapped}
 use Rattle.node_telling.proofs.Events.{site_map, entries-append}
 use Rattle.node_order.specs.Told.{IsLinkTold}
 use Rattle.node_order.proofs.Unnoticed.{IfNone}
-use Rattle.node_order.proofs.Wires.{Shown}
+use Rattle.node_order.proofs.Watches.{WatchedLink, watched, kept_left}
+use Rattle.node_order.proofs.Wires.{ShownBy, Shown, shown_same}
 
 -- ## One link
 
@@ -60,6 +62,12 @@ told_more h l e t u can tells stands a =
           ∙ sym (ap (standing_by_law h new_standing) (entries-append es (e ∷ []) new_line)
           ∙ fold-append (law_noted h) new_standing (entries new_line es) (entries (after_link_events new_line es) (e ∷ []))))));
     }
+
+-- an event that may happen, and entries that tell of it
+pub record IsStepOf (h : ℕ) (l : Link) (e : LinkEvent) (u : List Entry) : Type 0 where
+  pub can : IsEvent l e
+  pub tells : TellOf h l e u
+  pub stands : StandsOf h l e u
 
 -- these entries tell nothing of a link
 pub record LeaveLink (h : ℕ) (u : List Entry) : Type 0 where
@@ -125,7 +133,7 @@ cut_uicc l comes ts o q c a =
 
 -- the link with a host is told, its wires are those that are read, its ends are new while their nodes don't run, and its host has no
 -- notice of a controller
-pub record Knows (t : List Entry) (x : Standing) (o : Option Running) (h : ℕ) (s : Site) : Type 0 where
+pub record Knows (t : List Entry) (x : WatchedLink) (o : Option Running) (h : ℕ) (s : Site) : Type 0 where
   pub told : IsLinkTold h s.link t
   pub shown : Shown s.link x
   pub near : IfOff o (new_link_end (Clf new_clf)) s.link.controller.side
@@ -133,18 +141,38 @@ pub record Knows (t : List Entry) (x : Standing) (o : Option Running) (h : ℕ) 
   pub none : IfNone s.node
 
 -- so it is with each link
-abbrev pub Each : List Entry → (ℕ → Standing) → NodeWorld → Type 0
+abbrev pub Each : List Entry → (ℕ → WatchedLink) → NodeWorld → Type 0
 Each t X w = (h : ℕ) (s : Site) → site_at w.sites h ≡ Some s → Knows t (X h) w.controller h s
 
 -- how each link stands behind more entries
-abbrev pub later : (ℕ → Standing) → List Entry → ℕ → Standing
-later X u h = standing h (X h) u
+abbrev pub later : (ℕ → WatchedLink) → List Entry → ℕ → WatchedLink
+later X u h = watched h (X h) u
+
+-- where each link stands alike, and no more is known of it
+pub each_known : (t : List Entry) (X Y : ℕ → WatchedLink) (w : NodeWorld) → ((h : ℕ) → (Y h).stands ≡ (X h).stands)
+    → ((h : ℕ) → (Y h).since ≡ true → (X h).since ≡ true) → Each t X w → Each t Y w
+each_known t X Y w stands since a h s found =
+    let b : Knows t (X h) w.controller h s = a h s found in
+    record {
+      told = b.told;
+      shown = record { wires = subst (ShownBy (kept s.link)) (sym (stands h)) b.shown.wires; since = λ z. b.shown.since (since h z) };
+      near = b.near;
+      far = b.far;
+      none = b.none;
+    }
 
 -- nothing was noted
-pub each_empty : (t : List Entry) (X : ℕ → Standing) (w : NodeWorld) → Each t X w → Each (t ++ []) (later X []) w
-each_empty t X w a = let P : List Entry → Type 0 = λ z. Each z X w in subst P (sym (append-nil t)) a
+pub each_empty : (t : List Entry) (X : ℕ → WatchedLink) (w : NodeWorld) → Each t X w → Each (t ++ []) (later X []) w
+each_empty t X w a =
+    let P : List Entry → Type 0 = λ z. Each z (later X []) w in
+    subst P (sym (append-nil t)) (each_known t X (later X []) w (λ h. refl) (λ h q. kept_left (X h).since true q) a)
 
-pub each_alike : (t : List Entry) (X Y : ℕ → Standing) (w : NodeWorld) → ((h : ℕ) → X h ≡ Y h) → Each t X w → Each t Y w
+pub each_back : (t : List Entry) (X : ℕ → WatchedLink) (w : NodeWorld) → Each (t ++ []) (later X []) w → Each t X w
+each_back t X w a =
+    let P : List Entry → Type 0 = λ z. Each z X w in
+    subst P (append-nil t) (each_known (t ++ []) (later X []) X w (λ h. refl) (λ h q. rw q refl) a)
+
+pub each_alike : (t : List Entry) (X Y : ℕ → WatchedLink) (w : NodeWorld) → ((h : ℕ) → X h ≡ Y h) → Each t X w → Each t Y w
 each_alike t X Y w same a h s found = subst (λ x. Knows t x w.controller h s) (same h) (a h s found)
 
 pub site_none : (f : Site → Site) → ((s : Site) → (f s).host ≡ s.host) → (sites : List Site) (h : ℕ) → site_at sites h ≡ None → site_at (map f sites) h ≡ None
@@ -176,9 +204,9 @@ was_there f keeps sites h v q = go (site_at sites h) refl
         let is : Some (f s) ≡ Some v = sym (site_map f keeps sites h s e) ∙ q in
         record { site = s; there = e; is = cc }
 
-module _ (w : NodeWorld) (memory : Memory) (o : Option Running) (t u : List Entry) (X : ℕ → Standing) where
+module _ (w : NodeWorld) (memory : Memory) (o : Option Running) (t u : List Entry) (X : ℕ → WatchedLink) where
   -- each site becomes another one
-  pub each_map : (Y : ℕ → Standing) (f : Site → Site) → ((s : Site) → (f s).host ≡ s.host)
+  pub each_map : (Y : ℕ → WatchedLink) (f : Site → Site) → ((s : Site) → (f s).host ≡ s.host)
       → ((h : ℕ) (s : Site) → site_at w.sites h ≡ Some s → Knows t (X h) w.controller h s → Knows (t ++ u) (Y h) o h (f s)) → Each t X w
       → Each (t ++ u) Y (record { memory = memory; controller = o; sites = map f w.sites })
   each_map Y f keeps one a h v q =
@@ -211,7 +239,7 @@ module _ (w : NodeWorld) (memory : Memory) (o : Option Running) (t u : List Entr
           let leave : LeaveLink h u = others h (swapped h k (ap (λ n. n == k) (sym (site_host w.sites h s found)) ∙ q)) in
           record {
             told = told_same h s.link t u leave b.told;
-            shown = subst (Shown s.link) (sym (leave.stands (X h))) b.shown;
+            shown = shown_same h s.link (X h) u (leave.stands (X h).stands) b.shown;
             near = off h s b.near;
             far = b.far;
             none = b.none;

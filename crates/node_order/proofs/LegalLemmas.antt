@@ -12,13 +12,12 @@ use Rattle.kept_laws.specs.Hosts.{AreHosts, IsFew, IsSentByHost}
 use Rattle.kept_laws.proofs.Kept.{are_allowed}
 use Rattle.cut_laws.proofs.Histories.{kept_exactly}
 use Rattle.node_telling.specs.Telling.{world_behind}
-use Rattle.node_telling.specs.Standing.{standing_behind}
 use Rattle.node_readings.proofs.NoticedWorlds.{numbers}
 use Rattle.turn_laws.proofs.Lines.{in_turn}
 use Rattle.node_order.specs.Told.{HasDelivered, HasSettled}
 use Rattle.node_order.specs.Legal.{AtEachEvent, CompleteNodes, LegalNodes}
 use Rattle.node_order.proofs.Knowing.{Knows}
-use Rattle.node_order.proofs.Lines.{IsSo, host_number, history_so}
+use Rattle.node_order.proofs.Lines.{watches, of_none, IsSo, host_number, history_so}
 use Rattle.node_order.proofs.Ordered.{in_order, joined}
 use Rattle.node_order.proofs.Quiet.{delivered, has_settled}
 
@@ -27,7 +26,7 @@ module _ (header : Header) (lines : List Line) (t : NodeHistory) (follows : Foll
   -- what holds of each link by what is known of it holds at the end of each event
   each_event : (P : List Entry → ℕ → Site → Type 0)
       → ((front : List Occurrence) (h : ℕ) (s : Site) → (h == 0) ≡ false
-      → Knows (entries_in front) (standing_behind h front) (world_behind (new_world header.hosts.items) front).controller h s → P (entries_in front) h s)
+      → Knows (entries_in front) (watches of_none front h) (world_behind (new_world header.hosts.items) front).controller h s → P (entries_in front) h s)
       → AtEachEvent t P
   each_event P one =
       let Q : Header → Type 0 = λ x. (front back : List Occurrence) → occurrences_in t ≡ front ++ back → (h : ℕ) (s : Site)

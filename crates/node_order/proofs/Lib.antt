@@ -4,9 +4,13 @@ pub mod Events
 pub mod Ticking
 pub mod Strangers
 pub mod Lines
+pub mod Watches
 pub mod Wires
 pub mod Sessions
 pub mod Prefix
 pub mod Ordered
 pub mod Quiet
+pub mod Asked
+pub mod Resets
+pub mod Upheld
 pub mod LegalLemmas

@@ -1,6 +1,7 @@
 -- Whatever lines are played, each link of the world is told.
 use Rattle.std.proofs.Common.{◌≡◌, ℕ, ◌==◌, Bool, true, false, List, [], ◌∷◌, ◌++◌, Some, None, map, refl, ap, sym, subst, ◌∙◌, append-nil, arith}
 use Rattle.std.specs.Prelude.{cond, is_some, replicate, unwrap_or}
+use Rattle.std.proofs.lemmas.Bool.{true≢false}
 use Rattle.std.proofs.lemmas.List.Concat.{flat_map-append}
 use Rattle.std.proofs.lemmas.List.Sums.{fold-append}
 use Rattle.trace_model.specs.declared.entry.Entry.{Entry}
@@ -29,18 +30,30 @@ use Rattle.node_telling.proofs.Events.{sending_mute}
 use Rattle.node_readings.specs.Noticed.{NoticesAreUp}
 use Rattle.node_readings.proofs.NoticedWorlds.{event_up, numbers, lines_up}
 use Rattle.node_order.proofs.Unnoticed.{AreUnnoticed}
-use Rattle.node_order.proofs.Knowing.{Knows, Each, each_alike}
+use Rattle.node_order.proofs.Watches.{WatchedLink, watched, watch_begins, watch_begins_stands, since_known}
+use Rattle.node_order.proofs.Knowing.{Knows, Each, each_known}
 use Rattle.node_order.proofs.Events.{IsWell, comes_each, begins_each, memory_each, power_each, boots_each, lost_each, activates_each}
 use Rattle.node_order.proofs.Ticking.{ticks_each}
 use Rattle.node_order.proofs.Strangers.{IsStrange, step_kept, step_none}
 
+-- how each link stands behind these events, and of which of them it is known that nothing withheld the answer to a reset
+abbrev pub watches : (ℕ → Bool) → List Occurrence → ℕ → WatchedLink
+watches known os h = record { stands = standing_behind h os; since = known h }
+
 -- a world, and what happened until then
-pub record IsSo (hosts : List ℕ) (os : List Occurrence) (w : NodeWorld) : Type 0 where
+pub record IsSoSince (known : ℕ → Bool) (hosts : List ℕ) (os : List Occurrence) (w : NodeWorld) : Type 0 where
   pub hosts_are : hosts_in w.sites ≡ hosts
   pub well : IsWell w
   pub up : NoticesAreUp w
-  pub each : Each (entries_in os) (λ h. standing_behind h os) w
+  pub each : Each (entries_in os) (watches known os) w
   pub strange : (h : ℕ) → IsStrange h hosts → of_link h (entries_in os) ≡ []
+
+-- it is known of none of them
+abbrev pub of_none : ℕ → Bool
+of_none h = false
+
+abbrev pub IsSo : List ℕ → List Occurrence → NodeWorld → Type 0
+IsSo hosts os w = IsSoSince of_none hosts os w
 
 -- a host isn't 00
 pub host_number : (w : NodeWorld) (h : ℕ) (s : Site) → IsOrderly w → site_at w.sites h ≡ Some s → (h == 0) ≡ false
@@ -56,49 +69,59 @@ sending_unnoticed h m = go _
     go true = (tt, tt)
     go false = (tt, tt)
 
-module _ (hosts : List ℕ) where
-  step_each : (w : NodeWorld) (os : List Occurrence) (c : Happening) → MayHappen w c → IsSo hosts os w
-      → Each (entries_in os ++ (world_step w c).1) (λ h. standing h (as_event_begins h c (standing_behind h os)) (world_step w c).1) (world_step w c).0
-  step_each w os (Boots n) m a = boots_each w (entries_in os) (λ h. standing_behind h os) n a.well a.each
-  step_each w os (IsCut n) m a = power_each n w (entries_in os) (λ h. standing_behind h os) a.well a.each
+module _ (known : ℕ → Bool) (hosts : List ℕ) where
+  step_each : (w : NodeWorld) (os : List Occurrence) (c : Happening) → MayHappen w c → IsSoSince known hosts os w
+      → Each (entries_in os ++ (world_step w c).1) (λ h. watched h (watch_begins h c (watches known os h)) (world_step w c).1) (world_step w c).0
+  step_each w os (Boots n) m a = boots_each w (entries_in os) (watches known os) n a.well a.each
+  step_each w os (IsCut n) m a = power_each n w (entries_in os) (watches known os) a.well a.each
   step_each w os (Gives e message) m a =
-      begins_each w (entries_in os) (λ h. standing_behind h os) e.link (sending e.link message) (sending_mute e.link message)
+      begins_each w (entries_in os) (watches known os) e.link (sending e.link message) (sending_mute e.link message)
       (sending_fine e.link message m) (sending_unnoticed e.link message) a.well a.each
   step_each w os (Inits e identity pipes) m a =
-      begins_each w (entries_in os) (λ h. standing_behind h os) e.link (beginning identity pipes) (tt, (tt, tt)) (tt, (omega arith, tt)) (tt, (tt, tt)) a.well
+      begins_each w (entries_in os) (watches known os) e.link (beginning identity pipes) (tt, (tt, tt)) (tt, (omega arith, tt)) (tt, (tt, tt)) a.well
       a.each
   step_each w os (Takes e) m a =
-      comes_each w (entries_in os) (λ h. standing_behind h os) e NextFrame a.well a.each tt (plain_reach e.link NextFrame tt w.sites) (λ x. refl)
-  step_each w os (Loses e why) m a = lost_each w (entries_in os) (λ h. standing_behind h os) e why a.each
-  step_each w os Ticks m a = ticks_each w (entries_in os) (λ h. standing_behind h os) a.well a.up a.each
+      comes_each w (entries_in os) (watches known os) e NextFrame a.well a.each tt (plain_reach e.link NextFrame tt w.sites) (λ x. refl)
+  step_each w os (Loses e why) m a = lost_each w (entries_in os) (watches known os) e why a.each
+  step_each w os Ticks m a = ticks_each w (entries_in os) (watches known os) a.well a.up a.each
   step_each w os (Resets e window) m a =
-      comes_each w (entries_in os) (λ h. standing_behind h os) e (AsksReset window) a.well a.each m (plain_reach e.link (AsksReset window) m w.sites) (λ x. refl)
-  step_each w os (Activates h sync power) m a = activates_each w (entries_in os) (λ h. standing_behind h os) h sync power m a.well a.each
+      comes_each w (entries_in os) (watches known os) e (AsksReset window) a.well a.each m (plain_reach e.link (AsksReset window) m w.sites) (λ x. refl)
+  step_each w os (Activates h sync power) m a = activates_each w (entries_in os) (watches known os) h sync power m a.well a.each
   step_each w os (Arms n plan) m a =
-      memory_each n (record (memory_at w n) { plan = Some plan }) w (entries_in os) (λ h. standing_behind h os) a.each
+      memory_each n (record (memory_at w n) { plan = Some plan }) w (entries_in os) (watches known os) a.each
 
-  step_so : (os : List Occurrence) (w : NodeWorld) (c : Happening) → IsSo hosts os w → MayHappen w c
-      → IsSo hosts (os ++ occurs w c ∷ []) (world_step w c).0
-  step_so os w c a m =
+  -- what happens withholds no answer of the links of which it is known
+  abbrev pub LeavesKnown : NodeWorld → Happening → Type 0
+  LeavesKnown w c = (h : ℕ) → known h ≡ true → (watched h (watch_begins h c (record { stands = new_standing; since = true })) (world_step w c).1).since ≡ true
+
+  pub next_so : (os : List Occurrence) (w : NodeWorld) (c : Happening) → IsSoSince known hosts os w → MayHappen w c → LeavesKnown w c
+      → IsSoSince known hosts (os ++ occurs w c ∷ []) (world_step w c).0
+  next_so os w c a m leaves =
       let u : List Entry = (world_step w c).1 in
       let v : NodeWorld = (world_step w c).0 in
       let more : entries_in os ++ u ≡ entries_in (os ++ occurs w c ∷ []) =
       sym (flat_map-append (λ (o : Occurrence). o.entries) os (occurs w c ∷ []) ∙ ap (λ z. entries_in os ++ z) (append-nil u)) in
-      let stands : (h : ℕ) → standing h (as_event_begins h c (standing_behind h os)) u ≡ standing_behind h (os ++ occurs w c ∷ []) = λ h.
-      sym (fold-append (λ (x : Standing) (o : Occurrence). standing h (as_event_begins h o.cause x) o.entries) new_standing os (occurs w c ∷ [])) in
-      let E : List Entry → Type 0 = λ z. Each z (λ h. standing_behind h (os ++ occurs w c ∷ [])) v in
+      let stands : (h : ℕ) → standing_behind h (os ++ occurs w c ∷ []) ≡ standing h (as_event_begins h c (standing_behind h os)) u = λ h.
+      fold-append (λ (x : Standing) (o : Occurrence). standing h (as_event_begins h o.cause x) o.entries) new_standing os (occurs w c ∷ []) in
+      let E : List Entry → Type 0 = λ z. Each z (watches known (os ++ occurs w c ∷ [])) v in
       record {
         hosts_are = step_kept w c ∙ a.hosts_are;
         well = record { orderly = step_orderly w c a.well.orderly; fine = step_fine w c m a.well.fine };
         up = event_up w c a.well.orderly a.up;
         each = subst E more
-            (each_alike (entries_in os ++ u) (λ h. standing h (as_event_begins h c (standing_behind h os)) u) (λ h. standing_behind h (os ++ occurs w c ∷ [])) v stands
-            (step_each w os c m a));
+            (each_known (entries_in os ++ u) (λ h. watched h (watch_begins h c (watches known os h)) u) (watches known (os ++ occurs w c ∷ [])) v
+            (λ h. stands h ∙ ap (λ x. standing h x u) (sym (watch_begins_stands h c (watches known os h))))
+            (λ h k. since_known h c (standing_behind h os) u (known h) k (leaves h k)) (step_each w os c m a));
         strange = λ h q.
             ap (of_link h) (sym more)
             ∙ (of-append h (entries_in os) u
             ∙ (ap (λ z. z ++ of_link h u) (a.strange h q) ∙ step_none h w c a.well.orderly (subst (IsStrange h) (sym a.hosts_are) q)));
       }
+
+module _ (hosts : List ℕ) where
+  step_so : (os : List Occurrence) (w : NodeWorld) (c : Happening) → IsSo hosts os w → MayHappen w c
+      → IsSo hosts (os ++ occurs w c ∷ []) (world_step w c).0
+  step_so os w c a m = next_so of_none hosts os w c a m (λ h q. absurd (true≢false (sym q)))
 
 -- ## Lines
 
@@ -108,7 +131,7 @@ lasting_may [] w a = tt
 lasting_may (c ∷ causes) w a = (a.0 w, lasting_may causes (world_step w c).0 a.1)
 
 -- what a line that may be played causes may happen, where it isn't refused
-line_may : (w : NodeWorld) (l : Line) → IsPlayable l → refusal_in w l ≡ None → AllMay MayHappen w (happenings w l)
+pub line_may : (w : NodeWorld) (l : Line) → IsPlayable l → refusal_in w l ≡ None → AllMay MayHappen w (happenings w l)
 line_may w (line.Send e pid message) p q = (p, tt)
 line_may w (line.Deliver e count) p q =
     lasting_may (happenings w (line.Deliver e count)) w (repeated (taken_of count (frames_at w e)) (Takes e) (λ v. tt))
@@ -128,18 +151,21 @@ line_may w (line.Tables n) p q = tt
 
 -- ## Schedules
 
-new_each : (content : List ℕ) (hosts : List ℕ) (h : ℕ) (s : Site) → site_at (map (new_site content) hosts) h ≡ Some s → Knows [] new_standing None h s
+abbrev new_watch : WatchedLink
+new_watch = record { stands = new_standing; since = false }
+
+new_each : (content : List ℕ) (hosts : List ℕ) (h : ℕ) (s : Site) → site_at (map (new_site content) hosts) h ≡ Some s → Knows [] new_watch None h s
 new_each content [] h s q = absurd (cc q)
 new_each content (k ∷ hosts) h s q = go (k == h) refl (new_each content hosts h s)
   where
-    go : (b : Bool) → (k == h) ≡ b → (site_at (map (new_site content) hosts) h ≡ Some s → Knows [] new_standing None h s) → Knows [] new_standing None h s
+    go : (b : Bool) → (k == h) ≡ b → (site_at (map (new_site content) hosts) h ≡ Some s → Knows [] new_watch None h s) → Knows [] new_watch None h s
     go true e later =
         let is : Some (new_site content k) ≡ Some s = rw e at q in
         let one : new_site content k ≡ s = cc in
-        let P : Site → Type 0 = λ z. Knows [] new_standing None h z in
+        let P : Site → Type 0 = λ z. Knows [] new_watch None h z in
         subst P one (record {
           told = record { events = []; run = record { allowed = tt; is = refl }; told = refl; stands = refl };
-          shown = record { to_controller = refl; to_host = refl };
+          shown = record { wires = record { to_controller = refl; to_host = refl }; since = λ z. absurd (true≢false (sym z)) };
           near = refl;
           far = refl;
           none = tt;

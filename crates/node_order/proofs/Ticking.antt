@@ -29,7 +29,6 @@ use Rattle.node_links.proofs.Works.{steps_fine}
 use Rattle.node_links.proofs.Sites.{AreNodes, tick_allowed, reset_allowed}
 use Rattle.node_links.proofs.Worlds.{AreTrueDesks, IsFineNode, IsFineSite, AreFineSites, AreClean, near_clean, ports_fine, turns_fine}
 use Rattle.node_telling.specs.Telling.{IfItRuns, is_due, NoneDue, IfOff, IfDue, IsTimely}
-use Rattle.node_telling.specs.Standing.{Standing}
 use Rattle.node_telling.proofs.Nodes.{link_is, ports_for}
 use Rattle.node_telling.proofs.Worlds.{site_is}
 use Rattle.node_telling.proofs.WorldTicks.{host_tick, host_is, tick_host, host_turns, between, between_far, near_tick, near_turns, tick_event, Ticking, ticking}
@@ -38,6 +37,7 @@ use Rattle.node_readings.proofs.NoticedWorlds.{host_tick_side}
 use Rattle.node_order.specs.Told.{IsLinkTold}
 use Rattle.node_order.proofs.Unnoticed.{IfNone, steps_none, runs_none}
 use Rattle.node_order.proofs.Knowing.{told_more, renewed_clf, renewed_uicc, Knows, Each, later, site_none, WasThere, was_there}
+use Rattle.node_order.proofs.Watches.{WatchedLink}
 use Rattle.node_order.proofs.Wires.{Shown, tick_unstarted, shown_more}
 use Rattle.node_order.proofs.Events.{IsWell}
 
@@ -86,7 +86,7 @@ due_some d q = go d.notice refl
     go None e = let z : false ≡ true = rw e at q in absurd (true≢false (sym z))
     go (Some n) e = rw e refl
 
-pub timely : (w : NodeWorld) (t : List Entry) (x : Standing) (h : ℕ) (s : Site) → NoticesAreUp w → site_at w.sites h ≡ Some s
+pub timely : (w : NodeWorld) (t : List Entry) (x : WatchedLink) (h : ℕ) (s : Site) → NoticesAreUp w → site_at w.sites h ≡ Some s
     → Knows t x w.controller h s → IsTimely w h s
 timely w t x h s up found a =
     record { controller = a.near; host = a.far; up = due w.controller up; young = none_due s.node a.none }
@@ -284,7 +284,7 @@ near_none w h q = go w.controller refl
           link = ticked_so s.link (is_late_at (near_tick w r) s.host) (turns_at (near_tick w r) s.host) (ending_of (near_tick w r));
         }) (λ s. refl) w.sites h q)
 
-pub ticks_each : (w : NodeWorld) (t : List Entry) (X : ℕ → Standing) → IsWell w → NoticesAreUp w → Each t X w
+pub ticks_each : (w : NodeWorld) (t : List Entry) (X : ℕ → WatchedLink) → IsWell w → NoticesAreUp w → Each t X w
     → Each (t ++ (world_ticks w).1) (later X (world_ticks w).1) (world_ticks w).0
 ticks_each w t X a up each h v q = go (site_at w.sites h) refl
   where
@@ -319,7 +319,7 @@ ticks_each w t X a up each h v q = go (site_at w.sites h) refl
     some s found = subst K one (record {
       told = let T : Link → Type 0 = λ l. IsLinkTold h l (t ++ u) in subst T c.is (told_more h s.link event t u can c.told c.stands b.told);
       shown = let S : Link → Type 0 = λ l. Shown l (later X u h) in
-          subst S c.is (shown_more h s.link event t u (X h) b.told (tick_unstarted c.late s.link c.near c.far) c.stands b.shown);
+          subst S c.is (shown_more h s.link event t u (X h) b.told can c.told (tick_unstarted c.late s.link c.near c.far) c.stands b.shown);
       near = let N : LinkEnd → Type 0 = IfOff (controller_ticks old).0.controller (new_link_end (Clf new_clf)) in
           subst N (sym (host_tick_side x)) (near_after old old_clf old_off h x c.near_there);
       far = after_it.off;

@@ -1,7 +1,8 @@
 -- The frames on the wires of a link are read off what is noted of it.
 use Rattle.std.proofs.Common.{◌≡◌, ℕ, Bool, true, false, List, [], ◌∷◌, ◌++◌, refl, ap, sym, subst, ◌∙◌}
 use Rattle.std.specs.Prelude.{◌+◌, drop, not, Option, Some, None}
-use Rattle.std.specs.List.{AllByRecursion}
+use Rattle.std.specs.List.{list_any}
+use Rattle.std.proofs.lemmas.Bool.{true≢false}
 use Rattle.trace_model.specs.declared.entry.Entry.{Entry}
 use Rattle.swp_lpdu.specs.Controls.{lpdu_of}
 use Rattle.shdlc_core.specs.declared.answers.LinkState.TheVariants.{Down as IsDown}
@@ -11,7 +12,7 @@ use Rattle.link_machine.specs.Machine.{LinkEnd, Role, Refused, Turn, aside_refus
 use Rattle.link_machine.specs.Machine.LinkInput.{Reset}
 use Rattle.link_machine.specs.Machine.Role.{Bare, Clf, Uicc}
 use Rattle.link_machine.specs.Machine.Turn.{Give, Hold, FetchMessage, SetAside, Release}
-use Rattle.message_link.specs.Links.{Link, Ending, Comes, Node, LinkEvent, exchanged, aged, put_all, silent, happens, after_link_events, IsClf}
+use Rattle.message_link.specs.Links.{Link, Ending, Comes, Node, LinkEvent, exchanged, aged, put_all, silent, happens, after_link_events, IsClf, IsEvent}
 use Rattle.message_link.specs.Links.Ending.{GoesOut, CutOff}
 use Rattle.message_link.specs.Links.Comes.{NextFrame, AsksReset, Starts, Stops, NoInput}
 use Rattle.message_link.specs.Links.EndEvent.{Step}
@@ -33,7 +34,10 @@ use Rattle.node_telling.proofs.Powers.{AreClear}
 use Rattle.node_telling.proofs.Shapes.{last_of, IsShaped, shaped_tick, shaped_step, opened_by, IsStepShaped, opened_stands, clear_aged}
 use Rattle.node_telling.proofs.Events.{after-append, entries-append}
 use Rattle.node_telling.proofs.WorldTicks.{between, near_notes, tick_event}
+use Rattle.node_telling.specs.Telling.{TellOf}
 use Rattle.node_order.specs.Told.{IsLinkTold, frames_on}
+use Rattle.node_order.specs.Resets.{withholds_on}
+use Rattle.node_order.proofs.Watches.{WatchedLink, watched, IsSince, IsUnstarted, AreUnstarted, since_step, unwatched, opened, kept_left}
 
 -- ## Wires that are seen
 
@@ -41,8 +45,18 @@ pub record ShownBy (s : Seen) (x : Standing) : Type 0 where
   pub to_controller : x.to_controller ≡ frames_on s.to_controller
   pub to_host : x.to_host ≡ frames_on s.to_host
 
-abbrev pub Shown : Link → Standing → Type 0
-Shown l x = ShownBy (kept l) x
+-- the wires of a link are those of the watched one, and where it is known so, nothing withheld the answer to a reset
+pub record Shown (l : Link) (x : WatchedLink) : Type 0 where
+  pub wires : ShownBy (kept l) x.stands
+  pub since : x.since ≡ true → IsSince l
+
+-- behind entries that tell nothing of it
+pub shown_same : (h : ℕ) (l : Link) (x : WatchedLink) (u : List Entry) → standing h x.stands u ≡ x.stands → Shown l x → Shown l (watched h x u)
+shown_same h l x u q s =
+    record {
+      wires = subst (ShownBy (kept l)) (sym q) s.wires;
+      since = λ z. s.since (kept_left x.since (not (list_any (withholds_on h) u)) z);
+    }
 
 frames_push : (w : List OnWire) (y : OnWire) → frames_on (w ++ y ∷ []) ≡ frames_on w ++ lpdu_of y.frame ∷ []
 frames_push [] y = refl
@@ -61,13 +75,6 @@ near_said h x s = let q = same_number h in rw q refl
 
 far_said : (h : ℕ) (x : Standing) (s : Saying) → said_far s x ≡ stands_said h x (Some (end_of h Host, s))
 far_said h x s = let q = same_number h in rw q refl
-
-abbrev IsUnstarted : Noted → Type 0
-IsUnstarted (Restarted who) = ⊥
-IsUnstarted _ = Unit {0}
-
-abbrev pub AreUnstarted : List Noted → Type 0
-AreUnstarted notes = AllByRecursion IsUnstarted notes
 
 module _ (h : ℕ) where
   near_so : (s : Seen) (x : Standing) (y : Saying) → ShownBy s (said_near y x) → ShownBy s (stands_said h x (Some (end_of h Controller, y)))
@@ -180,23 +187,22 @@ event_seen h l t e a =
     append_nil_of [] = refl
     append_nil_of (x ∷ xs) = ap (λ z. x ∷ z) (append_nil_of xs)
 
-pub shown_more : (h : ℕ) (l : Link) (e : LinkEvent) (t u : List Entry) (x : Standing) → IsLinkTold h l t → AreUnstarted (event_entries l e)
-    → StandsOf h l e u → Shown l x → Shown (happens l e) (standing h x u)
-shown_more h l e t u x a plain stands s =
-    let all : ShownBy (see_all (kept l) (event_entries l e)) (standing_by_law h x (event_entries l e)) = notes_shown h (event_entries l e) (kept l) x plain s in
-    let P : Seen → Type 0 = λ z. ShownBy z (standing_by_law h x (event_entries l e)) in
-    subst (ShownBy (kept (happens l e))) (sym (stands x)) (subst P (event_seen h l t e a) all)
+pub shown_more : (h : ℕ) (l : Link) (e : LinkEvent) (t u : List Entry) (x : WatchedLink) → IsLinkTold h l t → IsEvent l e → TellOf h l e u
+    → AreUnstarted (event_entries l e) → StandsOf h l e u → Shown l x → Shown (happens l e) (watched h x u)
+shown_more h l e t u x a can tells plain stands s =
+    let all : ShownBy (see_all (kept l) (event_entries l e)) (standing_by_law h x.stands (event_entries l e)) =
+    notes_shown h (event_entries l e) (kept l) x.stands plain s.wires in
+    let P : Seen → Type 0 = λ z. ShownBy z (standing_by_law h x.stands (event_entries l e)) in
+    record {
+      wires = subst (ShownBy (kept (happens l e))) (sym (stands x.stands)) (subst P (event_seen h l t e a) all);
+      since = since_step h l e u can tells plain stands x s.since;
+    }
 
--- activation that begins or ends empties the wires
-abbrev pub opened : Comes → Standing → Standing
-opened (Starts value) x = with_empty_wires x
-opened Stops x = with_empty_wires x
-opened _ x = x
-
-pub step_shown : (h : ℕ) (who : Side) (comes : Comes) (ending : Ending) (l : Link) (e : LinkEvent) (t u : List Entry) (x : Standing) → IsLinkTold h l t
-    → IsStepShaped who comes ending (event_entries l e) → StandsOf h l e u → Shown l x → Shown (happens l e) (standing h (opened comes x) u)
-step_shown h who comes ending l e t u x a s stands shown =
-    let y : Standing = opened comes x in
+pub step_shown : (h : ℕ) (who : Side) (comes : Comes) (ending : Ending) (l : Link) (e : LinkEvent) (t u : List Entry) (x : WatchedLink) → IsLinkTold h l t
+    → IsEvent l e → TellOf h l e u → IsStepShaped who comes ending (event_entries l e) → StandsOf h l e u → Shown l x
+    → Shown (happens l e) (watched h (opened comes x) u)
+step_shown h who comes ending l e t u x a can tells s stands shown =
+    let y : Standing = (opened comes x).stands in
     let notes : List Noted = event_entries l e in
     let first : ShownBy (see_all (kept l) (opened_by who comes)) y = opens comes in
     let all : ShownBy (see_all (see_all (kept l) (opened_by who comes)) s.rest) (standing_by_law h y s.rest) =
@@ -204,14 +210,30 @@ step_shown h who comes ending l e t u x a s stands shown =
     let seen : see_all (see_all (kept l) (opened_by who comes)) s.rest ≡ kept (happens l e) =
     sym (ap (see_all (kept l)) s.is ∙ see_all-append (kept l) (opened_by who comes) s.rest) ∙ event_seen h l t e a in
     let P : Seen → Type 0 = λ z. ShownBy z (standing_by_law h y s.rest) in
-    subst (ShownBy (kept (happens l e))) (sym (stands y ∙ opened_stands h who comes notes s.rest s.is y)) (subst P seen all)
+    record {
+      wires = subst (ShownBy (kept (happens l e))) (sym (stands y ∙ opened_stands h who comes notes s.rest s.is y)) (subst P seen all);
+      since = goes comes s.is;
+    }
   where
-    opens : (c : Comes) → ShownBy (see_all (kept l) (opened_by who c)) (opened c x)
-    opens NextFrame = shown
-    opens (AsksReset window) = shown
+    opens : (c : Comes) → ShownBy (see_all (kept l) (opened_by who c)) (opened c x).stands
+    opens NextFrame = shown.wires
+    opens (AsksReset window) = shown.wires
     opens (Starts value) = record { to_controller = refl; to_host = refl }
     opens Stops = record { to_controller = refl; to_host = refl }
-    opens NoInput = shown
+    opens NoInput = shown.wires
+
+    rest_unstarted : AreUnstarted s.rest
+    rest_unstarted = shaped_unstarted who ending s.rest s.shaped
+
+    plainly : event_entries l e ≡ s.rest → (watched h x u).since ≡ true → IsSince (happens l e)
+    plainly q = since_step h l e u can tells (subst (λ z. AreUnstarted z) (sym q) rest_unstarted) stands x shown.since
+
+    goes : (c : Comes) → event_entries l e ≡ opened_by who c ++ s.rest → (watched h (opened c x) u).since ≡ true → IsSince (happens l e)
+    goes NextFrame q = plainly q
+    goes (AsksReset window) q = plainly q
+    goes (Starts value) q = λ z. absurd (true≢false (sym z))
+    goes Stops q = λ z. absurd (true≢false (sym z))
+    goes NoInput q = plainly q
 
 -- ## Activation at the controller's end puts nothing on the wire
 
@@ -301,7 +323,10 @@ started_empty l value ts GoesOut clf acts =
       to_host = ap (λ cs. (put_all (silent l e) cs).to_host) out;
     }
 
-pub empty_shown : (l : Link) (x : Standing) → AreEmpty l → Shown l x → with_empty_wires x ≡ x
-empty_shown l x e s =
-    ap (λ w. record x { to_controller = w; to_host = [] }) (sym (s.to_controller ∙ ap frames_on e.to_controller))
-    ∙ ap (λ w. record x { to_host = w }) (sym (s.to_host ∙ ap frames_on e.to_host))
+pub empty_shown : (l : Link) (x : WatchedLink) → AreEmpty l → Shown l x → x.since ≡ false → unwatched x ≡ x
+empty_shown l x e s q =
+    let y : Standing = x.stands in
+    let wires : with_empty_wires y ≡ y =
+    ap (λ w. record y { to_controller = w; to_host = [] }) (sym (s.wires.to_controller ∙ ap frames_on e.to_controller))
+    ∙ ap (λ w. record y { to_host = w }) (sym (s.wires.to_host ∙ ap frames_on e.to_host)) in
+    ap (λ z. record { stands = z; since = false }) wires ∙ ap (λ b. record { stands = y; since = b }) (sym q)

@@ -14,6 +14,7 @@ ghost use Rattle.node_links.specs.Runs.{ArePlayable};
 ghost use Rattle.kept_laws.specs.Hosts.{AreHosts, IsFew, IsSentByHost};
 ghost use Rattle.node_telling.specs.Telling.{IsTimely, world_behind};
 ghost use Rattle.node_order.specs.Legal.{LegalNodes, PrefixNodes};
+ghost use Rattle.node_order.specs.Resets.{ResetNodes};
 ghost use Rattle.node_order.specs.Told.{AreReadOff, AreSessionsRead, AreWiresRead, HasDelivered, HasSettled, IsLinkTold};
 
 /// At the end of each event of a history of hosts from 01 to 07 that are all different, each end is new while its node doesn't run, a
@@ -78,6 +79,15 @@ pub fn quiet_links_have_delivered_all_in_each_history()
     ensures settled { (header : Header) (lines : List Line) (t : NodeHistory) → FollowsNodes header lines t → AreHosts header.hosts.items →
         ArePlayable lines → (front back : List Occurrence) → occurrences_in t ≡ front ++ back → (h : ℕ) (s : Site) →
         site_at (world_behind (new_world header.hosts.items) front).sites h ≡ Some s → HasSettled (entries_in front) h s.link }
+{}
+
+/// Where an end of a link was reset in such a history, as a line asked for, while the other end was active and not waiting, and the nodes
+/// of the link kept their power in that event, and behind it no frame of the link was lost, no other RSET put on it, no power of its nodes
+/// cut and no activation of it begun, both ends are up with one number once both wires are empty. All of it but how the other end stood at
+/// the reset is read off the events: `standing_behind` for the wires, `session_now` for the sessions.
+pub fn resets_bring_both_up_in_each_history()
+    ensures { (header : Header) (lines : List Line) (t : NodeHistory) → FollowsNodes header lines t → AreHosts header.hosts.items →
+        ArePlayable lines → ResetNodes t }
 {}
 
 /// Every history that follows a schedule is legal: messages are in order at each moment, at the end of each event quiet links have

@@ -1,8 +1,7 @@
 use Rattle.node_world.specs.World.{new_world}
 use Rattle.node_world.specs.NodeHistories.{entries_in}
 use Rattle.node_telling.specs.Telling.{world_behind}
-use Rattle.node_telling.specs.Standing.{standing_behind}
-use Rattle.node_order.proofs.Lines.{IsSo, history_so, behind_history}
+use Rattle.node_order.proofs.Lines.{watches, of_none, IsSo, history_so, behind_history}
 use Rattle.node_order.proofs.Ticking.{timely}
 use Rattle.node_order.proofs.worlds_stay_timely.Goals as goal
 
@@ -10,7 +9,7 @@ pub returns-clause-timely : goal.returns-clause-timely
 returns-clause-timely c = λ header lines t follows are playable front back q h s found.
     let a : IsSo header.hosts.items front (world_behind (new_world header.hosts.items) front) =
     history_so header lines t follows are playable front back q in
-    timely (world_behind (new_world header.hosts.items) front) (entries_in front) (standing_behind h front) h s a.up found (a.each h s found)
+    timely (world_behind (new_world header.hosts.items) front) (entries_in front) (watches of_none front h) h s a.up found (a.each h s found)
 
 pub returns-clause-last : goal.returns-clause-last
 returns-clause-last c = behind_history
