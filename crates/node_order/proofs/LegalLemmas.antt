@@ -20,6 +20,7 @@ use Rattle.node_order.proofs.Knowing.{Knows}
 use Rattle.node_order.proofs.Lines.{watches, of_none, IsSo, host_number, history_so}
 use Rattle.node_order.proofs.Ordered.{in_order, joined}
 use Rattle.node_order.proofs.Quiet.{delivered, has_settled}
+use Rattle.node_order.proofs.Upheld.{resets_upheld}
 
 module _ (header : Header) (lines : List Line) (t : NodeHistory) (follows : FollowsNodes header lines t) (are : AreHosts header.hosts.items)
     (playable : ArePlayable lines) where
@@ -40,6 +41,7 @@ module _ (header : Header) (lines : List Line) (t : NodeHistory) (follows : Foll
   complete = record {
     delivered = each_event (λ entries h s. HasDelivered entries h s.link) (λ front h s host a. delivered h s.link (entries_in front) a.told host);
     settled = each_event (λ entries h s. HasSettled entries h s.link) (λ front h s host a. has_settled h s.link (entries_in front) a.told host);
+    upheld = resets_upheld header lines t follows are playable;
     joined = joined header lines t follows are playable;
   }
 
