@@ -1,3 +1,7 @@
+pub mod Marking
+pub mod Jumping
+pub mod Silencing
+pub mod Gone
 pub mod Unnoticed
 pub mod Knowing
 pub mod Events
