@@ -2,6 +2,7 @@ pub mod Marking
 pub mod Jumping
 pub mod Silencing
 pub mod Gone
+pub mod Since
 pub mod Unnoticed
 pub mod Knowing
 pub mod Events
