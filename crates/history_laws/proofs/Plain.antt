@@ -75,7 +75,7 @@ among_numbers n (a ∷ acts) cs h =
     numbers-append (take (a.behind - n) cs) _ (take_numbers (a.behind - n) cs h)
     (tt, among_numbers a.behind acts (drop (a.behind - n) cs) (drop_numbers (a.behind - n) cs h))
 
-out_numbers : (e : LinkEnd) → HaveNumbers (frames_out e)
+pub out_numbers : (e : LinkEnd) → HaveNumbers (frames_out e)
 out_numbers e = among_numbers 0 e.acts (frames_of most_frames e.shdlc) (frames_numbers most_frames e.shdlc)
 
 -- ## Entries

@@ -8,7 +8,7 @@ use Rattle.shdlc_core.specs.declared.answers.LinkState.TheVariants.{Down as IsDo
 use Rattle.session_laws.specs.Sessions.{OnWire, ShdlcLink as CoreLink, ShdlcEndEvent as CoreEndEvent, ShdlcLinkEvent as CoreLinkEvent, shdlc_aged as core_aged, ticks_or_cut as core_ticks_or_cut, ticks_if_waiting as core_ticks_if_waiting, took_with}
 use Rattle.session_laws.proofs.Sending.{SafeLink}
 use Rattle.session_laws.proofs.Steps.{safe_aged, safe_turns, safe_exchanged, tick_or_cut, tick_if_waiting}
-use Rattle.link_machine.specs.Machine.{LinkEnd, LinkInput, Turn, turned, after_input, ended_by, report}
+use Rattle.link_machine.specs.Machine.{LinkEnd, LinkInput, Turn, turned, after_input, ended_by, report, frames_out}
 use Rattle.link_machine.specs.Machine.LinkInput.{Take, Tick as HasTick, Reset, Start, Stop}
 use Rattle.message_link.specs.Links.{NumberedEnd, Link, Ending, Comes, EndEvent, Node, LinkEvent, exchanged, number_of, with_ended, silent, finished, steps_at_controller, happens_at_controller, happens, all_at_controller, ticks_at_controller, aged, has_taken, CanStart, IsUicc, IsNode, IsAllowed, IsOwn, AreOwn, IsEvent}
 use Rattle.message_link.specs.Links.Comes.{NextFrame, AsksReset, Starts, Stops, NoInput}
@@ -30,7 +30,7 @@ use Rattle.link_entries.proofs.Completing.{ended_host}
 use Rattle.link_entries.proofs.Sparing.{silences}
 use Rattle.node_order.proofs.Marking.{IsPast, turns_past, near_past, far_past}
 use Rattle.node_order.proofs.Jumping.{Jumps, Within, number_in, gave, all_jump, silenced, all_resets, all_number, see_within}
-use Rattle.node_order.proofs.Silencing.{IsDeaf, Hears, hears_parts, input_heard, only_rest, none_first, none_aged, here_down, tick_down, restart_down, down_past, silences_deaf}
+use Rattle.node_order.proofs.Silencing.{IsDeaf, Hears, hears_parts, input_heard, only_rest, none_first, none_aged, here_down, tick_down, restart_down, down_past, silences_deaf, never_put}
 
 -- no session with this number begins at the controller's end of this link, which has this name, any more
 abbrev pub IsGone : ℕ → End → Link → Type 0
@@ -242,7 +242,7 @@ begins_deaf n =
       acked = λ w n c. refl;
       got = λ w n m. refl;
       sent = λ w n m. refl;
-      emit = λ w c. refl;
+      emit = λ w e. never_put (begins n) w (λ c. refl) (frames_out e);
       took = λ w c. refl;
       lost = λ w c y. refl;
       tick = refl;

@@ -14,12 +14,13 @@ use Rattle.cut_laws.proofs.Histories.{kept_exactly}
 use Rattle.node_telling.specs.Telling.{world_behind}
 use Rattle.node_readings.proofs.NoticedWorlds.{numbers}
 use Rattle.turn_laws.proofs.Lines.{in_turn}
-use Rattle.node_order.specs.Told.{HasDelivered, HasSettled}
+use Rattle.node_order.specs.Told.{HasSettled}
 use Rattle.node_order.specs.Legal.{AtEachEvent, CompleteNodes, LegalNodes}
 use Rattle.node_order.proofs.Knowing.{Knows}
 use Rattle.node_order.proofs.Lines.{watches, of_none, IsSo, host_number, history_so}
 use Rattle.node_order.proofs.Ordered.{in_order, joined}
-use Rattle.node_order.proofs.Quiet.{delivered, has_settled}
+use Rattle.node_order.proofs.Quiet.{has_settled}
+use Rattle.node_order.proofs.Still.{history_delivered}
 use Rattle.node_order.proofs.Upheld.{resets_upheld}
 
 module _ (header : Header) (lines : List Line) (t : NodeHistory) (follows : FollowsNodes header lines t) (are : AreHosts header.hosts.items)
@@ -39,7 +40,7 @@ module _ (header : Header) (lines : List Line) (t : NodeHistory) (follows : Foll
 
   pub complete : CompleteNodes t
   complete = record {
-    delivered = each_event (λ entries h s. HasDelivered entries h s.link) (λ front h s host a. delivered h s.link (entries_in front) a.told host);
+    delivered = history_delivered header lines t follows are playable;
     settled = each_event (λ entries h s. HasSettled entries h s.link) (λ front h s host a. has_settled h s.link (entries_in front) a.told host);
     upheld = resets_upheld header lines t follows are playable;
     joined = joined header lines t follows are playable;

@@ -18,4 +18,5 @@ pub mod Quiet
 pub mod Asked
 pub mod Resets
 pub mod Upheld
+pub mod Still
 pub mod LegalLemmas

@@ -1,7 +1,7 @@
 -- An end that is started, stopped or cut off in a step is Down behind it, and what it comes up with is noted.
 use Rattle.std.proofs.Common.{◌≡◌, ℕ, ◌+◌, ◌<◌, ◌≤◌, ◌==◌, Bool, true, false, cond, List, [], ◌∷◌, ◌++◌, map, Option, Some, None, ◌⊎◌, inl, inr, refl, ap, sym, subst, ◌∙◌, arith, max}
 use Rattle.std.specs.Prelude.{nat_lt, if◌then◌else◌, ◌||◌, ◌&&◌, is_some, option_to_list}
-use Rattle.std.specs.List.{list_any}
+use Rattle.std.specs.List.{list_any, AllByRecursion}
 use Rattle.std.proofs.lemmas.Bool.{true≢false, eqb-true}
 use Rattle.swp_base.specs.declared.control_frames.Control.{Control}
 use Rattle.swp_base.specs.declared.link_terms.Cause.{Cause}
@@ -15,16 +15,18 @@ use Rattle.link_machine.specs.Machine.{Message, LinkEnd, Role, Refused, LinkInpu
 use Rattle.link_machine.specs.Machine.Role.{Bare, Clf, Uicc}
 use Rattle.link_machine.specs.Machine.LinkInput.{Take, Tick as HasTick, Reset, Start, Stop}
 use Rattle.link_machine.specs.Machine.Turn.{Give, Hold, FetchMessage, SetAside, Release}
-use Rattle.message_link.specs.Links.{NumberedEnd, Link, Ending, Comes, Loss, EndEvent, Node, exchanged, number_of, put, with_ended, silent, finished, steps_at_controller, happens_at_controller, ticks_at_controller, has_taken, CanEnd, IsNode, IsAllowed}
+use Rattle.message_link.specs.Links.{NumberedEnd, Link, Ending, Comes, Loss, EndEvent, Node, LinkEvent, exchanged, number_of, put, with_ended, silent, finished, steps_at_controller, happens_at_controller, happens, all_at_controller, ticks_at_controller, aged, has_taken, CanEnd, IsNode, IsAllowed}
 use Rattle.message_link.specs.Links.Ending.{GoesOut, CutOff}
 use Rattle.message_link.specs.Links.Comes.{NextFrame, AsksReset, Starts, Stops, NoInput}
 use Rattle.message_link.specs.Links.Loss.{TooMany}
 use Rattle.message_link.specs.Links.EndEvent.{Step, Lose}
+use Rattle.message_link.specs.Links.LinkEvent.{AtController, AtHost, Ticks, TicksWithout, Activate}
 use Rattle.message_link.specs.Projection.{core_half}
 use Rattle.message_link.proofs.Ends.{frames_alike}
 use Rattle.message_link.proofs.Project.{Now}
 use Rattle.message_link.proofs.Finishing.{can_end, took_can, restart_mid}
-use Rattle.link_entries.specs.Entries.{End, Entry, far, if_so, told, told_of, turn_entry, turn_entries, sent_unless, first_lost, pushed_out, wire_with, put_entries, puts_entries, ending_entries, rest_entries, left_after, taken_entries, step_entries, here_entries, tick_entries, aged_entries}
+use Rattle.link_entries.specs.Entries.{End, Entry, far, if_so, told, told_of, turn_entry, turn_entries, sent_unless, first_lost, pushed_out, wire_with, put_entries, puts_entries, ending_entries, rest_entries, left_after, taken_entries, step_entries, here_entries, entries_of_events, tick_entries, aged_entries, event_entries, entries}
+use Rattle.link_entries.specs.Entries.End.{Controller, Host}
 use Rattle.link_entries.specs.Entries.Entry.{Up, Down, Active, GaveUp, Acked, Got, Sent, Emit, Took, Lost, Tick, Restarted, Cut}
 use Rattle.link_entries.proofs.Noting.{turned_same, reset_role, restart_can, tick_can}
 use Rattle.link_entries.proofs.Sparing.{silences}
@@ -39,7 +41,7 @@ pub record IsDeaf (f : Entry → Bool) : Type 0 where
   pub acked : (who : End) (n count : ℕ) → f (Acked who n count) ≡ false
   pub got : (who : End) (n : ℕ) (m : Message) → f (Got who n m) ≡ false
   pub sent : (who : End) (n : ℕ) (m : Message) → f (Sent who n m) ≡ false
-  pub emit : (who : End) (c : Control) → f (Emit who c) ≡ false
+  pub emit : (who : End) (e : LinkEnd) → AllByRecursion (λ c. f (Emit who c) ≡ false) (frames_out e)
   pub took : (who : End) (c : Control) → f (Took who c) ≡ false
   pub lost : (who : End) (c : Control) (why : Loss) → f (Lost who c why) ≡ false
   pub tick : f Tick ≡ false
@@ -141,12 +143,12 @@ module _ (f : Entry → Bool) where
         go true p = none_first who TooMany w (let z = q in rw p at z)
         go false p = true≢false (sym (let z = q in rw p at z))
 
-    none_puts : (who : End) (cs : List Control) (l : Link) → Hears (puts_entries who l cs) → ⊥
-    none_puts who [] l q = true≢false (sym q)
-    none_puts who (c ∷ cs) l q = go (hears_parts (put_entries who l c) (puts_entries who (put l c) cs) q) (none_puts who cs (put l c))
+    none_puts : (who : End) (cs : List Control) (l : Link) → AllByRecursion (λ c. f (Emit who c) ≡ false) cs → Hears (puts_entries who l cs) → ⊥
+    none_puts who [] l a q = true≢false (sym q)
+    none_puts who (c ∷ cs) l a q = go (hears_parts (put_entries who l c) (puts_entries who (put l c) cs) q) (none_puts who cs (put l c) a.1)
       where
         go : Hears (put_entries who l c) ⊎ Hears (puts_entries who (put l c) cs) → (Hears (puts_entries who (put l c) cs) → ⊥) → ⊥
-        go (inl x) later = none_pushed (far who) (wire_with l c) (let r = deaf.emit who c in let z = x in rw r at z)
+        go (inl x) later = none_pushed (far who) (wire_with l c) (let r = a.0 in let z = x in rw r at z)
         go (inr x) later = later x
 
     -- a cut
@@ -161,7 +163,7 @@ module _ (f : Entry → Bool) where
         up false w = w
 
         go : (ending : Ending) → Hears (ending_entries who l (turned e ts) ending) → (ending ≡ CutOff) × (f (Cut who) ≡ true)
-        go GoesOut x = absurd (none_puts who (frames_out (turned e ts)) l x)
+        go GoesOut x = absurd (none_puts who (frames_out (turned e ts)) l (deaf.emit who (turned e ts)) x)
         go CutOff x = (refl, up (f (Cut who)) x)
 
     -- of a step in which an input comes
@@ -214,6 +216,12 @@ restart_down l event ts ending can now =
     let f : LinkEnd = activated (moved e true (stopped e.shdlc)) event in
     still_down (silent l f) f ts ending (restart_can e event ts ending can) (ap (λ (s : EndState). s.phase) (restart_mid e event now).same)
 
+-- no frame is one of them
+pub never_put : (f : Entry → Bool) (who : End) → ((c : Control) → f (Emit who c) ≡ false) → (cs : List Control)
+    → AllByRecursion (λ c. f (Emit who c) ≡ false) cs
+never_put f who p [] = tt
+never_put f who p (c ∷ cs) = (p c, never_put f who p cs)
+
 pub silences_deaf : IsDeaf silences
 silences_deaf =
     record {
@@ -223,7 +231,7 @@ silences_deaf =
       acked = λ w n c. refl;
       got = λ w n m. refl;
       sent = λ w n m. refl;
-      emit = λ w c. refl;
+      emit = λ w e. never_put silences w (λ c. refl) (frames_out e);
       took = λ w c. refl;
       lost = λ w c y. refl;
       tick = refl;
@@ -281,3 +289,101 @@ tick_down who l node a q =
 -- an end that is Down with a number
 pub down_past : (n : ℕ) (h : NumberedEnd) → h.side.shdlc.phase ≡ IsDown → n ≤ number_of h → n < bound (core_half h)
 down_past n h p q = rw p (omega (arith, q))
+
+-- ## What no step notes
+
+-- nor are these heard at all
+pub record IsMute (f : Entry → Bool) : Type 0 where
+  pub deaf : IsDeaf f
+  pub up : (who : End) (n : ℕ) → f (Up who n) ≡ false
+  pub restarted : (who : End) → f (Restarted who) ≡ false
+  pub cut : (who : End) → f (Cut who) ≡ false
+
+module _ (f : Entry → Bool) (mute : IsMute f) where
+  input_mute : (who : End) (h : NumberedEnd) (i : LinkInput) (k : Link) (e : LinkEnd) (ts : List Turn) (ending : Ending)
+      → Hears f (told_of who h i ++ rest_entries who k e ts ending) → ⊥
+  input_mute who h i k e ts ending q = go (input_heard f mute.deaf who h i k e ts ending q)
+    where
+      go : (((report h.side i).began ≡ true) × (f (Up who (number_of h)) ≡ true)) ⊎ ((ending ≡ CutOff) × (f (Cut who) ≡ true)) → ⊥
+      go (inl x) = true≢false (sym x.1 ∙ mute.up who (number_of h))
+      go (inr x) = true≢false (sym x.1 ∙ mute.cut who)
+
+  step_mute : (who : End) (l : Link) (comes : Comes) (ts : List Turn) (ending : Ending) → Hears f (step_entries who l comes ts ending) → ⊥
+  step_mute who l NextFrame ts ending q = go l.to_controller refl
+    where
+      go : (w : List OnWire) → l.to_controller ≡ w → ⊥
+      go [] p = true≢false (sym (rw p at q))
+      go (x ∷ xs) p =
+          let h : NumberedEnd = record l.controller { took = took_with l.controller.took x } in
+          let z : Hears f (taken_entries who l x xs ts ending) = rw p at q in
+          let r = mute.deaf.took who x.frame in
+          input_mute who h (Take x.frame) (left_after l x xs) (after_input l.controller.side (Take x.frame)) ts ending (rw r at z)
+  step_mute who l (AsksReset window) ts ending q =
+      let i : LinkInput = Reset window in
+      input_mute who l.controller i (with_ended l (is_some (ended_by l.controller.side i))) (after_input l.controller.side i) ts ending q
+  step_mute who l (Starts v) ts ending q =
+      let i : LinkInput = Start v in
+      let r = mute.restarted who in
+      input_mute who l.controller i (silent l (after_input l.controller.side i)) (after_input l.controller.side i) ts ending (let z = q in rw r at z)
+  step_mute who l Stops ts ending q =
+      let i : LinkInput = Stop in
+      let r = mute.restarted who in
+      input_mute who l.controller i (silent l (after_input l.controller.side i)) (after_input l.controller.side i) ts ending (let z = q in rw r at z)
+  step_mute who l NoInput ts ending q =
+      true≢false (sym (rest_heard f mute.deaf who l l.controller.side ts ending q).1 ∙ mute.cut who)
+
+  here_mute : (who : End) (l : Link) (e : EndEvent) → Hears f (here_entries who l e) → ⊥
+  here_mute who l (Step comes ts ending) q = step_mute who l comes ts ending q
+  here_mute who l (Lose why) q = none_first f mute.deaf who why l.to_controller q
+
+  tick_mute : (who : End) (l : Link) (node : Node) → Hears f (tick_entries who l node) → ⊥
+  tick_mute who l node q =
+      input_mute who l.controller HasTick (with_ended l (is_some (ended_by l.controller.side HasTick))) (after_input l.controller.side HasTick) node.turns
+      node.ending q
+
+  all_mute : (es : List EndEvent) (l : Link) → Hears f (entries_of_events Controller l es) → ⊥
+  all_mute [] l q = true≢false (sym q)
+  all_mute (e ∷ es) l q =
+      all_mute es (happens_at_controller l e)
+      (none f mute.deaf (here_mute Controller l e) (hears_parts f (here_entries Controller l e) (entries_of_events Controller (happens_at_controller l e) es) q))
+
+  event_mute : (l : Link) (e : LinkEvent) → Hears f (event_entries l e) → ⊥
+  event_mute l (AtController e) q = here_mute Controller l e q
+  event_mute l (AtHost e) q = here_mute Host (exchanged l) e q
+  event_mute l (Ticks c es h) q =
+      let near : Link = ticks_at_controller (aged l) c.turns c.ending in
+      let cs : List Entry = tick_entries Controller (aged l) c in
+      let ds : List Entry = entries_of_events Controller near es in
+      let fs : List Entry = tick_entries Host (exchanged (all_at_controller near es)) h in
+      let tick = mute.deaf.tick in
+      let first : Hears f (aged_entries Controller l.to_controller ++ (aged_entries Host l.to_host ++ (cs ++ (ds ++ fs)))) = rw tick at q in
+      tick_mute Host (exchanged (all_at_controller near es)) h (none f mute.deaf (all_mute es near) (hears_parts f ds fs
+      (none f mute.deaf (tick_mute Controller (aged l) c) (hears_parts f cs (ds ++ fs)
+      (none f mute.deaf (none_aged f mute.deaf Host l.to_host) (hears_parts f (aged_entries Host l.to_host) (cs ++ (ds ++ fs))
+      (none f mute.deaf (none_aged f mute.deaf Controller l.to_controller)
+      (hears_parts f (aged_entries Controller l.to_controller) (aged_entries Host l.to_host ++ (cs ++ (ds ++ fs))) first))))))))
+  event_mute l (TicksWithout es h) q =
+      let near : Link = aged l in
+      let ds : List Entry = entries_of_events Controller near es in
+      let fs : List Entry = tick_entries Host (exchanged (all_at_controller near es)) h in
+      let tick = mute.deaf.tick in
+      let first : Hears f (aged_entries Controller l.to_controller ++ (aged_entries Host l.to_host ++ (ds ++ fs))) = rw tick at q in
+      tick_mute Host (exchanged (all_at_controller near es)) h (none f mute.deaf (all_mute es near) (hears_parts f ds fs
+      (none f mute.deaf (none_aged f mute.deaf Host l.to_host) (hears_parts f (aged_entries Host l.to_host) (ds ++ fs)
+      (none f mute.deaf (none_aged f mute.deaf Controller l.to_controller)
+      (hears_parts f (aged_entries Controller l.to_controller) (aged_entries Host l.to_host ++ (ds ++ fs)) first))))))
+  event_mute l (Activate power c id h) q =
+      let k : Link = exchanged (steps_at_controller l (Starts power) c.turns c.ending) in
+      step_mute Host k (Starts id) h.turns h.ending (none f mute.deaf (step_mute Controller l (Starts power) c.turns c.ending)
+      (hears_parts f (step_entries Controller l (Starts power) c.turns c.ending) (step_entries Host k (Starts id) h.turns h.ending) q))
+
+  pub events_mute : (es : List LinkEvent) (l : Link) → list_any f (entries l es) ≡ false
+  events_mute es l = go (list_any f (entries l es)) refl
+    where
+      go : (b : Bool) → list_any f (entries l es) ≡ b → list_any f (entries l es) ≡ false
+      go false q = q
+      go true q = absurd (all es l q)
+        where
+          all : (es : List LinkEvent) (l : Link) → Hears f (entries l es) → ⊥
+          all [] l q = true≢false (sym q)
+          all (e ∷ es) l q = all es (happens l e) (none f mute.deaf (event_mute l e) (hears_parts f (event_entries l e) (entries (happens l e) es) q))

@@ -10,7 +10,7 @@ use Rattle.node_world.specs.NodeLegal.{Allowed, AreInTurn}
 use Rattle.cut_laws.specs.Histories.{KeptExactly}
 use Rattle.node_links.specs.Runs.{IsRunOf, new_line}
 use Rattle.node_telling.specs.Telling.{world_behind}
-use Rattle.node_order.specs.Told.{HasDelivered, HasSettled}
+use Rattle.node_order.specs.Told.{HasDeliveredAll, HasSettled}
 use Rattle.node_order.specs.Resets.{ResetNodes}
 
 -- At each moment messages are in order.
@@ -23,10 +23,11 @@ AtEachEvent t P =
     (front back : List Occurrence) → occurrences_in t ≡ front ++ back → (h : ℕ) (s : Site)
     → site_at (world_behind (new_world t.header.hosts.items) front).sites h ≡ Some s → P (entries_in front) h s
 
--- At the end of each event a quiet link has delivered all, and a reset whose answer nothing kept back has brought both ends up: as the law
--- of the link knows it, and as it is read off the events of a reset that a line asked for. No session ends by packets that can't be joined.
+-- At the end of each event a link that is still has delivered all, as it is read off the events until then, and a reset whose answer
+-- nothing kept back has brought both ends up: as the law of the link knows it, and as it is read off the events of a reset that a line
+-- asked for. No session ends by packets that can't be joined.
 pub record CompleteNodes (t : NodeHistory) : Type 0 where
-  pub delivered : AtEachEvent t (λ entries h s. HasDelivered entries h s.link)
+  pub delivered : (front back : List Occurrence) → occurrences_in t ≡ front ++ back → (h : ℕ) → HasDeliveredAll front h
   pub settled : AtEachEvent t (λ entries h s. HasSettled entries h s.link)
   pub upheld : ResetNodes t
   pub joined : list_any is_chain_fault (node_entries t) ≡ false

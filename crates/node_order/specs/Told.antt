@@ -12,10 +12,11 @@ use Rattle.message_link.specs.Settled.{IsSettled, sure_of}
 use Rattle.link_entries.specs.Entries.{entries}
 use Rattle.link_entries.specs.Sessions.{number_now as session_at}
 use Rattle.history.specs.Filters.{sent_in, got_in, acked_in}
-use Rattle.history.specs.Legal.{IsDelivered}
+use Rattle.history.specs.Legal.{IsDelivered, since_up, has_lost, has_rnr}
 use Rattle.history.specs.Steps.{entries_for}
 use Rattle.node_world.specs.World.{end_c, end_h}
 use Rattle.node_world.specs.Lines.{Occurrence}
+use Rattle.node_world.specs.NodeHistories.{entries_in}
 use Rattle.node_world.specs.NodeFilters.{session_now}
 use Rattle.node_links.specs.Runs.{IsRunOf, new_line}
 use Rattle.node_telling.specs.Telling.{of_link}
@@ -75,6 +76,21 @@ pub record HasDelivered (t : List Entry) (h : ℕ) (l : Link) : Type 0 where
       → IsDelivered t (end_c h) n
   pub to_controller : (n : ℕ) → AreUpWith t h n → (events : List LinkEvent) → IsRunOf events l → IsUntroubled l (losses_of new_line events)
       → IsDelivered t (end_h h) n
+
+-- Both ends of the link with this host are up in the session with this number; since the first of them came up in it no frame of the
+-- link was lost and no RNR put on it; and both its wires are empty: all as it is read off these events.
+pub record IsStillInSession (events : List Occurrence) (h n : ℕ) : Type 0 where
+  pub up : AreUpWith (entries_in events) h n
+  pub lossless : has_lost h (since_up h n (entries_in events)) ≡ false
+  pub ready : has_rnr h (since_up h n (entries_in events)) ≡ false
+  pub to_controller : (standing_behind h events).to_controller ≡ []
+  pub to_host : (standing_behind h events).to_host ≡ []
+
+-- Where that is so, each end of that link got all good messages that the other sent in that session, and all that were sent are
+-- acknowledged: all as it is read off these events.
+pub record HasDeliveredAll (events : List Occurrence) (h : ℕ) : Type 0 where
+  pub to_host : (n : ℕ) → IsStillInSession events h n → IsDelivered (entries_in events) (end_c h) n
+  pub to_controller : (n : ℕ) → IsStillInSession events h n → IsDelivered (entries_in events) (end_h h) n
 
 -- they are so in one session
 pub record AreBothUp (t : List Entry) (h : ℕ) : Type 0 where

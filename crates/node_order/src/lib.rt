@@ -15,7 +15,7 @@ ghost use Rattle.kept_laws.specs.Hosts.{AreHosts, IsFew, IsSentByHost};
 ghost use Rattle.node_telling.specs.Telling.{IsTimely, world_behind};
 ghost use Rattle.node_order.specs.Legal.{LegalNodes, PrefixNodes};
 ghost use Rattle.node_order.specs.Resets.{ResetNodes};
-ghost use Rattle.node_order.specs.Told.{AreReadOff, AreSessionsRead, AreWiresRead, HasDelivered, HasSettled, IsLinkTold};
+ghost use Rattle.node_order.specs.Told.{AreReadOff, AreSessionsRead, AreWiresRead, HasDelivered, HasDeliveredAll, HasSettled, IsLinkTold};
 
 /// At the end of each event of a history of hosts from 01 to 07 that are all different, each end is new while its node doesn't run, a
 /// notice comes to its hundredth tick only at an end that is active and up, and none does at a host: so what is said of ticks of such
@@ -88,6 +88,14 @@ pub fn quiet_links_have_delivered_all_in_each_history()
 pub fn resets_bring_both_up_in_each_history()
     ensures { (header : Header) (lines : List Line) (t : NodeHistory) → FollowsNodes header lines t → AreHosts header.hosts.items →
         ArePlayable lines → ResetNodes t }
+{}
+
+/// At the end of each event of such a history, where both ends of a link are up in one session, no frame of the link was lost and no RNR
+/// put on it since the first of them came up in it, and both its wires are empty, each end got all good messages that the other end sent
+/// in that session, and all that were sent are acknowledged. All this is read off the events: no link's state is spoken of.
+pub fn links_that_are_still_have_delivered_all()
+    ensures { (header : Header) (lines : List Line) (t : NodeHistory) → FollowsNodes header lines t → AreHosts header.hosts.items →
+        ArePlayable lines → (front back : List Occurrence) → occurrences_in t ≡ front ++ back → (h : ℕ) → HasDeliveredAll front h }
 {}
 
 /// Every history that follows a schedule is legal: messages are in order at each moment, at the end of each event quiet links have
