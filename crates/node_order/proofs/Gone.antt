@@ -1,26 +1,25 @@
 -- Once an end was started, stopped or cut off, no session with a number in use until then begins there any more.
-use Rattle.std.proofs.Common.{◌≡◌, ℕ, ◌+◌, ◌<◌, ◌≤◌, ◌==◌, Bool, true, false, List, [], ◌∷◌, ◌++◌, map, Option, Some, None, ◌⊎◌, inl, inr, refl, ap, sym, subst, ◌∙◌, arith, max}
-use Rattle.std.specs.Prelude.{◌||◌, is_some}
-use Rattle.std.specs.List.{list_any}
+use Rattle.std.proofs.Common.{◌≡◌, ℕ, ◌≤◌, ◌==◌, Bool, true, false, List, [], ◌∷◌, ◌++◌, ◌⊎◌, inl, inr, refl, ap, sym, subst, ◌∙◌, arith}
+use Rattle.std.specs.Prelude.{is_some}
 use Rattle.std.proofs.lemmas.Bool.{true≢false, eqb-true}
 use Rattle.swp_act.specs.declared.ActEvent.TheVariants.{Start as ActStart}
 use Rattle.shdlc_core.specs.declared.answers.LinkState.TheVariants.{Down as IsDown}
-use Rattle.session_laws.specs.Sessions.{OnWire, ShdlcLink as CoreLink, ShdlcEndEvent as CoreEndEvent, ShdlcLinkEvent as CoreLinkEvent, shdlc_aged as core_aged, ticks_or_cut as core_ticks_or_cut, ticks_if_waiting as core_ticks_if_waiting, took_with}
+use Rattle.session_laws.specs.Sessions.{OnWire, ShdlcLink as CoreLink, ShdlcEndEvent as CoreEndEvent, shdlc_aged as core_aged, ticks_or_cut as core_ticks_or_cut, ticks_if_waiting as core_ticks_if_waiting, took_with}
 use Rattle.session_laws.proofs.Sending.{SafeLink}
-use Rattle.session_laws.proofs.Steps.{safe_aged, safe_turns, safe_exchanged, tick_or_cut, tick_if_waiting}
-use Rattle.link_machine.specs.Machine.{LinkEnd, LinkInput, Turn, turned, after_input, ended_by, report, frames_out}
+use Rattle.session_laws.proofs.Steps.{safe_aged, safe_turns, tick_or_cut, tick_if_waiting}
+use Rattle.link_machine.specs.Machine.{LinkInput, Turn, turned, after_input, ended_by, frames_out}
 use Rattle.link_machine.specs.Machine.LinkInput.{Take, Tick as HasTick, Reset, Start, Stop}
-use Rattle.message_link.specs.Links.{NumberedEnd, Link, Ending, Comes, EndEvent, Node, LinkEvent, exchanged, number_of, with_ended, silent, finished, steps_at_controller, happens_at_controller, happens, all_at_controller, ticks_at_controller, aged, has_taken, CanStart, IsUicc, IsNode, IsAllowed, IsOwn, AreOwn, IsEvent}
+use Rattle.message_link.specs.Links.{NumberedEnd, Link, Ending, EndEvent, Node, LinkEvent, exchanged, number_of, with_ended, silent, steps_at_controller, happens_at_controller, happens, all_at_controller, ticks_at_controller, aged, CanStart, IsUicc, IsNode, IsOwn, AreOwn, IsEvent}
 use Rattle.message_link.specs.Links.Comes.{NextFrame, AsksReset, Starts, Stops, NoInput}
 use Rattle.message_link.specs.Links.EndEvent.{Step, Lose}
 use Rattle.message_link.specs.Links.LinkEvent.{AtController, AtHost, Ticks, TicksWithout, Activate}
 use Rattle.message_link.specs.Projection.{core_of, core_half, core_here, core_all, core_event, core_tick, core_tick_rest}
 use Rattle.message_link.proofs.Project.{Tells}
 use Rattle.message_link.proofs.Finishing.{step_tick}
-use Rattle.message_link.proofs.Runs.{Good, Reached, safe_reached, rests_of, reached_more, event_step, own_here, own_turns, all_step, rest_both, tells_same, started_clf, clf_starts, can_start}
+use Rattle.message_link.proofs.Runs.{Good, Reached, safe_reached, rests_of, reached_more, event_step, own_here, own_turns, all_step, rest_both, clf_starts}
 use Rattle.link_entries.specs.Entries.{End, Entry, told_of, left_after, rest_entries, taken_entries, step_entries, here_entries, entries_of_events, tick_entries, aged_entries, event_entries}
 use Rattle.link_entries.specs.Entries.End.{Controller, Host}
-use Rattle.link_entries.specs.Entries.Entry.{Took, Tick}
+use Rattle.link_entries.specs.Entries.Entry.{Took}
 use Rattle.link_entries.specs.Quiet.{begins}
 use Rattle.link_entries.specs.Reading.{Seen, see, see_all, kept}
 use Rattle.link_entries.proofs.Seeing.{seen_as, here_seen, all_seen, tick_seen, step_seen}
@@ -29,8 +28,8 @@ use Rattle.link_entries.proofs.Running.{host_here}
 use Rattle.link_entries.proofs.Completing.{ended_host}
 use Rattle.link_entries.proofs.Sparing.{silences}
 use Rattle.node_order.proofs.Marking.{IsPast, turns_past, near_past, far_past}
-use Rattle.node_order.proofs.Jumping.{Jumps, Within, number_in, gave, all_jump, silenced, all_resets, all_number, see_within}
-use Rattle.node_order.proofs.Silencing.{IsDeaf, Hears, hears_parts, input_heard, only_rest, none_first, none_aged, here_down, tick_down, restart_down, down_past, silences_deaf, never_put}
+use Rattle.node_order.proofs.Jumping.{Jumps, StaysWithin, number_seen, all_jump, silenced, all_resets, all_number, see_within}
+use Rattle.node_order.proofs.Silencing.{IsDeaf, Hears, hears_parts, input_heard, rest_heard, none_first, none_aged, here_down, tick_down, restart_down, down_past, silences_deaf, never_put}
 
 -- no session with this number begins at the controller's end of this link, which has this name, any more
 abbrev pub IsGone : ℕ → End → Link → Type 0
@@ -46,7 +45,7 @@ but x (inr y) = y
 
 -- ## One end
 
-near_number : (who : End) (l : Link) → number_in who (seen_as who l) ≡ number_of l.controller
+near_number : (who : End) (l : Link) → number_seen who (seen_as who l) ≡ number_of l.controller
 near_number Controller l = refl
 near_number Host l = refl
 
@@ -54,7 +53,7 @@ near_resets : (who : End) (l : Link) → (seen_as who l).resets ≡ l.resets
 near_resets Controller l = refl
 near_resets Host l = refl
 
-near_within : (who : End) (l : Link) → l.controller.emitted ≤ l.resets → Within who (seen_as who l)
+near_within : (who : End) (l : Link) → l.controller.emitted ≤ l.resets → StaysWithin who (seen_as who l)
 near_within Controller l w = w
 near_within Host l w = w
 
@@ -63,10 +62,10 @@ step_gone : (n : ℕ) (who : End) (l k : Link) (u : List Entry) → see_all (see
 step_gone n who l k u seen w r q down =
     go (silenced n who u (seen_as who l) (near_within who l w) (let z = near_resets who l in omega (arith, r, z)) q)
   where
-    go : Jumps n who (see_all (seen_as who l) u) ⊎ (n ≤ number_in who (see_all (seen_as who l) u)) → IsGone n who k
+    go : Jumps n who (see_all (seen_as who l) u) ⊎ (n ≤ number_seen who (see_all (seen_as who l) u)) → IsGone n who k
     go (inl j) = inl (subst (λ s. Jumps n who s) seen j)
     go (inr m) =
-        let z : n ≤ number_in who (seen_as who k) = subst (λ s. n ≤ number_in who s) seen m in
+        let z : n ≤ number_seen who (seen_as who k) = subst (λ s. n ≤ number_seen who s) seen m in
         let y = near_number who k in
         inr (down_past n k.controller down (omega (arith, z, y)))
 
@@ -267,7 +266,7 @@ own_begins n who l (Step Stops ts ending) o q =
     let i : LinkInput = Stop in
     neither (input_heard (begins n) (begins_deaf n) who l.controller i (silent l (after_input l.controller.side i)) (after_input l.controller.side i) ts ending q)
 own_begins n who l (Step NoInput ts ending) o q =
-    true≢false (sym (only_rest (begins n) (begins_deaf n) who l l.controller.side ts ending q).1)
+    true≢false (sym (rest_heard (begins n) (begins_deaf n) who l l.controller.side ts ending q).1)
 
 tick_begins : (n : ℕ) (who : End) (l : Link) (node : Node) → Hears (begins n) (tick_entries who l node) → ⊥
 tick_begins n who l node q =
@@ -290,7 +289,7 @@ frame_begins : (n : ℕ) (who : End) (l : Link) (ts : List Turn) (ending : Endin
 frame_begins n who l ts ending w q = go l.to_controller refl
   where
     took_first : (who : End) (x : OnWire) (xs : List OnWire) → l.to_controller ≡ x ∷ xs
-        → number_in who (see (seen_as who l) (Took who x.frame)) ≡ number_of (record l.controller { took = took_with l.controller.took x })
+        → number_seen who (see (seen_as who l) (Took who x.frame)) ≡ number_of (record l.controller { took = took_with l.controller.took x })
     took_first Controller x xs p = rw p refl
     took_first Host x xs p = rw p refl
 
@@ -304,12 +303,12 @@ frame_begins n who l ts ending w q = go l.to_controller refl
         let z : Hears (begins n) (taken_entries who l x xs ts ending) = rw p at q in
         let y : number_of h ≡ n = by (input_heard (begins n) (begins_deaf n) who h i k (after_input l.controller.side i) ts ending z) in
         let s : Seen = see (seen_as who l) (Took who x.frame) in
-        let grows : number_in who s ≤ number_in who (see_all s u) =
+        let grows : number_seen who s ≤ number_seen who (see_all s u) =
         all_number who u s (see_within who (seen_as who l) (Took who x.frame) (near_within who l w)) in
         let entries_are : step_entries who l NextFrame ts ending ≡ Took who x.frame ∷ u = rw p refl in
         let seen : see_all s u ≡ seen_as who (steps_at_controller l NextFrame ts ending) =
         ap (see_all (seen_as who l)) (sym entries_are) ∙ step_seen who l NextFrame ts ending in
-        let last : number_in who (see_all s u) ≡ number_in who (seen_as who (steps_at_controller l NextFrame ts ending)) = ap (number_in who) seen in
+        let last : number_seen who (see_all s u) ≡ number_seen who (seen_as who (steps_at_controller l NextFrame ts ending)) = ap (number_seen who) seen in
         let first = took_first who x xs p in
         let is = near_number who (steps_at_controller l NextFrame ts ending) in
         omega (arith, y, grows, last, first, is)

@@ -1,6 +1,6 @@
 -- Once both wires are empty, the number of an end that was below another goes past that one, if it grows at all.
-use Rattle.std.proofs.Common.{◌≡◌, ℕ, ◌+◌, ◌<◌, ◌≤◌, Bool, true, false, List, [], ◌∷◌, ◌++◌, ◌⊎◌, inl, inr, refl, ap, sym, subst, ◌∙◌, arith, max, drop}
-use Rattle.std.specs.Prelude.{nat_lt, if◌then◌else◌, ◌||◌}
+use Rattle.std.proofs.Common.{◌≡◌, ℕ, ◌+◌, ◌<◌, ◌≤◌, Bool, true, false, List, [], ◌∷◌, ◌++◌, ◌⊎◌, inl, inr, refl, sym, arith, max, drop}
+use Rattle.std.specs.Prelude.{nat_lt, if◌then◌else◌}
 use Rattle.std.specs.List.{list_any}
 use Rattle.std.proofs.lemmas.Bool.{true≢false, ltb-true, ltb-false}
 use Rattle.swp_base.specs.declared.control_frames.Control.{Control}
@@ -16,16 +16,16 @@ abbrev pub mail : End → Seen → List OnWire
 mail Controller s = s.to_controller
 mail Host s = s.to_host
 
-abbrev pub gave : End → Seen → ℕ
-gave Controller s = s.by_controller
-gave Host s = s.by_host
+abbrev pub put_by : End → Seen → ℕ
+put_by Controller s = s.by_controller
+put_by Host s = s.by_host
 
-abbrev pub took : End → Seen → ℕ
-took Controller s = s.at_controller
-took Host s = s.at_host
+abbrev pub taken_by : End → Seen → ℕ
+taken_by Controller s = s.at_controller
+taken_by Host s = s.at_host
 
-abbrev pub number_in : End → Seen → ℕ
-number_in who s = max (gave who s) (took who s)
+abbrev pub number_seen : End → Seen → ℕ
+number_seen who s = max (put_by who s) (taken_by who s)
 
 module _ (n : ℕ) where
   -- an RSET has a greater number
@@ -40,8 +40,8 @@ module _ (n : ℕ) where
   pub record Jumps (who : End) (s : Seen) : Type 0 where
     pub over : AreOver (mail who s)
     pub resets : n ≤ s.resets
-    pub gave : gave who s ≡ n → ⊥
-    pub took : took who s ≡ n → ⊥
+    pub gave : put_by who s ≡ n → ⊥
+    pub took : taken_by who s ≡ n → ⊥
 
   over_push : (w : List OnWire) (x : OnWire) → AreOver w → IsOver x → AreOver (w ++ x ∷ [])
   over_push [] x a b = (b, tt)
@@ -125,8 +125,8 @@ module _ (n : ℕ) where
 -- ## Numbers only grow
 
 -- its numbers are those of RSETs that were put on the link
-abbrev pub Within : End → Seen → Type 0
-Within who s = gave who s ≤ s.resets
+abbrev pub StaysWithin : End → Seen → Type 0
+StaysWithin who s = put_by who s ≤ s.resets
 
 kept_within : (b : Bool) (k m : ℕ) → m ≤ k → (if b then k + 1 else m) ≤ (if b then k + 1 else k)
 kept_within true k m r = omega arith
@@ -136,7 +136,7 @@ still_within : (b : Bool) (k m : ℕ) → m ≤ k → m ≤ (if b then k + 1 els
 still_within true k m r = omega (arith, r)
 still_within false k m r = r
 
-pub see_within : (who : End) (s : Seen) (e : Entry) → Within who s → Within who (see s e)
+pub see_within : (who : End) (s : Seen) (e : Entry) → StaysWithin who s → StaysWithin who (see s e)
 see_within Controller s (Emit Controller c) w = kept_within (is_rset c) s.resets s.by_controller w
 see_within Controller s (Emit Host c) w = still_within (is_rset c) s.resets s.by_controller w
 see_within Host s (Emit Host c) w = kept_within (is_rset c) s.resets s.by_host w
@@ -200,7 +200,7 @@ more_taken (x ∷ w) g m = go (is_rset x.frame) refl
 same : (m : ℕ) → m ≤ m
 same m = omega arith
 
-pub see_number : (who : End) (s : Seen) (e : Entry) → Within who s → number_in who s ≤ number_in who (see s e)
+pub see_number : (who : End) (s : Seen) (e : Entry) → StaysWithin who s → number_seen who s ≤ number_seen who (see s e)
 see_number Controller s (Emit Controller c) w = more_given (is_rset c) s.resets s.by_controller s.at_controller w
 see_number Controller s (Emit Host c) w = same (max s.by_controller s.at_controller)
 see_number Host s (Emit Host c) w = more_given (is_rset c) s.resets s.by_host s.at_host w
@@ -219,27 +219,27 @@ see_number Controller s (Restarted x) w = same (max s.by_controller s.at_control
 see_number Host s (Restarted x) w = same (max s.by_host s.at_host)
 see_number Controller s (Cut x) w = same (max s.by_controller s.at_controller)
 see_number Host s (Cut x) w = same (max s.by_host s.at_host)
-see_number who s (Up x k) w = same (number_in who s)
-see_number who s (Down x cause) w = same (number_in who s)
-see_number who s (Active x) w = same (number_in who s)
-see_number who s (GaveUp x tries) w = same (number_in who s)
-see_number who s (Acked x k count) w = same (number_in who s)
-see_number who s (Got x k m) w = same (number_in who s)
-see_number who s (Sent x k m) w = same (number_in who s)
+see_number who s (Up x k) w = same (number_seen who s)
+see_number who s (Down x cause) w = same (number_seen who s)
+see_number who s (Active x) w = same (number_seen who s)
+see_number who s (GaveUp x tries) w = same (number_seen who s)
+see_number who s (Acked x k count) w = same (number_seen who s)
+see_number who s (Got x k m) w = same (number_seen who s)
+see_number who s (Sent x k m) w = same (number_seen who s)
 
 pub all_resets : (t : List Entry) (s : Seen) → s.resets ≤ (see_all s t).resets
 all_resets [] s = same s.resets
 all_resets (e ∷ t) s = omega (arith, see_resets s e, all_resets t (see s e))
 
-pub all_number : (who : End) (t : List Entry) (s : Seen) → Within who s → number_in who s ≤ number_in who (see_all s t)
-all_number who [] s w = same (number_in who s)
+pub all_number : (who : End) (t : List Entry) (s : Seen) → StaysWithin who s → number_seen who s ≤ number_seen who (see_all s t)
+all_number who [] s w = same (number_seen who s)
 all_number who (e ∷ t) s w = omega (arith, see_number who s e w, all_number who t (see s e) (see_within who s e w))
 
 -- ## Both wires are empty once
 
 -- behind a start, a stop or a cut an end doesn't have a number that is in use and won't, or has it or a greater one
-pub silenced : (n : ℕ) (who : End) (t : List Entry) (s : Seen) → Within who s → n ≤ s.resets → list_any silences t ≡ true
-    → Jumps n who (see_all s t) ⊎ (n ≤ number_in who (see_all s t))
+pub silenced : (n : ℕ) (who : End) (t : List Entry) (s : Seen) → StaysWithin who s → n ≤ s.resets → list_any silences t ≡ true
+    → Jumps n who (see_all s t) ⊎ (n ≤ number_seen who (see_all s t))
 silenced n who [] s w r q = absurd (true≢false (sym q))
 silenced n who (e ∷ t) s w r q =
     let r' = see_resets s e in
@@ -268,10 +268,10 @@ silenced n who (e ∷ t) s w r q =
     over : (w : List OnWire) → w ≡ [] → AreOver n w
     over w p = rw p tt
 
-    decide : silences e ≡ true → (b : Bool) → nat_lt (number_in who (see s e)) n ≡ b
-        → Jumps n who (see_all s (e ∷ t)) ⊎ (n ≤ number_in who (see_all s (e ∷ t)))
+    decide : silences e ≡ true → (b : Bool) → nat_lt (number_seen who (see s e)) n ≡ b
+        → Jumps n who (see_all s (e ∷ t)) ⊎ (n ≤ number_seen who (see_all s (e ∷ t)))
     decide p true z =
-        let low : number_in who (see s e) < n = ltb-true (number_in who (see s e)) n z in
+        let low : number_seen who (see s e) < n = ltb-true (number_seen who (see s e)) n z in
         let res = see_resets s e in
         inl (all_jump n who t (see s e) (record {
           over = over (mail who (see s e)) (empty who p);
@@ -280,12 +280,12 @@ silenced n who (e ∷ t) s w r q =
           took = λ x. absurd (omega (arith, low, x));
         }))
     decide p false z =
-        let high : n ≤ number_in who (see s e) = ltb-false (number_in who (see s e)) n z in
+        let high : n ≤ number_seen who (see s e) = ltb-false (number_seen who (see s e)) n z in
         let more = all_number who t (see s e) (see_within who s e w) in
         inr (omega (arith, high, more))
 
     go : (b : Bool) → silences e ≡ b
-        → (list_any silences t ≡ true → Jumps n who (see_all (see s e) t) ⊎ (n ≤ number_in who (see_all (see s e) t)))
-        → Jumps n who (see_all s (e ∷ t)) ⊎ (n ≤ number_in who (see_all s (e ∷ t)))
-    go true p later = decide p (nat_lt (number_in who (see s e)) n) refl
+        → (list_any silences t ≡ true → Jumps n who (see_all (see s e) t) ⊎ (n ≤ number_seen who (see_all (see s e) t)))
+        → Jumps n who (see_all s (e ∷ t)) ⊎ (n ≤ number_seen who (see_all s (e ∷ t)))
+    go true p later = decide p (nat_lt (number_seen who (see s e)) n) refl
     go false p later = later (let z = q in rw p at z)

@@ -1,5 +1,5 @@
 -- Below the ended sessions of an end another may stand, of which nothing is known: so it doesn't come up with its number again.
-use Rattle.std.proofs.Common.{◌≡◌, ℕ, ◌+◌, ◌<◌, ◌≤◌, ◌==◌, Bool, true, false, List, [], ◌∷◌, ◌++◌, map, Option, Some, None, refl, ap, sym, subst, ◌∙◌, arith}
+use Rattle.std.proofs.Common.{◌≡◌, ℕ, ◌<◌, ◌==◌, Bool, true, false, List, [], ◌∷◌, ◌++◌, map, Option, Some, None, refl, ap, sym, subst, ◌∙◌}
 use Rattle.std.specs.Prelude.{is_some, if◌then◌else◌}
 use Rattle.swp_base.specs.declared.control_frames.Control.{Control}
 use Rattle.shdlc_core.specs.declared.answers.LinkState.{LinkState}
@@ -11,9 +11,8 @@ use Rattle.session_laws.specs.Sessions.ShdlcLinkEvent.{AtController, AtHost, Tic
 use Rattle.session_laws.specs.Losses.{sans}
 use Rattle.session_laws.proofs.Data.{Base, OnLive, Below, bound}
 use Rattle.session_laws.proofs.Wire.{live}
-use Rattle.session_laws.proofs.Safe.{Safe}
 use Rattle.session_laws.proofs.Sending.{SafeLink}
-use Rattle.session_laws.proofs.Steps.{safe_turns, safe_event, safe_exchanged, tick_or_cut}
+use Rattle.session_laws.proofs.Steps.{safe_turns, safe_event}
 
 -- an end below whose ended sessions these stand
 abbrev pub below : List (ℕ × Session) → NumberedShdlc → NumberedShdlc

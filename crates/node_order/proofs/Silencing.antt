@@ -1,24 +1,24 @@
 -- An end that is started, stopped or cut off in a step is Down behind it, and what it comes up with is noted.
-use Rattle.std.proofs.Common.{◌≡◌, ℕ, ◌+◌, ◌<◌, ◌≤◌, ◌==◌, Bool, true, false, cond, List, [], ◌∷◌, ◌++◌, map, Option, Some, None, ◌⊎◌, inl, inr, refl, ap, sym, subst, ◌∙◌, arith, max}
+use Rattle.std.proofs.Common.{◌≡◌, ℕ, ◌<◌, ◌≤◌, Bool, true, false, List, [], ◌∷◌, ◌++◌, length, map, Option, Some, None, ◌⊎◌, inl, inr, refl, ap, sym, ◌∙◌, arith}
 use Rattle.std.specs.Prelude.{nat_lt, if◌then◌else◌, ◌||◌, ◌&&◌, is_some, option_to_list}
 use Rattle.std.specs.List.{list_any, AllByRecursion}
-use Rattle.std.proofs.lemmas.Bool.{true≢false, eqb-true}
+use Rattle.std.proofs.lemmas.Bool.{true≢false}
 use Rattle.swp_base.specs.declared.control_frames.Control.{Control}
 use Rattle.swp_base.specs.declared.link_terms.Cause.{Cause}
 use Rattle.swp_act.specs.declared.ActEvent.{ActEvent}
 use Rattle.swp_act.specs.declared.ActEvent.TheVariants.{Start as ActStart, Stop as ActStop}
 use Rattle.shdlc_core.specs.declared.answers.LinkState.TheVariants.{Down as IsDown}
 use Rattle.shdlc_core.specs.Machine.{EndState, most_frames, stopped}
-use Rattle.session_laws.specs.Sessions.{OnWire, is_up, took_with}
+use Rattle.session_laws.specs.Sessions.{OnWire, took_with}
 use Rattle.session_laws.proofs.Data.{bound}
-use Rattle.link_machine.specs.Machine.{Message, LinkEnd, Role, Refused, LinkInput, Turn, Report, turn, turned, give_refusal, report, reset_refusal, after_input, ended_by, activated, moved, took as took_frame, renewed, new_link_end, frames_out, whole_acked}
+use Rattle.link_machine.specs.Machine.{Message, LinkEnd, Role, Refused, LinkInput, Turn, Report, turn, turned, give_refusal, report, after_input, ended_by, activated, moved, took as took_frame, renewed, new_link_end, frames_out, whole_acked}
 use Rattle.link_machine.specs.Machine.Role.{Bare, Clf, Uicc}
 use Rattle.link_machine.specs.Machine.LinkInput.{Take, Tick as HasTick, Reset, Start, Stop}
 use Rattle.link_machine.specs.Machine.Turn.{Give, Hold, FetchMessage, SetAside, Release}
 use Rattle.message_link.specs.Links.{NumberedEnd, Link, Ending, Comes, Loss, EndEvent, Node, LinkEvent, exchanged, number_of, put, with_ended, silent, finished, steps_at_controller, happens_at_controller, happens, all_at_controller, ticks_at_controller, aged, has_taken, CanEnd, IsNode, IsAllowed}
 use Rattle.message_link.specs.Links.Ending.{GoesOut, CutOff}
 use Rattle.message_link.specs.Links.Comes.{NextFrame, AsksReset, Starts, Stops, NoInput}
-use Rattle.message_link.specs.Links.Loss.{TooMany}
+use Rattle.message_link.specs.Links.Loss.{TooMany, TooOld}
 use Rattle.message_link.specs.Links.EndEvent.{Step, Lose}
 use Rattle.message_link.specs.Links.LinkEvent.{AtController, AtHost, Ticks, TicksWithout, Activate}
 use Rattle.message_link.specs.Projection.{core_half}
@@ -137,9 +137,9 @@ module _ (f : Entry → Bool) where
     none_first who why (x ∷ xs) q = true≢false (sym (let r = deaf.lost who x.frame why in let z = q in rw r at z))
 
     none_pushed : (who : End) (w : List OnWire) → Hears (pushed_out who w) → ⊥
-    none_pushed who w q = go (nat_lt 64 (Rattle.std.specs.Prelude.length w)) refl
+    none_pushed who w q = go (nat_lt 64 (length w)) refl
       where
-        go : (b : Bool) → nat_lt 64 (Rattle.std.specs.Prelude.length w) ≡ b → ⊥
+        go : (b : Bool) → nat_lt 64 (length w) ≡ b → ⊥
         go true p = none_first who TooMany w (let z = q in rw p at z)
         go false p = true≢false (sym (let z = q in rw p at z))
 
@@ -152,7 +152,7 @@ module _ (f : Entry → Bool) where
         go (inr x) later = later x
 
     -- a cut
-    rest_heard : (who : End) (l : Link) (e : LinkEnd) (ts : List Turn) (ending : Ending) → Hears (rest_entries who l e ts ending)
+    pub rest_heard : (who : End) (l : Link) (e : LinkEnd) (ts : List Turn) (ending : Ending) → Hears (rest_entries who l e ts ending)
         → (ending ≡ CutOff) × (f (Cut who) ≡ true)
     rest_heard who l e ts ending q =
         go ending (none (none_turns who (number_of l.controller) ts e)
@@ -177,18 +177,14 @@ module _ (f : Entry → Bool) where
         go (inl x) = inl (told_heard who (number_of h) (report h.side i) (whole_acked (after_input h.side i)) x)
         go (inr x) = inr (rest_heard who k e ts ending x)
 
-    pub only_rest : (who : End) (k : Link) (e : LinkEnd) (ts : List Turn) (ending : Ending) → Hears (rest_entries who k e ts ending)
-        → (ending ≡ CutOff) × (f (Cut who) ≡ true)
-    only_rest = rest_heard
-
     pub none_aged : (who : End) (w : List OnWire) → Hears (aged_entries who w) → ⊥
     none_aged who [] q = true≢false (sym q)
     none_aged who (x ∷ xs) q = go (nat_lt x.age 4) refl (none_aged who xs)
       where
         go : (b : Bool) → nat_lt x.age 4 ≡ b → (Hears (aged_entries who xs) → ⊥) → ⊥
         go true p later = later (let z = q in rw p at z)
-        go false p later = later (let y : Hears (Lost who x.frame Rattle.message_link.specs.Links.Loss.TooOld ∷ aged_entries who xs) = rw p at q in
-            let r = deaf.lost who x.frame Rattle.message_link.specs.Links.Loss.TooOld in rw r at y)
+        go false p later = later (let y : Hears (Lost who x.frame TooOld ∷ aged_entries who xs) = rw p at q in
+            let r = deaf.lost who x.frame TooOld in rw r at y)
 
 -- ## Down behind it
 
@@ -293,13 +289,13 @@ down_past n h p q = rw p (omega (arith, q))
 -- ## What no step notes
 
 -- nor are these heard at all
-pub record IsMute (f : Entry → Bool) : Type 0 where
+pub record HearsNone (f : Entry → Bool) : Type 0 where
   pub deaf : IsDeaf f
   pub up : (who : End) (n : ℕ) → f (Up who n) ≡ false
   pub restarted : (who : End) → f (Restarted who) ≡ false
   pub cut : (who : End) → f (Cut who) ≡ false
 
-module _ (f : Entry → Bool) (mute : IsMute f) where
+module _ (f : Entry → Bool) (mute : HearsNone f) where
   input_mute : (who : End) (h : NumberedEnd) (i : LinkInput) (k : Link) (e : LinkEnd) (ts : List Turn) (ending : Ending)
       → Hears f (told_of who h i ++ rest_entries who k e ts ending) → ⊥
   input_mute who h i k e ts ending q = go (input_heard f mute.deaf who h i k e ts ending q)

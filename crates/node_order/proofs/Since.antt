@@ -1,17 +1,15 @@
 -- Where both ends are up in a session, none was started, stopped or cut off since the first came up in it.
-use Rattle.std.proofs.Common.{◌≡◌, ℕ, ◌+◌, ◌<◌, ◌≤◌, Bool, true, false, List, [], ◌∷◌, ◌++◌, ◌⊎◌, inl, inr, refl, ap, sym, subst, ◌∙◌, arith, max, append_assoc, append-nil}
+use Rattle.std.proofs.Common.{◌≡◌, ℕ, ◌<◌, ◌≤◌, Bool, true, false, List, [], ◌∷◌, ◌++◌, ◌⊎◌, inl, inr, refl, ap, sym, subst, ◌∙◌, arith, max, append_assoc, append-nil}
 use Rattle.std.specs.Prelude.{nat_lt}
 use Rattle.std.specs.List.{list_any}
 use Rattle.std.proofs.lemmas.Bool.{true≢false, ltb-true, ltb-false}
 use Rattle.shdlc_core.specs.declared.answers.LinkState.TheVariants.{Up as IsUpNow}
-use Rattle.session_laws.proofs.Data.{bound}
-use Rattle.message_link.specs.Links.{NumberedEnd, Link, LinkEvent, exchanged, number_of, happens, after_link_events, IsEvent, AllAllowed}
+use Rattle.message_link.specs.Links.{NumberedEnd, Link, LinkEvent, number_of, happens, after_link_events, IsEvent, AllAllowed}
 use Rattle.message_link.specs.Links.IsStart.{IsLine}
 use Rattle.message_link.specs.Projection.{core_of, core_half, core_event}
 use Rattle.message_link.proofs.Runs.{Good, Reached, event_step, reached_more}
 use Rattle.message_link.proofs.Whole.{start_good, start_reached}
 use Rattle.link_entries.specs.Entries.{Entry, event_entries, entries}
-use Rattle.link_entries.specs.Entries.End.{Controller, Host}
 use Rattle.link_entries.specs.Quiet.{begins, since}
 use Rattle.link_entries.specs.Reading.{Seen, nothing_seen, see_all, kept}
 use Rattle.link_entries.proofs.Ages.{read_off}
@@ -20,7 +18,7 @@ use Rattle.link_entries.proofs.Sparing.{silences}
 use Rattle.node_links.specs.Runs.{new_line}
 use Rattle.node_telling.proofs.Events.{after-append, entries-append}
 use Rattle.node_order.proofs.Marking.{IsPast}
-use Rattle.node_order.proofs.Jumping.{Jumps, all_resets}
+use Rattle.node_order.proofs.Jumping.{all_resets}
 use Rattle.node_order.proofs.Silencing.{Hears, hears_parts}
 use Rattle.node_order.proofs.Gone.{Gone, event_silenced, event_keeps, event_begins}
 

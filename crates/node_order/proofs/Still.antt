@@ -1,8 +1,8 @@
 -- A link that is still, as it is read off the events of a history, has delivered all.
-use Rattle.std.proofs.Common.{◌≡◌, ℕ, ◌<◌, Bool, true, false, List, [], ◌∷◌, ◌++◌, length, Option, Some, None, refl, ap, sym, subst, ◌∙◌, arith}
+use Rattle.std.proofs.Common.{◌≡◌, ℕ, ◌<◌, Bool, true, false, List, [], ◌∷◌, ◌++◌, length, Option, Some, None, refl, ap, sym, subst, ◌∙◌}
 use Rattle.std.specs.Prelude.{◌==◌, ◌&&◌, ◌||◌, not, nat_lt, if◌then◌else◌}
-use Rattle.std.specs.List.{AllByRecursion, filter, fold, list_any}
-use Rattle.std.proofs.lemmas.Bool.{true≢false, ltb-true, lt-ltb, eqb-true}
+use Rattle.std.specs.List.{AllByRecursion, fold, list_any}
+use Rattle.std.proofs.lemmas.Bool.{true≢false, ltb-true, lt-ltb}
 use Rattle.swp_base.specs.declared.control_frames.Control.{Control}
 use Rattle.swp_base.specs.declared.control_frames.Control.TheVariants.{I, S, Rset, Ua, Act, Clt}
 use Rattle.swp_lpdu.specs.Controls.{HasNumbers}
@@ -13,10 +13,9 @@ use Rattle.trace_model.specs.declared.line.Header.{Header}
 use Rattle.trace_model.specs.declared.line.Line.{Line}
 use Rattle.hcp_packet.specs.Packets.{good_of}
 use Rattle.shdlc_core.specs.declared.answers.LinkState.TheVariants.{Up as IsUpNow}
-use Rattle.link_machine.specs.Machine.{LinkEnd, Message, frames_out}
-use Rattle.message_link.specs.Links.{Link, LinkEvent, number_of, after_link_events as link_after}
+use Rattle.link_machine.specs.Machine.{Message, frames_out}
+use Rattle.message_link.specs.Links.{Link, number_of, after_link_events as link_after}
 use Rattle.message_link.specs.Links.IsStart.{IsLine}
-use Rattle.message_link.proofs.Whole.{one_number}
 use Rattle.link_entries.specs.Entries.{End as Side, Entry as Noted, entries}
 use Rattle.link_entries.specs.Entries.End.{Controller, Host}
 use Rattle.link_entries.specs.Entries.Entry.{Up, Down, Active, GaveUp, Acked, Got, Sent, Emit, Took, Lost, Tick, Restarted, Cut}
@@ -24,9 +23,9 @@ use Rattle.link_entries.specs.Quiet.{disturbs, begins, since, IsQuietSince, IsDe
 use Rattle.link_entries.proofs.Delivering.{quiet_here, quiet_there}
 use Rattle.link_entries.proofs.Hearing.{session_up}
 use Rattle.link_entries.proofs.Sparing.{silences, or_none}
-use Rattle.history.specs.Filters.{Saying, said, same_end}
+use Rattle.history.specs.Filters.{Saying, said}
 use Rattle.history.specs.Filters.Saying.{Begins, Ends, Sends, Gets, Counts, Puts, Takes, Loses}
-use Rattle.history.specs.Legal.{IsDelivered, begins_on, loses_on, rejects_on, since_up, has_lost, has_rnr}
+use Rattle.history.specs.Legal.{begins_on, loses_on, rejects_on, since_up, has_lost, has_rnr}
 use Rattle.history.specs.Steps.{entries_for}
 use Rattle.history_laws.proofs.Noted.{sent-all, got-all, acked-all}
 use Rattle.history_laws.proofs.Plain.{ArePlain, out_numbers}
@@ -38,13 +37,12 @@ use Rattle.node_world.specs.NodeFilters.{session_now}
 use Rattle.node_world.specs.NodeHistories.{FollowsNodes, NodeHistory, entries_in, occurrences_in}
 use Rattle.node_links.specs.Runs.{ArePlayable, new_line}
 use Rattle.node_telling.specs.Telling.{is_of, of_link, hosts_in, world_behind}
-use Rattle.node_telling.specs.Standing.{standing_behind}
 use Rattle.node_order.specs.Told.{IsLinkTold, AreWiresRead, IsStillInSession, HasDeliveredAll}
 use Rattle.node_order.proofs.Prefix.{sent_alike, got_alike, acked_alike}
 use Rattle.node_order.proofs.Lines.{IsSo, host_number, history_so}
 use Rattle.node_order.proofs.Sessions.{after, are_read}
 use Rattle.node_order.proofs.Strangers.{IsStrange}
-use Rattle.node_order.proofs.Silencing.{IsMute, never_put, events_mute}
+use Rattle.node_order.proofs.Silencing.{HearsNone, events_mute}
 use Rattle.node_order.proofs.Since.{none_silenced}
 
 -- ## What is read since an end came up is read of the entries of its link
@@ -135,7 +133,7 @@ numbers_fit who (Ua ∷ cs) a = (refl, numbers_fit who cs a.1)
 numbers_fit who (Act act again ∷ cs) a = (refl, numbers_fit who cs a.1)
 numbers_fit who (Clt ∷ cs) a = (refl, numbers_fit who cs a.1)
 
-misnumbered_mute : IsMute misnumbered
+misnumbered_mute : HearsNone misnumbered
 misnumbered_mute =
     record {
       deaf = record {
