@@ -28,7 +28,7 @@ use Rattle.view_readings.proofs.Answering.{reads_init}
 use Rattle.view_readings.proofs.Lines.{first_none, off_none, none_zero}
 use Rattle.view_readings.proofs.InitWorlds.{AtSite, MayInit, Keeps, absent, present, zero}
 use Rattle.view_readings.proofs.InitEvents.{MayKeep, event_keeps}
-use Rattle.view_readings.proofs.Caused.{AreCaused, lines_caused}
+use Rattle.node_telling.proofs.Lasting.{AreCaused, lines_caused}
 
 -- ## Lines
 

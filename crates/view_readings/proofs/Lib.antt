@@ -20,5 +20,4 @@ pub mod Elsewhere
 pub mod Whole
 pub mod InitWorlds
 pub mod InitEvents
-pub mod Caused
 pub mod InitLines
