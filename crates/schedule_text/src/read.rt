@@ -37,6 +37,7 @@ pub enum Read {
 
 /// Reads a line of a schedule, without the LF at its end and the CR before that: below the header, or as the first line
 /// where there is no header yet. The texts are this project's own.
+#[inline(never)]
 pub fn read_line(alloc: Global, header: Option<&Header>, bytes: &[u8]) -> Result<Read, LineFault>
     // A line is what its text says, unless there is no memory for the bytes of a line that has no fault.
     ensures said { IsReadOrNoMemory result (line_of (option_copied header.entry) bytes.now) }
@@ -82,6 +83,21 @@ fn read_words(
             return Ok(read);
         }
     }
+    read_by_form(alloc, header, first, rest)
+}
+
+/// Reads the words of a line by the table of the forms.
+#[cold]
+#[inline(never)]
+fn read_by_form(
+    alloc: Global,
+    header: Option<&Header>,
+    first: &[u8],
+    rest: &[u8],
+) -> Result<Read, LineFault>
+    requires { length rest.now ≤ 9000 }
+    ensures { IsReadOrNoMemory result (by_row (option_copied header.entry) (row_for first.now) (words rest.now)) }
+{
     let Some(form) = form_of(first) else {
         return Err(if header.is_some() {
             LineFault::Word

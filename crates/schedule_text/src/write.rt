@@ -419,7 +419,8 @@ fn world_of(hci: bool) -> &'static [u8]
     if hci { b"hci" } else { b"bare" }
 }
 
-#[inline(never)]
+/// Appends the words of a line; the two forms that most lines have stand first.
+#[inline]
 fn write_line(text: &mut Text, line: &Line)
     ensures { (start : Start) (first : List ℕ) (more : List (List ℕ)) → HoldsWords start (first ∷ more) text.old
         → HoldsWords start (first ∷ (more ++ line_words line.now)) text.new }
@@ -427,6 +428,25 @@ fn write_line(text: &mut Text, line: &Line)
     match line {
         Line::Send { at, pid, message } => write_send(text, *at, *pid, message.as_slice()),
         Line::Deliver { at, count } => write_deliver(text, *at, *count),
+        _ => write_by_parts(text, line),
+    }
+}
+
+/// Appends the words of a line, whatever its form.
+#[cold]
+#[inline(never)]
+fn write_by_parts(text: &mut Text, line: &Line)
+    ensures { (start : Start) (first : List ℕ) (more : List (List ℕ)) → HoldsWords start (first ∷ more) text.old
+        → HoldsWords start (first ∷ (more ++ line_words line.now)) text.new }
+{
+    match line {
+        Line::Send { at, pid, message } => text.parts(&[
+            Word(b"send"),
+            End(*at),
+            Byte(*pid),
+            Bytes(message.as_slice()),
+        ]),
+        Line::Deliver { at, count } => { text.parts(&[Word(b"deliver"), End(*at), Maybe(*count)]) }
         Line::Lose { at } => text.parts(&[Word(b"lose"), End(*at)]),
         Line::Damage { at, places } => text.parts(&[
             Word(b"damage"),

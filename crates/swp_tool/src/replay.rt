@@ -95,19 +95,22 @@ impl Replay {
             Some(world) => Some(world.header()),
             None => None,
         };
-        match read_line(alloc, header, bytes) {
-            Err(fault) => Err(Halt::Fault(fault)),
+        let read = read_line(alloc, header, bytes);
+        match &read {
+            Err(fault) => Err(Halt::Fault(*fault)),
             Ok(Read::NoMemory) => Err(Halt::NoMemory),
             Ok(Read::Skip) => {
                 self.count += 1;
                 Ok(())
             }
-            Ok(Read::Header(header)) => self.begin(alloc, &header),
-            Ok(Read::Line(line)) => self.go_on(alloc, &line),
+            Ok(Read::Header(header)) => self.begin(alloc, header),
+            Ok(Read::Line(line)) => self.go_on(alloc, line),
         }
     }
 
     /// Begins the world of a header, which is the next line.
+    #[cold]
+    #[inline(never)]
     fn begin(&mut self, alloc: Global, header: &Header) -> Result<(), Halt>
         requires valid { IsHeader header.now }
         requires next { self.old.count < 20000 }
