@@ -230,6 +230,7 @@ impl Text {
     }
 
     /// Appends a space and bytes as pairs of hexadecimal digits.
+    #[inline(always)]
     pub(crate) fn hex(&mut self, bytes: &[u8])
         ensures { (start : Start) (first : List ℕ) (more : List (List ℕ)) → HoldsWords start (first ∷ more) self.old
             → HoldsWords start (first ∷ (more ++ encode_upper bytes.now ∷ [])) self.new }

@@ -107,7 +107,7 @@ fn write_whole(alloc: Global, text: &mut Text, entry: &Entry)
         write_with_rows(alloc, text, entry);
         return;
     }
-    write_words(text, entry);
+    write_frequent(text, entry);
     end_line(text);
 }
 
@@ -169,6 +169,37 @@ fn write_echo(text: &mut Text, line: &Line)
     end_line(text);
 }
 
+/// Appends the words of an entry; the kinds that most entries have stand first.
+#[inline(always)]
+fn write_frequent(text: &mut Text, entry: &Entry)
+    ensures { (start : Start) → HoldsText start [] text.old
+        → HoldsWords start (entry_words entry.now) text.new }
+{
+    match entry {
+        Entry::Emit { at, lpdu } => write_frame(text, b"emit", *at, lpdu.bytes()),
+        Entry::Took { at, lpdu } => write_frame(text, b"took", *at, lpdu.bytes()),
+        Entry::Sent {
+            at,
+            session,
+            pid,
+            message,
+        } => write_message(text, b"sent", *at, *session, *pid, message.as_slice()),
+        Entry::Got {
+            at,
+            session,
+            pid,
+            message,
+        } => write_message(text, b"got", *at, *session, *pid, message.as_slice()),
+        Entry::Acked { at, session, count } => write_at_numbers(
+            text, b"acked", *at, *session, *count,
+        ),
+        _ => write_words(text, entry),
+    }
+}
+
+/// Appends the words of an entry, whatever its kind.
+#[cold]
+#[inline(never)]
 fn write_words(text: &mut Text, entry: &Entry)
     ensures { (start : Start) → HoldsText start [] text.old
         → HoldsWords start (entry_words entry.now) text.new }
@@ -180,7 +211,7 @@ fn write_words(text: &mut Text, entry: &Entry)
         }
         Entry::Echo(line) => {
             text.entry(b">", &[]);
-            write_line(text, line);
+            write_by_parts(text, line);
         }
         Entry::Up { at, session } => write_at_number(text, b"up", *at, *session),
         Entry::Down { at, cause } => write_at_word(text, b"down", *at, cause_of_end(*cause)),
@@ -420,7 +451,7 @@ fn world_of(hci: bool) -> &'static [u8]
 }
 
 /// Appends the words of a line; the two forms that most lines have stand first.
-#[inline]
+#[inline(always)]
 fn write_line(text: &mut Text, line: &Line)
     ensures { (start : Start) (first : List ℕ) (more : List (List ℕ)) → HoldsWords start (first ∷ more) text.old
         → HoldsWords start (first ∷ (more ++ line_words line.now)) text.new }

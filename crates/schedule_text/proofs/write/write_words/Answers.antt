@@ -6,7 +6,7 @@ pub returns-in-Head : goal.returns-in-Head
 returns-in-Head c = λ start h. rw c.in-Head.is (c.write_header.ensures start (codes ">") [] (c.entry.ensures start h))
 
 pub returns-in-Echo : goal.returns-in-Echo
-returns-in-Echo c = λ start h. rw c.in-Echo.is (c.write_line.ensures start (codes ">") [] (c.entry-in-Echo.ensures start h))
+returns-in-Echo c = λ start h. rw c.in-Echo.is (c.write_by_parts.ensures start (codes ">") [] (c.entry-in-Echo.ensures start h))
 
 pub returns-in-Command : goal.returns-in-Command
 returns-in-Command c = λ start h. rw c.in-Command.is (c.write_command.ensures start (codes "command") (byte_text c.in-Command.node ∷ []) (c.write_node.ensures start h))
