@@ -1,7 +1,9 @@
 //! Lines of the two forms that most lines have are read at once where they have no fault. Each other line is left to the table of
 //! the forms.
-ghost use Rattle.std.specs.Prelude.{◌≡◌, ◌==◌, ◌||◌, not, codes, Some, Ok, IfSome};
+ghost use Rattle.std.specs.Prelude.{◌≡◌, ◌==◌, ◌||◌, not, codes, Some, None, Ok, IfSome};
 ghost use Rattle.std.specs.List.{list_any};
+ghost use Rattle.trace_model.specs.declared.line.Line.TheVariants as line;
+ghost use Rattle.schedule_text.specs.declared.read.Read.TheVariants as read;
 ghost use Rattle.schedule_text.specs.Words.{words};
 ghost use Rattle.schedule_text.specs.Forms.{row_for};
 ghost use Rattle.schedule_text.specs.Lines.{by_row};
@@ -26,15 +28,21 @@ pub(crate) fn read_at_once(
     ensures { IfSome result (λ read. Ok read ≡ by_row (Some header.now) (row_for first.now) (words rest.now)) }
 {
     match first {
-        b"send" => send_at_once(alloc, header, rest),
-        b"deliver" => deliver_at_once(header, rest),
+        b"send" => {
+            let (at, pid, message) = send_at_once(alloc, header, rest)?;
+            Some(Read::Line(Line::Send { at, pid, message }))
+        }
+        b"deliver" => {
+            let at = deliver_at_once(header, rest)?;
+            Some(Read::Line(Line::Deliver { at, count: None }))
+        }
         _ => None,
     }
 }
 
 /// `send E PID HEX`
-fn send_at_once(alloc: Global, header: &Header, rest: &[u8]) -> Option<Read>
-    ensures { IfSome result (λ read. Ok read ≡ by_row (Some header.now) (row_for (codes "send")) (words rest.now)) }
+fn send_at_once(alloc: Global, header: &Header, rest: &[u8]) -> Option<(End, u8, Octets)>
+    ensures { IfSome result (λ sent. Ok (read.Line (line.Send sent.0 sent.1 sent.2)) ≡ by_row (Some header.now) (row_for (codes "send")) (words rest.now)) }
 {
     let (first, more) = next_word(rest)?;
     let (second, more) = next_word(more)?;
@@ -51,11 +59,7 @@ fn send_at_once(alloc: Global, header: &Header, rest: &[u8]) -> Option<Read>
         return None;
     }
     match hex::decode(alloc, third) {
-        Ok(bytes) => Some(Read::Line(Line::Send {
-            at,
-            pid,
-            message: Octets { bytes },
-        })),
+        Ok(bytes) => Some((at, pid, Octets { bytes })),
         Err(_) => None,
     }
 }
@@ -68,8 +72,8 @@ fn may_send(header: &Header, at: End) -> bool
 }
 
 /// `deliver E`
-fn deliver_at_once(header: &Header, rest: &[u8]) -> Option<Read>
-    ensures { IfSome result (λ read. Ok read ≡ by_row (Some header.now) (row_for (codes "deliver")) (words rest.now)) }
+fn deliver_at_once(header: &Header, rest: &[u8]) -> Option<End>
+    ensures { IfSome result (λ at. Ok (read.Line (line.Deliver at None)) ≡ by_row (Some header.now) (row_for (codes "deliver")) (words rest.now)) }
 {
     let (first, more) = next_word(rest)?;
     if next_word(more).is_some() {
@@ -79,7 +83,7 @@ fn deliver_at_once(header: &Header, rest: &[u8]) -> Option<Read>
     if !knows(header, at.link) {
         return None;
     }
-    Some(Read::Line(Line::Deliver { at, count: None }))
+    Some(at)
 }
 
 /// Whether the header names a host.

@@ -37,7 +37,6 @@ pub enum Read {
 
 /// Reads a line of a schedule, without the LF at its end and the CR before that: below the header, or as the first line
 /// where there is no header yet. The texts are this project's own.
-#[inline(never)]
 pub fn read_line(alloc: Global, header: Option<&Header>, bytes: &[u8]) -> Result<Read, LineFault>
     // A line is what its text says, unless there is no memory for the bytes of a line that has no fault.
     ensures said { IsReadOrNoMemory result (line_of (option_copied header.entry) bytes.now) }

@@ -95,16 +95,15 @@ impl Replay {
             Some(world) => Some(world.header()),
             None => None,
         };
-        let read = read_line(alloc, header, bytes);
-        match &read {
-            Err(fault) => Err(Halt::Fault(*fault)),
+        match read_line(alloc, header, bytes) {
+            Err(fault) => Err(Halt::Fault(fault)),
             Ok(Read::NoMemory) => Err(Halt::NoMemory),
             Ok(Read::Skip) => {
                 self.count += 1;
                 Ok(())
             }
-            Ok(Read::Header(header)) => self.begin(alloc, header),
-            Ok(Read::Line(line)) => self.go_on(alloc, line),
+            Ok(Read::Header(header)) => self.begin(alloc, &header),
+            Ok(Read::Line(line)) => self.go_on(alloc, &line),
         }
     }
 
