@@ -1,3 +1,4 @@
+pub mod Finding
 pub mod Cutting
 pub mod Texts
 pub mod Reading

@@ -5,6 +5,7 @@ ghost use Rattle.swp_tool.specs.Replays.{HasPlayed};
 ghost use Rattle.swp_tool.specs.Pieces.{schedule_read, LacksLineFeed, ended_line, HasRead, IsReading, IsCompleteTranscript, Halts, HaltsAtEnd, bytes_left};
 
 use crate::replay::{Halt, Replay};
+use memchr::memchr;
 use schedule_text::LineFault;
 use std::alloc::Global;
 
@@ -213,7 +214,7 @@ fn cut_line(bytes: &[u8]) -> Option<(&[u8], &[u8])>
 fn line_feed_in(bytes: &[u8]) -> Option<usize>
     ensures { result ≡ position (λ b. b == 10) bytes.now }
 {
-    bytes.iter().position(|byte| *byte == b'\n')
+    memchr(b'\n', bytes)
 }
 
 /// A line without the CR at its end, if it has one.
