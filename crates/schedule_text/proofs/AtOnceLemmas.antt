@@ -1,12 +1,12 @@
 -- Lines that are read at once are what their rows say.
-use Rattle.std.proofs.Common.{◌≡◌, ℕ, List, [], ◌∷◌, ◌||◌, not, true, false, refl, sym, subst, arith, Option, Some, None, Ok, codes, is_some, IfNone}
+use Rattle.std.proofs.Common.{◌≡◌, ℕ, List, [], ◌∷◌, false, refl, sym, subst, arith, Option, Some, None, Ok, codes, is_some, IfNone}
 use Rattle.trace_model.specs.declared.line.Header.{Header}
 use Rattle.trace_model.specs.declared.line.Line.TheVariants as line
 use Rattle.schedule_text.specs.declared.forms.Kind.TheVariants as kind
 use Rattle.schedule_text.specs.declared.read.Read.TheVariants as read
 use Rattle.schedule_text.specs.Forms.{row_for, send_row, deliver_row}
 use Rattle.schedule_text.specs.Lines.{by_row}
-use Rattle.schedule_text.proofs.RowsLemmas.{Fits, Right}
+use Rattle.schedule_text.proofs.RowsLemmas.{Fits}
 use Rattle.schedule_text.proofs.ReadAgainLemmas.{again}
 
 -- three words that fit their kinds

@@ -13,7 +13,7 @@ use crate::at_once::read_at_once;
 use crate::forms::{Name, Place, form_of};
 use crate::rules::fault_in;
 use crate::values::{byte_of, end_of, number_of};
-use crate::words::{next_word, word_at};
+use crate::words::{first_word, next_word, word_at};
 use arrayvec::ArrayVec;
 use hex::FromHexError;
 use std::alloc::Global;
@@ -50,7 +50,7 @@ pub fn read_line(alloc: Global, header: Option<&Header>, bytes: &[u8]) -> Result
     if bytes.len() > MAX_LINE {
         return Err(LineFault::TooLong);
     }
-    let Some((first, rest)) = next_word(bytes) else {
+    let Some((first, rest)) = first_word(bytes) else {
         return Ok(Read::Skip);
     };
     if comment(first) {

@@ -16,6 +16,20 @@ pub(crate) fn next_word(line: &[u8]) -> Option<(&[u8], &[u8])>
     Some(rest.split_at(end))
 }
 
+/// The first word of a line, and what stands behind it. The words that most lines begin with are looked for first.
+#[inline(always)]
+pub(crate) fn first_word(line: &[u8]) -> Option<(&[u8], &[u8])>
+    ensures some { IfSome result (λ r. words line.now ≡ r.0.now ∷ words r.1.now) }
+    ensures none { IfNone result (words line.now ≡ []) }
+    ensures shorter { IfSome result (λ r. length r.1.now < length line.now) }
+{
+    match line {
+        [b's', b'e', b'n', b'd', b' ', ..] => Some(line.split_at(4)),
+        [b'd', b'e', b'l', b'i', b'v', b'e', b'r', b' ', ..] => Some(line.split_at(7)),
+        _ => next_word(line),
+    }
+}
+
 fn first_letter(line: &[u8]) -> Option<usize>
     ensures { result ≡ position (λ b. not (b == 32)) line.now }
 {

@@ -1,5 +1,5 @@
 -- The vector has the text behind what it had, or it is as it was.
-use Rattle.std.proofs.Common.{[], ◌∙◌, arith, length}
+use Rattle.std.proofs.Common.{◌∙◌, arith, length}
 use Rattle.std.proofs.lemmas.List.{take-append-le, take_all}
 use Rattle.std.proofs.lemmas.Result.{on_ok_weaker, on_err_weaker}
 use Rattle.schedule_text.specs.Growth.{start_in}

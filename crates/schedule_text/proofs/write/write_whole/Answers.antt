@@ -1,4 +1,4 @@
-use Rattle.std.proofs.Common.{[], ◌∷◌, ◌++◌, sym, subst}
+use Rattle.std.proofs.Common.{◌∷◌, ◌++◌, sym, subst}
 use Rattle.schedule_text.specs.Words.{spaced}
 use Rattle.schedule_text.specs.Entries.{entry_words, lines_behind}
 use Rattle.schedule_text.specs.Growth.{HoldsText}
