@@ -8,40 +8,17 @@ ghost use Rattle.schedule_text.specs.Words.{words};
 ghost use Rattle.schedule_text.specs.Forms.{row_for};
 ghost use Rattle.schedule_text.specs.Lines.{by_row};
 
-use crate::read::Read;
 use crate::values::{byte_of, end_of};
 use crate::words::next_word;
 use std::alloc::Global;
-use trace_model::{End, Header, Line, Octets};
+use trace_model::{End, Header, Octets};
 
 /// The most digits of a message (this project's own).
 const MOST_DIGITS: usize = 9000;
 
-/// What a line below a header says, if it has one of these forms and no fault, and there is memory for its message.
+/// The end, the pipe and the message of a line `send E PID HEX`, if it has no fault and there is memory for its message.
 #[inline]
-pub(crate) fn read_at_once(
-    alloc: Global,
-    header: &Header,
-    first: &[u8],
-    rest: &[u8],
-) -> Option<Read>
-    ensures { IfSome result (λ read. Ok read ≡ by_row (Some header.now) (row_for first.now) (words rest.now)) }
-{
-    match first {
-        b"send" => {
-            let (at, pid, message) = send_at_once(alloc, header, rest)?;
-            Some(Read::Line(Line::Send { at, pid, message }))
-        }
-        b"deliver" => {
-            let at = deliver_at_once(header, rest)?;
-            Some(Read::Line(Line::Deliver { at, count: None }))
-        }
-        _ => None,
-    }
-}
-
-/// `send E PID HEX`
-fn send_at_once(alloc: Global, header: &Header, rest: &[u8]) -> Option<(End, u8, Octets)>
+pub(crate) fn send_at_once(alloc: Global, header: &Header, rest: &[u8]) -> Option<(End, u8, Octets)>
     ensures { IfSome result (λ sent. Ok (read.Line (line.Send sent.0 sent.1 sent.2)) ≡ by_row (Some header.now) (row_for (codes "send")) (words rest.now)) }
 {
     let (first, more) = next_word(rest)?;
@@ -71,8 +48,9 @@ fn may_send(header: &Header, at: End) -> bool
     !header.hci || at.at_host
 }
 
-/// `deliver E`
-fn deliver_at_once(header: &Header, rest: &[u8]) -> Option<End>
+/// The end of a line `deliver E`, if it has no fault.
+#[inline]
+pub(crate) fn deliver_at_once(header: &Header, rest: &[u8]) -> Option<End>
     ensures { IfSome result (λ at. Ok (read.Line (line.Deliver at None)) ≡ by_row (Some header.now) (row_for (codes "deliver")) (words rest.now)) }
 {
     let (first, more) = next_word(rest)?;

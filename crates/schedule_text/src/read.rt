@@ -9,7 +9,7 @@ ghost use Rattle.schedule_text.specs.Forms.{row_for};
 ghost use Rattle.schedule_text.specs.Answers.{IsSaidOrNoMemory, IsReadOrNoMemory, CanBeRead, IsInGrammar, IsSkipped, IsOutOfOrder};
 
 use crate::LineFault;
-use crate::at_once::read_at_once;
+use crate::at_once::{deliver_at_once, send_at_once};
 use crate::forms::{Name, Place, form_of};
 use crate::rules::fault_in;
 use crate::values::{byte_of, end_of, number_of};
@@ -78,8 +78,18 @@ fn read_words(
     ensures { IsReadOrNoMemory result (by_row (option_copied header.entry) (row_for first.now) (words rest.now)) }
 {
     if let Some(below) = header {
-        if let Some(read) = read_at_once(alloc, below, first, rest) {
-            return Ok(read);
+        match first {
+            b"send" => {
+                if let Some((at, pid, message)) = send_at_once(alloc, below, rest) {
+                    return Ok(Read::Line(Line::Send { at, pid, message }));
+                }
+            }
+            b"deliver" => {
+                if let Some(at) = deliver_at_once(below, rest) {
+                    return Ok(Read::Line(Line::Deliver { at, count: None }));
+                }
+            }
+            _ => {}
         }
     }
     read_by_form(alloc, header, first, rest)
