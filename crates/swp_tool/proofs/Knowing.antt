@@ -21,7 +21,6 @@ use Rattle.schedule_text.specs.Lines.{line_of}
 use Rattle.schedule_text.proofs.LinesLemmas.{line_fits}
 use Rattle.history.specs.Histories.{Step, History}
 use Rattle.text_laws.specs.Ranges.{IsNumber, IsEntry}
-use Rattle.text_laws.proofs.RowLemmas.{told_line}
 use Rattle.text_laws.proofs.CleanLemmas.{IsCleanLine, number_clean}
 use Rattle.text_laws.proofs.ShownLemmas.{same_ended}
 use Rattle.told_laws.specs.Told.{step_told, entries_told}

@@ -1,5 +1,5 @@
 -- The line was played where it stands, or the replay halts at it however the bytes go on.
-use Rattle.std.proofs.Common.{◌≡◌, List, ℕ, subst}
+use Rattle.std.proofs.Common.{List, ℕ, subst}
 use Rattle.swp_tool.specs.Schedules.{Schedule, with_line}
 use Rattle.swp_tool.specs.Replays.{HasPlayed, HaltsAt}
 use Rattle.swp_tool.proofs.Reading.{halts_at_whole_line, read_whole_line}
