@@ -25,7 +25,7 @@ use Rattle.link_entries.specs.Reading.{Seen, see, see_all, kept}
 use Rattle.link_entries.proofs.Seeing.{seen_as, here_seen, all_seen, tick_seen, step_seen}
 use Rattle.link_entries.proofs.Stepping.{host_finished}
 use Rattle.link_entries.proofs.Running.{host_here}
-use Rattle.link_entries.proofs.Completing.{ended_host}
+use Rattle.message_link.proofs.Project.{host_ended as ended_host}
 use Rattle.link_entries.proofs.Sparing.{silences}
 use Rattle.node_order.proofs.Marking.{IsPast, turns_past, near_past, far_past}
 use Rattle.node_order.proofs.Jumping.{Jumps, StaysWithin, number_seen, all_jump, silenced, all_resets, all_number, see_within}

@@ -29,7 +29,8 @@ use Rattle.node_machine.specs.Node.NodeInput.{TimePasses}
 use Rattle.node_world.specs.World.{NodeWorld, Site, Happening, site_at, with_site, node_at, link_to, ending_of, runs_on, turns_at, work_of, frames_noted, controller_cut, host_cut, loses_power_at, memory_at, with_memory, with_node, links_of, boots, counts, frame_lost, is_late_at, ticked_so, all_aged, controller_ticks, host_ticks, hosts_tick, world_ticks, world_step}
 use Rattle.node_world.specs.World.Happening.{Boots, IsCut, Gives, Inits, Takes, Loses, Ticks, Resets, Activates, Arms}
 use Rattle.node_telling.specs.Telling.{IfItRuns, hosts_in, IsOrderly}
-use Rattle.node_links.proofs.Ends.{here_host, tick_host}
+use Rattle.node_links.proofs.Ends.{here_host}
+use Rattle.link_entries.proofs.Together.{ticks_host as tick_host}
 use Rattle.node_telling.proofs.Nodes.{site_host}
 use Rattle.node_telling.proofs.Frames.{wires_all}
 use Rattle.node_readings.proofs.Silent.{IsQuiet}
