@@ -321,7 +321,7 @@ history_delivered header lines t follows are playable front back q h = go (site_
     go (Some s) found =
         let b = a.each h s found in
         delivered_all h s.link front (host_number w h s a.well.orderly found) b.told
-        (record { to_controller = b.shown.to_controller; to_host = b.shown.to_host })
+        (record { to_controller = b.shown.wires.to_controller; to_host = b.shown.wires.to_host })
     go None found =
         let strange : IsStrange h header.hosts.items = subst (IsStrange h) a.hosts_are (strange_of w.sites h found) in
         record { to_host = λ n s. absurd (never n strange s); to_controller = λ n s. absurd (never n strange s) }
