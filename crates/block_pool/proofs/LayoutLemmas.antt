@@ -39,14 +39,11 @@ same_made f g n same =
     get_or-map-range_with_len f 0 n k k d low (omega arith)
     ∙ (same k low ∙ sym (get_or-map-range_with_len g 0 n k k d low (omega arith))))
 
-same_bytes : (region next region' next' : List ℕ) (first len : ℕ)
-    → ((i : ℕ) → i < len → linked_byte region' next' first i ≡ linked_byte region next first i)
-    → laid_bytes region' next' first len ≡ laid_bytes region next first len
+same_bytes : (region next region' next' : List ℕ) (first len : ℕ) → ((i : ℕ) → i < len → linked_byte region' next' first i ≡ linked_byte region next first i) → laid_bytes region' next' first len ≡ laid_bytes region next first len
 unfolding laid_bytes
 same_bytes region next region' next' first len same = same_made (linked_byte region' next' first) (linked_byte region next first) len same
 
-one_more_byte : (region next : List ℕ) (first len : ℕ)
-    → laid_bytes region next first (len + 1) ≡ laid_bytes region next first len ++ linked_byte region next first len ∷ []
+one_more_byte : (region next : List ℕ) (first len : ℕ) → laid_bytes region next first (len + 1) ≡ laid_bytes region next first len ++ linked_byte region next first len ∷ []
 unfolding laid_bytes
 one_more_byte region next first len = map-range_with_len_more (linked_byte region next first) 0 len len (omega arith)
 
@@ -71,8 +68,7 @@ slot_is region next heads b = by_place (cases_lt b (length heads))
     made : ℕ → Option Held
     made b = held_by region next b (get_or heads b None)
 
-    by_place : (b < length heads) ⊎ (length heads ≤ b)
-        → get_or (map (λ b. held_by region next b (get_or heads b None)) (range_with_len 0 (length heads))) b None ≡ held_by region next b (get_or heads b None)
+    by_place : (b < length heads) ⊎ (length heads ≤ b) → get_or (map (λ b. held_by region next b (get_or heads b None)) (range_with_len 0 (length heads))) b None ≡ held_by region next b (get_or heads b None)
     by_place (inl low) = get_or-map-range_with_len (λ b. held_by region next b (get_or heads b None)) 0 (length heads) b b None low (omega arith)
     by_place (inr high) =
         get_or_past (map (λ b. held_by region next b (get_or heads b None)) (range_with_len 0 (length heads))) b None (omega (arith, length-map-range_with_len (λ b. held_by region next b (get_or heads b None)) 0 (length heads)))
@@ -87,10 +83,7 @@ same_slots f g n same =
     ∙ (same k ∙ sym (get_or-map-range_with_len g 0 n k k d low (omega arith))))
 
 -- one chain was written, and each other one stayed
-slots_set : (region next region' next' : List ℕ) (heads heads' : List (Option Head)) (b : ℕ) (v : Option Held) → length heads' ≡ length heads
-    → b < length heads → held_by region' next' b (get_or heads' b None) ≡ v
-    → ((c : ℕ) → c ≢ b → held_by region' next' c (get_or heads' c None) ≡ held_by region next c (get_or heads c None))
-    → slots_of region' next' heads' ≡ set (slots_of region next heads) b v
+slots_set : (region next region' next' : List ℕ) (heads heads' : List (Option Head)) (b : ℕ) (v : Option Held) → length heads' ≡ length heads → b < length heads → held_by region' next' b (get_or heads' b None) ≡ v → ((c : ℕ) → c ≢ b → held_by region' next' c (get_or heads' c None) ≡ held_by region next c (get_or heads c None)) → slots_of region' next' heads' ≡ set (slots_of region next heads) b v
 slots_set region next region' next' heads heads' b v lens low here others =
     same_lists _ _
     (length-slots_of region' next' heads' ∙ (lens ∙ sym (length-set (slots_of region next heads) b v ∙ length-slots_of region next heads)))
@@ -165,33 +158,27 @@ pub in_pool : (next : List ℕ) (mark : ℕ → ℕ × ℕ) (count b : ℕ) (hea
 in_pool next mark count b head chain = let some : 0 < head.len = chain.some in (chain.marked 0 (omega arith)).0
 
 -- the block of byte i of a chain
-block_of_byte : (next : List ℕ) (mark : ℕ → ℕ × ℕ) (count b : ℕ) (head : Head) → IsChain next mark count b head → (i : ℕ) → i < head.len
-    → IsMarked mark count (block_at next b (i / 32)) b (i / 32)
+block_of_byte : (next : List ℕ) (mark : ℕ → ℕ × ℕ) (count b : ℕ) (head : Head) → IsChain next mark count b head → (i : ℕ) → i < head.len → IsMarked mark count (block_at next b (i / 32)) b (i / 32)
 block_of_byte next mark count b head chain i low = chain.marked (i / 32) (omega arith)
 
 -- a link of another chain leads nowhere in this one
-other_link : (next : List ℕ) (mark : ℕ → ℕ × ℕ) (count b : ℕ) (head : Head) → IsChain next mark count b head → (at link d j : ℕ) → mark at ≡ (d, j)
-    → d ≢ b → (k : ℕ) → k < blocks_for head.len → block_at (set next at link) b k ≡ block_at next b k
+other_link : (next : List ℕ) (mark : ℕ → ℕ × ℕ) (count b : ℕ) (head : Head) → IsChain next mark count b head → (at link d j : ℕ) → mark at ≡ (d, j) → d ≢ b → (k : ℕ) → k < blocks_for head.len → block_at (set next at link) b k ≡ block_at next b k
 other_link next mark count b head chain at link d j marked apart k low =
     unchanged next at link b k (λ i h same. apart (sym (same_mark mark (block_at next b i) at b i d j (chain.marked i (omega arith)).1 marked same).0))
 
 -- nor does the link of its last block lead to a block before
-last_link : (next : List ℕ) (mark : ℕ → ℕ × ℕ) (count b : ℕ) (head : Head) → IsChain next mark count b head → (at link j : ℕ) → mark at ≡ (b, j)
-    → (k : ℕ) → k < blocks_for head.len → k ≤ j → block_at (set next at link) b k ≡ block_at next b k
+last_link : (next : List ℕ) (mark : ℕ → ℕ × ℕ) (count b : ℕ) (head : Head) → IsChain next mark count b head → (at link j : ℕ) → mark at ≡ (b, j) → (k : ℕ) → k < blocks_for head.len → k ≤ j → block_at (set next at link) b k ≡ block_at next b k
 last_link next mark count b head chain at link j marked k low before =
     unchanged next at link b k (λ i h same. absurd (let e : i ≡ j = (same_mark mark (block_at next b i) at b i b j (chain.marked i (omega arith)).1 marked same).1 in omega arith))
 
 -- the mark of the last block
-last_marked : (next : List ℕ) (mark : ℕ → ℕ × ℕ) (count b : ℕ) (head : Head) → IsChain next mark count b head
-    → IsMarked mark count head.last b (blocks_for head.len - 1)
+last_marked : (next : List ℕ) (mark : ℕ → ℕ × ℕ) (count b : ℕ) (head : Head) → IsChain next mark count b head → IsMarked mark count head.last b (blocks_for head.len - 1)
 last_marked next mark count b head chain =
     let some : 0 < head.len = chain.some in
     subst (λ x. IsMarked mark count x b (blocks_for head.len - 1)) chain.last (chain.marked (blocks_for head.len - 1) (omega arith))
 
 -- free blocks where a link of a chain changed
-free_link : (next : List ℕ) (mark : ℕ → ℕ × ℕ) (count free free_len : ℕ)
-    → ((k : ℕ) → k < free_len → IsMarked mark count (block_at next free k) count k) → (at link d j : ℕ) → mark at ≡ (d, j) → d ≢ count → (k : ℕ)
-    → k < free_len → block_at (set next at link) free k ≡ block_at next free k
+free_link : (next : List ℕ) (mark : ℕ → ℕ × ℕ) (count free free_len : ℕ) → ((k : ℕ) → k < free_len → IsMarked mark count (block_at next free k) count k) → (at link d j : ℕ) → mark at ≡ (d, j) → d ≢ count → (k : ℕ) → k < free_len → block_at (set next at link) free k ≡ block_at next free k
 free_link next mark count free free_len spare at link d j marked apart k low =
     unchanged next at link free k (λ i h same. apart (sym (same_mark mark (block_at next free i) at count i d j (spare i (omega arith)).1 marked same).0))
 
@@ -223,8 +210,7 @@ module _ (region next : List ℕ) (heads : List (Option Head)) (free free_len : 
       let s : Some h ≡ Some v = sym e ∙ get_or-set_same heads b (Some v) None low in cc
 
   -- a byte more in the last block of a chain
-  pub push_in_block_sound : (b : ℕ) (head : Head) (place byte : ℕ) → get_or heads b None ≡ Some head → 0 < head.len % 32
-      → AreSoundBlocks (set region place byte) next (set heads b (Some (record { owner = head.owner; last = head.last; len = head.len + 1; read_on = head.read_on; passed = head.passed }))) free free_len
+  pub push_in_block_sound : (b : ℕ) (head : Head) (place byte : ℕ) → get_or heads b None ≡ Some head → 0 < head.len % 32 → AreSoundBlocks (set region place byte) next (set heads b (Some (record { owner = head.owner; last = head.last; len = head.len + 1; read_on = head.read_on; passed = head.passed }))) free free_len
   push_in_block_sound b head place byte at room =
       let chain = sound.chains b head at in
       let low : b < length heads = omega (arith, in_pool next sound.mark sound.count b head chain, sound.counted) in
@@ -254,8 +240,7 @@ module _ (region next : List ℕ) (heads : List (Option Head)) (free free_len : 
       }
 
   -- the bytes of a chain, where another chain's block was written
-  other_bytes : (b : ℕ) (head : Head) → get_or heads b None ≡ Some head → (block d j offset byte : ℕ) → sound.mark block ≡ (d, j) → d ≢ b
-      → laid_bytes (set region (32 * block + offset % 32) byte) next b head.len ≡ laid_bytes region next b head.len
+  other_bytes : (b : ℕ) (head : Head) → get_or heads b None ≡ Some head → (block d j offset byte : ℕ) → sound.mark block ≡ (d, j) → d ≢ b → laid_bytes (set region (32 * block + offset % 32) byte) next b head.len ≡ laid_bytes region next b head.len
   other_bytes b head at block d j offset byte marked apart =
       same_bytes region next (set region (32 * block + offset % 32) byte) next b head.len (λ i low.
       let m = block_of_byte next sound.mark sound.count b head (sound.chains b head at) i low in
@@ -269,8 +254,7 @@ module _ (region next : List ℕ) (heads : List (Option Head)) (free free_len : 
       ap (block_at next b) e ∙ (sound.chains b head at).last
 
   -- the chain's bytes after a byte more in its last block
-  pushed_bytes : (b : ℕ) (head : Head) (byte : ℕ) → get_or heads b None ≡ Some head → 0 < head.len % 32
-      → laid_bytes (set region (32 * head.last + head.len % 32) byte) next b (head.len + 1) ≡ laid_bytes region next b head.len ++ byte ∷ []
+  pushed_bytes : (b : ℕ) (head : Head) (byte : ℕ) → get_or heads b None ≡ Some head → 0 < head.len % 32 → laid_bytes (set region (32 * head.last + head.len % 32) byte) next b (head.len + 1) ≡ laid_bytes region next b head.len ++ byte ∷ []
   pushed_bytes b head byte at room =
       let chain = sound.chains b head at in
       let place = 32 * head.last + head.len % 32 in
@@ -291,8 +275,7 @@ module _ (region next : List ℕ) (heads : List (Option Head)) (free free_len : 
       absurd (omega arith))) in
       one_more_byte (set region place byte) next b head.len ∙ (ap (λ bs. bs ++ linked_byte (set region place byte) next b head.len ∷ []) before ∙ ap (λ x. laid_bytes region next b head.len ++ x ∷ []) new_byte)
 
-  pub push_in_block_slots : (b : ℕ) (head : Head) (byte : ℕ) → get_or heads b None ≡ Some head → 0 < head.len % 32
-      → slots_of (set region (32 * head.last + head.len % 32) byte) next (set heads b (Some (record { owner = head.owner; last = head.last; len = head.len + 1; read_on = head.read_on; passed = head.passed }))) ≡ with_chain (slots_of region next heads) b head.owner (laid_bytes region next b head.len ++ byte ∷ [])
+  pub push_in_block_slots : (b : ℕ) (head : Head) (byte : ℕ) → get_or heads b None ≡ Some head → 0 < head.len % 32 → slots_of (set region (32 * head.last + head.len % 32) byte) next (set heads b (Some (record { owner = head.owner; last = head.last; len = head.len + 1; read_on = head.read_on; passed = head.passed }))) ≡ with_chain (slots_of region next heads) b head.owner (laid_bytes region next b head.len ++ byte ∷ [])
   push_in_block_slots b head byte at room =
       let chain = sound.chains b head at in
       let low : b < length heads = omega (arith, in_pool next sound.mark sound.count b head chain, sound.counted) in
@@ -305,9 +288,7 @@ module _ (region next : List ℕ) (heads : List (Option Head)) (free free_len : 
       ∙ ap (λ bs. Some (record { owner = head.owner; bytes = bs })) (pushed_bytes b head byte at room))
       (λ c apart. ap (held_by (set region place byte) next c) (get_or-set_other heads b c (Some longer) None apart) ∙ other_held c (get_or heads c None) refl b head l.1 apart)
     where
-      other_held : (c : ℕ) (h : Option Head) → get_or heads c None ≡ h → (b : ℕ) (head : Head) → sound.mark head.last ≡ (b, blocks_for head.len - 1)
-          → c ≢ b
-          → held_by (set region (32 * head.last + head.len % 32) byte) next c (get_or heads c None) ≡ held_by region next c (get_or heads c None)
+      other_held : (c : ℕ) (h : Option Head) → get_or heads c None ≡ h → (b : ℕ) (head : Head) → sound.mark head.last ≡ (b, blocks_for head.len - 1) → c ≢ b → held_by (set region (32 * head.last + head.len % 32) byte) next c (get_or heads c None) ≡ held_by region next c (get_or heads c None)
       other_held c None e b head m apart = rw e refl
       other_held c (Some h) e b head m apart =
           rw e (ap (λ bs. Some (record { owner = h.owner; bytes = bs })) (other_bytes c h e head.last b (blocks_for head.len - 1) head.len byte m (λ s. apart (sym s))))
@@ -315,9 +296,7 @@ module _ (region next : List ℕ) (heads : List (Option Head)) (free free_len : 
   -- ---- the first free block taken
 
   -- the next free blocks
-  popped_spare : (c k : ℕ) (next' : List ℕ) (after : ℕ) → after ≡ get_or next free 0
-      → ((i : ℕ) → i < free_len - 1 → block_at next' after i ≡ block_at next after i) → (i : ℕ) → i < free_len - 1
-      → IsMarked (λ x. popped sound.count c k (sound.mark x)) sound.count (block_at next' after i) sound.count i
+  popped_spare : (c k : ℕ) (next' : List ℕ) (after : ℕ) → after ≡ get_or next free 0 → ((i : ℕ) → i < free_len - 1 → block_at next' after i ≡ block_at next after i) → (i : ℕ) → i < free_len - 1 → IsMarked (λ x. popped sound.count c k (sound.mark x)) sound.count (block_at next' after i) sound.count i
   popped_spare c k next' after is_next same i low =
       let place : block_at next' after i ≡ block_at next free (1 + i) = same i low ∙ (ap (λ x. block_at next x i) is_next ∙ behind next free 1 i) in
       let m = sound.spare (1 + i) (omega arith) in
@@ -325,9 +304,7 @@ module _ (region next : List ℕ) (heads : List (Option Head)) (free free_len : 
       (m.0, ap (popped sound.count c k) m.1 ∙ popped_rest sound.count c k i)
 
   -- a chain that wasn't written
-  popped_chain : (c k : ℕ) (next' : List ℕ) (d : ℕ) (head : Head) → get_or heads d None ≡ Some head
-      → ((i : ℕ) → i < blocks_for head.len → block_at next' d i ≡ block_at next d i)
-      → IsChain next' (λ x. popped sound.count c k (sound.mark x)) sound.count d head
+  popped_chain : (c k : ℕ) (next' : List ℕ) (d : ℕ) (head : Head) → get_or heads d None ≡ Some head → ((i : ℕ) → i < blocks_for head.len → block_at next' d i ≡ block_at next d i) → IsChain next' (λ x. popped sound.count c k (sound.mark x)) sound.count d head
   popped_chain c k next' d head at same =
       let chain = sound.chains d head at in
       let some : 0 < head.len = chain.some in
@@ -343,8 +320,7 @@ module _ (region next : List ℕ) (heads : List (Option Head)) (free free_len : 
         reading = same head.passed chain.within ∙ chain.reading;
       }
 
-  pub begin_sound : (owner byte place after : ℕ) → 0 < free_len → after ≡ get_or next free 0
-      → AreSoundBlocks (set region place byte) next (set heads free (Some (record { owner = owner; last = free; len = 1; read_on = free; passed = 0 }))) after (free_len - 1)
+  pub begin_sound : (owner byte place after : ℕ) → 0 < free_len → after ≡ get_or next free 0 → AreSoundBlocks (set region place byte) next (set heads free (Some (record { owner = owner; last = free; len = 1; read_on = free; passed = 0 }))) after (free_len - 1)
   begin_sound owner byte place after some is_next =
       let first = first_free some in
       let low : free < length heads = omega (arith, first.0, sound.counted) in
@@ -376,8 +352,7 @@ module _ (region next : List ℕ) (heads : List (Option Head)) (free free_len : 
         all = omega (arith, sum_by-set head_blocks heads free (Some new) None low, ap head_blocks (no_head some), sound.all);
       }
 
-  pub begin_slots : (owner byte : ℕ) → 0 < free_len
-      → slots_of (set region (32 * free) byte) next (set heads free (Some (record { owner = owner; last = free; len = 1; read_on = free; passed = 0 }))) ≡ with_chain (slots_of region next heads) free owner (byte ∷ [])
+  pub begin_slots : (owner byte : ℕ) → 0 < free_len → slots_of (set region (32 * free) byte) next (set heads free (Some (record { owner = owner; last = free; len = 1; read_on = free; passed = 0 }))) ≡ with_chain (slots_of region next heads) free owner (byte ∷ [])
   begin_slots owner byte some =
       let first = first_free some in
       let low : free < length heads = omega (arith, first.0, sound.counted) in
@@ -393,8 +368,7 @@ module _ (region next : List ℕ) (heads : List (Option Head)) (free free_len : 
       (λ c apart. ap (held_by (set region (32 * free) byte) next c) (get_or-set_other heads free c (Some new) None apart)
       ∙ (ap (λ i. held_by (set region i byte) next c (get_or heads c None)) (sym plain) ∙ other_held c (get_or heads c None) refl first.1))
     where
-      other_held : (c : ℕ) (h : Option Head) → get_or heads c None ≡ h → sound.mark free ≡ (sound.count, 0)
-          → held_by (set region (32 * free + 0 % 32) byte) next c (get_or heads c None) ≡ held_by region next c (get_or heads c None)
+      other_held : (c : ℕ) (h : Option Head) → get_or heads c None ≡ h → sound.mark free ≡ (sound.count, 0) → held_by (set region (32 * free + 0 % 32) byte) next c (get_or heads c None) ≡ held_by region next c (get_or heads c None)
       other_held c None e m = rw e refl
       other_held c (Some h) e m =
           let low = in_pool next sound.mark sound.count c h (sound.chains c h e) in
@@ -402,9 +376,7 @@ module _ (region next : List ℕ) (heads : List (Option Head)) (free free_len : 
 
   -- ---- a byte more in a new last block
 
-  pub push_in_new_block_sound : (b : ℕ) (head : Head) (place byte after : ℕ) → get_or heads b None ≡ Some head → head.len % 32 ≡ 0 → 0 < free_len
-      → after ≡ get_or next free 0
-      → AreSoundBlocks (set region place byte) (set next head.last free) (set heads b (Some (record { owner = head.owner; last = free; len = head.len + 1; read_on = head.read_on; passed = head.passed }))) after (free_len - 1)
+  pub push_in_new_block_sound : (b : ℕ) (head : Head) (place byte after : ℕ) → get_or heads b None ≡ Some head → head.len % 32 ≡ 0 → 0 < free_len → after ≡ get_or next free 0 → AreSoundBlocks (set region place byte) (set next head.last free) (set heads b (Some (record { owner = head.owner; last = free; len = head.len + 1; read_on = head.read_on; passed = head.passed }))) after (free_len - 1)
   push_in_new_block_sound b head place byte after at full some is_next =
       let chain = sound.chains b head at in
       let b_low = in_pool next sound.mark sound.count b head chain in
@@ -463,8 +435,7 @@ module _ (region next : List ℕ) (heads : List (Option Head)) (free free_len : 
         all = omega (arith, sum_by-set head_blocks heads b (Some longer) None low, ap head_blocks at, one_more, sound.all);
       }
 
-  pub push_in_new_block_slots : (b : ℕ) (head : Head) (byte : ℕ) → get_or heads b None ≡ Some head → head.len % 32 ≡ 0 → 0 < free_len
-      → slots_of (set region (32 * free) byte) (set next head.last free) (set heads b (Some (record { owner = head.owner; last = free; len = head.len + 1; read_on = head.read_on; passed = head.passed }))) ≡ with_chain (slots_of region next heads) b head.owner (laid_bytes region next b head.len ++ byte ∷ [])
+  pub push_in_new_block_slots : (b : ℕ) (head : Head) (byte : ℕ) → get_or heads b None ≡ Some head → head.len % 32 ≡ 0 → 0 < free_len → slots_of (set region (32 * free) byte) (set next head.last free) (set heads b (Some (record { owner = head.owner; last = free; len = head.len + 1; read_on = head.read_on; passed = head.passed }))) ≡ with_chain (slots_of region next heads) b head.owner (laid_bytes region next b head.len ++ byte ∷ [])
   push_in_new_block_slots b head byte at full some =
       let chain = sound.chains b head at in
       let b_low = in_pool next sound.mark sound.count b head chain in
@@ -508,9 +479,7 @@ module _ (region next : List ℕ) (heads : List (Option Head)) (free free_len : 
       ∙ (ap (λ i. held_by (set region i byte) next' c (get_or heads c None)) (sym plain)
       ∙ other_held c (get_or heads c None) refl b head l.1 first.1 (λ e. apart e)))
     where
-      other_held : (c : ℕ) (h : Option Head) → get_or heads c None ≡ h → (b : ℕ) (head : Head) → sound.mark head.last ≡ (b, blocks_for head.len - 1)
-          → sound.mark free ≡ (sound.count, 0) → c ≢ b
-          → held_by (set region (32 * free + 0 % 32) byte) (set next head.last free) c (get_or heads c None) ≡ held_by region next c (get_or heads c None)
+      other_held : (c : ℕ) (h : Option Head) → get_or heads c None ≡ h → (b : ℕ) (head : Head) → sound.mark head.last ≡ (b, blocks_for head.len - 1) → sound.mark free ≡ (sound.count, 0) → c ≢ b → held_by (set region (32 * free + 0 % 32) byte) (set next head.last free) c (get_or heads c None) ≡ held_by region next c (get_or heads c None)
       other_held c None e b head m m0 apart = rw e refl
       other_held c (Some h) e b head m m0 apart =
           let c_chain = sound.chains c h e in
@@ -523,8 +492,7 @@ module _ (region next : List ℕ) (heads : List (Option Head)) (free free_len : 
 
   -- ---- a chain freed
 
-  pub free_chain_sound : (b : ℕ) (head : Head) → get_or heads b None ≡ Some head
-      → AreSoundBlocks region (set next head.last free) (set heads b None) b (free_len + blocks_for head.len)
+  pub free_chain_sound : (b : ℕ) (head : Head) → get_or heads b None ≡ Some head → AreSoundBlocks region (set next head.last free) (set heads b None) b (free_len + blocks_for head.len)
   free_chain_sound b head at =
       let chain = sound.chains b head at in
       let b_low = in_pool next sound.mark sound.count b head chain in
@@ -587,8 +555,7 @@ module _ (region next : List ℕ) (heads : List (Option Head)) (free free_len : 
         all = omega (arith, sum_by-set head_blocks heads b None None low, ap head_blocks at, sound.all);
       }
 
-  pub free_chain_slots : (b : ℕ) (head : Head) → get_or heads b None ≡ Some head
-      → slots_of region (set next head.last free) (set heads b None) ≡ set (slots_of region next heads) b None
+  pub free_chain_slots : (b : ℕ) (head : Head) → get_or heads b None ≡ Some head → slots_of region (set next head.last free) (set heads b None) ≡ set (slots_of region next heads) b None
   free_chain_slots b head at =
       let chain = sound.chains b head at in
       let low : b < length heads = omega (arith, in_pool next sound.mark sound.count b head chain, sound.counted) in
@@ -598,8 +565,7 @@ module _ (region next : List ℕ) (heads : List (Option Head)) (free free_len : 
       (ap (held_by region (set next head.last free) b) (get_or-set_same heads b None None low))
       (λ c apart. ap (held_by region (set next head.last free) c) (get_or-set_other heads b c None None apart) ∙ other_held c (get_or heads c None) refl b head l.1 apart)
     where
-      other_held : (c : ℕ) (h : Option Head) → get_or heads c None ≡ h → (b : ℕ) (head : Head) → sound.mark head.last ≡ (b, blocks_for head.len - 1)
-          → c ≢ b → held_by region (set next head.last free) c (get_or heads c None) ≡ held_by region next c (get_or heads c None)
+      other_held : (c : ℕ) (h : Option Head) → get_or heads c None ≡ h → (b : ℕ) (head : Head) → sound.mark head.last ≡ (b, blocks_for head.len - 1) → c ≢ b → held_by region (set next head.last free) c (get_or heads c None) ≡ held_by region next c (get_or heads c None)
       other_held c None e b head m apart = rw e refl
       other_held c (Some h) e b head m apart =
           rw e (ap (λ bs. Some (record { owner = h.owner; bytes = bs }))
@@ -608,8 +574,7 @@ module _ (region next : List ℕ) (heads : List (Option Head)) (free free_len : 
           (other_link next sound.mark sound.count c h (sound.chains c h e) head.last free b (blocks_for head.len - 1) m (λ s. apart (sym s)) (i / 32) (omega arith)))))
 
 -- the last block of a chain lies in the pool
-pub last_in : (region next : List ℕ) (heads : List (Option Head)) (free free_len : ℕ) (sound : AreSoundBlocks region next heads free free_len) (b : ℕ) (head : Head)
-    → get_or heads b None ≡ Some head → head.last < sound.count
+pub last_in : (region next : List ℕ) (heads : List (Option Head)) (free free_len : ℕ) (sound : AreSoundBlocks region next heads free free_len) (b : ℕ) (head : Head) → get_or heads b None ≡ Some head → head.last < sound.count
 last_in region next heads free free_len sound b head at = (last_marked next sound.mark sound.count b head (sound.chains b head at)).0
 
 -- the length of a chain that isn't too long fits its type
@@ -658,8 +623,7 @@ module _ (region next : List ℕ) (heads : List (Option Head)) (slots : List (Op
 -- ---- another owner
 
 module _ (region next : List ℕ) (heads : List (Option Head)) (free free_len : ℕ) (sound : AreSoundBlocks region next heads free free_len) where
-  pub set_owner_sound : (b owner : ℕ) (head : Head) → get_or heads b None ≡ Some head
-      → AreSoundBlocks region next (set heads b (Some (record { owner = owner; last = head.last; len = head.len; read_on = head.read_on; passed = head.passed }))) free free_len
+  pub set_owner_sound : (b owner : ℕ) (head : Head) → get_or heads b None ≡ Some head → AreSoundBlocks region next (set heads b (Some (record { owner = owner; last = head.last; len = head.len; read_on = head.read_on; passed = head.passed }))) free free_len
   set_owner_sound b owner head at =
       let chain = sound.chains b head at in
       let low : b < length heads = omega (arith, in_pool next sound.mark sound.count b head chain, sound.counted) in
@@ -681,8 +645,7 @@ module _ (region next : List ℕ) (heads : List (Option Head)) (free free_len : 
         all = omega (arith, sum_by-set head_blocks heads b (Some new) None low, ap head_blocks at, sound.all);
       }
 
-  pub set_owner_slots : (b owner : ℕ) (head : Head) → get_or heads b None ≡ Some head
-      → slots_of region next (set heads b (Some (record { owner = owner; last = head.last; len = head.len; read_on = head.read_on; passed = head.passed }))) ≡ with_chain (slots_of region next heads) b owner (laid_bytes region next b head.len)
+  pub set_owner_slots : (b owner : ℕ) (head : Head) → get_or heads b None ≡ Some head → slots_of region next (set heads b (Some (record { owner = owner; last = head.last; len = head.len; read_on = head.read_on; passed = head.passed }))) ≡ with_chain (slots_of region next heads) b owner (laid_bytes region next b head.len)
   set_owner_slots b owner head at =
       let low : b < length heads = omega (arith, in_pool next sound.mark sound.count b head (sound.chains b head at), sound.counted) in
       let new : Head = record { owner = owner; last = head.last; len = head.len; read_on = head.read_on; passed = head.passed } in
@@ -693,9 +656,7 @@ module _ (region next : List ℕ) (heads : List (Option Head)) (free free_len : 
 
   -- ---- reading goes on at another block
 
-  pub read_on_sound : (b block passed : ℕ) (head : Head) → get_or heads b None ≡ Some head → passed < blocks_for head.len
-      → block ≡ block_at next b passed
-      → AreSoundBlocks region next (set heads b (Some (record { owner = head.owner; last = head.last; len = head.len; read_on = block; passed = passed }))) free free_len
+  pub read_on_sound : (b block passed : ℕ) (head : Head) → get_or heads b None ≡ Some head → passed < blocks_for head.len → block ≡ block_at next b passed → AreSoundBlocks region next (set heads b (Some (record { owner = head.owner; last = head.last; len = head.len; read_on = block; passed = passed }))) free free_len
   read_on_sound b block passed head at low block_is =
       let chain = sound.chains b head at in
       let b_low : b < length heads = omega (arith, in_pool next sound.mark sound.count b head chain, sound.counted) in
@@ -717,8 +678,7 @@ module _ (region next : List ℕ) (heads : List (Option Head)) (free free_len : 
         all = omega (arith, sum_by-set head_blocks heads b (Some new) None b_low, ap head_blocks at, sound.all);
       }
 
-  pub read_on_slots : (b block passed : ℕ) (head : Head) → get_or heads b None ≡ Some head
-      → slots_of region next (set heads b (Some (record { owner = head.owner; last = head.last; len = head.len; read_on = block; passed = passed }))) ≡ slots_of region next heads
+  pub read_on_slots : (b block passed : ℕ) (head : Head) → get_or heads b None ≡ Some head → slots_of region next (set heads b (Some (record { owner = head.owner; last = head.last; len = head.len; read_on = block; passed = passed }))) ≡ slots_of region next heads
   unfolding slots_of
   read_on_slots b block passed head at =
       let low : b < length heads = omega (arith, in_pool next sound.mark sound.count b head (sound.chains b head at), sound.counted) in
@@ -751,8 +711,7 @@ drop-made f n from low =
     ∙ (get_or-map-range_with_len f 0 n (from + k) (from + k) d (omega arith) (omega arith)
     ∙ sym (get_or-map-range_with_len f from (n - from) k (from + k) d inside refl)))
 
-pub copied_bytes : (region next : List ℕ) (b len from count : ℕ) → from ≤ len → count ≤ len - from
-    → map (linked_byte region next b) (range_with_len from count) ≡ take count (drop from (laid_bytes region next b len))
+pub copied_bytes : (region next : List ℕ) (b len from count : ℕ) → from ≤ len → count ≤ len - from → map (linked_byte region next b) (range_with_len from count) ≡ take count (drop from (laid_bytes region next b len))
 unfolding laid_bytes
 copied_bytes region next b len from count low few =
     sym (ap (take count) (drop-made (linked_byte region next b) len from low) ∙ take-map-range_with_len (linked_byte region next b) from (len - from) count few)
@@ -766,20 +725,16 @@ module _ (region next : List ℕ) (heads : List (Option Head)) (free free_len : 
       by_head None e = absurd (not_none region next heads slots view b some e)
       by_head (Some head) e = blocks_low region next heads free free_len sound b head e k (omega (arith, len_says region next heads slots view b head e))
 
-  pub bytes_copied : (from count : ℕ) → from ≤ length (held_bytes slots b) → count ≤ length (held_bytes slots b) - from
-      → map (linked_byte region next b) (range_with_len from count) ≡ take count (drop from (held_bytes slots b))
+  pub bytes_copied : (from count : ℕ) → from ≤ length (held_bytes slots b) → count ≤ length (held_bytes slots b) - from → map (linked_byte region next b) (range_with_len from count) ≡ take count (drop from (held_bytes slots b))
   bytes_copied from count low few = by_head (get_or heads b None) refl
     where
-      by_head : (h : Option Head) → get_or heads b None ≡ h
-          → map (linked_byte region next b) (range_with_len from count) ≡ take count (drop from (held_bytes slots b))
+      by_head : (h : Option Head) → get_or heads b None ≡ h → map (linked_byte region next b) (range_with_len from count) ≡ take count (drop from (held_bytes slots b))
       by_head None e = absurd (not_none region next heads slots view b some e)
       by_head (Some head) e =
           let len = len_says region next heads slots view b head e in
           copied_bytes region next b head.len from count (omega (arith, len)) (omega (arith, len)) ∙ ap (λ bs. take count (drop from bs)) (sym (bytes_say region next heads slots view b head e))
 
-  pub copied_out : (from count : ℕ) (out new : List ℕ) → from ≤ length (held_bytes slots b)
-      → count ≡ min (length (held_bytes slots b) - from) (length out)
-      → new ≡ map (linked_byte region next b) (range_with_len from (length (take count out)))
+  pub copied_out : (from count : ℕ) (out new : List ℕ) → from ≤ length (held_bytes slots b) → count ≡ min (length (held_bytes slots b) - from) (length out) → new ≡ map (linked_byte region next b) (range_with_len from (length (take count out)))
       → new ++ drop count out ≡ take count (drop from (held_bytes slots b)) ++ drop count out
   copied_out from count out new low count_is new_is =
       let len : length (take count out) ≡ count = omega (arith, length-take count out, count_is) in
@@ -797,8 +752,7 @@ no_head_blocks : (n : ℕ) → sum_by head_blocks (replicate n None) ≡ 0
 no_head_blocks zero = refl
 no_head_blocks (suc n) = omega (arith, sum_by-cons head_blocks None (replicate n None), no_head_blocks n)
 
-pub make_sound : (region next : List ℕ) (heads : List (Option Head)) (count : ℕ) → count ≤ 16384 → length region ≡ 32 * count
-    → next ≡ range_with_len 1 count → heads ≡ replicate count None → AreSoundBlocks region next heads 0 count
+pub make_sound : (region next : List ℕ) (heads : List (Option Head)) (count : ℕ) → count ≤ 16384 → length region ≡ 32 * count → next ≡ range_with_len 1 count → heads ≡ replicate count None → AreSoundBlocks region next heads 0 count
 make_sound region next heads count few bytes links none = record {
   count = count;
   counted = ap length none ∙ length-replicate count None;
@@ -814,8 +768,7 @@ make_sound region next heads count few bytes links none = record {
     no_heads : (b : ℕ) → get_or heads b None ≡ None
     no_heads b = ap (λ hs. get_or hs b None) none ∙ elim (cases_lt b count) [ inl low ↦ get_or-replicate count b None None low | inr high ↦ get_or_past (replicate count None) b None (omega (arith, length-replicate {A = Option Head} count None)) ]
 
-pub make_slots : (region next : List ℕ) (heads : List (Option Head)) (count : ℕ) → heads ≡ replicate count None
-    → slots_of region next heads ≡ replicate count None
+pub make_slots : (region next : List ℕ) (heads : List (Option Head)) (count : ℕ) → heads ≡ replicate count None → slots_of region next heads ≡ replicate count None
 make_slots region next heads count none =
     same_lists _ _ (length-slots_of region next heads ∙ (ap length none ∙ (length-replicate {A = Option Head} count None ∙ sym (length-replicate {A = Option Held} count None))))
     (λ k d h.

@@ -37,9 +37,13 @@ reckoning_in events n = fold (with_event n) (reckoning_of false new_book (new_me
 
 -- ## Which commands are found
 
--- the controller, or one of these hosts
+-- one of these hosts
+abbrev pub is_one_of : List ℕ → ℕ → Bool
+is_one_of hosts h = list_any (λ k. k == h) hosts
+
+-- a node of this world: the controller, or one of its hosts
 abbrev pub IsNodeOf : List ℕ → ℕ → Type 0
-IsNodeOf hosts n = IsTrue (n == 0 || list_any (λ h. h == n) hosts)
+IsNodeOf hosts n = IsTrue (n == 0 || is_one_of hosts n)
 
 -- a boot finds all but the last one of these commands exactly where that one is lost, and else all
 abbrev pub FindsBy : Bool → ℕ → ℕ → Type 0

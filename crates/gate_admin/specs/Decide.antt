@@ -10,7 +10,7 @@ use Rattle.pipe_table.specs.PipeRows.{pipe_at, joins_host, opened_on, lowest_fre
 use Rattle.hci_tables.specs.declared.command.Command.{Command}
 use Rattle.hci_tables.specs.declared.command.Command.TheVariants.{Create, Delete, Clear, SetOpened, Set}
 use Rattle.hci_tables.specs.Commands.{is_allowed, is_command}
-use Rattle.hci_tables.specs.Tables.{HciTables}
+use Rattle.hci_tables.specs.Tables.{HciTables, is_opened}
 use Rattle.gate_answers.specs.declared.response.Response.{Response}
 use Rattle.gate_answers.specs.declared.response.Response.TheVariants as response
 use Rattle.gate_answers.specs.Answers.{answer_of, first_of, tests_to_set, tests_to_get, param_in, value_in}
@@ -61,12 +61,6 @@ abbrev pub far_end : HciTables → ℕ → ℕ → Option (ℕ × ℕ)
 far_end t host pipe =
     if pipe == 0 then Some (0, 6) else
     (if pipe == 1 then Some (0, 0) else option_and_then (far_end_of host) (pipe_at t.rows pipe))
-
--- whether a pipe of a host is opened
-abbrev pub is_opened : HciTables → ℕ → ℕ → Bool
-is_opened t host pipe =
-    if nat_lt pipe 2 then list_any (λ static. static.0 == host && static.1 == pipe) t.statics
-    else option_map_or (λ (row : PipeRow). row.opened) (pipe_at t.rows pipe) false
 
 -- Any command: the pipe is the host's, and it is opened or the command opens it.
 abbrev pub tests_of_pipe : HciTables → ℕ → ℕ → ℕ → List (Bool × Response)

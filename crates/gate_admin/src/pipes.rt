@@ -9,7 +9,8 @@ ghost use Rattle.pipe_table.specs.PipeRows.{IsDynamic, pipe_at, lowest_free, joi
 ghost use Rattle.hci_tables.specs.Commands.{IsCommand};
 ghost use Rattle.gate_answers.specs.Answers.{first_of};
 ghost use Rattle.gate_admin.specs.View.{is_connected, is_noticed, mask_of};
-ghost use Rattle.gate_admin.specs.Decide.{IsRecordableDecision, far_end, far_end_of, is_opened, others_opened, allows};
+ghost use Rattle.hci_tables.specs.Tables.{is_opened};
+ghost use Rattle.gate_admin.specs.Decide.{IsRecordableDecision, far_end, far_end_of, others_opened, allows};
 ghost use Rattle.gate_admin.specs.Decide.{tests_of_pipe, opening, closing, creating, tests_to_create, creation};
 ghost use Rattle.gate_admin.specs.Decide.{deleting, clearing, shares, told_of_clearing, commits_and_tells, if_told};
 

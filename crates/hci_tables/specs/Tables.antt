@@ -1,6 +1,6 @@
 -- What a host controller keeps, and what a command makes of it.
-use Rattle.std.specs.Prelude.{ℕ, ◌+◌, ◌*◌, Bool, false, not, if◌then◌else◌, ◌==◌, nat_lt, List, [], Option}
-use Rattle.std.specs.List.{filter, fold}
+use Rattle.std.specs.Prelude.{ℕ, ◌+◌, ◌*◌, Bool, false, not, if◌then◌else◌, ◌&&◌, ◌==◌, nat_lt, List, [], Option}
+use Rattle.std.specs.List.{filter, fold, list_any}
 use Rattle.std.specs.Option.{option_map, option_map_or}
 use Rattle.sorted_rows.specs.Rows.{AreRows, row_of, with_row, without_row}
 use Rattle.pipe_table.specs.declared.row.PipeRow.{PipeRow}
@@ -69,6 +69,12 @@ apply t (Sync host id) = record t {
   values = if is_kept_sync t.syncs host id then t.values else without_identity t.values host;
   syncs = with_row sync_host (host, id) t.syncs;
 }
+
+-- whether a pipe is opened: a static one of this host, or a dynamic one
+abbrev pub is_opened : HciTables → ℕ → ℕ → Bool
+is_opened t host pipe =
+    if nat_lt pipe 2 then list_any (λ static. static.0 == host && static.1 == pipe) t.statics
+    else option_map_or (λ (row : PipeRow). row.opened) (pipes.pipe_at t.rows pipe) false
 
 -- commands one after another
 abbrev pub after_commands : HciTables → List Command → HciTables

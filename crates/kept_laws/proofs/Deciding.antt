@@ -10,14 +10,14 @@ use Rattle.pipe_table.specs.declared.row.PipeRow.{PipeRow}
 use Rattle.pipe_table.specs.PipeRows.{pid_of, pipe_at, lowest_free}
 use Rattle.hci_tables.specs.declared.command.Command.TheVariants.{Create, SetOpened}
 use Rattle.hci_tables.specs.Commands.{is_allowed, is_host, IsCommand}
-use Rattle.hci_tables.specs.Tables.{HciTables, AreTables}
+use Rattle.hci_tables.specs.Tables.{HciTables, AreTables, is_opened}
 use Rattle.gate_answers.specs.declared.response.Response.{Response}
 use Rattle.gate_answers.specs.declared.response.Response.TheVariants as response
 use Rattle.gate_answers.specs.Answers.{answer_of, first_of, tests_to_get, param_in, value_in, is_unknown_access, is_read_only}
 use Rattle.gate_admin.specs.declared.view.LinkView.{LinkView}
 use Rattle.gate_admin.specs.declared.decision.Decision.{Decision}
 use Rattle.gate_admin.specs.declared.decision.Decision.TheVariants.{Ask}
-use Rattle.gate_admin.specs.Decide.{IsRecordableDecision, commits, unless_refused, far_end_of, far_end, is_opened, tests_of_pipe, tests_to_open, tests_to_set_it, tests_to_create, tests_to_delete, tests_to_clear, opening, closing, setting, getting, creating, created, creation, ends_of, deleting, clearing, carried_out, decided}
+use Rattle.gate_admin.specs.Decide.{IsRecordableDecision, commits, unless_refused, far_end_of, far_end, tests_of_pipe, tests_to_open, tests_to_set_it, tests_to_create, tests_to_delete, tests_to_clear, opening, closing, setting, getting, creating, created, creation, ends_of, deleting, clearing, carried_out, decided}
 use Rattle.gate_admin.proofs.CreationLemmas.{AllFalse, all_false, creation-recordable}
 
 unless : (refusal : Option Response) (otherwise : Decision) → (refusal ≡ None → IsRecordableDecision otherwise) → IsRecordableDecision (unless_refused refusal otherwise)

@@ -52,9 +52,9 @@ pub data Entry : Type 0 where
 -- ## Of a step of one end
 
 -- this is noted, if so
-abbrev pub if_so : Bool → Entry → List Entry
-if_so false e = []
-if_so true e = e ∷ []
+abbrev pub if_so : {X : Type 0} → Bool → X → List X
+if_so {X} false e = []
+if_so {X} true e = e ∷ []
 
 -- what is told of an input to an end, whose session has this number, and in which so many messages are acknowledged now
 abbrev pub told : End → ℕ → Report → ℕ → List Entry

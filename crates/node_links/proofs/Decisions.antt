@@ -2,7 +2,7 @@
 use Rattle.std.proofs.Common.{◌≡◌, ℕ, ◌<◌, Bool, true, false, cond, eqb, List, [], ◌∷◌, length, refl, arith}
 use Rattle.std.specs.Prelude.{Option, Some, None, unwrap_or}
 use Rattle.std.specs.List.{AllByRecursion}
-use Rattle.hci_tables.specs.Tables.{HciTables}
+use Rattle.hci_tables.specs.Tables.{HciTables, is_opened}
 use Rattle.hci_tables.specs.declared.command.Command.{Command}
 use Rattle.hci_tables.specs.declared.command.Command.TheVariants.{Create, Delete, Clear, SetOpened, Set}
 use Rattle.pipe_table.specs.PipeRows.{lowest_free}
@@ -14,7 +14,7 @@ use Rattle.gate_admin.specs.declared.view.LinkView.{LinkView}
 use Rattle.gate_admin.specs.declared.decision.Decision.{Decision}
 use Rattle.gate_admin.specs.declared.decision.Decision.TheVariants.{Answer, Commit, Ask}
 use Rattle.gate_admin.specs.View.{has, hosts_where, mask_of}
-use Rattle.gate_admin.specs.Decide.{answers, ends_of, value_of, tests_to_set_it, commits, commits_and_tells, unless_refused, opening, closing, setting, getting, creation, creating, deleting, clearing, administration, carried_out, decided, is_opened, others_opened, created, told_of_deletion, told_of_clearing, tests_to_create, tests_to_open, tests_to_delete, tests_to_clear, tests_of_pipe}
+use Rattle.gate_admin.specs.Decide.{answers, ends_of, value_of, tests_to_set_it, commits, commits_and_tells, unless_refused, opening, closing, setting, getting, creation, creating, deleting, clearing, administration, carried_out, decided, others_opened, created, told_of_deletion, told_of_clearing, tests_to_create, tests_to_open, tests_to_delete, tests_to_clear, tests_of_pipe}
 use Rattle.gate_link.specs.Link.{count_bytes, count_in, tests_to_set_errors, link_served, link_unless_refused as link_unless}
 use Rattle.gate_identity.specs.Identity.{identity_value, identity_served, identity_unless_refused as identity_unless}
 

@@ -10,14 +10,14 @@ use Rattle.hcp_packet.specs.declared.MessageFault.{MessageFault}
 use Rattle.hcp_packet.specs.MessageHeader.{header_of}
 use Rattle.hci_tables.specs.declared.command.Command.{Command}
 use Rattle.hci_tables.specs.declared.command.Command.TheVariants.{Create, Delete, Clear, SetOpened, Set, Sync}
-use Rattle.hci_tables.specs.Tables.{HciTables}
+use Rattle.hci_tables.specs.Tables.{HciTables, is_opened}
 use Rattle.gate_answers.specs.declared.response.Response.TheVariants as response
 use Rattle.gate_answers.specs.Answers.{answer_of, body_in}
 use Rattle.gate_admin.specs.declared.view.LinkView.{LinkView}
 use Rattle.gate_admin.specs.declared.decision.Decision.{Decision}
 use Rattle.gate_admin.specs.declared.decision.Decision.TheVariants.{Answer, Commit, Ask}
 use Rattle.gate_admin.specs.View.{has, hosts_where, is_connected}
-use Rattle.gate_admin.specs.Decide.{decided, is_opened}
+use Rattle.gate_admin.specs.Decide.{decided}
 use Rattle.gate_link.specs.Link.{link_served}
 use Rattle.gate_identity.specs.Identity.{identity_served}
 use Rattle.gate_laws.specs.Rules.{AsksAsAllowed, IsAskedFor}

@@ -10,7 +10,7 @@ use Rattle.hcp_packet.specs.declared.MessageFault.{MessageFault}
 use Rattle.hcp_packet.specs.MessageHeader.{header_of}
 use Rattle.pipe_table.specs.PipeRows.{lowest_free, pipe_at}
 use Rattle.pipe_table.specs.declared.row.PipeRow.{PipeRow}
-use Rattle.hci_tables.specs.Tables.{HciTables}
+use Rattle.hci_tables.specs.Tables.{HciTables, is_opened}
 use Rattle.hci_tables.specs.declared.command.Command.{Command}
 use Rattle.hci_tables.specs.declared.command.Command.TheVariants.{Create, Delete, Clear}
 use Rattle.gate_answers.specs.declared.response.Response.{Response}
@@ -20,7 +20,7 @@ use Rattle.gate_admin.specs.declared.view.LinkView.{LinkView}
 use Rattle.gate_admin.specs.declared.decision.Decision.{Decision}
 use Rattle.gate_admin.specs.declared.decision.Decision.TheVariants.{Answer, Commit, Ask}
 use Rattle.gate_admin.specs.View.{has, hosts_where, mask_of, is_connected, is_noticed}
-use Rattle.gate_admin.specs.Decide.{ends_of, tests_to_set_it, commits, commits_and_tells, unless_refused, far_end_of, dest_in, opening, closing, setting, getting, creation, creating, deleting, clearing, shares, carried_out, decided, is_opened, created, told_of_deletion, told_of_clearing, tests_to_create, tests_to_open, tests_to_delete, tests_to_clear, tests_of_pipe}
+use Rattle.gate_admin.specs.Decide.{ends_of, tests_to_set_it, commits, commits_and_tells, unless_refused, far_end_of, dest_in, opening, closing, setting, getting, creation, creating, deleting, clearing, shares, carried_out, decided, created, told_of_deletion, told_of_clearing, tests_to_create, tests_to_open, tests_to_delete, tests_to_clear, tests_of_pipe}
 use Rattle.gate_admin.proofs.CreationLemmas.{AllFalse, all_false}
 use Rattle.gate_link.specs.Link.{link_served}
 use Rattle.gate_identity.specs.Identity.{identity_served}

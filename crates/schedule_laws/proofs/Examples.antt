@@ -1,9 +1,10 @@
 -- A schedule whose lines have every form of nodes, and lines that are outside the ranges.
-use Rattle.std.proofs.Common.{◌≡◌, inl, inr, ℕ, zero, suc, ◌<◌, true, List, [], ◌∷◌, length, refl, sym, arith}
+use Rattle.std.proofs.Common.{◌≡◌, ℕ, zero, suc, ◌<◌, true, List, [], ◌∷◌, length, refl, sym, arith}
 use Rattle.std.specs.Prelude.{Some, None, All, Contains}
 use Rattle.std.specs.List.Sorted.{IsStrictlyIncreasing}
 use Rattle.std.proofs.lemmas.Bool.{true≢false}
 use Rattle.std.proofs.lemmas.List.Elements.{All-from_recursion}
+use Rattle.swp_base.specs.Bits.{IsByte}
 use Rattle.trace_model.specs.declared.line.End.{End}
 use Rattle.trace_model.specs.declared.line.Header.{Header}
 use Rattle.trace_model.specs.declared.line.Line.{Line}
@@ -31,9 +32,6 @@ header_in_range = record {
 second : Contains two_hosts.hosts.items 2
 second = (1, omega arith, refl)
 
-abbrev IsByte : ℕ → Type 0
-IsByte b = b < 256
-
 -- `send 02h 01 03`
 abbrev sends : Line
 sends = line.Send (end_h 2) 1 (3 ∷ [])
@@ -53,7 +51,7 @@ arms = line.Arm 0 1 (record { items = 19 ∷ [] })
 
 armed : IsNodeLineOf two_hosts arms
 armed = record {
-  known = inl refl;
+  known = refl;
   which = (omega arith, omega arith);
   long = (omega arith, omega arith);
   bytes = All-from_recursion IsByte (19 ∷ []) (omega arith, tt);
@@ -92,7 +90,7 @@ activated = record { known = second; identifier = omega arith; code = omega arit
 
 lines_in_range : AreNodeLinesOf two_hosts many_lines
 lines_in_range =
-    (inl refl, (inr second, (activated, ((second, tt), (sent, (armed, (begun, (inl refl, (inr second, ((omega arith, omega arith), tt))))))))))
+    (refl, (refl, (activated, ((second, tt), (sent, (armed, (begun, (refl, (refl, ((omega arith, omega arith), tt))))))))))
 
 -- no end of a world of nodes is made busy by a line
 busy_is_outside : (e : End) → IsNodeLineOf two_hosts (line.Busy e) → ⊥

@@ -1,6 +1,10 @@
--- The bits of bytes, most significant first.
-use Rattle.std.specs.Prelude.{ℕ, Bool, ◌==◌, List, [], ◌∷◌, ◌++◌}
+-- Bytes, and their bits, most significant first.
+use Rattle.std.specs.Prelude.{ℕ, ◌<◌, Bool, ◌==◌, List, [], ◌∷◌, ◌++◌}
 use Rattle.std.specs.Int.{bit_at}
+
+-- a byte
+abbrev pub IsByte : ℕ → Type 0
+IsByte b = b < 256
 
 -- bit i of a number, where bit 0 is the least significant
 abbrev pub bit : ℕ → ℕ → Bool

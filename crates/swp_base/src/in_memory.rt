@@ -255,12 +255,6 @@ impl Source for SureSource {
 #[derive(Debug, Drop)]
 pub struct SureSink;
 
-impl SureSink {
-    pub fn new() -> Self {
-        Self
-    }
-}
-
 impl Sink for SureSink {
     ghost faults = { λ _. 0 };
 

@@ -1,6 +1,7 @@
 -- What a deframer keeps of what it has read.
 use Rattle.std.specs.Prelude.{ℕ, ◌%◌, ◌≡◌, ◌<◌, ◌≤◌, min, Bool, true, false, List, [], ◌∷◌, ◌++◌, length, drop, replicate, reverse, Option, Some, None}
-use Rattle.swp_base.specs.Bits.{bits_of}
+use Rattle.std.specs.List.{AllByRecursion}
+use Rattle.swp_base.specs.Bits.{IsByte, bits_of}
 use Rattle.swp_crc.specs.Division.{spelled_number}
 use Rattle.swp_frame.specs.declared.content.Content.{Content}
 use Rattle.swp_frame.specs.declared.deframer.Deframer.{Deframer}
@@ -15,8 +16,7 @@ before_run (break ∷ older) = break ∷ older
 
 -- each is a byte
 abbrev pub AreBytes : List ℕ → Type 0
-AreBytes [] = Unit {0}
-AreBytes (b ∷ bs) = (b < 256) × AreBytes bs
+AreBytes bytes = AllByRecursion IsByte bytes
 
 -- the bits are whole bytes, eight at a time, and a rest of less than 64; the rest is kept as a number
 pub record KeepsBits (bytes : List ℕ) (partial : ℕ) (bits : List Bool) : Type 0 where

@@ -1,8 +1,6 @@
 -- What a single command changes, in the words of the laws.
-use Rattle.std.specs.Prelude.{◌≡◌, ℕ, Bool, false, not, if◌then◌else◌, ◌&&◌, ◌||◌, ◌==◌, nat_lt, List, Some, IsTrue, is_some, ◌⊎◌}
+use Rattle.std.specs.Prelude.{◌≡◌, ℕ, Bool, false, not, if◌then◌else◌, ◌&&◌, ◌||◌, ◌==◌, nat_lt, List, Some, IsTrue, ◌⊎◌}
 use Rattle.std.specs.List.{list_all}
-use Rattle.std.specs.Option.{option_map_or}
-use Rattle.sorted_rows.specs.Rows.{row_of}
 use Rattle.pipe_table.specs.declared.row.PipeRow.{PipeRow}
 use Rattle.pipe_table.specs.PipeRows.{pipe_at}
 use Rattle.registry.specs.Values.{value_at, default_of}
@@ -54,9 +52,3 @@ opens host pid (Delete p) = false
 opens host pid (Clear h) = false
 opens host pid (Set h gate param value) = false
 opens host pid (Sync h id) = false
-
--- whether a pipe is opened: a static one of this host, or a dynamic one
-abbrev pub is_pipe_opened : HciTables → ℕ → ℕ → Bool
-is_pipe_opened t host pid =
-    if nat_lt pid 2 then is_some (row_of static_place (static_place (host, pid)) t.statics)
-    else option_map_or (λ (row : PipeRow). row.opened) (pipe_at t.rows pid) false

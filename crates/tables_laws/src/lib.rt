@@ -10,8 +10,8 @@ ghost use Rattle.pipe_table.specs.PipeRows.{pipe_at, joins_host};
 ghost use Rattle.hci_tables.specs.declared.command.Command.{Command};
 ghost use Rattle.hci_tables.specs.declared.command.Command.TheVariants.{Clear};
 ghost use Rattle.hci_tables.specs.Commands.{IsCommand};
-ghost use Rattle.hci_tables.specs.Tables.{HciTables, AreTables, no_tables, static_place, apply, after_commands, close};
-ghost use Rattle.tables_laws.specs.Changes.{JoinTwo, ComesFrom, told_value, opens, is_pipe_opened};
+ghost use Rattle.hci_tables.specs.Tables.{HciTables, AreTables, no_tables, static_place, apply, after_commands, close, is_opened};
+ghost use Rattle.tables_laws.specs.Changes.{JoinTwo, ComesFrom, told_value, opens};
 
 /// Whatever commands come, the pipes are sorted, none stands twice and all are 02 to 6F, and so it is with the other parts.
 pub fn tables_stay_sorted()
@@ -61,5 +61,5 @@ pub fn values_are_the_last_set()
 /// Behind a closing of all pipes no pipe is opened that no later command opened.
 pub fn closed_pipes_stay_closed()
     ensures { (t : HciTables) (commands : List Command) (host pid : ℕ) → AreTables t → AllByRecursion IsCommand commands →
-        is_pipe_opened (after_commands (close t) commands) host pid ≡ true → IsTrue (list_any (opens host pid) commands) }
+        is_opened (after_commands (close t) commands) host pid ≡ true → IsTrue (list_any (opens host pid) commands) }
 {}

@@ -21,7 +21,8 @@ use Rattle.trace_model.specs.declared.entry.NoCause.TheVariants as cause
 use Rattle.schedule_text.specs.Values.{byte_value, bytes_value, end_value}
 use Rattle.schedule_text.specs.Entries.{byte_text, two_bytes_text, end_text, number_words, line_words, down_word, lost_word, cause_words, command_words}
 use Rattle.schedule_text.proofs.AgainLemmas.{byte_again, bytes_again, end_again, length-hex}
-use Rattle.text_laws.specs.Ranges.{IsByte, IsEnd, AreOctets, IsNumber, IsTwoBytes, IsLineSaid, IsCause, IsSaidCommand}
+use Rattle.swp_base.specs.Bits.{IsByte}
+use Rattle.text_laws.specs.Ranges.{IsEnd, AreOctets, IsNumber, IsTwoBytes, IsLineSaid, IsCause, IsSaidCommand}
 
 -- other words
 abbrev pub head : List (List ℕ) → List ℕ

@@ -1,5 +1,6 @@
 -- The ranges of what an entry of a transcript says.
 use Rattle.std.specs.Prelude.{◌≡◌, ℕ, ◌^◌, ◌<◌, false, List, length, All, IfSome}
+use Rattle.swp_base.specs.Bits.{IsByte}
 use Rattle.pipe_table.specs.declared.row.PipeRow.{PipeRow}
 use Rattle.registry.specs.declared.value.RegValue.{RegValue}
 use Rattle.hci_tables.specs.Tables.{HciTables}
@@ -15,9 +16,6 @@ use Rattle.trace_model.specs.declared.entry.Entry.TheVariants as entry
 use Rattle.trace_model.specs.Lines.{IsHeader}
 
 -- a link is a byte, and so are a pipe, a host and a node; a message has a byte at least, and so has an LPDU
-abbrev pub IsByte : ℕ → Type 0
-IsByte n = n < 256
-
 abbrev pub IsEnd : End → Type 0
 IsEnd e = IsByte e.link
 

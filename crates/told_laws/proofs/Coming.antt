@@ -23,7 +23,8 @@ use Rattle.history.specs.Follows.{Follows, host_of}
 use Rattle.history.specs.Legal.{IsInOrder}
 use Rattle.history_laws.proofs.Ordered.{in_order}
 use Rattle.history_laws.proofs.Runs.{events_in}
-use Rattle.text_laws.specs.Ranges.{IsByte, AreOctets, IsEntry}
+use Rattle.swp_base.specs.Bits.{IsByte}
+use Rattle.text_laws.specs.Ranges.{AreOctets, IsEntry}
 use Rattle.told_laws.specs.Told.{step_told, entries_told}
 use Rattle.registry.proofs.ValueLemmas.{AllByRecursion-append as each-append}
 use Rattle.told_laws.proofs.Links.{bare_is}

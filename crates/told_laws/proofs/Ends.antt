@@ -14,7 +14,7 @@ use Rattle.shdlc_core.specs.declared.answers.Due.TheVariants.{Rr as Rr_due, Rej 
 use Rattle.shdlc_core.specs.Machine.{Timed, timed, runs_timer, EndState, Fragment, Session, place_of, received, acknowledged, taken, ticked, tick_answer, reset_with, stopped, with_ready, put_out, frame_due, fragment_due, control_due, expected, fetched, frames_of, after_frames}
 use Rattle.shdlc_core.specs.Machine.Timed.{Runs, Over, Spent}
 use Rattle.shdlc_core.proofs.Histories.{in_phase, received-sending}
-use Rattle.text_laws.specs.Ranges.{IsByte}
+use Rattle.swp_base.specs.Bits.{IsByte}
 use Rattle.shdlc_core.proofs.Timers.{grown_tries, timed-over}
 use Rattle.registry.proofs.ValueLemmas.{AllByRecursion-append as each-append}
 

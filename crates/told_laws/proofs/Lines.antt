@@ -7,7 +7,7 @@ use Rattle.std.proofs.lemmas.List.{length-replicate}
 use Rattle.swp_base.specs.declared.control_frames.Control.{Control}
 use Rattle.swp_base.specs.declared.control_frames.Control.TheVariants.{I, S, Rset, Ua, Act, Clt}
 use Rattle.swp_base.specs.declared.control_frames.Kind.TheVariants.{Rr, Rej, Rnr, Srej}
-use Rattle.swp_base.specs.Bits.{bits_of}
+use Rattle.swp_base.specs.Bits.{bits_of, IsByte}
 use Rattle.swp_base.proofs.BitLemmas.{length-bits_of}
 use Rattle.swp_crc.specs.Crc.{crc_of}
 use Rattle.swp_frame.specs.Stuffing.{stuffed_after, stuffed, start_of_frame, end_of_frame, with_crc, frame_of}
@@ -38,7 +38,7 @@ use Rattle.history.specs.Damage.{Verdict}
 use Rattle.history.specs.Damage.Verdict.{Same, LostFor, Undetected}
 use Rattle.history.specs.Steps.{end_of, entry_of, entries_for, event_of, events_at, link_after, link_after_all}
 use Rattle.history.specs.Follows.{refusal, as_noted, if_empty, if_beyond, if_out_of_reach, machine_of, frames_to, taken_of, first_verdict, damage_causes, causes_in, outcome_of, host_of, link_after_line, StepsFollow}
-use Rattle.text_laws.specs.Ranges.{IsByte, IsEnd, AreOctets, IsNumber, IsCause, IsEntry}
+use Rattle.text_laws.specs.Ranges.{IsEnd, AreOctets, IsNumber, IsCause, IsEntry}
 use Rattle.text_laws.proofs.ReadLemmas.{said_in}
 use Rattle.told_laws.specs.Told.{step_told}
 use Rattle.told_laws.proofs.Ends.{IsFrame}

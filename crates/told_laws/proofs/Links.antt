@@ -25,7 +25,7 @@ use Rattle.message_link.specs.Links.EndEvent.{Step, Lose}
 use Rattle.history.specs.Histories.{Cause}
 use Rattle.history.specs.Histories.Cause.{Given, Taken, WasLost, Ticked, WasReset, Readied}
 use Rattle.history.specs.Steps.{at, bare_link, link_after}
-use Rattle.text_laws.specs.Ranges.{IsByte}
+use Rattle.swp_base.specs.Bits.{IsByte}
 use Rattle.told_laws.proofs.Ends.{IsFragment, IsFrame, Ranged, ranged_taken, ranged_ticked, ranged_reset, ranged_stopped, ranged_ready, ranged_out, ranged_after, frames_in, frames_few}
 
 -- ## Messages

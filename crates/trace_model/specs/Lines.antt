@@ -1,6 +1,7 @@
 -- What a line of a schedule may say, apart from its text.
 use Rattle.std.specs.Prelude.{◌≡◌, ℕ, ◌<◌, ◌≤◌, List, length, All, Contains, IsTrue, IfSome, false}
 use Rattle.std.specs.List.Sorted.{IsStrictlyIncreasing}
+use Rattle.swp_base.specs.Bits.{IsByte}
 use Rattle.trace_model.specs.declared.line.End.{End}
 use Rattle.trace_model.specs.declared.line.Header.{Header}
 use Rattle.trace_model.specs.declared.line.Line.{Line}
@@ -26,7 +27,7 @@ pub record IsSend (header : Header) (e : End) (pid : ℕ) (message : List ℕ) :
   pub sender : IsTrue header.hci → IsTrue e.at_host
   pub pipe : pid < 112
   pub some : 0 < length message
-  pub bytes : All (λ b. b < 256) message
+  pub bytes : All IsByte message
 
 -- places of bits in a frame: 1 to 16 of them, each below the next, all below 400
 pub record ArePlaces (places : List ℕ) : Type 0 where

@@ -49,7 +49,8 @@ use Rattle.view_readings.proofs.Events.{ticks_kept, cut_kept, memory_kept, boots
 use Rattle.view_readings.proofs.Losses.{lost_kept}
 use Rattle.node_machine.specs.Controller.{view_for}
 use Rattle.node_readings.specs.Noticed.{ends_between}
-use Rattle.view_readings.specs.Views.{is_one_of, view_at, IsSameView}
+use Rattle.cut_laws.specs.Histories.{is_one_of}
+use Rattle.view_readings.specs.Views.{view_at, IsSameView}
 use Rattle.view_readings.proofs.Viewing.{SessionsAreRead, PipesAreRead, same_view}
 
 -- the end of the link with a host is no end of 00

@@ -19,7 +19,7 @@ use Rattle.pipe_table.specs.PipeRows.{pipe_at}
 use Rattle.hci_tables.specs.declared.command.Command.{Command}
 use Rattle.hci_tables.specs.declared.command.Command.TheVariants.{Create, Delete, Clear, Set}
 use Rattle.hci_tables.specs.Commands.{is_host}
-use Rattle.hci_tables.specs.Tables.{HciTables}
+use Rattle.hci_tables.specs.Tables.{HciTables, is_opened}
 use Rattle.gate_answers.specs.declared.response.Response.{Response}
 use Rattle.gate_answers.specs.declared.response.Response.TheVariants as response
 use Rattle.gate_answers.specs.Answers.{answer_of, first_of, tests_to_get, value_in, instruction_in, body_in}
@@ -27,7 +27,7 @@ use Rattle.gate_admin.specs.declared.view.LinkView.{LinkView}
 use Rattle.gate_admin.specs.declared.decision.Decision.{Decision}
 use Rattle.gate_admin.specs.declared.decision.Decision.TheVariants.{Answer, Commit, Ask}
 use Rattle.gate_admin.specs.View.{has, hosts_where}
-use Rattle.gate_admin.specs.Decide.{decided, far_end, is_opened, answers}
+use Rattle.gate_admin.specs.Decide.{decided, far_end, answers}
 use Rattle.gate_link.specs.Link.{link_served, tests_to_set_errors, link_unless_refused, count_in, count_bytes}
 use Rattle.gate_identity.specs.Identity.{identity_served}
 use Rattle.link_machine.specs.Machine.{Message}

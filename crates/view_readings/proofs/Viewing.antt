@@ -9,11 +9,11 @@ use Rattle.trace_model.specs.declared.entry.Entry.{Entry}
 use Rattle.session_laws.specs.Sessions.{is_up}
 use Rattle.shdlc_core.specs.declared.answers.LinkState.{LinkState}
 use Rattle.shdlc_core.specs.declared.answers.LinkState.TheVariants.{Up, Waiting, Down}
-use Rattle.hci_tables.specs.Tables.{HciTables}
+use Rattle.hci_tables.specs.Tables.{HciTables, is_opened}
 use Rattle.pipe_table.specs.declared.row.PipeRow.{PipeRow}
 use Rattle.pipe_table.specs.PipeRows.{pipe_at, is_free, lowest_free}
 use Rattle.gate_admin.specs.declared.view.LinkView.{LinkView}
-use Rattle.gate_admin.specs.Decide.{decided, is_opened}
+use Rattle.gate_admin.specs.Decide.{decided}
 use Rattle.gate_admin.specs.View.{hosts_where, mask_of}
 use Rattle.link_machine.specs.Machine.Role.{Bare}
 use Rattle.link_entries.specs.Sessions.{number_now as session_at}
@@ -28,7 +28,8 @@ use Rattle.node_readings.specs.Noticed.{ends_between}
 use Rattle.notice_readings.specs.Notices.{IsKeptNotice, NoticesAreRead, is_of_creation, notice_at, notice_of}
 use Rattle.notice_readings.proofs.Knowing.{noticed_is, asked_is}
 use Rattle.view_readings.specs.Errors.{ErrorsAreRead, errors_in, errors_of}
-use Rattle.view_readings.specs.Views.{is_one_of, view_at, IsSameView}
+use Rattle.cut_laws.specs.Histories.{is_one_of}
+use Rattle.view_readings.specs.Views.{view_at, IsSameView}
 use Rattle.creation_readings.specs.Creations.{is_asked_pipe, asked_pipes}
 
 -- ## Lists

@@ -18,7 +18,8 @@ use Rattle.node_order.proofs.Sessions.{are_read}
 use Rattle.creation_readings.specs.Creations.{IfKnowsAsRead}
 use Rattle.creation_readings.proofs.Knowing.{if_known}
 use Rattle.creation_readings.proofs.Lines.{history_keeps}
-use Rattle.view_readings.specs.Views.{is_one_of, view_at, IsSameView}
+use Rattle.cut_laws.specs.Histories.{is_one_of}
+use Rattle.view_readings.specs.Views.{view_at, IsSameView}
 use Rattle.view_readings.proofs.Viewing.{SessionsAreRead, PipesAreRead}
 use Rattle.view_readings.proofs.Lines.{view_read}
 

@@ -8,11 +8,8 @@ use Rattle.node_world.specs.World.{end_c}
 use Rattle.node_world.specs.NodeFilters.{is_connected_in, notice_in}
 use Rattle.notice_readings.specs.Notices.{is_of_creation}
 use Rattle.creation_readings.specs.Creations.{asked_pipes}
+use Rattle.cut_laws.specs.Histories.{is_one_of}
 use Rattle.view_readings.specs.Errors.{errors_in}
-
--- the host is one of those that are configured
-abbrev pub is_one_of : List ℕ → ℕ → Bool
-is_one_of hosts h = list_any (λ k. k == h) hosts
 
 -- What a controller with links to these hosts knows as a command of the host h comes.
 abbrev pub view_at : List ℕ → List Entry → ℕ → LinkView

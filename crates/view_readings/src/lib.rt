@@ -34,7 +34,8 @@ ghost use Rattle.node_links.specs.Runs.{ArePlayable};
 ghost use Rattle.node_telling.specs.Telling.{HasEnds, world_behind};
 ghost use Rattle.node_readings.specs.Noticed.{ends_between};
 ghost use Rattle.view_readings.specs.Errors.{ErrorsAreRead};
-ghost use Rattle.view_readings.specs.Views.{IsSameView, is_one_of, view_at};
+ghost use Rattle.cut_laws.specs.Histories.{is_one_of};
+ghost use Rattle.view_readings.specs.Views.{IsSameView, view_at};
 
 /// At the end of each event of a history, and behind any lines of a schedule, REC_ERROR of each end of a link, as its node keeps it while
 /// it runs, is the one that is read off the entries: 0 as the node boots, then what a command sets whose ANY_OK is sent, and one more,

@@ -66,7 +66,7 @@ fn a_sink_takes_pieces_and_fails_as_planned(rt: HostRuntime) -> Result<(), Fail>
     assert_eq!(rt; sink.bytes(), [9, 1, 2].as_slice());
     assert_eq!(rt; write_all(&mut sink, &[3, 4]), Ok(()));
     assert_eq!(rt; sink.bytes(), [9, 1, 2, 3, 4].as_slice());
-    assert_eq!(rt; write_all(&mut SureSink::new(), &[1, 2, 3]), Ok(()));
+    assert_eq!(rt; write_all(&mut SureSink, &[1, 2, 3]), Ok(()));
     Ok(())
 }
 

@@ -75,7 +75,7 @@ fn status_over_sure(alloc: Global, word: &str, bytes: &[u8]) -> Result<Status, N
 {
     let words = one_word(alloc, word)?;
     let mut source = SureSource::new(Vec::from_slice(alloc, bytes)?);
-    let mut sink = SureSink::new();
+    let mut sink = SureSink;
     let nv = SureNv::new(alloc, 65_536)?;
     let Ended { status, nv: _ } = run(alloc, words.as_slice(), &mut source, &mut sink, nv);
     Ok(status)

@@ -14,10 +14,10 @@ use Rattle.link_machine.proofs.Sound.{SentAfter, whole_more, whole_few}
 use Rattle.link_machine.proofs.Runs.{Sound}
 use Rattle.link_machine.proofs.Reports.{Reports}
 use Rattle.link_end.specs.Reports.{report_told as told_of}
-use Rattle.link_entries.specs.Entries.{End as Which, Entry as Noted, told, if_so as note_if}
+use Rattle.link_entries.specs.Entries.{End as Which, Entry as Noted, told, if_so}
 use Rattle.link_entries.specs.Entries.Entry.{Up, Down, Active, GaveUp, Acked, Got}
 use Rattle.history.specs.Steps.{end_of, entry_of, entries_for}
-use Rattle.world.specs.Noting.{side_of, noted_if, acked_on, reported}
+use Rattle.world.specs.Noting.{side_of, acked_on, reported}
 use Rattle.world.specs.Sides.{AreNoted}
 
 -- an end is the one on its side of its link
@@ -47,7 +47,7 @@ gave_up_entries : (h : ℕ) (who : Which) (o : Option ℕ)
 gave_up_entries h who None = refl
 gave_up_entries h who (Some tries) = refl
 
-if_entries : (h : ℕ) (b : Bool) (x : Noted) (e : Entry) → entry_of h x ≡ e ∷ [] → entries_for h (note_if b x) ≡ noted_if b e
+if_entries : (h : ℕ) (b : Bool) (x : Noted) (e : Entry) → entry_of h x ≡ e ∷ [] → entries_for h (if_so b x) ≡ if_so b e
 if_entries h false x e q = refl
 if_entries h true x e q = ap (λ es. es ++ []) q
 
@@ -56,10 +56,10 @@ told_entries : (h : ℕ) (who : Which) (n k : ℕ) (r : Report) → entries_for 
     ≡ reported (end_of h who) n (told_of r) k ++ entries_for h (map (Got who n) r.got)
 told_entries h who n k r =
     let a : List Noted = map (Down who) (option_to_list r.ended) in
-    let b : List Noted = note_if r.began (Up who n) in
-    let c : List Noted = note_if r.became_active (Active who) in
+    let b : List Noted = if_so r.began (Up who n) in
+    let c : List Noted = if_so r.became_active (Active who) in
     let d : List Noted = map (GaveUp who) (option_to_list r.gave_up) in
-    let e : List Noted = note_if (nat_lt 0 r.acked) (Acked who n k) in
+    let e : List Noted = if_so (nat_lt 0 r.acked) (Acked who n k) in
     let g : List Noted = map (Got who n) r.got in
     let z : End = end_of h who in
     entries-append h a (b ++ (c ++ (d ++ (e ++ g))))
@@ -71,8 +71,8 @@ told_entries h who n k r =
     (entries-append h d (e ++ g)
     ∙ parts (gave_up_entries h who r.gave_up)
     (entries-append h e g ∙ parts (if_entries h (nat_lt 0 r.acked) (Acked who n k) (entry.Acked z n k) refl) refl))))
-    ∙ joined (map (entry.Down z) (option_to_list r.ended)) (noted_if r.began (entry.Up z n)) (noted_if r.became_active (entry.Active z))
-    (map (entry.GaveUp z) (option_to_list r.gave_up)) (noted_if (nat_lt 0 r.acked) (entry.Acked z n k)) (entries_for h g))
+    ∙ joined (map (entry.Down z) (option_to_list r.ended)) (if_so r.began (entry.Up z n)) (if_so r.became_active (entry.Active z))
+    (map (entry.GaveUp z) (option_to_list r.gave_up)) (if_so (nat_lt 0 r.acked) (entry.Acked z n k)) (entries_for h g))
   where
     parts : {a b c d : List Entry} → a ≡ c → b ≡ d → a ++ b ≡ c ++ d
     parts p q = rw (p, q) refl

@@ -1,20 +1,15 @@
 -- What is noted of an end.
-use Rattle.std.specs.Prelude.{ℕ, ◌+◌, min, nat_lt, Bool, true, false, if◌then◌else◌, List, [], ◌∷◌, ◌++◌, map, option_to_list, is_some}
+use Rattle.std.specs.Prelude.{ℕ, ◌+◌, min, nat_lt, if◌then◌else◌, List, ◌++◌, map, option_to_list, is_some}
 use Rattle.trace_model.specs.declared.entry.Entry.{Entry}
 use Rattle.trace_model.specs.declared.entry.Entry.TheVariants as entry
 use Rattle.trace_model.specs.declared.line.End.{End}
-use Rattle.link_entries.specs.Entries.{End as Which}
+use Rattle.link_entries.specs.Entries.{End as Which, if_so}
 use Rattle.link_entries.specs.Entries.End.{Controller, Host}
 use Rattle.link_end.specs.declared.report.LinkReport.{LinkReport}
 
 -- which of the two ends of its link an end is
 abbrev pub side_of : End → Which
 side_of at = if at.at_host then Host else Controller
-
--- this is noted, if so
-abbrev pub noted_if : Bool → Entry → List Entry
-noted_if true e = e ∷ []
-noted_if false e = []
 
 -- how many messages of the session are acknowledged after an input, where so many were before; 4,294,967,295 stands for any
 -- greater number
@@ -24,5 +19,5 @@ acked_on before r = min ((if is_some r.ended then 0 else before) + r.acked) 4294
 -- What is noted of an input at an end, in the session with this number, but for the message that came.
 abbrev pub reported : End → ℕ → LinkReport → ℕ → List Entry
 reported at n r acked =
-    map (entry.Down at) (option_to_list r.ended) ++ (noted_if r.began (entry.Up at n) ++ (noted_if r.became_active (entry.Active at)
-    ++ (map (entry.GaveUp at) (option_to_list r.gave_up) ++ noted_if (nat_lt 0 r.acked) (entry.Acked at n acked))))
+    map (entry.Down at) (option_to_list r.ended) ++ (if_so r.began (entry.Up at n) ++ (if_so r.became_active (entry.Active at)
+    ++ (map (entry.GaveUp at) (option_to_list r.gave_up) ++ if_so (nat_lt 0 r.acked) (entry.Acked at n acked))))

@@ -1,7 +1,7 @@
 //! The node of a bare end: the end, the blocks of memory of its messages, and what is noted of the end.
 ghost use Rattle.std.specs.Prelude.{◌≡◌, ◌++◌, OnOk, IfOk, map, option_to_list};
 ghost use Rattle.trace_model.specs.declared.entry.Entry.{Entry};
-ghost use Rattle.world.specs.Noting.{noted_if};
+ghost use Rattle.link_entries.specs.Entries.{if_so};
 ghost use Rattle.block_pool.specs.Pool.{PoolState, IsLive, chain_bytes};
 
 use block_pool::{Chain, Pool};
@@ -212,7 +212,7 @@ fn note_down(at: End, ended: Option<Cause>, entries: &mut Vec<Entry>) -> Result<
 
 // A session that began, where one did, is noted.
 fn note_up(place: Place, began: bool, entries: &mut Vec<Entry>) -> Result<(), AllocError>
-    ensures { OnOk result (entries.new.items ≡ entries.old.items ++ noted_if began (Entry.Up place.at place.session)) }
+    ensures { OnOk result (entries.new.items ≡ entries.old.items ++ if_so began (Entry.Up place.at place.session)) }
 {
     if began {
         let Place { at, session } = place;
@@ -223,7 +223,7 @@ fn note_up(place: Place, began: bool, entries: &mut Vec<Entry>) -> Result<(), Al
 
 // That the end is activated, where it is now, is noted.
 fn note_active(at: End, active: bool, entries: &mut Vec<Entry>) -> Result<(), AllocError>
-    ensures { OnOk result (entries.new.items ≡ entries.old.items ++ noted_if active (Entry.Active at)) }
+    ensures { OnOk result (entries.new.items ≡ entries.old.items ++ if_so active (Entry.Active at)) }
 {
     if active {
         entries.push(Entry::Active { at })?;
@@ -248,7 +248,7 @@ fn note_acked(
     count: u32,
     entries: &mut Vec<Entry>,
 ) -> Result<(), AllocError>
-    ensures { OnOk result (entries.new.items ≡ entries.old.items ++ noted_if more (Entry.Acked place.at place.session count)) }
+    ensures { OnOk result (entries.new.items ≡ entries.old.items ++ if_so more (Entry.Acked place.at place.session count)) }
 {
     if more {
         let Place { at, session } = place;
