@@ -11,6 +11,7 @@ use Rattle.byte_link.specs.declared.unit.Unit.{Unit}
 use Rattle.byte_link.specs.declared.unit.Unit.TheVariants.{Nothing, Tick, Frame, Refused}
 use Rattle.byte_link.specs.Units.{unit_of, is_whole, checked, unit_said}
 use Rattle.byte_link.specs.Reading.{emptied, unit_under_way, unit_given, units_given, says_something, units}
+use Rattle.swp_base.proofs.TailLemmas.{in_front_of_two, first_of_two, second_of_two}
 
 -- a part of a unit of this length and these bytes
 part : (count : ℕ) (bytes q r : List ℕ) → 0 < count → count ≤ 30 → length bytes ≡ count + 2 → q ++ r ≡ 0 ∷ count ∷ bytes → 0 < length r
@@ -95,18 +96,6 @@ reads count bytes seen p (b ∷ c ∷ rest) later u says =
 tail_length : (lpdu : List ℕ) (high low : ℕ) → length (lpdu ++ high ∷ low ∷ []) ≡ length lpdu + 2
 tail_length lpdu high low = length-append lpdu (high ∷ low ∷ [])
 
-body_of : (lpdu : List ℕ) (high low : ℕ) → take (length lpdu) (lpdu ++ high ∷ low ∷ []) ≡ lpdu
-body_of [] high low = refl
-body_of (x ∷ lpdu) high low = ap (λ xs. x ∷ xs) (body_of lpdu high low)
-
-first_of : (lpdu : List ℕ) (high low : ℕ) → get_or (lpdu ++ high ∷ low ∷ []) (length lpdu) 0 ≡ high
-first_of [] high low = refl
-first_of (x ∷ lpdu) high low = first_of lpdu high low
-
-second_of : (lpdu : List ℕ) (high low : ℕ) → get_or (lpdu ++ high ∷ low ∷ []) (suc (length lpdu)) 0 ≡ low
-second_of [] high low = refl
-second_of (x ∷ lpdu) high low = second_of lpdu high low
-
 checked_with : (bytes : List ℕ) (want got : ℕ) → want ≡ crc_of (take (length bytes - 2) bytes)
     → got ≡ 256 * get_or bytes (length bytes - 2) 0 + get_or bytes (length bytes - 1) 0 → want ≡ got → checked bytes ≡ Frame (take (length bytes - 2) bytes)
 checked_with bytes want got w g h = rw (← w, ← g, eq-eqb want got h) refl
@@ -125,13 +114,13 @@ checked_again lpdu crc is =
     last = omega (arith, long)
 
     body : take (length (lpdu ++ crc / 256 ∷ crc % 256 ∷ []) - 2) (lpdu ++ crc / 256 ∷ crc % 256 ∷ []) ≡ lpdu
-    body = ap (λ n. take n (lpdu ++ crc / 256 ∷ crc % 256 ∷ [])) place ∙ body_of lpdu (crc / 256) (crc % 256)
+    body = ap (λ n. take n (lpdu ++ crc / 256 ∷ crc % 256 ∷ [])) place ∙ in_front_of_two lpdu (crc / 256) (crc % 256)
 
     first : get_or (lpdu ++ crc / 256 ∷ crc % 256 ∷ []) (length (lpdu ++ crc / 256 ∷ crc % 256 ∷ []) - 2) 0 ≡ crc / 256
-    first = ap (λ n. get_or (lpdu ++ crc / 256 ∷ crc % 256 ∷ []) n 0) place ∙ first_of lpdu (crc / 256) (crc % 256)
+    first = ap (λ n. get_or (lpdu ++ crc / 256 ∷ crc % 256 ∷ []) n 0) place ∙ first_of_two lpdu (crc / 256) (crc % 256)
 
     second : get_or (lpdu ++ crc / 256 ∷ crc % 256 ∷ []) (length (lpdu ++ crc / 256 ∷ crc % 256 ∷ []) - 1) 0 ≡ crc % 256
-    second = ap (λ n. get_or (lpdu ++ crc / 256 ∷ crc % 256 ∷ []) n 0) last ∙ second_of lpdu (crc / 256) (crc % 256)
+    second = ap (λ n. get_or (lpdu ++ crc / 256 ∷ crc % 256 ∷ []) n 0) last ∙ second_of_two lpdu (crc / 256) (crc % 256)
 
     value : crc ≡ 256 * get_or (lpdu ++ crc / 256 ∷ crc % 256 ∷ []) (length (lpdu ++ crc / 256 ∷ crc % 256 ∷ []) - 2) 0
         + get_or (lpdu ++ crc / 256 ∷ crc % 256 ∷ []) (length (lpdu ++ crc / 256 ∷ crc % 256 ∷ []) - 1) 0

@@ -21,7 +21,6 @@ use Rattle.node_links.specs.Notices.{IsComing, IsOutside}
 use Rattle.node_links.proofs.Staying.{stays_up}
 use Rattle.node_links.proofs.Noticing.{UpAt, at_all, at_host, outside as from_outside}
 use Rattle.node_links.proofs.Blocks.{IsWithin, input_within}
-use Rattle.node_telling.proofs.Steps.{come_host}
 use Rattle.node_telling.proofs.Ticks.{reset_host}
 use Rattle.kept_laws.specs.Hosts.{AreDifferent}
 use Rattle.kept_laws.proofs.Books.{book_more, plain_fold}
@@ -41,6 +40,7 @@ use Rattle.creation_readings.proofs.Asks.{Asked, asked_of, waits, asked_map}
 use Rattle.creation_readings.proofs.Reading.{ask_more, told_same, flat_same}
 use Rattle.creation_readings.proofs.Asides.{input_aside}
 use Rattle.creation_readings.proofs.Doing.{EndHas, EndAt, IsOn, reading}
+use Rattle.node_laws.proofs.Ports.{come_host}
 
 or_false : (b : Bool) → (b || false) ≡ b
 or_false true = refl

@@ -29,12 +29,12 @@ use Rattle.kept_laws.proofs.Books.{plain_fold, book_command, book_more}
 use Rattle.kept_laws.proofs.Plainly.{plain_entries}
 use Rattle.notice_readings.proofs.Far.{asks}
 use Rattle.notice_readings.proofs.Doing.{controller_side, else_same}
-use Rattle.node_telling.proofs.Accounts.{changed_host}
 use Rattle.creation_readings.specs.Creations.{IsReadSo}
 use Rattle.creation_readings.specs.Worlds.{IsProperCommand, AreProper, IsProperBook, IsAwaited, IfAwaited}
 use Rattle.creation_readings.proofs.Rows.{proper_apply, proper_command}
 use Rattle.creation_readings.proofs.Asks.{Asked, asked_of, one_of, waits, owes, set_asked, read_none, none_read, both_empty, asked_with, asked_set, Split, left_same, owed_read, owed_length}
 use Rattle.creation_readings.proofs.Reading.{ask_more, sent_asks, answer_asks}
+use Rattle.node_laws.proofs.Ports.{changed_host}
 
 -- ## One end
 

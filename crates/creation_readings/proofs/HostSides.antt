@@ -24,7 +24,6 @@ use Rattle.node_machine.specs.HostReplies.{host_deeds}
 use Rattle.node_machine.specs.Turns.{deeds_of, handles, holds_back, lets_go, have_turns, goes_through_ends, passes}
 use Rattle.node_machine.specs.Node.{NodeInput, input_at, has_come, all_come, with_older, is_late, reset_late, times_out, forgotten, forgets, all_owed, without_notice, after_sessions, synced, steps}
 use Rattle.node_machine.specs.Node.NodeInput.{AtEnd, TimePasses}
-use Rattle.node_links.proofs.Noticing.{sessions_node}
 use Rattle.node_telling.proofs.Steps.{without_same, forgets_same}
 use Rattle.notice_readings.proofs.Own.{IsOwn, AreOwn, host_own, forgotten_own, all_owed_own, all_synced_own}
 use Rattle.notice_readings.proofs.Doing.{all_map}
@@ -32,6 +31,7 @@ use Rattle.notice_readings.proofs.Telling.{at_port}
 use Rattle.registry.proofs.ValueLemmas.{AllByRecursion-append as all_append}
 use Rattle.creation_readings.proofs.Asides.{input_aside}
 use Rattle.creation_readings.proofs.Doing.{give_aside}
+use Rattle.node_laws.proofs.Ports.{sessions_node}
 
 -- ## One end
 

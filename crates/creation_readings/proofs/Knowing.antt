@@ -188,13 +188,13 @@ any_asked t pid (h ∷ hosts) = go (asking_in t h) refl (any_asked t pid hosts) 
   go None e later = rw e later
   go (Some m) e later = rw e (ap (λ b. eqb (slice_index m 5) pid || b) later)
 
-find_same : (f g : ℕ → Bool) → ((n : ℕ) → f n ≡ g n) → (ns : List ℕ) → find f ns ≡ find g ns
+pub find_same : (f g : ℕ → Bool) → ((n : ℕ) → f n ≡ g n) → (ns : List ℕ) → find f ns ≡ find g ns
 find_same f g same [] = refl
 find_same f g same (n ∷ ns) =
     ap (λ b. cond b (Some n) (find f ns)) (same n) ∙ ap (λ o. cond (g n) (Some n) o) (find_same f g same ns)
 
 -- two lists that keep the same pipes leave the same one
-given_same : (rows : List PipeRow) (kept other : List ℕ) → ((pid : ℕ) → list_any (λ p. eqb p pid) kept ≡ list_any (λ p. eqb p pid) other)
+pub given_same : (rows : List PipeRow) (kept other : List ℕ) → ((pid : ℕ) → list_any (λ p. eqb p pid) kept ≡ list_any (λ p. eqb p pid) other)
     → lowest_free rows kept ≡ lowest_free rows other
 unfolding lowest_free
 given_same rows kept other same =

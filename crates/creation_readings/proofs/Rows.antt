@@ -10,13 +10,8 @@ use Rattle.hci_tables.specs.declared.command.Command.{Command}
 use Rattle.hci_tables.specs.declared.command.Command.TheVariants.{Create, Delete, Clear, SetOpened, Set, Sync}
 use Rattle.hci_tables.specs.Tables.{HciTables, no_tables, apply, after_commands, with_static}
 use Rattle.node_world.specs.NodeFilters.{Book, new_book, with_command, with_found}
-use Rattle.registry.proofs.ValueLemmas.{AllByRecursion-append as all_append}
+use Rattle.registry.proofs.ValueLemmas.{AllByRecursion-append as all_append, AllByRecursion-filter}
 use Rattle.creation_readings.specs.Worlds.{IsProper, IsProperCommand, AreProper, IsProperBook}
-
-all_filter : {X : Type 0} (P : X → Type 0) (q : X → Bool) (xs : List X) → AllByRecursion P xs → AllByRecursion P (filter q xs)
-all_filter P q [] a = tt
-all_filter P q (x ∷ xs) a =
-    cond_both (q x) (x ∷ filter q xs) (filter q xs) (λ ys. AllByRecursion P ys) (λ kept. (a.0, all_filter P q xs a.1)) (λ gone. all_filter P q xs a.1)
 
 all_same : {X : Type 0} (P : X → Type 0) (f : X → X) → ((x : X) → P x → P (f x)) → (xs : List X) → AllByRecursion P xs → AllByRecursion P (map f xs)
 all_same P f one [] a = tt
@@ -33,10 +28,10 @@ set_proper opened row a = record { host = a.host; two = a.two; gate = a.gate }
 pub proper_apply : (t : HciTables) (c : Command) → IsProperCommand c → AreProper t.rows → AreProper (apply t c).rows
 proper_apply t (Create row) may a =
     all_append IsProper (rows_before pid_of row.pid t.rows) (as_opened false row ∷ rows_behind pid_of row.pid t.rows)
-    (all_filter IsProper (λ r. ltb r.pid row.pid) t.rows a)
-    (set_proper false row may, all_filter IsProper (λ r. ltb row.pid r.pid) t.rows a)
-proper_apply t (Delete pid) may a = all_filter IsProper (λ row. not (eqb row.pid pid)) t.rows a
-proper_apply t (Clear host) may a = all_filter IsProper (λ row. not (joins_host row host)) t.rows a
+    (AllByRecursion-filter IsProper (λ r. ltb r.pid row.pid) t.rows a)
+    (set_proper false row may, AllByRecursion-filter IsProper (λ r. ltb row.pid r.pid) t.rows a)
+proper_apply t (Delete pid) may a = AllByRecursion-filter IsProper (λ row. not (eqb row.pid pid)) t.rows a
+proper_apply t (Clear host) may a = AllByRecursion-filter IsProper (λ row. not (joins_host row host)) t.rows a
 proper_apply t (SetOpened host pid opened) may a =
     cond_both (ltb pid 2) (record t { statics = with_static t.statics host pid opened }) (record t { rows = with_opened t.rows pid opened })
     (λ u. AreProper u.rows) (λ static. a)

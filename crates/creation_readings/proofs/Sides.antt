@@ -22,12 +22,13 @@ use Rattle.node_links.proofs.Noticing.{UpAt, at_all}
 use Rattle.node_telling.proofs.Accounts.{at_changed, turned-append}
 use Rattle.node_telling.proofs.Walks.{AreSilent, rest}
 use Rattle.node_telling.proofs.Mute.{forgotten_mute, all_owed_mute, all_synced_mute}
-use Rattle.node_telling.proofs.Steps.{without_host, without_same, forgets_host, forgets_same, come_host}
+use Rattle.node_telling.proofs.Steps.{without_host, without_same, forgets_same}
 use Rattle.node_telling.proofs.Ticks.{IsLate, late_parts, reset_host}
 use Rattle.node_telling.proofs.Late.{IsLasting, reset_same}
 use Rattle.node_telling.specs.Telling.{is_due}
 use Rattle.node_readings.proofs.Noticed.{up_is, not_waiting}
 use Rattle.notice_readings.specs.Worlds.{IsShut}
+use Rattle.node_laws.proofs.Ports.{come_host, forgets_host}
 
 module _ (x : ℕ) (e : LinkEnd) (late : Bool) where
   -- the end is what its turns made of this one, and its notice is late or not
@@ -96,10 +97,6 @@ reset_turns p e = go (is_late p) refl where
   go : (b : Bool) → is_late p ≡ b → (reset_late p).turns ≡ []
   go true z = rw z e
   go false z = rw z e
-
-come_late : (p : Port) (o : Option LinkInput) → (has_come p o).late ≡ p.late
-come_late p None = refl
-come_late p (Some i) = refl
 
 pub near_made : (x h : ℕ) (i : LinkInput) (w : Work) (p : Port) → port_at w.ports x ≡ Some p → p.turns ≡ []
     → IsMade x (has_come p (input_at (AtEnd h i) p)).side (has_come p (input_at (AtEnd h i) p)).late (steps (AtEnd h i) w)

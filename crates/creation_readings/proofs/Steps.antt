@@ -23,8 +23,8 @@ use Rattle.node_machine.specs.Node.{NodeInput, input_at, all_come, times_out, is
 use Rattle.node_machine.specs.Node.NodeInput.{AtEnd, TimePasses}
 use Rattle.node_world.specs.NodeFilters.{is_response}
 use Rattle.node_links.specs.Notices.{IsOutside}
-use Rattle.node_links.proofs.Noticing.{UpAt, at_all, sessions_node}
-use Rattle.node_telling.proofs.Steps.{without_host, without_same, forgets_host, forgets_same}
+use Rattle.node_links.proofs.Noticing.{UpAt, at_all}
+use Rattle.node_telling.proofs.Steps.{without_host, without_same, forgets_same}
 use Rattle.kept_laws.specs.Hosts.{AreDifferent}
 use Rattle.kept_laws.proofs.Plainly.{hosts_map}
 use Rattle.node_readings.specs.Orders.{IsFresh}
@@ -38,6 +38,7 @@ use Rattle.creation_readings.proofs.Turning.{passes_good}
 use Rattle.creation_readings.proofs.Coming.{ComeAt, AreFlagged, HasCome, came_near, came_tick, over_at}
 use Rattle.notice_readings.proofs.Steps.{sessions_tables}
 use Rattle.registry.proofs.ValueLemmas.{AllByRecursion-append as all_joined}
+use Rattle.node_laws.proofs.Ports.{forgets_host, sessions_node}
 
 answer_response : (r : Response) → is_response (answer_of r []) ≡ true
 answer_response response.Ok = refl

@@ -20,7 +20,6 @@ use Rattle.node_links.proofs.Noticing.{at_all}
 use Rattle.node_links.proofs.Reaching.{controller_reach}
 use Rattle.node_readings.proofs.Noticed.{up_is}
 use Rattle.node_readings.proofs.Turning.{lack_parts}
-use Rattle.node_telling.proofs.Accounts.{changed_host}
 use Rattle.kept_laws.specs.Hosts.{AreDifferent}
 use Rattle.notice_readings.specs.Notices.{GoesToFree}
 use Rattle.notice_readings.proofs.Freeing.{controller_free}
@@ -30,6 +29,7 @@ use Rattle.creation_readings.proofs.Outcomes.{IsAskedSo, Outcome, outcome, all_l
 use Rattle.creation_readings.proofs.Outcomes.Outcome.{Stays, IsAsking, IsHeard, IsDone}
 use Rattle.creation_readings.proofs.Doing.{Good, many, notes, turns, desks}
 use Rattle.creation_readings.proofs.Deeds.{HasBlock, Fine, then_fine, leaves, agrees, hears, asks_one}
+use Rattle.node_laws.proofs.Ports.{changed_host}
 
 all_middle : {X : Type 0} (P : X → Type 0) (front back : List X) (e : X) → AllByRecursion P (front ++ (e ∷ back)) → P e
 all_middle P [] back e a = a.0

@@ -18,6 +18,7 @@ use Rattle.kept_laws.specs.Worlds.{RunsSo, IfRuns, SiteKeeps, AllKeep}
 use Rattle.kept_laws.proofs.Sites.{site_found}
 use Rattle.node_telling.proofs.Events.{site_map}
 use Rattle.cut_laws.proofs.Worlds.{IsThere, memory_far, node_far, with_here, with_there}
+use Rattle.kept_laws.proofs.Events.{loses_is}
 
 -- this node has the same as before
 pub record IsSameAt (n : ℕ) (w v : NodeWorld) : Type 0 where
@@ -86,9 +87,6 @@ memory_is w k m off = rw off refl
 
 node_is : (w : NodeWorld) (k : ℕ) (q : Running) → eqb k 0 ≡ false → with_node k q w ≡ record w { sites = with_site k (running_so q) w.sites }
 node_is w k q off = rw off refl
-
-loses_is : (w : NodeWorld) (k : ℕ) → eqb k 0 ≡ false → loses_power_at k w ≡ record w { sites = with_site k host_cut w.sites }
-loses_is w k off = rw off refl
 
 pub same_memory : (k n : ℕ) (w : NodeWorld) (m : Memory) → (k ≡ n → ⊥) → IsThere w n → IsSameAt n w (with_memory k m w)
 same_memory k n w m other =

@@ -1,5 +1,5 @@
 -- The content that is written is judged right.
-use Rattle.std.proofs.Common.{◌≡◌, ℕ, suc, ◌+◌, ◌-◌, ◌*◌, ◌/◌, ◌%◌, ◌^◌, ◌<◌, List, [], ◌∷◌, ◌++◌, not, map, length, take, get_or, refl, sym, ap, ◌∙◌, subst, arith, append-nil, length-append}
+use Rattle.std.proofs.Common.{◌≡◌, ℕ, ◌+◌, ◌-◌, ◌*◌, ◌/◌, ◌%◌, ◌^◌, ◌<◌, List, [], ◌∷◌, ◌++◌, not, map, length, take, get_or, refl, sym, ap, ◌∙◌, subst, arith, append-nil, length-append}
 use Rattle.std.proofs.lemmas.List.{length-map}
 use Rattle.swp_base.specs.Bits.{bits_of}
 use Rattle.swp_base.specs.DataUnits.{IsLpdu}
@@ -12,6 +12,7 @@ use Rattle.swp_frame.specs.Content.{judged, judged_bytes, bytes_of_bits}
 use Rattle.swp_frame.specs.Kept.{AreBytes}
 use Rattle.swp_frame.proofs.ContentLemmas.{length-bits_of, bytes_in_front, judged_whole, crc_is_right}
 use Rattle.swp_frame.proofs.WritingLemmas.{take_all}
+use Rattle.swp_base.proofs.TailLemmas.{in_front_of_two, first_of_two, second_of_two}
 
 crc_small : (lpdu : List ℕ) → crc_of lpdu < 65536
 crc_small lpdu =
@@ -20,18 +21,6 @@ crc_small lpdu =
 bytes_with : (lpdu : List ℕ) (high low : ℕ) → AreBytes lpdu → high < 256 → low < 256 → AreBytes (lpdu ++ high ∷ low ∷ [])
 bytes_with [] high low h a b = (a, (b, tt))
 bytes_with (x ∷ lpdu) high low h a b = (h.0, bytes_with lpdu high low h.1 a b)
-
-body_of : (lpdu : List ℕ) (high low : ℕ) → take (length lpdu) (lpdu ++ high ∷ low ∷ []) ≡ lpdu
-body_of [] high low = refl
-body_of (x ∷ lpdu) high low = ap (λ xs. x ∷ xs) (body_of lpdu high low)
-
-first_of : (lpdu : List ℕ) (high low : ℕ) → get_or (lpdu ++ high ∷ low ∷ []) (length lpdu) 0 ≡ high
-first_of [] high low = refl
-first_of (x ∷ lpdu) high low = first_of lpdu high low
-
-second_of : (lpdu : List ℕ) (high low : ℕ) → get_or (lpdu ++ high ∷ low ∷ []) (suc (length lpdu)) 0 ≡ low
-second_of [] high low = refl
-second_of (x ∷ lpdu) high low = second_of lpdu high low
 
 -- the bytes of an LPDU with its CRC are judged to be this LPDU
 right_bytes : (lpdu : List ℕ) (crc : ℕ) → crc ≡ crc_of lpdu → judged_bytes (lpdu ++ crc / 256 ∷ crc % 256 ∷ []) ≡ Frame lpdu
@@ -42,13 +31,13 @@ right_bytes lpdu crc is =
     long = length-append lpdu (crc / 256 ∷ crc % 256 ∷ [])
 
     body : take (length (lpdu ++ crc / 256 ∷ crc % 256 ∷ []) - 2) (lpdu ++ crc / 256 ∷ crc % 256 ∷ []) ≡ lpdu
-    body = ap (λ n. take n (lpdu ++ crc / 256 ∷ crc % 256 ∷ [])) (omega (arith, long)) ∙ body_of lpdu (crc / 256) (crc % 256)
+    body = ap (λ n. take n (lpdu ++ crc / 256 ∷ crc % 256 ∷ [])) (omega (arith, long)) ∙ in_front_of_two lpdu (crc / 256) (crc % 256)
 
     first : get_or (lpdu ++ crc / 256 ∷ crc % 256 ∷ []) (length (lpdu ++ crc / 256 ∷ crc % 256 ∷ []) - 2) 0 ≡ crc / 256
-    first = ap (λ n. get_or (lpdu ++ crc / 256 ∷ crc % 256 ∷ []) n 0) (omega (arith, long)) ∙ first_of lpdu (crc / 256) (crc % 256)
+    first = ap (λ n. get_or (lpdu ++ crc / 256 ∷ crc % 256 ∷ []) n 0) (omega (arith, long)) ∙ first_of_two lpdu (crc / 256) (crc % 256)
 
     second : get_or (lpdu ++ crc / 256 ∷ crc % 256 ∷ []) (length (lpdu ++ crc / 256 ∷ crc % 256 ∷ []) - 1) 0 ≡ crc % 256
-    second = ap (λ n. get_or (lpdu ++ crc / 256 ∷ crc % 256 ∷ []) n 0) (omega (arith, long)) ∙ second_of lpdu (crc / 256) (crc % 256)
+    second = ap (λ n. get_or (lpdu ++ crc / 256 ∷ crc % 256 ∷ []) n 0) (omega (arith, long)) ∙ second_of_two lpdu (crc / 256) (crc % 256)
 
     value : crc ≡ 256 * get_or (lpdu ++ crc / 256 ∷ crc % 256 ∷ []) (length (lpdu ++ crc / 256 ∷ crc % 256 ∷ []) - 2) 0
         + get_or (lpdu ++ crc / 256 ∷ crc % 256 ∷ []) (length (lpdu ++ crc / 256 ∷ crc % 256 ∷ []) - 1) 0

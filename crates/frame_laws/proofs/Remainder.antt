@@ -3,15 +3,9 @@ use Rattle.std.proofs.Common.{◌≡◌, ℕ, suc, zero, ◌+◌, ◌≤◌, Lis
 use Rattle.swp_base.specs.Bits.{bits_of}
 use Rattle.swp_crc.specs.Division.{sum_of_bits, sum_from_front, divisor, divided}
 use Rattle.swp_crc.specs.Crc.{zeros, complement_first, remainder_of, crc_of}
-use Rattle.swp_crc.proofs.Steps.{length-remainder}
+use Rattle.swp_crc.proofs.Steps.{length-remainder, length-complemented}
 use Rattle.frame_laws.specs.Remainder.{times_divisor, IsCrc}
-use Rattle.swp_crc.proofs.DivisionLemmas.{sum_assoc as sum_from_front-assoc, length-sum}
-
-sum_of_bits-assoc : (x y z : Bool) → sum_of_bits (sum_of_bits x y) z ≡ sum_of_bits x (sum_of_bits y z)
-sum_of_bits-assoc true true true = refl
-sum_of_bits-assoc true true false = refl
-sum_of_bits-assoc true false z = refl
-sum_of_bits-assoc false y z = refl
+use Rattle.swp_crc.proofs.DivisionLemmas.{sum_assoc as sum_from_front-assoc, length-sum, sum_zeros}
 
 twice_bit : (x y : Bool) → sum_of_bits x (sum_of_bits x y) ≡ y
 twice_bit true true = refl
@@ -24,11 +18,6 @@ added_twice [] ys h = refl
 added_twice (x ∷ xs) [] h = absurd (omega (arith, h))
 added_twice (x ∷ xs) (y ∷ ys) h =
     ap (λ b. b ∷ sum_from_front xs (sum_from_front xs ys)) (twice_bit x y) ∙ ap (λ bs. y ∷ bs) (added_twice xs ys (omega (arith, h)))
-
-zeros-sum : (n : ℕ) (ys : List Bool) → n ≤ length ys → sum_from_front (replicate n false) ys ≡ ys
-zeros-sum zero ys h = refl
-zeros-sum (suc n) [] h = absurd (omega (arith, h))
-zeros-sum (suc n) (y ∷ ys) h = ap (λ bs. y ∷ bs) (zeros-sum n ys (omega (arith, h)))
 
 -- a list is a multiple of the divisor and what its division in so many steps leaves
 record IsDivided (n : ℕ) (bits : List Bool) : Type 0 where
@@ -59,7 +48,7 @@ with_one n bits h d =
     }
 
 is_divided : (n : ℕ) (bits : List Bool) → length bits ≡ n + 16 → IsDivided n bits
-is_divided zero bits h = record { quotient = []; steps = refl; whole = sym (zeros-sum 16 bits (omega (arith, h))) }
+is_divided zero bits h = record { quotient = []; steps = refl; whole = sym (sum_zeros 16 bits (omega (arith, h))) }
 is_divided (suc n) [] h = absurd (omega (arith, h))
 is_divided (suc n) (false ∷ bits) h = with_zero n bits (is_divided n bits (omega (arith, h)))
 is_divided (suc n) (true ∷ bits) h =
@@ -71,16 +60,11 @@ is_divided (suc n) (true ∷ bits) h =
     shorter [] e = absurd (omega (arith, e))
     shorter (b ∷ bs) e = omega (arith, e)
 
-length-complement : (n : ℕ) (bits : List Bool) → length (complement_first n bits) ≡ length bits
-length-complement zero bits = refl
-length-complement (suc n) [] = refl
-length-complement (suc n) (bit ∷ bits) = ap suc (length-complement n bits)
-
 pub crc_is_remainder : (bytes : List ℕ) → IsCrc bytes (crc_of bytes)
 crc_is_remainder bytes =
     let dividend : List Bool = complement_first 16 (bits_of bytes ++ zeros) in
     let d : IsDivided (length (bits_of bytes)) dividend =
-    is_divided (length (bits_of bytes)) dividend (length-complement 16 (bits_of bytes ++ zeros) ∙ length-append (bits_of bytes) zeros) in
+    is_divided (length (bits_of bytes)) dividend (length-complemented 16 (bits_of bytes ++ zeros) ∙ length-append (bits_of bytes) zeros) in
     record {
       quotient = d.quotient;
       remainder = remainder_of bytes;

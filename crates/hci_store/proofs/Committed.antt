@@ -94,10 +94,6 @@ made-cut writes [] then_these old new a = absurd (true≢false (sym a.0))
 made-cut writes (w ∷ first) then_these old new (inl a) = inl a
 made-cut writes (w ∷ first) then_these old new (inr a) = inr (a.0, a.1, made-cut writes first then_these a.0 new a.2)
 
-pub on_ok : {T E : Type 0} (r : Result T E) (P Q : Type 0) → OnOk r P → (P → Q) → OnOk r Q
-on_ok (Ok x) P Q p step = step p
-on_ok (Err e) P Q p step = tt
-
 module _ {M : Type 0} (writes : M → ℕ → List ℕ → Bool → M → Type 0) (s : State) (t : HciTables) where
   pub room_made : (body : List ℕ) (old : M) (ok : Bool) (new : M) → record_fits s body ≡ false
       → AreMade writes (compact_writes s (snapshot_bodies t)) old ok new → AreMade writes (room_writes s t body) old ok new

@@ -12,7 +12,7 @@ use Rattle.hcp_chain.specs.declared.joiner.Open.{Open}
 use Rattle.hcp_chain.specs.declared.joiner.Joiner.{Joiner}
 use Rattle.hcp_chain.specs.Holding.{message_of, messages_in, IsJoinerReady, IsOwnOpen, AreApart, HoldsChains, held_blocks, KeepsOtherChains}
 use Rattle.hcp_chain.proofs.HoldingLemmas.{all_front, all_map, apart_front}
-use Rattle.block_pool.proofs.HoldingLemmas.{with_used-with_used, with_used-same}
+use Rattle.block_pool.proofs.HoldingLemmas.{with_used-with_used, with_used-same, used-with_used}
 
 -- ---- a pool that changed at one chain
 
@@ -39,11 +39,6 @@ kept old new owner before after (x ∷ xs) keeps own apart =
     }
 
 -- ---- owners
-
-pub used_of-with_used : (owners : List Owner) (o a : ℕ) → o < length owners → (owner_at (with_used owners o a) o).used ≡ a
-used_of-with_used owners o a low =
-    let nobody : Owner = record { quota = 0; used = 0; aside = 0 } in
-    ap (λ (x : Owner). x.used) (get_or-set_same owners o (record { quota = (owner_at owners o).quota; used = a; aside = (owner_at owners o).aside }) nobody low)
 
 -- ---- clearing
 
@@ -79,7 +74,7 @@ clears_more first now next owner owner_now chains left x so_far gives keeps =
     let n = blocks_for (length (chain_bytes now x.chain)) in
     let sum : held_blocks now (left ++ x ∷ []) ≡ held_blocks now left + n = sum_by_push (λ (y : Open). blocks_for (length (chain_bytes now y.chain))) left x in
     let before = used_of first owner - (held_blocks first chains - held_blocks now (left ++ x ∷ [])) in
-    let used_now : used_of now owner ≡ before = ap (λ os. (owner_at os owner).used) so_far.used ∙ used_of-with_used first.owners owner before so_far.quota in
+    let used_now : used_of now owner ≡ before = ap (λ os. (owner_at os owner).used) so_far.used ∙ used-with_used first.owners owner before so_far.quota in
     let after : used_of now owner - n ≡ used_of first owner - (held_blocks first chains - held_blocks next left) = omega (arith, used_now, sum, k.blocks, so_far.fewer) in
     record {
       same_owner = so_far.same_owner;
@@ -107,7 +102,7 @@ all_given pool next last owner chain xs quota owned holds apart gives keeps used
     let k = kept pool next owner chain chain xs keeps holds.own apart in
     let n = blocks_for (length (chain_bytes pool chain)) in
     let given : next.owners ≡ with_used pool.owners owner (used_of pool owner - n) = gives.owners ∙ ap (λ o. with_used pool.owners o (used_of pool o - n)) owned in
-    let used_next : used_of next owner ≡ used_of pool owner - n = ap (λ os. (owner_at os owner).used) given ∙ used_of-with_used pool.owners owner (used_of pool owner - n) quota in
+    let used_next : used_of next owner ≡ used_of pool owner - n = ap (λ os. (owner_at os owner).used) given ∙ used-with_used pool.owners owner (used_of pool owner - n) quota in
     let none : used_of next owner - held_blocks next xs ≡ 0 = omega (arith, used_next, used, k.blocks) in
     cleared ∙ (ap (with_used next.owners owner) none ∙ (ap (λ os. with_used os owner 0) given ∙ with_used-with_used pool.owners owner (used_of pool owner - n) 0 quota))
 

@@ -3,7 +3,7 @@ use Rattle.std.proofs.Common.{◌+◌, min, ◌≡◌, ◌⊎◌, inl, inr, ℕ,
 use Rattle.std.specs.Prelude.{Option, Some, None, is_some}
 use Rattle.std.specs.List.{AllByRecursion}
 use Rattle.std.specs.Option.{option_map_or}
-use Rattle.std.proofs.lemmas.Bool.{cond_both, cases_Bool, eqb-true, eqb-false, ne_eqb, true≢false, cond-false}
+use Rattle.std.proofs.lemmas.Bool.{cond_both, cases_Bool, eqb-true, eqb-false, true≢false}
 use Rattle.swp_base.specs.InMemory.{Memory, Plan}
 use Rattle.trace_model.specs.Lines.{IsHost}
 use Rattle.trace_model.specs.declared.entry.Entry.{Entry}
@@ -154,7 +154,7 @@ with_node_is : (w : NodeWorld) (n : ℕ) → eqb n 0 ≡ false → (r : Running)
     → with_node n r w ≡ record w { sites = with_site n (λ (s : Site). record s { node = Some r }) w.sites }
 with_node_is w n off r = rw off refl
 
-loses_is : (w : NodeWorld) (n : ℕ) → eqb n 0 ≡ false → loses_power_at n w ≡ record w { sites = with_site n host_cut w.sites }
+pub loses_is : (w : NodeWorld) (n : ℕ) → eqb n 0 ≡ false → loses_power_at n w ≡ record w { sites = with_site n host_cut w.sites }
 loses_is w n off = rw off refl
 
 -- a boot that goes through

@@ -27,7 +27,7 @@ pub hosts_same : (g : Site → Site) → ((s : Site) → (g s).host ≡ s.host) 
 hosts_same g same [] = refl
 hosts_same g same (s ∷ sites) = ap₂ (λ x l. x ∷ l) (same s) (hosts_same g same sites)
 
-changed_host : (b : Bool) (f : Site → Site) (s : Site) → (f s).host ≡ s.host → (changed_if b f s).host ≡ s.host
+pub changed_host : (b : Bool) (f : Site → Site) (s : Site) → (f s).host ≡ s.host → (changed_if b f s).host ≡ s.host
 changed_host true f s same = same
 changed_host false f s same = refl
 

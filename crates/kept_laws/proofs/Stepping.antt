@@ -44,12 +44,9 @@ use Rattle.kept_laws.proofs.Plainly.{Plainly, runs_plainly, plainly_then, plainl
 use Rattle.kept_laws.proofs.Doing.{uncut, GoesOn_or_lost, all_fine}
 use Rattle.kept_laws.proofs.HostsReply.{OneOrNone, behind_one}
 use Rattle.kept_laws.proofs.Turning.{then_all, passes_fine}
+use Rattle.node_laws.proofs.Ports.{come_host, forgets_host}
 
 -- ## What comes
-
-come_host : (p : Port) (o : Option LinkInput) → (has_come p o).desk.host ≡ p.desk.host
-come_host p None = refl
-come_host p (Some i) = refl
 
 come_waits : (p : Port) (o : Option LinkInput) → WaitsAt p → WaitsAt (has_come p o)
 come_waits p None w = w
@@ -143,9 +140,6 @@ core_late (AtEnd h i) w = refl
 core_late TimePasses w = refl
 
 -- ## Sessions that ended
-
-forgets_host : (ports : List Port) (p : Port) → (forgets ports p).desk.host ≡ p.desk.host
-forgets_host ports p = cond_both (is_forgotten ports (asked_at p)) _ p (λ q. q.desk.host ≡ p.desk.host) (λ _. refl) (λ _. refl)
 
 forgets_waits : (ports : List Port) (p : Port) → WaitsAt p → WaitsAt (forgets ports p)
 forgets_waits ports p w = cond_both (is_forgotten ports (asked_at p)) _ p WaitsAt (λ _. by_notice p.desk.notice) (λ _. w) where

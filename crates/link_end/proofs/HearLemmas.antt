@@ -18,7 +18,7 @@ use Rattle.shdlc_core.specs.Machine.{EndState, Fragment, Session, taken, take_an
 use Rattle.shdlc_core.specs.Offering.{StandsBefore, with_out, left_waiting}
 use Rattle.shdlc_core.proofs.Offering.{stands_taken, stands_idle, taken_alike, takes_on, TakesOn, brings_fragment}
 use Rattle.shdlc_core.proofs.Histories.{in_phase}
-use Rattle.hcp_packet.specs.Packets.{packets_in, fragments_of, good_of, packet_of, is_good, AreSendable}
+use Rattle.hcp_packet.specs.Packets.{packets_in, fragments_of, good_of, packet_of, AreSendable}
 use Rattle.hcp_chain.specs.Joining.{are_taken, given_by, open_after}
 use Rattle.hcp_chain.proofs.ReadyLemmas.{open_after-append, given_by-append, are_taken-append}
 use Rattle.link_machine.specs.Machine.{LinkEnd as Machine, Message, moved, put_down, heard, is_faulty, messages_got, news, whole_acked, whole_among, oldest}
@@ -40,16 +40,9 @@ use Rattle.link_end.specs.declared.«end».End.{End}
 use Rattle.link_end.specs.declared.report.LinkReport.{LinkReport}
 use Rattle.link_end.proofs.EndLemmas.{session_over, carries, stopped_before}
 use Rattle.link_end.proofs.BoxLemmas.{OutboxKept, inbox_kept, outbox_kept, leaves_out, leaves_in, leaves_more}
+use Rattle.link_machine.proofs.Reports.{good-append, empty_news}
 
 -- ---- what came
-
-filter-append : (xs ys : List Message) → good_of (xs ++ ys) ≡ good_of xs ++ good_of ys
-filter-append [] ys = refl
-filter-append (x ∷ xs) ys = go (is_good x.1) refl (filter-append xs ys)
-  where
-    go : (b : Bool) → is_good x.1 ≡ b → good_of (xs ++ ys) ≡ good_of xs ++ good_of ys → good_of (x ∷ (xs ++ ys)) ≡ good_of (x ∷ xs) ++ good_of ys
-    go true e rest = rw e (ap (λ (l : List Message). x ∷ l) rest)
-    go false e rest = rw e rest
 
 packets-append : (xs ys : List Fragment) → packets_in (xs ++ ys) ≡ packets_in xs ++ packets_in ys
 packets-append xs ys = filter_map-append packet_of xs ys
@@ -62,7 +55,7 @@ news_is s e more acc =
     let qs = packets_in more in
     let all : messages_got e.session ≡ good_of (given_by [] ps) ++ good_of (given_by (open_after [] ps) qs) =
     ap (λ l. good_of (given_by [] (packets_in l))) acc ∙ (ap (λ l. good_of (given_by [] l)) (packets-append s.acc more)
-    ∙ (ap good_of (given_by-append [] ps qs) ∙ filter-append (given_by [] ps) (given_by (open_after [] ps) qs))) in
+    ∙ (ap good_of (given_by-append [] ps qs) ∙ good-append (given_by [] ps) (given_by (open_after [] ps) qs))) in
     ap (drop (length (messages_got s))) all ∙ drop-append_seam (good_of (given_by [] ps)) (good_of (given_by (open_after [] ps) qs))
 
 -- whether their packets can all be joined
@@ -80,9 +73,6 @@ under_is s e more acc =
 drop_of_none : (n : ℕ) → drop n (let l : List Message = [] in l) ≡ []
 drop_of_none zero = refl
 drop_of_none (suc n) = refl
-
-pub no_news : (s : Session) (e : EndState) → e.session.acc ≡ [] → news s e ≡ []
-no_news s e acc = ap (λ l. drop (length (messages_got s)) (good_of (given_by [] (packets_in l)))) acc ∙ drop_of_none (length (messages_got s))
 
 -- ---- the SHDLC end
 
@@ -112,7 +102,7 @@ heard-over m c over acc =
     let faulty : is_faulty e.session ≡ false = ap (λ l. not (are_taken [] (packets_in l))) acc in
     ap (λ b. if b then put_down true m else record (moved m (ended_in m c) e) { got = m.got ++ news m.shdlc.session e }) faulty
     ∙ (ap (λ b. record (moved m b e) { got = m.got ++ news m.shdlc.session e }) over
-    ∙ (ap (λ l. record (moved m true e) { got = m.got ++ l }) (no_news m.shdlc.session e acc) ∙ ap (λ l. record (moved m true e) { got = l }) (append-nil m.got)))
+    ∙ (ap (λ l. record (moved m true e) { got = m.got ++ l }) (empty_news m.shdlc.session e acc) ∙ ap (λ l. record (moved m true e) { got = l }) (append-nil m.got)))
 
 pub over_acc : (m : Machine) (c : Control) → TakesOn m.shdlc c → ended_in m c ≡ true → (taken m.shdlc c).session.acc ≡ []
 over_acc m c on over = on.acc ∙ ap (λ b. left_waiting b (m.shdlc.session.acc ++ option_to_list (take_answer m.shdlc c).accepted)) over
@@ -146,7 +136,7 @@ over_told pool k m c t n h answer ended none =
     let faulty : is_faulty e.session ≡ false = ap (λ l. not (are_taken [] (packets_in l))) acc in
     let acked : whole_acked (heard m c) - whole_acked m ≡ 0 = ap (λ x. whole_acked x - whole_acked m) (heard-over m c over acc) ∙ omega arith in
     let got : is_some (oldest (if is_faulty e.session then [] else news m.shdlc.session e)) ≡ false =
-    ap (λ b. is_some (oldest (if b then [] else news m.shdlc.session e))) faulty ∙ ap (λ l. is_some (oldest l)) (no_news m.shdlc.session e acc) in
+    ap (λ b. is_some (oldest (if b then [] else news m.shdlc.session e))) faulty ∙ ap (λ l. is_some (oldest l)) (empty_news m.shdlc.session e acc) in
     let cause : (if is_faulty e.session then Some Chain else (take_answer m.shdlc c).ended) ≡ (take_answer m.shdlc c).ended = ap (λ b. if b then Some Chain else (take_answer m.shdlc c).ended) faulty in
     ap (λ (x : LinkReport). record x { ended = t.ended; began = t.began }) none
     ∙ (ap (λ (x : Taken). record nothing_told { ended = x.ended; began = x.began }) is

@@ -23,6 +23,7 @@ use Rattle.link_entries.specs.Order.{InOrderIn}
 use Rattle.link_entries.proofs.Books.{Book, plus, plus-blank, read, read-append, Silent, book_of}
 use Rattle.link_entries.proofs.Fronts.{front_parts, OfOne, front_read, Few, AllFew, few_told}
 use Rattle.link_entries.proofs.Stepping.{Tolds}
+use Rattle.link_machine.proofs.Reports.{good-append}
 
 -- messages are in order, both ways and in each session
 abbrev pub Ok : List Entry → Type 0
@@ -58,9 +59,6 @@ take_front (suc a) (suc b) (m ∷ ms) i = let f = take_front a b ms (omega (arit
 
 good_front : (xs ys : List Message) → IsFrontOf xs ys → IsFrontOf (good_of xs) (good_of ys)
 good_front xs ys f = (good_of f.0, sym (filter-append (λ m. is_good m.1) xs f.0) ∙ ap good_of f.1)
-
-good-append : (xs ys : List Message) → good_of (xs ++ ys) ≡ good_of xs ++ good_of ys
-good-append xs ys = filter-append (λ m. is_good m.1) xs ys
 
 -- ## Between
 

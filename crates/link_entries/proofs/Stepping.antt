@@ -1,10 +1,11 @@
 -- What is noted of a step of an end says what is kept of its sessions.
 use Rattle.std.proofs.Common.{◌≡◌, ℕ, zero, suc, Bool, true, false, cond, List, [], ◌∷◌, ◌++◌, length, refl, ap, sym, subst, ◌∙◌, append_assoc}
-use Rattle.std.specs.Prelude.{◌==◌, nat_lt, is_some}
+use Rattle.std.specs.Prelude.{◌==◌, nat_lt, is_some, Option, Some, None}
 use Rattle.swp_base.specs.declared.control_frames.Control.{Control}
 use Rattle.shdlc_core.specs.declared.answers.LinkState.{LinkState}
 use Rattle.shdlc_core.specs.declared.answers.LinkState.TheVariants.{Down as IsDown, Waiting as IsWaitingNow, Up as IsUpNow}
-use Rattle.shdlc_core.specs.Machine.{EndState, fetched, after_frames, most_frames}
+use Rattle.shdlc_core.specs.declared.answers.Due.{Due}
+use Rattle.shdlc_core.specs.Machine.{EndState, Fragment, fetched, fragment_due, after_frames, most_frames}
 use Rattle.link_laws.proofs.Joined.{fetch_cases}
 use Rattle.session_laws.specs.Sessions.{OnWire, is_up, took_with}
 use Rattle.link_machine.specs.Machine.{LinkEnd, Role, LinkInput, Turn, Report, report, turn, turned, new_link_end, renewed, after_input, ended_by, began_by, whole_acked, frames_out, sent_all}
@@ -74,7 +75,7 @@ silent_puts (c ∷ cs) who l =
     (silent_cons (Emit who c) (pushed_out (far who) (wire_with l c)) (λ x n. refl) (silent_lost (far who) (nat_lt 64 (length (wire_with l c))) (wire_with l c)))
     (silent_puts cs who _)
 
-fetched_acked : (n : ℕ) (e : EndState) → (after_frames n e).session.acked ≡ e.session.acked
+pub fetched_acked : (n : ℕ) (e : EndState) → (after_frames n e).session.acked ≡ e.session.acked
 fetched_acked zero e = refl
 fetched_acked (suc n) e =
     fetched_acked n (fetched e) ∙ fetch_cases (λ f o. f.session.acked ≡ e.session.acked) e (λ d ds p. refl) (λ p q. refl) (λ info p q. refl)
@@ -325,3 +326,10 @@ input_told t who l k i h ts ending input side number host a can none s sf b =
     } in
     let Q : List Entry → Type 0 = λ z. Out t (z ++ vs) who (finished k (turned f ts) ending) in
     subst Q (sym same) both
+
+pub one_fetched_acked : (s : EndState) → (fetched s).session.acked ≡ s.session.acked
+one_fetched_acked s = go s.due refl (fragment_due s.session) refl where
+  go : (due : List Due) → s.due ≡ due → (o : Option Fragment) → fragment_due s.session ≡ o → (fetched s).session.acked ≡ s.session.acked
+  go [] q None r = rw (q, r) refl
+  go [] q (Some info) r = rw (q, r) refl
+  go (d ∷ ds) q o r = rw q refl

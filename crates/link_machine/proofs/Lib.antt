@@ -4,3 +4,4 @@ pub mod Runs
 pub mod Told
 pub mod Reports
 pub mod Places
+pub mod Kept

@@ -1,24 +1,24 @@
 -- What an input does to the session of an end is what its report tells.
-use Rattle.std.proofs.Common.{◌≡◌, ℕ, suc, ◌+◌, ◌-◌, ◌<◌, ◌≤◌, Bool, true, false, cond, List, [], ◌∷◌, ◌++◌, length, take, drop, map, Option, Some, None, refl, ap, sym, subst, ◌∙◌, arith, append-nil}
+use Rattle.std.proofs.Common.{◌≡◌, ℕ, ◌+◌, ◌-◌, Bool, true, false, cond, List, [], ◌++◌, length, take, drop, map, Option, Some, None, refl, ap, sym, subst, ◌∙◌, arith}
 use Rattle.std.proofs.lemmas.Bool.{true≢false}
+use Rattle.std.proofs.lemmas.List.Elements.{filter-append}
 use Rattle.std.proofs.lemmas.Grind.{common_steps}
 use Rattle.std.specs.Prelude.{is_some, ◌&&◌}
 use Rattle.swp_base.specs.declared.control_frames.Control.{Control}
 use Rattle.swp_base.specs.declared.control_frames.Control.TheVariants.{I, S, Rset, Ua, Act, Clt}
 use Rattle.swp_base.specs.declared.control_frames.Act.{Act as Activation}
-use Rattle.swp_base.specs.declared.link_terms.Cause.{Cause}
 use Rattle.swp_base.specs.declared.link_terms.Cause.TheVariants.{Asked, Chain, Act as ByAct}
 use Rattle.swp_act.specs.declared.ActEvent.{ActEvent}
 use Rattle.swp_act.specs.declared.ActEvent.TheVariants.{Start as ActStart, Take as ActTake, Tick as ActTick, Stop as ActStop}
 use Rattle.shdlc_core.specs.declared.answers.LinkState.{LinkState}
 use Rattle.shdlc_core.specs.declared.answers.LinkState.TheVariants.{Down, Waiting, Up}
 use Rattle.shdlc_core.specs.Machine.{EndState, Session, no_session, taken, take_answer, ticked, tick_answer, is_waiting, reset_with, stopped}
-use Rattle.hcp_packet.specs.Packets.{packets_in}
-use Rattle.link_machine.specs.Machine.{Message, LinkEnd, Role, LinkInput, is_faulty, messages_got, is_open, act_answer, role_after, with_act, in_front, moved, put_down, activated, heard, took, had_tick, news, brought, reset_refusal, if_up, reset_by, window_of, after_input, ended_by, ended_by_act, began_by, got_by, Report, report}
+use Rattle.hcp_packet.specs.Packets.{good_of, is_good}
+use Rattle.link_machine.specs.Machine.{Message, LinkEnd, Role, LinkInput, is_faulty, messages_got, is_open, act_answer, role_after, with_act, in_front, moved, put_down, activated, heard, took, news, if_up, window_of, after_input, ended_by, ended_by_act, began_by, got_by, report}
 use Rattle.link_machine.specs.Machine.LinkInput.{Take, Tick, Reset, Start, Stop}
-use Rattle.link_machine.proofs.Shifts.{Shift, IsNotUp, same_shift, taken_shift, ticked_shift, reset_shift, stopped_shift}
+use Rattle.link_machine.proofs.Shifts.{Shift, IsNotUp, same_shift, taken_shift, ticked_shift, reset_shift}
 use Rattle.link_machine.proofs.Shifts.Shift.{Stays, Ends, Renews, Begins, Rests}
-use Rattle.link_machine.proofs.Sound.{Data, SentAfter}
+use Rattle.link_machine.proofs.Sound.{SentAfter}
 use Rattle.link_machine.proofs.Runs.{Sound}
 
 -- an end e became f: its session ended or not, and one began or not, and these messages came
@@ -44,7 +44,7 @@ no_news : (before : Session) (s : EndState) → s.session.acc ≡ before.acc →
 no_news before s q =
     ap (λ (xs : List (List ℕ)). drop (length (messages_got before)) (messages_got (record s.session { acc = xs }))) q ∙ drop_all (messages_got before)
 
-empty_news : (before : Session) (s : EndState) → s.session.acc ≡ [] → news before s ≡ []
+pub empty_news : (before : Session) (s : EndState) → s.session.acc ≡ [] → news before s ≡ []
 empty_news before s q =
     ap (λ (xs : List (List ℕ)). drop (length (messages_got before)) (messages_got (record s.session { acc = xs }))) q ∙ drop_nil (length (messages_got before))
 
@@ -368,3 +368,6 @@ start_so e v h = restarted_so e (ActStart v) h
 
 pub stop_so : (e : LinkEnd) → Sound e → Reports e Stop
 stop_so e h = restarted_so e ActStop h
+
+pub good-append : (xs ys : List Message) → good_of (xs ++ ys) ≡ good_of xs ++ good_of ys
+good-append xs ys = filter-append (λ m. is_good m.1) xs ys

@@ -1,16 +1,15 @@
 -- What is true of every run of a link over messages.
-use Rattle.std.proofs.Common.{◌≡◌, ℕ, zero, suc, ◌≤◌, ◌-◌, Bool, true, false, List, [], ◌∷◌, ◌++◌, length, take, map, inl, refl, ap, sym, subst, ◌∙◌, arith, length-append, append_assoc}
-use Rattle.std.proofs.lemmas.List.{length-map}
-use Rattle.std.specs.Prelude.{Some, nat_le, ◌==◌}
-use Rattle.std.proofs.lemmas.Bool.{leb-true, ne_eqb, true≢false}
+use Rattle.std.proofs.Common.{◌≡◌, ℕ, zero, suc, ◌≤◌, ◌-◌, Bool, true, false, List, [], ◌∷◌, ◌++◌, length, take, map, inl, refl, ap, sym, subst, ◌∙◌, arith, append_assoc}
+use Rattle.std.specs.Prelude.{Some, ◌==◌}
+use Rattle.std.proofs.lemmas.Bool.{ne_eqb, true≢false}
 use Rattle.swp_base.specs.declared.link_terms.Cause.TheVariants.{Chain}
 use Rattle.swp_base.specs.declared.control_frames.Control.{Control}
 use Rattle.swp_base.specs.declared.control_frames.Control.TheVariants.{I, S, Rset, Ua, Act, Clt}
 use Rattle.shdlc_core.specs.declared.answers.LinkState.{LinkState}
 use Rattle.shdlc_core.specs.declared.answers.LinkState.TheVariants.{Down, Waiting, Up}
 use Rattle.shdlc_core.specs.Machine.{EndState, taken, take_answer}
-use Rattle.hcp_packet.specs.Packets.{packets_of, packet_count, packet_bytes, fragments_of, good_of, good_messages_of, AreSendable, IsFrontOf}
-use Rattle.hcp_packet.proofs.Joining.{packets_are_counted, good_messages_are_a_front, whole_messages_have_come}
+use Rattle.hcp_packet.specs.Packets.{packets_of, packet_bytes, fragments_of, good_of, good_messages_of, AreSendable, IsFrontOf}
+use Rattle.hcp_packet.proofs.Joining.{good_messages_are_a_front, whole_messages_have_come}
 use Rattle.message_laws.specs.Sending.{AreShort}
 use Rattle.message_laws.proofs.TakenLemmas.{all_given}
 use Rattle.link_laws.specs.Order.{FragmentsInOrder as CoreInOrder}
@@ -35,6 +34,7 @@ use Rattle.message_link.proofs.Project.{Says, Tells}
 use Rattle.message_link.proofs.Steps.{FromHost, says_of, session-core, core_first, no_fault_first}
 use Rattle.message_link.proofs.Calm.{Line}
 use Rattle.message_link.proofs.Runs.{Good, Reached, Run, run, ordered, from_host, from_controller}
+use Rattle.link_machine.proofs.Sound.{whole_acked_before}
 
 bare_tells : Tells (new_numbered_end (new_link_end Bare))
 bare_tells =
@@ -105,20 +105,6 @@ taken_front (suc n) (m ∷ ms) =
     let f = taken_front n ms in
     (f.0, append_assoc (map packet_bytes (packets_of m.0 m.1)) (fragments_of (take n ms)) f.0 ∙ ap (λ fs. map packet_bytes (packets_of m.0 m.1) ++ fs) f.1)
 
-whole_fits : (ms : List Message) (n : ℕ) → length (fragments_of (take (whole_among ms n) ms)) ≤ n
-whole_fits [] n = omega arith
-whole_fits (m ∷ ms) n = go (nat_le (packet_count (length m.1)) n) refl (whole_fits ms (n - packet_count (length m.1)))
-  where
-    go : (b : Bool) → nat_le (packet_count (length m.1)) n ≡ b → length (fragments_of (take (whole_among ms (n - packet_count (length m.1))) ms)) ≤ n
-        - packet_count (length m.1)
-        → length (fragments_of (take (whole_among (m ∷ ms) n) (m ∷ ms))) ≤ n
-    go false q later = rw q (omega arith)
-    go true q later =
-        let i = leb-true (packet_count (length m.1)) n q in
-        let a = length-append (map packet_bytes (packets_of m.0 m.1)) (fragments_of (take (whole_among ms (n - packet_count (length m.1))) ms)) in
-        let b = length-map (packets_of m.0 m.1) packet_bytes ∙ packets_are_counted m.0 m.1 in
-        rw q (omega (arith, i, a, b, later))
-
 pub in_messages : (s r : Talk) → Says s → CoreInOrder s.session r.session → InOrder s r
 in_messages s r says o =
     let front : IsFrontOf r.session.acc (fragments_of s.sent) = (o.front.0, o.front.1 ∙ says.out) in
@@ -126,7 +112,7 @@ in_messages s r says o =
     let k : ℕ = whole_among s.sent s.session.acked in
     let part : IsFrontOf (fragments_of (take k s.sent)) r.session.acc =
     front_of_front (fragments_of (take k s.sent)) r.session.acc (fragments_of s.sent) (taken_front k s.sent) front
-    (omega (arith, whole_fits s.sent s.session.acked, o.acked)) in
+    (omega (arith, whole_acked_before s.sent s.session.acked, o.acked)) in
     record {
       got = let f = good_messages_are_a_front s.sent r.session.acc (sendable s.sent says.short) front in (f.0, ap (λ ms. ms ++ f.0) given ∙ f.1);
       acked =

@@ -3,3 +3,4 @@ pub mod Masks
 pub mod Whitelists
 pub mod Values
 pub mod Waits
+pub mod Ports

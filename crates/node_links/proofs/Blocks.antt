@@ -1,5 +1,5 @@
 -- The blocks in use at each end of a link, those set aside and those that are spare are 128.
-use Rattle.std.proofs.Common.{◌≡◌, ℕ, zero, suc, ◌+◌, ◌-◌, ◌≤◌, Bool, true, false, cond, List, [], ◌∷◌, ◌++◌, length, Option, Some, None, refl, ap, sym, subst, ◌∙◌, arith}
+use Rattle.std.proofs.Common.{◌≡◌, ℕ, ◌+◌, ◌-◌, ◌≤◌, Bool, true, false, cond, List, [], ◌∷◌, ◌++◌, length, Option, Some, None, refl, ap, sym, subst, ◌∙◌, arith}
 use Rattle.std.specs.Prelude.{◌==◌, not, nat_le, nat_lt, drop, is_some}
 use Rattle.std.specs.List.{AllByRecursion}
 use Rattle.std.proofs.lemmas.Bool.{true≢false, ltb-false, ltb-true}
@@ -12,8 +12,7 @@ use Rattle.swp_act.specs.declared.ActEvent.{ActEvent}
 use Rattle.swp_act.specs.declared.ActEvent.TheVariants.{Start as ActStart, Take as ActTake, Tick as ActTick, Stop as ActStop}
 use Rattle.shdlc_core.specs.declared.answers.LinkState.{LinkState}
 use Rattle.shdlc_core.specs.declared.answers.LinkState.TheVariants.{Down, Waiting, Up}
-use Rattle.shdlc_core.specs.Machine.{EndState, Fragment, fragment_due, taken, take_answer, ticked, tick_answer, reset_with, stopped, with_ready, fetched, after_frames, most_frames}
-use Rattle.shdlc_core.specs.declared.answers.Due.{Due}
+use Rattle.shdlc_core.specs.Machine.{EndState, taken, take_answer, ticked, tick_answer, reset_with, stopped, with_ready, fetched, after_frames, most_frames}
 use Rattle.session_laws.proofs.Ties.{fetched-phase, after_frames-phase}
 use Rattle.hcp_packet.specs.Packets.{packet_count}
 use Rattle.link_machine.specs.Machine.{Message, LinkEnd, LinkInput, ActDue, Role, Turn, Refused, is_faulty, is_open, act_answer, role_after, with_act, moved, put_down, activated, heard, had_tick, took, reset_refusal, reset_by, window_of, renewed, new_link_end, sent_all, frame_fetched, after_input, turn, turned, give_refusal, given, whole_among, need_of_all, need, in_use, spare, if_up}
@@ -23,7 +22,7 @@ use Rattle.link_machine.specs.Machine.Role.{Bare, Clf, Uicc}
 use Rattle.link_machine.proofs.Shifts.{IsNotUp, Shift, taken_shift, ticked_shift, reset_shift}
 use Rattle.link_machine.proofs.Shifts.Shift.{Stays, Ends, Renews, Begins, Rests}
 use Rattle.link_machine.proofs.Sound.{SentAfter, whole_more, whole_few, need_less, need_more}
-use Rattle.message_link.specs.Links.{Link, Node, EndEvent, LinkEvent, exchanged, aged, happens_at_controller, all_at_controller, ticks_at_controller, steps_at_controller, happens, after_link_events}
+use Rattle.message_link.specs.Links.{Link, EndEvent, LinkEvent, exchanged, aged, happens_at_controller, all_at_controller, ticks_at_controller, steps_at_controller, happens, after_link_events}
 use Rattle.message_link.specs.Links.Comes.{Starts}
 use Rattle.message_link.specs.Links.EndEvent.{Step}
 use Rattle.message_link.specs.Links.LinkEvent.{AtController, AtHost, Ticks, TicksWithout, Activate}
@@ -35,6 +34,7 @@ use Rattle.node_links.proofs.Ends.{here_is, tick_is, here_host}
 use Rattle.link_entries.proofs.Together.{ticks_host as tick_host}
 use Rattle.node_links.proofs.Obeying.{obey}
 use Rattle.link_machine.proofs.Reports.{shdlc_is as moved_shdlc, moved_sent as sent_moved}
+use Rattle.link_entries.proofs.Stepping.{fetched_acked as frames_acked, one_fetched_acked}
 
 -- ## Messages
 
@@ -159,17 +159,6 @@ turns_within e (t ∷ ts) a = turns_within (turn e t) ts (turn_within e t a)
 
 -- ## Frames that go out
 
-fetched_acked : (s : EndState) → (fetched s).session.acked ≡ s.session.acked
-fetched_acked s = go s.due refl (fragment_due s.session) refl where
-  go : (due : List Due) → s.due ≡ due → (o : Option Fragment) → fragment_due s.session ≡ o → (fetched s).session.acked ≡ s.session.acked
-  go [] q None r = rw (q, r) refl
-  go [] q (Some info) r = rw (q, r) refl
-  go (d ∷ ds) q o r = rw q refl
-
-frames_acked : (n : ℕ) (s : EndState) → (after_frames n s).session.acked ≡ s.session.acked
-frames_acked zero s = refl
-frames_acked (suc n) s = frames_acked n (fetched s) ∙ fetched_acked s
-
 pub sent_within : (e : LinkEnd) → IsWithin e → IsWithin (sent_all e)
 sent_within e a = same_within e (sent_all e) refl (frames_acked most_frames e.shdlc) (after_frames-phase most_frames e.shdlc) refl a
 
@@ -177,7 +166,7 @@ fetch_within : (e : LinkEnd) → IsWithin e → IsWithin (frame_fetched e)
 fetch_within e a = go e.acts refl where
   fetch : (f : LinkEnd) → f.sent ≡ e.sent → f.shdlc ≡ fetched e.shdlc → f.aside ≡ e.aside → IsWithin f
   fetch f sent shdlc aside =
-      same_within e f sent (ap (λ (s : EndState). s.session.acked) shdlc ∙ fetched_acked e.shdlc) (ap (λ (s : EndState). s.phase) shdlc ∙ fetched-phase e.shdlc)
+      same_within e f sent (ap (λ (s : EndState). s.session.acked) shdlc ∙ one_fetched_acked e.shdlc) (ap (λ (s : EndState). s.phase) shdlc ∙ fetched-phase e.shdlc)
       aside a
 
   go : (acts : List ActDue) → e.acts ≡ acts → IsWithin (frame_fetched e)

@@ -5,19 +5,16 @@ use Rattle.std.specs.List.{AllByRecursion}
 use Rattle.std.proofs.lemmas.Bool.{ltb-true, true≢false}
 use Rattle.swp_base.specs.declared.control_frames.Control.{Control}
 use Rattle.swp_base.specs.declared.control_frames.Control.TheVariants.{I, S, Rset, Ua, Act as ActFrame, Clt}
-use Rattle.swp_base.specs.declared.control_frames.Act.{Act}
 use Rattle.swp_base.specs.declared.link_terms.Cause.TheVariants.{Asked}
-use Rattle.swp_act.specs.declared.ActEvent.{ActEvent}
 use Rattle.swp_act.specs.declared.ActEvent.TheVariants.{Take as ActTake, Tick as ActTick, Start as ActStart, Stop as ActStop}
-use Rattle.shdlc_core.specs.declared.answers.LinkState.{LinkState}
-use Rattle.shdlc_core.specs.declared.answers.LinkState.TheVariants.{Down, Waiting, Up}
-use Rattle.shdlc_core.specs.Machine.{EndState, Session, taken, ticked, tick_answer, reset_with, stopped}
+use Rattle.shdlc_core.specs.Machine.{Session, taken, ticked, tick_answer, reset_with, stopped}
 use Rattle.hcp_packet.specs.declared.Packet.{Packet}
 use Rattle.hcp_packet.specs.Packets.{packets_in, is_good, good_of, AreSendable}
 use Rattle.hcp_chain.specs.Joining.{join_step, message_in, given_by, is_fifth, grown}
-use Rattle.link_machine.specs.Machine.{Message, LinkEnd, ActDue, Refused, LinkInput, Turn, is_faulty, messages_got, is_open, act_answer, role_after, with_act, moved, put_down, activated, started, deactivated, news, heard, took, had_tick, give_refusal, aside_refusal, turn, turned, reset_refusal, reset_by, if_up, window_of, after_input, frame_fetched}
+use Rattle.link_machine.specs.Machine.{Message, LinkEnd, ActDue, Refused, LinkInput, Turn, is_faulty, messages_got, is_open, moved, put_down, activated, started, deactivated, news, heard, took, had_tick, give_refusal, aside_refusal, turn, turned, reset_refusal, reset_by, if_up, window_of, after_input, frame_fetched}
 use Rattle.link_machine.specs.Machine.LinkInput.{Take, TakeUnknown, TakeBroken, Tick, Reset, Start, Stop, FromNode, Fetch}
 use Rattle.link_machine.specs.Machine.Turn.{Give, Hold, FetchMessage, SetAside, Release}
+use Rattle.link_machine.proofs.Kept.{moved_got, down_got, activated_got}
 
 -- ## Lists
 
@@ -87,28 +84,6 @@ Clean e = AreSendable e.got
 
 got_same : (e f : LinkEnd) → f.got ≡ e.got → Clean e → Clean f
 got_same e f q c = let P : List Message → Type 0 = λ ms. AreSendable ms in subst P (sym q) c
-
-pub moved_got : (e : LinkEnd) (b : Bool) (s : EndState) → (moved e b s).got ≡ e.got
-moved_got e true s = refl
-moved_got e false s = refl
-
-pub down_got : (e : LinkEnd) (b : Bool) → (put_down b e).got ≡ e.got
-down_got e false = refl
-down_got e true = go e.shdlc.phase refl
-  where
-    go : (p : LinkState) → e.shdlc.phase ≡ p → (put_down true e).got ≡ e.got
-    go Up q = rw q refl
-    go Waiting q = rw q refl
-    go Down q = rw q refl
-
-act_got : (o : Option Act) (e : LinkEnd) → (with_act o e).got ≡ e.got
-act_got None e = refl
-act_got (Some act) e = refl
-
-pub activated_got : (e : LinkEnd) (event : ActEvent) → (activated e event).got ≡ e.got
-activated_got e event =
-    act_got (act_answer e.role event).send (record (put_down (act_answer e.role event).ended_link e) { role = role_after e.role event })
-    ∙ down_got e (act_answer e.role event).ended_link
 
 heard_clean : (e : LinkEnd) (c : Control) → Clean e → Clean (heard e c)
 heard_clean e c a = go (is_faulty (taken e.shdlc c).session) refl

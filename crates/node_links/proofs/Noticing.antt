@@ -1,7 +1,7 @@
 -- A notice that isn't answered stands only at an end that is up.
 use Rattle.std.proofs.Common.{◌≡◌, ℕ, ◌==◌, ◌||◌, Bool, true, false, cond, List, [], ◌∷◌, ◌++◌, length, Option, Some, None, map, refl, ap, sym, subst, ◌∙◌}
 use Rattle.std.specs.Prelude.{is_some}
-use Rattle.std.specs.List.{AllByRecursion, flat_map, filter, list_any}
+use Rattle.std.specs.List.{AllByRecursion, flat_map, filter}
 use Rattle.std.specs.Option.{option_map, option_map_or}
 use Rattle.std.proofs.lemmas.Bool.{true≢false, eqb-true}
 use Rattle.trace_model.specs.declared.entry.Entry.TheVariants as entry
@@ -30,6 +30,7 @@ use Rattle.node_machine.specs.Node.NodeInput.{AtEnd, TimePasses}
 use Rattle.node_links.specs.Notices.{Reaches, AllReach, IsComing, IsOutside, IsNoticedUp, IsBegun, OnFirst}
 use Rattle.node_links.proofs.Staying.{stays_up}
 use Rattle.node_links.proofs.Reaching.{controller_reach}
+use Rattle.node_laws.proofs.Ports.{come_host, forgets_host, changed_host, sessions_node}
 
 -- ## Ends
 
@@ -57,10 +58,6 @@ up_at o = option_map_or (λ (p : Port). is_up p.side.shdlc.phase) o false
 abbrev pub UpAt : Option Port → Type 0
 UpAt None = Unit {0}
 UpAt (Some p) = is_some p.desk.notice ≡ true → is_up p.side.shdlc.phase ≡ true
-
-changed_host : (b : Bool) (g : Port → Port) (p : Port) → ((q : Port) → (g q).desk.host ≡ q.desk.host) → (changed_if b g p).desk.host ≡ p.desk.host
-changed_host true g p keeps = keeps p
-changed_host false g p keeps = refl
 
 -- looking an end up where ends were changed that keep their hosts
 pub at_all : (ports : List Port) (x : ℕ) (g : Port → Port) → ((q : Port) → (g q).desk.host ≡ q.desk.host)
@@ -315,10 +312,6 @@ come_ok p (Some i) k b n over = stays_up p.side i (k i refl) (b.up n) (go (is_so
     go false q = q
     go true q = absurd (true≢false (sym (ap (λ c. c || p.late) q) ∙ over))
 
-come_host : (p : Port) (o : Option LinkInput) → (has_come p o).desk.host ≡ p.desk.host
-come_host p None = refl
-come_host p (Some i) = refl
-
 older_ok : (p : Port) → IsOk p → IsOk (with_older p)
 older_ok p b n over = b (go p.desk.notice n) over
   where
@@ -355,13 +348,6 @@ forgets_ok ports p b = go (is_forgotten ports (asked_at p)) refl p.desk.notice r
     go false q o r = rw q b
     go true q None r = rw (q, r) (λ n over. absurd (true≢false (sym n)))
     go true q (Some n) r = rw (q, r) (λ z over. b (rw r refl) over)
-
-forgets_host : (ports : List Port) (p : Port) → (forgets ports p).desk.host ≡ p.desk.host
-forgets_host ports p = go (is_forgotten ports (asked_at p)) refl
-  where
-    go : (c : Bool) → is_forgotten ports (asked_at p) ≡ c → (forgets ports p).desk.host ≡ p.desk.host
-    go true q = rw q refl
-    go false q = rw q refl
 
 without_up : (p : Port) → IsOk p → UpAt (Some (without_notice p))
 without_up p b = go (is_over p) refl
@@ -405,13 +391,6 @@ came_ok TimePasses w x k a =
 pub came_node : (input : NodeInput) (w : Work) → (times_out input (all_come input w)).core ≡ w.core
 came_node (AtEnd h i) w = refl
 came_node TimePasses w = refl
-
-pub sessions_node : (core : Core) (ports : List Port) → (after_sessions core ports).node ≡ core.node
-sessions_node core ports = go (list_any is_over ports) refl
-  where
-    go : (b : Bool) → list_any is_over ports ≡ b → (after_sessions core ports).node ≡ core.node
-    go true q = rw q refl
-    go false q = rw q refl
 
 -- the links of a controller after what came in a step
 abbrev pub links_after : NodeInput → Work → ℕ → Bool

@@ -33,6 +33,7 @@ use Rattle.node_order.specs.Told.{IsLinkTold}
 use Rattle.node_order.proofs.Unnoticed.{IfNone}
 use Rattle.node_order.proofs.Watches.{WatchedLink, watched, kept_left}
 use Rattle.node_order.proofs.Wires.{ShownBy, Shown, shown_same}
+use Rattle.turn_laws.proofs.Works.{site_none}
 
 -- ## One link
 
@@ -174,19 +175,6 @@ each_back t X w a =
 
 pub each_alike : (t : List Entry) (X Y : ℕ → WatchedLink) (w : NodeWorld) → ((h : ℕ) → X h ≡ Y h) → Each t X w → Each t Y w
 each_alike t X Y w same a h s found = subst (λ x. Knows t x w.controller h s) (same h) (a h s found)
-
-pub site_none : (f : Site → Site) → ((s : Site) → (f s).host ≡ s.host) → (sites : List Site) (h : ℕ) → site_at sites h ≡ None → site_at (map f sites) h ≡ None
-site_none f keeps [] h q = refl
-site_none f keeps (x ∷ sites) h q = go (x.host == h) refl (site_none f keeps sites h)
-  where
-    same : ((f x).host == h) ≡ (x.host == h)
-    same = ap (λ n. n == h) (keeps x)
-
-    go : (b : Bool) → (x.host == h) ≡ b → (site_at sites h ≡ None → site_at (map f sites) h ≡ None) → site_at (map f (x ∷ sites)) h ≡ None
-    go true e later = let is : Some x ≡ None = rw e at q in absurd (cc is)
-    go false e later =
-        let fails : ((f x).host == h) ≡ false = same ∙ e in
-        rw fails (later (rw e at q))
 
 -- a changed site was one of those before
 pub record WasThere (f : Site → Site) (sites : List Site) (h : ℕ) (v : Site) : Type 0 where

@@ -101,7 +101,7 @@ module _ (h : ℕ) (l : Link) (window : Option ℕ) (ts : List Turn) (u : List E
 
 -- ## A reset in a world
 
-first_none : (a b : Option NoCause) → first_cause a b ≡ None → (a ≡ None) × (b ≡ None)
+pub first_none : (a b : Option NoCause) → first_cause a b ≡ None → (a ≡ None) × (b ≡ None)
 first_none None b q = (refl, q)
 first_none (Some cause) b q = absurd (cc q)
 

@@ -36,10 +36,11 @@ use Rattle.node_readings.specs.Noticed.{IfNoticedUp, NoticesAreUp}
 use Rattle.node_readings.proofs.NoticedWorlds.{host_tick_side}
 use Rattle.node_order.specs.Told.{IsLinkTold}
 use Rattle.node_order.proofs.Unnoticed.{IfNone, steps_none, runs_none}
-use Rattle.node_order.proofs.Knowing.{told_more, renewed_clf, renewed_uicc, Knows, Each, later, site_none, WasThere, was_there}
+use Rattle.node_order.proofs.Knowing.{told_more, renewed_clf, renewed_uicc, Knows, Each, later, WasThere, was_there}
 use Rattle.node_order.proofs.Watches.{WatchedLink}
 use Rattle.node_order.proofs.Wires.{Shown, tick_unstarted, shown_more}
 use Rattle.node_order.proofs.Events.{IsWell}
+use Rattle.turn_laws.proofs.Works.{site_none}
 
 -- ## Every world is timely
 

@@ -31,6 +31,7 @@ use Rattle.node_machine.specs.Node.NodeInput.{AtEnd, TimePasses}
 use Rattle.node_world.specs.World.{runs_on}
 use Rattle.node_readings.specs.Orders.{MayDo}
 use Rattle.node_readings.proofs.Replying.{ordered_may, learned_then}
+use Rattle.node_links.proofs.Noticing.{came_node}
 
 -- ## Deeds
 
@@ -315,16 +316,12 @@ sessions_node core ports a = go _ refl
     go true q = rw q a
     go false q = rw q a
 
-came_core : (input : NodeInput) (w : Work) → (times_out input (all_come input w)).core ≡ w.core
-came_core (AtEnd h i) w = refl
-came_core TimePasses w = refl
-
 pub steps_none : (input : NodeInput) (w : Work) → IsHostWork w → IsHostWork (steps input w)
 steps_none input w a =
     let came : Work = times_out input (all_come input w) in
     let left : List Port = map (forgets came.ports) came.ports in
     let begun : Work = record came { core = after_sessions came.core came.ports; ports = map without_notice left } in
-    let so : (came.core.node == 0) ≡ false = ap (λ (c : Core). c.node == 0) (came_core input w) ∙ a.host in
+    let so : (came.core.node == 0) ≡ false = ap (λ (c : Core). c.node == 0) (came_node input w) ∙ a.host in
     let first : IsHostWork begun = record {
       host = sessions_node came.core came.ports so;
       none = none_map without_notice without_none left (none_map (forgets came.ports) (forgets_none came.ports) came.ports (came_none input w a));

@@ -25,10 +25,10 @@ use Rattle.node_links.proofs.Staying.{stays_up}
 use Rattle.node_links.proofs.Noticing.{up_at, UpAt, at_all, at_host, links_after, Sure, steps_sure}
 use Rattle.node_telling.proofs.Mute.{forgotten_mute, all_owed_mute, all_synced_mute}
 use Rattle.node_telling.proofs.Walks.{AreSilent, rest}
-use Rattle.node_telling.proofs.Accounts.{changed_host}
-use Rattle.node_telling.proofs.Steps.{without_same, without_host, forgets_same, forgets_host, come_host}
+use Rattle.node_telling.proofs.Steps.{without_same, without_host, forgets_same}
 use Rattle.node_telling.proofs.Ticks.{reset_host}
 use Rattle.node_readings.proofs.Sites.{sent_phase}
+use Rattle.node_laws.proofs.Ports.{come_host, forgets_host, changed_host}
 
 -- ## Phases
 

@@ -31,10 +31,10 @@ older_same q e = rw e refl
 late_same : (q : Port) → q.desk.notice ≡ None → reset_late q ≡ q
 late_same q e = rw e refl
 
-late_told : (core : Core) (q : Port) → q.desk.notice ≡ None → told_late core q ≡ []
+pub late_told : (core : Core) (q : Port) → q.desk.notice ≡ None → told_late core q ≡ []
 late_told core q e = rw e refl
 
-forgets_same : (ports : List Port) (q : Port) → q.desk.notice ≡ None → forgets ports q ≡ q
+pub forgets_same : (ports : List Port) (q : Port) → q.desk.notice ≡ None → forgets ports q ≡ q
 forgets_same ports q e = rw e refl
 
 without_same : (q : Port) → q.desk.notice ≡ None → without_notice q ≡ q
@@ -43,10 +43,10 @@ without_same q e = go (q.ended || q.late) refl where
   go true z = rw z (ap (λ n. record q { desk = record q.desk { notice = n } }) (sym e))
   go false z = rw z refl
 
-none_forgotten : (q : Port) → q.desk.notice ≡ None → forgotten (q ∷ []) ≡ []
+pub none_forgotten : (q : Port) → q.desk.notice ≡ None → forgotten (q ∷ []) ≡ []
 none_forgotten q e = rw e refl
 
-none_owed : (q : Port) → q.desk.notice ≡ None → all_owed (q ∷ []) ≡ []
+pub none_owed : (q : Port) → q.desk.notice ≡ None → all_owed (q ∷ []) ≡ []
 none_owed q e = go q.ended q.late refl refl where
   go : (a b : Bool) → q.ended ≡ a → q.late ≡ b → all_owed (q ∷ []) ≡ []
   go true true x y = rw (x, y, e) refl

@@ -26,7 +26,7 @@ use Rattle.node_machine.specs.Turns.{deeds_of, handles, holds_back, lets_go, hav
 use Rattle.node_world.specs.NodeFilters.{is_response}
 use Rattle.node_readings.specs.Orders.{Fits, MayDo}
 use Rattle.node_readings.proofs.Silent.{reads, host_side, same_own}
-use Rattle.node_readings.proofs.Doing.{Runs, Stands, IsOff, then, noting_runs, desk_runs, turn_runs, all_stand}
+use Rattle.node_readings.proofs.Doing.{Runs, Stands, then, noting_runs, desk_runs, turn_runs, all_stand}
 use Rattle.node_readings.proofs.Replying.{ordered_may, posted_may, learned_if, init_may}
 
 -- ## Room
@@ -72,11 +72,6 @@ roomy h k F ports (Ends e ∷ deeds) may none = (may.0, roomy h k F ports deeds 
 takes_it : (e : LinkEnd) (order : List ℕ) → e.shdlc.phase ≡ Up → NotLong order → nat_lt (spare e) (need order) ≡ false → give_refusal e (1, order) ≡ None
 takes_it e order up short room =
     let not_long : nat_lt 4096 (length order) ≡ false = le-ltb 4096 (length order) short in rw (up, not_long, room) refl
-
-both_bools : (a b : Bool) → (a && b) ≡ true → (a ≡ true) × (b ≡ true)
-both_bools true true e = (refl, refl)
-both_bools true false e = absurd (true≢false (sym e))
-both_bools false b e = absurd (true≢false (sym e))
 
 up_is : (s : LinkState) → s ≡ Up → is_up s ≡ true
 up_is s e = rw e refl

@@ -15,6 +15,7 @@ use Rattle.node_machine.specs.Parts.{Desk, Port, Work}
 use Rattle.node_machine.specs.Carrying.{own_side, noting, port_at, changed_if, with_port, with_desk, after_turn, noted_of, turn_at, keeps}
 use Rattle.node_telling.proofs.Walks.{AreSilent}
 use Rattle.node_telling.specs.Telling.{is_of, of_link}
+use Rattle.node_laws.proofs.Ports.{changed_host}
 
 -- ## Entries
 
@@ -52,10 +53,6 @@ of_other k h (Restarted w ∷ t) q = of_other k h t q
 of_other k h (Cut w ∷ t) q = of_other k h t q
 
 -- ## Ends
-
-pub changed_host : (b : Bool) (g : Port → Port) (p : Port) → ((q : Port) → (g q).desk.host ≡ q.desk.host) → (changed_if b g p).desk.host ≡ p.desk.host
-changed_host true g p keeps = keeps p
-changed_host false g p keeps = refl
 
 pub at_changed : (ports : List Port) (h k : ℕ) (g : Port → Port) (p : Port) → ((q : Port) → (g q).desk.host ≡ q.desk.host) → port_at ports h ≡ Some p
     → port_at (with_port k g ports) h ≡ Some (changed_if (p.desk.host == k) g p)

@@ -8,7 +8,8 @@ use Rattle.node_machine.specs.Parts.{Desk, Port, Work}
 use Rattle.node_machine.specs.Carrying.{own_side, noting, port_at, changed_if, with_desk, after_turn, noted_of, turn_at}
 use Rattle.node_telling.specs.Telling.{of_link}
 use Rattle.node_telling.proofs.Walks.{AreSilent}
-use Rattle.node_telling.proofs.Accounts.{of-append, of_silent, of_other, changed_host}
+use Rattle.node_telling.proofs.Accounts.{of-append, of_silent, of_other}
+use Rattle.node_laws.proofs.Ports.{changed_host}
 
 pub at_map : (f : Port → Port) → ((p : Port) → (f p).desk.host ≡ p.desk.host) → (ports : List Port) (h : ℕ) (p : Port) → port_at ports h ≡ Some p
     → port_at (map f ports) h ≡ Some (f p)

@@ -29,7 +29,7 @@ use Rattle.node_machine.specs.Node.NodeInput.{AtEnd}
 use Rattle.node_world.specs.World.{Site, NodeWorld, Happening, site_at, with_site, link_to, input_of, half_in, arrival, work_of, ending_of, turns_at, runs_on, comes_to, controller_work, link_after_controller, after_controller, controller_does, host_work, after_host, host_does, frames_noted, wires_for, controller_cut, host_cut, loses_power_at, memory_at, with_memory, with_node, links_of, boots, counts, frame_lost, sending, beginning, comes_at, end_c, end_h, activates, world_step}
 use Rattle.node_world.specs.World.Happening.{Boots, IsCut, Gives, Inits, Takes, Loses, Ticks, Resets, Activates, Arms}
 use Rattle.kept_laws.specs.Hosts.{AreDifferent}
-use Rattle.kept_laws.proofs.Sites.{hosts_same}
+use Rattle.kept_laws.proofs.Sites.{hosts_same, changed_host}
 use Rattle.node_telling.specs.Telling.{of_link, TellOf, HasEnds, IfItRuns, hosts_in, IsOrderly, Tells, GoesSo, EachGoesSo, IsUntimed}
 use Rattle.node_telling.proofs.Mute.{AreMute}
 use Rattle.node_telling.proofs.Accounts.{of-append, of_other}
@@ -143,11 +143,6 @@ module _ (w : NodeWorld) (memory : Memory) (controller : Option Running) (f : Si
         orderly = orderly_map a runs nodes;
         each = λ h s found. record { site = f s; there = site_map f keeps w.sites h s found; tells = tells h s found };
       }
-
--- one site becomes another one
-pub changed_host : (b : Bool) (g : Site → Site) (s : Site) → (g s).host ≡ s.host → (changed_if b g s).host ≡ s.host
-changed_host true g s q = q
-changed_host false g s q = refl
 
 module _ (w : NodeWorld) (memory : Memory) (controller : Option Running) (k : ℕ) (g : Site → Site) (t : List Entry)
     (keeps : (s : Site) → (g s).host ≡ s.host) where

@@ -14,9 +14,9 @@ use Rattle.kept_laws.proofs.Plainly.{hosts_map}
 use Rattle.node_telling.specs.Telling.{IfItRuns}
 use Rattle.node_telling.proofs.Mute.{AreMute, forgotten_mute, all_owed_mute, all_synced_mute}
 use Rattle.node_telling.proofs.Walks.{AreSilent, all_do, rest}
-use Rattle.node_telling.proofs.Accounts.{changed_host}
-use Rattle.node_telling.proofs.Steps.{without_host, forgets_host, come_host}
+use Rattle.node_telling.proofs.Steps.{without_host}
 use Rattle.node_telling.proofs.Ticks.{reset_host}
+use Rattle.node_laws.proofs.Ports.{come_host, forgets_host, changed_host}
 
 -- it has this number, and ends on the links with these hosts
 pub record Keeps (n : ℕ) (hosts : List ℕ) (w : Work) : Type 0 where

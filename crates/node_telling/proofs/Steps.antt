@@ -23,6 +23,7 @@ use Rattle.node_telling.proofs.Walks.{all_do, rest}
 use Rattle.node_telling.proofs.Accounts.{of-append, of_other, at_host, SameEnd, Account, note, desk, turns, beside}
 use Rattle.node_telling.proofs.Away.{Away, at_map, none_map, away_note, away_desk, away_turns, away_beside}
 use Rattle.node_telling.proofs.Parts.{after_coming, told_coming, IsStep, parts_of, step_is}
+use Rattle.node_laws.proofs.Ports.{come_host, forgets_host}
 
 -- ## Lists
 
@@ -82,17 +83,6 @@ forgets_same ports p = go (is_forgotten ports (asked_at p)) refl
     go : (b : Bool) → is_forgotten ports (asked_at p) ≡ b → SameEnd p (forgets ports p)
     go true q = rw q (record { session = refl; late = refl; side = refl; turns = refl })
     go false q = rw q (record { session = refl; late = refl; side = refl; turns = refl })
-
-pub forgets_host : (ports : List Port) (p : Port) → (forgets ports p).desk.host ≡ p.desk.host
-forgets_host ports p = go (is_forgotten ports (asked_at p)) refl
-  where
-    go : (b : Bool) → is_forgotten ports (asked_at p) ≡ b → (forgets ports p).desk.host ≡ p.desk.host
-    go true q = rw q refl
-    go false q = rw q refl
-
-pub come_host : (p : Port) (o : Option LinkInput) → (has_come p o).desk.host ≡ p.desk.host
-come_host p None = refl
-come_host p (Some i) = refl
 
 pub come_session : (p : Port) (o : Option LinkInput) → (has_come p o).session ≡ p.session
 come_session p None = refl

@@ -23,7 +23,8 @@ use Rattle.node_telling.proofs.Walks.{rest}
 use Rattle.node_telling.proofs.Accounts.{of-append, of_other, at_host, SameEnd, note, desk, turns, beside}
 use Rattle.node_telling.proofs.Away.{Away, at_map, none_map, away_note, away_desk, away_turns, away_beside}
 use Rattle.node_telling.proofs.Late.{IsLasting, reset_same, tick_told, reset_told}
-use Rattle.node_telling.proofs.Steps.{only, Opening, Goes, GoesLate, before, without_same, without_host, forgets_same, forgets_host, sessions_side}
+use Rattle.node_telling.proofs.Steps.{only, Opening, Goes, GoesLate, before, without_same, without_host, forgets_same, sessions_side}
+use Rattle.node_laws.proofs.Ports.{forgets_host}
 
 -- ## Notices
 

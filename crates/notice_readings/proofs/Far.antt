@@ -26,14 +26,14 @@ use Rattle.node_machine.specs.Parts.Deed.{Commits, Sends, SaysOk, Asks, Releases
 use Rattle.node_machine.specs.Carrying.{own_side, noting, unless_cut, port_at, with_desk, noted_of, turn_at, notified, commit, done, all_done, end_of_node, needs, lack}
 use Rattle.node_machine.specs.HostReplies.{host_deeds}
 use Rattle.node_machine.specs.Turns.{deeds_of, handles, holds_back, lets_go, have_turns, goes_through_ends, passes}
-use Rattle.node_machine.specs.Node.{NodeInput, input_at, told_at, all_come, with_older, is_late, told_late, times_out, is_over, forgotten, forgets, all_owed, after_sessions, synced, steps}
+use Rattle.node_machine.specs.Node.{NodeInput, input_at, told_at, all_come, with_older, is_late, told_late, times_out, forgotten, forgets, all_owed, after_sessions, synced, steps}
 use Rattle.node_machine.specs.Node.NodeInput.{AtEnd, TimePasses}
 use Rattle.node_world.specs.World.{end_c}
 use Rattle.node_world.specs.NodeFilters.{is_response, is_notice, asking_after, asking_in}
 use Rattle.node_readings.proofs.Silent.{IsQuiet, told_rest, rest_quiet}
 use Rattle.notice_readings.proofs.Reading.{reads}
 use Rattle.notice_readings.proofs.Own.{IsFar, IsOwn, AreOwn, host_own, forgotten_own, all_owed_own, all_synced_own}
-use Rattle.node_links.proofs.Noticing.{sessions_node}
+use Rattle.node_laws.proofs.Ports.{sessions_node}
 
 abbrev pub AreFar : List Entry → Type 0
 AreFar es = AllByRecursion IsFar es

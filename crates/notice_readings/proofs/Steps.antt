@@ -17,11 +17,11 @@ use Rattle.node_machine.specs.Parts.Deed.{Releases}
 use Rattle.node_machine.specs.Carrying.{own_side, unless_cut, port_at, turn_at, all_done}
 use Rattle.node_machine.specs.Controller.{asked_at}
 use Rattle.node_machine.specs.Turns.{passes}
-use Rattle.node_machine.specs.Node.{NodeInput, input_at, has_come, told_at, all_come, older_notice, with_older, is_late, reset_late, told_late, times_out, is_over, is_forgotten, forgets, forgotten, owed, all_owed, without_notice, after_sessions, synced, answers_and_passes, steps}
+use Rattle.node_machine.specs.Node.{NodeInput, input_at, has_come, told_at, all_come, older_notice, with_older, is_late, reset_late, told_late, times_out, is_over, is_forgotten, forgets, owed, all_owed, without_notice, after_sessions, synced, answers_and_passes, steps}
 use Rattle.node_machine.specs.Node.NodeInput.{AtEnd, TimePasses}
 use Rattle.node_links.specs.Notices.{IsComing, IsOutside}
-use Rattle.node_links.proofs.Noticing.{UpAt, at_all, at_host, sessions_node, outside as from_outside}
-use Rattle.node_telling.proofs.Steps.{without_host, forgets_host, come_host}
+use Rattle.node_links.proofs.Noticing.{UpAt, at_all, at_host, outside as from_outside}
+use Rattle.node_telling.proofs.Steps.{without_host}
 use Rattle.node_telling.proofs.Ticks.{reset_host}
 use Rattle.kept_laws.specs.Hosts.{AreDifferent}
 use Rattle.node_readings.specs.Orders.{IsFresh}
@@ -32,6 +32,7 @@ use Rattle.notice_readings.proofs.Doing.{AreHostEnds, all_map, controller_side, 
 use Rattle.notice_readings.proofs.Turning.{passes_stand, kept_none}
 use Rattle.notice_readings.proofs.Stepping.{AreCalm, calm-append, calm_flat, calm_all, calm_may, owed_calm, synced_calm, flat_reads, told_elsewhere, told_here, late_elsewhere, IsCome, IsComeAt, come_is, older_is, late_is, forgets_is, without_is}
 use Rattle.notice_readings.specs.Worlds.{IsRightNotice, IsShut}
+use Rattle.node_laws.proofs.Ports.{come_host, forgets_host, sessions_node}
 
 -- the hosts of ends that keep theirs
 hosts_map : (f : Port → Port) → ((p : Port) → (f p).desk.host ≡ p.desk.host) → (ports : List Port)

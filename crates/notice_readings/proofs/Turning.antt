@@ -30,7 +30,7 @@ use Rattle.notice_readings.proofs.Telling.Outcome.{Leaves, IsHeard}
 use Rattle.notice_readings.proofs.Doing.{AreHostEnds, Takes, all_map, controller_side, Holds, IsOn, Stands, then, notes, hushed, turns, desks, all_stand, read_in}
 use Rattle.notice_readings.specs.Worlds.{IsRightNotice}
 use Rattle.node_readings.proofs.Turning.{lack_parts}
-use Rattle.node_telling.proofs.Accounts.{changed_host}
+use Rattle.node_laws.proofs.Ports.{changed_host}
 
 -- ## Room
 

@@ -1,6 +1,5 @@
 -- The bytes of a snapshot.
-use Rattle.std.proofs.Common.{◌≡◌, ℕ, ◌+◌, ◌≤◌, List, [], ◌∷◌, ◌++◌, length, sym, refl, ap, ap₂, ◌∙◌, subst, arith, append_assoc, append-nil, length-append, add-zero, zero-add, ◌-◌, Result, Ok, Err, IsOk, OnOk}
-use Rattle.std.proofs.lemmas.Bool.{false≢true}
+use Rattle.std.proofs.Common.{◌≡◌, ℕ, ◌+◌, ◌≤◌, List, [], ◌∷◌, ◌++◌, length, sym, refl, ap, ap₂, ◌∙◌, subst, arith, append_assoc, append-nil, length-append, add-zero, zero-add, ◌-◌}
 use Rattle.std.specs.List.{AllByRecursion}
 use Rattle.journal_laws.specs.Records.{IsBody, Found, behind, found_from, record_bytes, records_bytes, size_in, used}
 use Rattle.journal_laws.proofs.Reading.{found_closed, records_are_read, length-records_bytes, few_records}
@@ -83,6 +82,3 @@ no_records bytes none = record {
   room = subst (λ l. used l ≤ 2560) (sym (no_bodies bytes none)) (omega arith);
 }
 
-pub room_for : {T E : Type 0} (r : Result T E) (P : Type 0) → IsOk r → OnOk r P → P
-room_for (Ok x) P ok p = p
-room_for (Err e) P ok p = absurd (false≢true ok)

@@ -8,7 +8,7 @@ use Rattle.sorted_rows.proofs.RowLemmas.{AreRows-filter, AreRows-with_row}
 use Rattle.registry.specs.declared.value.RegValue.{RegValue}
 use Rattle.registry.specs.Values.{AreValues, IsPresent, is_kept, is_default, value_place, place_of_value}
 
-AllByRecursion-filter : {X : Type 0} (P : X → Type 0) (test : X → Bool) (xs : List X) → AllByRecursion P xs → AllByRecursion P (filter test xs)
+pub AllByRecursion-filter : {X : Type 0} (P : X → Type 0) (test : X → Bool) (xs : List X) → AllByRecursion P xs → AllByRecursion P (filter test xs)
 AllByRecursion-filter P test [] h = tt
 AllByRecursion-filter P test (x ∷ xs) h =
     let rest = AllByRecursion-filter P test xs h.1 in

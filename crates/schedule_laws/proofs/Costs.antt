@@ -1,15 +1,14 @@
 -- What is noted is counted: messages that come and commands that are committed cost, and messages that have their turns pay for them.
-use Rattle.std.proofs.Common.{◌≡◌, ℕ, ◌+◌, ◌*◌, Bool, true, false, List, [], ◌∷◌, ◌++◌, length, map, refl, ap, ◌∙◌, arith, Option, Some, None}
+use Rattle.std.proofs.Common.{◌≡◌, ℕ, ◌+◌, ◌*◌, List, [], ◌∷◌, ◌++◌, length, map, refl, ap, ◌∙◌, arith}
 use Rattle.std.specs.Prelude.{nat_lt, option_to_list}
 use Rattle.std.proofs.lemmas.List.Concat.{flat_map-append}
-use Rattle.swp_base.specs.declared.link_terms.Cause.{Cause}
 use Rattle.trace_model.specs.declared.entry.Entry.{Entry}
 use Rattle.trace_model.specs.declared.entry.Entry.TheVariants as entry
 use Rattle.link_machine.specs.Machine.{Message, Report}
 use Rattle.link_entries.specs.Entries.{End as Side, Entry as Noted, if_so, told}
 use Rattle.link_entries.specs.Entries.Entry.{Up, Down, Active, GaveUp, Acked, Got, Sent, Emit, Took, Lost, Tick as Ticked, Restarted, Cut}
 use Rattle.history.specs.Steps.{entry_of, entries_for}
-use Rattle.turn_laws.proofs.Coming.{IsNoGot, AreNoGots}
+use Rattle.turn_laws.proofs.Coming.{IsNoGot, AreNoGots, so_none, ended_none, tries_none}
 
 -- A message that came may cost two commands: an answer to a host's own command teaches it one, and may end its init with another.
 abbrev pub cost : Entry → ℕ
@@ -70,18 +69,6 @@ notes_free h (x ∷ notes) a =
     let rest = notes_free h notes a.1 in
     omega (arith, both, first, rest)
 
-so_free : (b : Bool) (x : Noted) → IsNoGot x → AreNoGots (if_so b x)
-so_free false x a = tt
-so_free true x a = (a, tt)
-
-down_free : (who : Side) (o : Option Cause) → AreNoGots (map (Down who) (option_to_list o))
-down_free who None = tt
-down_free who (Some cause) = (tt, tt)
-
-gave_up_free : (who : Side) (o : Option ℕ) → AreNoGots (map (GaveUp who) (option_to_list o))
-gave_up_free who None = tt
-gave_up_free who (Some tries) = (tt, tt)
-
 gots_cost : (h : ℕ) (who : Side) (n : ℕ) (ms : List Message) → costs_at h (map (Got who n) ms) ≡ 2 * length ms
 gots_cost h who n [] = refl
 gots_cost h who n (m ∷ ms) = let rest = gots_cost h who n ms in omega (arith, rest)
@@ -100,10 +87,10 @@ told_cost h who n r acked =
     let s = costs_at-append h c (d ++ (e ++ f)) in
     let t = costs_at-append h d (e ++ f) in
     let u = costs_at-append h e f in
-    let free_a = notes_free h a (down_free who r.ended) in
-    let free_b = notes_free h b (so_free r.began (Up who n) tt) in
-    let free_c = notes_free h c (so_free r.became_active (Active who) tt) in
-    let free_d = notes_free h d (gave_up_free who r.gave_up) in
-    let free_e = notes_free h e (so_free (nat_lt 0 r.acked) (Acked who n acked) tt) in
+    let free_a = notes_free h a (ended_none who r.ended) in
+    let free_b = notes_free h b (so_none r.began (Up who n) tt) in
+    let free_c = notes_free h c (so_none r.became_active (Active who) tt) in
+    let free_d = notes_free h d (tries_none who r.gave_up) in
+    let free_e = notes_free h e (so_none (nat_lt 0 r.acked) (Acked who n acked) tt) in
     let last = gots_cost h who n r.got in
     omega (arith, p, q, s, t, u, free_a, free_b, free_c, free_d, free_e, last)

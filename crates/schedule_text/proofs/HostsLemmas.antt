@@ -1,5 +1,6 @@
 -- A host that a line is refused for isn't in the header.
 use Rattle.std.proofs.Common.{◌≡◌, ◌==◌, ◌&&◌, ℕ, ◌+◌, Bool, true, false, not, cond, List, [], ◌∷◌, refl, subst, Option, Some, None, Err, is_some}
+use Rattle.std.proofs.lemmas.Bool.{and_parts}
 use Rattle.std.specs.List.{list_all, list_any}
 use Rattle.std.specs.Option.{option_map, option_or}
 use Rattle.trace_model.specs.declared.line.Header.{Header}
@@ -12,7 +13,7 @@ use Rattle.schedule_text.specs.Values.{byte_value, bytes_value, number_in, end_v
 use Rattle.schedule_text.specs.Forms.{FormRow, rows, row_for, send_row, deliver_row, lose_row, damage_row, tick_row, reset_row, busy_row, ready_row}
 use Rattle.schedule_text.specs.Rules.{Slot, slots, later, rising, stranger, has_byte, has_bytes, digits_fault, host_fault, first_digits_fault, first_host_fault, is_well_formed, words_fault}
 use Rattle.schedule_text.specs.Lines.{read_of, may_stand, unless_fault, by_row}
-use Rattle.schedule_text.proofs.RowsLemmas.{row_cases, both}
+use Rattle.schedule_text.proofs.RowsLemmas.{row_cases}
 
 no_host_if : (t : Bool) (f : LineFault) (id : ℕ) → (f ≡ fault.Host id → ⊥) → cond t None (Some f) ≡ Some (fault.Host id) → ⊥
 no_host_if true f id other h = cc
@@ -88,7 +89,7 @@ or_unknown hosts (Some k) b id is_a is_b h = is_a h
 
 later_old : (k : Kind) (ks : List Kind) → (is_old k && list_all is_old ks) ≡ true → list_all is_old (later k ks) ≡ true
 later_old k [] h = h
-later_old k (j ∷ ks) h = (both _ _ h).1
+later_old k (j ∷ ks) h = (and_parts _ _ h).1
 
 first_unknown : (hosts : List ℕ) (from : ℕ) (ks : List Kind) (ws : List (List ℕ)) (id : ℕ) → list_all is_old ks ≡ true
     → first_host_fault hosts from (slots ks ws) ≡ Some id → list_any (λ host. host == id) hosts ≡ false
@@ -97,7 +98,7 @@ first_unknown hosts from (k ∷ ks) [] id old h = cc
 first_unknown hosts from [] (w ∷ ws) id old h = cc
 first_unknown hosts from (k ∷ ks) (w ∷ ws) id old h =
     or_unknown hosts (host_fault hosts from k w) (first_host_fault hosts (rising from k w) (slots (later k ks) ws)) id
-    (word_unknown hosts from k w id (both _ _ old).0) (first_unknown hosts (rising from k w) (later k ks) ws id (later_old k ks old)) h
+    (word_unknown hosts from k w id (and_parts _ _ old).0) (first_unknown hosts (rising from k w) (later k ks) ws id (later_old k ks old)) h
 
 unless_some : (o : Option LineFault) (said : Option Read) (id : ℕ) → unless_fault o said ≡ Err (fault.Host id) → o ≡ Some (fault.Host id)
 unless_some (Some g) said id h = cc

@@ -2,12 +2,12 @@
 use Rattle.std.proofs.Common.{◌≡◌, ◌&&◌, ℕ, zero, suc, ◌+◌, ◌<◌, ◌≤◌, Bool, true, false, cond, nat_le, List, [], ◌∷◌, ◌++◌, length, slice_index, refl, sym, ap, subst, arith, Option, Some, None, All, append_assoc, append-nil}
 use Rattle.std.specs.List.Sorted.{IsStrictlyIncreasing}
 use Rattle.std.specs.Option.{option_map, option_map_or}
-use Rattle.std.proofs.lemmas.Bool.{leb-true, le-leb}
+use Rattle.std.proofs.lemmas.Bool.{leb-true, le-leb, and_parts}
 use Rattle.schedule_text.specs.declared.forms.Kind.TheVariants as kind
 use Rattle.schedule_text.specs.Values.{number_value, number_in, option_if}
 use Rattle.schedule_text.specs.Rules.{slots}
 use Rattle.schedule_text.specs.Lines.{◌>>=◌, bit_places}
-use Rattle.schedule_text.proofs.RowsLemmas.{AllFit, both}
+use Rattle.schedule_text.proofs.RowsLemmas.{AllFit}
 
 -- the places of these words, behind others
 abbrev pub places_behind : List ℕ → List (List ℕ) → Option (List ℕ)
@@ -37,7 +37,7 @@ in_range low high n None h = cc
 in_range low high n (Some k) h = go (nat_le low k && nat_le k high) refl h
   where
     go : (t : Bool) → (nat_le low k && nat_le k high) ≡ t → cond t (Some k) None ≡ Some n → (Some k ≡ Some n) × (low ≤ n) × (n ≤ high)
-    go true e h = let same : k ≡ n = cc in let parts = both _ _ e in (h, subst (λ m. low ≤ m) same (leb-true _ _ parts.0), subst (λ m. m ≤ high) same (leb-true _ _ parts.1))
+    go true e h = let same : k ≡ n = cc in let parts = and_parts _ _ e in (h, subst (λ m. low ≤ m) same (leb-true _ _ parts.0), subst (λ m. m ≤ high) same (leb-true _ _ parts.1))
     go false e h = cc
 
 -- a number that is read is in its range

@@ -1,6 +1,6 @@
--- What is known of the words of a line without fault: one lemma for each kind of word, both ways.
+-- What is known of the words of a line without fault: one lemma for each kind of word, and_parts ways.
 use Rattle.std.proofs.Common.{◌≡◌, ◌==◌, ◌&&◌, ◌||◌, ℕ, ◌+◌, ◌<◌, ◌≤◌, Bool, true, false, not, cond, List, [], ◌∷◌, length, refl, sym, ◌∙◌, ap, Option, Some, None, is_some, codes, nat_lt, nat_le}
-use Rattle.std.proofs.lemmas.Bool.{leb-true, ltb-true, lt-ltb, le-leb}
+use Rattle.std.proofs.lemmas.Bool.{leb-true, ltb-true, lt-ltb, le-leb, and_parts}
 use Rattle.std.specs.List.{list_all, list_any, AllByRecursion}
 use Rattle.std.specs.Option.{option_map, option_or}
 use Rattle.std.specs.Str.{bytes_eq}
@@ -13,10 +13,6 @@ use Rattle.schedule_text.specs.declared.forms.Kind.TheVariants as kind
 use Rattle.schedule_text.specs.Values.{byte_value, bytes_value, number_in, end_value, option_if}
 use Rattle.schedule_text.specs.Forms.{FormRow, row_in}
 use Rattle.schedule_text.specs.Rules.{Slot, slots, is_sender, has_byte, has_bytes, has_shape, rising, stranger, digits_fault, host_fault, is_well_formed, first_digits_fault, first_host_fault, words_fault}
-
-pub both : (a b : Bool) → (a && b) ≡ true → (a ≡ true) × (b ≡ true)
-both true b h = (refl, h)
-both false b h = cc
 
 if_none : (t : Bool) (f : LineFault) → cond t None (Some f) ≡ None → t ≡ true
 if_none true f h = refl
@@ -82,7 +78,7 @@ byte_fits below (Some b) h = (b, refl, ltb-true _ _ h)
 bytes_fit : (low high : ℕ) (o : Option (List ℕ)) → has_bytes low high o ≡ true
     → (bytes : List ℕ) × (o ≡ Some bytes) × (low ≤ length bytes) × (length bytes ≤ high)
 bytes_fit low high None h = cc
-bytes_fit low high (Some bytes) h = (bytes, refl, leb-true _ _ (both _ _ h).0, leb-true _ _ (both _ _ h).1)
+bytes_fit low high (Some bytes) h = (bytes, refl, leb-true _ _ (and_parts _ _ h).0, leb-true _ _ (and_parts _ _ h).1)
 
 number_fits : (o : Option ℕ) → is_some o ≡ true → (n : ℕ) × (o ≡ Some n)
 number_fits None h = cc
@@ -92,8 +88,8 @@ host_fits : (from : ℕ) (o : Option ℕ) → is_some o ≡ true → option_if (
     → (h : ℕ) × (o ≡ Some h) × (1 ≤ h) × (from ≤ h) × (h ≤ 7)
 host_fits from None h none = cc
 host_fits from (Some h) is none =
-    let range = both _ _ (not_true _ (if_some_none _ h none)) in
-    let high = both _ _ range.1 in
+    let range = and_parts _ _ (not_true _ (if_some_none _ h none)) in
+    let high = and_parts _ _ range.1 in
     (h, refl, ltb-true _ _ range.0, leb-true _ _ high.0, leb-true _ _ high.1)
 
 -- a word without fault fits its kind
@@ -130,7 +126,7 @@ all_fit : (hci : Bool) (hosts : List ℕ) (at from : ℕ) (ss : List Slot) → l
     → first_host_fault hosts from ss ≡ None → AllFit hci hosts from ss
 all_fit hci hosts at from [] shapes digits host = tt
 all_fit hci hosts at from (s ∷ ss) shapes digits host =
-    let shape = both _ _ shapes in
+    let shape = and_parts _ _ shapes in
     let digit = or_none (digits_fault at from s.kind s.word) (first_digits_fault (at + 1) (rising from s.kind s.word) ss) digits in
     let known = or_none (host_fault hosts from s.kind s.word) (first_host_fault hosts (rising from s.kind s.word) ss) host in
     (word_fits hci hosts at from s.kind s.word shape.0 digit.0 known.0, all_fit hci hosts (at + 1) (rising from s.kind s.word) ss shape.1 digit.1 known.1)
@@ -155,8 +151,8 @@ pub record Right (hci : Bool) (hosts : List ℕ) (row : FormRow) (ws : List (Lis
 pub no_fault : (hci : Bool) (hosts : List ℕ) (row : FormRow) (ws : List (List ℕ)) → words_fault hci hosts row ws ≡ None → Right hci hosts row ws
 no_fault hci hosts row ws h =
     let parts = unless_word (is_well_formed hci row ws) _ h in
-    let sized = both _ _ parts.0 in
-    let shaped = both _ _ sized.1 in
+    let sized = and_parts _ _ parts.0 in
+    let shaped = and_parts _ _ sized.1 in
     let right = or_none _ _ parts.1 in
     record {
       least = leb-true _ _ sized.0;

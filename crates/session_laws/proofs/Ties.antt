@@ -372,7 +372,7 @@ drains m i n ts l e up answers few h =
     (k.0, k.1, λ w b q. let r = k.2 w b q in (r.0, r.1, omega (arith, i, f, r.0.near_sends.acked_next, r.0.near_sends.window)))
 
 -- an end with nothing to send
-nothing_sent : (m : ℕ) (e : EndState) → frame_due e ≡ None → frames_of m e ≡ []
+pub nothing_sent : (m : ℕ) (e : EndState) → frame_due e ≡ None → frames_of m e ≡ []
 nothing_sent zero e none = refl
 nothing_sent (suc m) e none = rw none refl
 

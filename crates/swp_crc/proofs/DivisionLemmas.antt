@@ -8,7 +8,7 @@ sum_of_bits_comm true false = refl
 sum_of_bits_comm false true = refl
 sum_of_bits_comm false false = refl
 
-sum_of_bits_assoc : (a b c : Bool) → sum_of_bits (sum_of_bits a b) c ≡ sum_of_bits a (sum_of_bits b c)
+pub sum_of_bits_assoc : (a b c : Bool) → sum_of_bits (sum_of_bits a b) c ≡ sum_of_bits a (sum_of_bits b c)
 sum_of_bits_assoc true true true = refl
 sum_of_bits_assoc true true false = refl
 sum_of_bits_assoc true false c = refl

@@ -10,11 +10,7 @@ use Rattle.swp_crc.proofs.DivisionLemmas.{sum_comm, sum_zeros, length-sum, divid
 use Rattle.swp_crc.proofs.Numbers.{number_of-append, number_of-injective, number_of-sum, number_of-lt}
 use Rattle.swp_crc.proofs.Entries.{number_of_byte}
 use Rattle.swp_crc.proofs.Steps.{length-byte, length-remainder, left_of, left-append, sum-append}
-
--- the bits of four bytes behind others
-bits_of-append : (bytes more : List ℕ) → bits_of (bytes ++ more) ≡ bits_of bytes ++ bits_of more
-bits_of-append [] more = refl
-bits_of-append (x ∷ bytes) more = rw (bits_of-append bytes more) (sym (append_assoc (bits_of_byte x) (bits_of bytes) (bits_of more)))
+use Rattle.swp_base.proofs.BitLemmas.{bits_of-append}
 
 -- what division leaves of eight bits before so many more bits 0 and the sixteen
 abbrev alone : ℕ → List Bool → List Bool

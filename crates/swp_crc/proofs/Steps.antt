@@ -36,7 +36,7 @@ split [] ys h = sym (sum_zeros 16 ys h)
 split (true ∷ xs) ys h = ap (λ zs. true ∷ zs) (split xs ys h)
 split (false ∷ xs) ys h = ap (λ zs. false ∷ zs) (split xs ys h)
 
-length-complemented : (n : ℕ) (xs : List Bool) → length (complement_first n xs) ≡ length xs
+pub length-complemented : (n : ℕ) (xs : List Bool) → length (complement_first n xs) ≡ length xs
 length-complemented zero xs = refl
 length-complemented (suc n) [] = refl
 length-complemented (suc n) (x ∷ xs) = ap suc (length-complemented n xs)

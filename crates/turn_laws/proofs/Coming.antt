@@ -24,12 +24,14 @@ use Rattle.node_links.specs.Notices.{IsComing, IsOutside}
 use Rattle.node_telling.proofs.Mute.{AreMute, forgotten_mute, all_owed_mute, all_synced_mute}
 use Rattle.node_telling.proofs.Parts.{after_coming}
 use Rattle.node_telling.proofs.Accounts.{at_host}
-use Rattle.node_telling.proofs.Steps.{without_same, without_host, forgets_same, forgets_host, come_host, come_turns, sessions_side}
+use Rattle.node_telling.proofs.Steps.{without_same, without_host, forgets_same, come_turns, sessions_side}
 use Rattle.node_telling.proofs.Ticks.{reset_host}
 use Rattle.turn_laws.proofs.Queues.Doing.{Adds}
 use Rattle.turn_laws.proofs.Queues.{Becomes, Goes, goes-append, AreStill, still_goes, doing}
-use Rattle.turn_laws.proofs.Ends.{left_by, input_got, reset_got}
+use Rattle.turn_laws.proofs.Ends.{left_by, input_got}
 use Rattle.turn_laws.proofs.Passing.{has_side, same_is, map_is, Knows, Stands, known_map, does, rest}
+use Rattle.link_machine.proofs.Kept.{reset_got}
+use Rattle.node_laws.proofs.Ports.{come_host, forgets_host}
 
 -- ## Notes
 
@@ -80,15 +82,15 @@ lead e h xs ys q r a g =
     subst (λ t. Goes e q t r) (sym (flat_map-append (entry_of h) xs ys))
     (goes-append e (entries_for h xs) (entries_for h ys) q q r (still_goes e (entries_for h xs) q (notes_still e h xs a)) g)
 
-so_none : (b : Bool) (x : Noted) → IsNoGot x → AreNoGots (if_so b x)
+pub so_none : (b : Bool) (x : Noted) → IsNoGot x → AreNoGots (if_so b x)
 so_none true x a = (a, tt)
 so_none false x a = tt
 
-ended_none : (who : Side) (o : Option Cause) → AreNoGots (map (Down who) (option_to_list o))
+pub ended_none : (who : Side) (o : Option Cause) → AreNoGots (map (Down who) (option_to_list o))
 ended_none who None = tt
 ended_none who (Some cause) = (tt, tt)
 
-tries_none : (who : Side) (o : Option ℕ) → AreNoGots (map (GaveUp who) (option_to_list o))
+pub tries_none : (who : Side) (o : Option ℕ) → AreNoGots (map (GaveUp who) (option_to_list o))
 tries_none who None = tt
 tries_none who (Some n) = (tt, tt)
 

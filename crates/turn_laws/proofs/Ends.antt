@@ -1,22 +1,19 @@
 -- The messages that came at an end of a link and weren't fetched, over all that happens there.
-use Rattle.std.proofs.Common.{◌≡◌, ℕ, Bool, true, false, cond, List, [], ◌∷◌, ◌++◌, Option, Some, None, refl, ap, sym, ◌∙◌, append-nil}
+use Rattle.std.proofs.Common.{◌≡◌, Bool, true, false, cond, List, [], ◌∷◌, ◌++◌, Option, Some, None, refl, ap, sym, ◌∙◌, append-nil}
 use Rattle.std.specs.Prelude.{drop, is_some, not, ◌&&◌}
-use Rattle.swp_base.specs.declared.control_frames.Control.{Control}
-use Rattle.swp_base.specs.declared.control_frames.Control.TheVariants.{I, S, Rset, Ua, Act as ActFrame, Clt}
-use Rattle.swp_base.specs.declared.link_terms.Cause.TheVariants.{Asked}
-use Rattle.swp_act.specs.declared.ActEvent.TheVariants.{Start as ActStart, Take as ActTake, Tick as ActTick, Stop as ActStop}
-use Rattle.shdlc_core.specs.Machine.{is_waiting, taken, ticked, tick_answer, reset_with, stopped}
+use Rattle.swp_act.specs.declared.ActEvent.TheVariants.{Start as ActStart, Tick as ActTick, Stop as ActStop}
+use Rattle.shdlc_core.specs.Machine.{is_waiting, ticked, tick_answer, stopped}
 use Rattle.session_laws.specs.Sessions.{OnWire}
-use Rattle.link_machine.specs.Machine.{Message, LinkEnd, Refused, LinkInput, Turn, is_faulty, is_open, moved, put_down, activated, started, deactivated, news, heard, took, had_tick, give_refusal, aside_refusal, turn, turned, reset_refusal, if_up, window_of, after_input, ended_by, got_by, brought}
+use Rattle.link_machine.specs.Machine.{Message, LinkEnd, Refused, LinkInput, Turn, is_open, moved, started, deactivated, had_tick, give_refusal, aside_refusal, turn, turned, after_input, ended_by, got_by}
 use Rattle.link_machine.specs.Machine.LinkInput.{Take, TakeUnknown, TakeBroken, Tick, Reset, Start, Stop, FromNode, Fetch}
 use Rattle.link_machine.specs.Machine.Turn.{Give, Hold, FetchMessage, SetAside, Release}
 use Rattle.message_link.specs.Links.{Link, Ending, Comes, with_ended, finished, silent, has_input, steps_at_controller, ticks_at_controller}
 use Rattle.message_link.specs.Links.Ending.{GoesOut, CutOff}
 use Rattle.message_link.specs.Links.Comes.{NextFrame, AsksReset, Starts, Stops, NoInput}
 use Rattle.node_links.specs.Notices.{IsComing}
-use Rattle.node_links.proofs.Got.{moved_got, down_got, activated_got}
 use Rattle.node_world.specs.World.{input_of, ticked_so}
 use Rattle.node_telling.proofs.Parts.{after_coming, IsStep}
+use Rattle.link_machine.proofs.Kept.{moved_got, activated_got, reset_got, took_got}
 
 -- ## Turns
 
@@ -58,42 +55,12 @@ turned_got e (t ∷ ts) = turned_got (turn e t) ts ∙ ap (left_by ts) (turn_got
 more : (e f : LinkEnd) → f.got ≡ e.got → f.got ≡ e.got ++ []
 more e f q = q ∙ sym (append-nil e.got)
 
-heard_got : (e : LinkEnd) (c : Control)
-    → (heard e c).got ≡ e.got ++ cond (is_faulty (taken e.shdlc c).session) [] (news e.shdlc.session (taken e.shdlc c))
-heard_got e c = go (is_faulty (taken e.shdlc c).session) refl
-  where
-    go : (b : Bool) → is_faulty (taken e.shdlc c).session ≡ b
-        → (heard e c).got ≡ e.got ++ cond (is_faulty (taken e.shdlc c).session) [] (news e.shdlc.session (taken e.shdlc c))
-    go true q = rw q (more e (put_down true e) (down_got e true))
-    go false q = rw q refl
-
-open_got : (e : LinkEnd) (c : Control) (b : Bool)
-    → (cond b (heard e c) e).got
-    ≡ e.got ++ cond b (cond (is_faulty (taken e.shdlc c).session) [] (news e.shdlc.session (taken e.shdlc c))) []
-open_got e c true = heard_got e c
-open_got e c false = sym (append-nil e.got)
-
-took_got : (e : LinkEnd) (c : Control) → (took e c).got ≡ e.got ++ brought e c
-took_got e (ActFrame act again) = more e (activated e (ActTake act again)) (activated_got e (ActTake act again))
-took_got e Clt = sym (append-nil e.got)
-took_got e (I ns nr info) = open_got e (I ns nr info) (is_open e.role)
-took_got e (S kind nr) = open_got e (S kind nr) (is_open e.role)
-took_got e (Rset w caps) = open_got e (Rset w caps) (is_open e.role)
-took_got e Ua = open_got e Ua (is_open e.role)
-
 pub tick_got : (e : LinkEnd) → (after_input e Tick).got ≡ e.got
 tick_got e = go (is_open e.role) refl
   where
     go : (b : Bool) → is_open e.role ≡ b → (had_tick e).got ≡ e.got
     go true q = let b : Bool = is_some (tick_answer e.shdlc).ended in rw q (moved_got e b (ticked e.shdlc))
     go false q = rw q (activated_got e ActTick)
-
-pub reset_got : (e : LinkEnd) (window : Option ℕ) → (after_input e (Reset window)).got ≡ e.got
-reset_got e window = go (reset_refusal e) refl
-  where
-    go : (o : Option Refused) → reset_refusal e ≡ o → (after_input e (Reset window)).got ≡ e.got
-    go None q = let w : ℕ = window_of e window in rw q (moved_got e (is_some (if_up e.shdlc Asked)) (reset_with e.shdlc w))
-    go (Some why) q = rw q refl
 
 -- what comes brings messages behind those that wait
 pub input_got : (e : LinkEnd) (i : LinkInput) → IsComing i → (after_input e i).got ≡ e.got ++ got_by e i

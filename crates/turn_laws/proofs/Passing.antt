@@ -2,7 +2,7 @@
 use Rattle.std.proofs.Common.{◌≡◌, ℕ, ◌==◌, ◌&&◌, Bool, true, false, List, [], ◌∷◌, ◌++◌, Option, Some, None, map, refl, ap, sym, subst, ◌∙◌}
 use Rattle.std.specs.Prelude.{drop, not, if◌then◌else◌}
 use Rattle.std.specs.Option.{option_map_or}
-use Rattle.std.proofs.lemmas.Bool.{eqb-true, eq-eqb, true≢false}
+use Rattle.std.proofs.lemmas.Bool.{eqb-true, eq-eqb, true≢false, and_parts}
 use Rattle.trace_model.specs.declared.entry.Entry.{Entry}
 use Rattle.trace_model.specs.declared.entry.Entry.TheVariants as entry
 use Rattle.trace_model.specs.declared.line.End.{End}
@@ -19,11 +19,12 @@ use Rattle.node_machine.specs.Turns.{deeds_of, handles, holds_back, have_turns}
 use Rattle.node_machine.specs.Node.{answers_and_passes}
 use Rattle.node_telling.proofs.Mute.{AreMute, deeds_mute}
 use Rattle.node_telling.proofs.Walks.{ArePlain, IsNoFetch, unless, every_do, holds, lets, rest_of}
-use Rattle.node_telling.proofs.Accounts.{changed_host, at_host}
+use Rattle.node_telling.proofs.Accounts.{at_host}
 use Rattle.node_telling.proofs.Away.{at_map, none_map}
 use Rattle.turn_laws.proofs.Queues.Doing.{Takes}
 use Rattle.turn_laws.proofs.Queues.{Becomes, Goes, goes-append, AreStill, still_goes, all_still, doing}
 use Rattle.turn_laws.proofs.Ends.{kept_by, left_by, left-append, turn_got}
+use Rattle.node_laws.proofs.Ports.{changed_host}
 
 -- ## Ends
 
@@ -35,10 +36,6 @@ has_side Host e = e.at_host
 pub same_is : (who : Side) (k : ℕ) (e : End) → same_end (end_of k who) e ≡ ((k == e.link) && has_side who e)
 same_is Controller k e = refl
 same_is Host k e = refl
-
-both : (a b : Bool) → (a && b) ≡ true → (a ≡ true) × (b ≡ true)
-both true b q = (refl, q)
-both false b q = absurd (true≢false (sym q))
 
 pub map_is : (f : Port → Port) → ((p : Port) → (f p).desk.host ≡ p.desk.host) → (ports : List Port) (h : ℕ) (P : Option Port → Type 0)
     → (port_at ports h ≡ None → P None) → ((p : Port) → port_at ports h ≡ Some p → P (Some (f p))) → P (port_at (map f ports) h)
@@ -177,7 +174,7 @@ module _ (e : End) (who : Side) (own : Bool) (mine : own ≡ true → has_side w
 
   -- it is this end of the node
   link_is : (k : ℕ) → same_end (end_of k who) e ≡ true → ((k == e.link) ≡ true) × (has_side who e ≡ true)
-  link_is k q = both (k == e.link) (has_side who e) (sym (same_is who k e) ∙ q)
+  link_is k q = and_parts (k == e.link) (has_side who e) (sym (same_is who k e) ∙ q)
 
   other_is : (k : ℕ) (ports : List Port) (p : Port) → same_end (end_of k who) e ≡ false → port_at ports e.link ≡ Some p → (p.desk.host == k) ≡ true → own ≡ true
       → ⊥

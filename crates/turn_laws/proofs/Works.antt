@@ -18,12 +18,13 @@ use Rattle.node_machine.specs.Carrying.{port_at, changed_if}
 use Rattle.node_world.specs.World.{Site, NodeWorld, site_at, with_site, turns_at, ending_of, runs_on, arrival, frames_noted, end_c, end_h}
 use Rattle.kept_laws.specs.Books.{hosts_of_ends}
 use Rattle.node_telling.proofs.Nodes.{swapped, site_host}
-use Rattle.node_telling.proofs.Events.{site_map, changed_host as changed_site}
+use Rattle.node_telling.proofs.Events.{site_map}
 use Rattle.node_telling.proofs.Frames.{lost_all, ending_all, arrival_all, wires_all}
 use Rattle.turn_laws.proofs.Queues.{Goes, goes-append, AreStill, still_goes}
 use Rattle.turn_laws.proofs.Ends.{left_by, ended_with}
 use Rattle.turn_laws.proofs.Passing.{has_side, Knows, Stands}
 use Rattle.turn_laws.proofs.Coming.{IsNoGot, AreNoGots, notes_still, Fresh}
+use Rattle.kept_laws.proofs.Sites.{changed_host as changed_site}
 
 -- ## Entries that tell of no message that came
 

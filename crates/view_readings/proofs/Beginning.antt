@@ -26,6 +26,7 @@ use Rattle.node_readings.proofs.Silent.{host_side}
 use Rattle.view_readings.specs.Inits.{init_kept, KeepsInit}
 use Rattle.view_readings.proofs.Answering.{reads_init, init_append, AreNeutral, MayGo, neutral_stays}
 use Rattle.view_readings.proofs.Going.{Base, Stands, then, all_go, passes_stand, told_init}
+use Rattle.node_readings.proofs.Stepping.{late_told, forgets_same, none_forgotten, none_owed}
 
 -- ## An end without a notice
 
@@ -35,28 +36,11 @@ older_same q e = rw e refl
 late_same : (q : Port) → q.desk.notice ≡ None → reset_late q ≡ q
 late_same q e = rw e refl
 
-late_told : (core : Core) (q : Port) → q.desk.notice ≡ None → told_late core q ≡ []
-late_told core q e = rw e refl
-
-forgets_same : (ports : List Port) (q : Port) → q.desk.notice ≡ None → forgets ports q ≡ q
-forgets_same ports q e = rw e refl
-
 without_same : (q : Port) → q.desk.notice ≡ None → without_notice q ≡ q
 without_same q e = go (q.ended || q.late) refl where
   go : (b : Bool) → (q.ended || q.late) ≡ b → without_notice q ≡ q
   go true z = rw z (ap (λ n. record q { desk = record q.desk { notice = n } }) (sym e))
   go false z = rw z refl
-
-none_forgotten : (q : Port) → q.desk.notice ≡ None → forgotten (q ∷ []) ≡ []
-none_forgotten q e = rw e refl
-
-none_owed : (q : Port) → q.desk.notice ≡ None → all_owed (q ∷ []) ≡ []
-none_owed q e = go q.ended q.late refl refl where
-  go : (a b : Bool) → q.ended ≡ a → q.late ≡ b → all_owed (q ∷ []) ≡ []
-  go true true x y = rw (x, y, e) refl
-  go true false x y = rw (x, y, e) refl
-  go false true x y = rw (x, y, e) refl
-  go false false x y = rw (x, y) refl
 
 synced_neutral : (core : Core) (input : NodeInput) (p : Port) → AreNeutral (synced core input p)
 synced_neutral core input p = go (input_at input p) refl where

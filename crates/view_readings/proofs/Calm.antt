@@ -16,7 +16,8 @@ use Rattle.history.specs.Steps.{entries_for, entry_of, end_of, lost_as}
 use Rattle.swp_lpdu.specs.Controls.{lpdu_of}
 use Rattle.node_world.specs.NodeFilters.{book_after, was_refused}
 use Rattle.view_readings.specs.Errors.{ErrorCount, errors_after, errors_set_by, leads_to_link_gate, is_any_ok}
-use Rattle.view_readings.proofs.Noting.{IsBeside, all-append}
+use Rattle.view_readings.proofs.Noting.{IsBeside}
+use Rattle.registry.proofs.ValueLemmas.{AllByRecursion-append}
 
 -- what is read after these entries, where this was read before
 abbrev pub reads : End → List Entry → ErrorCount → ErrorCount
@@ -120,7 +121,7 @@ note_still e h (Cut who) un = tt
 
 pub notes_still : (e : End) (h : ℕ) (xs : List Noted) → AllByRecursion IsUndamaged xs → AllByRecursion (IsStill e) (entries_for h xs)
 notes_still e h [] all = tt
-notes_still e h (x ∷ xs) all = all-append (IsStill e) (entry_of h x) (entries_for h xs) (note_still e h x all.0) (notes_still e h xs all.1)
+notes_still e h (x ∷ xs) all = AllByRecursion-append (IsStill e) (entry_of h x) (entries_for h xs) (note_still e h x all.0) (notes_still e h xs all.1)
 
 -- what a node notes beside its links leaves it
 pub beside_leaves : (e : End) (k : ℕ) (y : Entry) → IsBeside k y → Leaves e y

@@ -1,5 +1,5 @@
 -- A node does deeds that don't set REC_ERROR of its end: what is read of it stays what the node keeps.
-use Rattle.std.proofs.Common.{◌≡◌, ◌⊎◌, inl, inr, ℕ, ◌&&◌, Bool, true, false, cond, eqb, List, [], ◌∷◌, ◌++◌, length, map, sym, refl, ap, ap₂, ◌∙◌, subst}
+use Rattle.std.proofs.Common.{◌≡◌, ◌⊎◌, inl, inr, ℕ, ◌&&◌, Bool, true, false, cond, eqb, List, [], ◌∷◌, ◌++◌, length, map, sym, refl, ap, ◌∙◌, subst}
 use Rattle.std.specs.Prelude.{Option, Some, None}
 use Rattle.std.specs.List.{AllByRecursion}
 use Rattle.std.specs.Option.{option_map_or}
@@ -32,6 +32,7 @@ use Rattle.kept_laws.specs.Books.{hosts_of_ends}
 use Rattle.view_readings.specs.Errors.{ErrorCount, errors_after}
 use Rattle.view_readings.proofs.Calm.{reads, reads_append, IsRead, IsStill, still_all, notes_still, IsUndamaged, plainly, beside_leaves}
 use Rattle.view_readings.proofs.Setting.{IsUnset, AreUnset, IsInitEnd}
+use Rattle.kept_laws.proofs.Plainly.{hosts_map}
 
 -- the side of its link that an end is on
 abbrev pub side_of : End → Side
@@ -55,10 +56,6 @@ pub map_has : (e : End) (n : ℕ) (f : Port → Port) → ((p : Port) → HasErr
     → AllByRecursion (HasErrors e n) ports → AllByRecursion (HasErrors e n) (map f ports)
 map_has e n f one [] all = tt
 map_has e n f one (p ∷ ports) all = (one p all.0, map_has e n f one ports all.1)
-
-pub map_hosts : (f : Port → Port) → ((p : Port) → (f p).desk.host ≡ p.desk.host) → (ports : List Port) → hosts_of_ends (map f ports) ≡ hosts_of_ends ports
-map_hosts f host [] = refl
-map_hosts f host (p ∷ ports) = ap₂ (λ x l. x ∷ l) (host p) (map_hosts f host ports)
 
 -- a turn is noted, if it is, as a message that was sent
 pub turn_undamaged : (who : Side) (t : Turn) (p : Port) → AllByRecursion IsUndamaged (turn_entry who p.session p.side t)
@@ -111,7 +108,7 @@ module _ (e : End) (hosts : List ℕ) (x0 : ErrorCount) where
   maps f w host errors r = record {
     number = r.number;
     side = r.side;
-    hosts_are = map_hosts f host w.ports ∙ r.hosts_are;
+    hosts_are = hosts_map f host w.ports ∙ r.hosts_are;
     errors = r.errors;
     read = r.read;
     ends = map_has e r.errors f (λ p has is. errors p ∙ has (ap (λ h. eqb h e.link) (sym (host p)) ∙ is)) w.ports r.ends;
@@ -237,7 +234,7 @@ module _ (e : End) (hosts : List ℕ) (x0 : ErrorCount) where
   sets_other k v w off r = record {
     number = r.number;
     side = r.side;
-    hosts_are = map_hosts (λ p. changed_if (eqb p.desk.host k) set p) (λ p. changed_host (eqb p.desk.host k) set p (λ q. refl)) w.ports ∙ r.hosts_are;
+    hosts_are = hosts_map (λ p. changed_if (eqb p.desk.host k) set p) (λ p. changed_host (eqb p.desk.host k) set p (λ q. refl)) w.ports ∙ r.hosts_are;
     errors = r.errors;
     read = r.read;
     ends = map_has e r.errors (λ p. changed_if (eqb p.desk.host k) set p) (λ p has. by p has (eqb p.desk.host k) refl) w.ports r.ends;

@@ -43,8 +43,9 @@ use Rattle.node_telling.specs.Telling.{HasEnds}
 use Rattle.node_telling.proofs.Nodes.{ports_for}
 use Rattle.node_readings.proofs.Silent.{IsQuiet}
 use Rattle.view_readings.specs.Inits.{with_response, LeavesInit, IsNoEndOf}
-use Rattle.view_readings.proofs.Noting.{IsOwnNote, IsBeside, NotesSo, Notes, all-append, all_do, steps_note}
+use Rattle.view_readings.proofs.Noting.{IsOwnNote, IsBeside, NotesSo, Notes, all_do, steps_note}
 use Rattle.view_readings.proofs.Answering.{AreNeutral, IsNeutral, ordered_neutral, learned_neutral, learns_neutral}
+use Rattle.registry.proofs.ValueLemmas.{AllByRecursion-append}
 
 -- ## No init ends at a controller
 
@@ -192,7 +193,7 @@ module _ (P : Entry → Type 0) (core : Core) (same : P (entry.InitSame (end_of_
       (λ _. go (is_same core i value) refl) (λ _. (failed code, tt)) where
         by : (o : Option (List ℕ)) → slice_get (orders_of i) (i.answered + 1) ≡ o → is_same core i value ≡ false
             → AllByRecursion (NotesSo P) (init_agreed core i value)
-        by None q e = rw (e, q) (all-append (NotesSo P) (learns core (Set core.node 0 1 (record { items = i.identity }))) (Ends (entry.InitMade (end_of_node
+        by None q e = rw (e, q) (AllByRecursion-append (NotesSo P) (learns core (Set core.node 0 1 (record { items = i.identity }))) (Ends (entry.InitMade (end_of_node
             core core.node) (length i.pipes)) ∷ []) (neutral_notes P (learns core (Set core.node 0 1 (record { items = i.identity }))) (learns_neutral core
             (Set core.node 0 1 (record { items = i.identity })))) (made (length i.pipes), tt))
         by (Some order) q e = rw (e, q) (tt, (tt, tt))
@@ -211,7 +212,7 @@ module _ (P : Entry → Type 0) (core : Core) (same : P (entry.InitSame (end_of_
     go None = tt
     go (Some order) = (
       tt,
-      all-append (NotesSo P) (cond (eqb code 0) (learned core order value) []) (init_deeds core code value core.init)
+      AllByRecursion-append (NotesSo P) (cond (eqb code 0) (learned core order value) []) (init_deeds core code value core.init)
           (cond_both (eqb code 0) (learned core order value) [] (AllByRecursion (NotesSo P)) (λ _. neutral_notes P (learned core order value) (learned_neutral
           core order value)) (λ _. tt)) (init_notes code value core.init),
     )

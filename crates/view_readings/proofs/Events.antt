@@ -24,10 +24,12 @@ use Rattle.node_world.specs.World.{NodeWorld, Site, site_at, with_site, node_of,
 use Rattle.node_world.specs.NodeFilters.{Book}
 use Rattle.node_telling.specs.Telling.{HasEnds, IfItRuns, hosts_in, IsOrderly}
 use Rattle.view_readings.specs.Errors.{ErrorCount}
-use Rattle.view_readings.proofs.Noting.{all-append, all_flat}
+use Rattle.view_readings.proofs.Noting.{all_flat}
 use Rattle.view_readings.proofs.Calm.{reads, reads_append, Leaves, IsStill, still_all, still_leaves}
 use Rattle.view_readings.proofs.Nodes.{IfKeeps, keeps_sets, leaves_kept, own_steps, others_step, frames_still, aged_still}
-use Rattle.view_readings.proofs.Worlds.{far_node, AreFine, orderly_fine, map_fine, node_map, with_kept, with_other, with_own, with_none, map_hosts_in, host_link, own_node, near_node, host_node, Kept, Known, After, left, near_single, near_zero, near_other, far_other, own_ends, no_near, host_side}
+use Rattle.view_readings.proofs.Worlds.{far_node, AreFine, orderly_fine, map_fine, node_map, with_kept, with_other, with_own, with_none, host_link, own_node, near_node, host_node, Kept, Known, After, left, near_single, near_zero, near_other, far_other, own_ends, no_near, host_side}
+use Rattle.registry.proofs.ValueLemmas.{AllByRecursion-append}
+use Rattle.kept_laws.proofs.Sites.{hosts_same}
 
 tick_host_same : (s : Site) → (host_ticks s).0.host ≡ s.host
 tick_host_same s = by_node s.node refl where
@@ -104,7 +106,7 @@ module _ (e : End) (real : e.at_host ≡ true → eqb e.link 0 ≡ false) where
       by_side true far =
           left e real w v (c.entries ++ frames) x
           (host_node e real v far ∙ (node_map ticked (λ s. refl) (λ s. refl) w.sites e.link ∙ sym (host_node e real w far)))
-          (all-append (Leaves e) c.entries frames (others_step e 0 Controller (hosts_in w.sites) r w.memory.plan halves [] TimePasses has refl
+          (AllByRecursion-append (Leaves e) c.entries frames (others_step e 0 Controller (hosts_in w.sites) r w.memory.plan halves [] TimePasses has refl
           (near_other e real far (hosts_in w.sites)) tt) (still_leaves e frames frames_so)) k
 
   near_ticks_fine : (w : NodeWorld) → AreFine w.sites → AreFine (controller_ticks w).0.sites
@@ -138,7 +140,7 @@ module _ (e : End) (real : e.at_host ≡ true → eqb e.link 0 ≡ false) where
     by_node None q = subst (λ (p : Site × List Entry). AllByRecursion (Leaves e) p.1) (sym off_is) tt where
       off_is : host_ticks s ≡ (record s { link = exchanged (ticks_at_controller (exchanged s.link) [] GoesOut) }, [])
       off_is = rw q refl
-    by_node (Some r) q = subst (AllByRecursion (Leaves e)) (sym on_is) (all-append (Leaves e) c.entries (frames_noted Host s.host (exchanged s.link) c)
+    by_node (Some r) q = subst (AllByRecursion (Leaves e)) (sym on_is) (AllByRecursion-append (Leaves e) c.entries (frames_noted Host s.host (exchanged s.link) c)
         (others_step e s.host Host (s.host ∷ []) r s.memory.plan (λ n. s.link.host) [] TimePasses (subst (IfItRuns s.host (s.host ∷ [])) q runs)
         (host_side e real s.host real_host) (far_other e real s.host off, tt) tt) (still_leaves e (frames_noted Host s.host (exchanged s.link) c)
         (frames_still e Host s.host (exchanged s.link) c))) where
@@ -184,7 +186,7 @@ module _ (e : End) (real : e.at_host ≡ true → eqb e.link 0 ≡ false) where
       → AllByRecursion (Leaves e) (hosts_tick sites).1
   ticks_leave [] fine off = tt
   ticks_leave (s ∷ sites) fine off =
-      all-append (Leaves e) (host_ticks s).1 (hosts_tick sites).1 (tick_leaves s fine.nodes.0 fine.hosts.0 (λ far. (off far).0))
+      AllByRecursion-append (Leaves e) (host_ticks s).1 (hosts_tick sites).1 (tick_leaves s fine.nodes.0 fine.hosts.0 (λ far. (off far).0))
       (ticks_leave sites (record { different = fine.different.1; hosts = fine.hosts.1; nodes = fine.nodes.1 }) (λ far. (off far).1))
 
   ticks_own : (sites : List Site) (x : ErrorCount) → AreFine sites → e.at_host ≡ true → IfKeeps e (far_node (site_at sites e.link)) x
@@ -250,7 +252,7 @@ module _ (e : End) (real : e.at_host ≡ true → eqb e.link 0 ≡ false) where
       let book : x1.book ≡ x.book = (still_all e old.1 x x.errors (aged_entries_still w) (record { sets = keeps_sets e (own_node e real w) x k; is = refl })).1 in
       let fine : AreFine old.0.sites = map_fine grow (λ s. refl) (λ s. refl) w.sites (orderly_fine w orderly) in
       let runs : IfItRuns 0 (hosts_in old.0.sites) old.0.controller =
-      subst (λ hs. IfItRuns 0 hs w.controller) (sym (map_hosts_in grow (λ s. refl) w.sites)) orderly.controller in
+      subst (λ hs. IfItRuns 0 hs w.controller) (sym (hosts_same grow (λ s. refl) w.sites)) orderly.controller in
       let one : So old.0 x1 = aged_kept w x k in
       let two : So near.0 x2 = near_ticks old.0 x1 runs (λ n r q. known n r q ∙ sym (ap (λ (b : Book). b.tables) book)) one in
       let three : So (record near.0 { sites = far.0 }) (reads e far.1 x2) = far_ticks near.0 x2 (near_ticks_fine old.0 fine) two in

@@ -1,8 +1,8 @@
 -- A tick of a world, losses and power: a host keeps the init that is read of it.
-use Rattle.std.proofs.Common.{◌≡◌, ◌⊎◌, inl, inr, ℕ, ◌+◌, ◌&&◌, Bool, true, false, cond, eqb, List, [], ◌∷◌, ◌++◌, length, map, sym, refl, ap, ◌∙◌, subst}
-use Rattle.std.specs.Prelude.{Option, Some, None, not, min}
+use Rattle.std.proofs.Common.{◌≡◌, ◌⊎◌, inl, inr, ℕ, ◌+◌, Bool, true, false, cond, eqb, List, [], ◌∷◌, ◌++◌, length, map, sym, refl, ap, ◌∙◌, subst}
+use Rattle.std.specs.Prelude.{Option, Some, None, min}
 use Rattle.std.specs.List.{AllByRecursion, flat_map}
-use Rattle.std.proofs.lemmas.Bool.{cases_Bool, cond_both, eqb-true, eq-eqb, ne_eqb, eqb-false}
+use Rattle.std.proofs.lemmas.Bool.{cases_Bool, eqb-true, eq-eqb, ne_eqb, eqb-false}
 use Rattle.swp_base.specs.InMemory.{Memory}
 use Rattle.journal_laws.specs.Journal.{count_of}
 use Rattle.journal_laws.specs.Planned.{fails_within, after_planned}
@@ -10,10 +10,7 @@ use Rattle.trace_model.specs.Lines.{IsHost}
 use Rattle.trace_model.specs.declared.entry.Entry.{Entry}
 use Rattle.trace_model.specs.declared.entry.Entry.TheVariants as entry
 use Rattle.trace_model.specs.declared.line.End.{End}
-use Rattle.shdlc_core.specs.Machine.{is_waiting}
-use Rattle.link_machine.specs.Machine.{Turn}
-use Rattle.link_machine.specs.Machine.LinkInput.{Reset}
-use Rattle.message_link.specs.Links.{NumberedEnd, Link, Ending, Loss, exchanged, aged, has_input, ticks_at_controller, happens}
+use Rattle.message_link.specs.Links.{NumberedEnd, Link, Loss, exchanged, aged, ticks_at_controller, happens}
 use Rattle.message_link.specs.Links.Ending.{GoesOut, CutOff}
 use Rattle.message_link.specs.Links.Comes.{NextFrame, AsksReset, NoInput}
 use Rattle.message_link.specs.Links.Loss.{OnDemand, Broken, Unread, TooOld, TooMany}
@@ -36,24 +33,22 @@ use Rattle.node_telling.proofs.Frames.{wires_all}
 use Rattle.node_readings.proofs.Silent.{IsQuiet}
 use Rattle.node_readings.proofs.Sites.{lost_quiet}
 use Rattle.view_readings.specs.Inits.{init_begun, init_kept, IfRunsInit, LeavesInit, SiteKeepsInit}
-use Rattle.view_readings.proofs.Noting.{all-append, all_flat}
+use Rattle.view_readings.proofs.Noting.{all_flat}
 use Rattle.view_readings.proofs.Answering.{reads_init, init_append}
 use Rattle.view_readings.proofs.Elsewhere.{quiet_leaves, others_step}
 use Rattle.view_readings.proofs.HostInits.{ticks_keep, cut_keeps, boot_keeps}
-use Rattle.view_readings.proofs.Worlds.{far_node, site_map, with_kept, AreFine, orderly_fine, map_fine, map_hosts_in}
+use Rattle.view_readings.proofs.Worlds.{far_node, with_kept, AreFine, orderly_fine, map_fine}
 use Rattle.view_readings.proofs.InitWorlds.{leaves_all, keep_same, AtSite, absent, present, MayInit, Keeps, Then, zero, zero_off, map_keeps, other_keeps, own_keeps, left, frames_leave, near_off, host_steps, comes_keep, activates_keep, gives_keep, inits_keep}
+use Rattle.registry.proofs.ValueLemmas.{AllByRecursion-append}
+use Rattle.node_links.proofs.Worlds.{so_host}
+use Rattle.turn_laws.proofs.Works.{sites_is}
+use Rattle.kept_laws.proofs.Sites.{hosts_same}
 
 tick_same : (s : Site) → (host_ticks s).0.host ≡ s.host
 tick_same s = by_node s.node refl where
   by_node : (o : Option Running) → s.node ≡ o → (host_ticks s).0.host ≡ s.host
   by_node None q = rw q refl
   by_node (Some r) q = rw q refl
-
--- the tick of the controller leaves the end of a host
-ticked_host : (l : Link) (late : Bool) (turns : List Turn) (ending : Ending) → (ticked_so l late turns ending).host ≡ l.host
-ticked_host l late turns ending =
-    cond_both (late && not (is_waiting l.controller.side.shdlc)) (has_input l (Reset None) turns ending) (ticks_at_controller l turns ending)
-    (λ (m : Link). m.host ≡ l.host) (λ _. here_host l (Step (AsksReset None) turns ending)) (λ _. tick_host l turns ending)
 
 -- ## A frame that was refused leaves the init of a node
 
@@ -129,10 +124,10 @@ module _ (h : ℕ) (host : IsHost h) where
           off_is : controller_ticks w ≡ (record w { sites = map alone w.sites }, [])
           off_is = rw q refl
     by_node (Some r) q = subst (λ p. So p i) (sym on_is) (left h host v (c.entries ++ frames) i
-        (all-append (LeavesInit h) c.entries frames (others_step h 0 (zero_off h host) Controller refl (hosts_in w.sites) r w.memory.plan halves [] TimePasses
+        (AllByRecursion-append (LeavesInit h) c.entries frames (others_step h 0 (zero_off h host) Controller refl (hosts_in w.sites) r w.memory.plan halves [] TimePasses
         (subst (IfItRuns 0 (hosts_in w.sites)) q runs) (near_off h host (hosts_in w.sites)) tt) (all_flat (LeavesInit h)
         (λ (s : Site). frames_noted Controller s.host s.link c) (λ s. frames_leave h host Controller s.host s.link c) w.sites))
-        (map_keeps h host ticked (λ s. refl) (λ s. refl) (λ s. ap (λ (x : NumberedEnd). x.side) (ticked_host s.link (is_late_at c s.host) (turns_at c s.host)
+        (map_keeps h host ticked (λ s. refl) (λ s. refl) (λ s. ap (λ (x : NumberedEnd). x.side) (so_host s.link (is_late_at c s.host) (turns_at c s.host)
         (ending_of c))) w.sites i keeps)) where
           halves : ℕ → NumberedEnd
           halves k = (link_to w.sites k).controller
@@ -182,7 +177,7 @@ module _ (h : ℕ) (host : IsHost h) where
     by_node None q = subst (λ (p : Site × List Entry). AllByRecursion (LeavesInit h) p.1) (sym off_is) tt where
       off_is : host_ticks s ≡ (record s { link = exchanged (ticks_at_controller (exchanged s.link) [] GoesOut) }, [])
       off_is = rw q refl
-    by_node (Some r) q = subst (AllByRecursion (LeavesInit h)) (sym on_is) (all-append (LeavesInit h) c.entries (frames_noted Host s.host (exchanged s.link) c)
+    by_node (Some r) q = subst (AllByRecursion (LeavesInit h)) (sym on_is) (AllByRecursion-append (LeavesInit h) c.entries (frames_noted Host s.host (exchanged s.link) c)
         (host_steps h host s r (λ n. s.link.host) [] TimePasses (subst (IfItRuns s.host (s.host ∷ [])) q runs) number off tt)
         (frames_leave h host Host s.host (exchanged s.link) c)) where
           c : Work
@@ -195,7 +190,7 @@ module _ (h : ℕ) (host : IsHost h) where
       → AllByRecursion (LeavesInit h) (hosts_tick sites).1
   ticks_leave [] fine off = tt
   ticks_leave (s ∷ sites) fine off =
-      all-append (LeavesInit h) (host_ticks s).1 (hosts_tick sites).1 (tick_leaves s fine.nodes.0 fine.hosts.0 off.0)
+      AllByRecursion-append (LeavesInit h) (host_ticks s).1 (hosts_tick sites).1 (tick_leaves s fine.nodes.0 fine.hosts.0 off.0)
       (ticks_leave sites (record { different = fine.different.1; hosts = fine.hosts.1; nodes = fine.nodes.1 }) off.1)
 
   -- all hosts have theirs
@@ -244,7 +239,7 @@ module _ (h : ℕ) (host : IsHost h) where
       let grow : Site → Site = λ (s : Site). record s { link = aged s.link } in
       let fine : AreFine old.0.sites = map_fine grow (λ s. refl) (λ s. refl) w.sites (orderly_fine w orderly) in
       let runs : IfItRuns 0 (hosts_in old.0.sites) old.0.controller =
-      subst (λ hs. IfItRuns 0 hs w.controller) (sym (map_hosts_in grow (λ s. refl) w.sites)) orderly.controller in
+      subst (λ hs. IfItRuns 0 hs w.controller) (sym (hosts_same grow (λ s. refl) w.sites)) orderly.controller in
       let one : Has old.0 (reads_init h old.1 i) = aged_keep w i keeps in
       let two : Has near.0 (reads_init h near.1 (reads_init h old.1 i)) = near_ticks old.0 (reads_init h old.1 i) runs one in
       subst (λ y. AtSite y (site_at far.0 h)) (sym (init_append h old.1 (near.1 ++ far.1) i ∙ init_append h near.1 far.1 (reads_init h old.1 i)))
@@ -255,7 +250,7 @@ module _ (h : ℕ) (host : IsHost h) where
   with_keeps : (k : ℕ) (f : Site → Site) → ((s : Site) → (f s).host ≡ s.host) → (i : Option Init) → ((s : Site) → SiteKeepsInit i s → SiteKeepsInit i (f s))
       → (sites : List Site) → AtSite i (site_at sites h) → AtSite i (site_at (with_site k f sites) h)
   with_keeps k f same i one sites keeps =
-      site_map (λ s. changed_if (eqb s.host k) f s) (λ s. changed (eqb s.host k) s) sites h (AtSite i) (λ z. subst (AtSite i) z keeps)
+      sites_is (λ s. changed_if (eqb s.host k) f s) (λ s. changed (eqb s.host k) s) sites h (AtSite i) (λ z. subst (AtSite i) z keeps)
       (λ s z. by (eqb s.host k) s (subst (AtSite i) z keeps)) where
         changed : (b : Bool) (s : Site) → (changed_if b f s).host ≡ s.host
         changed true s = same s
@@ -325,7 +320,7 @@ module _ (h : ℕ) (host : IsHost h) where
   cut_leaves n off = λ y. ap (λ b. cond b None y) off
 
   cut_own : (sites : List Site) (i : Option Init) → AtSite (reads_init h (entry.Cut h ∷ []) i) (site_at (with_site h host_cut sites) h)
-  cut_own sites i = site_map (λ s. changed_if (eqb s.host h) host_cut s) (λ s. changed (eqb s.host h) s) sites h (AtSite (reads_init h (entry.Cut h ∷ []) i))
+  cut_own sites i = sites_is (λ s. changed_if (eqb s.host h) host_cut s) (λ s. changed (eqb s.host h) s) sites h (AtSite (reads_init h (entry.Cut h ∷ []) i))
       (λ z. ap (λ b. cond b None i) (eq-eqb h h refl))
       (λ s z. subst (λ b. SiteKeepsInit (reads_init h (entry.Cut h ∷ []) i) (changed_if b host_cut s)) (sym (eq-eqb s.host h (site_host sites h s z)))
       (subst (λ n. SiteKeepsInit (reads_init n (entry.Cut n ∷ []) i) (host_cut s)) (site_host sites h s z) (cut_keeps s i))) where
@@ -405,7 +400,7 @@ module _ (h : ℕ) (host : IsHost h) where
     own_boots q same None here = subst (λ m. AtSite i (site_at (with_site m (λ (s : Site). record s { node = Some runs }) written.sites) h)) (sym same)
         (own_none here) where
           own_none : site_at written.sites h ≡ None → AtSite i (site_at (with_site h (λ (s : Site). record s { node = Some runs }) written.sites) h)
-          own_none here = site_map (λ s. changed_if (eqb s.host h) (λ (s : Site). record s { node = Some runs }) s) (λ s. changed (eqb s.host h) s) written.sites h
+          own_none here = sites_is (λ s. changed_if (eqb s.host h) (λ (s : Site). record s { node = Some runs }) s) (λ s. changed (eqb s.host h) s) written.sites h
               (AtSite i) (λ z. subst (AtSite i) here written_keeps) (λ s z. let none : None ≡ Some s = sym here ∙ z in absurd (cc none)) where
                 changed : (b : Bool) (s : Site) → (changed_if b (λ (s : Site). record s { node = Some runs }) s).host ≡ s.host
                 changed true s = refl

@@ -31,11 +31,14 @@ use Rattle.node_telling.proofs.Events.{comes_goes}
 use Rattle.node_readings.specs.Worlds.{host_does_so, init_of}
 use Rattle.node_readings.proofs.Sites.{ending_quiet, arrival_quiet}
 use Rattle.view_readings.specs.Inits.{init_begun, init_kept, IfRunsInit, LeavesInit, SiteKeepsInit}
-use Rattle.view_readings.proofs.Noting.{NotesSo, all-append, all_flat}
+use Rattle.view_readings.proofs.Noting.{NotesSo, all_flat}
 use Rattle.view_readings.proofs.Answering.{reads_init, init_append}
 use Rattle.view_readings.proofs.Elsewhere.{quiet_leaves, others_step, others_begin}
 use Rattle.view_readings.proofs.HostInits.{comes_keeps, sends_keeps, begins_keeps}
-use Rattle.view_readings.proofs.Worlds.{AreFine, orderly_fine, site_map, found_all}
+use Rattle.view_readings.proofs.Worlds.{AreFine, orderly_fine}
+use Rattle.registry.proofs.ValueLemmas.{AllByRecursion-append}
+use Rattle.turn_laws.proofs.Works.{sites_is}
+use Rattle.node_telling.proofs.Worlds.{site_is as found_all}
 
 pub leaves_all : (h : ℕ) (es : List Entry) (i : Option Init) → AllByRecursion (LeavesInit h) es → reads_init h es i ≡ i
 leaves_all h [] i all = refl
@@ -92,13 +95,13 @@ module _ (h : ℕ) (host : IsHost h) where
   pub map_keeps : (g : Site → Site) → ((s : Site) → (g s).host ≡ s.host) → ((s : Site) → (g s).node ≡ s.node)
       → ((s : Site) → (g s).link.host.side ≡ s.link.host.side) → (sites : List Site) (i : Option Init) → AtSite i (site_at sites h)
       → AtSite i (site_at (map g sites) h)
-  map_keeps g same node side sites i k = site_map g same sites h (AtSite i) (λ z. subst (AtSite i) z k)
+  map_keeps g same node side sites i k = sites_is g same sites h (AtSite i) (λ z. subst (AtSite i) z k)
       (λ s z. keep_same i s (g s) (same s) (node s) (side s) (subst (AtSite i) z k))
 
   pub other_keeps : (k : ℕ) (f : Site → Site) → ((s : Site) → (f s).host ≡ s.host) → (sites : List Site) (i : Option Init) → eqb h k ≡ false
       → AtSite i (site_at sites h) → AtSite i (site_at (with_site k f sites) h)
   other_keeps k f same sites i off keeps =
-      site_map (λ s. changed_if (eqb s.host k) f s) (λ s. changed (eqb s.host k) s) sites h (AtSite i) (λ z. subst (AtSite i) z keeps)
+      sites_is (λ s. changed_if (eqb s.host k) f s) (λ s. changed (eqb s.host k) s) sites h (AtSite i) (λ z. subst (AtSite i) z keeps)
       (λ s z. subst (λ b. SiteKeepsInit i (changed_if b f s)) (sym (ap (λ n. eqb n k) (site_host sites h s z) ∙ off)) (subst (AtSite i) z keeps)) where
         changed : (b : Bool) (s : Site) → (changed_if b f s).host ≡ s.host
         changed true s = same s
@@ -107,7 +110,7 @@ module _ (h : ℕ) (host : IsHost h) where
   pub own_keeps : (f : Site → Site) → ((s : Site) → (f s).host ≡ s.host) → (sites : List Site) (s : Site) (i : Option Init) → site_at sites h ≡ Some s
       → SiteKeepsInit i (f s) → AtSite i (site_at (with_site h f sites) h)
   own_keeps f same sites s i here keeps =
-      site_map (λ s. changed_if (eqb s.host h) f s) (λ s. changed (eqb s.host h) s) sites h (AtSite i)
+      sites_is (λ s. changed_if (eqb s.host h) f s) (λ s. changed (eqb s.host h) s) sites h (AtSite i)
       (λ z. let none : None ≡ Some s = sym z ∙ here in absurd (cc none))
       (λ x z. let both : Some x ≡ Some s = sym z ∙ here in
       let one : s ≡ x = cc in
@@ -153,7 +156,7 @@ module _ (h : ℕ) (host : IsHost h) where
     by_node : (o : Option Running) → w.controller ≡ o → Then (controller_does w k comes f) i
     by_node None q = subst (λ p. Then p i) (sym (off_is q)) keeps
     by_node (Some r) q = subst (λ p. Then p i) (sym on_is) (left (after_controller w k comes c).0 (c.entries ++ frames) i
-        (all-append (LeavesInit h) c.entries frames (others_step h 0 zero_off Controller refl (hosts_in w.sites) r w.memory.plan (λ n. half_in
+        (AllByRecursion-append (LeavesInit h) c.entries frames (others_step h 0 zero_off Controller refl (hosts_in w.sites) r w.memory.plan (λ n. half_in
         (link_to w.sites n) (comes_to k comes n)) (entries_for k (arrival Controller (link_to w.sites k) comes)) (AtEnd k input) has (near_off
         (hosts_in w.sites)) (arrival_leave Controller k (link_to w.sites k) comes)) (all_flat (LeavesInit h) (λ (s : Site). frames_noted Controller s.host
         (wires_for s.link (comes_to k comes s.host)) c) (λ s. frames_leave Controller s.host (wires_for s.link (comes_to k comes s.host)) c) w.sites))
@@ -214,7 +217,7 @@ module _ (h : ℕ) (host : IsHost h) where
       by_node : (s : Site) → site_at w.sites k ≡ Some s → (o : Option Running) → s.node ≡ o → Then (host_does w k comes f) i
       by_node s here None q = subst (λ p. Then p i) (sym (no_node s here q)) keeps
       by_node s here (Some r) q = subst (λ p. Then p i) (sym (acts_is s r here q)) (left (record w { sites = with_site k (after_host comes c) w.sites })
-          (c.entries ++ frames) i (all-append (LeavesInit h) c.entries frames (others s r here q) (frames_leave Host k (wires_for (exchanged s.link) comes) c))
+          (c.entries ++ frames) i (AllByRecursion-append (LeavesInit h) c.entries frames (others s r here q) (frames_leave Host k (wires_for (exchanged s.link) comes) c))
           (other_keeps k (after_host comes c) (λ s. refl) w.sites i off keeps)) where
             c : Work
             c = host_work s r comes f

@@ -7,7 +7,6 @@ use Rattle.std.proofs.lemmas.Bool.{cond_both, eqb-true, true≢false, ne_eqb}
 use Rattle.std.proofs.lemmas.Grind.{flat_map-append}
 use Rattle.trace_model.specs.Lines.{IsHost}
 use Rattle.trace_model.specs.declared.entry.Entry.{Entry}
-use Rattle.trace_model.specs.declared.entry.NoCause.{NoCause}
 use Rattle.trace_model.specs.declared.entry.NoCause.TheVariants as cause
 use Rattle.trace_model.specs.declared.line.End.{End}
 use Rattle.trace_model.specs.declared.line.Header.{Header}
@@ -25,7 +24,7 @@ use Rattle.node_machine.specs.Parts.Deed.{Orders, Sends}
 use Rattle.node_machine.specs.Controller.{is_command_message}
 use Rattle.node_world.specs.World.{NodeWorld, site_at, Happening, node_at, node_of, memory_at, sending, beginning, new_world, world_step}
 use Rattle.node_world.specs.World.Happening.{Boots, IsCut, Gives, Inits, Takes, Loses, Ticks, Resets, Activates, Arms}
-use Rattle.node_world.specs.Lines.{first_cause, if_off, machine_in, frames_at, has_order, if_waiting, if_not_sent, refusal_in, happens_by, happenings}
+use Rattle.node_world.specs.Lines.{if_off, machine_in, frames_at, has_order, if_waiting, if_not_sent, refusal_in, happens_by, happenings}
 use Rattle.node_world.specs.NodeFilters.{Book}
 use Rattle.node_world.specs.Lines.{Occurrence}
 use Rattle.node_world.specs.NodeHistories.{NodeHistory, FollowsNodes, steps_from, occurrences_in, entries_in, node_entries, world_after}
@@ -52,6 +51,7 @@ use Rattle.node_readings.specs.Noticed.{ends_between}
 use Rattle.cut_laws.specs.Histories.{is_one_of}
 use Rattle.view_readings.specs.Views.{view_at, IsSameView}
 use Rattle.view_readings.proofs.Viewing.{SessionsAreRead, PipesAreRead, same_view}
+use Rattle.node_order.proofs.Resets.{first_none}
 
 -- the end of the link with a host is no end of 00
 pub real_of : (e : End) → IsHost e.link → e.at_host ≡ true → eqb e.link 0 ≡ false
@@ -147,10 +147,6 @@ event_so hosts are t w c so may few =
     }
 
 -- ## Lines
-
-pub first_none : (a b : Option NoCause) → first_cause a b ≡ None → (a ≡ None) × (b ≡ None)
-first_none None b e = (refl, e)
-first_none (Some c) b e = absurd (cc e)
 
 not_waiting : (waits : Bool) (why : Option Refused) → if_waiting waits why ≡ None → waits ≡ false
 not_waiting false why e = refl

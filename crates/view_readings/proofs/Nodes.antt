@@ -28,16 +28,17 @@ use Rattle.node_telling.specs.Telling.{HasEnds}
 use Rattle.node_telling.proofs.Mute.{IsPlain, IsMute, AreMute, deeds_mute}
 use Rattle.node_telling.proofs.Nodes.{hosts_same, ports_for}
 use Rattle.view_readings.specs.Errors.{ErrorCount}
-use Rattle.view_readings.proofs.Noting.{IsOwnNote, NotesSo, Notes, all-append, all_do as notes_do, steps_note}
+use Rattle.view_readings.proofs.Noting.{IsOwnNote, NotesSo, Notes, all_do as notes_do, steps_note}
 use Rattle.view_readings.proofs.Calm.{reads, reads_append, Leaves, leaves_all, IsStill, still_all, still_leaves, IsUndamaged, note_still, notes_still, turn_leaves, beside_leaves, plainly}
 use Rattle.view_readings.proofs.Setting.{AreUnset}
 use Rattle.view_readings.proofs.Doing.{side_of, HasErrors, Right, unset_fine, all_do}
 use Rattle.view_readings.proofs.Stepping.{all_undamaged, steps_right}
+use Rattle.registry.proofs.ValueLemmas.{AllByRecursion-append}
 
 -- ## Frames
 
 undamaged-append : (xs ys : List Noted) → AllByRecursion IsUndamaged xs → AllByRecursion IsUndamaged ys → AllByRecursion IsUndamaged (xs ++ ys)
-undamaged-append = all-append IsUndamaged
+undamaged-append = AllByRecursion-append IsUndamaged
 
 pushed_undamaged : (who : Side) (wire : List OnWire) → AllByRecursion IsUndamaged (pushed_out who wire)
 pushed_undamaged who wire = go (nat_lt 64 (length wire)) wire where

@@ -31,6 +31,7 @@ use Rattle.node_machine.specs.Carrying.{own_side, noting, unless_cut, port_at, c
 use Rattle.node_machine.specs.Turns.{deeds_of, handles, holds_back, lets_go, have_turns, goes_through_ends, passes}
 use Rattle.node_machine.specs.Node.{NodeInput, input_at, has_come, told_at, all_come, with_older, is_late, reset_late, told_late, times_out, forgotten, forgets, owed, all_owed, without_notice, after_sessions, synced, steps}
 use Rattle.node_machine.specs.Node.NodeInput.{AtEnd, TimePasses}
+use Rattle.registry.proofs.ValueLemmas.{AllByRecursion-append}
 
 -- this is noted of an end of this side
 abbrev pub IsOwnNote : Side → Noted → Type 0
@@ -58,23 +59,19 @@ abbrev pub NotesSo : (Entry → Type 0) → Deed → Type 0
 NotesSo P (Ends x) = P x
 NotesSo P _ = Unit {0}
 
-pub all-append : {X : Type 0} (P : X → Type 0) (xs ys : List X) → AllByRecursion P xs → AllByRecursion P ys → AllByRecursion P (xs ++ ys)
-all-append P [] ys a b = b
-all-append P (x ∷ xs) ys a b = (a.0, all-append P xs ys a.1 b)
-
 pub all_flat : {X Y : Type 0} (P : Y → Type 0) (f : X → List Y) → ((x : X) → AllByRecursion P (f x)) → (xs : List X) → AllByRecursion P (flat_map f xs)
 all_flat P f one [] = tt
-all_flat P f one (x ∷ xs) = all-append P (f x) (flat_map f xs) (one x) (all_flat P f one xs)
+all_flat P f one (x ∷ xs) = AllByRecursion-append P (f x) (flat_map f xs) (one x) (all_flat P f one xs)
 
 -- ## What is told of an end
 
 pub all_notes : (who : Side) (n acked : ℕ) (r : Report) → AllByRecursion (IsOwnNote who) (told who n r acked)
 all_notes who n acked r =
-    all-append (IsOwnNote who) (map (Down who) (option_to_list r.ended)) _ (ended r.ended)
-    (all-append (IsOwnNote who) (if_so r.began (Up who n)) _ (so r.began (Up who n) refl)
-    (all-append (IsOwnNote who) (if_so r.became_active (Active who)) _ (so r.became_active (Active who) refl)
-    (all-append (IsOwnNote who) (map (GaveUp who) (option_to_list r.gave_up)) _ (tries r.gave_up)
-    (all-append (IsOwnNote who) (if_so (nat_lt 0 r.acked) (Acked who n acked)) _ (so (nat_lt 0 r.acked) (Acked who n acked) refl)
+    AllByRecursion-append (IsOwnNote who) (map (Down who) (option_to_list r.ended)) _ (ended r.ended)
+    (AllByRecursion-append (IsOwnNote who) (if_so r.began (Up who n)) _ (so r.began (Up who n) refl)
+    (AllByRecursion-append (IsOwnNote who) (if_so r.became_active (Active who)) _ (so r.became_active (Active who) refl)
+    (AllByRecursion-append (IsOwnNote who) (map (GaveUp who) (option_to_list r.gave_up)) _ (tries r.gave_up)
+    (AllByRecursion-append (IsOwnNote who) (if_so (nat_lt 0 r.acked) (Acked who n acked)) _ (so (nat_lt 0 r.acked) (Acked who n acked) refl)
     (got r.got))))) where
       so : (b : Bool) (x : Noted) → IsOwnNote who x → AllByRecursion (IsOwnNote who) (if_so b x)
       so true x is = (is, tt)
@@ -119,7 +116,7 @@ module _ (P : Entry → Type 0) (n : ℕ) (who : Side) (At : ℕ → Type 0)
 
   notes_all : (h : ℕ) (xs : List Noted) → At h → AllByRecursion (IsOwnNote who) xs → AllByRecursion P (entries_for h xs)
   notes_all h [] at all = tt
-  notes_all h (x ∷ xs) at all = all-append P (entry_of h x) (entries_for h xs) (note h x at all.0) (notes_all h xs at all.1)
+  notes_all h (x ∷ xs) at all = AllByRecursion-append P (entry_of h x) (entries_for h xs) (note h x at all.0) (notes_all h xs at all.1)
 
   with_core : (w : Work) (c : Core) → c.node ≡ w.core.node → Notes w → Notes (record w { core = c })
   with_core w c same a = record {
@@ -130,7 +127,7 @@ module _ (P : Entry → Type 0) (n : ℕ) (who : Side) (At : ℕ → Type 0)
   }
 
   notes : (es : List Entry) (w : Work) → AllByRecursion P es → Notes w → Notes (noting es w)
-  notes es w more a = record { number = a.number; side = a.side; ends = a.ends; so = all-append P w.entries es a.so more }
+  notes es w more a = record { number = a.number; side = a.side; ends = a.ends; so = AllByRecursion-append P w.entries es a.so more }
 
   map_at : (f : Port → Port) → ((p : Port) → (f p).desk.host ≡ p.desk.host) → (ports : List Port) → AllByRecursion (λ (p : Port). At p.desk.host) ports
       → AllByRecursion (λ (p : Port). At p.desk.host) (map f ports)
@@ -175,15 +172,15 @@ module _ (P : Entry → Type 0) (n : ℕ) (who : Side) (At : ℕ → Type 0)
       number = a.number;
       side = a.side;
       ends = a.ends;
-      so = all-append P (w.entries ++ entry.Command w.core.node c ∷ []) (entry.Cut w.core.node ∷ [])
-          (all-append P w.entries (entry.Command w.core.node c ∷ []) a.so (beside (entry.Command w.core.node c) a.number, tt))
+      so = AllByRecursion-append P (w.entries ++ entry.Command w.core.node c ∷ []) (entry.Cut w.core.node ∷ [])
+          (AllByRecursion-append P w.entries (entry.Command w.core.node c ∷ []) a.so (beside (entry.Command w.core.node c) a.number, tt))
           (beside (entry.Cut w.core.node) a.number, tt);
     })
     go false q = rw q (record {
       number = a.number;
       side = a.side;
       ends = a.ends;
-      so = all-append P w.entries (entry.Command w.core.node c ∷ []) a.so (beside (entry.Command w.core.node c) a.number, tt);
+      so = AllByRecursion-append P w.entries (entry.Command w.core.node c ∷ []) a.so (beside (entry.Command w.core.node c) a.number, tt);
     })
 
   does : (h : ℕ) (d : Deed) (w : Work) → NotesSo P d → Notes w → Notes (done h d w)
@@ -300,7 +297,7 @@ module _ (P : Entry → Type 0) (n : ℕ) (who : Side) (At : ℕ → Type 0)
   all_told : (f : Port → List Entry) → ((p : Port) → At p.desk.host → AllByRecursion P (f p)) → (ports : List Port)
       → AllByRecursion (λ (p : Port). At p.desk.host) ports → AllByRecursion P (flat_map f ports)
   all_told f one [] all = tt
-  all_told f one (p ∷ ports) all = all-append P (f p) (flat_map f ports) (one p all.0) (all_told f one ports all.1)
+  all_told f one (p ∷ ports) all = AllByRecursion-append P (f p) (flat_map f ports) (one p all.0) (all_told f one ports all.1)
 
   came_all : (input : NodeInput) (w : Work) → Notes w → Notes (all_come input w)
   came_all input w a =
@@ -371,7 +368,7 @@ module _ (P : Entry → Type 0) (n : ℕ) (who : Side) (At : ℕ → Type 0)
       all_do 0 syncs (all_done 0 freed begun) (all_flat (NotesSo P) (synced w.core input) (synced_so w.core input) w.ports)
       (all_do 0 freed begun (releases_so _) first) in
       let owed_all : AllByRecursion (NotesSo P) owing =
-      all-append (NotesSo P) _ _ (all_flat (NotesSo P) (λ p. owed response.NotConnected (asked_at p)) (λ p. owed_so response.NotConnected (asked_at p))
+      AllByRecursion-append (NotesSo P) _ _ (all_flat (NotesSo P) (λ p. owed response.NotConnected (asked_at p)) (λ p. owed_so response.NotConnected (asked_at p))
       (filter (λ p. p.ended) left))
       (all_flat (NotesSo P) (λ p. owed response.Timeout (asked_at p)) (λ p. owed_so response.Timeout (asked_at p)) (filter (λ p. p.late) left)) in
       unless passes (unless_cut (all_done 0 owing) (all_done 0 syncs (all_done 0 freed begun))) (λ c. passes_all _ c)

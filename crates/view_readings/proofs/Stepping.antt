@@ -19,11 +19,14 @@ use Rattle.node_machine.specs.Turns.{passes}
 use Rattle.node_machine.specs.Node.{NodeInput, input_at, has_come, told_at, all_come, with_older, is_late, reset_late, told_late, times_out, forgotten, forgets, owed, all_owed, without_notice, after_sessions, synced, steps}
 use Rattle.node_machine.specs.Node.NodeInput.{AtEnd, TimePasses}
 use Rattle.view_readings.specs.Errors.{ErrorCount}
-use Rattle.view_readings.proofs.Noting.{IsOwnNote, all_notes, all-append, all_flat}
+use Rattle.view_readings.proofs.Noting.{IsOwnNote, all_notes, all_flat}
 use Rattle.view_readings.proofs.Calm.{IsStill, notes_still, IsUndamaged}
 use Rattle.view_readings.proofs.Setting.{IsUnset, AreUnset}
 use Rattle.view_readings.proofs.Doing.{Right, note, maps, with_core, unless, unset_fine, all_do}
 use Rattle.view_readings.proofs.Turning.{passes_right}
+use Rattle.registry.proofs.ValueLemmas.{AllByRecursion-append}
+use Rattle.notice_readings.proofs.Steps.{sessions_tables}
+use Rattle.node_laws.proofs.Ports.{come_host, forgets_host, sessions_node}
 
 own_undamaged : (who : Side) (x : Noted) → IsOwnNote who x → IsUndamaged x
 own_undamaged who (Up side n) is = tt
@@ -75,10 +78,6 @@ synced_unset core input p = go (input_at input p) refl where
 
 -- ## Steps
 
-come_host : (p : Port) (o : Option LinkInput) → (has_come p o).desk.host ≡ p.desk.host
-come_host p None = refl
-come_host p (Some i) = refl
-
 come_errors : (p : Port) (o : Option LinkInput) → (has_come p o).desk.errors ≡ p.desk.errors
 come_errors p None = refl
 come_errors p (Some i) = refl
@@ -91,9 +90,6 @@ late_errors : (p : Port) → (reset_late p).desk.errors ≡ p.desk.errors
 late_errors p = cond_both (is_late p) (record p { side = after_input p.side (Reset None); late = true }) p (λ q. q.desk.errors ≡ p.desk.errors)
     (λ _. refl) (λ _. refl)
 
-forgets_host : (ports : List Port) (p : Port) → (forgets ports p).desk.host ≡ p.desk.host
-forgets_host ports p = cond_both _ _ p (λ (q : Port). q.desk.host ≡ p.desk.host) (λ _. refl) (λ _. refl)
-
 forgets_errors : (ports : List Port) (p : Port) → (forgets ports p).desk.errors ≡ p.desk.errors
 forgets_errors ports p = cond_both _ _ p (λ (q : Port). q.desk.errors ≡ p.desk.errors) (λ _. refl) (λ _. refl)
 
@@ -102,12 +98,6 @@ without_host p = cond_both _ _ p (λ (q : Port). q.desk.host ≡ p.desk.host) (�
 
 without_errors : (p : Port) → (without_notice p).desk.errors ≡ p.desk.errors
 without_errors p = cond_both _ _ p (λ (q : Port). q.desk.errors ≡ p.desk.errors) (λ _. refl) (λ _. refl)
-
-sessions_node : (core : Core) (ports : List Port) → (after_sessions core ports).node ≡ core.node
-sessions_node core ports = cond_both _ _ core (λ (c : Core). c.node ≡ core.node) (λ _. refl) (λ _. refl)
-
-sessions_tables : (core : Core) (ports : List Port) → (after_sessions core ports).tables ≡ core.tables
-sessions_tables core ports = cond_both _ _ core (λ (c : Core). c.tables ≡ core.tables) (λ _. refl) (λ _. refl)
 
 module _ (e : End) (hosts : List ℕ) (x0 : ErrorCount) (single : e.at_host ≡ true → hosts ≡ e.link ∷ []) where
   abbrev So : Work → Type 0
@@ -145,7 +135,7 @@ module _ (e : End) (hosts : List ℕ) (x0 : ErrorCount) (single : e.at_host ≡ 
       all_do e hosts x0 0 syncs (all_done 0 freed begun) (unset_fine e hosts x0 0 syncs (all_flat IsUnset (synced w.core input) (synced_unset w.core input)
       w.ports)) (all_do e hosts x0 0 freed begun (unset_fine e hosts x0 0 freed (releases_unset _)) first) in
       let owed_all : AreUnset owing =
-      all-append IsUnset _ _ (all_flat IsUnset (λ p. owed response.NotConnected (asked_at p)) (λ p. owed_unset response.NotConnected (asked_at p))
+      AllByRecursion-append IsUnset _ _ (all_flat IsUnset (λ p. owed response.NotConnected (asked_at p)) (λ p. owed_unset response.NotConnected (asked_at p))
       (filter (λ p. p.ended) left))
       (all_flat IsUnset (λ p. owed response.Timeout (asked_at p)) (λ p. owed_unset response.Timeout (asked_at p)) (filter (λ p. p.late) left)) in
       unless e hosts x0 passes (unless_cut (all_done 0 owing) (all_done 0 syncs (all_done 0 freed begun)))

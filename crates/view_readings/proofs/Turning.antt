@@ -31,7 +31,8 @@ use Rattle.view_readings.specs.Errors.{ErrorCount, errors_after, errors_set_by, 
 use Rattle.view_readings.proofs.Calm.{reads, reads_append, IsRead}
 use Rattle.view_readings.proofs.Setting.{is_link_gate, controller_unset, host_unset, controller_sets, host_sets, SetDeeds, IsUpAt}
 use Rattle.view_readings.proofs.Setting.SetDeeds.{IsSet, IsRefused, IsDropped}
-use Rattle.view_readings.proofs.Doing.{side_of, own_is, HasErrors, map_has, map_hosts, Right, desks, turns, unless, IsFine, unset_fine, all_do, holds, lets}
+use Rattle.view_readings.proofs.Doing.{side_of, own_is, HasErrors, map_has, Right, desks, turns, unless, IsFine, unset_fine, all_do, holds, lets}
+use Rattle.kept_laws.proofs.Plainly.{hosts_map}
 
 -- ## Messages that are sent
 
@@ -79,7 +80,7 @@ fetch_silent core (Some p) = refl
 
 with_hosts : (k : ℕ) (f : Port → Port) → ((p : Port) → (f p).desk.host ≡ p.desk.host) → (ports : List Port)
     → hosts_of_ends (with_port k f ports) ≡ hosts_of_ends ports
-with_hosts k f host ports = map_hosts (λ p. changed_if (eqb p.desk.host k) f p) (λ p. changed_same (λ q. q.desk.host) (eqb p.desk.host k) f p host) ports
+with_hosts k f host ports = hosts_map (λ p. changed_if (eqb p.desk.host k) f p) (λ p. changed_same (λ q. q.desk.host) (eqb p.desk.host k) f p host) ports
 
 with_has : (e : End) (n k : ℕ) (f : Port → Port) → ((p : Port) → (f p).desk.host ≡ p.desk.host) → ((p : Port) → (f p).desk.errors ≡ p.desk.errors)
     → (ports : List Port) → AllByRecursion (HasErrors e n) ports → AllByRecursion (HasErrors e n) (with_port k f ports)

@@ -1,7 +1,7 @@
 -- What a controller knows is what is read.
 use Rattle.std.proofs.Common.{◌≡◌, ℕ, ◌&&◌, ◌||◌, Bool, true, false, cond, eqb, List, [], ◌∷◌, map, sym, refl, ap, ap₂, ◌∙◌, subst}
 use Rattle.std.specs.Prelude.{Option, Some, None, is_none, is_some, not, slice_index}
-use Rattle.std.specs.List.{filter, filter_map, find, list_any, range_with_len}
+use Rattle.std.specs.List.{filter, find, list_any, range_with_len}
 use Rattle.std.specs.Option.{option_map, option_map_or, option_and_then}
 use Rattle.std.proofs.lemmas.Bool.{cond_both, eqb-true, true≢false}
 use Rattle.trace_model.specs.Lines.{IsHost}
@@ -10,14 +10,12 @@ use Rattle.session_laws.specs.Sessions.{is_up}
 use Rattle.shdlc_core.specs.declared.answers.LinkState.{LinkState}
 use Rattle.shdlc_core.specs.declared.answers.LinkState.TheVariants.{Up, Waiting, Down}
 use Rattle.hci_tables.specs.Tables.{HciTables, is_opened}
-use Rattle.pipe_table.specs.declared.row.PipeRow.{PipeRow}
 use Rattle.pipe_table.specs.PipeRows.{pipe_at, is_free, lowest_free}
 use Rattle.gate_admin.specs.declared.view.LinkView.{LinkView}
 use Rattle.gate_admin.specs.Decide.{decided}
 use Rattle.gate_admin.specs.View.{hosts_where, mask_of}
-use Rattle.link_machine.specs.Machine.Role.{Bare}
 use Rattle.link_entries.specs.Sessions.{number_now as session_at}
-use Rattle.message_link.specs.Links.{NumberedEnd, Link, new_link}
+use Rattle.message_link.specs.Links.{NumberedEnd, Link}
 use Rattle.node_machine.specs.Parts.{Desk, Running, Port}
 use Rattle.node_machine.specs.Controller.{is_asked_at, is_connected_at, view_for, waiting_pipes}
 use Rattle.node_machine.specs.Carrying.{port_at}
@@ -31,6 +29,8 @@ use Rattle.view_readings.specs.Errors.{ErrorsAreRead, errors_in, errors_of}
 use Rattle.cut_laws.specs.Histories.{is_one_of}
 use Rattle.view_readings.specs.Views.{view_at, IsSameView}
 use Rattle.creation_readings.specs.Creations.{is_asked_pipe, asked_pipes}
+use Rattle.creation_readings.proofs.Knowing.{find_same, given_same}
+use Rattle.node_telling.proofs.Nodes.{link_is}
 
 -- ## Lists
 
@@ -100,9 +100,6 @@ up_is half = by half.side.shdlc.phase refl where
   by Up q = rw q refl
   by Waiting q = rw q refl
   by Down q = rw q refl
-
-link_is : (sites : List Site) (h : ℕ) (s : Site) → site_at sites h ≡ Some s → link_to sites h ≡ s.link
-link_is sites h s q = ap (λ o. option_map_or (λ (x : Site). x.link) o (new_link Bare Bare)) q
 
 -- ## Pipes
 
@@ -210,17 +207,11 @@ module _ (t : List Entry) (w : NodeWorld) (r : Running) (runs : w.controller ≡
 
 -- ## What is decided
 
-find_same : (p q : ℕ → Bool) → ((n : ℕ) → p n ≡ q n) → (xs : List ℕ) → find p xs ≡ find q xs
-find_same p q same [] = refl
-find_same p q same (x ∷ xs) = ap₂ (λ b o. cond b (Some x) o) (same x) (find_same p q same xs)
-
-free_same : (rows : List PipeRow) (a b : List ℕ) → ((pid : ℕ) → list_any (λ p. eqb p pid) a ≡ list_any (λ p. eqb p pid) b)
-    → lowest_free rows a ≡ lowest_free rows b
 unfolding lowest_free
-free_same rows a b same = find_same (is_free rows a) (is_free rows b) (λ pid. ap (λ x. is_none (pipe_at rows pid) && not x) (same pid)) (range_with_len 2 110)
+given_same rows a b same = find_same (is_free rows a) (is_free rows b) (λ pid. ap (λ x. is_none (pipe_at rows pid) && not x) (same pid)) (range_with_len 2 110)
 
 pub decided_same : (t : HciTables) (v u : LinkView) (h pipe instruction : ℕ) (body : List ℕ) → IsSameView v u
     → decided t v h pipe instruction body ≡ decided t u h pipe instruction body
 decided_same t v u h pipe instruction body s =
-    let free : lowest_free t.rows v.waiting.items ≡ lowest_free t.rows u.waiting.items = free_same t.rows v.waiting.items u.waiting.items s.waiting in
+    let free : lowest_free t.rows v.waiting.items ≡ lowest_free t.rows u.waiting.items = given_same t.rows v.waiting.items u.waiting.items s.waiting in
     rw (s.hosts, s.connected, s.noticed, s.asked, free) refl

@@ -1,8 +1,8 @@
 -- What happens to a world: a node that runs keeps what is read of REC_ERROR of its end.
-use Rattle.std.proofs.Common.{◌≡◌, ◌⊎◌, inl, inr, ℕ, ◌&&◌, Bool, true, false, cond, eqb, List, [], ◌∷◌, ◌++◌, map, sym, refl, ap, ap₂, ◌∙◌, subst}
+use Rattle.std.proofs.Common.{◌≡◌, ◌⊎◌, inl, inr, ℕ, ◌&&◌, Bool, true, false, cond, eqb, List, [], ◌∷◌, ◌++◌, map, sym, refl, ap, ◌∙◌, subst}
 use Rattle.std.specs.Prelude.{Option, Some, None}
 use Rattle.std.specs.List.{AllByRecursion, flat_map}
-use Rattle.std.proofs.lemmas.Bool.{cases_Bool, cond_both, eqb-true, eq-eqb, true≢false, ne_eqb, eqb-false}
+use Rattle.std.proofs.lemmas.Bool.{cases_Bool, eqb-true, eq-eqb, true≢false, ne_eqb, eqb-false}
 use Rattle.trace_model.specs.declared.entry.Entry.{Entry}
 use Rattle.trace_model.specs.declared.line.End.{End}
 use Rattle.link_machine.specs.Machine.{LinkInput}
@@ -21,10 +21,14 @@ use Rattle.node_telling.specs.Telling.{HasEnds, IfItRuns, hosts_in, IsOrderly}
 use Rattle.node_telling.proofs.Mute.{AreMute}
 use Rattle.node_telling.proofs.Nodes.{site_host}
 use Rattle.view_readings.specs.Errors.{ErrorCount}
-use Rattle.view_readings.proofs.Noting.{all-append, all_flat}
+use Rattle.view_readings.proofs.Noting.{all_flat}
 use Rattle.view_readings.proofs.Calm.{reads, reads_append, Leaves, IsStill, still_leaves}
 use Rattle.view_readings.proofs.Setting.{AreUnset}
 use Rattle.view_readings.proofs.Nodes.{IfKeeps, KeepsErrors, leaves_kept, own_steps, own_begins, IsOther, others_step, others_begin, frames_still, arrival_still}
+use Rattle.registry.proofs.ValueLemmas.{AllByRecursion-append}
+use Rattle.turn_laws.proofs.Works.{sites_is}
+use Rattle.node_telling.proofs.Worlds.{site_is}
+use Rattle.kept_laws.proofs.Sites.{hosts_same}
 
 -- ## Sites
 
@@ -33,25 +37,10 @@ abbrev pub far_node : Option Site → Option Running
 far_node None = None
 far_node (Some s) = s.node
 
-pub site_map : (g : Site → Site) → ((s : Site) → (g s).host ≡ s.host) → (sites : List Site) (h : ℕ) (P : Option Site → Type 0)
-    → (site_at sites h ≡ None → P None) → ((s : Site) → site_at sites h ≡ Some s → P (Some (g s))) → P (site_at (map g sites) h)
-site_map g host [] h P none some = none refl
-site_map g host (s ∷ sites) h P none some = by (eqb s.host h) refl (site_map g host sites h P) where
-  same : eqb (g s).host h ≡ eqb s.host h
-  same = ap (λ n. eqb n h) (host s)
-
-  by : (b : Bool) → eqb s.host h ≡ b
-      → ((site_at sites h ≡ None → P None) → ((s : Site) → site_at sites h ≡ Some s → P (Some (g s))) → P (site_at (map g sites) h))
-      → P (site_at (map g (s ∷ sites)) h)
-  by true q later = subst P (sym (ap (λ b. cond b (Some (g s)) (site_at (map g sites) h)) (same ∙ q))) (some s (ap (λ b. cond b (Some s) (site_at sites h)) q))
-  by false q later =
-      subst P (sym (ap (λ b. cond b (Some (g s)) (site_at (map g sites) h)) (same ∙ q))) (later
-      (λ z. none (ap (λ b. cond b (Some s) (site_at sites h)) q ∙ z)) (λ x z. some x (ap (λ b. cond b (Some s) (site_at sites h)) q ∙ z)))
-
 -- nodes stay where each host keeps its own
 pub node_map : (g : Site → Site) → ((s : Site) → (g s).host ≡ s.host) → ((s : Site) → (g s).node ≡ s.node) → (sites : List Site) (h : ℕ)
     → far_node (site_at (map g sites) h) ≡ far_node (site_at sites h)
-node_map g host node sites h = site_map g host sites h (λ o. far_node o ≡ far_node (site_at sites h)) (λ z. sym (ap far_node z))
+node_map g host node sites h = sites_is g host sites h (λ o. far_node o ≡ far_node (site_at sites h)) (λ z. sym (ap far_node z))
     (λ s z. node s ∙ sym (ap far_node z))
 
 changed_site : {Y : Type 0} (p : Site → Y) (b : Bool) (f : Site → Site) (s : Site) → ((s : Site) → p (f s) ≡ p s) → p (changed_if b f s) ≡ p s
@@ -67,7 +56,7 @@ with_kept k f host node sites h = node_map (λ s. changed_if (eqb s.host k) f s)
 pub with_other : (k : ℕ) (f : Site → Site) → ((s : Site) → (f s).host ≡ s.host) → (sites : List Site) (h : ℕ) → eqb h k ≡ false
     → far_node (site_at (with_site k f sites) h) ≡ far_node (site_at sites h)
 with_other k f host sites h off =
-    site_map (λ s. changed_if (eqb s.host k) f s) (λ s. changed_site (λ x. x.host) (eqb s.host k) f s host) sites h
+    sites_is (λ s. changed_if (eqb s.host k) f s) (λ s. changed_site (λ x. x.host) (eqb s.host k) f s host) sites h
     (λ o. far_node o ≡ far_node (site_at sites h)) (λ z. sym (ap far_node z))
     (λ s z. ap (λ b. (changed_if b f s).node) (ap (λ n. eqb n k) (site_host sites h s z) ∙ off) ∙ sym (ap far_node z))
 
@@ -75,7 +64,7 @@ with_other k f host sites h off =
 pub with_own : (k : ℕ) (f : Site → Site) → ((s : Site) → (f s).host ≡ s.host) → (sites : List Site) (s : Site) → site_at sites k ≡ Some s
     → far_node (site_at (with_site k f sites) k) ≡ (f s).node
 with_own k f host sites s here =
-    site_map (λ s. changed_if (eqb s.host k) f s) (λ s. changed_site (λ x. x.host) (eqb s.host k) f s host) sites k (λ o. far_node o ≡ (f s).node)
+    sites_is (λ s. changed_if (eqb s.host k) f s) (λ s. changed_site (λ x. x.host) (eqb s.host k) f s host) sites k (λ o. far_node o ≡ (f s).node)
     (λ z. let no : None ≡ Some s = sym z ∙ here in absurd (cc no))
     (λ x z. let both : Some x ≡ Some s = sym z ∙ here in
     let one : x ≡ s = cc in
@@ -85,15 +74,8 @@ with_own k f host sites s here =
 pub with_none : (k : ℕ) (f : Site → Site) → ((s : Site) → (f s).host ≡ s.host) → (sites : List Site) (h : ℕ) → site_at sites h ≡ None
     → far_node (site_at (with_site k f sites) h) ≡ None
 with_none k f host sites h none =
-    site_map (λ s. changed_if (eqb s.host k) f s) (λ s. changed_site (λ x. x.host) (eqb s.host k) f s host) sites h (λ o. far_node o ≡ None) (λ z. refl)
+    sites_is (λ s. changed_if (eqb s.host k) f s) (λ s. changed_site (λ x. x.host) (eqb s.host k) f s host) sites h (λ o. far_node o ≡ None) (λ z. refl)
     (λ s z. let no : None ≡ Some s = sym none ∙ z in absurd (cc no))
-
--- what holds of all hosts holds of one that is found
-pub found_all : (P : Site → Type 0) (sites : List Site) (h : ℕ) (s : Site) → AllByRecursion P sites → site_at sites h ≡ Some s → P s
-found_all P [] h s all e = absurd (cc e)
-found_all P (x ∷ sites) h s all e =
-    cond_both (eqb x.host h) (Some x) (site_at sites h) (λ o. o ≡ Some s → P s)
-    (λ is f. let same : x ≡ s = cc in subst P same all.0) (λ _ f. found_all P sites h s all.1 f) e
 
 -- hosts have different numbers, none of them 00, and each has an end on its own link
 pub record AreFine (sites : List Site) : Type 0 where
@@ -104,13 +86,9 @@ pub record AreFine (sites : List Site) : Type 0 where
 pub orderly_fine : (w : NodeWorld) → IsOrderly w → AreFine w.sites
 orderly_fine w o = record { different = o.different; hosts = o.hosts; nodes = o.nodes }
 
-pub map_hosts_in : (g : Site → Site) → ((s : Site) → (g s).host ≡ s.host) → (sites : List Site) → hosts_in (map g sites) ≡ hosts_in sites
-map_hosts_in g host [] = refl
-map_hosts_in g host (s ∷ sites) = ap₂ (λ x l. x ∷ l) (host s) (map_hosts_in g host sites)
-
 pub map_fine : (g : Site → Site) → ((s : Site) → (g s).host ≡ s.host) → ((s : Site) → (g s).node ≡ s.node) → (sites : List Site) → AreFine sites → AreFine (map g sites)
 map_fine g host node sites a = record {
-  different = subst AreDifferent (sym (map_hosts_in g host sites)) a.different;
+  different = subst AreDifferent (sym (hosts_same g host sites)) a.different;
   hosts = all_hosts sites a.hosts;
   nodes = all_nodes sites a.nodes;
 } where
@@ -234,7 +212,7 @@ module _ (e : End) (real : e.at_host ≡ true → eqb e.link 0 ≡ false) where
       by_side true far =
           left w (after_controller w h comes c).0 (c.entries ++ frames) x
           (host_node (after_controller w h comes c).0 far ∙ (node_map (link_after_controller h comes c) (λ s. refl) (λ s. refl) w.sites e.link ∙ sym (host_node w far)))
-          (all-append (Leaves e) c.entries frames (others_step e 0 Controller (hosts_in w.sites) r w.memory.plan (λ n. half_in (link_to w.sites n)
+          (AllByRecursion-append (Leaves e) c.entries frames (others_step e 0 Controller (hosts_in w.sites) r w.memory.plan (λ n. half_in (link_to w.sites n)
           (comes_to h comes n)) (entries_for h (arrival Controller (link_to w.sites h) comes)) (AtEnd h i) has refl (near_other far (hosts_in w.sites))
           (still_leaves e (entries_for h (arrival Controller (link_to w.sites h) comes)) came)) (still_leaves e frames frames_so)) k
 
@@ -274,7 +252,7 @@ module _ (e : End) (real : e.at_host ≡ true → eqb e.link 0 ≡ false) where
 
       away : own_node v ≡ own_node w → (e.at_host ≡ true → eqb h e.link ≡ false) → After (v, c.entries ++ frames) x
       away same off =
-          left w v (c.entries ++ frames) x same (all-append (Leaves e) c.entries frames (others s r here q off) (still_leaves e frames
+          left w v (c.entries ++ frames) x same (AllByRecursion-append (Leaves e) c.entries frames (others s r here q off) (still_leaves e frames
           (frames_still e Host h (wires_for (exchanged s.link) comes) c))) k
 
       by_side : (e.at_host ≡ true) ⊎ (e.at_host ≡ false) → (eqb e.link h ≡ true) ⊎ (eqb e.link h ≡ false) → After (v, c.entries ++ frames) x
@@ -296,8 +274,8 @@ module _ (e : End) (real : e.at_host ≡ true → eqb e.link 0 ≡ false) where
   pub has_own : (w : NodeWorld) (h : ℕ) (s : Site) (r : Running) → AreFine w.sites → site_at w.sites h ≡ Some s → s.node ≡ Some r
       → HasEnds s.host (s.host ∷ []) r × (eqb s.host 0 ≡ false) × (s.host ≡ h)
   has_own w h s r fine here q = (
-    subst (IfItRuns s.host (s.host ∷ [])) q (found_all (λ (s : Site). IfItRuns s.host (s.host ∷ []) s.node) w.sites h s fine.nodes here),
-    found_all (λ (s : Site). (eqb s.host 0) ≡ false) w.sites h s fine.hosts here,
+    subst (IfItRuns s.host (s.host ∷ [])) q (site_is (λ (s : Site). IfItRuns s.host (s.host ∷ []) s.node) w.sites h s fine.nodes here),
+    site_is (λ (s : Site). (eqb s.host 0) ≡ false) w.sites h s fine.hosts here,
     site_host w.sites h s here,
   )
 

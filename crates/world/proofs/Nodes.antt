@@ -1,5 +1,5 @@
 -- The node of a bare end, from input to input.
-use Rattle.std.proofs.Common.{◌≡◌, ℕ, ◌-◌, ◌<◌, ◌^◌, List, [], ◌∷◌, ◌++◌, length, drop, map, refl, ap, sym, subst, ◌∙◌, cond, append_assoc, arith}
+use Rattle.std.proofs.Common.{◌≡◌, ℕ, ◌-◌, ◌<◌, ◌^◌, List, [], ◌∷◌, ◌++◌, length, drop, map, refl, ap, sym, subst, ◌∙◌, append_assoc, arith}
 use Rattle.std.proofs.lemmas.List.{append-nil}
 use Rattle.std.specs.Prelude.{Bool, true, false, is_some, ◌==◌, Option, Some, None, Result, Ok, Err}
 use Rattle.link_machine.specs.Machine.{LinkEnd, LinkInput, after_input, after_inputs, turn, whole_acked, new_link_end}
@@ -17,17 +17,13 @@ use Rattle.hcp_chain.specs.Holding.{messages_in as messages_of}
 use Rattle.link_messages.specs.Incoming.{got_chains}
 use Rattle.link_end.specs.declared.«end».End.{End as Kept}
 use Rattle.swp_base.specs.declared.control_frames.Control.{Control}
-use Rattle.swp_base.specs.declared.control_frames.Control.TheVariants.{I, S, Rset, Ua, Act as ActFrame, Clt}
 use Rattle.swp_lpdu.specs.Controls.{control_of}
-use Rattle.swp_base.specs.declared.control_frames.Act.{Act}
 use Rattle.swp_base.specs.declared.link_terms.Cause.TheVariants.{Asked}
-use Rattle.swp_act.specs.declared.ActEvent.{ActEvent}
-use Rattle.swp_act.specs.declared.ActEvent.TheVariants.{Tick as ActTick, Take as ActTake}
+use Rattle.swp_act.specs.declared.ActEvent.TheVariants.{Tick as ActTick}
 use Rattle.shdlc_core.specs.declared.answers.LinkState.{LinkState}
 use Rattle.shdlc_core.specs.declared.answers.LinkState.TheVariants.{Down, Waiting, Up}
-use Rattle.shdlc_core.specs.declared.answers.Due.{Due}
-use Rattle.shdlc_core.specs.Machine.{EndState, Fragment, taken, fetched, fragment_due, ticked, tick_answer, reset_with}
-use Rattle.link_machine.specs.Machine.{Message, ActDue, Refused, oldest, took, brought, heard, is_faulty, news, lpdu_input, give_refusal, frame_fetched, whole_among, report, moved, put_down, with_act, activated, act_answer, role_after, is_open, reset_refusal, reset_by, if_up, window_of}
+use Rattle.shdlc_core.specs.Machine.{fetched, ticked, tick_answer}
+use Rattle.link_machine.specs.Machine.{Message, ActDue, Refused, oldest, brought, lpdu_input, give_refusal, frame_fetched, whole_among, report, is_open, reset_refusal, reset_by, if_up, window_of}
 use Rattle.hcp_packet.specs.Packets.{IsSendable, packet_count}
 use Rattle.link_machine.proofs.Sound.{whole_given}
 use Rattle.link_machine.proofs.Reports.{Reports}
@@ -45,6 +41,8 @@ use Rattle.world.specs.Noting.{side_of, acked_on, reported}
 use Rattle.world.specs.Nodes.{Reached, CanFetch, HasInput, NodeStandsFor}
 use Rattle.world.specs.Sides.{AreNoted}
 use Rattle.world.proofs.Noting.{end_is, told_at, acked_told}
+use Rattle.link_machine.proofs.Kept.{took_got, moved_got, activated_got}
+use Rattle.link_entries.proofs.Stepping.{one_fetched_acked}
 
 pub is_sound : (m : LinkEnd) → Reached m → Sound m
 is_sound m r = let P : LinkEnd → Type 0 = λ e. Sound e in subst P (sym r.is) (sound Bare r.inputs r.sendable)
@@ -83,41 +81,12 @@ reached_on m i a r =
 
 -- ## Messages that came are kept
 
-moved_got : (e : LinkEnd) (b : Bool) (s : EndState) → (moved e b s).got ≡ e.got
-moved_got e false s = refl
-moved_got e true s = refl
-
-down_got : (b : Bool) (e : LinkEnd) → (put_down b e).got ≡ e.got
-down_got false e = refl
-down_got true e = by e.shdlc.phase refl
-  where
-    by : (p : LinkState) → e.shdlc.phase ≡ p → (put_down true e).got ≡ e.got
-    by Up p = rw p refl
-    by Waiting p = rw p refl
-    by Down p = rw p refl
-
-act_got : (o : Option Act) (e : LinkEnd) → (with_act o e).got ≡ e.got
-act_got None e = refl
-act_got (Some act) e = refl
-
-activated_got : (e : LinkEnd) (event : ActEvent) → (activated e event).got ≡ e.got
-activated_got e event =
-    act_got (act_answer e.role event).send (record (put_down (act_answer e.role event).ended_link e) { role = role_after e.role event })
-    ∙ down_got (act_answer e.role event).ended_link e
-
 pub ticked_got : (m : LinkEnd) → (after_input m Tick).got ≡ m.got
 ticked_got m = by (is_open m.role) refl
   where
     by : (b : Bool) → is_open m.role ≡ b → (after_input m Tick).got ≡ m.got
     by true q = rw q (moved_got m (is_some (tick_answer m.shdlc).ended) (ticked m.shdlc))
     by false q = rw q (activated_got m ActTick)
-
-pub reset_got : (m : LinkEnd) (window : Option ℕ) → (after_input m (Reset window)).got ≡ m.got
-reset_got m window = by (reset_refusal m) refl
-  where
-    by : (o : Option Refused) → reset_refusal m ≡ o → (after_input m (Reset window)).got ≡ m.got
-    by None q = rw q (moved_got m (is_some (if_up m.shdlc Asked)) (reset_with m.shdlc (window_of m window)))
-    by (Some why) q = rw q refl
 
 -- ## An input with its report
 
@@ -218,19 +187,11 @@ holds n k m held h stands inbox =
     kept_as n k n.pool m (turn m (Hold held)) h stands (account_moved n.pool n.«end».link k.link None inbox h.has.accounts)
     (reached_on m (FromNode (Hold held)) tt h.has.reached) refl (held_acked m held)
 
-sent_acked : (s : EndState) → (fetched s).session.acked ≡ s.session.acked
-sent_acked s = go s.due (fragment_due s.session) refl refl
-  where
-    go : (ds : List Due) (o : Option Fragment) → s.due ≡ ds → fragment_due s.session ≡ o → (fetched s).session.acked ≡ s.session.acked
-    go [] None p q = rw (p, q) refl
-    go [] (Some info) p q = rw (p, q) refl
-    go (d ∷ ds) o p q = rw p refl
-
 fetched_same : (m : LinkEnd) → ((frame_fetched m).got ≡ m.got) × (whole_acked (frame_fetched m) ≡ whole_acked m)
 fetched_same m = go m.acts refl
   where
     at : whole_among m.sent (fetched m.shdlc).session.acked ≡ whole_acked m
-    at = ap (whole_among m.sent) (sent_acked m.shdlc)
+    at = ap (whole_among m.sent) (one_fetched_acked m.shdlc)
 
     go : (acts : List ActDue) → m.acts ≡ acts → ((frame_fetched m).got ≡ m.got) × (whole_acked (frame_fetched m) ≡ whole_acked m)
     go [] p = rw p (refl, at)
@@ -352,25 +313,6 @@ fetches_one n k pool m at session pid chain message before now h stands accounts
 -- a message that was fetched is live
 pub fetched_live : (k : Kept) (pool : PoolState) (chain : Chain) → Accounts k pool (Some chain) → IsLive pool chain
 fetched_live k pool chain a = a.fetched.live
-
-heard_got : (m : LinkEnd) (c : Control) → (took m c ≡ cond (is_open m.role) (heard m c) m)
-    → (brought m c ≡ cond (is_open m.role) (cond (is_faulty (taken m.shdlc c).session) [] (news m.shdlc.session (taken m.shdlc c))) [])
-    → (took m c).got ≡ m.got ++ brought m c
-heard_got m c t b = by (is_open m.role) (is_faulty (taken m.shdlc c).session) refl refl
-  where
-    by : (o f : Bool) → is_open m.role ≡ o → is_faulty (taken m.shdlc c).session ≡ f → (took m c).got ≡ m.got ++ brought m c
-    by false f p q = rw (t, b, p) (sym (append-nil m.got))
-    by true true p q = rw (t, b, p, q) (down_got true m ∙ sym (append-nil m.got))
-    by true false p q = rw (t, b, p, q) refl
-
--- what a frame brings stands behind what came before
-took_got : (m : LinkEnd) (c : Control) → (took m c).got ≡ m.got ++ brought m c
-took_got m (ActFrame act again) = activated_got m (ActTake act again) ∙ sym (append-nil m.got)
-took_got m Clt = sym (append-nil m.got)
-took_got m (I ns nr info) = heard_got m (I ns nr info) refl refl
-took_got m (S kind nr) = heard_got m (S kind nr) refl refl
-took_got m (Rset window caps) = heard_got m (Rset window caps) refl refl
-took_got m Ua = heard_got m Ua refl refl
 
 -- a message came with a frame, or none did, and it was fetched
 pub with_message : (n fetched : Node) (m : LinkEnd) (c : Control) (at : End) (session : ℕ) (before mid now : List Entry) → m.got ≡ []

@@ -1,5 +1,5 @@
 -- An end sends its frames one by one.
-use Rattle.std.proofs.Common.{◌≡◌, ℕ, zero, suc, ◌≤◌, List, [], ◌∷◌, ◌++◌, length, refl, ap, sym, subst, ◌∙◌, append_assoc, arith}
+use Rattle.std.proofs.Common.{◌≡◌, ℕ, suc, ◌≤◌, List, [], ◌∷◌, ◌++◌, length, refl, ap, sym, subst, ◌∙◌, append_assoc, arith}
 use Rattle.std.proofs.lemmas.List.{append-nil}
 use Rattle.std.specs.Prelude.{Ok, Option, Some, None, IfSome, option_map}
 use Rattle.swp_base.specs.declared.control_frames.Control.{Control}
@@ -20,6 +20,9 @@ use Rattle.world.specs.Nodes.{NodeStandsFor}
 use Rattle.world.specs.Sides.{LinkStandsFor, IsMidway, AreNoted}
 use Rattle.world.proofs.Noting.{more_noted}
 use Rattle.world.proofs.Bare.{is_bare, plain_fetched}
+use Rattle.link_machine.proofs.Places.{fetched_due}
+use Rattle.session_laws.proofs.Ties.{nothing_sent}
+use Rattle.link_laws.proofs.Idle.{after_frames_idle}
 
 -- ## The frames of an end without ACT frames
 
@@ -35,14 +38,6 @@ plain_next e p = rw p refl
 -- one is sent
 first_frame : (s : EndState) (c : Control) (n : ℕ) → frame_due s ≡ Some c → frames_of (suc n) s ≡ c ∷ frames_of n (fetched s)
 first_frame s c n q = rw q refl
-
-fewer_due : (s : EndState) (n : ℕ) → length s.due ≤ suc n → length (fetched s).due ≤ n
-fewer_due s n i = go s.due (fragment_due s.session) refl refl
-  where
-    go : (ds : List Due) (o : Option Fragment) → s.due ≡ ds → fragment_due s.session ≡ o → length (fetched s).due ≤ n
-    go [] None p q = rw (p, q) (let l = ap (λ (xs : List Due). length xs) p in omega (arith, l))
-    go [] (Some info) p q = rw (p, q) (let l = ap (λ (xs : List Due). length xs) p in omega (arith, l))
-    go (d ∷ ds) o p q = rw p (let l = ap (λ (xs : List Due). length xs) p in omega (arith, l, i))
 
 -- nothing is to be sent
 none_due : (s : EndState) → frame_due s ≡ None → s.due ≡ []
@@ -61,14 +56,6 @@ none_fetched s q = go (fragment_due s.session) refl
     go : (o : Option Fragment) → fragment_due s.session ≡ o → fetched s ≡ s
     go None p = rw (empty, p) refl
     go (Some info) p = absurd (let e = empty in let z = rw (e, p) at q in cc)
-
-none_frames : (n : ℕ) (s : EndState) → frame_due s ≡ None → frames_of n s ≡ []
-none_frames zero s q = refl
-none_frames (suc n) s q = rw q refl
-
-none_after : (n : ℕ) (s : EndState) → frame_due s ≡ None → after_frames n s ≡ s
-none_after zero s q = refl
-none_after (suc n) s q = ap (after_frames n) (none_fetched s q) ∙ none_after n s q
 
 -- ## One by one
 
@@ -131,7 +118,7 @@ sending_goes_on at near far near2 far2 new resets resets2 l m before mid now lef
         let frames : frames_of (suc left) s.e.shdlc ≡ c ∷ frames_of left (fetched s.e.shdlc) = first_frame s.e.shdlc c left due in
         let f : LinkEnd = record s.e { shdlc = fetched s.e.shdlc } in
         let N : LinkEnd → Type 0 = λ z. NodeStandsFor new z in
-        let few : length (fetched s.e.shdlc).due ≤ 12 = (let i = fewer_due s.e.shdlc 11 s.midway.few in omega (arith, i)) in
+        let few : length (fetched s.e.shdlc).due ≤ 12 = (let i = fetched_due s.e.shdlc 11 s.midway.few in omega (arith, i)) in
         let halfway : IsMidway (record near { node = new }) far resets s.link f =
         record {
           here = record {
@@ -151,7 +138,7 @@ sending_goes_on at near far near2 far2 new resets resets2 l m before mid now lef
           notes = s.notes ++ put_entries (side_of at) s.link c;
           midway = r.0;
           no_acts = s.no_acts;
-          few = fewer_due s.e.shdlc left s.few;
+          few = fetched_due s.e.shdlc left s.few;
           link_is = sym (ap (put_all s.link) frames) ∙ s.link_is;
           end_is = s.end_is;
           notes_are = s.notes_are ∙ (ap (λ cs. s.notes ++ puts_entries (side_of at) s.link cs) frames
@@ -198,8 +185,8 @@ sending_stops at near far new resets l m before now left result s node answer is
         let N : LinkEnd → Type 0 = λ z. NodeStandsFor new z in
         let same : after_input s.e Fetch ≡ s.e =
         plain_fetched s.e s.no_acts ∙ ap (λ x. record s.e { shdlc = x }) (none_fetched s.e.shdlc none) in
-        sent at near far new resets l m before now left s (subst N same node) (none_due s.e.shdlc none) (none_frames left s.e.shdlc none)
-        (none_after left s.e.shdlc none)
+        sent at near far new resets l m before now left s (subst N same node) (none_due s.e.shdlc none) (nothing_sent left s.e.shdlc none)
+        (after_frames_idle left s.e.shdlc none)
 
 -- the most frames were sent
 pub sending_ends : (at : End) (near far : Side) (resets : ℕ) (l : Link) (m : LinkEnd) (before now : List Entry)

@@ -5,8 +5,9 @@ use Rattle.hcp_packet.specs.Packets.{packet_of}
 use Rattle.shdlc_core.specs.Machine.{Fragment}
 use Rattle.link_messages.specs.Incoming.{IsInboxReady, Joins}
 use Rattle.link_end.specs.Received.{ReceivesOn}
-use Rattle.link_end.proofs.ReceiveLemmas.{received_one, received_none, on_ok}
+use Rattle.link_end.proofs.ReceiveLemmas.{received_one, received_none}
 use Rattle.link_end.proofs.parts.receive.Goals as goal
+use Rattle.swp_base.proofs.Results.{on_ok}
 
 pub returns-in-Some-clause-ok : goal.returns-in-Some-clause-ok
 returns-in-Some-clause-ok c =

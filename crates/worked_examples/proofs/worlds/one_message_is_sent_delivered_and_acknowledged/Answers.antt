@@ -1,22 +1,19 @@
-use Rattle.std.proofs.Common.{◌≡◌, ◌<◌, ℕ, length, List, [], ◌∷◌, refl, sym, ap, ◌∙◌, subst, arith}
+use Rattle.std.proofs.Common.{◌≡◌, ℕ, List, [], ◌∷◌, refl, sym, ap, ◌∙◌, subst, arith}
 use Rattle.std.specs.List.{Contains}
 use Rattle.trace_model.specs.declared.line.Header.{Header}
 use Rattle.trace_model.specs.declared.line.Line.{Line}
 use Rattle.history.specs.Histories.{History}
 use Rattle.history.specs.Follows.{opened}
 use Rattle.world.specs.declared.world_steps.World.{World}
-use Rattle.world.specs.Worlds.{WorldStandsFor, HasRoomForLine}
+use Rattle.world.specs.Worlds.{WorldStandsFor}
 use Rattle.worked_examples.proofs.worlds.one_message_is_sent_delivered_and_acknowledged.Goals as goal
+use Rattle.world.proofs.Worlds.{has_room}
 
 -- a world that stands for a history under its own header
 own : (w : World) (header : Header) (lines : List Line) (t : History) → WorldStandsFor w header lines t → WorldStandsFor w w.header lines t
 own w header lines t h =
     let P : Header → Type 0 = λ x. WorldStandsFor w x lines t in
     subst P (sym h.header_is) h
-
--- behind few lines it has room for one more
-has_room : (w : World) (header : Header) (lines : List Line) (t : History) → WorldStandsFor w header lines t → length lines < 20000 → HasRoomForLine w
-has_room w header lines t stands few = record { lines = lines; history = t; stands = own w header lines t stands; few = few }
 
 has_two : (hosts : List ℕ) (x : ℕ) → hosts ≡ 2 ∷ [] → x ≡ 2 → Contains hosts x
 has_two hosts x is two =

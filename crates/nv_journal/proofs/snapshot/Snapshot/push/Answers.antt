@@ -1,8 +1,9 @@
 use Rattle.std.proofs.Common.{◌≡◌, ◌+◌, ◌∷◌, ◌++◌, [], length, sym, ap, ◌∙◌, subst, arith, append_assoc, rules}
 use Rattle.journal_laws.specs.Records.{record_bytes}
 use Rattle.nv_journal.specs.Snapshots.{bodies_of, AreRecords}
-use Rattle.nv_journal.proofs.Snapshotting.{one_more_body, still_records, size_of_bytes, few_bodies, room_for}
+use Rattle.nv_journal.proofs.Snapshotting.{one_more_body, still_records, size_of_bytes, few_bodies}
 use Rattle.nv_journal.proofs.snapshot.Snapshot.push.Goals as goal
+use Rattle.swp_base.proofs.Results.{where_ok}
 
 grown : (c : goal.After-self-1)
     → c.try_extend_from_slice-fits.new.self.items ≡ c.self.inside.bytes.items ++ 90 ∷ record_bytes c.self.inside.many c.args.body.now
@@ -13,7 +14,7 @@ grown c =
     let room = rw (← c.self.view_is) at c.requires.room in
     let record_is = c.as_slice.ensures.value ∙ c.record-record.ensures in
     let fits = c.try_extend_from_slice-fits.ensures.variant.1 (omega (arith, c.push.ensures.len, size, room, ap length record_is)) in
-    room_for c.try_extend_from_slice-fits.result _ fits c.try_extend_from_slice-fits.ensures.ok
+    where_ok c.try_extend_from_slice-fits.result _ fits c.try_extend_from_slice-fits.ensures.ok
     ∙ ap (λ l. c.push.new.self.items ++ l) record_is
     ∙ ap (λ l. l ++ record_bytes s.many body) c.push.ensures.items
     ∙ append_assoc s.bytes.items (90 ∷ []) (record_bytes s.many body)
