@@ -51,4 +51,3 @@ received_none pool box lies = record {
   counted = refl;
   elsewhere = record { owners = sym (with_used-same pool.owners box.joiner.owner); others = λ other live away. (live, refl, away) };
 }
-

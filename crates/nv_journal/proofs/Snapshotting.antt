@@ -81,4 +81,3 @@ no_records bytes none = record {
   short = subst (AllByRecursion IsBody) (sym (no_bodies bytes none)) tt;
   room = subst (λ l. used l ≤ 2560) (sym (no_bodies bytes none)) (omega arith);
 }
-
