@@ -56,11 +56,13 @@ held_set slots b v p low = sum_by-set (blocks_in p) slots b v None low
 -- ---- a chain grown, freed or begun
 
 grown_held : (slots : List (Option Held)) (o b : ℕ) (bytes : List ℕ) → IsLiveAt slots o (Some b)
-    → blocks_held (with_chain slots b o (held_bytes slots b ++ bytes)) o + blocks_for (length (held_bytes slots b)) ≡ blocks_held slots o + blocks_for (length (held_bytes slots b) + length bytes)
+    → blocks_held (with_chain slots b o (held_bytes slots b ++ bytes)) o + blocks_for (length (held_bytes slots b))
+    ≡ blocks_held slots o + blocks_for (length (held_bytes slots b) + length bytes)
 grown_held slots o b bytes live =
     let low = slot_low slots b live.0 in
     let changed = held_set slots b (Some (record { owner = o; bytes = held_bytes slots b ++ bytes })) o low in
-    let before : blocks_in o (slot slots b) ≡ blocks_for (length (held_bytes slots b)) = ap (blocks_in o) (live_slot slots o b live) ∙ in_same o (held_bytes slots b) in
+    let before : blocks_in o (slot slots b) ≡ blocks_for (length (held_bytes slots b)) = ap (blocks_in o) (live_slot slots o b live)
+    ∙ in_same o (held_bytes slots b) in
     let after : blocks_in o (Some (record { owner = o; bytes = held_bytes slots b ++ bytes })) ≡ blocks_for (length (held_bytes slots b) + length bytes) =
     in_same o (held_bytes slots b ++ bytes) ∙ ap blocks_for (length-append (held_bytes slots b) bytes) in
     omega (arith, changed, before, after)
@@ -93,7 +95,8 @@ no_blocks = refl
 
 pub append_held : (slots : List (Option Held)) (o : ℕ) (before : Option ℕ) (bytes : List ℕ) (after : Option ℕ) → IsLiveAt slots o before
     → IsNamedAfter slots before bytes after
-    → blocks_held (put_at slots after o (named_bytes slots before ++ bytes)) o + blocks_for (length (named_bytes slots before)) ≡ blocks_held slots o + blocks_for (length (named_bytes slots before) + length bytes)
+    → blocks_held (put_at slots after o (named_bytes slots before ++ bytes)) o + blocks_for (length (named_bytes slots before))
+    ≡ blocks_held slots o + blocks_for (length (named_bytes slots before) + length bytes)
 append_held slots o (Some b) bytes after live name =
     ap (λ n. blocks_held (put_at slots n o (held_bytes slots b ++ bytes)) o + blocks_for (length (held_bytes slots b))) name ∙ grown_held slots o b bytes live
 append_held slots o None [] after live name = ap (λ n. blocks_held (put_at slots n o []) o + blocks_for 0) name
@@ -117,7 +120,8 @@ remove_held slots o None live = omega (arith, no_blocks)
 remove_held slots o (Some b) live =
     let low = slot_low slots b live.0 in
     let changed = held_set slots b None o low in
-    let before : blocks_in o (slot slots b) ≡ blocks_for (length (held_bytes slots b)) = ap (blocks_in o) (live_slot slots o b live) ∙ in_same o (held_bytes slots b) in
+    let before : blocks_in o (slot slots b) ≡ blocks_for (length (held_bytes slots b)) = ap (blocks_in o) (live_slot slots o b live)
+    ∙ in_same o (held_bytes slots b) in
     omega (arith, changed, before)
 
 pub remove_others : (slots : List (Option Held)) (o : ℕ) (name : Option ℕ) (p : ℕ) → IsLiveAt slots o name → p ≢ o
@@ -189,7 +193,8 @@ module _ (pool : PoolState) (counted : IsCounted pool) (o : ℕ) (has : o < leng
           | inl same ↦ subst (λ x. (get_or owners x nobody).used ≡ (get_or owners x nobody).aside + blocks_held slots x) (sym same)
               (ap (λ x. x.used) here ∙ (is_used ∙ ap (λ n. n + blocks_held slots o) (sym (ap (λ x. x.aside) here))))
           | inr apart ↦ ap (λ x. x.used) (there p apart) ∙ (counted.used p (omega (arith, len))
-              ∙ (ap (λ n. (get_or pool.owners p nobody).aside + n) (sym (others p apart)) ∙ ap (λ n. n + blocks_held slots p) (sym (ap (λ x. x.aside) (there p apart)))))
+              ∙ (ap (λ n. (get_or pool.owners p nobody).aside + n) (sym (others p apart))
+              ∙ ap (λ n. n + blocks_held slots p) (sym (ap (λ x. x.aside) (there p apart)))))
         ];
         within = λ p. elim (cases_eq p o) [
           | inl same ↦ subst (λ x. (get_or owners x nobody).used ≤ (get_or owners x nobody).quota) (sym same)
@@ -205,7 +210,15 @@ module _ (pool : PoolState) (counted : IsCounted pool) (o : ℕ) (has : o < leng
   free_after slots free used aside left rest change =
       let new : Owner = record { quota = quota_of pool o; used = used; aside = aside } in
       let nobody : Owner = record { quota = 0; used = 0; aside = 0 } in
-      omega (arith, rest, change, sum_by-set (λ x. x.quota) pool.owners o new nobody has, sum_by-set (λ x. x.used) pool.owners o new nobody has, sum_by-set (λ x. x.aside) pool.owners o new nobody has)
+      omega (
+        arith,
+        rest,
+        change,
+        sum_by-set (λ x. x.quota) pool.owners o new nobody has,
+        sum_by-set (λ x. x.used) pool.owners o new nobody has,
+        sum_by-set
+            (λ x. x.aside) pool.owners o new nobody has,
+      )
 
   -- what an owner may still use is free
   pub enough_free : (free : ℕ) → AreFree pool.owners free → spare_of pool o ≤ free
@@ -216,7 +229,13 @@ module _ (pool : PoolState) (counted : IsCounted pool) (o : ℕ) (has : o < leng
       let sums = sum_le (λ x. x.used) (λ x. x.quota) nobody owners (λ p low. elim (cases_eq p o) [
         | inl same ↦ subst (λ x. (get_or owners x nobody).used ≤ (get_or owners x nobody).quota) (sym same)
             (omega (arith, ap (λ x. x.used) (get_or-set_same pool.owners o full nobody has), ap (λ x. x.quota) (get_or-set_same pool.owners o full nobody has)))
-        | inr apart ↦ omega (arith, ap (λ x. x.used) (get_or-set_other pool.owners o p full nobody apart), ap (λ x. x.quota) (get_or-set_other pool.owners o p full nobody apart), counted.within p)
+        | inr apart ↦ omega (
+          arith,
+          ap (λ x. x.used) (get_or-set_other pool.owners o p full nobody apart),
+          ap (λ x. x.quota)
+              (get_or-set_other pool.owners o p full nobody apart),
+          counted.within p,
+        )
       ]) in
       omega (arith, rest, sums, sum_by-set (λ x. x.quota) pool.owners o full nobody has, sum_by-set (λ x. x.used) pool.owners o full nobody has)
 
@@ -230,14 +249,17 @@ module _ (pool : PoolState) (counted : IsCounted pool) (free : ℕ) (rest : AreF
       → left + blocks_for (length (named_bytes pool.slots before) + length bytes) ≡ free + blocks_for (length (named_bytes pool.slots before))
       → more ≡ blocks_for (length (named_bytes pool.slots before) + length bytes) - blocks_for (length (named_bytes pool.slots before))
       → more ≤ spare_of pool o → old ≡ owner_at pool.owners o
-      → AreCounted slots (set pool.owners o (record { quota = old.quota; used = old.used + more; aside = old.aside })) × AreFree (set pool.owners o (record { quota = old.quota; used = old.used + more; aside = old.aside })) left
+      → AreCounted slots (set pool.owners o (record { quota = old.quota; used = old.used + more; aside = old.aside }))
+      × AreFree (set pool.owners o (record { quota = old.quota; used = old.used + more; aside = old.aside })) left
   taken_counted before bytes after slots left more old live name slots_are left_is more_is room old_is =
       let n = length (named_bytes pool.slots before) in
       let grows : blocks_for n ≤ blocks_for (n + length bytes) = omega arith in
       let held = append_held pool.slots o before bytes after live name in
       let held_is : blocks_held slots o ≡ blocks_held pool.slots o + more = ap (λ ss. blocks_held ss o) slots_are ∙ omega (arith, held, more_is, grows) in
-      subst (λ (x : Owner). AreCounted slots (set pool.owners o (record { quota = x.quota; used = x.used + more; aside = x.aside })) × AreFree (set pool.owners o (record { quota = x.quota; used = x.used + more; aside = x.aside })) left) (sym old_is) (
-        counted_after pool counted o has slots (used_of pool o + more) (aside_of pool o) (omega (arith, held_is, counted.used o has)) (omega (arith, counted.within o, room))
+      subst (λ (x : Owner). AreCounted slots (set pool.owners o (record { quota = x.quota; used = x.used + more; aside = x.aside }))
+      × AreFree (set pool.owners o (record { quota = x.quota; used = x.used + more; aside = x.aside })) left) (sym old_is) (
+        counted_after pool counted o has slots (used_of pool o + more) (aside_of pool o) (omega (arith, held_is, counted.used o has))
+            (omega (arith, counted.within o, room))
             (λ p apart. ap (λ ss. blocks_held ss p) slots_are ∙ append_others pool.slots o before bytes after p live name apart),
         free_after pool counted o has slots free (used_of pool o + more) (aside_of pool o) left rest (omega (arith, left_is, more_is, grows)),
       )
@@ -246,29 +268,36 @@ module _ (pool : PoolState) (counted : IsCounted pool) (free : ℕ) (rest : AreF
   pub given_counted : (name : Option ℕ) (slots : List (Option Held)) (left n : ℕ) (old : Owner) → IsLiveAt pool.slots o name
       → slots ≡ removed_at pool.slots name → left ≡ free + blocks_for (length (named_bytes pool.slots name))
       → n ≡ blocks_for (length (named_bytes pool.slots name)) → old ≡ owner_at pool.owners o
-      → AreCounted slots (set pool.owners o (record { quota = old.quota; used = old.used - n; aside = old.aside })) × AreFree (set pool.owners o (record { quota = old.quota; used = old.used - n; aside = old.aside })) left
+      → AreCounted slots (set pool.owners o (record { quota = old.quota; used = old.used - n; aside = old.aside }))
+      × AreFree (set pool.owners o (record { quota = old.quota; used = old.used - n; aside = old.aside })) left
   given_counted name slots left n old live slots_are left_is n_is old_is =
       let low = chain_low pool counted o has name live in
       let held = remove_held pool.slots o name live in
       let held_is : blocks_held slots o + n ≡ blocks_held pool.slots o = ap (λ ss. blocks_held ss o + n) slots_are ∙ omega (arith, held, n_is) in
-      subst (λ (x : Owner). AreCounted slots (set pool.owners o (record { quota = x.quota; used = x.used - n; aside = x.aside })) × AreFree (set pool.owners o (record { quota = x.quota; used = x.used - n; aside = x.aside })) left) (sym old_is) (
-        counted_after pool counted o has slots (used_of pool o - n) (aside_of pool o) (omega (arith, held_is, counted.used o has, low, n_is)) (omega (arith, counted.within o))
+      subst (λ (x : Owner). AreCounted slots (set pool.owners o (record { quota = x.quota; used = x.used - n; aside = x.aside }))
+      × AreFree (set pool.owners o (record { quota = x.quota; used = x.used - n; aside = x.aside })) left) (sym old_is) (
+        counted_after pool counted o has slots (used_of pool o - n) (aside_of pool o) (omega (arith, held_is, counted.used o has, low, n_is))
+            (omega (arith, counted.within o))
             (λ p apart. ap (λ ss. blocks_held ss p) slots_are ∙ remove_others pool.slots o name p live apart),
         free_after pool counted o has slots free (used_of pool o - n) (aside_of pool o) left rest (omega (arith, left_is, n_is, low)),
       )
 
 -- a chain went to another owner: as if it was given back and taken again
-pub passed_counted : (pool : PoolState) (counted : IsCounted pool) (free : ℕ) (rest : AreFree pool.owners free) (o q : ℕ) (has : o < length pool.owners) (other : q < length pool.owners) (name : Option ℕ) (slots : List (Option Held)) (n : ℕ) (old new : Owner)
+pub passed_counted : (pool : PoolState) (counted : IsCounted pool) (free : ℕ) (rest : AreFree pool.owners free) (o q : ℕ) (has : o < length pool.owners)
+    (other : q < length pool.owners) (name : Option ℕ) (slots : List (Option Held)) (n : ℕ) (old new : Owner)
     → IsLiveAt pool.slots o name → slots ≡ put_at pool.slots name q (named_bytes pool.slots name)
     → n ≡ blocks_for (length (named_bytes pool.slots name)) → n ≤ spare_of pool q → old ≡ owner_at pool.owners o
     → new ≡ owner_at (set pool.owners o (record { quota = old.quota; used = old.used - n; aside = old.aside })) q
-    → AreCounted slots (set (set pool.owners o (record { quota = old.quota; used = old.used - n; aside = old.aside })) q (record { quota = new.quota; used = new.used + n; aside = new.aside }))
-    × AreFree (set (set pool.owners o (record { quota = old.quota; used = old.used - n; aside = old.aside })) q (record { quota = new.quota; used = new.used + n; aside = new.aside })) free
+    → AreCounted slots (set (set pool.owners o (record { quota = old.quota; used = old.used - n; aside = old.aside })) q
+    (record { quota = new.quota; used = new.used + n; aside = new.aside }))
+    × AreFree (set (set pool.owners o (record { quota = old.quota; used = old.used - n; aside = old.aside })) q
+    (record { quota = new.quota; used = new.used + n; aside = new.aside })) free
 passed_counted pool counted free rest o q has other name slots n old new live slots_are n_is room old_is new_is =
     let lowered : Owner = record { quota = old.quota; used = old.used - n; aside = old.aside } in
     let between : PoolState = record { slots = removed_at pool.slots name; owners = set pool.owners o lowered; places = pool.places } in
     let nobody : Owner = record { quota = 0; used = 0; aside = 0 } in
-    let one = given_counted pool counted free rest o has name (removed_at pool.slots name) (free + blocks_for (length (named_bytes pool.slots name))) n old live refl refl n_is old_is in
+    let one = given_counted pool counted free rest o has name (removed_at pool.slots name)
+    (free + blocks_for (length (named_bytes pool.slots name))) n old live refl refl n_is old_is in
     let low = chain_low pool counted o has name live in
     let still : q < length between.owners = omega (arith, other, length-set pool.owners o lowered) in
     let fits : (get_or between.owners q nobody).used + n ≤ (get_or between.owners q nobody).quota = elim (cases_eq q o) [
@@ -283,7 +312,8 @@ passed_counted pool counted free rest o q has other name slots n old new live sl
     let aside = (get_or between.owners q nobody).aside in
     let held = again_held pool.slots o q name live in
     let held_is : blocks_held slots q ≡ blocks_held between.slots q + n = ap (λ ss. blocks_held ss q) slots_are ∙ omega (arith, held, n_is) in
-    subst (λ (x : Owner). AreCounted slots (set between.owners q (record { quota = x.quota; used = x.used + n; aside = x.aside })) × AreFree (set between.owners q (record { quota = x.quota; used = x.used + n; aside = x.aside })) free) (sym new_is) (
+    subst (λ (x : Owner). AreCounted slots (set between.owners q (record { quota = x.quota; used = x.used + n; aside = x.aside }))
+    × AreFree (set between.owners q (record { quota = x.quota; used = x.used + n; aside = x.aside })) free) (sym new_is) (
       counted_after between one.0 q still slots (used + n) aside (omega (arith, held_is, one.0.used q still)) fits
           (λ p apart. ap (λ ss. blocks_held ss p) slots_are ∙ again_others pool.slots o q name p live apart),
       free_after between one.0 q still slots (free + blocks_for (length (named_bytes pool.slots name))) (used + n) aside free one.1 (omega (arith, n_is)),
@@ -301,7 +331,8 @@ new_owner (quota ∷ quotas) zero = (refl, refl)
 new_owner (quota ∷ quotas) (suc p) = new_owner quotas p
 
 new_sums : (quotas : List ℕ)
-    → (sum_by (λ o. o.quota) (new_owners quotas) ≡ sum_by (λ quota. quota) quotas) × (sum_by (λ o. o.used) (new_owners quotas) ≡ 0) × (sum_by (λ o. o.aside) (new_owners quotas) ≡ 0)
+    → (sum_by (λ o. o.quota) (new_owners quotas) ≡ sum_by (λ quota. quota) quotas) × (sum_by (λ o. o.used) (new_owners quotas) ≡ 0)
+    × (sum_by (λ o. o.aside) (new_owners quotas) ≡ 0)
 new_sums [] = (refl, refl, refl)
 new_sums (quota ∷ quotas) =
     let new : Owner = record { quota = quota; used = 0; aside = 0 } in

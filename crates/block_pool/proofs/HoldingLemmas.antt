@@ -49,8 +49,11 @@ lies_apart_by_owner X chain_of pool owner xs other own live differ =
 pub lie_apart_pushed : (X : Type 0) (chain_of : X → Chain) (xs : List X) (y : X) → LieApart X chain_of xs → LiesApart X chain_of xs (chain_of y)
     → LieApart X chain_of (xs ++ y ∷ [])
 lie_apart_pushed X chain_of [] y apart here = (tt, tt)
-lie_apart_pushed X chain_of (x ∷ xs) y apart here =
-    (all_pushed X (λ z. IsApart (chain_of x) (chain_of z)) xs y apart.0 (apart_turned (chain_of y) (chain_of x) here.0), lie_apart_pushed X chain_of xs y apart.1 here.1)
+lie_apart_pushed X chain_of (x ∷ xs) y apart here = (
+  all_pushed X (λ z. IsApart (chain_of x) (chain_of z)) xs y apart.0
+      (apart_turned (chain_of y) (chain_of x) here.0),
+  lie_apart_pushed X chain_of xs y apart.1 here.1,
+)
 
 -- each of these chains is live and has the bytes that it had
 pub kept_each : (X : Type 0) (chain_of : X → Chain) (old new : PoolState) (owner : ℕ) (xs : List X) → OwnsAll X chain_of old owner xs
@@ -85,7 +88,8 @@ kept_all X chain_of old new owner before after xs keeps own apart =
     )
 
 -- the same of a call on many chains
-pub kept_beside : (X Y Z : Type 0) (chain_of : X → Chain) (before_of : Y → Chain) (after_of : Z → Chain) (old new : PoolState) (owner : ℕ) (before : List Y) (after : List Z) (xs : List X)
+pub kept_beside : (X Y Z : Type 0) (chain_of : X → Chain) (before_of : Y → Chain) (after_of : Z → Chain) (old new : PoolState) (owner : ℕ) (before : List Y)
+    (after : List Z) (xs : List X)
     → KeepsAllOthers Y Z before_of after_of old new before after → OwnsAll X chain_of old owner xs
     → AllByRecursion (λ x. LiesApart Y before_of before (chain_of x)) xs
     → KeptAll X chain_of old new owner xs × AllByRecursion (λ x. LiesApart Z after_of after (chain_of x)) xs
@@ -95,7 +99,8 @@ kept_beside X Y Z chain_of before_of after_of old new owner before after xs keep
     (λ x o. let k = keeps (chain_of x) o.0.live o.1 in (k.2, (k.0, k.1)))
     (all_joined X (λ x. IsOwnChain old owner (chain_of x)) (λ x. LiesApart Y before_of before (chain_of x)) xs own apart) in (
       kept_each X chain_of old new owner xs own
-          (all_mapped X (λ x. LiesApart Z after_of after (chain_of x) × (IsLive new (chain_of x) × (chain_bytes new (chain_of x) ≡ chain_bytes old (chain_of x))))
+          (all_mapped X
+          (λ x. LiesApart Z after_of after (chain_of x) × (IsLive new (chain_of x) × (chain_bytes new (chain_of x) ≡ chain_bytes old (chain_of x))))
           (λ x. IsLive new (chain_of x) × (chain_bytes new (chain_of x) ≡ chain_bytes old (chain_of x))) xs (λ x e. e.1) each),
       all_mapped X (λ x. LiesApart Z after_of after (chain_of x) × (IsLive new (chain_of x) × (chain_bytes new (chain_of x) ≡ chain_bytes old (chain_of x))))
           (λ x. LiesApart Z after_of after (chain_of x)) xs (λ x e. e.0) each,
@@ -118,7 +123,8 @@ used-with_used owners o n low =
 pub quota-with_used : (owners : List Owner) (o n : ℕ) → o < length owners → (owner_at (with_used owners o n) o).quota ≡ (owner_at owners o).quota
 quota-with_used owners o n low =
     let nobody : Owner = record { quota = 0; used = 0; aside = 0 } in
-    ap (λ (x : Owner). x.quota) (get_or-set_same owners o (record { quota = (owner_at owners o).quota; used = n; aside = (owner_at owners o).aside }) nobody low)
+    ap (λ (x : Owner). x.quota)
+    (get_or-set_same owners o (record { quota = (owner_at owners o).quota; used = n; aside = (owner_at owners o).aside }) nobody low)
 
 pub other-with_used : (owners : List Owner) (o n p : ℕ) → p ≢ o → owner_at (with_used owners o n) p ≡ owner_at owners p
 other-with_used owners o n p differ =
@@ -133,7 +139,8 @@ pub counted_keeps : (old new : PoolState) (o used aside : ℕ) (chain : Chain) �
     → IsLive old chain
     → IsLive new chain × (chain_bytes new chain ≡ chain_bytes old chain)
 counted_keeps old new o used aside chain slots owners live =
-    let len : length new.owners ≡ length old.owners = ap length owners ∙ length-set old.owners o (record { quota = (owner_at old.owners o).quota; used = used; aside = aside }) in (
+    let len : length new.owners ≡ length old.owners = ap length owners
+    ∙ length-set old.owners o (record { quota = (owner_at old.owners o).quota; used = used; aside = aside }) in (
       (omega (arith, len, live.0), subst (λ s. IsLiveAt s chain.owner chain.first) (sym slots) live.1),
       ap (λ s. named_bytes s chain.first) slots,
     )

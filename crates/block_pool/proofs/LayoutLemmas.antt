@@ -1,186 +1,18 @@
 -- Linked blocks: what writes to links, bytes and heads leave of the chains.
-use Rattle.std.proofs.Common.{◌≡◌, ◌≢◌, ℕ, zero, suc, ◌+◌, ◌-◌, ◌*◌, ◌/◌, ◌%◌, ◌^◌, ◌<◌, ◌≤◌, true, false, cond, eqb, ◌⊎◌, inl, inr, List, [], ◌∷◌, ◌++◌, length, get_or, set, take, drop, replicate, map, refl, sym, ap, ◌∙◌, subst, arith, rules, Fits, w16, w32, length-set, get_or-set_same, get_or-set_other, length-drop, length-take, get_or-drop, min}
+use Rattle.std.proofs.Common.{◌≡◌, ◌≢◌, ℕ, zero, suc, ◌+◌, ◌-◌, ◌*◌, ◌/◌, ◌%◌, ◌^◌, ◌<◌, ◌≤◌, inl, inr, List, [], ◌∷◌, ◌++◌, length, get_or, set, take, drop, replicate, map, refl, sym, ap, ◌∙◌, subst, arith, rules, Fits, w16, w32, length-set, get_or-set_same, get_or-set_other, length-drop, length-take, get_or-drop, min}
 use Rattle.std.specs.Prelude.{Option, Some, None, IsSome}
 use Rattle.std.specs.List.{range_with_len, sum_by}
 use Rattle.std.specs.Int.{div_ceil}
 use Rattle.std.proofs.lemmas.List.{same_lists, get_or_past, get_or_default, length-replicate, get_or-replicate}
 use Rattle.std.proofs.lemmas.List.Sums.{sum_by-cons, sum_by-set}
 use Rattle.std.proofs.lemmas.Bool.{cases_lt, cases_eq}
-use Rattle.std.proofs.lemmas.List.FromFn.{length-map-range_with_len, get_or-map-range_with_len, map-range_with_len_more, take-map-range_with_len, length-range_with_len, get_or-range_with_len}
+use Rattle.std.proofs.lemmas.List.FromFn.{length-map-range_with_len, get_or-map-range_with_len, take-map-range_with_len, length-range_with_len, get_or-range_with_len}
 use Rattle.std.proofs.lemmas.Grind.{common_steps}
 use Rattle.block_pool.specs.declared.blocks.Head.{Head}
 use Rattle.block_pool.specs.Slots.{Held, blocks_for, slot, with_chain, bytes_in, held_bytes, owner_in, owner_of}
 use Rattle.block_pool.specs.Links.{block_at, linked_byte}
 use Rattle.block_pool.specs.Layout.{laid_bytes, held_by, slots_of, head_blocks, IsMarked, IsChain, AreSoundBlocks}
-
--- ---- links
-
--- a link that a list of blocks doesn't follow changes none of its blocks
-unchanged : (next : List ℕ) (at link first k : ℕ) → ((j : ℕ) → j < k → block_at next first j ≢ at) → block_at (set next at link) first k ≡ block_at next first k
-unchanged next at link first zero apart = refl
-unchanged next at link first (suc k) apart =
-    ap (λ b. get_or (set next at link) b 0) (unchanged next at link first k (λ j h. apart j (omega arith)))
-    ∙ get_or-set_other next at (block_at next first k) link 0 (apart k (omega arith))
-
--- blocks behind a block of a list of blocks
-pub behind : (next : List ℕ) (first i j : ℕ) → block_at next (block_at next first i) j ≡ block_at next first (i + j)
-behind next first i zero = let e : i ≡ i + 0 = omega arith in ap (block_at next first) e
-behind next first i (suc j) =
-    let e : suc (i + j) ≡ i + suc j = omega arith in
-    ap (λ b. get_or next b 0) (behind next first i j) ∙ ap (block_at next first) e
-
--- ---- bytes
-
--- two lists of bytes made by place are the same where each byte is
-same_made : (f g : ℕ → ℕ) (n : ℕ) → ((i : ℕ) → i < n → f i ≡ g i) → map f (range_with_len 0 n) ≡ map g (range_with_len 0 n)
-same_made f g n same =
-    same_lists _ _ (length-map-range_with_len f 0 n ∙ sym (length-map-range_with_len g 0 n))
-    (λ k d h. let low : k < n = omega (arith, length-map-range_with_len f 0 n) in
-    get_or-map-range_with_len f 0 n k k d low (omega arith)
-    ∙ (same k low ∙ sym (get_or-map-range_with_len g 0 n k k d low (omega arith))))
-
-same_bytes : (region next region' next' : List ℕ) (first len : ℕ) → ((i : ℕ) → i < len → linked_byte region' next' first i ≡ linked_byte region next first i) → laid_bytes region' next' first len ≡ laid_bytes region next first len
-unfolding laid_bytes
-same_bytes region next region' next' first len same = same_made (linked_byte region' next' first) (linked_byte region next first) len same
-
-one_more_byte : (region next : List ℕ) (first len : ℕ) → laid_bytes region next first (len + 1) ≡ laid_bytes region next first len ++ linked_byte region next first len ∷ []
-unfolding laid_bytes
-one_more_byte region next first len = map-range_with_len_more (linked_byte region next first) 0 len len (omega arith)
-
-one_byte : (region next : List ℕ) (first : ℕ) → laid_bytes region next first 1 ≡ get_or region (32 * first + 0) 0 ∷ []
-unfolding laid_bytes
-one_byte region next first = refl
-
-pub length-chain_bytes : (region next : List ℕ) (first len : ℕ) → length (laid_bytes region next first len) ≡ len
-unfolding laid_bytes
-length-chain_bytes region next first len = length-map-range_with_len (linked_byte region next first) 0 len
-
--- ---- slots
-
-pub length-slots_of : (region next : List ℕ) (heads : List (Option Head)) → length (slots_of region next heads) ≡ length heads
-unfolding slots_of
-length-slots_of region next heads = length-map-range_with_len (λ b. held_by region next b (get_or heads b None)) 0 (length heads)
-
-pub slot_is : (region next : List ℕ) (heads : List (Option Head)) (b : ℕ) → slot (slots_of region next heads) b ≡ held_by region next b (get_or heads b None)
-unfolding slots_of
-slot_is region next heads b = by_place (cases_lt b (length heads))
-  where
-    made : ℕ → Option Held
-    made b = held_by region next b (get_or heads b None)
-
-    by_place : (b < length heads) ⊎ (length heads ≤ b) → get_or (map (λ b. held_by region next b (get_or heads b None)) (range_with_len 0 (length heads))) b None ≡ held_by region next b (get_or heads b None)
-    by_place (inl low) = get_or-map-range_with_len (λ b. held_by region next b (get_or heads b None)) 0 (length heads) b b None low (omega arith)
-    by_place (inr high) =
-        get_or_past (map (λ b. held_by region next b (get_or heads b None)) (range_with_len 0 (length heads))) b None (omega (arith, length-map-range_with_len (λ b. held_by region next b (get_or heads b None)) 0 (length heads)))
-        ∙ sym (ap (held_by region next b) (get_or_past heads b None high))
-
--- two lists made by place are the same where each element is
-same_slots : (f g : ℕ → Option Held) (n : ℕ) → ((c : ℕ) → f c ≡ g c) → map f (range_with_len 0 n) ≡ map g (range_with_len 0 n)
-same_slots f g n same =
-    same_lists _ _ (length-map-range_with_len f 0 n ∙ sym (length-map-range_with_len g 0 n))
-    (λ k d h. let low : k < n = omega (arith, length-map-range_with_len f 0 n) in
-    get_or-map-range_with_len f 0 n k k d low (omega arith)
-    ∙ (same k ∙ sym (get_or-map-range_with_len g 0 n k k d low (omega arith))))
-
--- one chain was written, and each other one stayed
-slots_set : (region next region' next' : List ℕ) (heads heads' : List (Option Head)) (b : ℕ) (v : Option Held) → length heads' ≡ length heads → b < length heads → held_by region' next' b (get_or heads' b None) ≡ v → ((c : ℕ) → c ≢ b → held_by region' next' c (get_or heads' c None) ≡ held_by region next c (get_or heads c None)) → slots_of region' next' heads' ≡ set (slots_of region next heads) b v
-slots_set region next region' next' heads heads' b v lens low here others =
-    same_lists _ _
-    (length-slots_of region' next' heads' ∙ (lens ∙ sym (length-set (slots_of region next heads) b v ∙ length-slots_of region next heads)))
-    (λ k d h.
-    let inside : k < length heads' = omega (arith, length-slots_of region' next' heads') in
-    let left = get_or_default (slots_of region' next' heads') k d None h ∙ slot_is region' next' heads' k in
-    elim (cases_eq k b) [
-      | inl same ↦ left ∙ (ap (λ c. held_by region' next' c (get_or heads' c None)) same ∙ (here
-          ∙ sym (ap (λ c. get_or (set (slots_of region next heads) b v) c d) same ∙ get_or-set_same (slots_of region next heads) b v d (omega (arith, length-slots_of region next heads)))))
-      | inr other ↦ left ∙ (others k other
-          ∙ sym (get_or-set_other (slots_of region next heads) b k v d other
-          ∙ (get_or_default (slots_of region next heads) k d None (omega (arith, length-slots_of region next heads)) ∙ slot_is region next heads k)))
-    ])
-
--- ---- marks
-
-none_is_some : (h : Head) → None ≡ Some h → ⊥
-none_is_some h e = cc
-
--- equal blocks have one mark
-pub same_mark : (mark : ℕ → ℕ × ℕ) (x y c k d j : ℕ) → mark x ≡ (c, k) → mark y ≡ (d, j) → x ≡ y → (c ≡ d) × (k ≡ j)
-same_mark mark x y c k d j mx my same =
-    let e : ◌≡◌ {A = ℕ × ℕ} (c, k) (d, j) = sym mx ∙ (ap mark same ∙ my) in
-    (ap (λ m. m.0) e, ap (λ m. m.1) e)
-
--- places in two blocks differ, and two places in one block
-other_block : (x y i j : ℕ) → x ≢ y → 32 * x + i % 32 ≢ 32 * y + j % 32
-other_block x y i j apart same = apart (omega arith)
-
-other_offset : (x i j : ℕ) → i % 32 ≢ j % 32 → 32 * x + i % 32 ≢ 32 * x + j % 32
-other_offset x i j apart same = apart (omega arith)
-
-test_true : (a b : ℕ) → a ≡ b → eqb a b ≡ true
-test_true a b e = grind (arith, common_steps)
-
-test_false : (a b : ℕ) → a ≢ b → eqb a b ≡ false
-test_false a b e = grind (arith, common_steps)
-
--- the marks after the first free block became block k of chain c
-abbrev popped : ℕ → ℕ → ℕ → ℕ × ℕ → ℕ × ℕ
-popped count c k m = cond (eqb m.0 count) (cond (eqb m.1 0) (c, k) (count, m.1 - 1)) m
-
-popped_other : (count c k d j : ℕ) → d ≢ count → popped count c k (d, j) ≡ (d, j)
-popped_other count c k d j apart = rw (test_false d count apart) refl
-
-popped_first : (count c k : ℕ) → popped count c k (count, 0) ≡ (c, k)
-popped_first count c k = rw (test_true count count refl) refl
-
-popped_rest : (count c k j : ℕ) → popped count c k (count, 1 + j) ≡ (count, j)
-popped_rest count c k j =
-    let some : 1 + j ≢ 0 = omega arith in
-    let less : 1 + j - 1 ≡ j = omega arith in
-    rw (test_true count count refl, test_false (1 + j) 0 some, less) refl
-
--- the marks after the n blocks of chain b became the first free ones
-abbrev freed : ℕ → ℕ → ℕ → ℕ × ℕ → ℕ × ℕ
-freed count b n m = cond (eqb m.0 b) (count, m.1) (cond (eqb m.0 count) (count, m.1 + n) m)
-
-freed_chain : (count b n k : ℕ) → freed count b n (b, k) ≡ (count, k)
-freed_chain count b n k = rw (test_true b b refl) refl
-
-freed_free : (count b n k : ℕ) → count ≢ b → freed count b n (count, k) ≡ (count, k + n)
-freed_free count b n k apart = rw (test_false count b apart, test_true count count refl) refl
-
-freed_other : (count b n d k : ℕ) → d ≢ b → d ≢ count → freed count b n (d, k) ≡ (d, k)
-freed_other count b n d k apart below = rw (test_false d b apart, test_false d count below) refl
-
--- ---- chains
-
--- a chain begins at a block
-pub in_pool : (next : List ℕ) (mark : ℕ → ℕ × ℕ) (count b : ℕ) (head : Head) → IsChain next mark count b head → b < count
-in_pool next mark count b head chain = let some : 0 < head.len = chain.some in (chain.marked 0 (omega arith)).0
-
--- the block of byte i of a chain
-block_of_byte : (next : List ℕ) (mark : ℕ → ℕ × ℕ) (count b : ℕ) (head : Head) → IsChain next mark count b head → (i : ℕ) → i < head.len → IsMarked mark count (block_at next b (i / 32)) b (i / 32)
-block_of_byte next mark count b head chain i low = chain.marked (i / 32) (omega arith)
-
--- a link of another chain leads nowhere in this one
-other_link : (next : List ℕ) (mark : ℕ → ℕ × ℕ) (count b : ℕ) (head : Head) → IsChain next mark count b head → (at link d j : ℕ) → mark at ≡ (d, j) → d ≢ b → (k : ℕ) → k < blocks_for head.len → block_at (set next at link) b k ≡ block_at next b k
-other_link next mark count b head chain at link d j marked apart k low =
-    unchanged next at link b k (λ i h same. apart (sym (same_mark mark (block_at next b i) at b i d j (chain.marked i (omega arith)).1 marked same).0))
-
--- nor does the link of its last block lead to a block before
-last_link : (next : List ℕ) (mark : ℕ → ℕ × ℕ) (count b : ℕ) (head : Head) → IsChain next mark count b head → (at link j : ℕ) → mark at ≡ (b, j) → (k : ℕ) → k < blocks_for head.len → k ≤ j → block_at (set next at link) b k ≡ block_at next b k
-last_link next mark count b head chain at link j marked k low before =
-    unchanged next at link b k (λ i h same. absurd (let e : i ≡ j = (same_mark mark (block_at next b i) at b i b j (chain.marked i (omega arith)).1 marked same).1 in omega arith))
-
--- the mark of the last block
-last_marked : (next : List ℕ) (mark : ℕ → ℕ × ℕ) (count b : ℕ) (head : Head) → IsChain next mark count b head → IsMarked mark count head.last b (blocks_for head.len - 1)
-last_marked next mark count b head chain =
-    let some : 0 < head.len = chain.some in
-    subst (λ x. IsMarked mark count x b (blocks_for head.len - 1)) chain.last (chain.marked (blocks_for head.len - 1) (omega arith))
-
--- free blocks where a link of a chain changed
-free_link : (next : List ℕ) (mark : ℕ → ℕ × ℕ) (count free free_len : ℕ) → ((k : ℕ) → k < free_len → IsMarked mark count (block_at next free k) count k) → (at link d j : ℕ) → mark at ≡ (d, j) → d ≢ count → (k : ℕ) → k < free_len → block_at (set next at link) free k ≡ block_at next free k
-free_link next mark count free free_len spare at link d j marked apart k low =
-    unchanged next at link free k (λ i h same. apart (sym (same_mark mark (block_at next free i) at count i d j (spare i (omega arith)).1 marked same).0))
+use Rattle.block_pool.proofs.LinkLemmas.{unchanged, behind, same_bytes, one_more_byte, one_byte, length-chain_bytes, length-slots_of, slot_is, same_slots, slots_set, none_is_some, same_mark, other_block, popped, popped_other, popped_first, popped_rest, freed, freed_chain, freed_free, freed_other, in_pool, block_of_byte, other_link, last_link, last_marked, free_link}
 
 -- ---- a byte more in the last block
 
@@ -210,7 +42,9 @@ module _ (region next : List ℕ) (heads : List (Option Head)) (free free_len : 
       let s : Some h ≡ Some v = sym e ∙ get_or-set_same heads b (Some v) None low in cc
 
   -- a byte more in the last block of a chain
-  pub push_in_block_sound : (b : ℕ) (head : Head) (place byte : ℕ) → get_or heads b None ≡ Some head → 0 < head.len % 32 → AreSoundBlocks (set region place byte) next (set heads b (Some (record { owner = head.owner; last = head.last; len = head.len + 1; read_on = head.read_on; passed = head.passed }))) free free_len
+  pub push_in_block_sound : (b : ℕ) (head : Head) (place byte : ℕ) → get_or heads b None ≡ Some head → 0 < head.len % 32 → AreSoundBlocks
+      (set region place byte) next
+      (set heads b (Some (record { owner = head.owner; last = head.last; len = head.len + 1; read_on = head.read_on; passed = head.passed }))) free free_len
   push_in_block_sound b head place byte at room =
       let chain = sound.chains b head at in
       let low : b < length heads = omega (arith, in_pool next sound.mark sound.count b head chain, sound.counted) in
@@ -232,7 +66,8 @@ module _ (region next : List ℕ) (heads : List (Option Head)) (free free_len : 
         mark = sound.mark;
         chains = λ c h e. elim (cases_eq c b) [
           | inl same ↦ subst (λ x. IsChain next sound.mark sound.count x h) (sym same)
-              (subst (λ g. IsChain next sound.mark sound.count b g) (sym (this_head b longer h low (subst (λ x. get_or (set heads b (Some longer)) x None ≡ Some h) same e))) grown)
+              (subst (λ g. IsChain next sound.mark sound.count b g)
+              (sym (this_head b longer h low (subst (λ x. get_or (set heads b (Some longer)) x None ≡ Some h) same e))) grown)
           | inr apart ↦ sound.chains c h (other_head b (Some longer) c (Some h) apart e)
         ];
         spare = sound.spare;
@@ -240,12 +75,14 @@ module _ (region next : List ℕ) (heads : List (Option Head)) (free free_len : 
       }
 
   -- the bytes of a chain, where another chain's block was written
-  other_bytes : (b : ℕ) (head : Head) → get_or heads b None ≡ Some head → (block d j offset byte : ℕ) → sound.mark block ≡ (d, j) → d ≢ b → laid_bytes (set region (32 * block + offset % 32) byte) next b head.len ≡ laid_bytes region next b head.len
+  other_bytes : (b : ℕ) (head : Head) → get_or heads b None ≡ Some head → (block d j offset byte : ℕ) → sound.mark block ≡ (d, j) → d ≢ b
+      → laid_bytes (set region (32 * block + offset % 32) byte) next b head.len ≡ laid_bytes region next b head.len
   other_bytes b head at block d j offset byte marked apart =
       same_bytes region next (set region (32 * block + offset % 32) byte) next b head.len (λ i low.
       let m = block_of_byte next sound.mark sound.count b head (sound.chains b head at) i low in
       get_or-set_other region (32 * block + offset % 32) (32 * block_at next b (i / 32) + i % 32) byte 0
-      (other_block (block_at next b (i / 32)) block i offset (λ same. apart (sym (same_mark sound.mark (block_at next b (i / 32)) block b (i / 32) d j m.1 marked same).0))))
+      (other_block (block_at next b (i / 32)) block i offset
+      (λ same. apart (sym (same_mark sound.mark (block_at next b (i / 32)) block b (i / 32) d j m.1 marked same).0))))
 
   -- the block that has room is the last one
   last_has_room : (b : ℕ) (head : Head) → get_or heads b None ≡ Some head → 0 < head.len % 32 → block_at next b (head.len / 32) ≡ head.last
@@ -254,7 +91,8 @@ module _ (region next : List ℕ) (heads : List (Option Head)) (free free_len : 
       ap (block_at next b) e ∙ (sound.chains b head at).last
 
   -- the chain's bytes after a byte more in its last block
-  pushed_bytes : (b : ℕ) (head : Head) (byte : ℕ) → get_or heads b None ≡ Some head → 0 < head.len % 32 → laid_bytes (set region (32 * head.last + head.len % 32) byte) next b (head.len + 1) ≡ laid_bytes region next b head.len ++ byte ∷ []
+  pushed_bytes : (b : ℕ) (head : Head) (byte : ℕ) → get_or heads b None ≡ Some head → 0 < head.len % 32
+      → laid_bytes (set region (32 * head.last + head.len % 32) byte) next b (head.len + 1) ≡ laid_bytes region next b head.len ++ byte ∷ []
   pushed_bytes b head byte at room =
       let chain = sound.chains b head at in
       let place = 32 * head.last + head.len % 32 in
@@ -273,30 +111,40 @@ module _ (region next : List ℕ) (heads : List (Option Head)) (free free_len : 
       let place_is : i / 32 ≡ blocks_for head.len - 1 = parts.1 in
       let offsets : i % 32 ≡ head.len % 32 = omega arith in
       absurd (omega arith))) in
-      one_more_byte (set region place byte) next b head.len ∙ (ap (λ bs. bs ++ linked_byte (set region place byte) next b head.len ∷ []) before ∙ ap (λ x. laid_bytes region next b head.len ++ x ∷ []) new_byte)
+      one_more_byte (set region place byte) next b head.len
+      ∙ (ap (λ bs. bs ++ linked_byte (set region place byte) next b head.len ∷ []) before ∙ ap (λ x. laid_bytes region next b head.len ++ x ∷ []) new_byte)
 
-  pub push_in_block_slots : (b : ℕ) (head : Head) (byte : ℕ) → get_or heads b None ≡ Some head → 0 < head.len % 32 → slots_of (set region (32 * head.last + head.len % 32) byte) next (set heads b (Some (record { owner = head.owner; last = head.last; len = head.len + 1; read_on = head.read_on; passed = head.passed }))) ≡ with_chain (slots_of region next heads) b head.owner (laid_bytes region next b head.len ++ byte ∷ [])
+  pub push_in_block_slots : (b : ℕ) (head : Head) (byte : ℕ) → get_or heads b None ≡ Some head → 0 < head.len % 32 → slots_of
+      (set region (32 * head.last + head.len % 32) byte) next
+      (set heads b (Some (record { owner = head.owner; last = head.last; len = head.len + 1; read_on = head.read_on; passed = head.passed }))) ≡ with_chain
+      (slots_of region next heads) b head.owner (laid_bytes region next b head.len ++ byte ∷ [])
   push_in_block_slots b head byte at room =
       let chain = sound.chains b head at in
       let low : b < length heads = omega (arith, in_pool next sound.mark sound.count b head chain, sound.counted) in
       let longer : Head = record { owner = head.owner; last = head.last; len = head.len + 1; read_on = head.read_on; passed = head.passed } in
       let place = 32 * head.last + head.len % 32 in
       let l = last_marked next sound.mark sound.count b head chain in
-      slots_set region next (set region place byte) next heads (set heads b (Some longer)) b (Some (record { owner = head.owner; bytes = laid_bytes region next b head.len ++ byte ∷ [] }))
+      slots_set region next (set region place byte) next heads (set heads b (Some longer)) b
+      (Some (record { owner = head.owner; bytes = laid_bytes region next b head.len ++ byte ∷ [] }))
       (length-set heads b (Some longer)) low
       (ap (held_by (set region place byte) next b) (get_or-set_same heads b (Some longer) None low)
       ∙ ap (λ bs. Some (record { owner = head.owner; bytes = bs })) (pushed_bytes b head byte at room))
-      (λ c apart. ap (held_by (set region place byte) next c) (get_or-set_other heads b c (Some longer) None apart) ∙ other_held c (get_or heads c None) refl b head l.1 apart)
+      (λ c apart. ap (held_by (set region place byte) next c) (get_or-set_other heads b c (Some longer) None apart)
+      ∙ other_held c (get_or heads c None) refl b head l.1 apart)
     where
-      other_held : (c : ℕ) (h : Option Head) → get_or heads c None ≡ h → (b : ℕ) (head : Head) → sound.mark head.last ≡ (b, blocks_for head.len - 1) → c ≢ b → held_by (set region (32 * head.last + head.len % 32) byte) next c (get_or heads c None) ≡ held_by region next c (get_or heads c None)
+      other_held : (c : ℕ) (h : Option Head) → get_or heads c None ≡ h → (b : ℕ) (head : Head) → sound.mark head.last ≡ (b, blocks_for head.len - 1) → c ≢ b
+          → held_by (set region (32 * head.last + head.len % 32) byte) next c (get_or heads c None) ≡ held_by region next c (get_or heads c None)
       other_held c None e b head m apart = rw e refl
       other_held c (Some h) e b head m apart =
-          rw e (ap (λ bs. Some (record { owner = h.owner; bytes = bs })) (other_bytes c h e head.last b (blocks_for head.len - 1) head.len byte m (λ s. apart (sym s))))
+          rw e (ap (λ bs. Some (record { owner = h.owner; bytes = bs }))
+          (other_bytes c h e head.last b (blocks_for head.len - 1) head.len byte m (λ s. apart (sym s))))
 
   -- ---- the first free block taken
 
   -- the next free blocks
-  popped_spare : (c k : ℕ) (next' : List ℕ) (after : ℕ) → after ≡ get_or next free 0 → ((i : ℕ) → i < free_len - 1 → block_at next' after i ≡ block_at next after i) → (i : ℕ) → i < free_len - 1 → IsMarked (λ x. popped sound.count c k (sound.mark x)) sound.count (block_at next' after i) sound.count i
+  popped_spare : (c k : ℕ) (next' : List ℕ) (after : ℕ) → after ≡ get_or next free 0
+      → ((i : ℕ) → i < free_len - 1 → block_at next' after i ≡ block_at next after i) → (i : ℕ) → i < free_len - 1
+      → IsMarked (λ x. popped sound.count c k (sound.mark x)) sound.count (block_at next' after i) sound.count i
   popped_spare c k next' after is_next same i low =
       let place : block_at next' after i ≡ block_at next free (1 + i) = same i low ∙ (ap (λ x. block_at next x i) is_next ∙ behind next free 1 i) in
       let m = sound.spare (1 + i) (omega arith) in
@@ -304,7 +152,9 @@ module _ (region next : List ℕ) (heads : List (Option Head)) (free free_len : 
       (m.0, ap (popped sound.count c k) m.1 ∙ popped_rest sound.count c k i)
 
   -- a chain that wasn't written
-  popped_chain : (c k : ℕ) (next' : List ℕ) (d : ℕ) (head : Head) → get_or heads d None ≡ Some head → ((i : ℕ) → i < blocks_for head.len → block_at next' d i ≡ block_at next d i) → IsChain next' (λ x. popped sound.count c k (sound.mark x)) sound.count d head
+  popped_chain : (c k : ℕ) (next' : List ℕ) (d : ℕ) (head : Head) → get_or heads d None ≡ Some head
+      → ((i : ℕ) → i < blocks_for head.len → block_at next' d i ≡ block_at next d i)
+      → IsChain next' (λ x. popped sound.count c k (sound.mark x)) sound.count d head
   popped_chain c k next' d head at same =
       let chain = sound.chains d head at in
       let some : 0 < head.len = chain.some in
@@ -320,7 +170,8 @@ module _ (region next : List ℕ) (heads : List (Option Head)) (free free_len : 
         reading = same head.passed chain.within ∙ chain.reading;
       }
 
-  pub begin_sound : (owner byte place after : ℕ) → 0 < free_len → after ≡ get_or next free 0 → AreSoundBlocks (set region place byte) next (set heads free (Some (record { owner = owner; last = free; len = 1; read_on = free; passed = 0 }))) after (free_len - 1)
+  pub begin_sound : (owner byte place after : ℕ) → 0 < free_len → after ≡ get_or next free 0 → AreSoundBlocks (set region place byte) next
+      (set heads free (Some (record { owner = owner; last = free; len = 1; read_on = free; passed = 0 }))) after (free_len - 1)
   begin_sound owner byte place after some is_next =
       let first = first_free some in
       let low : free < length heads = omega (arith, first.0, sound.counted) in
@@ -345,14 +196,17 @@ module _ (region next : List ℕ) (heads : List (Option Head)) (free free_len : 
         mark = mark;
         chains = λ c h e. elim (cases_eq c free) [
           | inl same ↦ subst (λ x. IsChain next mark sound.count x h) (sym same)
-              (subst (λ g. IsChain next mark sound.count free g) (sym (this_head free new h low (subst (λ x. get_or (set heads free (Some new)) x None ≡ Some h) same e))) begun)
+              (subst (λ g. IsChain next mark sound.count free g)
+              (sym (this_head free new h low (subst (λ x. get_or (set heads free (Some new)) x None ≡ Some h) same e))) begun)
           | inr apart ↦ popped_chain free 0 next c h (other_head free (Some new) c (Some h) apart e) (λ i low. refl)
         ];
         spare = popped_spare free 0 next after is_next (λ i low. refl);
         all = omega (arith, sum_by-set head_blocks heads free (Some new) None low, ap head_blocks (no_head some), sound.all);
       }
 
-  pub begin_slots : (owner byte : ℕ) → 0 < free_len → slots_of (set region (32 * free) byte) next (set heads free (Some (record { owner = owner; last = free; len = 1; read_on = free; passed = 0 }))) ≡ with_chain (slots_of region next heads) free owner (byte ∷ [])
+  pub begin_slots : (owner byte : ℕ) → 0 < free_len → slots_of (set region (32 * free) byte) next
+      (set heads free (Some (record { owner = owner; last = free; len = 1; read_on = free; passed = 0 }))) ≡ with_chain
+      (slots_of region next heads) free owner (byte ∷ [])
   begin_slots owner byte some =
       let first = first_free some in
       let low : free < length heads = omega (arith, first.0, sound.counted) in
@@ -360,7 +214,8 @@ module _ (region next : List ℕ) (heads : List (Option Head)) (free free_len : 
       let in_region : 32 * free < length region = omega (arith, first.0, sound.bytes) in
       let plain : 32 * free + 0 ≡ 32 * free = omega arith in
       let one : laid_bytes (set region (32 * free) byte) next free 1 ≡ byte ∷ [] =
-      one_byte (set region (32 * free) byte) next free ∙ ap (λ x. x ∷ []) (ap (λ i. get_or (set region (32 * free) byte) i 0) plain ∙ get_or-set_same region (32 * free) byte 0 in_region) in
+      one_byte (set region (32 * free) byte) next free
+      ∙ ap (λ x. x ∷ []) (ap (λ i. get_or (set region (32 * free) byte) i 0) plain ∙ get_or-set_same region (32 * free) byte 0 in_region) in
       slots_set region next (set region (32 * free) byte) next heads (set heads free (Some new)) free (Some (record { owner = owner; bytes = byte ∷ [] }))
       (length-set heads free (Some new)) low
       (ap (held_by (set region (32 * free) byte) next free) (get_or-set_same heads free (Some new) None low)
@@ -368,7 +223,8 @@ module _ (region next : List ℕ) (heads : List (Option Head)) (free free_len : 
       (λ c apart. ap (held_by (set region (32 * free) byte) next c) (get_or-set_other heads free c (Some new) None apart)
       ∙ (ap (λ i. held_by (set region i byte) next c (get_or heads c None)) (sym plain) ∙ other_held c (get_or heads c None) refl first.1))
     where
-      other_held : (c : ℕ) (h : Option Head) → get_or heads c None ≡ h → sound.mark free ≡ (sound.count, 0) → held_by (set region (32 * free + 0 % 32) byte) next c (get_or heads c None) ≡ held_by region next c (get_or heads c None)
+      other_held : (c : ℕ) (h : Option Head) → get_or heads c None ≡ h → sound.mark free ≡ (sound.count, 0)
+          → held_by (set region (32 * free + 0 % 32) byte) next c (get_or heads c None) ≡ held_by region next c (get_or heads c None)
       other_held c None e m = rw e refl
       other_held c (Some h) e m =
           let low = in_pool next sound.mark sound.count c h (sound.chains c h e) in
@@ -376,7 +232,10 @@ module _ (region next : List ℕ) (heads : List (Option Head)) (free free_len : 
 
   -- ---- a byte more in a new last block
 
-  pub push_in_new_block_sound : (b : ℕ) (head : Head) (place byte after : ℕ) → get_or heads b None ≡ Some head → head.len % 32 ≡ 0 → 0 < free_len → after ≡ get_or next free 0 → AreSoundBlocks (set region place byte) (set next head.last free) (set heads b (Some (record { owner = head.owner; last = free; len = head.len + 1; read_on = head.read_on; passed = head.passed }))) after (free_len - 1)
+  pub push_in_new_block_sound : (b : ℕ) (head : Head)
+      (place byte after : ℕ) → get_or heads b None ≡ Some head → head.len % 32 ≡ 0 → 0 < free_len → after ≡ get_or next free 0 → AreSoundBlocks
+      (set region place byte) (set next head.last free)
+      (set heads b (Some (record { owner = head.owner; last = free; len = head.len + 1; read_on = head.read_on; passed = head.passed }))) after (free_len - 1)
   push_in_new_block_sound b head place byte after at full some is_next =
       let chain = sound.chains b head at in
       let b_low = in_pool next sound.mark sound.count b head chain in
@@ -422,10 +281,12 @@ module _ (region next : List ℕ) (heads : List (Option Head)) (free free_len : 
         mark = mark;
         chains = λ c h e. elim (cases_eq c b) [
           | inl same ↦ subst (λ x. IsChain next' mark sound.count x h) (sym same)
-              (subst (λ g. IsChain next' mark sound.count b g) (sym (this_head b longer h low (subst (λ x. get_or (set heads b (Some longer)) x None ≡ Some h) same e))) grown)
+              (subst (λ g. IsChain next' mark sound.count b g)
+              (sym (this_head b longer h low (subst (λ x. get_or (set heads b (Some longer)) x None ≡ Some h) same e))) grown)
           | inr apart ↦
               let at_c = other_head b (Some longer) c (Some h) apart e in
-              popped_chain b n next' c h at_c (λ i i_low. other_link next sound.mark sound.count c h (sound.chains c h at_c) head.last free b (n - 1) l.1 (λ s. apart (sym s)) i i_low)
+              popped_chain b n next' c h at_c
+              (λ i i_low. other_link next sound.mark sound.count c h (sound.chains c h at_c) head.last free b (n - 1) l.1 (λ s. apart (sym s)) i i_low)
         ];
         spare = popped_spare b n next' after is_next (λ i i_low. unchanged next head.last free after i (λ j h same.
             let m = sound.spare (1 + j) (omega arith) in
@@ -435,7 +296,10 @@ module _ (region next : List ℕ) (heads : List (Option Head)) (free free_len : 
         all = omega (arith, sum_by-set head_blocks heads b (Some longer) None low, ap head_blocks at, one_more, sound.all);
       }
 
-  pub push_in_new_block_slots : (b : ℕ) (head : Head) (byte : ℕ) → get_or heads b None ≡ Some head → head.len % 32 ≡ 0 → 0 < free_len → slots_of (set region (32 * free) byte) (set next head.last free) (set heads b (Some (record { owner = head.owner; last = free; len = head.len + 1; read_on = head.read_on; passed = head.passed }))) ≡ with_chain (slots_of region next heads) b head.owner (laid_bytes region next b head.len ++ byte ∷ [])
+  pub push_in_new_block_slots : (b : ℕ) (head : Head) (byte : ℕ) → get_or heads b None ≡ Some head → head.len % 32 ≡ 0 → 0 < free_len → slots_of
+      (set region (32 * free) byte) (set next head.last free)
+      (set heads b (Some (record { owner = head.owner; last = free; len = head.len + 1; read_on = head.read_on; passed = head.passed }))) ≡ with_chain
+      (slots_of region next heads) b head.owner (laid_bytes region next b head.len ++ byte ∷ [])
   push_in_new_block_slots b head byte at full some =
       let chain = sound.chains b head at in
       let b_low = in_pool next sound.mark sound.count b head chain in
@@ -465,11 +329,13 @@ module _ (region next : List ℕ) (heads : List (Option Head)) (free free_len : 
       let m = block_of_byte next sound.mark sound.count b head chain i i_low in
       let block_is : block_at next' b (i / 32) ≡ block_at next b (i / 32) = kept (i / 32) (omega arith) in
       let apart : block_at next' b (i / 32) ≢ free =
-      λ same. absurd (let e : b ≡ sound.count = (same_mark sound.mark (block_at next b (i / 32)) free b (i / 32) sound.count 0 m.1 first.1 (sym block_is ∙ same)).0 in omega arith) in
+      λ same. absurd (let e : b ≡ sound.count =
+      (same_mark sound.mark (block_at next b (i / 32)) free b (i / 32) sound.count 0 m.1 first.1 (sym block_is ∙ same)).0 in omega arith) in
       get_or-set_other region (32 * free) (32 * block_at next' b (i / 32) + i % 32) byte 0
       (λ same. other_block (block_at next' b (i / 32)) free i 0 apart (same ∙ sym plain)))
       ∙ same_links in
-      slots_set region next region' next' heads (set heads b (Some longer)) b (Some (record { owner = head.owner; bytes = laid_bytes region next b head.len ++ byte ∷ [] }))
+      slots_set region next region' next' heads (set heads b (Some longer)) b
+      (Some (record { owner = head.owner; bytes = laid_bytes region next b head.len ++ byte ∷ [] }))
       (length-set heads b (Some longer)) low
       (ap (held_by region' next' b) (get_or-set_same heads b (Some longer) None low)
       ∙ ap (λ bs. Some (record { owner = head.owner; bytes = bs }))
@@ -479,12 +345,15 @@ module _ (region next : List ℕ) (heads : List (Option Head)) (free free_len : 
       ∙ (ap (λ i. held_by (set region i byte) next' c (get_or heads c None)) (sym plain)
       ∙ other_held c (get_or heads c None) refl b head l.1 first.1 (λ e. apart e)))
     where
-      other_held : (c : ℕ) (h : Option Head) → get_or heads c None ≡ h → (b : ℕ) (head : Head) → sound.mark head.last ≡ (b, blocks_for head.len - 1) → sound.mark free ≡ (sound.count, 0) → c ≢ b → held_by (set region (32 * free + 0 % 32) byte) (set next head.last free) c (get_or heads c None) ≡ held_by region next c (get_or heads c None)
+      other_held : (c : ℕ) (h : Option Head) → get_or heads c None ≡ h → (b : ℕ) (head : Head) → sound.mark head.last ≡ (b, blocks_for head.len - 1)
+          → sound.mark free ≡ (sound.count, 0) → c ≢ b
+          → held_by (set region (32 * free + 0 % 32) byte) (set next head.last free) c (get_or heads c None) ≡ held_by region next c (get_or heads c None)
       other_held c None e b head m m0 apart = rw e refl
       other_held c (Some h) e b head m m0 apart =
           let c_chain = sound.chains c h e in
           let low = in_pool next sound.mark sound.count c h c_chain in
-          let links : laid_bytes (set region (32 * free + 0 % 32) byte) (set next head.last free) c h.len ≡ laid_bytes (set region (32 * free + 0 % 32) byte) next c h.len =
+          let links : laid_bytes (set region (32 * free + 0 % 32) byte) (set next head.last free) c h.len
+          ≡ laid_bytes (set region (32 * free + 0 % 32) byte) next c h.len =
           same_bytes (set region (32 * free + 0 % 32) byte) next (set region (32 * free + 0 % 32) byte) (set next head.last free) c h.len
           (λ i i_low. ap (λ x. get_or (set region (32 * free + 0 % 32) byte) (32 * x + i % 32) 0)
           (other_link next sound.mark sound.count c h c_chain head.last free b (blocks_for head.len - 1) m (λ s. apart (sym s)) (i / 32) (omega arith))) in
@@ -492,7 +361,8 @@ module _ (region next : List ℕ) (heads : List (Option Head)) (free free_len : 
 
   -- ---- a chain freed
 
-  pub free_chain_sound : (b : ℕ) (head : Head) → get_or heads b None ≡ Some head → AreSoundBlocks region (set next head.last free) (set heads b None) b (free_len + blocks_for head.len)
+  pub free_chain_sound : (b : ℕ) (head : Head) → get_or heads b None ≡ Some head
+      → AreSoundBlocks region (set next head.last free) (set heads b None) b (free_len + blocks_for head.len)
   free_chain_sound b head at =
       let chain = sound.chains b head at in
       let b_low = in_pool next sound.mark sound.count b head chain in
@@ -524,7 +394,8 @@ module _ (region next : List ℕ) (heads : List (Option Head)) (free free_len : 
               let c_chain = sound.chains c h at_c in
               let c_low = in_pool next sound.mark sound.count c h c_chain in
               let c_some : 0 < h.len = c_chain.some in
-              let same = λ (i : ℕ) (i_low : i < blocks_for h.len). other_link next sound.mark sound.count c h c_chain head.last free b (n - 1) l.1 (λ s. apart (sym s)) i i_low in
+              let same = λ (i : ℕ) (i_low : i < blocks_for h.len). other_link next sound.mark sound.count c h c_chain head.last free b (n - 1) l.1
+              (λ s. apart (sym s)) i i_low in
               record {
                 some = c_chain.some;
                 marked = λ i i_low.
@@ -555,7 +426,8 @@ module _ (region next : List ℕ) (heads : List (Option Head)) (free free_len : 
         all = omega (arith, sum_by-set head_blocks heads b None None low, ap head_blocks at, sound.all);
       }
 
-  pub free_chain_slots : (b : ℕ) (head : Head) → get_or heads b None ≡ Some head → slots_of region (set next head.last free) (set heads b None) ≡ set (slots_of region next heads) b None
+  pub free_chain_slots : (b : ℕ) (head : Head) → get_or heads b None ≡ Some head
+      → slots_of region (set next head.last free) (set heads b None) ≡ set (slots_of region next heads) b None
   free_chain_slots b head at =
       let chain = sound.chains b head at in
       let low : b < length heads = omega (arith, in_pool next sound.mark sound.count b head chain, sound.counted) in
@@ -563,18 +435,22 @@ module _ (region next : List ℕ) (heads : List (Option Head)) (free free_len : 
       slots_set region next region (set next head.last free) heads (set heads b None) b None
       (length-set heads b None) low
       (ap (held_by region (set next head.last free) b) (get_or-set_same heads b None None low))
-      (λ c apart. ap (held_by region (set next head.last free) c) (get_or-set_other heads b c None None apart) ∙ other_held c (get_or heads c None) refl b head l.1 apart)
+      (λ c apart. ap (held_by region (set next head.last free) c) (get_or-set_other heads b c None None apart)
+      ∙ other_held c (get_or heads c None) refl b head l.1 apart)
     where
-      other_held : (c : ℕ) (h : Option Head) → get_or heads c None ≡ h → (b : ℕ) (head : Head) → sound.mark head.last ≡ (b, blocks_for head.len - 1) → c ≢ b → held_by region (set next head.last free) c (get_or heads c None) ≡ held_by region next c (get_or heads c None)
+      other_held : (c : ℕ) (h : Option Head) → get_or heads c None ≡ h → (b : ℕ) (head : Head) → sound.mark head.last ≡ (b, blocks_for head.len - 1) → c ≢ b
+          → held_by region (set next head.last free) c (get_or heads c None) ≡ held_by region next c (get_or heads c None)
       other_held c None e b head m apart = rw e refl
       other_held c (Some h) e b head m apart =
           rw e (ap (λ bs. Some (record { owner = h.owner; bytes = bs }))
           (same_bytes region next region (set next head.last free) c h.len
           (λ i i_low. ap (λ x. get_or region (32 * x + i % 32) 0)
-          (other_link next sound.mark sound.count c h (sound.chains c h e) head.last free b (blocks_for head.len - 1) m (λ s. apart (sym s)) (i / 32) (omega arith)))))
+          (other_link next sound.mark sound.count c h (sound.chains c h e) head.last free b (blocks_for head.len - 1) m (λ s. apart (sym s)) (i / 32)
+          (omega arith)))))
 
 -- the last block of a chain lies in the pool
-pub last_in : (region next : List ℕ) (heads : List (Option Head)) (free free_len : ℕ) (sound : AreSoundBlocks region next heads free free_len) (b : ℕ) (head : Head) → get_or heads b None ≡ Some head → head.last < sound.count
+pub last_in : (region next : List ℕ) (heads : List (Option Head)) (free free_len : ℕ) (sound : AreSoundBlocks region next heads free free_len) (b : ℕ)
+    (head : Head) → get_or heads b None ≡ Some head → head.last < sound.count
 last_in region next heads free free_len sound b head at = (last_marked next sound.mark sound.count b head (sound.chains b head at)).0
 
 -- the length of a chain that isn't too long fits its type
@@ -623,12 +499,14 @@ module _ (region next : List ℕ) (heads : List (Option Head)) (slots : List (Op
 -- ---- another owner
 
 module _ (region next : List ℕ) (heads : List (Option Head)) (free free_len : ℕ) (sound : AreSoundBlocks region next heads free free_len) where
-  pub set_owner_sound : (b owner : ℕ) (head : Head) → get_or heads b None ≡ Some head → AreSoundBlocks region next (set heads b (Some (record { owner = owner; last = head.last; len = head.len; read_on = head.read_on; passed = head.passed }))) free free_len
+  pub set_owner_sound : (b owner : ℕ) (head : Head) → get_or heads b None ≡ Some head → AreSoundBlocks region next
+      (set heads b (Some (record { owner = owner; last = head.last; len = head.len; read_on = head.read_on; passed = head.passed }))) free free_len
   set_owner_sound b owner head at =
       let chain = sound.chains b head at in
       let low : b < length heads = omega (arith, in_pool next sound.mark sound.count b head chain, sound.counted) in
       let new : Head = record { owner = owner; last = head.last; len = head.len; read_on = head.read_on; passed = head.passed } in
-      let kept : IsChain next sound.mark sound.count b new = record { some = chain.some; marked = chain.marked; last = chain.last; within = chain.within; reading = chain.reading } in
+      let kept : IsChain next sound.mark sound.count b new =
+      record { some = chain.some; marked = chain.marked; last = chain.last; within = chain.within; reading = chain.reading } in
       record {
         count = sound.count;
         counted = length-set heads b (Some new) ∙ sound.counted;
@@ -638,14 +516,17 @@ module _ (region next : List ℕ) (heads : List (Option Head)) (free free_len : 
         mark = sound.mark;
         chains = λ c h e. elim (cases_eq c b) [
           | inl same ↦ subst (λ x. IsChain next sound.mark sound.count x h) (sym same)
-              (subst (λ g. IsChain next sound.mark sound.count b g) (sym (this_head region next heads free free_len sound b new h low (subst (λ x. get_or (set heads b (Some new)) x None ≡ Some h) same e))) kept)
+              (subst (λ g. IsChain next sound.mark sound.count b g) (sym
+              (this_head region next heads free free_len sound b new h low (subst (λ x. get_or (set heads b (Some new)) x None ≡ Some h) same e))) kept)
           | inr apart ↦ sound.chains c h (other_head region next heads free free_len sound b (Some new) c (Some h) apart e)
         ];
         spare = sound.spare;
         all = omega (arith, sum_by-set head_blocks heads b (Some new) None low, ap head_blocks at, sound.all);
       }
 
-  pub set_owner_slots : (b owner : ℕ) (head : Head) → get_or heads b None ≡ Some head → slots_of region next (set heads b (Some (record { owner = owner; last = head.last; len = head.len; read_on = head.read_on; passed = head.passed }))) ≡ with_chain (slots_of region next heads) b owner (laid_bytes region next b head.len)
+  pub set_owner_slots : (b owner : ℕ) (head : Head) → get_or heads b None ≡ Some head → slots_of region next
+      (set heads b (Some (record { owner = owner; last = head.last; len = head.len; read_on = head.read_on; passed = head.passed }))) ≡ with_chain
+      (slots_of region next heads) b owner (laid_bytes region next b head.len)
   set_owner_slots b owner head at =
       let low : b < length heads = omega (arith, in_pool next sound.mark sound.count b head (sound.chains b head at), sound.counted) in
       let new : Head = record { owner = owner; last = head.last; len = head.len; read_on = head.read_on; passed = head.passed } in
@@ -656,12 +537,15 @@ module _ (region next : List ℕ) (heads : List (Option Head)) (free free_len : 
 
   -- ---- reading goes on at another block
 
-  pub read_on_sound : (b block passed : ℕ) (head : Head) → get_or heads b None ≡ Some head → passed < blocks_for head.len → block ≡ block_at next b passed → AreSoundBlocks region next (set heads b (Some (record { owner = head.owner; last = head.last; len = head.len; read_on = block; passed = passed }))) free free_len
+  pub read_on_sound : (b block passed : ℕ)
+      (head : Head) → get_or heads b None ≡ Some head → passed < blocks_for head.len → block ≡ block_at next b passed → AreSoundBlocks region next
+      (set heads b (Some (record { owner = head.owner; last = head.last; len = head.len; read_on = block; passed = passed }))) free free_len
   read_on_sound b block passed head at low block_is =
       let chain = sound.chains b head at in
       let b_low : b < length heads = omega (arith, in_pool next sound.mark sound.count b head chain, sound.counted) in
       let new : Head = record { owner = head.owner; last = head.last; len = head.len; read_on = block; passed = passed } in
-      let kept : IsChain next sound.mark sound.count b new = record { some = chain.some; marked = chain.marked; last = chain.last; within = low; reading = sym block_is } in
+      let kept : IsChain next sound.mark sound.count b new =
+      record { some = chain.some; marked = chain.marked; last = chain.last; within = low; reading = sym block_is } in
       record {
         count = sound.count;
         counted = length-set heads b (Some new) ∙ sound.counted;
@@ -671,14 +555,16 @@ module _ (region next : List ℕ) (heads : List (Option Head)) (free free_len : 
         mark = sound.mark;
         chains = λ c h e. elim (cases_eq c b) [
           | inl same ↦ subst (λ x. IsChain next sound.mark sound.count x h) (sym same)
-              (subst (λ g. IsChain next sound.mark sound.count b g) (sym (this_head region next heads free free_len sound b new h b_low (subst (λ x. get_or (set heads b (Some new)) x None ≡ Some h) same e))) kept)
+              (subst (λ g. IsChain next sound.mark sound.count b g) (sym
+              (this_head region next heads free free_len sound b new h b_low (subst (λ x. get_or (set heads b (Some new)) x None ≡ Some h) same e))) kept)
           | inr apart ↦ sound.chains c h (other_head region next heads free free_len sound b (Some new) c (Some h) apart e)
         ];
         spare = sound.spare;
         all = omega (arith, sum_by-set head_blocks heads b (Some new) None b_low, ap head_blocks at, sound.all);
       }
 
-  pub read_on_slots : (b block passed : ℕ) (head : Head) → get_or heads b None ≡ Some head → slots_of region next (set heads b (Some (record { owner = head.owner; last = head.last; len = head.len; read_on = block; passed = passed }))) ≡ slots_of region next heads
+  pub read_on_slots : (b block passed : ℕ) (head : Head) → get_or heads b None ≡ Some head → slots_of region next
+      (set heads b (Some (record { owner = head.owner; last = head.last; len = head.len; read_on = block; passed = passed }))) ≡ slots_of region next heads
   unfolding slots_of
   read_on_slots b block passed head at =
       let low : b < length heads = omega (arith, in_pool next sound.mark sound.count b head (sound.chains b head at), sound.counted) in
@@ -711,13 +597,15 @@ drop-made f n from low =
     ∙ (get_or-map-range_with_len f 0 n (from + k) (from + k) d (omega arith) (omega arith)
     ∙ sym (get_or-map-range_with_len f from (n - from) k (from + k) d inside refl)))
 
-pub copied_bytes : (region next : List ℕ) (b len from count : ℕ) → from ≤ len → count ≤ len - from → map (linked_byte region next b) (range_with_len from count) ≡ take count (drop from (laid_bytes region next b len))
+pub copied_bytes : (region next : List ℕ) (b len from count : ℕ) → from ≤ len → count ≤ len - from
+    → map (linked_byte region next b) (range_with_len from count) ≡ take count (drop from (laid_bytes region next b len))
 unfolding laid_bytes
 copied_bytes region next b len from count low few =
     sym (ap (take count) (drop-made (linked_byte region next b) len from low) ∙ take-map-range_with_len (linked_byte region next b) from (len - from) count few)
 
 -- what the slots say of a chain whose head is known
-module _ (region next : List ℕ) (heads : List (Option Head)) (free free_len : ℕ) (sound : AreSoundBlocks region next heads free free_len) (slots : List (Option Held)) (view : slots_of region next heads ≡ slots) (b : ℕ) (some : 0 < length (held_bytes slots b)) where
+module _ (region next : List ℕ) (heads : List (Option Head)) (free free_len : ℕ) (sound : AreSoundBlocks region next heads free free_len)
+    (slots : List (Option Held)) (view : slots_of region next heads ≡ slots) (b : ℕ) (some : 0 < length (held_bytes slots b)) where
   pub blocks_reached : (k : ℕ) → k * 32 < length (held_bytes slots b) → block_at next b k < length next
   blocks_reached k low = by_head (get_or heads b None) refl
     where
@@ -725,20 +613,25 @@ module _ (region next : List ℕ) (heads : List (Option Head)) (free free_len : 
       by_head None e = absurd (not_none region next heads slots view b some e)
       by_head (Some head) e = blocks_low region next heads free free_len sound b head e k (omega (arith, len_says region next heads slots view b head e))
 
-  pub bytes_copied : (from count : ℕ) → from ≤ length (held_bytes slots b) → count ≤ length (held_bytes slots b) - from → map (linked_byte region next b) (range_with_len from count) ≡ take count (drop from (held_bytes slots b))
+  pub bytes_copied : (from count : ℕ) → from ≤ length (held_bytes slots b) → count ≤ length (held_bytes slots b) - from
+      → map (linked_byte region next b) (range_with_len from count) ≡ take count (drop from (held_bytes slots b))
   bytes_copied from count low few = by_head (get_or heads b None) refl
     where
-      by_head : (h : Option Head) → get_or heads b None ≡ h → map (linked_byte region next b) (range_with_len from count) ≡ take count (drop from (held_bytes slots b))
+      by_head : (h : Option Head) → get_or heads b None ≡ h
+          → map (linked_byte region next b) (range_with_len from count) ≡ take count (drop from (held_bytes slots b))
       by_head None e = absurd (not_none region next heads slots view b some e)
       by_head (Some head) e =
           let len = len_says region next heads slots view b head e in
-          copied_bytes region next b head.len from count (omega (arith, len)) (omega (arith, len)) ∙ ap (λ bs. take count (drop from bs)) (sym (bytes_say region next heads slots view b head e))
+          copied_bytes region next b head.len from count (omega (arith, len)) (omega (arith, len))
+          ∙ ap (λ bs. take count (drop from bs)) (sym (bytes_say region next heads slots view b head e))
 
-  pub copied_out : (from count : ℕ) (out new : List ℕ) → from ≤ length (held_bytes slots b) → count ≡ min (length (held_bytes slots b) - from) (length out) → new ≡ map (linked_byte region next b) (range_with_len from (length (take count out)))
+  pub copied_out : (from count : ℕ) (out new : List ℕ) → from ≤ length (held_bytes slots b) → count ≡ min (length (held_bytes slots b) - from) (length out)
+      → new ≡ map (linked_byte region next b) (range_with_len from (length (take count out)))
       → new ++ drop count out ≡ take count (drop from (held_bytes slots b)) ++ drop count out
   copied_out from count out new low count_is new_is =
       let len : length (take count out) ≡ count = omega (arith, length-take count out, count_is) in
-      ap (λ bs. bs ++ drop count out) (new_is ∙ (ap (λ n. map (linked_byte region next b) (range_with_len from n)) len ∙ bytes_copied from count low (omega (arith, count_is))))
+      ap (λ bs. bs ++ drop count out)
+      (new_is ∙ (ap (λ n. map (linked_byte region next b) (range_with_len from n)) len ∙ bytes_copied from count low (omega (arith, count_is))))
 
 -- ---- a new pool
 
@@ -752,7 +645,8 @@ no_head_blocks : (n : ℕ) → sum_by head_blocks (replicate n None) ≡ 0
 no_head_blocks zero = refl
 no_head_blocks (suc n) = omega (arith, sum_by-cons head_blocks None (replicate n None), no_head_blocks n)
 
-pub make_sound : (region next : List ℕ) (heads : List (Option Head)) (count : ℕ) → count ≤ 16384 → length region ≡ 32 * count → next ≡ range_with_len 1 count → heads ≡ replicate count None → AreSoundBlocks region next heads 0 count
+pub make_sound : (region next : List ℕ) (heads : List (Option Head)) (count : ℕ) → count ≤ 16384 → length region ≡ 32 * count → next ≡ range_with_len 1 count
+    → heads ≡ replicate count None → AreSoundBlocks region next heads 0 count
 make_sound region next heads count few bytes links none = record {
   count = count;
   counted = ap length none ∙ length-replicate count None;
@@ -761,16 +655,23 @@ make_sound region next heads count few bytes links none = record {
   few = few;
   mark = λ x. (count, x);
   chains = λ b head e. absurd (none_is_some head (sym (no_heads b) ∙ e));
-  spare = λ k low. let place : block_at next 0 k ≡ k = ap (λ xs. block_at xs 0 k) links ∙ in_order count k low in (omega (arith, place), ap (λ x. (count, x)) place);
+  spare = λ k low. let place : block_at next 0 k ≡ k = ap (λ xs. block_at xs 0 k) links
+      ∙ in_order count k low in (omega (arith, place), ap (λ x. (count, x)) place);
   all = omega (arith, ap (sum_by head_blocks) none, no_head_blocks count);
 }
   where
     no_heads : (b : ℕ) → get_or heads b None ≡ None
-    no_heads b = ap (λ hs. get_or hs b None) none ∙ elim (cases_lt b count) [ inl low ↦ get_or-replicate count b None None low | inr high ↦ get_or_past (replicate count None) b None (omega (arith, length-replicate {A = Option Head} count None)) ]
+    no_heads b = ap (λ hs. get_or hs b None) none ∙ elim (cases_lt b count) [
+      | inl low ↦ get_or-replicate count b None None low
+      | inr high ↦ get_or_past
+          (replicate count None) b None (omega (arith, length-replicate {A = Option Head} count None))
+    ]
 
-pub make_slots : (region next : List ℕ) (heads : List (Option Head)) (count : ℕ) → heads ≡ replicate count None → slots_of region next heads ≡ replicate count None
+pub make_slots : (region next : List ℕ) (heads : List (Option Head)) (count : ℕ) → heads ≡ replicate count None
+    → slots_of region next heads ≡ replicate count None
 make_slots region next heads count none =
-    same_lists _ _ (length-slots_of region next heads ∙ (ap length none ∙ (length-replicate {A = Option Head} count None ∙ sym (length-replicate {A = Option Held} count None))))
+    same_lists _ _ (length-slots_of region next heads
+    ∙ (ap length none ∙ (length-replicate {A = Option Head} count None ∙ sym (length-replicate {A = Option Held} count None))))
     (λ k d h.
     let low : k < count = omega (arith, length-slots_of region next heads, ap length none, length-replicate {A = Option Head} count None) in
     get_or_default (slots_of region next heads) k d None h

@@ -1,3 +1,4 @@
+pub mod LinkLemmas
 pub mod LayoutLemmas
 pub mod WalkLemmas
 pub mod PlaceLemmas

@@ -13,7 +13,8 @@ use Rattle.block_pool.specs.Names.{named_bytes, blocks_named}
 use Rattle.block_pool.specs.Pool.{PoolState, chain_bytes, chain_blocks}
 use Rattle.block_pool.specs.Links.{block_at, linked_byte}
 use Rattle.block_pool.specs.Layout.{laid_bytes as bytes_along, slots_of, blocks_by, chains_of, places_of, head_blocks, IsMarked, AreSoundBlocks}
-use Rattle.block_pool.proofs.LayoutLemmas.{same_mark, in_pool, length-slots_of, not_none, bytes_say, len_says}
+use Rattle.block_pool.proofs.LayoutLemmas.{not_none, bytes_say, len_says}
+use Rattle.block_pool.proofs.LinkLemmas.{same_mark, in_pool, length-slots_of}
 
 -- ---- the blocks of one chain
 

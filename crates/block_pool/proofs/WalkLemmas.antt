@@ -4,7 +4,7 @@ use Rattle.std.specs.List.{range_with_len}
 use Rattle.std.proofs.lemmas.List.{same_lists, get_or_default, map-id}
 use Rattle.std.proofs.lemmas.List.FromFn.{length-map-range_with_len, get_or-map-range_with_len, map-range_with_len_more}
 use Rattle.block_pool.specs.Links.{block_at}
-use Rattle.block_pool.proofs.LayoutLemmas.{behind}
+use Rattle.block_pool.proofs.LinkLemmas.{behind}
 
 -- a block reached from one on the way to it
 pub block_on : (next : List ℕ) (first passed steps block : ℕ) → block_at next first passed ≡ block → passed ≤ steps

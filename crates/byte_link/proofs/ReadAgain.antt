@@ -31,8 +31,20 @@ part count bytes (h ∷ m ∷ x ∷ q) r low high l e more =
     let body : (x ∷ q) ++ r ≡ bytes = cc in
     let short : suc (length q) < count + 2 = omega (arith, ap length body, length-append (x ∷ q) r) in
     let same : 256 * h + m ≡ count = omega (arith, top, next) in (
-      rw (same, ne_eqb count 0 (λ z. absurd (omega (arith, z))), le-leb count 30 high, ne_eqb (suc (length q)) (count + 2) (λ z. absurd (omega (arith, z, short)))) refl,
-      rw (same, ne_eqb count 0 (λ z. absurd (omega (arith, z))), le-leb count 30 high, ne_eqb (suc (length q)) (count + 2) (λ z. absurd (omega (arith, z, short)))) refl,
+      rw (
+        same,
+        ne_eqb count 0 (λ z. absurd (omega (arith, z))),
+        le-leb count 30 high,
+        ne_eqb (suc (length q)) (count + 2)
+            (λ z. absurd (omega (arith, z, short))),
+      ) refl,
+      rw (
+        same,
+        ne_eqb count 0 (λ z. absurd (omega (arith, z))),
+        le-leb count 30 high,
+        ne_eqb (suc (length q)) (count + 2)
+            (λ z. absurd (omega (arith, z, short))),
+      ) refl,
     )
 
 skip : (u : Unit) (us : List Unit) → u ≡ Nothing → filter says_something (u ∷ us) ≡ filter says_something us
@@ -158,14 +170,17 @@ unit_is_read : (seen bytes later : List ℕ) → unit_under_way seen ≡ [] → 
     → (filter says_something (units_given seen (bytes ++ later)) ≡ unit_said bytes ∷ filter says_something (units_given (came seen bytes) later))
     × (unit_under_way (came seen bytes) ≡ [])
 unit_is_read seen bytes later is (inl tick) =
-    subst (λ b. (filter says_something (units_given seen (b ++ later)) ≡ unit_said b ∷ filter says_something (units_given (came seen b) later)) × (unit_under_way (came seen b) ≡ []))
+    subst (λ b. (filter says_something (units_given seen (b ++ later)) ≡ unit_said b ∷ filter says_something (units_given (came seen b) later))
+    × (unit_under_way (came seen b) ≡ []))
     (sym tick) (tick_is_read seen later is)
   where
     tick_is_read : (seen later : List ℕ) → unit_under_way seen ≡ []
-        → (filter says_something (units_given seen (0 ∷ 0 ∷ later)) ≡ Tick ∷ filter says_something (units_given (0 ∷ 0 ∷ seen) later)) × (unit_under_way (0 ∷ 0 ∷ seen) ≡ [])
+        → (filter says_something (units_given seen (0 ∷ 0 ∷ later)) ≡ Tick ∷ filter says_something (units_given (0 ∷ 0 ∷ seen) later))
+        × (unit_under_way (0 ∷ 0 ∷ seen) ≡ [])
     tick_is_read seen later is = (rw is refl, rw is refl)
 unit_is_read seen bytes later is (inr u) =
-    subst (λ b. (filter says_something (units_given seen (b ++ later)) ≡ unit_said b ∷ filter says_something (units_given (came seen b) later)) × (unit_under_way (came seen b) ≡ []))
+    subst (λ b. (filter says_something (units_given seen (b ++ later)) ≡ unit_said b ∷ filter says_something (units_given (came seen b) later))
+    × (unit_under_way (came seen b) ≡ []))
     (sym u.spelled) (reads u.count u.rest seen [] (0 ∷ u.count ∷ u.rest) later (record {
       some = u.some;
       most = u.most;

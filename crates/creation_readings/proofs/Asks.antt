@@ -254,7 +254,8 @@ module _ (x : ℕ) where
     go : (o : Option Creation) → asked_at p ≡ o → one_of x (asked_at (forgets all p)) ≡ cond (is_over_at all x) [] (one_of x (asked_at p))
     go None e =
         let same : forgets all p ≡ p = rw e refl in
-        ap (λ (q : Port). one_of x (asked_at q)) same ∙ (ap (one_of x) e ∙ (sym (both [] (is_over_at all x)) ∙ ap (λ o. cond (is_over_at all x) [] (one_of x o)) (sym e)))
+        ap (λ (q : Port). one_of x (asked_at q)) same
+        ∙ (ap (one_of x) e ∙ (sym (both [] (is_over_at all x)) ∙ ap (λ o. cond (is_over_at all x) [] (one_of x o)) (sym e)))
     go (Some c) e = by_notice p.desk.notice refl where
       by_notice : (n : Option Notice) → p.desk.notice ≡ n → one_of x (asked_at (forgets all p)) ≡ cond (is_over_at all x) [] (one_of x (asked_at p))
       by_notice None q = let z : None ≡ Some c = rw q at e in absurd (cc z)

@@ -337,7 +337,8 @@ module _ (x : ℕ) (before : List Entry) (hosts : List ℕ) (asked : Asked) (n :
         some_of (Some k) z = refl
 
         go : (o : Option Port) → port_at w.ports x ≡ o → UpAt o → IsCome n list r first (option_map (come TimePasses tt) o)
-            → IsCome n list r (option_map_or (λ (p : Port). reads x (told_late w.core p) first) (option_map with_older (option_map (come TimePasses tt) o)) first)
+            → IsCome n list r
+            (option_map_or (λ (p : Port). reads x (told_late w.core p) first) (option_map with_older (option_map (come TimePasses tt) o)) first)
             (option_map reset_late (option_map with_older (option_map (come TimePasses tt) o)))
         go None e u b = b
         go (Some p) e u b =

@@ -76,7 +76,8 @@ module _ (x : ℕ) (before : List Entry) (hosts : List ℕ) where
       → Fine (all_done k deeds w)
   leaves k asked [] w may a = inl (record { asked = asked; good = a })
   leaves k asked (Commits c ∷ deeds) w may a =
-      then Fine asked [] (many x before hosts asked []) (all_done k deeds) (commit c w) (commits x before hosts asked [] (many x before hosts asked []) c w may.0 a)
+      then Fine asked [] (many x before hosts asked []) (all_done k deeds) (commit c w)
+      (commits x before hosts asked [] (many x before hosts asked []) c w may.0 a)
       (λ lost. inr lost) (λ b. leaves k asked deeds (commit c w) may.1 b)
   leaves k asked (Sends to m ∷ deeds) w may a =
       then Fine asked [] (many x before hosts asked []) (all_done k deeds) (turn_at to (Give m) w)
@@ -246,7 +247,8 @@ module _ (x : ℕ) (before : List Entry) (hosts : List ℕ) where
         let same : last ≡ waits x new ++ [] = go (cases_Bool (eqb c.asker x)) in
         let told : Work = notified to (Waits c) notice v in
         let fourth : IsOn x before hosts new [] m told =
-        sets x before hosts asked (c ∷ []) [] m to (λ p. record p { desk = record p.desk { notice = Some (record { about = Waits c; age = 0 }) } }) (Some c) given
+        sets x before hosts asked (c ∷ []) [] m to (λ p. record p { desk = record p.desk { notice = Some (record { about = Waits c; age = 0 }) } })
+        (Some c) given
         (λ p. (refl, refl, refl)) due tt (subst (IsReadSo (reading x before hosts given)) same third.read) (ap length same) third in
         let good : Good x before hosts new [] told = subst (λ j. IsOn x before hosts new [] j told) (ap length same) fourth in
         subst Fine (sym (on_is x before hosts (all_done k []) told good.on)) (inl (record { asked = new; good = good }))

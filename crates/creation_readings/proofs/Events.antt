@@ -68,7 +68,8 @@ beside_reads t w v es a b = record {
   due = b.due a.due;
   read = λ x. subst (λ m. IsReadSo m (creations_of v.controller x)) (sym (far_reading x t es b.far))
       (subst (IsReadSo (asking_in t x)) (sym (b.creations x)) (a.read x));
-  ends = λ x. subst (HasSetAside (creations_of v.controller x)) (sym (b.sides x)) (subst (λ l. HasSetAside l (link_to w.sites x).controller.side) (sym (b.creations x))
+  ends = λ x. subst (HasSetAside (creations_of v.controller x)) (sym (b.sides x))
+      (subst (λ l. HasSetAside l (link_to w.sites x).controller.side) (sym (b.creations x))
       (a.ends x));
 }
 

@@ -85,7 +85,8 @@ module _ (pid : ℕ) where
   asker_of [] e = absurd (true≢false (sym e))
   asker_of (p ∷ ports) e = go (asked_at p) refl (asker_of ports) where
     behind : HasAsker ports → HasAsker (p ∷ ports)
-    behind a = record { asker = a.asker; waits_there = any_behind (is_of_pipe pid) (one_of a.asker (asked_at p)) (waits a.asker (asked_of ports)) a.waits_there }
+    behind a =
+        record { asker = a.asker; waits_there = any_behind (is_of_pipe pid) (one_of a.asker (asked_at p)) (waits a.asker (asked_of ports)) a.waits_there }
 
     go : (o : Option Creation) → asked_at p ≡ o → (list_any is_it (waiting_pipes ports) ≡ true → HasAsker ports) → HasAsker (p ∷ ports)
     go None q later = behind (later (rw q at e))

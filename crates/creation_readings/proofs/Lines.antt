@@ -56,7 +56,8 @@ history_keeps header lines t follows are sent few front back q =
     (few_front (entries_in front) (entries_in back) all)
 
 pub schedule_keeps : (header : Header) (lines : List Line) (t : NodeHistory) → FollowsNodes header lines t → AreHosts header.hosts.items
-    → AllByRecursion IsSentByHost lines → IsFew (node_entries t) → KeepsCreations header.hosts.items (node_entries t) (world_after (new_world header.hosts.items) lines)
+    → AllByRecursion IsSentByHost lines → IsFew (node_entries t)
+    → KeepsCreations header.hosts.items (node_entries t) (world_after (new_world header.hosts.items) lines)
 schedule_keeps header lines t follows are sent few =
     let hosts : List ℕ = header.hosts.items in
     let H : List Entry → NodeWorld → Type 0 = λ u w. IsFew u → KeepsCreations hosts u w in

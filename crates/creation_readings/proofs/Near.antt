@@ -164,7 +164,8 @@ pub record Reads (t : List Entry) (w : NodeWorld) : Type 0 where
 module _ (t : List Entry) (w : NodeWorld) (r : Running) (runs : w.controller ≡ Some r) (has : HasEnds 0 (hosts_in w.sites) r)
     (different : AreDifferent (hosts_in w.sites)) (all : AllByRecursion IsHost (hosts_in w.sites)) (ups : IfNoticedUp w.sites (Some r))
     (shut : (n : ℕ) → IsShut (link_to w.sites n).controller.side) (rows : AreProper r.core.tables.rows) (old : Reads t w)
-    (plan : Option Plan) (halves : ℕ → NumberedEnd) (same : (n : ℕ) → (halves n).side ≡ (link_to w.sites n).controller.side) (es : List Entry) (quiet : AreFar es) where
+    (plan : Option Plan) (halves : ℕ → NumberedEnd) (same : (n : ℕ) → (halves n).side ≡ (link_to w.sites n).controller.side) (es : List Entry)
+    (quiet : AreFar es) where
   abbrev pub begun : Work
   begun = work_of r plan halves es
 
@@ -305,7 +306,8 @@ module _ (t : List Entry) (w : NodeWorld) (r : Running) (runs : w.controller ≡
       some : after_it.cut ≡ false → Reads now v
       some e = record {
         book = book_now (on e 0).good.book;
-        due = subst AreAwaited (sym (on_is e)) (due_back after_it.ports (subst (AllByRecursion (λ (e : ℕ × Option Creation). IfAwaited e.1)) (sym (on e 0).good.asked_are)
+        due = subst AreAwaited (sym (on_is e))
+            (due_back after_it.ports (subst (AllByRecursion (λ (e : ℕ × Option Creation). IfAwaited e.1)) (sym (on e 0).good.asked_are)
             (on e 0).good.due));
         read = λ x.
             let a : Still x t (hosts_in w.sites) after_it = on e x in

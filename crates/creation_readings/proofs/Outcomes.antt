@@ -154,7 +154,8 @@ module _ (x : ℕ) where
               (cond (goes_through core.tables h m.0 instruction) (own_gate core.tables h m.0) None))
           go None gate =
               subst (λ o. Of (served_at core v h m.0 instruction (body_in m.1) o)) (sym gate)
-              (decision_is m.0 (decided core.tables v h m.0 instruction (body_in m.1)) up free (decided_suits v h host core.tables m.0 instruction (body_in m.1))
+              (decision_is m.0 (decided core.tables v h m.0 instruction (body_in m.1)) up free
+              (decided_suits v h host core.tables m.0 instruction (body_in m.1))
               (asked gate))
           go (Some g) gate =
               subst (λ o. Of (served_at core v h m.0 instruction (body_in m.1) o)) (sym gate)

@@ -40,7 +40,8 @@ proper_apply t (SetOpened host pid opened) may a =
 proper_apply t (Set host gate param value) may a = a
 proper_apply t (Sync host id) may a = a
 
-proper_after : (t : HciTables) (commands : List Command) → AllByRecursion IsProperCommand commands → AreProper t.rows → AreProper (after_commands t commands).rows
+proper_after : (t : HciTables) (commands : List Command) → AllByRecursion IsProperCommand commands → AreProper t.rows
+    → AreProper (after_commands t commands).rows
 proper_after t [] may a = a
 proper_after t (c ∷ commands) may a = proper_after (apply t c) commands may.1 (proper_apply t c may.0 a)
 
@@ -61,7 +62,11 @@ proper_command c b may a = record {
 pub proper_found : (k : ℕ) (b : Book) → IsProperBook b → IsProperBook (with_found k b)
 proper_found k b a =
     let first : AllByRecursion IsProperCommand (take k b.commands) = all_take IsProperCommand k b.commands a.commands in
-    record { commands = first; tables = proper_closed (after_commands no_tables (take k b.commands)).rows (proper_after no_tables (take k b.commands) first tt) }
+    record {
+      commands = first;
+      tables =
+          proper_closed (after_commands no_tables (take k b.commands)).rows (proper_after no_tables (take k b.commands) first tt);
+    }
 
 -- ## Look-ups
 

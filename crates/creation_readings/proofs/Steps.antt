@@ -67,7 +67,8 @@ ports_due : (ports : List Port) → AllAwaited ports → AllByRecursion (λ (e :
 ports_due [] a = tt
 ports_due (p ∷ ports) a = (a.0, ports_due ports a.1)
 
-due_map : (f : Port → Port) → ((p : Port) → IfAwaited (asked_at p) → IfAwaited (asked_at (f p))) → (ports : List Port) → AllAwaited ports → AllAwaited (map f ports)
+due_map : (f : Port → Port) → ((p : Port) → IfAwaited (asked_at p) → IfAwaited (asked_at (f p))) → (ports : List Port) → AllAwaited ports
+    → AllAwaited (map f ports)
 due_map f one [] a = tt
 due_map f one (p ∷ ports) a = (one p a.0, due_map f one ports a.1)
 
@@ -219,7 +220,8 @@ module _ (x : ℕ) (before : List Entry) (hosts : List ℕ) where
         let same : flat_map (λ p. owed r (asked_at p)) (p ∷ ports) ++ rest ≡ Releases c.asker ∷ Sends c.asker (1, answer_of r []) ∷ later = rw q refl in
         let b : Good x before hosts asked (c ∷ (filter_map asked_at ports ++ owing)) w = rw q at a in
         subst (λ d. Fine x before hosts (all_done 0 d w)) (sym same)
-        (pays_then x before hosts (Fine x before hosts) 0 asked (filter_map asked_at ports ++ owing) c (answer_of r []) later w (answer_response r) (omega arith) b
+        (pays_then x before hosts (Fine x before hosts) 0 asked (filter_map asked_at ports ++ owing) c (answer_of r []) later w (answer_response r)
+        (omega arith) b
         (λ v d. more v d))
 
   -- ## Steps

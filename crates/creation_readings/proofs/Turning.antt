@@ -37,7 +37,8 @@ all_middle P (z ∷ front) back e a = all_middle P front back e a.1
 
 pub due_at : (asked : Asked) (k : ℕ) (c : Creation) → Split asked k (Some c) → AllByRecursion (λ (e : ℕ × Option Creation). IfAwaited e.1) asked → IsAwaited c
 due_at asked k c s a =
-    all_middle (λ (e : ℕ × Option Creation). IfAwaited e.1) s.front s.back (s.key, Some c) (subst (AllByRecursion (λ (e : ℕ × Option Creation). IfAwaited e.1)) s.is a)
+    all_middle (λ (e : ℕ × Option Creation). IfAwaited e.1) s.front s.back (s.key, Some c)
+    (subst (AllByRecursion (λ (e : ℕ × Option Creation). IfAwaited e.1)) s.is a)
 
 -- an end with a link that is up and a block to spare
 block_at : (ports : List Port) (x : ℕ) → nat_lt (option_map_or (λ (p : Port). spare p.side) (port_at ports x) 0) 1 ≡ false → has_link ports x ≡ true
@@ -137,7 +138,8 @@ module _ (x : ℕ) (before : List Entry) (hosts : List ℕ) (different : AreDiff
             (all_leave x w.ports deeds apart may (controller_free w.core w.ports k m))) (fetched_good asked m w a)
         go (IsAsking to notice c e so) = asks_so to notice c e so room
         go (IsHeard p here is e) =
-            subst (λ d. Fine x before hosts (handles k m d w)) (sym e) (hears x before hosts k asked (fetched m w) (split k p None here is) (fetched_good asked m w a))
+            subst (λ d. Fine x before hosts (handles k m d w)) (sym e)
+            (hears x before hosts k asked (fetched m w) (split k p None here is) (fetched_good asked m w a))
         go (IsDone p c flag here is e) =
             let s : Split asked k (Some c) = split k p (Some c) here is in
             subst (λ d. Fine x before hosts (handles k m d w)) (sym e)

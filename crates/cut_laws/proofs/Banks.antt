@@ -52,12 +52,14 @@ module _ (content : List ℕ) (s : State) (t : HciTables) (c : Command) (k : Kno
 
   snapshot_stayed : (i + 1 ≡ length before → is_opened_gate (slice_index fill 0) ≡ false) → current new ≡ s.in_use
   snapshot_stayed closed = by_fit (record_fits s (body_of c)) refl filled closed where
-    by_fit : (b : Bool) → record_fits s (body_of c) ≡ b → IsFilled i fill (by_room b) content new → (i + 1 ≡ length (by_room b) → is_opened_gate (slice_index fill 0) ≡ false)
+    by_fit : (b : Bool) → record_fits s (body_of c) ≡ b → IsFilled i fill (by_room b) content new
+        → (i + 1 ≡ length (by_room b) → is_opened_gate (slice_index fill 0) ≡ false)
         → current new ≡ s.in_use
     by_fit true is filled closed = absurd filled
     by_fit false is filled closed =
         same_bank content new (gate_closed i fill (compact_writes s (snapshot_bodies t)) content new
-        (compacting.all_or_nothing content (snapshot_bodies t) s (says_of content s t k) (can content s t k are may (next_of content s t c k are may command room is)))
+        (compacting.all_or_nothing content (snapshot_bodies t) s (says_of content s t k)
+        (can content s t k are may (next_of content s t c k are may command room is)))
         (snapshot_ends s (snapshot_bodies t) k.in_use) filled closed)
         ∙ bank_of content s t k
 
@@ -97,7 +99,8 @@ module _ (m : Memory) (s : State) (t : HciTables) (c : Command) (k : Knows m.con
         snapshot_stayed m.content s t c k are may command room cut.i cut.fill left front.1 (cut.closed (length first) opens)
     by_part (inr back) = absurd (omega (arith, back.1, cut.reached (length first) near))
 
-  record_moved : (j : ℕ) → cut.i ≡ length first + j → IsFilled j cut.fill (append_writes (with_room s t (body_of c)) (body_of c)) (after_writes first m.content) left
+  record_moved : (j : ℕ) → cut.i ≡ length first + j
+      → IsFilled j cut.fill (append_writes (with_room s t (body_of c)) (body_of c)) (after_writes first m.content) left
       → current left ≡ (with_room s t (body_of c)).in_use
   record_moved j is filled = by_gate (cases_Bool (opens_gate (length (commit_writes s t (body_of c))) m.plan)) where
     by_gate : (opens_gate (length (commit_writes s t (body_of c))) m.plan ≡ true) ⊎ (opens_gate (length (commit_writes s t (body_of c))) m.plan ≡ false)

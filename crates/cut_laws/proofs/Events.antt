@@ -67,7 +67,8 @@ none_booted P n r (e ∷ before) behind many each = none_booted P n (reckoned n 
 
 one_booted : (n j many : ℕ) (r : Reckoning) (before behind : List Entry) → entry.Booted n j ∷ [] ≡ before ++ (entry.Booted n many ∷ behind)
     → FindsExactly r j → FindsExactly (fold (reckoned n) r before) many
-one_booted n j many r [] behind is right = let same : entry.Booted n j ≡ entry.Booted n many = cc in let number : j ≡ many = cc in subst (FindsExactly r) number right
+one_booted n j many r [] behind is right = let same : entry.Booted n j ≡ entry.Booted n many = cc in let number : j ≡ many =
+    cc in subst (FindsExactly r) number right
 one_booted n j many r (e ∷ []) behind is right = absurd (cc is)
 one_booted n j many r (e ∷ f ∷ before) behind is right = absurd (cc is)
 
@@ -340,7 +341,8 @@ module _ (hosts : List ℕ) (are : AreHosts hosts) (n : ℕ) where
         let many : ℕ = count_of (starts w n).core.journal in
         let es : List Entry = entry.Booted n many ∷ [] in
         let right : FindsExactly r many =
-        boot_found n t r (memory w n) (links_of w n) (node_at w n) stands (subst (λ b. length b ≤ 2 ^ 32 - 1) (sym (ap (λ b. commands_of b) stands.book_is)) few) in
+        boot_found n t r (memory w n) (links_of w n) (node_at w n) stands
+        (subst (λ b. length b ≤ 2 ^ 32 - 1) (sym (ap (λ b. commands_of b) stands.book_is)) few) in
         let kept : AllKeep hosts (t ++ es) v = subst (λ (p : NodeWorld × List Entry). AllKeep hosts (t ++ p.1) p.0) (run_is w n e) keep in
         let runs = runs_of hosts are (t ++ es) v n (starts w n) kept now.there now.running in
         subst (GoesExactly n t r (Boots n)) (sym (run_is w n e)) (record {

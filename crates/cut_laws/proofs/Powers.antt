@@ -66,7 +66,8 @@ runs_stands n links t m q r k on book memory none found_all = record {
   many = length r.book.commands;
   which = subst (λ b. FindsBy b (length r.book.commands) (length r.book.commands)) (sym found_all) refl;
   finds = all_found m.content r.book.commands
-      (subst (λ x. BootFinds m.content (after_commands no_tables r.book.commands) x) (k.count_is ∙ ap (λ (b : Book). min (length b.commands) (2 ^ 32 - 1)) (sym book))
+      (subst (λ x. BootFinds m.content (after_commands no_tables r.book.commands) x)
+      (k.count_is ∙ ap (λ (b : Book). min (length b.commands) (2 ^ 32 - 1)) (sym book))
       (finds_closed m.content q.core.tables (after_commands no_tables r.book.commands) (count_of q.core.journal) k.knows.finds
       (ap close k.tables_are ∙ closed_book t n ∙ ap (λ (b : Book). close (after_commands no_tables b.commands)) (sym book))));
   used = λ on. used_of m.content q.core.journal q.core.tables k.knows;

@@ -62,7 +62,8 @@ all_found content commands finds =
     subst (λ l. BootFinds content (after_commands no_tables l) (min (length commands) (2 ^ 32 - 1))) (sym (take-length commands)) finds
 
 -- all but the last one
-less_found : (content : List ℕ) (commands : List Command) (c : Command) → BootFinds content (after_commands no_tables commands) (min (length commands) (2 ^ 32 - 1))
+less_found : (content : List ℕ) (commands : List Command) (c : Command)
+    → BootFinds content (after_commands no_tables commands) (min (length commands) (2 ^ 32 - 1))
     → FindsMany content (commands ++ c ∷ []) (length commands)
 less_found content commands c finds =
     subst (λ l. BootFinds content (after_commands no_tables l) (min (length commands) (2 ^ 32 - 1))) (sym (take-append_seam commands (c ∷ []))) finds
@@ -277,7 +278,8 @@ module _ (n : ℕ) (links : List ℕ) (t : List Entry) (m : Memory) (q : Running
             all_found left (before_it.book.commands ++ c ∷ [])
                 (subst (λ x. BootFinds x (after_commands no_tables (before_it.book.commands ++ c ∷ [])) (min (length (before_it.book.commands ++ c ∷ []))
                 (2 ^ 32 - 1))) left_is
-                (subst (λ l2. BootFinds (after_planned (commit c work).writes m).content (after_commands no_tables l2) (min (length l2) (2 ^ 32 - 1))) same all)),
+                (subst
+                (λ l2. BootFinds (after_planned (commit c work).writes m).content (after_commands no_tables l2) (min (length l2) (2 ^ 32 - 1))) same all)),
           )
       by_gate (inr closed) =
           let less = step_closed n l.hosts m t c work l.ran l.may l.room cut (gate ∙ closed) in (

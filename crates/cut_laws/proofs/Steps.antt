@@ -125,7 +125,8 @@ module _ (n : ℕ) (hosts : List ℕ) (old : Memory) (before : List Entry) (c : 
   count_then : count_of (committed w.core.journal w.core.tables (body_of c)) ≡ min (length (commands_in seen n ++ c ∷ [])) (2 ^ 32 - 1)
   count_then =
       commit_count r.memory.content w.core.journal w.core.tables c r.knows r.sorted r.recordable may room
-      ∙ more (count_of w.core.journal) (length (commands_in seen n)) (length (commands_in seen n ++ c ∷ [])) r.count_is (length-append (commands_in seen n) (c ∷ []))
+      ∙ more (count_of w.core.journal) (length (commands_in seen n)) (length (commands_in seen n ++ c ∷ [])) r.count_is
+      (length-append (commands_in seen n) (c ∷ []))
     where
       more : (x l k : ℕ) → x ≡ min l (2 ^ 32 - 1) → k ≡ l + 1 → min (x + 1) (2 ^ 32 - 1) ≡ min k (2 ^ 32 - 1)
       more x l k a b = omega arith
@@ -141,7 +142,8 @@ module _ (n : ℕ) (hosts : List ℕ) (old : Memory) (before : List Entry) (c : 
       let found = planned_opened r.memory w.core.journal w.core.tables c r.knows r.sorted r.recordable may room now (sym plan_at ∙ opens) in
       let closed = ap (λ t. close (apply t c)) r.tables_are ∙ closed_command (book_in seen n) c (closed_book seen n) in
       subst FindsAll (sym commands_are)
-      (subst (λ x. BootFinds x (after_commands no_tables (commands_in seen n ++ c ∷ [])) (min (length (commands_in seen n ++ c ∷ [])) (2 ^ 32 - 1))) (sym memory_is)
+      (subst (λ x. BootFinds x (after_commands no_tables (commands_in seen n ++ c ∷ [])) (min (length (commands_in seen n ++ c ∷ [])) (2 ^ 32 - 1)))
+      (sym memory_is)
       (subst (λ k. BootFinds (after_planned writes r.memory).content (after_commands no_tables (commands_in seen n ++ c ∷ [])) k) count_then
       (finds_closed (after_planned writes r.memory).content (apply w.core.tables c) (after_commands no_tables (commands_in seen n ++ c ∷ []))
       (count_of (committed w.core.journal w.core.tables (body_of c))) found closed)))

@@ -63,5 +63,6 @@ right_content lpdu sized bytes =
 
     spelled : bytes_of_bits (bits_of (with_crc lpdu)) ≡ with_crc lpdu
     spelled =
-        bytes_in_front (with_crc lpdu) (bits_of (with_crc lpdu)) [] (length (with_crc lpdu)) in_range (sym (append-nil (bits_of (with_crc lpdu)))) (length-bits_of (with_crc lpdu)) (omega arith)
+        bytes_in_front (with_crc lpdu) (bits_of (with_crc lpdu)) [] (length (with_crc lpdu)) in_range (sym (append-nil (bits_of (with_crc lpdu))))
+        (length-bits_of (with_crc lpdu)) (omega arith)
         ∙ take_all (with_crc lpdu) (length (with_crc lpdu)) (omega arith)

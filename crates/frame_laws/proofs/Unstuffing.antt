@@ -23,12 +23,14 @@ stuffed_reads ones (false ∷ content) seen run few =
     stuffed_reads 0 content (bit_0 ∷ seen) refl (omega arith)
     ∙ ap (λ xs. bits_onto xs content) (rw (ne_eqb (run_of seen) 5 (λ five. absurd (omega (arith, five)))) refl)
 stuffed_reads ones (true ∷ content) seen run few =
-    by_count (eqb ones 4) refl (stuffed_reads 0 content (bit_0 ∷ bit_1 ∷ seen) refl (omega arith)) (λ fewer. stuffed_reads (ones + 1) content (bit_1 ∷ seen) (omega arith) fewer)
+    by_count (eqb ones 4) refl (stuffed_reads 0 content (bit_0 ∷ bit_1 ∷ seen) refl (omega arith))
+    (λ fewer. stuffed_reads (ones + 1) content (bit_1 ∷ seen) (omega arith) fewer)
   where
     by_count : (fifth : Bool) → eqb ones 4 ≡ fifth
         → unstuffed (onto (bit_0 ∷ bit_1 ∷ seen) (stuffed_after 0 content)) ≡ bits_onto (unstuffed (bit_0 ∷ bit_1 ∷ seen)) content
         → (ones + 1 ≤ 4 → unstuffed (onto (bit_1 ∷ seen) (stuffed_after (ones + 1) content)) ≡ bits_onto (unstuffed (bit_1 ∷ seen)) content)
-        → unstuffed (onto seen (cond fifth (true ∷ false ∷ stuffed_after 0 content) (true ∷ stuffed_after (ones + 1) content))) ≡ bits_onto (true ∷ unstuffed seen) content
+        → unstuffed (onto seen (cond fifth (true ∷ false ∷ stuffed_after 0 content) (true ∷ stuffed_after (ones + 1) content)))
+        ≡ bits_onto (true ∷ unstuffed seen) content
     by_count true e five other =
         five ∙ ap (λ xs. bits_onto xs content) (rw (eq-eqb (suc (run_of seen)) 5 (omega (arith, eqb-true ones 4 e))) refl)
     by_count false e five other = other (let differ = eqb-false ones 4 e in omega (arith, differ))

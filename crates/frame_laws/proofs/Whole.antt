@@ -215,7 +215,8 @@ all_are_judged (spelling ∷ spellings) (content ∷ contents) seen between spel
     ap (λ xs. filter is_verdict (answers_after seen xs)) parts
     ∙ start_is_quiet seen (map symbol_of (spelling ++ end_of_frame) ++ map symbol_of (all_framed spellings)) between
     ∙ spelled_is_judged seen spelling content (map symbol_of (all_framed spellings)) spell.0
-    ∙ ap (λ xs. judged content ∷ xs) (all_are_judged spellings contents (ended (onto (started seen) spelling)) (between_again (onto (started seen) spelling)) spell.1)
+    ∙ ap (λ xs. judged content ∷ xs)
+    (all_are_judged spellings contents (ended (onto (started seen) spelling)) (between_again (onto (started seen) spelling)) spell.1)
   where
     parts : map symbol_of (framed spelling ++ all_framed spellings)
         ≡ map symbol_of start_of_frame ++ (map symbol_of (spelling ++ end_of_frame) ++ map symbol_of (all_framed spellings))

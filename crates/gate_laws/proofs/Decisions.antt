@@ -43,7 +43,8 @@ by_cases P t v host pipe instruction body cases =
     cond_both (eqb instruction 3) (opening t host pipe body) _ P (λ _. cases.opened)
     (λ _. cond_both (eqb instruction 4) (closing host pipe body) _ P (λ _. cases.closed)
     (λ _. cond_both (eqb instruction 1) (setting v host body) _ P (λ _. cases.set)
-    (λ _. cond_both (eqb instruction 2) (getting t v host body) _ P (λ _. unless P (first_of (tests_to_get 0 body)) _ refused (λ _. cases.answered response.Ok (value_of t v host (param_in body))))
+    (λ _. cond_both (eqb instruction 2) (getting t v host body) _ P
+    (λ _. unless P (first_of (tests_to_get 0 body)) _ refused (λ _. cases.answered response.Ok (value_of t v host (param_in body))))
     (λ _. cond_both (eqb instruction 16) (creating t v host body) _ P (λ _. cases.created)
     (λ _. cond_both (eqb instruction 17) (deleting t v host body) _ P (λ _. cases.deleted)
     (λ _. cond_both (eqb instruction 20) (clearing t v host body) _ P (λ _. cases.cleared)
@@ -123,7 +124,8 @@ joins_two (r ∷ rows) pid row all e =
 one_other : (v : LinkView) (host : ℕ) (end : ℕ × ℕ) → eqb end.0 host ≡ false → AllOthers v host (cond (is_connected v end.0) (end.0 ∷ []) [])
 one_other v host end other =
     cond_both (is_connected v end.0) (end.0 ∷ []) [] (AllOthers v host)
-    (λ there. and_from (is_connected v end.0 && not (eqb end.0 host)) true (and_from (is_connected v end.0) (not (eqb end.0 host)) there (not_from_false (eqb end.0 host) other)) refl)
+    (λ there. and_from (is_connected v end.0 && not (eqb end.0 host)) true
+    (and_from (is_connected v end.0) (not (eqb end.0 host)) there (not_from_false (eqb end.0 host) other)) refl)
     (λ gone. refl)
 
 far_other : (v : LinkView) (host : ℕ) (row : PipeRow) → eqb row.creator row.dest ≡ false
@@ -131,7 +133,8 @@ far_other : (v : LinkView) (host : ℕ) (row : PipeRow) → eqb row.creator row.
 far_other v host row apart =
     cond_both (eqb row.creator host) (Some (row.dest, row.dest_gate)) (cond (eqb row.dest host) (Some (row.creator, row.creator_gate)) None)
     (λ o. AllOthers v host (option_map_or (λ (end : ℕ × ℕ). cond (is_connected v end.0) (end.0 ∷ []) []) o []))
-    (λ own. one_other v host (row.dest, row.dest_gate) (ne_eqb row.dest host (λ same. eqb-false row.creator row.dest apart (eqb-true row.creator host own ∙ sym same))))
+    (λ own. one_other v host (row.dest, row.dest_gate)
+    (ne_eqb row.dest host (λ same. eqb-false row.creator row.dest apart (eqb-true row.creator host own ∙ sym same))))
     (λ stranger. cond_both (eqb row.dest host) (Some (row.creator, row.creator_gate)) None
     (λ o. AllOthers v host (option_map_or (λ (end : ℕ × ℕ). cond (is_connected v end.0) (end.0 ∷ []) []) o []))
     (λ here. one_other v host (row.creator, row.creator_gate) stranger) (λ none. refl))

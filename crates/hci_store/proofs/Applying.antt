@@ -102,7 +102,8 @@ fault_is_told content all = by_version (is_known (journal content).head.version)
 pub sound_has_no_fault : (content : List ℕ) → are_commands (records content) ≡ true → IsSound (journal content) → image_fault content ≡ None
 sound_has_no_fault content all sound =
     fault_is_told content all
-    ∙ ap (λ k. cond k (cond (journal content).found.is_bad (Some (BadRecord (gate_at content (length (records content))))) None) (Some (UnknownFormat (journal content).head.version))) sound.known
+    ∙ ap (λ k. cond k (cond (journal content).found.is_bad (Some (BadRecord (gate_at content (length (records content))))) None)
+    (Some (UnknownFormat (journal content).head.version))) sound.known
     ∙ ap (λ b. cond b (Some (BadRecord (gate_at content (length (records content))))) None) sound.good
 
 pub journal_fault_is_told : (content now : List ℕ) (many : ℕ) (t : HciTables) (f : JournalFault) → now ≡ content → AreApplied (records content) many t

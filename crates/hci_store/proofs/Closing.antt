@@ -34,7 +34,8 @@ closed-append (x ∷ xs) ys = ap (λ l. as_opened false x ∷ l) (closed-append 
 
 closed-with_pipe : (rows : List PipeRow) (row : PipeRow) → all_closed (with_pipe (all_closed rows) row) ≡ all_closed (with_pipe rows row)
 closed-with_pipe rows row =
-    ap₂ (λ xs ys. all_closed (xs ++ row ∷ ys)) (closed-filter (λ r. nat_lt r.pid row.pid) (λ r. refl) rows) (closed-filter (λ r. nat_lt row.pid r.pid) (λ r. refl) rows)
+    ap₂ (λ xs ys. all_closed (xs ++ row ∷ ys)) (closed-filter (λ r. nat_lt r.pid row.pid) (λ r. refl) rows)
+    (closed-filter (λ r. nat_lt row.pid r.pid) (λ r. refl) rows)
     ∙ closed-append (all_closed (rows_before pid_of row.pid rows)) (row ∷ all_closed (rows_behind pid_of row.pid rows))
     ∙ ap₂ (λ xs ys. xs ++ as_opened false row ∷ ys) (closed_twice (rows_before pid_of row.pid rows)) (closed_twice (rows_behind pid_of row.pid rows))
     ∙ sym (closed-append (rows_before pid_of row.pid rows) (row ∷ rows_behind pid_of row.pid rows))

@@ -56,7 +56,8 @@ may_open (r ∷ rows) all =
 pub all_recordable : (t : HciTables) → IsRecordable t → AreTables t → AllByRecursion IsCommand (snapshot_of t)
 all_recordable t may are =
     let opened = filter (λ row. row.opened) t.rows in
-    all-append IsCommand (map sync_command t.syncs ++ map set_command t.values ++ map create_command t.rows ++ map open_command opened) (map static_command t.statics)
+    all-append IsCommand (map sync_command t.syncs ++ map set_command t.values ++ map create_command t.rows ++ map open_command opened)
+    (map static_command t.statics)
     (all-append IsCommand (map sync_command t.syncs ++ map set_command t.values ++ map create_command t.rows) (map open_command opened)
     (all-append IsCommand (map sync_command t.syncs ++ map set_command t.values) (map create_command t.rows)
     (all-append IsCommand (map sync_command t.syncs) (map set_command t.values)

@@ -100,7 +100,8 @@ module _ (content left : List ℕ) (s : State) (t : HciTables) (says : Says cont
       either : (journal left ≡ journal content) ⊎ (journal left ≡ journal (after_writes (compact_writes s bodies) content)) → Keeps left t (count_of s)
       either (inl same) = keeps_still content left s t (count_of s) says holds refl same
       either (inr whole) =
-          keeps_still (after_writes (compact_writes s bodies) content) left (compacted s bodies) t (count_of s) (compacting.says_after content bodies s says can)
+          keeps_still (after_writes (compact_writes s bodies) content) left (compacted s bodies) t (count_of s)
+          (compacting.says_after content bodies s says can)
           (holds_snapshot (after_writes (compact_writes s bodies) content) t may are (compacting.records_after content bodies s says can ∙ is))
           (compact_count s bodies) whole
 

@@ -33,7 +33,8 @@ read_again (Clear host) may = ap (λ b. cond b (Some (Clear host)) None) may
 read_again (SetOpened host pid true) may = ap (λ b. cond b (Some (SetOpened host pid true)) None) may
 read_again (SetOpened host pid false) may = ap (λ b. cond b (Some (SetOpened host pid false)) None) may
 read_again (Set host gate param value) may =
-    ap (λ b. if_command (cond b (Some (Set host gate param value)) None)) (le-leb (length value.items) 20 (short_value host param value.items (and_parts (is_kept host gate param) (is_allowed host param value.items) may).1))
+    ap (λ b. if_command (cond b (Some (Set host gate param value)) None))
+    (le-leb (length value.items) 20 (short_value host param value.items (and_parts (is_kept host gate param) (is_allowed host param value.items) may).1))
     ∙ ap (λ b. cond b (Some (Set host gate param value)) None) may
 read_again (Sync host id) may =
     ap (λ n. if_command (Some (Sync host n))) (whole id) ∙ ap (λ b. cond b (Some (Sync host id)) None) may

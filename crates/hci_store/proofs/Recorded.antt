@@ -46,7 +46,8 @@ set_again : (t : HciTables) (host gate param : ℕ) (v : RegValue) → MaySet v 
     (filter (λ row. nat_lt (place_of_value row) (place_of_value v)) t.values ++ v ∷ filter (λ row. nat_lt (place_of_value v) (place_of_value row)) t.values))
 set_again t host gate param v may all true = all-filter MaySet (λ row. not (place_of_value row == value_place host param)) t.values all
 set_again t host gate param v may all false =
-    all-append MaySet (filter (λ row. nat_lt (place_of_value row) (place_of_value v)) t.values) (v ∷ filter (λ row. nat_lt (place_of_value v) (place_of_value row)) t.values)
+    all-append MaySet (filter (λ row. nat_lt (place_of_value row) (place_of_value v)) t.values)
+    (v ∷ filter (λ row. nat_lt (place_of_value v) (place_of_value row)) t.values)
     (all-filter MaySet (λ row. nat_lt (place_of_value row) (place_of_value v)) t.values all)
     (may, all-filter MaySet (λ row. nat_lt (place_of_value v) (place_of_value row)) t.values all)
 
@@ -76,10 +77,16 @@ recordable-apply t (SetOpened host pid opened) is may = by_pipe (nat_lt pid 2)
     by_pipe : (b : Bool) → IsRecordable (cond b (record t { statics = with_static t.statics host pid opened })
         (record t { rows = map (λ row. cond (row.pid == pid) (as_opened opened row) row) t.rows }))
     by_pipe true = record { rows = is.rows; values = is.values }
-    by_pipe false = record { rows = all-map MayCreate (λ row. cond (row.pid == pid) (as_opened opened row) row) (λ row m. state row m (row.pid == pid)) t.rows is.rows; values = is.values }
+    by_pipe false = record {
+      rows =
+          all-map MayCreate (λ row. cond (row.pid == pid) (as_opened opened row) row) (λ row m. state row m (row.pid == pid)) t.rows is.rows;
+      values =
+          is.values;
+    }
 recordable-apply t (Set host gate param value) is may = record {
   rows = is.rows;
-  values = set_again t host gate param (record { host = host; gate = gate; param = param; value = record { items = value.items } }) may is.values (is_default param value.items);
+  values = set_again t host gate param (record { host = host; gate = gate; param = param; value = record { items = value.items } }) may is.values
+      (is_default param value.items);
 }
 recordable-apply t (Sync host id) is may = record { rows = is.rows; values = by_kept (is_kept_sync t.syncs host id) }
   where

@@ -36,7 +36,8 @@ module _ {N : Type 0} (reads : N → Bool → N → Type 0) (faults : N → ℕ)
 
   -- the records were refused
   pub records_refused : (between : N) (f : JournalFault)
-      → (f ≡ NvFault) ⊎ (journal_refusals.IsImageFault f × (IsTrue tells → IsKnown (journal (content between)).head.version → image_fault (content between) ≡ Some f))
+      → (f ≡ NvFault)
+      ⊎ (journal_refusals.IsImageFault f × (IsTrue tells → IsKnown (journal (content between)).head.version → image_fault (content between) ≡ Some f))
       → (f ≡ NvFault → AreRead reads 37 first false new) → (journal_refusals.IsImageFault f → AreRead reads 37 first true new)
       → faults first ≤ faults between → (f ≡ NvFault → Rose (faults between) (faults new))
       → (IsTrue tells → content between ≡ content first) → (IsTrue tells → content new ≡ content between)

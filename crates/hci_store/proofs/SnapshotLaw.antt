@@ -58,7 +58,8 @@ syncs_again : (front rest : List (ℕ × ℕ)) → AreRows sync_host 1 8 (front 
     → fold apply (record no_tables { syncs = front }) (map sync_command rest) ≡ record no_tables { syncs = front ++ rest }
 syncs_again front [] h = ap (λ l. record no_tables { syncs = l }) (sym (append-nil front))
 syncs_again front (s ∷ rest) h =
-    ap₂ (λ v l. fold apply (record no_tables { values = v; syncs = l }) (map sync_command rest)) (no_values (is_kept_sync front s.0 s.1) s.0) (put_last sync_host 8 1 front s rest h)
+    ap₂ (λ v l. fold apply (record no_tables { values = v; syncs = l }) (map sync_command rest)) (no_values (is_kept_sync front s.0 s.1) s.0)
+    (put_last sync_host 8 1 front s rest h)
     ∙ syncs_again (front ++ s ∷ []) rest (subst (AreRows sync_host 1 8) (sym (append_assoc front (s ∷ []) rest)) h)
     ∙ ap (λ l. record no_tables { syncs = l }) (append_assoc front (s ∷ []) rest)
 
@@ -68,7 +69,8 @@ values_again t front [] h p = ap (λ l. record t { values = l }) (sym (append-ni
 values_again t front (v ∷ rest) h p =
     let other = not-true (is_default v.param v.value.items) (and_parts (is_kept v.host v.gate v.param) (not (is_default v.param v.value.items)) p.0).1 in
     ap (λ l. fold apply (record t { values = l }) (map set_command rest))
-    (ap (λ b. cond b (filter (λ row. not (place_of_value row == value_place v.host v.param)) front) (with_row place_of_value v front)) other ∙ put_last place_of_value 16 2 front v rest h)
+    (ap (λ b. cond b (filter (λ row. not (place_of_value row == value_place v.host v.param)) front) (with_row place_of_value v front)) other
+    ∙ put_last place_of_value 16 2 front v rest h)
     ∙ values_again t (front ++ v ∷ []) rest (subst (AreRows place_of_value 2 16) (sym (append_assoc front (v ∷ []) rest)) h) p.1
     ∙ ap (λ l. record t { values = l }) (append_assoc front (v ∷ []) rest)
 
@@ -78,7 +80,8 @@ rows_again t front [] h = ap (λ l. record t { rows = l }) (sym (append-nil (all
 rows_again t front (row ∷ rest) h =
     let grown : all_closed front ++ as_opened false row ∷ [] ≡ all_closed (front ++ row ∷ []) = sym (closed-append front (row ∷ [])) in
     let again = append_assoc (all_closed front) (as_opened false row ∷ []) (all_closed rest) in
-    ap (λ l. fold apply (record t { rows = l }) (map create_command rest)) (put_last pid_of 112 2 (all_closed front) (as_opened false row) (all_closed rest) h ∙ grown)
+    ap (λ l. fold apply (record t { rows = l }) (map create_command rest))
+    (put_last pid_of 112 2 (all_closed front) (as_opened false row) (all_closed rest) h ∙ grown)
     ∙ rows_again t (front ++ row ∷ []) rest (subst (λ l. ArePipeRows (l ++ all_closed rest)) grown (subst ArePipeRows (sym again) h))
     ∙ ap (λ l. record t { rows = l ++ all_closed rest }) (sym grown) ∙ ap (λ l. record t { rows = l }) again
 
@@ -101,7 +104,8 @@ snapshot_again t are =
     fold-append no_tables (syncs ++ values) rows
     ∙ ap (λ u. fold apply u rows) (fold-append no_tables syncs values ∙ ap (λ u. fold apply u values) (syncs_again [] t.syncs are.syncs)
     ∙ values_again (record no_tables { syncs = t.syncs }) [] t.values are.values.sorted are.values.present)
-    ∙ rows_again (record no_tables { syncs = t.syncs; values = t.values }) [] t.rows (AreRows-map pid_of (as_opened false) 2 112 t.rows (λ row. refl) are.rows) in
+    ∙ rows_again (record no_tables { syncs = t.syncs; values = t.values }) [] t.rows
+    (AreRows-map pid_of (as_opened false) 2 112 t.rows (λ row. refl) are.rows) in
     ap close (fold-append no_tables (syncs ++ values ++ rows ++ opened) statics)
     ∙ statics_again (fold apply no_tables (syncs ++ values ++ rows ++ opened)) t.statics
     ∙ ap close (fold-append no_tables (syncs ++ values ++ rows) opened)

@@ -12,13 +12,19 @@ use Rattle.hci_store.specs.Snapshots.{sync_command, set_command, create_command,
 
 pub syncs_by_rows : (low : ℕ) (xs : List (ℕ × ℕ)) → 1 ≤ low → AreRows sync_host low 8 xs → AllByRecursion (λ s. IsCommand (sync_command s)) xs
 syncs_by_rows low [] some rows = tt
-syncs_by_rows low (x ∷ xs) some rows =
-    (and_from (nat_le 1 x.0) (nat_le x.0 7) (le-leb 1 x.0 (omega (arith, rows.0))) (le-leb x.0 7 (omega (arith, rows.1))), syncs_by_rows (x.0 + 1) xs (omega arith) rows.2)
+syncs_by_rows low (x ∷ xs) some rows = (
+  and_from (nat_le 1 x.0) (nat_le x.0 7) (le-leb 1 x.0 (omega (arith, rows.0))) (le-leb x.0 7 (omega (arith, rows.1))),
+  syncs_by_rows (x.0 + 1) xs
+      (omega arith) rows.2,
+)
 
 pub statics_by_rows : (low : ℕ) (xs : List (ℕ × ℕ)) → AreRows static_place low 16 xs → AllByRecursion (λ s. IsCommand (static_command s)) xs
 statics_by_rows low [] rows = tt
-statics_by_rows low (x ∷ xs) rows =
-    (and_from (nat_le x.0 7) (nat_lt x.1 112) (le-leb x.0 7 (omega (arith, rows.1))) (lt-ltb x.1 112 (omega (arith, rows.1))), statics_by_rows (static_place x + 1) xs rows.2)
+statics_by_rows low (x ∷ xs) rows = (
+  and_from (nat_le x.0 7) (nat_lt x.1 112) (le-leb x.0 7 (omega (arith, rows.1))) (lt-ltb x.1 112 (omega (arith, rows.1))),
+  statics_by_rows
+      (static_place x + 1) xs rows.2,
+)
 
 pub syncs_may : (xs : List (ℕ × ℕ)) → AreRows sync_host 1 8 xs → All (λ s. IsCommand (sync_command s)) xs
 syncs_may xs rows = All-from_recursion (λ s. IsCommand (sync_command s)) xs (syncs_by_rows 1 xs (omega arith) rows)

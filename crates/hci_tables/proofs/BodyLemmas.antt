@@ -69,5 +69,6 @@ body_of-spelled (kind ∷ fields) command bytes e =
     (λ no. cond_both (eqb kind 3) (clear_of fields) _ P (λ yes. λ e. at_kind kind 3 fields command (eqb-true kind 3 yes) (clear_case fields command e))
     (λ no. cond_both (eqb kind 4) (opened_of fields) _ P (λ yes. λ e. at_kind kind 4 fields command (eqb-true kind 4 yes) (opened_case fields command e))
     (λ no. cond_both (eqb kind 5) (set_of fields) _ P (λ yes. λ e. at_kind kind 5 fields command (eqb-true kind 5 yes) (set_case fields command e))
-    (λ no. cond_both (eqb kind 6) (sync_in_body fields) None P (λ yes. λ e. at_kind kind 6 fields command (eqb-true kind 6 yes) (sync_case fields command rest e))
+    (λ no. cond_both (eqb kind 6) (sync_in_body fields) None P
+    (λ yes. λ e. at_kind kind 6 fields command (eqb-true kind 6 yes) (sync_case fields command rest e))
     (λ no. λ e. cc)))))) e

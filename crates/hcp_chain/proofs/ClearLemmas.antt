@@ -35,7 +35,14 @@ kept old new owner before after (x ∷ xs) keeps own apart =
       own = (record { live = here.1; owned = own.0.owned; short = subst (λ bs. length bs ≤ 4096) (sym here.2) own.0.short }, rest.own);
       apart = (here.0, rest.apart);
       messages = ap (λ bs. (x.pipe, bs) ∷ messages_in new xs) here.2 ∙ ap (λ ms. message_of old x ∷ ms) rest.messages;
-      blocks = omega (arith, sum_by-cons (λ (y : Open). blocks_for (length (chain_bytes new y.chain))) x xs, sum_by-cons (λ (y : Open). blocks_for (length (chain_bytes old y.chain))) x xs, same_size, rest.blocks);
+      blocks = omega (
+        arith,
+        sum_by-cons (λ (y : Open). blocks_for (length (chain_bytes new y.chain))) x xs,
+        sum_by-cons
+            (λ (y : Open). blocks_for (length (chain_bytes old y.chain))) x xs,
+        same_size,
+        rest.blocks,
+      );
     }
 
 -- ---- owners
@@ -75,7 +82,8 @@ clears_more first now next owner owner_now chains left x so_far gives keeps =
     let sum : held_blocks now (left ++ x ∷ []) ≡ held_blocks now left + n = sum_by_push (λ (y : Open). blocks_for (length (chain_bytes now y.chain))) left x in
     let before = used_of first owner - (held_blocks first chains - held_blocks now (left ++ x ∷ [])) in
     let used_now : used_of now owner ≡ before = ap (λ os. (owner_at os owner).used) so_far.used ∙ used-with_used first.owners owner before so_far.quota in
-    let after : used_of now owner - n ≡ used_of first owner - (held_blocks first chains - held_blocks next left) = omega (arith, used_now, sum, k.blocks, so_far.fewer) in
+    let after : used_of now owner - n ≡ used_of first owner - (held_blocks first chains - held_blocks next left) =
+    omega (arith, used_now, sum, k.blocks, so_far.fewer) in
     record {
       same_owner = so_far.same_owner;
       quota = so_far.quota;
@@ -101,10 +109,13 @@ pub all_given : (pool next last : PoolState) (owner : ℕ) (chain : Chain) (xs :
 all_given pool next last owner chain xs quota owned holds apart gives keeps used cleared =
     let k = kept pool next owner chain chain xs keeps holds.own apart in
     let n = blocks_for (length (chain_bytes pool chain)) in
-    let given : next.owners ≡ with_used pool.owners owner (used_of pool owner - n) = gives.owners ∙ ap (λ o. with_used pool.owners o (used_of pool o - n)) owned in
-    let used_next : used_of next owner ≡ used_of pool owner - n = ap (λ os. (owner_at os owner).used) given ∙ used-with_used pool.owners owner (used_of pool owner - n) quota in
+    let given : next.owners ≡ with_used pool.owners owner (used_of pool owner - n) = gives.owners
+    ∙ ap (λ o. with_used pool.owners o (used_of pool o - n)) owned in
+    let used_next : used_of next owner ≡ used_of pool owner - n = ap (λ os. (owner_at os owner).used) given
+    ∙ used-with_used pool.owners owner (used_of pool owner - n) quota in
     let none : used_of next owner - held_blocks next xs ≡ 0 = omega (arith, used_next, used, k.blocks) in
-    cleared ∙ (ap (with_used next.owners owner) none ∙ (ap (λ os. with_used os owner 0) given ∙ with_used-with_used pool.owners owner (used_of pool owner - n) 0 quota))
+    cleared ∙ (ap (with_used next.owners owner) none
+    ∙ (ap (λ os. with_used os owner 0) given ∙ with_used-with_used pool.owners owner (used_of pool owner - n) 0 quota))
 
 -- a joiner can take the next packet
 pub ready_again : (old new : PoolState) (before after : Joiner) (whole : List Open) → IsJoinerReady old before → after.owner ≡ before.owner
@@ -120,7 +131,8 @@ ready_again old new before after whole ready owner none holds used =
     let here : owner_at new.owners o ≡ entry = ap (λ os. owner_at os o) used_is ∙ get_or-set_same old.owners o entry nobody ready.has_quota in
     record {
       holds = subst (λ q. HoldsChains new q xs) (sym owner) (subst (HoldsChains new o) all holds);
-      has_quota = subst (λ q. q < length new.owners) (sym owner) (subst (λ os. o < length os) (sym used_is) (omega (arith, ready.has_quota, length-set old.owners o entry)));
+      has_quota = subst (λ q. q < length new.owners) (sym owner)
+          (subst (λ os. o < length os) (sym used_is) (omega (arith, ready.has_quota, length-set old.owners o entry)));
       quota = ap (λ q. (owner_at new.owners q).quota) owner ∙ (ap (λ (x : Owner). x.quota) here ∙ ready.quota);
       used = ap (λ q. (owner_at new.owners q).used) owner ∙ ap (λ (x : Owner). x.used) here;
     }

@@ -50,7 +50,8 @@ after_more : (ms : List (ℕ × List ℕ)) (before : List Packet) (p : Packet) �
     → so_far (others ms p.pipe ++ (p.pipe, grown ms p) ∷ []) q ≡ under_way q (before ++ p ∷ [])
 after_more ms before p stands more q =
     let rest = so_far-others p.pipe (grown ms p) ((p.pipe, grown ms p) ∷ []) q refl ms in
-    rest ∙ (by_pipe (eqb p.pipe q) refl ∙ (sym (ap (λ b. cond (eqb p.pipe q) (cond b [] (under_way q before ++ p.bytes.items)) (under_way q before)) more) ∙ sym (under_way-push q before p)))
+    rest ∙ (by_pipe (eqb p.pipe q) refl
+    ∙ (sym (ap (λ b. cond (eqb p.pipe q) (cond b [] (under_way q before ++ p.bytes.items)) (under_way q before)) more) ∙ sym (under_way-push q before p)))
   where
     by_pipe : (b : Bool) → eqb p.pipe q ≡ b
         → cond (eqb p.pipe q) (grown ms p) (so_far ms q) ≡ cond (eqb p.pipe q) (under_way q before ++ p.bytes.items) (under_way q before)
@@ -66,15 +67,19 @@ and_rest b t = t
 pub last_step : (ms : List (ℕ × List ℕ)) (p : Packet) → is_fifth ms p.pipe ≡ false → ltb 4096 (length (grown ms p)) ≡ false → p.last ≡ true
     → join_step ms p ≡ (Message p.pipe (grown ms p), others ms p.pipe)
 last_step ms p fifth long last =
-    ap (λ a. cond a (Fifth p.pipe, []) (cond (ltb 4096 (length (grown ms p))) (Long (length (grown ms p)), []) (cond p.last (Message p.pipe (grown ms p), others ms p.pipe) (Nothing, others ms p.pipe ++ (p.pipe, grown ms p) ∷ [])))) fifth
-    ∙ (ap (λ a. cond a (Long (length (grown ms p)), []) (cond p.last (Message p.pipe (grown ms p), others ms p.pipe) (Nothing, others ms p.pipe ++ (p.pipe, grown ms p) ∷ []))) long
+    ap (λ a. cond a (Fifth p.pipe, []) (cond (ltb 4096 (length (grown ms p))) (Long (length (grown ms p)), [])
+    (cond p.last (Message p.pipe (grown ms p), others ms p.pipe) (Nothing, others ms p.pipe ++ (p.pipe, grown ms p) ∷ [])))) fifth
+    ∙ (ap (λ a. cond a (Long (length (grown ms p)), [])
+    (cond p.last (Message p.pipe (grown ms p), others ms p.pipe) (Nothing, others ms p.pipe ++ (p.pipe, grown ms p) ∷ []))) long
     ∙ ap (λ a. cond a (Message p.pipe (grown ms p), others ms p.pipe) (Nothing, others ms p.pipe ++ (p.pipe, grown ms p) ∷ [])) last)
 
 pub more_step : (ms : List (ℕ × List ℕ)) (p : Packet) → is_fifth ms p.pipe ≡ false → ltb 4096 (length (grown ms p)) ≡ false → p.last ≡ false
     → join_step ms p ≡ (Nothing, others ms p.pipe ++ (p.pipe, grown ms p) ∷ [])
 more_step ms p fifth long last =
-    ap (λ a. cond a (Fifth p.pipe, []) (cond (ltb 4096 (length (grown ms p))) (Long (length (grown ms p)), []) (cond p.last (Message p.pipe (grown ms p), others ms p.pipe) (Nothing, others ms p.pipe ++ (p.pipe, grown ms p) ∷ [])))) fifth
-    ∙ (ap (λ a. cond a (Long (length (grown ms p)), []) (cond p.last (Message p.pipe (grown ms p), others ms p.pipe) (Nothing, others ms p.pipe ++ (p.pipe, grown ms p) ∷ []))) long
+    ap (λ a. cond a (Fifth p.pipe, []) (cond (ltb 4096 (length (grown ms p))) (Long (length (grown ms p)), [])
+    (cond p.last (Message p.pipe (grown ms p), others ms p.pipe) (Nothing, others ms p.pipe ++ (p.pipe, grown ms p) ∷ [])))) fifth
+    ∙ (ap (λ a. cond a (Long (length (grown ms p)), [])
+    (cond p.last (Message p.pipe (grown ms p), others ms p.pipe) (Nothing, others ms p.pipe ++ (p.pipe, grown ms p) ∷ []))) long
     ∙ ap (λ a. cond a (Message p.pipe (grown ms p), others ms p.pipe) (Nothing, others ms p.pipe ++ (p.pipe, grown ms p) ∷ [])) last)
 
 given_behind : (packets : List Packet) (ms : List (ℕ × List ℕ)) (before : List Packet) → ((q : ℕ) → so_far ms q ≡ under_way q before)
@@ -84,14 +89,17 @@ given_behind (p ∷ packets) ms before stands taken =
     by_step (is_fifth ms p.pipe) (ltb 4096 (length (grown ms p))) p.last refl refl refl (λ ns s t. given_behind packets ns (before ++ p ∷ []) s t)
   where
     by_step : (a b c : Bool) → is_fifth ms p.pipe ≡ a → ltb 4096 (length (grown ms p)) ≡ b → p.last ≡ c
-        → ((ns : List (ℕ × List ℕ)) → ((q : ℕ) → so_far ns q ≡ under_way q (before ++ p ∷ [])) → IsTrue (are_taken ns packets) → given_by ns packets ≡ messages_after (before ++ p ∷ []) packets)
+        → ((ns : List (ℕ × List ℕ)) → ((q : ℕ) → so_far ns q ≡ under_way q (before ++ p ∷ [])) → IsTrue (are_taken ns packets)
+        → given_by ns packets ≡ messages_after (before ++ p ∷ []) packets)
         → given_by ms (p ∷ packets) ≡ messages_after before (p ∷ packets)
     by_step true b c fifth long last more = absurd (let t : IsTrue (not true && are_taken [] packets) = rw fifth at taken in not_true (are_taken [] packets) t)
-    by_step false true c fifth long last more = absurd (let t : IsTrue (not true && are_taken [] packets) = rw (fifth, long) at taken in not_true (are_taken [] packets) t)
+    by_step false true c fifth long last more =
+        absurd (let t : IsTrue (not true && are_taken [] packets) = rw (fifth, long) at taken in not_true (are_taken [] packets) t)
     by_step false false true fifth long last more =
         let step : join_step ms p ≡ (Message p.pipe (grown ms p), others ms p.pipe) = last_step ms p fifth long last in
         let t : IsTrue (not false && are_taken (others ms p.pipe) packets) = subst (λ s. IsTrue (not (is_fault s.0) && are_taken s.1 packets)) step taken in
-        let ended : message_ended_by before p ≡ (p.pipe, under_way p.pipe before ++ p.bytes.items) ∷ [] = ap (λ b. cond b ((p.pipe, under_way p.pipe before ++ p.bytes.items) ∷ []) []) last in
+        let ended : message_ended_by before p ≡ (p.pipe, under_way p.pipe before ++ p.bytes.items) ∷ [] =
+        ap (λ b. cond b ((p.pipe, under_way p.pipe before ++ p.bytes.items) ∷ []) []) last in
         ap (λ s. message_in s.0 ++ given_by s.1 packets) step
         ∙ (ap (λ bs. (p.pipe, bs ++ p.bytes.items) ∷ given_by (others ms p.pipe) packets) (stands p.pipe)
         ∙ (ap (λ xs. (p.pipe, under_way p.pipe before ++ p.bytes.items) ∷ xs) (more (others ms p.pipe) (after_last ms before p stands last) t)

@@ -44,8 +44,10 @@ grows old new joiner p chain after can appends bytes live keeps =
     let xs = joiner.open.items in
     let o = joiner.owner in
     let y : Open = record { pipe = p.pipe; chain = after } in
-    let len : length (chain_bytes new after) ≡ length (chain_bytes old chain) + length p.bytes.items = ap length bytes ∙ length-append (chain_bytes old chain) p.bytes.items in
-    let k = kept old new o chain after xs keeps can.holds.own (all_map (λ x. (x.pipe ≢ p.pipe) × IsApart x.chain chain) (λ x. IsApart x.chain chain) xs (λ x a. a.1) can.apart) in
+    let len : length (chain_bytes new after) ≡ length (chain_bytes old chain) + length p.bytes.items = ap length bytes
+    ∙ length-append (chain_bytes old chain) p.bytes.items in
+    let k = kept old new o chain after xs keeps can.holds.own
+    (all_map (λ x. (x.pipe ≢ p.pipe) × IsApart x.chain chain) (λ x. IsApart x.chain chain) xs (λ x a. a.1) can.apart) in
     let own_y : IsOwnOpen new o y = record { live = live; owned = appends.owner ∙ can.owned; short = omega (arith, len, can.fits) } in
     let both = all_both (λ x. (x.pipe ≢ p.pipe) × IsApart x.chain chain) (λ x. IsApart x.chain after) xs can.apart k.apart in
     let apart_y = all_map (λ x. ((x.pipe ≢ p.pipe) × IsApart x.chain chain) × IsApart x.chain after) (AreApart y) xs
@@ -53,14 +55,17 @@ grows old new joiner p chain after can appends bytes live keeps =
     let sum = sum_by_push (λ (x : Open). blocks_for (length (chain_bytes new x.chain))) xs y in
     let grows : blocks_for (length (chain_bytes old chain)) ≤ blocks_for (length (chain_bytes old chain) + length p.bytes.items) = omega arith in
     let size : blocks_for (length (chain_bytes new after)) ≡ blocks_for (length (chain_bytes old chain) + length p.bytes.items) = ap blocks_for len in
-    let total : used_of old o + more_blocks (length (chain_bytes old chain)) (length p.bytes.items) ≡ held_blocks new (xs ++ y ∷ []) = omega (arith, sum, size, k.blocks, can.used, grows) in
+    let total : used_of old o + more_blocks (length (chain_bytes old chain)) (length p.bytes.items) ≡ held_blocks new (xs ++ y ∷ []) =
+    omega (arith, sum, size, k.blocks, can.used, grows) in
     record {
       holds = record { own = all_push (IsOwnOpen new o) xs y k.own own_y; apart = apart_push xs y can.holds.apart apart_y };
-      used = appends.owners ∙ (ap (λ q. with_used old.owners q (used_of old q + more_blocks (length (chain_bytes old chain)) (length p.bytes.items))) can.owned ∙ ap (with_used old.owners o) total);
+      used = appends.owners ∙ (ap (λ q. with_used old.owners q (used_of old q + more_blocks (length (chain_bytes old chain)) (length p.bytes.items))) can.owned
+          ∙ ap (with_used old.owners o) total);
       others = λ other other_live away apart.
           let s = keeps other other_live apart in
           (s.1, s.2, all_push (λ x. IsApart other x.chain) xs y away s.0);
       bytes_are = bytes;
       rest = k.messages;
-      more = map_push (message_of new) xs y ∙ (ap (λ ms. ms ++ (p.pipe, chain_bytes new after) ∷ []) k.messages ∙ ap (λ bs. messages_in old xs ++ (p.pipe, bs) ∷ []) bytes);
+      more = map_push (message_of new) xs y
+          ∙ (ap (λ ms. ms ++ (p.pipe, chain_bytes new after) ∷ []) k.messages ∙ ap (λ bs. messages_in old xs ++ (p.pipe, bs) ∷ []) bytes);
     }

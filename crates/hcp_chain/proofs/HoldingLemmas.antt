@@ -94,19 +94,22 @@ apart_front (x ∷ xs) y apart =
 
 -- no chain has the pipe
 none_open : (pool : PoolState) (pipe : ℕ) (xs : List Open) → AllByRecursion (λ x. x.pipe ≢ pipe) xs
-    → (is_message_open (messages_in pool xs) pipe ≡ false) × (so_far (messages_in pool xs) pipe ≡ []) × (others (messages_in pool xs) pipe ≡ messages_in pool xs)
+    → (is_message_open (messages_in pool xs) pipe ≡ false) × (so_far (messages_in pool xs) pipe ≡ [])
+    × (others (messages_in pool xs) pipe ≡ messages_in pool xs)
 none_open pool pipe [] all = (refl, refl, refl)
 none_open pool pipe (x ∷ xs) all =
     let no = test_false x.pipe pipe all.0 in
     let rest = none_open pool pipe xs all.1 in (
       ap (λ b. b || is_message_open (messages_in pool xs) pipe) no ∙ rest.0,
       ap (λ b. cond b (chain_bytes pool x.chain) (so_far (messages_in pool xs) pipe)) no ∙ rest.1,
-      ap (λ b. cond (not b) (message_of pool x ∷ others (messages_in pool xs) pipe) (others (messages_in pool xs) pipe)) no ∙ ap (λ ms. message_of pool x ∷ ms) rest.2,
+      ap (λ b. cond (not b) (message_of pool x ∷ others (messages_in pool xs) pipe) (others (messages_in pool xs) pipe)) no
+          ∙ ap (λ ms. message_of pool x ∷ ms) rest.2,
     )
 
 -- the chain at a place has the pipe
 pub one_open : (pool : PoolState) (pipe : ℕ) (d : Open) (xs : List Open) (i : ℕ) → ArePairwiseApart xs → i < length xs → (get_or xs i d).pipe ≡ pipe
-    → (is_message_open (messages_in pool xs) pipe ≡ true) × (so_far (messages_in pool xs) pipe ≡ chain_bytes pool (get_or xs i d).chain) × (others (messages_in pool xs) pipe ≡ messages_in pool (remove xs i))
+    → (is_message_open (messages_in pool xs) pipe ≡ true) × (so_far (messages_in pool xs) pipe ≡ chain_bytes pool (get_or xs i d).chain)
+    × (others (messages_in pool xs) pipe ≡ messages_in pool (remove xs i))
 one_open pool pipe d [] i apart low at = absurd (omega arith)
 one_open pool pipe d (x ∷ xs) zero apart low at =
     let yes = test_true x.pipe pipe at in
@@ -121,7 +124,8 @@ one_open pool pipe d (x ∷ xs) (suc i) apart low at =
     let rest = one_open pool pipe d xs i apart.1 (omega arith) at in (
       ap (λ b. b || is_message_open (messages_in pool xs) pipe) no ∙ rest.0,
       ap (λ b. cond b (chain_bytes pool x.chain) (so_far (messages_in pool xs) pipe)) no ∙ rest.1,
-      ap (λ b. cond (not b) (message_of pool x ∷ others (messages_in pool xs) pipe) (others (messages_in pool xs) pipe)) no ∙ ap (λ ms. message_of pool x ∷ ms) rest.2,
+      ap (λ b. cond (not b) (message_of pool x ∷ others (messages_in pool xs) pipe) (others (messages_in pool xs) pipe)) no
+          ∙ ap (λ ms. message_of pool x ∷ ms) rest.2,
     )
 
 -- a search for the pipe that finds none
@@ -180,7 +184,8 @@ taken_out pool old new pipe i x holds found read owner items room =
           (record { own = all_remove (IsOwnOpen pool old.owner) xs i holds.own; apart = apart_remove xs i holds.apart }));
       blocks =
           (let sum = sum_by-remove (λ (y : Open). blocks_for (length (chain_bytes pool y.chain))) xs i x low in
-          let here : blocks_for (length (chain_bytes pool x.chain)) ≡ blocks_for (length (chain_bytes pool (get_or xs i x).chain)) = ap (λ y. blocks_for (length (chain_bytes pool y.chain))) read in
+          let here : blocks_for (length (chain_bytes pool x.chain)) ≡ blocks_for (length (chain_bytes pool (get_or xs i x).chain)) =
+          ap (λ y. blocks_for (length (chain_bytes pool y.chain))) read in
           ap (λ ys. blocks_for (length (chain_bytes pool x.chain)) + held_blocks pool ys) items ∙ omega (arith, sum, here));
       outside = λ other away. (
         λ first p q. all_at (λ y. IsApart other y.chain) x xs i away low first p (ap (λ y. y.chain.first) (sym read) ∙ q),
@@ -207,7 +212,8 @@ begun pool old new pipe chain holds quota found owner items room owned empty =
       apart = subst (AllByRecursion (λ y. (y.pipe ≢ pipe) × IsApart y.chain chain)) (sym items)
           (all_map (λ y. y.pipe ≢ pipe) (λ y. (y.pipe ≢ pipe) × IsApart y.chain chain) xs (λ y a. (a, λ first p q. no_name first (sym empty ∙ q))) away);
       holds = subst (HoldsChains pool new.owner) (sym items) (subst (λ o. HoldsChains pool o xs) (sym owner) holds);
-      blocks = ap (λ ys. blocks_for (length (chain_bytes pool chain)) + held_blocks pool ys) items ∙ (ap (λ bs. blocks_for (length bs) + held_blocks pool xs) no_bytes ∙ no_blocks (held_blocks pool xs));
+      blocks = ap (λ ys. blocks_for (length (chain_bytes pool chain)) + held_blocks pool ys) items
+          ∙ (ap (λ bs. blocks_for (length bs) + held_blocks pool xs) no_bytes ∙ no_blocks (held_blocks pool xs));
       outside = λ other apart. (λ first p q. no_name first (sym empty ∙ q), subst (λ ys. IsApartFrom ys other) (sym items) apart);
     }
 

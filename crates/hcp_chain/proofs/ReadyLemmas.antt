@@ -45,7 +45,8 @@ ready_without pool new j x after whole keeps len quota used =
     let own = all_front (IsOwnOpen pool o) xs x whole.holds.own in
     let apart = apart_front xs x whole.holds.apart in
     let k = kept pool new o x.chain after xs keeps own.0 (all_map (λ y. AreApart y x) (λ y. IsApart y.chain x.chain) xs (λ y a. a.chains) apart.1) in
-    let sum : held_blocks pool (xs ++ x ∷ []) ≡ held_blocks pool xs + blocks_for (length (chain_bytes pool x.chain)) = sum_by_push (λ (y : Open). blocks_for (length (chain_bytes pool y.chain))) xs x in
+    let sum : held_blocks pool (xs ++ x ∷ []) ≡ held_blocks pool xs + blocks_for (length (chain_bytes pool x.chain)) =
+    sum_by_push (λ (y : Open). blocks_for (length (chain_bytes pool y.chain))) xs x in
     record {
       holds = record { own = k.own; apart = apart.0 };
       has_quota = omega (arith, len, whole.has_quota);
@@ -59,7 +60,8 @@ ready_given pool new j x whole gives keeps =
     let o = j.owner in
     let n = blocks_for (length (chain_bytes pool x.chain)) in
     let own = all_front (IsOwnOpen pool o) j.open.items x whole.holds.own in
-    let owners : new.owners ≡ with_used pool.owners o (used_of pool o - n) = gives.owners ∙ ap (λ q. with_used pool.owners q (used_of pool q - n)) own.1.owned in
+    let owners : new.owners ≡ with_used pool.owners o (used_of pool o - n) = gives.owners
+    ∙ ap (λ q. with_used pool.owners q (used_of pool q - n)) own.1.owned in
     ready_without pool new j x x.chain whole keeps (ap length owners ∙ length-with_used pool.owners o (used_of pool o - n))
     (ap (λ os. (owner_at os o).quota) owners ∙ quota-with_used pool.owners o (used_of pool o - n) whole.has_quota)
     (ap (λ os. (owner_at os o).used) owners ∙ used-with_used pool.owners o (used_of pool o - n) whole.has_quota)
@@ -73,7 +75,8 @@ ready_passed pool new j x after owner whole differ passes keeps =
     let without = with_used pool.owners o (used_of pool o - n) in
     let more = (owner_at without owner).used + n in
     let owners : new.owners ≡ with_used without owner more =
-    passes.owners ∙ ap (λ q. with_used (with_used pool.owners q (used_of pool q - n)) owner ((owner_at (with_used pool.owners q (used_of pool q - n)) owner).used + n)) own.1.owned in
+    passes.owners ∙ ap (λ q. with_used (with_used pool.owners q (used_of pool q - n)) owner
+    ((owner_at (with_used pool.owners q (used_of pool q - n)) owner).used + n)) own.1.owned in
     let here : owner_at new.owners o ≡ owner_at without o = ap (λ os. owner_at os o) owners ∙ other-with_used without owner more o (λ e. differ (sym e)) in
     ready_without pool new j x after whole keeps
     (ap length owners ∙ (length-with_used without owner more ∙ length-with_used pool.owners o (used_of pool o - n)))

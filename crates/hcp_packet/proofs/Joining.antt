@@ -157,7 +157,8 @@ part_at pipe zero left k in_left fits all = absurd (omega arith)
 part_at pipe (suc m) left zero in_left fits all =
     ap (λ b. Some (packet b pipe (take 28 left))) (only_part m (length left) (omega arith) fits)
 part_at pipe (suc m) left (suc k) in_left fits all =
-    let behind = part_at pipe m (drop 28 left) k (omega (arith, length-drop 28 left)) (omega (arith, length-drop 28 left)) (omega (arith, length-drop 28 left)) in
+    let behind =
+    part_at pipe m (drop 28 left) k (omega (arith, length-drop 28 left)) (omega (arith, length-drop 28 left)) (omega (arith, length-drop 28 left)) in
     let mark : leb (length (drop 28 left)) (28 * k + 28) ≡ leb (length left) (28 * suc k + 28) = grind (arith, common_steps, length-drop 28 left) in
     let bytes : drop (28 * k) (drop 28 left) ≡ drop (28 * suc k) left = drop-drop (28 * k) 28 left ∙ ap (λ i. drop i left) (omega arith) in
     behind ∙ (ap (λ b. Some (packet b pipe (take 28 (drop (28 * k) (drop 28 left))))) mark

@@ -57,8 +57,10 @@ lost_frame_is_rejected_and_resent : noted_by_line 2 bare_link lost_frame_is_reje
     (Took (end_c 2) (128 ∷ 129 ∷ 3 ∷ []) ∷ Got (end_c 2) 0 1 (3 ∷ []) ∷ Emit (end_c 2) (193 ∷ []) ∷ []) ∷
     (Lost (end_c 2) (136 ∷ 129 ∷ 3 ∷ []) OnDemand ∷ []) ∷
     (Took (end_c 2) (144 ∷ 129 ∷ 3 ∷ []) ∷ Emit (end_c 2) (201 ∷ []) ∷ []) ∷
-    (Took (end_h 2) (193 ∷ []) ∷ Acked (end_h 2) 0 1 ∷ Took (end_h 2) (201 ∷ []) ∷ Emit (end_h 2) (136 ∷ 129 ∷ 3 ∷ []) ∷ Emit (end_h 2) (144 ∷ 129 ∷ 3 ∷ []) ∷ []) ∷
-    (Took (end_c 2) (136 ∷ 129 ∷ 3 ∷ []) ∷ Got (end_c 2) 0 1 (3 ∷ []) ∷ Emit (end_c 2) (194 ∷ []) ∷ Took (end_c 2) (144 ∷ 129 ∷ 3 ∷ []) ∷ Got (end_c 2) 0 1 (3 ∷ []) ∷ Emit (end_c 2) (195 ∷ []) ∷ []) ∷ []
+    (Took (end_h 2) (193 ∷ []) ∷ Acked (end_h 2) 0 1 ∷ Took (end_h 2) (201 ∷ []) ∷ Emit (end_h 2) (136 ∷ 129 ∷ 3 ∷ []) ∷ Emit (end_h 2)
+    (144 ∷ 129 ∷ 3 ∷ []) ∷ []) ∷
+    (Took (end_c 2) (136 ∷ 129 ∷ 3 ∷ []) ∷ Got (end_c 2) 0 1 (3 ∷ []) ∷ Emit (end_c 2) (194 ∷ []) ∷ Took (end_c 2) (144 ∷ 129 ∷ 3 ∷ []) ∷ Got (end_c 2) 0 1
+    (3 ∷ []) ∷ Emit (end_c 2) (195 ∷ []) ∷ []) ∷ []
 lost_frame_is_rejected_and_resent = refl
 
 -- crossed resets
@@ -103,7 +105,10 @@ nobody_delivers_five_tries_lines =
 
 nobody_delivers_five_tries : noted_by_line 2 bare_link nobody_delivers_five_tries_lines ≡
     (Sent (end_h 2) 0 1 (3 ∷ []) ∷ Emit (end_h 2) (128 ∷ 129 ∷ 3 ∷ []) ∷ []) ∷
-    (Lost (end_c 2) (128 ∷ 129 ∷ 3 ∷ []) Age ∷ Emit (end_h 2) (128 ∷ 129 ∷ 3 ∷ []) ∷ Lost (end_c 2) (128 ∷ 129 ∷ 3 ∷ []) Age ∷ Emit (end_h 2) (128 ∷ 129 ∷ 3 ∷ []) ∷ Lost (end_c 2) (128 ∷ 129 ∷ 3 ∷ []) Age ∷ Emit (end_h 2) (128 ∷ 129 ∷ 3 ∷ []) ∷ Lost (end_c 2) (128 ∷ 129 ∷ 3 ∷ []) Age ∷ Emit (end_h 2) (128 ∷ 129 ∷ 3 ∷ []) ∷ Lost (end_c 2) (128 ∷ 129 ∷ 3 ∷ []) Age ∷ Emit (end_h 2) (128 ∷ 129 ∷ 3 ∷ []) ∷ Lost (end_c 2) (128 ∷ 129 ∷ 3 ∷ []) Age ∷ Down (end_h 2) NoAnswer ∷ Emit (end_h 2) (249 ∷ 4 ∷ 0 ∷ []) ∷ []) ∷ []
+    (Lost (end_c 2) (128 ∷ 129 ∷ 3 ∷ []) Age ∷ Emit (end_h 2) (128 ∷ 129 ∷ 3 ∷ []) ∷ Lost (end_c 2) (128 ∷ 129 ∷ 3 ∷ []) Age ∷ Emit (end_h 2)
+    (128 ∷ 129 ∷ 3 ∷ []) ∷ Lost (end_c 2) (128 ∷ 129 ∷ 3 ∷ []) Age ∷ Emit (end_h 2) (128 ∷ 129 ∷ 3 ∷ []) ∷ Lost (end_c 2) (128 ∷ 129 ∷ 3 ∷ []) Age ∷ Emit
+    (end_h 2) (128 ∷ 129 ∷ 3 ∷ []) ∷ Lost (end_c 2) (128 ∷ 129 ∷ 3 ∷ []) Age ∷ Emit (end_h 2) (128 ∷ 129 ∷ 3 ∷ []) ∷ Lost (end_c 2)
+    (128 ∷ 129 ∷ 3 ∷ []) Age ∷ Down (end_h 2) NoAnswer ∷ Emit (end_h 2) (249 ∷ 4 ∷ 0 ∷ []) ∷ []) ∷ []
 nobody_delivers_five_tries = refl
 
 -- reset gives up
@@ -116,7 +121,9 @@ reset_gives_up_lines =
 
 reset_gives_up : noted_by_line 2 bare_link reset_gives_up_lines ≡
     (Down (end_h 2) Asked ∷ Emit (end_h 2) (249 ∷ 4 ∷ 0 ∷ []) ∷ []) ∷
-    (Lost (end_c 2) (249 ∷ 4 ∷ 0 ∷ []) Age ∷ Emit (end_h 2) (249 ∷ 4 ∷ 0 ∷ []) ∷ Lost (end_c 2) (249 ∷ 4 ∷ 0 ∷ []) Age ∷ Emit (end_h 2) (249 ∷ 4 ∷ 0 ∷ []) ∷ Lost (end_c 2) (249 ∷ 4 ∷ 0 ∷ []) Age ∷ Emit (end_h 2) (249 ∷ 4 ∷ 0 ∷ []) ∷ Lost (end_c 2) (249 ∷ 4 ∷ 0 ∷ []) Age ∷ Emit (end_h 2) (249 ∷ 4 ∷ 0 ∷ []) ∷ Lost (end_c 2) (249 ∷ 4 ∷ 0 ∷ []) Age ∷ GaveUp (end_h 2) 5 ∷ []) ∷
+    (Lost (end_c 2) (249 ∷ 4 ∷ 0 ∷ []) Age ∷ Emit (end_h 2) (249 ∷ 4 ∷ 0 ∷ []) ∷ Lost (end_c 2) (249 ∷ 4 ∷ 0 ∷ []) Age ∷ Emit (end_h 2)
+    (249 ∷ 4 ∷ 0 ∷ []) ∷ Lost (end_c 2) (249 ∷ 4 ∷ 0 ∷ []) Age ∷ Emit (end_h 2) (249 ∷ 4 ∷ 0 ∷ []) ∷ Lost (end_c 2) (249 ∷ 4 ∷ 0 ∷ []) Age ∷ Emit
+    (end_h 2) (249 ∷ 4 ∷ 0 ∷ []) ∷ Lost (end_c 2) (249 ∷ 4 ∷ 0 ∷ []) Age ∷ GaveUp (end_h 2) 5 ∷ []) ∷
     (No NotUp ∷ []) ∷
     (Emit (end_h 2) (249 ∷ 4 ∷ 0 ∷ []) ∷ []) ∷ []
 reset_gives_up = refl

@@ -113,7 +113,8 @@ run_together before reset behind a asked alone undisturbed near there =
     let e : LinkEvent = event_of reset.cause in
     let is : link_events (before ++ reset ∷ behind) ≡ es ++ e ∷ fs = events-append before (reset ∷ behind) in
     let same = after_causes (causes_of before) bare_link in
-    let P : List LinkEvent → Type 0 = λ z. AllAllowed bare_link z → (after_link_events bare_link z).to_controller ≡ [] → (after_link_events bare_link z).to_host ≡ [] → LinkTogether (after_link_events bare_link z) in
+    let P : List LinkEvent → Type 0 = λ z. AllAllowed bare_link z → (after_link_events bare_link z).to_controller ≡ []
+    → (after_link_events bare_link z).to_host ≡ [] → LinkTogether (after_link_events bare_link z) in
     let R : Link → Type 0 = λ z. IsReset z e in
     let W : Link → Type 0 = λ z. list_any withholds (rest_of z e ++ entries (happens z e) fs) ≡ false in
     let m : Link = link_after_all bare_link (causes_of before) in
@@ -165,7 +166,8 @@ asked_at h l (y ∷ xs) x ys a = asked_at h (link_after l y.cause) xs x ys a.1
 -- where nothing kept the answer back and both wires are empty
 up_both : (h : ℕ) (xs : List Event) (e : End) → AreOf h bare_link xs → h ≡ e.link
     → ((link_now xs).to_controller ≡ [] → (link_now xs).to_host ≡ [] → LinkTogether (link_now xs))
-    → wire_to (entries_for h (notes_of xs)) e ≡ [] → wire_to (entries_for h (notes_of xs)) (other_end e) ≡ [] → AreReadUpTogether (entries_for h (notes_of xs)) e
+    → wire_to (entries_for h (notes_of xs)) e ≡ [] → wire_to (entries_for h (notes_of xs)) (other_end e) ≡ []
+    → AreReadUpTogether (entries_for h (notes_of xs)) e
 up_both h xs e a q law = side e.link e.at_host q
   where
     t : List Entry
@@ -176,7 +178,8 @@ up_both h xs e a q law = side e.link e.at_host q
 
     near : LinkTogether (link_now xs) → session_number t (end_of h Controller) ≡ Some (number_of (link_now xs).controller)
     near u =
-        session-all h (notes_of xs) Controller (plain_trace (causes_of xs)) ∙ (controller_heard (causes_of xs) (of_can h bare_link xs a) ∙ up_session (link_now xs).controller u.controller)
+        session-all h (notes_of xs) Controller (plain_trace (causes_of xs))
+        ∙ (controller_heard (causes_of xs) (of_can h bare_link xs a) ∙ up_session (link_now xs).controller u.controller)
 
     there : LinkTogether (link_now xs) → session_number t (end_of h Host) ≡ Some (number_of (link_now xs).controller)
     there u =

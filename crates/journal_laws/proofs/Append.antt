@@ -32,7 +32,8 @@ module _ (b : List ℕ) (version : ℕ) (long : length b ≡ 32768) (good : (fou
 
   -- a write from the first closed gate on
   found_written : (i : ℕ) (bytes : List ℕ) → 12 + f.size + i + length bytes ≤ 32768
-      → found_in version (overwritten b (12 + f.size + i) bytes) ≡ behind f.bodies f.size (found_from version (32768 - length f.bodies) (length f.bodies) (overwritten bank_parts.rest i bytes))
+      → found_in version (overwritten b (12 + f.size + i) bytes)
+      ≡ behind f.bodies f.size (found_from version (32768 - length f.bodies) (length f.bodies) (overwritten bank_parts.rest i bytes))
   found_written i bytes fits =
       let there = overwritten bank_parts.rest i bytes in
       let behind_head : drop 12 (overwritten b (12 + f.size + i) bytes) ≡ bank_parts.front ++ there =
@@ -43,7 +44,8 @@ module _ (b : List ℕ) (version : ℕ) (long : length b ≡ 32768) (good : (fou
       let fuel : length (overwritten b (12 + f.size + i) bytes) ≡ length f.bodies + (32768 - length f.bodies) =
       length-overwritten b (12 + f.size + i) bytes (omega arith) ∙ omega (arith, many) in
       ap₂ (λ m l. found_from version m 0 l) fuel behind_head
-      ∙ bank_parts.again (32768 - length f.bodies) there (omega (arith, length-overwritten bank_parts.rest i bytes (omega (arith, size)), size, bank_parts.some))
+      ∙ bank_parts.again (32768 - length f.bodies) there
+      (omega (arith, length-overwritten bank_parts.rest i bytes (omega (arith, size)), size, bank_parts.some))
       ∙ ap (λ m. behind f.bodies f.size (found_from version (32768 - length f.bodies) m there)) (zero-add (length f.bodies))
 
   nothing_new : behind f.bodies f.size nothing_found ≡ f
@@ -80,7 +82,8 @@ module _ (b : List ℕ) (version : ℕ) (long : length b ≡ 32768) (good : (fou
       ap (λ m. found_in version (overwritten b m (90 ∷ bytes))) (sym (add-zero (12 + f.size)))
       ∙ found_written 0 (90 ∷ bytes) (omega (arith, length-append body (255 ∷ [])))
       ∙ ap₂ (λ v m. behind f.bodies f.size (found_from v m (length f.bodies) (overwritten bank_parts.rest 0 (90 ∷ bytes)))) new fuel
-      ∙ ap (λ l. behind f.bodies f.size (found_from 2 (suc most) (length f.bodies) l)) (append_assoc (90 ∷ record_bytes (length f.bodies) body) (255 ∷ []) later)
+      ∙ ap (λ l. behind f.bodies f.size (found_from 2 (suc most) (length f.bodies) l))
+      (append_assoc (90 ∷ record_bytes (length f.bodies) body) (255 ∷ []) later)
       ∙ ap (behind f.bodies f.size) (record_is_read most (length f.bodies) body (255 ∷ later) (omega (arith, many)) short (omega arith))
       ∙ ap (λ r. behind f.bodies f.size (behind (body ∷ []) (4 + length body) r)) (found_closed 2 most (length f.bodies + 1) (255 ∷ later) refl)
       ∙ ap (λ m. record { bodies = f.bodies ++ body ∷ []; size = f.size + m; is_bad = false }) (add-zero (4 + length body))
@@ -138,7 +141,8 @@ module _ (c body : List ℕ) (started : IsStarted c) (h : HasRoomForBody (state_
       ap (λ ws. journal (after_writes ws c)) planned
       ∙ gate_and_body 90
       ∙ ap (λ f. record (journal_at c side) { found = f })
-      (found_more (bank c side) (head c side).version (length-bank c side long) good body (sym (ap (λ (j : Journal). j.head.version) seen) ∙ h.version) h.short room)
+      (found_more (bank c side) (head c side).version (length-bank c side long) good body
+      (sym (ap (λ (j : Journal). j.head.version) seen) ∙ h.version) h.short room)
       ∙ sym (ap (λ j. one_more j body) seen)
 
   -- the other bank stays
@@ -154,7 +158,8 @@ module _ (c body : List ℕ) (started : IsStarted c) (h : HasRoomForBody (state_
       let still : current d ≡ Some side = in_use_then d (one_more (journal c) body) (Some side) append_is_whole (in_use_is c ∙ is) in
       state_at d side still
       ∙ ap₂ (λ (j : Journal) (h : Head). state_by (Some side) j (is_opened_gate h.gate)) append_is_whole beside_is
-      ∙ ap (λ n. record (state_by (Some side) (journal c) (is_opened_gate (head c (other side)).gate)) { many = n; size = (journal c).found.size + (4 + length body) })
+      ∙ ap (λ n. record
+      (state_by (Some side) (journal c) (is_opened_gate (head c (other side)).gate)) { many = n; size = (journal c).found.size + (4 + length body) })
       (length-append (journal c).found.bodies (body ∷ []))
       ∙ ap (λ s. appended s body) (sym (state_at c side is))
 
@@ -171,5 +176,6 @@ module _ (c body : List ℕ) (started : IsStarted c) (h : HasRoomForBody (state_
       (λ gate closed.
       gate_and_body gate
       ∙ ap (λ f. record (journal_at c side) { found = f })
-      (found_shut (bank c side) (head c side).version (length-bank c side long) good gate (body_bytes (journal_at c side)) closed (omega (arith, room, length-append body (255 ∷ []))))
+      (found_shut (bank c side) (head c side).version (length-bank c side long) good gate (body_bytes (journal_at c side)) closed
+      (omega (arith, room, length-append body (255 ∷ []))))
       ∙ sym seen))

@@ -30,7 +30,8 @@ one_byte (g ∷ h ∷ l) one = absurd (omega arith)
 
 pub at_place : (c : List ℕ) (at g : ℕ) → at < length c → slice_index (overwritten c at (g ∷ [])) at ≡ g
 at_place c at g within =
-    ap (λ l. slice_index l at) (append_assoc (take at c) (g ∷ []) (drop (at + 1) c)) ∙ get_or_at (take at c) g (drop (at + 1) c) 0 at (omega (arith, length-take at c))
+    ap (λ l. slice_index l at) (append_assoc (take at c) (g ∷ []) (drop (at + 1) c))
+    ∙ get_or_at (take at c) g (drop (at + 1) c) 0 at (omega (arith, length-take at c))
 
 module _ (c : List ℕ) (w : Write) (at : ℕ) (fits : w.at + length w.bytes ≤ length c) (within : at < length c) where
   abbrev filled : List ℕ
@@ -73,7 +74,8 @@ more_writes c w next later fits torn rest =
     record { fit = (fits, subst (λ n. FitIn n (next ∷ later)) (length-overwritten c w.at w.bytes fits) rest.fit); says = says }
   where
     choose : (b : Bool)
-        → journal (cond b (after_writes (next ∷ later) (overwritten c w.at w.bytes)) (overwritten c w.at w.bytes)) ≡ journal (cond b (after_writes (next ∷ later) (overwritten c w.at w.bytes)) c)
+        → journal (cond b (after_writes (next ∷ later) (overwritten c w.at w.bytes)) (overwritten c w.at w.bytes))
+        ≡ journal (cond b (after_writes (next ∷ later) (overwritten c w.at w.bytes)) c)
     choose true = refl
     choose false = torn w.bytes refl
 
@@ -86,8 +88,12 @@ more_writes c w next later fits torn rest =
     says : (k : ℕ) (left : List ℕ) → IsCut k (w ∷ next ∷ later) c left → journal left ≡ journal (outcome k (w ∷ next ∷ later) c left)
     says zero left cut =
         ap journal cut.2 ∙ torn cut.0 cut.1
-        ∙ ap (λ b. journal (cond (b && is_opened_gate (slice_index left (last_place (next ∷ later)))) (after_writes (next ∷ later) (overwritten c w.at w.bytes)) c)) (sym (not_last (length later)))
+        ∙ ap (λ b. journal
+        (cond (b && is_opened_gate (slice_index left (last_place (next ∷ later)))) (after_writes (next ∷ later) (overwritten c w.at w.bytes)) c)) (sym
+        (not_last (length later)))
     says (suc k) left cut =
         rest.says k left cut
         ∙ choose (k + 1 == length (next ∷ later) && is_opened_gate (slice_index left (last_place (next ∷ later))))
-        ∙ ap (λ b. journal (cond (b && is_opened_gate (slice_index left (last_place (next ∷ later)))) (after_writes (next ∷ later) (overwritten c w.at w.bytes)) c)) (one_on k (length (next ∷ later)))
+        ∙ ap (λ b. journal
+        (cond (b && is_opened_gate (slice_index left (last_place (next ∷ later)))) (after_writes (next ∷ later) (overwritten c w.at w.bytes)) c)) (one_on k
+        (length (next ∷ later)))

@@ -84,23 +84,29 @@ module _ (c d : List ℕ) where
 
   -- the other bank is closed
   pub stays : (side : Side) → current c ≡ Some side → head d side ≡ head c side → is_opened_gate (head d (other side)).gate ≡ false → current d ≡ Some side
-  stays First is same closed = first_alone (head d First) (head d Second) (ap (λ h. is_opened_gate h.gate) same ∙ opened_first (head c First) (head c Second) is) closed
-  stays Second is same closed = second_alone (head d First) (head d Second) (ap (λ h. is_opened_gate h.gate) same ∙ opened_second (head c First) (head c Second) is) closed
+  stays First is same closed =
+      first_alone (head d First) (head d Second) (ap (λ h. is_opened_gate h.gate) same ∙ opened_first (head c First) (head c Second) is) closed
+  stays Second is same closed =
+      second_alone (head d First) (head d Second) (ap (λ h. is_opened_gate h.gate) same ∙ opened_second (head c First) (head c Second) is) closed
 
   -- the other bank is open and newer
   pub moves : (side : Side) → current c ≡ Some side → head d side ≡ head c side → is_opened_gate (head d (other side)).gate ≡ true
       → (head c side).generation < (head d (other side)).generation → current d ≡ Some (other side)
   moves First is same opened later =
-      second_newer (head d First) (head d Second) (ap (λ h. is_opened_gate h.gate) same ∙ opened_first (head c First) (head c Second) is) opened (omega (arith, ap (λ h. h.generation) same))
+      second_newer (head d First) (head d Second) (ap (λ h. is_opened_gate h.gate) same ∙ opened_first (head c First) (head c Second) is) opened
+      (omega (arith, ap (λ h. h.generation) same))
   moves Second is same opened later =
-      first_newer (head d First) (head d Second) opened (ap (λ h. is_opened_gate h.gate) same ∙ opened_second (head c First) (head c Second) is) (omega (arith, ap (λ h. h.generation) same))
+      first_newer (head d First) (head d Second) opened (ap (λ h. is_opened_gate h.gate) same ∙ opened_second (head c First) (head c Second) is)
+      (omega (arith, ap (λ h. h.generation) same))
 
   -- no bank is in use, and the first one is opened or it isn't
   pub still_none : current c ≡ None → is_opened_gate (head d First).gate ≡ false → head d Second ≡ head c Second → current d ≡ None
-  still_none is closed same = none_in_use (head d First) (head d Second) closed (ap (λ h. is_opened_gate h.gate) same ∙ (closed_both (head c First) (head c Second) is).1)
+  still_none is closed same =
+      none_in_use (head d First) (head d Second) closed (ap (λ h. is_opened_gate h.gate) same ∙ (closed_both (head c First) (head c Second) is).1)
 
   pub first_opens : current c ≡ None → is_opened_gate (head d First).gate ≡ true → head d Second ≡ head c Second → current d ≡ Some First
-  first_opens is opened same = first_alone (head d First) (head d Second) opened (ap (λ h. is_opened_gate h.gate) same ∙ (closed_both (head c First) (head c Second) is).1)
+  first_opens is opened same =
+      first_alone (head d First) (head d Second) opened (ap (λ h. is_opened_gate h.gate) same ∙ (closed_both (head c First) (head c Second) is).1)
 
   -- the same bank in use, with the same bytes
   pub same_journal : (side : Side) → current c ≡ Some side → current d ≡ Some side → bank d side ≡ bank c side → journal d ≡ journal c
@@ -133,7 +139,8 @@ module _ (c : List ℕ) (side : Side) (i : ℕ) (bytes : List ℕ) (long : 65536
   journal_inside is behind =
       let d = overwritten c (bank_place side + i) bytes in
       let here = bank_here c side i bytes long fits in
-      let same_head : head d side ≡ head c side = ap (λ l. head_of (take 12 l)) here ∙ ap head_of (take-overwritten_before (bank c side) 12 i bytes behind (omega (arith, length-bank c side long))) in
+      let same_head : head d side ≡ head c side = ap (λ l. head_of (take 12 l)) here
+      ∙ ap head_of (take-overwritten_before (bank c side) 12 i bytes behind (omega (arith, length-bank c side long))) in
       let still : current d ≡ Some side = same_current c d side same_head (ap (λ l. head_of (take 12 l)) (bank_beside c side i bytes long fits)) ∙ is in
       journal_in_use d side still ∙ ap₂ (λ h l. record { in_use = Some side; head = h; found = found_in h.version l }) same_head here
 

@@ -29,7 +29,14 @@ filled_head : (generation base : ℕ) (bodies : List (List ℕ)) (rest : List �
     → head_of (take 12 ((90 ∷ bank_bytes generation base bodies) ++ rest))
     ≡ record { gate = 90; version = 2; generation = generation; base = base; snapshot = length bodies }
 filled_head generation base bodies rest low_generation low_base few =
-    ap (λ n. record { gate = 90; version = 2; generation = n; base = from_be_bytes w32 (to_be_bytes w32 base); snapshot = from_be_bytes w16 (to_be_bytes w16 (length bodies)) })
+    ap (λ n. record {
+      gate = 90;
+      version = 2;
+      generation = n;
+      base = from_be_bytes w32 (to_be_bytes w32 base);
+      snapshot =
+          from_be_bytes w16 (to_be_bytes w16 (length bodies));
+    })
     (from_be_bytes-to_be_bytes_4 generation low_generation)
     ∙ ap₂ (λ b s. record { gate = 90; version = 2; generation = generation; base = b; snapshot = s }) (from_be_bytes-to_be_bytes_4 base low_base)
     (from_be_bytes-to_be_bytes_2 (length bodies) few)
@@ -42,7 +49,8 @@ filled_found generation base bodies rest size few short =
     ap₂ (λ m l. found_from 2 m 0 l) (size ∙ omega arith) (append_assoc (records_bytes 0 bodies) (255 ∷ []) rest)
     ∙ records_are_read most 0 bodies (255 ∷ rest) (omega arith) short (omega arith)
     ∙ ap (behind bodies (length (records_bytes 0 bodies))) (found_closed 2 most (0 + length bodies) (255 ∷ rest) refl)
-    ∙ ap₂ (λ l m. record { bodies = l; size = m; is_bad = false }) (append-nil bodies) (add-zero (length (records_bytes 0 bodies)) ∙ length-records_bytes 0 bodies)
+    ∙ ap₂ (λ l m. record { bodies = l; size = m; is_bad = false }) (append-nil bodies)
+    (add-zero (length (records_bytes 0 bodies)) ∙ length-records_bytes 0 bodies)
 
 gate-head : (c : List ℕ) (side : Side) → (head c side).gate ≡ slice_index (bank c side) 0
 gate-head c side = get_or-take 12 (bank c side) 0 0 (omega arith)
@@ -78,7 +86,8 @@ module _ (c : List ℕ) (side : Side) (long : 65536 ≤ length c) where
       ap (at_bank side) (bank_at_gate 90 bytes (omega arith))
       ∙ ap₂ (λ h f. record { in_use = Some side; head = h; found = f })
       (filled_head generation base bodies rest low_generation low_base (omega arith))
-      (filled_found generation base bodies rest (length-overwritten (bank c side) 0 (90 ∷ bytes) (omega (arith, length-bank c side long)) ∙ length-bank c side long) (omega arith) short)
+      (filled_found generation base bodies rest
+      (length-overwritten (bank c side) 0 (90 ∷ bytes) (omega (arith, length-bank c side long)) ∙ length-bank c side long) (omega arith) short)
 
 -- ---- the first bank, where no gate stands open
 
@@ -109,7 +118,8 @@ module _ (c : List ℕ) (h : IsUnformatted c) where
   pub format_is_whole : journal (after_writes format_writes c) ≡ no_records
   format_is_whole =
       let d = overwritten c (bank_place First) (90 ∷ format_bytes) in
-      let opened = first_opens c d h.closed (ap is_opened_gate (new_gate c First h.size 90 format_bytes (omega arith))) (second_stays 0 (90 ∷ format_bytes) (omega arith)) in
+      let opened = first_opens c d h.closed (ap is_opened_gate (new_gate c First h.size 90 format_bytes (omega arith)))
+      (second_stays 0 (90 ∷ format_bytes) (omega arith)) in
       ap journal (in_front c (bank_place First) 90 format_bytes (omega (arith, h.size)))
       ∙ journal_in_use d First opened
       ∙ opened_bank c First h.size 1 0 [] (omega arith) (omega arith) tt (omega arith)
@@ -156,7 +166,8 @@ module _ (c : List ℕ) (side : Side) (long : 65536 ≤ length c) (is : current 
   within = omega (arith, long, place_low (other side))
 
   across : (gate : ℕ) (bytes : List ℕ) → 1 + length bytes ≤ 32768 → head (overwritten c (bank_place (other side)) (gate ∷ bytes)) side ≡ head c side
-  across gate bytes fits = ap (λ m. head (overwritten c m (gate ∷ bytes)) side) (sym (add-zero (bank_place (other side)))) ∙ head_across c side 0 (gate ∷ bytes) long (omega arith)
+  across gate bytes fits = ap (λ m. head (overwritten c m (gate ∷ bytes)) side) (sym (add-zero (bank_place (other side))))
+      ∙ head_across c side 0 (gate ∷ bytes) long (omega arith)
 
   filled_is_whole : journal (after_writes (open_bank (bank_place (other side)) generation base bodies) c)
       ≡ record {
@@ -167,7 +178,8 @@ module _ (c : List ℕ) (side : Side) (long : 65536 ≤ length c) (is : current 
   filled_is_whole =
       let d = overwritten c (bank_place (other side)) (90 ∷ bytes) in
       let there = opened_bank c (other side) long generation base bodies low_generation low_base short room in
-      let moved = moves c d side is (across 90 bytes (omega (arith, size, room))) (ap (λ (j : Journal). is_opened_gate j.head.gate) there) (subst (λ n. (head c side).generation < n) (sym (ap (λ (j : Journal). j.head.generation) there)) later) in
+      let moved = moves c d side is (across 90 bytes (omega (arith, size, room))) (ap (λ (j : Journal). is_opened_gate j.head.gate) there)
+      (subst (λ n. (head c side).generation < n) (sym (ap (λ (j : Journal). j.head.generation) there)) later) in
       ap journal (in_front c (bank_place (other side)) 90 bytes (omega (arith, within)))
       ∙ journal_in_use d (other side) moved
       ∙ there
@@ -203,8 +215,10 @@ same_byte (x ∷ l) gate some is = ap (λ g. g ∷ l) (sym is)
 module _ (c : List ℕ) (side : Side) (long : 65536 ≤ length c) (is : current c ≡ Some side) where
   -- a closed gate is written over the other bank's
   closed_then : (gate : ℕ) → is_opened_gate gate ≡ false
-      → (current (overwritten c (bank_place (other side)) (gate ∷ [])) ≡ Some side) × (journal (overwritten c (bank_place (other side)) (gate ∷ [])) ≡ journal c)
-  closed_then gate closed = subst (λ m. (current (overwritten c m (gate ∷ [])) ≡ Some side) × (journal (overwritten c m (gate ∷ [])) ≡ journal c)) (add-zero (bank_place (other side)))
+      → (current (overwritten c (bank_place (other side)) (gate ∷ [])) ≡ Some side)
+      × (journal (overwritten c (bank_place (other side)) (gate ∷ [])) ≡ journal c)
+  closed_then gate closed = subst (λ m. (current (overwritten c m (gate ∷ [])) ≡ Some side) × (journal (overwritten c m (gate ∷ [])) ≡ journal c))
+      (add-zero (bank_place (other side)))
       (journal_across c side 0 (gate ∷ []) long (omega arith) is
       (ap (λ m. is_opened_gate (head (overwritten c m (gate ∷ [])) (other side)).gate) (add-zero (bank_place (other side)))
       ∙ ap is_opened_gate (new_gate c (other side) long gate [] (omega arith)) ∙ closed))
@@ -214,8 +228,10 @@ module _ (c : List ℕ) (side : Side) (long : 65536 ≤ length c) (is : current 
   opened_again opened =
       let d = overwritten c (bank_place (other side)) (90 ∷ []) in
       let gate : slice_index (bank c (other side)) 0 ≡ 90 = sym (gate-head c (other side)) ∙ eqb-true (head c (other side)).gate 90 opened in
-      let there : bank d (other side) ≡ bank c (other side) = bank_at_gate c (other side) long 90 [] (omega arith) ∙ same_byte (bank c (other side)) 90 (omega (arith, length-bank c (other side) long)) gate in
-      let here : bank d side ≡ bank c side = ap (λ m. bank (overwritten c m (90 ∷ [])) side) (sym (add-zero (bank_place (other side)))) ∙ bank_across c side 0 (90 ∷ []) long (omega arith) in
+      let there : bank d (other side) ≡ bank c (other side) = bank_at_gate c (other side) long 90 [] (omega arith)
+      ∙ same_byte (bank c (other side)) 90 (omega (arith, length-bank c (other side) long)) gate in
+      let here : bank d side ≡ bank c side = ap (λ m. bank (overwritten c m (90 ∷ [])) side) (sym (add-zero (bank_place (other side))))
+      ∙ bank_across c side 0 (90 ∷ []) long (omega arith) in
       let still : current d ≡ Some side = same_current c d side (ap (λ l. head_of (take 12 l)) here) (ap (λ l. head_of (take 12 l)) there) ∙ is in
       same_journal c d side is still here
 
@@ -227,7 +243,8 @@ module _ (c : List ℕ) (side : Side) (long : 65536 ≤ length c) (is : current 
     where
       by_gate : (is_opened_gate (get_or torn 0 0) ≡ true) ⊎ (is_opened_gate (get_or torn 0 0) ≡ false)
           → journal (overwritten c (bank_place (other side)) (get_or torn 0 0 ∷ [])) ≡ journal c
-      by_gate (inl open_gate) = ap (λ g. journal (overwritten c (bank_place (other side)) (g ∷ []))) (eqb-true (get_or torn 0 0) 90 open_gate) ∙ opened_again opened
+      by_gate (inl open_gate) = ap (λ g. journal (overwritten c (bank_place (other side)) (g ∷ []))) (eqb-true (get_or torn 0 0) 90 open_gate)
+          ∙ opened_again opened
       by_gate (inr closed) = (closed_then (get_or torn 0 0) closed).1
 
 -- what it says with the records of a snapshot
@@ -299,7 +316,8 @@ module _ (c : List ℕ) (bodies : List (List ℕ)) (long : 65536 ≤ length c) (
 
   later1 : (head c1 side).generation < generation
   later1 =
-      let same = ap (λ m. (head (overwritten c m (255 ∷ [])) side).generation) (sym (add-zero (bank_place (other side)))) ∙ ap (λ (h : Head). h.generation) (head_across c side 0 (255 ∷ []) long (omega arith)) in
+      let same = ap (λ m. (head (overwritten c m (255 ∷ [])) side).generation) (sym (add-zero (bank_place (other side))))
+      ∙ ap (λ (h : Head). h.generation) (head_across c side 0 (255 ∷ []) long (omega arith)) in
       subst (λ n. n < generation) (sym same) (omega arith)
 
   pub compact_is_whole : journal (after_writes (compact_writes (state_of c) bodies) c) ≡ snapshot_journal (state_of c) bodies
@@ -307,8 +325,10 @@ module _ (c : List ℕ) (bodies : List (List ℕ)) (long : 65536 ≤ length c) (
     where
       by_gate : (is_opened_gate (head c (other side)).gate ≡ true) ⊎ (is_opened_gate (head c (other side)).gate ≡ false)
           → journal (after_writes (compact_writes (state_of c) bodies) c) ≡ made
-      by_gate (inl opened) = ap (λ ws. journal (after_writes ws c)) (planned true opened) ∙ filled_is_whole c1 side long1 is1 shut1 generation (count c) bodies low low_count h.short h.room later1
-      by_gate (inr shut) = ap (λ ws. journal (after_writes ws c)) (planned false shut) ∙ filled_is_whole c side long is shut generation (count c) bodies low low_count h.short h.room (omega arith)
+      by_gate (inl opened) = ap (λ ws. journal (after_writes ws c)) (planned true opened)
+          ∙ filled_is_whole c1 side long1 is1 shut1 generation (count c) bodies low low_count h.short h.room later1
+      by_gate (inr shut) = ap (λ ws. journal (after_writes ws c)) (planned false shut)
+          ∙ filled_is_whole c side long is shut generation (count c) bodies low low_count h.short h.room (omega arith)
 
   beside_is : is_opened_gate (head (after_writes (compact_writes (state_of c) bodies) c) side).gate ≡ true
   beside_is = by_gate (cases_Bool (is_opened_gate (head c (other side)).gate))
@@ -336,7 +356,8 @@ module _ (c : List ℕ) (bodies : List (List ℕ)) (long : 65536 ≤ length c) (
       by_gate : (is_opened_gate (head c (other side)).gate ≡ true) ⊎ (is_opened_gate (head c (other side)).gate ≡ false)
           → IsAllOrNothing (compact_writes (state_of c) bodies) c
       by_gate (inl opened) = subst (λ ws. IsAllOrNothing ws c) (sym (planned true opened))
-          (more_writes c (write (bank_place (other side)) (255 ∷ [])) (write (bank_place (other side) + 1) (bank_bytes generation (count c) bodies)) (write (bank_place (other side)) (90 ∷ []) ∷ [])
+          (more_writes c (write (bank_place (other side)) (255 ∷ [])) (write (bank_place (other side) + 1) (bank_bytes generation (count c) bodies))
+          (write (bank_place (other side)) (90 ∷ []) ∷ [])
           (omega (arith, long, place_low (other side))) (gate_written c side long is opened)
           (filled_is_cut c1 side long1 is1 shut1 generation (count c) bodies low low_count h.short h.room later1))
       by_gate (inr shut) = subst (λ ws. IsAllOrNothing ws c) (sym (planned false shut))

@@ -9,7 +9,14 @@ use Rattle.journal_laws.specs.declared.banks.Side.TheVariants.{First, Second}
 
 pub length-overwritten : (c : List ℕ) (i : ℕ) (bytes : List ℕ) → i + length bytes ≤ length c → length (overwritten c i bytes) ≡ length c
 length-overwritten c i bytes fits =
-    omega (arith, length-append (take i c ++ bytes) (drop (i + length bytes) c), length-append (take i c) bytes, length-take i c, length-drop (i + length bytes) c)
+    omega (
+      arith,
+      length-append (take i c ++ bytes) (drop (i + length bytes) c),
+      length-append (take i c) bytes,
+      length-take i c,
+      length-drop
+          (i + length bytes) c,
+    )
 
 -- a write into the first of two lists in a row
 pub overwritten-left : (xs ys : List ℕ) (i : ℕ) (bytes : List ℕ) → i + length bytes ≤ length xs → overwritten (xs ++ ys) i bytes ≡ overwritten xs i bytes ++ ys

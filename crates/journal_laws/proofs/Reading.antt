@@ -33,7 +33,8 @@ pub is_good_parts : (version position : ℕ) (bytes : List ℕ) → is_good_reco
     → (1 ≤ slice_index bytes 1) × (gap version bytes < length bytes)
 is_good_parts version position bytes good =
     let len = slice_index bytes 1 in
-    let all = and_parts (nat_le 1 len && nat_le len 61 && nat_lt (gap version bytes) (length bytes)) (version == 1 || from_be_bytes w16 (slice_range bytes 2 4) == position) good in
+    let all = and_parts (nat_le 1 len && nat_le len 61 && nat_lt (gap version bytes) (length bytes))
+    (version == 1 || from_be_bytes w16 (slice_range bytes 2 4) == position) good in
     let front = and_parts (nat_le 1 len && nat_le len 61) (nat_lt (gap version bytes) (length bytes)) all.0 in
     (leb-true 1 len (and_parts (nat_le 1 len) (nat_le len 61) front.0).0, ltb-true (gap version bytes) (length bytes) front.1)
 
@@ -64,7 +65,8 @@ same_good version position xs ys same fits good =
 
 -- what is found where a good record stands
 pub found_good : (version most position : ℕ) (bytes : List ℕ) → is_opened_gate (slice_index bytes 0) ≡ true → is_good_record version position bytes ≡ true
-    → found_from version (suc most) position bytes ≡ behind (body version bytes ∷ []) (gap version bytes) (found_from version most (position + 1) (drop (gap version bytes) bytes))
+    → found_from version (suc most) position bytes
+    ≡ behind (body version bytes ∷ []) (gap version bytes) (found_from version most (position + 1) (drop (gap version bytes) bytes))
 unfolding found_from
 found_good version most position bytes opened good =
     let more = behind (body version bytes ∷ []) (gap version bytes) (found_from version most (position + 1) (drop (gap version bytes) bytes)) in
@@ -73,7 +75,8 @@ found_good version most position bytes opened good =
 -- a good record in front of other bytes
 step : (version most position : ℕ) (bytes rest : List ℕ) → is_opened_gate (slice_index bytes 0) ≡ true → is_good_record version position bytes ≡ true
     → 0 < length rest
-    → found_from version (suc most) position (take (gap version bytes) bytes ++ rest) ≡ behind (body version bytes ∷ []) (gap version bytes) (found_from version most (position + 1) rest)
+    → found_from version (suc most) position (take (gap version bytes) bytes ++ rest)
+    ≡ behind (body version bytes ∷ []) (gap version bytes) (found_from version most (position + 1) rest)
 step version most position bytes rest opened good some =
     let n = gap version bytes in
     let xs = take n bytes ++ rest in
@@ -81,7 +84,8 @@ step version most position bytes rest opened good some =
     let size : length (take n bytes) ≡ n = omega (arith, length-take n bytes) in
     let same : take n xs ≡ take n bytes = take_at (take n bytes) rest n size in
     let long : n < length xs = omega (arith, length-append (take n bytes) rest) in
-    found_good version most position xs (ap is_opened_gate (first xs bytes n 0 same (omega arith)) ∙ opened) (same_good version position xs bytes same long good)
+    found_good version most position xs (ap is_opened_gate (first xs bytes n 0 same (omega arith)) ∙ opened)
+    (same_good version position xs bytes same long good)
     ∙ ap (λ b. behind (b ∷ []) (gap version xs) (found_from version most (position + 1) (drop (gap version xs) xs))) (same_body version xs bytes same)
     ∙ ap (λ m. behind (body version bytes ∷ []) m (found_from version most (position + 1) (drop m xs))) (same_gap version xs bytes same)
     ∙ ap (λ l. behind (body version bytes ∷ []) n (found_from version most (position + 1) l)) (drop_at (take n bytes) rest n size)
@@ -92,7 +96,8 @@ pub found_closed : (version most position : ℕ) (bytes : List ℕ) → is_opene
 unfolding found_from
 found_closed version zero position bytes closed = refl
 found_closed version (suc most) position bytes closed =
-    ap (λ b. cond b (cond (is_good_record version position bytes) (behind (body version bytes ∷ []) (gap version bytes) (found_from version most (position + 1) (drop (gap version bytes) bytes))) bad) nothing_found) closed
+    ap (λ b. cond b (cond (is_good_record version position bytes) (behind (body version bytes ∷ []) (gap version bytes)
+    (found_from version most (position + 1) (drop (gap version bytes) bytes))) bad) nothing_found) closed
 
 -- ---- the records of a bank
 
@@ -107,7 +112,8 @@ pub record Parts (version position : ℕ) (bytes : List ℕ) (found : Found) : T
   pub closed : is_opened_gate (slice_index rest 0) ≡ false
   pub few : 3 * length found.bodies ≤ found.size
   pub again : (most : ℕ) (other : List ℕ) → 0 < length other
-      → found_from version (length found.bodies + most) position (front ++ other) ≡ behind found.bodies found.size (found_from version most (position + length found.bodies) other)
+      → found_from version (length found.bodies + most) position (front ++ other)
+      ≡ behind found.bodies found.size (found_from version most (position + length found.bodies) other)
 
 pub behind-none : (found : Found) → behind [] 0 found ≡ found
 behind-none found = ap (λ n. record { bodies = found.bodies; size = n; is_bad = found.is_bad }) (zero-add found.size)
@@ -128,12 +134,14 @@ none_found version position bytes some closed = record {
   some = some;
   closed = closed;
   few = omega arith;
-  again = λ most other long. ap₂ (λ m n. found_from version m n other) (zero-add most) (sym (add-zero position)) ∙ sym (behind-none (found_from version most (position + 0) other));
+  again = λ most other long. ap₂ (λ m n. found_from version m n other) (zero-add most) (sym (add-zero position))
+      ∙ sym (behind-none (found_from version most (position + 0) other));
 }
 
 one_found : (version most position : ℕ) (bytes : List ℕ) (found : Found) → is_opened_gate (slice_index bytes 0) ≡ true
     → is_good_record version position bytes ≡ true
-    → Parts version (position + 1) (drop (gap version bytes) bytes) found → Parts version position bytes (behind (body version bytes ∷ []) (gap version bytes) found)
+    → Parts version (position + 1) (drop (gap version bytes) bytes) found
+    → Parts version position bytes (behind (body version bytes ∷ []) (gap version bytes) found)
 one_found version most position bytes found opened good more =
     let n = gap version bytes in
     let within = is_good_parts version position bytes good in
@@ -177,28 +185,35 @@ parts version (suc most) position bytes some enough good =
         let n = gap version bytes in
         let within = is_good_parts version position bytes right in
         let is = found_good version most position bytes opened right in
-        subst (Parts version position bytes) (sym is) (one_found version most position bytes (found_from version most (position + 1) (drop n bytes)) opened right
+        subst (Parts version position bytes) (sym is)
+        (one_found version most position bytes (found_from version most (position + 1) (drop n bytes)) opened right
         (more (omega (arith, within.1, length-drop n bytes)) (omega (arith, within.0, length-drop n bytes)) (sym (ap (λ f. f.is_bad) is) ∙ good)))
     by_record more opened (inr wrong) = absurd (true≢false (sym (ap (λ f. f.is_bad) (bad_found version most position bytes opened wrong)) ∙ good))
 
     by_gate : (0 < length (drop (gap version bytes) bytes) → length (drop (gap version bytes) bytes) ≤ most
         → (found_from version most (position + 1) (drop (gap version bytes) bytes)).is_bad ≡ false
         → Parts version (position + 1) (drop (gap version bytes) bytes) (found_from version most (position + 1) (drop (gap version bytes) bytes)))
-        → (is_opened_gate (slice_index bytes 0) ≡ true) ⊎ (is_opened_gate (slice_index bytes 0) ≡ false) → Parts version position bytes (found_from version (suc most) position bytes)
+        → (is_opened_gate (slice_index bytes 0) ≡ true) ⊎ (is_opened_gate (slice_index bytes 0) ≡ false)
+        → Parts version position bytes (found_from version (suc most) position bytes)
     by_gate more (inl opened) = by_record more opened (cases_Bool (is_good_record version position bytes))
-    by_gate more (inr closed) = subst (Parts version position bytes) (sym (found_closed version (suc most) position bytes closed)) (none_found version position bytes some closed)
+    by_gate more (inr closed) =
+        subst (Parts version position bytes) (sym (found_closed version (suc most) position bytes closed)) (none_found version position bytes some closed)
 
 -- ---- records that are written
 
 pub record_is_read : (most position : ℕ) (body rest : List ℕ) → position < 2 ^ 16 → IsBody body → 0 < length rest
-    → found_from 2 (suc most) position ((90 ∷ record_bytes position body) ++ rest) ≡ behind (body ∷ []) (4 + length body) (found_from 2 most (position + 1) rest)
+    → found_from 2 (suc most) position ((90 ∷ record_bytes position body) ++ rest)
+    ≡ behind (body ∷ []) (4 + length body) (found_from 2 most (position + 1) rest)
 record_is_read most position body rest low short some =
     let xs = (90 ∷ record_bytes position body) ++ rest in
     let front = 90 ∷ record_bytes position body in
     let fits : ltb (4 + length body) (length xs) ≡ true = lt-ltb (4 + length body) (length xs) (omega (arith, length-append body rest)) in
-    let index : from_be_bytes w16 (slice_range xs 2 4) == position ≡ true = eq-eqb (from_be_bytes w16 (to_be_bytes w16 position)) position (from_be_bytes-to_be_bytes_2 position low) in
-    let good : is_good_record 2 position xs ≡ true = and_from (leb 1 (length body) && leb (length body) 61 && ltb (4 + length body) (length xs)) (from_be_bytes w16 (slice_range xs 2 4) == position)
-    (and_from (leb 1 (length body) && leb (length body) 61) (ltb (4 + length body) (length xs)) (and_from (leb 1 (length body)) (leb (length body) 61) (le-leb 1 (length body) short.0) (le-leb (length body) 61 short.1)) fits) index in
+    let index : from_be_bytes w16 (slice_range xs 2 4) == position ≡ true =
+    eq-eqb (from_be_bytes w16 (to_be_bytes w16 position)) position (from_be_bytes-to_be_bytes_2 position low) in
+    let good : is_good_record 2 position xs ≡ true =
+    and_from (leb 1 (length body) && leb (length body) 61 && ltb (4 + length body) (length xs)) (from_be_bytes w16 (slice_range xs 2 4) == position)
+    (and_from (leb 1 (length body) && leb (length body) 61) (ltb (4 + length body) (length xs))
+    (and_from (leb 1 (length body)) (leb (length body) 61) (le-leb 1 (length body) short.0) (le-leb (length body) 61 short.1)) fits) index in
     found_good 2 most position xs refl good
     ∙ ap (λ b. behind (b ∷ []) (4 + length body) (found_from 2 most (position + 1) (drop (4 + length body) xs))) (take_at body rest (length body) refl)
     ∙ ap (λ l. behind (body ∷ []) (4 + length body) (found_from 2 most (position + 1) l)) (drop_at front rest (4 + length body) (omega arith))

@@ -98,7 +98,8 @@ closed_command b c is = same_closed b.tables (after_commands no_tables b.command
 
 closed_one : (n : ℕ) (b : Book) (e : Entry) → IsClosedBook b → IsClosedBook (book_after n b e)
 closed_one n b (entry.Command m c) is = cond_both (eqb m n) (with_command c b) b IsClosedBook (λ _. closed_command b c is) (λ _. is)
-closed_one n b (entry.Booted m k) is = cond_both (eqb m n) (with_found k b) b IsClosedBook (λ _. close-close (after_commands no_tables (take k b.commands))) (λ _. is)
+closed_one n b (entry.Booted m k) is =
+    cond_both (eqb m n) (with_found k b) b IsClosedBook (λ _. close-close (after_commands no_tables (take k b.commands))) (λ _. is)
 closed_one n b _ is = is
 
 closed_fold : (n : ℕ) (b : Book) (es : List Entry) → IsClosedBook b → IsClosedBook (fold (book_after n) b es)
@@ -111,7 +112,8 @@ closed_book t n = closed_fold n new_book t refl
 -- ## Memories
 
 -- all commands are found
-pub finds_all : (content : List ℕ) (b : Book) (last : Last) (t : HciTables) (many : ℕ) → BootFinds content t many → close t ≡ close (after_commands no_tables b.commands)
+pub finds_all : (content : List ℕ) (b : Book) (last : Last) (t : HciTables) (many : ℕ) → BootFinds content t many
+    → close t ≡ close (after_commands no_tables b.commands)
     → many ≡ min (length b.commands) (2 ^ 32 - 1) → WouldFind content b last
 finds_all content b last t many finds same is = record {
   many = length b.commands;
@@ -121,7 +123,8 @@ finds_all content b last t many finds same is = record {
 }
 
 -- all but the last one
-pub finds_less : (content : List ℕ) (b : Book) (c : Command) (t : HciTables) (many : ℕ) → BootFinds content t many → close t ≡ close (after_commands no_tables b.commands)
+pub finds_less : (content : List ℕ) (b : Book) (c : Command) (t : HciTables) (many : ℕ) → BootFinds content t many
+    → close t ≡ close (after_commands no_tables b.commands)
     → many ≡ min (length b.commands) (2 ^ 32 - 1) → IsSome (current content) → WouldFind content (with_command c b) CutBehindCommand
 finds_less content b c t many finds same is used = record {
   many = length b.commands;

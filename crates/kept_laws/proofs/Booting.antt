@@ -107,7 +107,8 @@ module _ (content : List ℕ) (t : HciTables) (many : ℕ) (f : BootFinds conten
         either (left_finds format_writes content left t t many many j (format_all_or_nothing content (state_of content) says none) cut f after_it) where
           after_it : BootFinds (after_writes format_writes content) t many
           after_it = finds_closed (after_writes format_writes content) (close (tables_of content)) t many
-              (subst (λ k. BootFinds (after_writes format_writes content) (close (tables_of content)) k) count_formatted knows_formatted.finds) (sym same_tables)
+              (subst (λ k. BootFinds (after_writes format_writes content) (close (tables_of content)) k) count_formatted knows_formatted.finds)
+              (sym same_tables)
 
           either : BootFinds left t many ⊎ BootFinds left t many → BootFinds left t many
           either (inl x) = x
@@ -153,7 +154,8 @@ module _ (n : ℕ) (hosts : List ℕ) (t : List Entry) (m : Memory) (would : Wou
       (knows_used content tables _ would.finds (subst IsSome (sym is) refl)))
   boot_knows None is =
       subst (λ w. Knows (after_writes w content) now (close (tables_of content))) (sym (ap (λ p. option_map_or (λ _. []) p format_writes) is))
-      (subst (λ s. Knows (after_writes format_writes content) s (close (tables_of content))) (sym (ap (λ p. option_map_or (λ _. state_of content) p formatted) is))
+      (subst (λ s. Knows (after_writes format_writes content) s (close (tables_of content)))
+      (sym (ap (λ p. option_map_or (λ _. state_of content) p formatted) is))
       (knows_formatted content tables _ would.finds is))
 
   module _ (few : length (commands_in t n) ≤ 2 ^ 32 - 1) where

@@ -154,7 +154,8 @@ module _ (content : List ℕ) (s : State) (t : HciTables) (k : Knows content s t
     compact_knows =
         knows_from (after_writes (compact_writes s (snapshot_bodies t)) content) (compacted s (snapshot_bodies t)) t
         (compacting.says_after content (snapshot_bodies t) s says_of can) (some_other s.in_use k.in_use) refl (omega arith)
-        (holds_snapshot (after_writes (compact_writes s (snapshot_bodies t)) content) t may are (compacting.records_after content (snapshot_bodies t) s says_of can))
+        (holds_snapshot (after_writes (compact_writes s (snapshot_bodies t)) content) t may are
+        (compacting.records_after content (snapshot_bodies t) s says_of can))
 
     compact_left : (j : ℕ) (left : List ℕ) → IsCut j (compact_writes s (snapshot_bodies t)) content left → BootFinds left t (count_of s)
     compact_left j left cut = either

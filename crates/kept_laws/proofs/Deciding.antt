@@ -20,7 +20,8 @@ use Rattle.gate_admin.specs.declared.decision.Decision.TheVariants.{Ask}
 use Rattle.gate_admin.specs.Decide.{IsRecordableDecision, commits, unless_refused, far_end_of, far_end, tests_of_pipe, tests_to_open, tests_to_set_it, tests_to_create, tests_to_delete, tests_to_clear, opening, closing, setting, getting, creating, created, creation, ends_of, deleting, clearing, carried_out, decided}
 use Rattle.gate_admin.proofs.CreationLemmas.{AllFalse, all_false, creation-recordable}
 
-unless : (refusal : Option Response) (otherwise : Decision) → (refusal ≡ None → IsRecordableDecision otherwise) → IsRecordableDecision (unless_refused refusal otherwise)
+unless : (refusal : Option Response) (otherwise : Decision) → (refusal ≡ None → IsRecordableDecision otherwise)
+    → IsRecordableDecision (unless_refused refusal otherwise)
 unless (Some r) otherwise done = refl
 unless None otherwise done = done refl
 
@@ -102,7 +103,8 @@ decided_recordable t v h pipe instruction body are some most =
     unless (first_of (tests_of_pipe t h pipe instruction)) (carried_out t v h pipe instruction body) (λ tested.
     let small : pipe < 112 = pipe_known t h pipe are (all_false (tests_of_pipe t h pipe instruction) tested).0 in
     cond_both (eqb instruction 3) (opening t h pipe body) _ IsRecordableDecision
-    (λ _. unless (first_of (tests_to_open body)) _ (λ _. cond_both (is_opened t h pipe) _ _ IsRecordableDecision (λ _. refl) (λ _. may_open h pipe true most small)))
+    (λ _. unless (first_of (tests_to_open body)) _
+    (λ _. cond_both (is_opened t h pipe) _ _ IsRecordableDecision (λ _. refl) (λ _. may_open h pipe true most small)))
     (λ _. cond_both (eqb instruction 4) (closing h pipe body) _ IsRecordableDecision (λ _. unless (first_of (tests_to_open body)) _
     (λ _. may_open h pipe false most small))
     (λ _. cond_both (eqb instruction 1) (setting v h body) _ IsRecordableDecision (λ _. set_fine v h body some most)
@@ -111,5 +113,6 @@ decided_recordable t v h pipe instruction body are some most =
     (λ _. unless (first_of (tests_to_create t v h body)) _ (λ passed. creation_fine (created h body (unwrap_or (lowest_free t.rows v.waiting.items) 0))
     (creation-recordable t v h body most passed)))
     (λ _. cond_both (eqb instruction 17) (deleting t v h body) _ IsRecordableDecision (λ _. delete_fine t v h body are)
-    (λ _. cond_both (eqb instruction 20) (clearing t v h body) _ IsRecordableDecision (λ _. unless (first_of (tests_to_clear t v h body)) _ (λ _. host_is h most))
+    (λ _. cond_both (eqb instruction 20) (clearing t v h body) _ IsRecordableDecision
+    (λ _. unless (first_of (tests_to_clear t v h body)) _ (λ _. host_is h most))
     (λ _. refl))))))))

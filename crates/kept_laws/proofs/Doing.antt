@@ -146,7 +146,8 @@ module _ (n : ℕ) (hosts : List ℕ) (old : Memory) (before : List Entry) where
         last_is : last_in (before ++ ((w.entries ++ entry.Command w.core.node c ∷ []) ++ entry.Cut w.core.node ∷ [])) n ≡ CutBehindCommand
         last_is = ap (λ l. last_in l n) behind ∙ last_cut seen w.core.node n c r.number
 
-        either : BootFinds left w.core.tables (count_of w.core.journal) ⊎ BootFinds left (apply w.core.tables c) (count_of (committed w.core.journal w.core.tables
+        either : BootFinds left w.core.tables (count_of w.core.journal)
+            ⊎ BootFinds left (apply w.core.tables c) (count_of (committed w.core.journal w.core.tables
             (body_of c)))
             → WouldFind left (with_command c (book_in seen n)) CutBehindCommand
         either (inl before_it) = finds_less left (book_in seen n) c w.core.tables (count_of w.core.journal) before_it closed_now r.count_is

@@ -89,7 +89,8 @@ keeps_same n hosts t u m node same k = record {
 
 -- ## Before and after a step
 
-port_hosts : (halves : ℕ → NumberedEnd) (desks : List Desk) → hosts_of_ends (map (λ (d : Desk). port_for (halves d.host) d) desks) ≡ map (λ (d : Desk). d.host) desks
+port_hosts : (halves : ℕ → NumberedEnd) (desks : List Desk)
+    → hosts_of_ends (map (λ (d : Desk). port_for (halves d.host) d) desks) ≡ map (λ (d : Desk). d.host) desks
 port_hosts halves [] = refl
 port_hosts halves (d ∷ desks) = ap (λ l. d.host ∷ l) (port_hosts halves desks)
 

@@ -158,7 +158,9 @@ lasts_ready kn kf near far to_near to_far r h =
             most = t.most;
             tried = t.tried;
           };
-          far_timely = receives_as kf far.session far.timer far.tries near.session.acc near.due due to_near h.near_marks to_far h.far_marks empty rewind kept h.far_timely;
+          far_timely =
+              receives_as kf far.session far.timer far.tries near.session.acc near.due due to_near h.near_marks to_far h.far_marks empty rewind kept
+              h.far_timely;
         }
 
 -- ## A tick
@@ -190,7 +192,8 @@ pub lasts_ticked : (kf : ℕ) (near far : EndState) (to_near to_far : List OnWir
 lasts_ticked kf near far to_near to_far noprobe none h =
     tick_by (λ e. Lasts 0 kf e far to_near to_far) near h.near_up
     (λ r. at near h.near_up h.near_due h.near_sends refl (timely_still s near.timer near.tries acc far.due to_far h.far_marks to_near h.near_marks
-    (λ e. let g = (or_parts (nat_lt s.acked s.next) (s.peer_busy && nat_lt s.next (length s.out)) r).0 in let f = ltb-false s.acked s.next g in omega arith) h.near_timely) refl)
+    (λ e. let g = (or_parts (nat_lt s.acked s.next) (s.peer_busy && nat_lt s.next (length s.out)) r).0 in let f =
+    ltb-false s.acked s.next g in omega arith) h.near_timely) refl)
     (λ r. at (record near { timer = near.timer + 1 }) h.near_up h.near_due h.near_sends refl
     (timely_counted s near.timer near.tries acc far.due to_far h.far_marks to_near h.near_marks (λ e b. runs r e b) h.near_timely) refl)
     (λ r late.
@@ -238,7 +241,8 @@ lasts_ticked kf near far to_near to_far noprobe none h =
 
     no_more : 10 ≤ near.timer + 1 → (s.acked ≡ s.next) ⊎ ((s.acked < s.next) ⊎ (s.next < s.acked)) → s.next ≤ s.acked
     no_more late (inl e) = omega arith
-    no_more late (inr (inl e)) = absurd (let g = in_time s near.timer near.tries acc far.due to_far h.far_marks to_near h.near_marks none h.far_young h.near_young h.near_timely e in omega arith)
+    no_more late (inr (inl e)) = absurd (let g =
+        in_time s near.timer near.tries acc far.due to_far h.far_marks to_near h.near_marks none h.far_young h.near_young h.near_timely e in omega arith)
     no_more late (inr (inr e)) = omega arith
 
 -- all frames grow older
@@ -373,7 +377,8 @@ lasts_taken near far x to_near to_far noprobe h = go h.near_marks h.near_shows h
         → (t.next ≤ course_of (length s.acc) (I p n info ∷ ms) → (t.next ≤ course_of (length acc) ms) ⊎ RewindDue due)
         → (due ≡ [] → (near.due ≡ []) × (length acc ≡ length s.acc))
         → Timely 0 t far.timer far.tries acc due to_near ms to_far h.far_marks =
-        λ acc due a b c d k. timely_received 0 t far.timer far.tries p n info s.acc acc near.due due x to_near ms to_far h.far_marks h.near_young low a b c d k far_timely in (
+        λ acc due a b c d k. timely_received 0 t far.timer far.tries p n info s.acc acc near.due due x to_near ms to_far h.far_marks h.near_young low a b c d
+        k far_timely in (
           rw shows.0 (taken_I (λ f. Lasts 0 0 f far to_near to_far) near (p % 8) (n % 8) n info h.near_up place
               (received_cases (λ f. Lasts 0 0 f far to_near to_far) e (p % 8) info
               (λ z.
@@ -508,7 +513,8 @@ may_send s info e = go ((not s.peer_busy || s.probe) && nat_lt s.next (s.acked +
 
 lasts_answered : (kn kf : ℕ) (near far : EndState) (to_near to_far : List OnWire) (k : Kind) (d : Due) (ds : List Due) → near.due ≡ d ∷ ds → AnswersOnly ds
     → NoSrej (S k (length near.session.acc) ∷ []) → (RewindDue (d ∷ ds) → RewindBy (S k (length near.session.acc) ∷ []) ⊎ RewindDue ds)
-    → ((a t : ℕ) → DueBy a t (length near.session.acc) (d ∷ ds) → (Answers a (S k (length near.session.acc)) × (t ≤ 4)) ⊎ DueBy a t (length near.session.acc) ds)
+    → ((a t : ℕ) → DueBy a t (length near.session.acc) (d ∷ ds)
+    → (Answers a (S k (length near.session.acc)) × (t ≤ 4)) ⊎ DueBy a t (length near.session.acc) ds)
     → Lasts kn kf near far to_near to_far → Lasts kn kf (record near { due = ds }) far to_near (with_frame to_far (S k (expected near.session)))
 lasts_answered kn kf near far to_near to_far k d ds is due srej rewind answers h =
     let s = near.session in
@@ -528,7 +534,8 @@ lasts_answered kn kf near far to_near to_far k d ds is due srej rewind answers h
       near_sends = flows_send_S s.out s.window s.acked s.next s.reached t.acc h.far_marks h.near_marks (length s.acc) k h.near_sends;
       far_sends = flows_answer t.out t.window t.acked t.next t.reached s.acc h.near_marks h.far_marks (S k (length s.acc)) refl h.far_sends;
       near_timely = timely_send_S kn s near.timer near.tries (length s.acc) k t.acc far.due c to_far h.far_marks to_near h.near_marks h.near_timely;
-      far_timely = timely_answer kf t far.timer far.tries s.acc d ds k c to_near h.near_marks to_far h.far_marks h.far_shows srej rewind answers (rw is at h.far_timely);
+      far_timely =
+          timely_answer kf t far.timer far.tries s.acc d ds k c to_near h.near_marks to_far h.far_marks h.far_shows srej rewind answers (rw is at h.far_timely);
     }
 
 lasts_sent : (kf : ℕ) (near far : EndState) (to_near to_far : List OnWire) (info : Fragment) → fragment_due near.session ≡ Some info
@@ -599,7 +606,8 @@ no_probe kn kf near far to_near to_far idle h = go near.session.probe refl
         let g = h.near_timely.probes q in
         let may : (not s.peer_busy || s.probe) ≡ true = or_right (not s.peer_busy) s.probe q in
         let inside : nat_lt s.next (s.acked + s.window) ≡ true = lt-ltb s.next (s.acked + s.window) (omega (arith, g.0, h.near_sends.wide)) in
-        let test : ((not s.peer_busy || s.probe) && nat_lt s.next (s.acked + s.window)) ≡ true = and_from (not s.peer_busy || s.probe) (nat_lt s.next (s.acked + s.window)) may inside in
+        let test : ((not s.peer_busy || s.probe) && nat_lt s.next (s.acked + s.window)) ≡ true =
+        and_from (not s.peer_busy || s.probe) (nat_lt s.next (s.acked + s.window)) may inside in
         let past : slice_get s.out s.next ≡ None = rw test at none in
         absurd (let f = past_end s.out s.next past in omega (arith, g.0, g.1))
 

@@ -222,7 +222,8 @@ alive_aged c h n l a v =
     let far = aged_is_older l.to_host (rw far_sans at parts.1) a.lasts.far_young in
     record {
       lasts = rw (near.0, far.0)
-          (lasts_older l.controller.side l.host.side l.to_controller l.to_host (no_due l.controller.side a.near_idle) (no_due l.host.side a.far_idle) near.1 far.1
+          (lasts_older l.controller.side l.host.side l.to_controller l.to_host (no_due l.controller.side a.near_idle)
+          (no_due l.host.side a.far_idle) near.1 far.1
           a.lasts);
       near_idle = a.near_idle;
       far_idle = a.far_idle;
@@ -247,7 +248,8 @@ alive_ticks kf c h n l ts a v =
     none = ap length (ticked-due e a.lasts.near_up (omega (arith, a.lasts.near_timely.most)) ∙ no_due e a.near_idle)
 
     Goes : Bool → Type 0
-    Goes ended = (noted_out n (with_shdlc_ended l ended) (shdlc_turned (ticked e) ts)).lost ≡ false → IsAlive 0 kf c h (shdlc_becomes (with_shdlc_ended l ended) (shdlc_turned (ticked e) ts))
+    Goes ended = (noted_out n (with_shdlc_ended l ended) (shdlc_turned (ticked e) ts)).lost ≡ false
+        → IsAlive 0 kf c h (shdlc_becomes (with_shdlc_ended l ended) (shdlc_turned (ticked e) ts))
 
     by : (ended : Bool) → ended ≡ false → Goes false → Goes ended
     by true p g = absurd (true≢false p)
@@ -256,7 +258,8 @@ alive_ticks kf c h n l ts a v =
 turns_lost : (es : List ShdlcEndEvent) (n : Losses) (l : ShdlcLink) → OnlyTurns es → (noted_turns n l es).lost ≡ false → n.lost ≡ false
 turns_lost [] n l a v = v
 turns_lost (Turns ts ∷ es) n l a v =
-    out_lost (frames_of most_frames (shdlc_turned l.controller.side ts)) n l (turns_lost es (noted_here n l (Turns ts)) (shdlc_happens_at_controller l (Turns ts)) a v)
+    out_lost (frames_of most_frames (shdlc_turned l.controller.side ts)) n l
+    (turns_lost es (noted_here n l (Turns ts)) (shdlc_happens_at_controller l (Turns ts)) a v)
 turns_lost (_ ∷ es) n l a v = absurd a
 
 alive_all : (es : List ShdlcEndEvent) (kf : ℕ) (c h : NumberedShdlc) (n : Losses) (l : ShdlcLink) → OnlyTurns es → IsAlive 0 kf c h l
@@ -286,7 +289,8 @@ alive_tick c h n l ts es us a k v =
     alive_exchanged 0 0 h c (shdlc_ticks_at_controller three us) (alive_ticks 0 h c n_three three us k_three v)
   where
     ticks_lost : (n : Losses) (ts : List ShdlcTurn) (l : ShdlcLink) → (noted_tick n (Some ts) l).lost ≡ false → n.lost ≡ false
-    ticks_lost n ts l w = out_lost (frames_of most_frames (shdlc_turned (ticked l.controller.side) ts)) n (with_shdlc_ended l (is_some (tick_answer l.controller.side).ended)) w
+    ticks_lost n ts l w =
+        out_lost (frames_of most_frames (shdlc_turned (ticked l.controller.side) ts)) n (with_shdlc_ended l (is_some (tick_answer l.controller.side).ended)) w
 
 -- ## Events
 
@@ -307,7 +311,8 @@ alive_event c h n l (Tick None es d) p a v = absurd p
 alive_event c h n l (TickWithout es d) p a v = absurd p
 
 alive_after : (events : List ShdlcLinkEvent) (c h : NumberedShdlc) (n : Losses) (l : ShdlcLink) → AllPlain events
-    → ((front : List ShdlcLinkEvent) → IsPrefix front events → (losses_after n l front).lost ≡ false) → IsAlive 0 0 c h l → IsAlive 0 0 c h (shdlc_after l events)
+    → ((front : List ShdlcLinkEvent) → IsPrefix front events → (losses_after n l front).lost ≡ false) → IsAlive 0 0 c h l
+    → IsAlive 0 0 c h (shdlc_after l events)
 alive_after [] c h n l p none a = a
 alive_after (e ∷ es) c h n l p none a =
     alive_after es c h (noted_event n l e) (shdlc_happens l e) p.1 (λ front is. none (e ∷ front) (is.0, ap (λ (r : List ShdlcLinkEvent). e ∷ r) is.1))

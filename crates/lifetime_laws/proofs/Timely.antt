@@ -65,7 +65,8 @@ pub timely_acked : (s s' : Session) (timer timer' tries tries' n : ℕ) (acc : L
     → (s.acked < n → (timer' ≡ 0) × (tries' ≡ 0)) → (s.acked ≡ n → tries' ≡ tries) → (s.acked ≡ n → n < max s.next n → timer' ≡ timer)
     → (s'.acked ≡ s'.next → s'.peer_busy ≡ false → timer' ≡ 0)
     → Timely 0 s timer tries acc due there tm (x ∷ back) (m ∷ bm) → Timely 0 s' timer' tries' acc due there tm back bm
-timely_acked s s' timer timer' tries tries' n acc due there tm x back m bm plain rewind srej last answers st sb i j acked next out noprobe noprobe' busy grew tries_same timer_same starts h =
+timely_acked s s' timer timer' tries tries' n acc due there tm x back m bm plain rewind srej last answers st sb i j acked next out noprobe noprobe' busy grew
+    tries_same timer_same starts h =
     record {
       told = λ e. rw acked (sym last ∙ h.told e);
       known = srej h.known;

@@ -347,7 +347,8 @@ given_beside old new k other n chain theirs a gives keeps differ g b =
     let left = used_of old i - blocks_for (length (chain_bytes old chain)) in
     let owners : new.owners ≡ with_used old.owners i left = gives.owners ∙ ap
     (λ q. with_used old.owners q (used_of old q - blocks_for (length (chain_bytes old chain)))) f.owned in
-    let stay : (c : Chain) → IsLive old c → c.owner ≢ i → Stays old new c = λ c live away. (let s = keeps c live (apart_by_owner old c chain live f.live (λ e. away (e ∙ f.owned))) in (s.1, s.2)) in
+    let stay : (c : Chain) → IsLive old c → c.owner ≢ i
+    → Stays old new c = λ c live away. (let s = keeps c live (apart_by_owner old c chain live f.live (λ e. away (e ∙ f.owned))) in (s.1, s.2)) in
     both_stay old new other n theirs g b (record {
       first = λ c live is. stay c live (λ e. differ.from (sym e ∙ is));
       second = λ c live is. stay c live (λ e. differ.receivers (sym e ∙ is));
@@ -422,7 +423,8 @@ pub sent_back_beside : (old new : PoolState) (k after other : End) (m n : Machin
     → Accounts other old theirs
     → EndStandsFor other new n × Accounts other new theirs
 sent_back_beside old new k after other m n chain theirs h a l differ g b =
-    passed_by old new k.inbox.joiner.owner k after other m n chain theirs a.fetched.live a.fetched.owned h l differ.from differ.receivers differ.senders differ.to g b
+    passed_by old new k.inbox.joiner.owner k after other m n chain theirs a.fetched.live a.fetched.owned h l differ.from differ.receivers differ.senders
+    differ.to g b
 
 pub passed_giver : (old new : PoolState) (from to after : End) (m n : Machine) (chain : Chain) → EndStandsFor from old m
     → Accounts from old (Some chain) → HaveOwners from to → EndStandsFor to old n
@@ -451,7 +453,8 @@ pub passed_beside : (old new : PoolState) (from to after other : End) (n o : Mac
     → EndStandsFor other old o → Accounts other old theirs
     → EndStandsFor other new o × Accounts other new theirs
 passed_beside old new from to after other n o chain theirs a h l differ apart g b =
-    passed_by old new from.inbox.joiner.owner to after other n o chain theirs a.fetched.live a.fetched.owned h l differ.from differ.receivers apart.senders apart.to g b
+    passed_by old new from.inbox.joiner.owner to after other n o chain theirs a.fetched.live a.fetched.owned h l differ.from differ.receivers apart.senders
+    apart.to g b
 
 pub passed_taker : (old new : PoolState) (from to after : End) (n : Machine) (chain : Chain) (theirs : Option Chain)
     → Accounts from old (Some chain) → HaveOwners from to → EndStandsFor to old n

@@ -86,7 +86,8 @@ inbox_kept old new owner xs ys box own leaves lies differ =
     let all = opens_kept old new o (chains_in box) lies.holds.own each in
     let some = opens_kept old new o box.joiner.open.items (front_holds old o box.joiner.open.items box.got lies.holds).own each in
     let got = opens_kept old new o (got_chains box.got) (got_holds old o box.joiner.open.items (got_chains box.got) lies.holds.own) each in
-    let here : owner_at new.owners o ≡ owner_at old.owners o = ap (λ os. owner_at os o) leaves.owners ∙ other-with_used old.owners owner (used_of new owner) o (λ e. differ (sym e)) in
+    let here : owner_at new.owners o ≡ owner_at old.owners o = ap (λ os. owner_at os o) leaves.owners
+    ∙ other-with_used old.owners owner (used_of new owner) o (λ e. differ (sym e)) in
     let len = ap length leaves.owners ∙ length-with_used old.owners owner (used_of new owner) in
     let used = ap (λ (x : Owner). x.used) here in
     record {
@@ -125,7 +126,8 @@ outbox_kept old new owner xs ys box own leaves lies differ =
     (λ q mine. let k = leaves.others q.chain mine.live (apart_from_opens old owner o q xs mine own differ) in (k.0, k.1)) kept.own in
     let all = kept_each Queued chain_in old new o box.queue.items kept.own each in
     let same : queued_messages new box ≡ queued_messages old box = messages_same old new box.queue.items all.bytes in
-    let here : owner_at new.owners o ≡ owner_at old.owners o = ap (λ os. owner_at os o) leaves.owners ∙ other-with_used old.owners owner (used_of new owner) o differ in
+    let here : owner_at new.owners o ≡ owner_at old.owners o = ap (λ os. owner_at os o) leaves.owners
+    ∙ other-with_used old.owners owner (used_of new owner) o differ in
     let len = ap length leaves.owners ∙ length-with_used old.owners owner (used_of new owner) in
     let used = ap (λ (x : Owner). x.used) here in
     let aside = ap (λ (x : Owner). x.aside) here in
@@ -212,15 +214,21 @@ leaves_same old new a b c x y z l owner queue inbox = record {
   lengths = l.lengths;
   received = l.received ∙ ap (λ (i : Inbox). used_of old x.joiner.owner + held_blocks new (chains_in i)) (sym inbox);
   others = λ other live u v.
-      let s = l.others other live u v in
-      (s.0, s.1, subst (λ (q : Buffer Queued). LiesApart Queued chain_in q.items other) (sym queue) s.2, subst (λ (i : Inbox). IsApartFrom (chains_in i) other) (sym inbox) s.3);
+      let s = l.others other live u v in (
+        s.0,
+        s.1,
+        subst (λ (q : Buffer Queued). LiesApart Queued chain_in q.items other) (sym queue) s.2,
+        subst
+            (λ (i : Inbox). IsApartFrom (chains_in i) other) (sym inbox) s.3,
+      );
 }
 
 -- ---- a chain of another owner goes to what is sent
 
 pub inbox_passed : (old new : PoolState) (owner : ℕ) (chain : Chain) (xs ys : List Queued) (box : Inbox) → OwnsAll Queued chain_in old owner xs
     → LeavesOthersBut old new owner chain xs ys → InboxLiesIn old box
-    → owner ≢ box.joiner.owner → IsApartFrom (chains_in box) chain → (chain.owner ≡ box.joiner.owner → held_blocks old (chains_in box) + blocks_for (length (chain_bytes old chain)) ≤ used_of old box.joiner.owner)
+    → owner ≢ box.joiner.owner → IsApartFrom (chains_in box) chain
+    → (chain.owner ≡ box.joiner.owner → held_blocks old (chains_in box) + blocks_for (length (chain_bytes old chain)) ≤ used_of old box.joiner.owner)
     → InboxLiesIn new box × (messages_under_way new box ≡ messages_under_way old box) × (came_whole new box ≡ came_whole old box)
 inbox_passed old new owner chain xs ys box own leaves lies differ apart counted =
     let o = box.joiner.owner in
@@ -230,14 +238,17 @@ inbox_passed old new owner chain xs ys box own leaves lies differ apart counted 
     let all = opens_passed old new o (λ x. IsApart chain x.chain) (chains_in box) both kept in
     let front = front_holds old o box.joiner.open.items box.got lies.holds in
     let parts = front_apart box.joiner.open.items box.got chain apart in
-    let some = opens_passed old new o (λ x. IsApart chain x.chain) box.joiner.open.items (all_joined Open (IsOwnOpen old o) (λ x. IsApart chain x.chain) box.joiner.open.items front.own parts.0) kept in
+    let some = opens_passed old new o (λ x. IsApart chain x.chain) box.joiner.open.items
+    (all_joined Open (IsOwnOpen old o) (λ x. IsApart chain x.chain) box.joiner.open.items front.own parts.0) kept in
     let got = opens_passed old new o (λ x. IsApart chain x.chain) (got_chains box.got)
-    (all_joined Open (IsOwnOpen old o) (λ x. IsApart chain x.chain) (got_chains box.got) (got_holds old o box.joiner.open.items (got_chains box.got) lies.holds.own) parts.1) kept in
+    (all_joined Open (IsOwnOpen old o) (λ x. IsApart chain x.chain) (got_chains box.got)
+    (got_holds old o box.joiner.open.items (got_chains box.got) lies.holds.own) parts.1) kept in
     let len = leaves.lengths in
     let stays : (quota_of new o ≡ 512) × (held_blocks new (chains_in box) ≤ used_of new o) = elim (cases_eq chain.owner o) [
       | inl same ↦ (
         ap (λ p. quota_of new p) (sym same) ∙ (leaves.giver_quota ∙ (ap (λ p. quota_of old p) same ∙ lies.quota)),
-        (let u : used_of new o ≡ used_of old o - blocks_for (length (chain_bytes old chain)) = ap (used_of new) (sym same) ∙ (leaves.giver_used ∙ ap (λ p. used_of old p - blocks_for (length (chain_bytes old chain))) same) in
+        (let u : used_of new o ≡ used_of old o - blocks_for (length (chain_bytes old chain)) = ap (used_of new) (sym same)
+            ∙ (leaves.giver_used ∙ ap (λ p. used_of old p - blocks_for (length (chain_bytes old chain))) same) in
             let c = counted same in omega (arith, u, c, all.blocks)),
       )
       | inr apart_owner ↦ (

@@ -53,8 +53,10 @@ pub refills_none : (pool : PoolState) (k : End) → OutboxLiesIn pool k.outbox �
 refills_none pool k lies = record { lies = lies; half = λ m h. h; queue = refl; owner = refl; inbox = refl; acts = refl }
 
 -- one more was offered
-offered_half : (pool : PoolState) (k : End) (s : KeptEnd) (box : Outbox) (info : Fragment) (m : Machine) → waiting_in pool k.outbox ≡ info ∷ waiting_in pool box → box ≡ record k.outbox { cut = k.outbox.cut + 1 }
-    → OutboxLiesIn pool box → k.shdlc.phase ≡ Up → length k.shdlc.sender.queue < 4 → ((e : EndState) → ShdlcStandsFor k.shdlc e → ShdlcStandsFor s (offered e info))
+offered_half : (pool : PoolState) (k : End) (s : KeptEnd) (box : Outbox) (info : Fragment) (m : Machine)
+    → waiting_in pool k.outbox ≡ info ∷ waiting_in pool box → box ≡ record k.outbox { cut = k.outbox.cut + 1 }
+    → OutboxLiesIn pool box → k.shdlc.phase ≡ Up → length k.shdlc.sender.queue < 4
+    → ((e : EndState) → ShdlcStandsFor k.shdlc e → ShdlcStandsFor s (offered e info))
     → Halfway k pool m → Halfway (record k { shdlc = s; outbox = box }) pool m
 offered_half pool k s box info m waits cut lies up room takes h =
     let link : StandsBefore k.shdlc (info ∷ waiting_in pool box) m.shdlc = subst (λ w. StandsBefore k.shdlc w m.shdlc) waits h.link in
@@ -77,8 +79,10 @@ offered_half pool k s box info m waits cut lies up room takes h =
       differ = λ e. h.differ (sym owner ∙ e);
     }
 
-pub refills_more : (pool : PoolState) (before k : End) (s : KeptEnd) (box : Outbox) (info : Fragment) → waiting_in pool k.outbox ≡ info ∷ waiting_in pool box → box ≡ record k.outbox { cut = k.outbox.cut + 1 }
-    → OutboxLiesIn pool box → k.shdlc.phase ≡ Up → length k.shdlc.sender.queue < 4 → ((e : EndState) → ShdlcStandsFor k.shdlc e → ShdlcStandsFor s (offered e info))
+pub refills_more : (pool : PoolState) (before k : End) (s : KeptEnd) (box : Outbox) (info : Fragment) → waiting_in pool k.outbox ≡ info ∷ waiting_in pool box
+    → box ≡ record k.outbox { cut = k.outbox.cut + 1 }
+    → OutboxLiesIn pool box → k.shdlc.phase ≡ Up → length k.shdlc.sender.queue < 4
+    → ((e : EndState) → ShdlcStandsFor k.shdlc e → ShdlcStandsFor s (offered e info))
     → Refills pool before k → Refills pool before (record k { shdlc = s; outbox = box })
 refills_more pool before k s box info waits cut lies up room takes r = record {
   lies = lies;
@@ -102,14 +106,17 @@ none_waits pool k m none h = record { half = h; full = inl none }
 
 pub forgotten : (old mid new : PoolState) (k : End) (box : Outbox) (inbox : Inbox) (acts : ArrayVec ActDue) → OutboxLiesIn old k.outbox
     → InboxLiesIn old k.inbox → k.outbox.owner ≢ k.inbox.joiner.owner
-    → OutboxLiesIn mid box → box.queue.items ≡ [] → (box.acked ≡ 0) × (box.cut ≡ 0) → box.owner ≡ k.outbox.owner → OutboxLeaves old mid k.outbox.owner k.outbox.queue.items []
-    → InboxLiesIn new inbox → inbox.joiner.open.items ≡ [] → inbox.got ≡ k.inbox.got → inbox.joiner.owner ≡ k.inbox.joiner.owner → came_whole new inbox ≡ came_whole mid k.inbox
+    → OutboxLiesIn mid box → box.queue.items ≡ [] → (box.acked ≡ 0) × (box.cut ≡ 0) → box.owner ≡ k.outbox.owner
+    → OutboxLeaves old mid k.outbox.owner k.outbox.queue.items []
+    → InboxLiesIn new inbox → inbox.joiner.open.items ≡ [] → inbox.got ≡ k.inbox.got → inbox.joiner.owner ≡ k.inbox.joiner.owner
+    → came_whole new inbox ≡ came_whole mid k.inbox
     → InboxLeaves mid new k.inbox.joiner.owner (chains_in k.inbox) (chains_in inbox)
     → used_of new k.inbox.joiner.owner + held_blocks mid (chains_in k.inbox) ≡ used_of mid k.inbox.joiner.owner + held_blocks new (chains_in inbox)
     → acts.items ≡ map kept_in_front k.acts.items → ForgetsMessages old new k (record k { outbox = box; inbox = inbox; acts = acts })
 forgotten old mid new k box inbox acts sends receives differ lies none places owner leaves lies_in under got owner_in message leaves_in_is received moved =
     let i = inbox_kept old mid k.outbox.owner k.outbox.queue.items [] k.inbox receives_own leaves receives differ in
-    let o = outbox_kept mid new k.inbox.joiner.owner (chains_in k.inbox) (chains_in inbox) box i.lies.holds.own leaves_in_is lies (λ e. differ (sym owner ∙ e)) in
+    let o =
+    outbox_kept mid new k.inbox.joiner.owner (chains_in k.inbox) (chains_in inbox) box i.lies.holds.own leaves_in_is lies (λ e. differ (sym owner ∙ e)) in
     record {
       activation = refl;
       shdlc = refl;
@@ -133,7 +140,8 @@ forgotten old mid new k box inbox acts sends receives differ lies none places ow
     receives_own = sends.kept.own
 
     aside_out : aside_of mid k.outbox.owner ≡ aside_of old k.outbox.owner
-    aside_out = ap (λ os. (owner_at os k.outbox.owner).aside) leaves.owners ∙ aside-with_used old.owners k.outbox.owner (used_of mid k.outbox.owner) sends.kept.has_quota
+    aside_out = ap (λ os. (owner_at os k.outbox.owner).aside) leaves.owners
+        ∙ aside-with_used old.owners k.outbox.owner (used_of mid k.outbox.owner) sends.kept.has_quota
 
 -- ---- a session that is over
 
@@ -189,7 +197,8 @@ session_over old new k k1 s0 s m e h f link out acked acc =
 
 pub dropped : (pool : PoolState) (k : End) (s : KeptEnd) (acts : ArrayVec ActDue) (m : Machine)
     → ((e : EndState) → ShdlcStandsFor k.shdlc e → ShdlcStandsFor s (record e { due = [] }))
-    → acts.items ≡ map kept_in_front k.acts.items → EndStandsFor k pool m → EndStandsFor (record k { shdlc = s; acts = acts }) pool (record m { shdlc = record m.shdlc { due = [] }; acts = map due_in_front m.acts })
+    → acts.items ≡ map kept_in_front k.acts.items → EndStandsFor k pool m
+    → EndStandsFor (record k { shdlc = s; acts = acts }) pool (record m { shdlc = record m.shdlc { due = [] }; acts = map due_in_front m.acts })
 dropped pool k s acts m drops moved_acts h =
     let half = h.half in
     record {
@@ -197,7 +206,14 @@ dropped pool k s acts m drops moved_acts h =
         role = half.role;
         link = (let l = half.link in
             let n = l.narrow in
-            record { offered = l.offered; out = l.out; kept = drops (with_out m.shdlc l.offered) l.kept; narrow = record { own = n.own; peer = n.peer; session = n.session }; session = l.session });
+            record {
+              offered = l.offered;
+              out = l.out;
+              kept = drops (with_out m.shdlc l.offered) l.kept;
+              narrow =
+                  record { own = n.own; peer = n.peer; session = n.session };
+              session = l.session;
+            });
         acts = ap (map due_of) moved_acts ∙ (front_same k.acts.items ∙ ap (map due_in_front) half.acts);
         sends = record { lies = half.sends.lies; all = half.sends.all; out = half.sends.out; messages = half.sends.messages; acked = half.sends.acked };
         receives = half.receives;
@@ -209,7 +225,8 @@ dropped pool k s acts m drops moved_acts h =
       full = h.full;
     }
 
-pub act_made : (pool : PoolState) (k : End) (acts : ArrayVec ActDue) (frame : Act) (behind : ℕ) (m : Machine) → acts.items ≡ k.acts.items ++ record { frame = frame; behind = behind } ∷ []
+pub act_made : (pool : PoolState) (k : End) (acts : ArrayVec ActDue) (frame : Act) (behind : ℕ) (m : Machine)
+    → acts.items ≡ k.acts.items ++ record { frame = frame; behind = behind } ∷ []
     → behind ≡ length k.shdlc.due → EndStandsFor k pool m → EndStandsFor (record k { acts = acts }) pool (with_act (Some frame) m)
 act_made pool k acts frame behind m pushed counted h =
     let half = h.half in
@@ -220,7 +237,8 @@ act_made pool k acts frame behind m pushed counted h =
         role = half.role;
         link = half.link;
         acts = ap (map due_of) pushed ∙ (map_push due_of k.acts.items (record { frame = frame; behind = behind })
-            ∙ (ap (λ (l : List Due). l ++ record { frame = frame; behind = behind } ∷ []) half.acts ∙ ap (λ n. m.acts ++ record { frame = frame; behind = n } ∷ []) here));
+            ∙ (ap (λ (l : List Due). l ++ record { frame = frame; behind = behind } ∷ []) half.acts
+            ∙ ap (λ n. m.acts ++ record { frame = frame; behind = n } ∷ []) here));
         sends = record { lies = half.sends.lies; all = half.sends.all; out = half.sends.out; messages = half.sends.messages; acked = half.sends.acked };
         receives = half.receives;
         got = half.got;
@@ -251,7 +269,8 @@ with_role pool k a m r is h =
       full = h.full;
     }
 
-put_role : (p : LinkState) (m : Machine) (r : Role) → put_down true (record m { role = r; shdlc = record m.shdlc { phase = p } }) ≡ record (put_down true (record m { shdlc = record m.shdlc { phase = p } })) { role = r }
+put_role : (p : LinkState) (m : Machine) (r : Role) → put_down true (record m { role = r; shdlc = record m.shdlc { phase = p } })
+    ≡ record (put_down true (record m { shdlc = record m.shdlc { phase = p } })) { role = r }
 put_role Up m r = refl
 put_role Waiting m r = refl
 put_role Down m r = refl
@@ -289,7 +308,8 @@ stopped_before s s1 new waiting e h same stops =
 pub event_told : (pool : PoolState) (k : End) (a : Activation) (m : Machine) (event : ActEvent) (out : ActOut) (ended : Option Cause) (nothing : LinkReport)
     → EndStandsFor k pool m
     → role_of a ≡ role_after (role_of k.activation) event → out ≡ act_answer (role_of k.activation) event
-    → ((x : Machine) → EndStandsFor (record k { activation = a }) pool x → ended ≡ (if out.ended_link then if_up x.shdlc ByAct else None)) → nothing ≡ nothing_told
+    → ((x : Machine) → EndStandsFor (record k { activation = a }) pool x → ended ≡ (if out.ended_link then if_up x.shdlc ByAct else None))
+    → nothing ≡ nothing_told
     → record nothing { ended = ended; became_active = out.became_active; sync = out.sync; gave_up = out.gave_up } ≡ act_told m event
 event_told pool k a m event out ended nothing h role is cause none =
     let r = role_after m.role event in
@@ -298,4 +318,10 @@ event_told pool k a m event out ended nothing h role is cause none =
     let e = cause (record m { role = r }) (with_role pool k a m r here h) in
     ap (λ (n : LinkReport). record n { ended = ended; became_active = out.became_active; sync = out.sync; gave_up = out.gave_up }) none
     ∙ (ap (λ (c : Option Cause). record nothing_told { ended = c; became_active = out.became_active; sync = out.sync; gave_up = out.gave_up }) e
-    ∙ ap (λ (o : ActOut). record nothing_told { ended = if o.ended_link then if_up m.shdlc ByAct else None; became_active = o.became_active; sync = o.sync; gave_up = o.gave_up }) answer)
+    ∙ ap (λ (o : ActOut). record nothing_told {
+      ended = if o.ended_link then if_up m.shdlc ByAct else None;
+      became_active = o.became_active;
+      sync =
+          o.sync;
+      gave_up = o.gave_up;
+    }) answer)

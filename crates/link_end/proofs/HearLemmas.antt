@@ -16,7 +16,7 @@ use Rattle.shdlc_core.specs.declared.answers.Taken.{Taken}
 use Rattle.shdlc_core.specs.Kept.{KeptEnd, ShdlcStandsFor}
 use Rattle.shdlc_core.specs.Machine.{EndState, Fragment, Session, taken, take_answer, stopped, place_of}
 use Rattle.shdlc_core.specs.Offering.{StandsBefore, with_out, left_waiting}
-use Rattle.shdlc_core.proofs.Offering.{stands_taken, stands_idle, taken_alike, takes_on, TakesOn, brings_fragment}
+use Rattle.shdlc_core.proofs.Offering.{stands_taken, stands_idle, takes_on, TakesOn, brings_fragment}
 use Rattle.shdlc_core.proofs.Histories.{in_phase}
 use Rattle.hcp_packet.specs.Packets.{packets_in, fragments_of, good_of, packet_of, AreSendable}
 use Rattle.hcp_chain.specs.Joining.{are_taken, given_by, open_after}
@@ -41,6 +41,7 @@ use Rattle.link_end.specs.declared.report.LinkReport.{LinkReport}
 use Rattle.link_end.proofs.EndLemmas.{session_over, carries, stopped_before}
 use Rattle.link_end.proofs.BoxLemmas.{OutboxKept, inbox_kept, outbox_kept, leaves_out, leaves_in, leaves_more}
 use Rattle.link_machine.proofs.Reports.{good-append, empty_news}
+use Rattle.shdlc_core.proofs.OfferedFrames.{taken_alike}
 
 -- ---- what came
 
@@ -102,14 +103,16 @@ heard-over m c over acc =
     let faulty : is_faulty e.session ≡ false = ap (λ l. not (are_taken [] (packets_in l))) acc in
     ap (λ b. if b then put_down true m else record (moved m (ended_in m c) e) { got = m.got ++ news m.shdlc.session e }) faulty
     ∙ (ap (λ b. record (moved m b e) { got = m.got ++ news m.shdlc.session e }) over
-    ∙ (ap (λ l. record (moved m true e) { got = m.got ++ l }) (empty_news m.shdlc.session e acc) ∙ ap (λ l. record (moved m true e) { got = l }) (append-nil m.got)))
+    ∙ (ap (λ l. record (moved m true e) { got = m.got ++ l }) (empty_news m.shdlc.session e acc)
+    ∙ ap (λ l. record (moved m true e) { got = l }) (append-nil m.got)))
 
 pub over_acc : (m : Machine) (c : Control) → TakesOn m.shdlc c → ended_in m c ≡ true → (taken m.shdlc c).session.acc ≡ []
 over_acc m c on over = on.acc ∙ ap (λ b. left_waiting b (m.shdlc.session.acc ++ option_to_list (take_answer m.shdlc c).accepted)) over
 
 pub over_stands : (pool new : PoolState) (k k1 : End) (m : Machine) (c : Control) (s0 : KeptEnd) (t : Taken) → EndStandsFor k pool m
     → ((e : EndState) → ShdlcStandsFor k.shdlc e → ShdlcStandsFor s0 (taken e c))
-    → ((e : EndState) → ShdlcStandsFor k.shdlc e → t ≡ take_answer e c) → is_some t.ended ≡ true → ForgetsMessages pool new (record k { shdlc = s0 }) k1 → EndStandsFor k1 new (heard m c)
+    → ((e : EndState) → ShdlcStandsFor k.shdlc e → t ≡ take_answer e c) → is_some t.ended ≡ true → ForgetsMessages pool new (record k { shdlc = s0 }) k1
+    → EndStandsFor k1 new (heard m c)
 over_stands pool new k k1 m c s0 t h stands answer ended f =
     let e = taken m.shdlc c in
     let on = takes_on m.shdlc c h.half.link.session in
@@ -137,11 +140,24 @@ over_told pool k m c t n h answer ended none =
     let acked : whole_acked (heard m c) - whole_acked m ≡ 0 = ap (λ x. whole_acked x - whole_acked m) (heard-over m c over acc) ∙ omega arith in
     let got : is_some (oldest (if is_faulty e.session then [] else news m.shdlc.session e)) ≡ false =
     ap (λ b. is_some (oldest (if b then [] else news m.shdlc.session e))) faulty ∙ ap (λ l. is_some (oldest l)) (empty_news m.shdlc.session e acc) in
-    let cause : (if is_faulty e.session then Some Chain else (take_answer m.shdlc c).ended) ≡ (take_answer m.shdlc c).ended = ap (λ b. if b then Some Chain else (take_answer m.shdlc c).ended) faulty in
+    let cause : (if is_faulty e.session then Some Chain else (take_answer m.shdlc c).ended) ≡ (take_answer m.shdlc c).ended =
+    ap (λ b. if b then Some Chain else (take_answer m.shdlc c).ended) faulty in
     ap (λ (x : LinkReport). record x { ended = t.ended; began = t.began }) none
     ∙ (ap (λ (x : Taken). record nothing_told { ended = x.ended; began = x.began }) is
-    ∙ sym (ap (λ (x : Option Cause). record nothing_told { ended = x; began = (take_answer m.shdlc c).began; acked = whole_acked (heard m c) - whole_acked m; got = is_some (oldest (if is_faulty e.session then [] else news m.shdlc.session e)) }) cause
-    ∙ (ap (λ (x : ℕ). record nothing_told { ended = (take_answer m.shdlc c).ended; began = (take_answer m.shdlc c).began; acked = x; got = is_some (oldest (if is_faulty e.session then [] else news m.shdlc.session e)) }) acked
+    ∙ sym (ap (λ (x : Option Cause). record nothing_told {
+      ended = x;
+      began = (take_answer m.shdlc c).began;
+      acked =
+          whole_acked (heard m c) - whole_acked m;
+      got = is_some (oldest (if is_faulty e.session then [] else news m.shdlc.session e));
+    }) cause
+    ∙ (ap (λ (x : ℕ). record nothing_told {
+      ended = (take_answer m.shdlc c).ended;
+      began = (take_answer m.shdlc c).began;
+      acked = x;
+      got =
+          is_some (oldest (if is_faulty e.session then [] else news m.shdlc.session e));
+    }) acked
     ∙ ap (λ (x : Bool). record nothing_told { ended = (take_answer m.shdlc c).ended; began = (take_answer m.shdlc c).began; acked = 0; got = x }) got)))
 
 -- ---- what is acknowledged
@@ -149,8 +165,10 @@ over_told pool k m c t n h answer ended none =
 -- more of what is sent is acknowledged
 pub sends_on : (mid new : PoolState) (box after : Outbox) (sent : List Message) (s s' : Session) (count whole : ℕ) → AreSendable sent
     → s.out ≡ fragments_of sent
-    → queued_messages mid box ≡ drop (whole_among sent s.acked) sent → box.acked ≡ rest_among sent s.acked → GivesBack mid new (acked_more box count) after whole
-    → whole_among (queued_messages new after) after.acked ≡ 0 → rest_among (queued_messages new after) after.acked ≡ after.acked → s'.out ≡ s.out → s'.acked ≡ s.acked + count
+    → queued_messages mid box ≡ drop (whole_among sent s.acked) sent → box.acked ≡ rest_among sent s.acked
+    → GivesBack mid new (acked_more box count) after whole
+    → whole_among (queued_messages new after) after.acked ≡ 0 → rest_among (queued_messages new after) after.acked ≡ after.acked → s'.out ≡ s.out
+    → s'.acked ≡ s.acked + count
     → OutboxStandsFor new after sent s' × (whole_among sent s'.acked ≡ whole_among sent s.acked + whole)
 sends_on mid new box after sent s s' count whole all out messages acked g none rest same_out counted =
     let w = whole_among sent s.acked in
@@ -183,15 +201,20 @@ cut_enough pool k m c s0 t h stands answer going =
     let P : Bool → Type 0 = λ b. StandsBefore s0 (left_waiting b (waiting_in pool k.outbox)) (taken m.shdlc c) in
     let next = subst P over (took_link k pool m c s0 h stands) in
     let acked : (taken m.shdlc c).session.acked ≡ m.shdlc.session.acked + t.acked =
-    on.acked ∙ (ap (λ b. if b then 0 else m.shdlc.session.acked + (take_answer m.shdlc c).acked) over ∙ ap (λ (x : Taken). m.shdlc.session.acked + x.acked) (sym is)) in
+    on.acked ∙ (ap (λ b. if b then 0 else m.shdlc.session.acked + (take_answer m.shdlc c).acked) over
+    ∙ ap (λ (x : Taken). m.shdlc.session.acked + x.acked) (sym is)) in
     let out : (taken m.shdlc c).session.out ≡ fragments_of m.sent = on.out ∙ (ap (λ b. left_waiting b m.shdlc.session.out) over ∙ sends.out) in
-    let len_now : length (fragments_of m.sent) ≡ length next.offered + length (waiting_in pool k.outbox) = ap length (sym out ∙ next.out) ∙ length-append next.offered (waiting_in pool k.outbox) in
-    let len_old : length (fragments_of m.sent) ≡ length link.offered + length (waiting_in pool k.outbox) = ap length (sym sends.out ∙ link.out) ∙ length-append link.offered (waiting_in pool k.outbox) in
+    let len_now : length (fragments_of m.sent) ≡ length next.offered + length (waiting_in pool k.outbox) = ap length (sym out ∙ next.out)
+    ∙ length-append next.offered (waiting_in pool k.outbox) in
+    let len_old : length (fragments_of m.sent) ≡ length link.offered + length (waiting_in pool k.outbox) = ap length (sym sends.out ∙ link.out)
+    ∙ length-append link.offered (waiting_in pool k.outbox) in
     let some = next.kept.sender.offered in
     let some_old = link.kept.sender.offered in
-    let waits : length (waiting_in pool k.outbox) ≡ length (fragments_of (queued_messages pool k.outbox)) - k.outbox.cut = length-drop k.outbox.cut (fragments_of (queued_messages pool k.outbox)) in
+    let waits : length (waiting_in pool k.outbox) ≡ length (fragments_of (queued_messages pool k.outbox)) - k.outbox.cut =
+    length-drop k.outbox.cut (fragments_of (queued_messages pool k.outbox)) in
     let whole = whole-length m.sent m.shdlc.session.acked (omega (arith, len_old, some_old)) in
-    let left : length (fragments_of (queued_messages pool k.outbox)) ≡ length (fragments_of (drop (whole_among m.sent m.shdlc.session.acked) m.sent)) = ap (λ l. length (fragments_of l)) sends.messages in
+    let left : length (fragments_of (queued_messages pool k.outbox)) ≡ length (fragments_of (drop (whole_among m.sent m.shdlc.session.acked) m.sent)) =
+    ap (λ l. length (fragments_of l)) sends.messages in
     omega (arith, acked, len_now, some, waits, whole.0, whole.1, left, sends.lies.cut, sends.acked)
 
 -- ---- a session that goes on
@@ -207,7 +230,8 @@ heard-on m c over faulty =
 abbrev pub brought : Taken → List Fragment
 brought t = option_to_list t.accepted
 
-pub record GoesOn (old mid new : PoolState) (k : End) (m : Machine) (c : Control) (s0 : KeptEnd) (t : Taken) (inbox : Inbox) (outbox : Outbox) (whole : ℕ) : Type 0 where
+pub record GoesOn (old mid new : PoolState) (k : End) (m : Machine) (c : Control) (s0 : KeptEnd) (t : Taken) (inbox : Inbox) (outbox : Outbox)
+    (whole : ℕ) : Type 0 where
   pub half : Halfway (record k { shdlc = s0; outbox = outbox; inbox = inbox }) new (heard m c)
   pub told : (n : LinkReport) → n ≡ nothing_told → k.inbox.got ≡ None → record n { began = t.began; acked = whole; got = is_some inbox.got } ≡ heard_told m c
   pub elsewhere : LeavesBoxes old new k.outbox k.inbox outbox inbox
@@ -222,9 +246,11 @@ true_is false t = t
 
 pub goes_on : (old mid new : PoolState) (k : End) (m : Machine) (c : Control) (s0 : KeptEnd) (t : Taken) (inbox : Inbox) (outbox : Outbox) (whole : ℕ)
     → EndStandsFor k old m
-    → ((e : EndState) → ShdlcStandsFor k.shdlc e → ShdlcStandsFor s0 (taken e c)) → ((e : EndState) → ShdlcStandsFor k.shdlc e → t ≡ take_answer e c) → is_some t.ended ≡ false
+    → ((e : EndState) → ShdlcStandsFor k.shdlc e → ShdlcStandsFor s0 (taken e c)) → ((e : EndState) → ShdlcStandsFor k.shdlc e → t ≡ take_answer e c)
+    → is_some t.ended ≡ false
     → IsTrue (are_taken (messages_under_way old k.inbox) (packets_in (brought t))) → ReceivesOn old mid k.inbox inbox (brought t)
-    → GivesBack mid new (acked_more k.outbox t.acked) outbox whole → whole_among (queued_messages new outbox) outbox.acked ≡ 0 → rest_among (queued_messages new outbox) outbox.acked ≡ outbox.acked
+    → GivesBack mid new (acked_more k.outbox t.acked) outbox whole → whole_among (queued_messages new outbox) outbox.acked ≡ 0
+    → rest_among (queued_messages new outbox) outbox.acked ≡ outbox.acked
     → GoesOn old mid new k m c s0 t inbox outbox whole
 goes_on old mid new k m c s0 t inbox outbox whole h stands answer going joined r g none rest =
     let half = h.half in
@@ -233,19 +259,25 @@ goes_on old mid new k m c s0 t inbox outbox whole h stands answer going joined r
     let is = took_answer k old m c t h answer in
     let over : ended_in m c ≡ false = sym (ap (λ (x : Taken). is_some x.ended) is) ∙ going in
     let acc : e.session.acc ≡ m.shdlc.session.acc ++ brought t =
-    on.acc ∙ (ap (λ b. left_waiting b (m.shdlc.session.acc ++ brought (take_answer m.shdlc c))) over ∙ ap (λ (x : Taken). m.shdlc.session.acc ++ brought x) (sym is)) in
+    on.acc ∙ (ap (λ b. left_waiting b (m.shdlc.session.acc ++ brought (take_answer m.shdlc c))) over
+    ∙ ap (λ (x : Taken). m.shdlc.session.acc ++ brought x) (sym is)) in
     let acked : e.session.acked ≡ m.shdlc.session.acked + t.acked =
-    on.acked ∙ (ap (λ b. if b then 0 else m.shdlc.session.acked + (take_answer m.shdlc c).acked) over ∙ ap (λ (x : Taken). m.shdlc.session.acked + x.acked) (sym is)) in
+    on.acked ∙ (ap (λ b. if b then 0 else m.shdlc.session.acked + (take_answer m.shdlc c).acked) over
+    ∙ ap (λ (x : Taken). m.shdlc.session.acked + x.acked) (sym is)) in
     let out : e.session.out ≡ m.shdlc.session.out = on.out ∙ ap (λ b. left_waiting b m.shdlc.session.out) over in
     let under = half.receives.under in
-    let all_taken : are_taken (messages_under_way old k.inbox) (packets_in (brought t)) ≡ true = true_is (are_taken (messages_under_way old k.inbox) (packets_in (brought t))) joined in
+    let all_taken : are_taken (messages_under_way old k.inbox) (packets_in (brought t)) ≡ true =
+    true_is (are_taken (messages_under_way old k.inbox) (packets_in (brought t))) joined in
     let sound : are_taken [] (packets_in e.session.acc) ≡ true =
     taken_is m.shdlc.session e (brought t) acc half.receives.sound ∙ (ap (λ u. are_taken u (packets_in (brought t))) (sym under) ∙ all_taken) in
     let faulty : is_faulty e.session ≡ false = ap not sound in
     let new_ones = news_is m.shdlc.session e (brought t) acc in
-    let o = outbox_kept old mid k.inbox.joiner.owner (chains_in k.inbox) (chains_in inbox) k.outbox half.receives.lies.holds.own r.elsewhere half.sends.lies half.differ in
-    let i = inbox_kept mid new k.outbox.owner k.outbox.queue.items outbox.queue.items inbox o.lies.kept.own g.elsewhere r.lies (λ d. half.differ (d ∙ r.owner)) in
-    let s = sends_on mid new k.outbox outbox m.sent m.shdlc.session e.session t.acked whole half.sends.all half.sends.out (o.messages ∙ half.sends.messages) half.sends.acked g none rest out acked in
+    let o = outbox_kept old mid k.inbox.joiner.owner (chains_in k.inbox)
+    (chains_in inbox) k.outbox half.receives.lies.holds.own r.elsewhere half.sends.lies half.differ in
+    let i =
+    inbox_kept mid new k.outbox.owner k.outbox.queue.items outbox.queue.items inbox o.lies.kept.own g.elsewhere r.lies (λ d. half.differ (d ∙ r.owner)) in
+    let s = sends_on mid new k.outbox outbox m.sent m.shdlc.session e.session t.acked whole half.sends.all half.sends.out
+    (o.messages ∙ half.sends.messages) half.sends.acked g none rest out acked in
     let P : Bool → Type 0 = λ b. StandsBefore s0 (left_waiting b (waiting_in old k.outbox)) e in
     let waiting : waiting_in old k.outbox ≡ waiting_in new outbox = sym (g.waiting ∙ ap (λ l. drop k.outbox.cut (fragments_of l)) o.messages) in
     let Q : List Fragment → Type 0 = λ w. StandsBefore s0 w e in
@@ -255,14 +287,20 @@ goes_on old mid new k m c s0 t inbox outbox whole h stands answer going joined r
     let now : Machine = record (moved m false e) { got = m.got ++ news m.shdlc.session e } in
     let R : Machine → Type 0 = λ x. Halfway (record k { shdlc = s0; outbox = outbox; inbox = inbox }) new x in
     let aside : aside_of new k.outbox.owner ≡ aside_of mid k.outbox.owner =
-    ap (λ os. (owner_at os k.outbox.owner).aside) g.elsewhere.owners ∙ aside-with_used mid.owners k.outbox.owner (used_of new k.outbox.owner) o.lies.kept.has_quota in
+    ap (λ os. (owner_at os k.outbox.owner).aside) g.elsewhere.owners
+    ∙ aside-with_used mid.owners k.outbox.owner (used_of new k.outbox.owner) o.lies.kept.has_quota in
     record {
       half = subst R (sym (heard-on m c over faulty)) (record {
         role = half.role;
         link = subst Q waiting (subst P over (took_link k old m c s0 h stands));
         acts = half.acts;
         sends = s.0;
-        receives = record { lies = i.lies; under = i.under ∙ (r.under ∙ (ap (λ u. open_after u (packets_in (brought t))) under ∙ sym (under_is m.shdlc.session e (brought t) acc))); sound = sound };
+        receives = record {
+          lies = i.lies;
+          under = i.under
+              ∙ (r.under ∙ (ap (λ u. open_after u (packets_in (brought t))) under ∙ sym (under_is m.shdlc.session e (brought t) acc)));
+          sound = sound;
+        };
         got = came;
         aside = ap (aside_of new) g.owner ∙ (aside ∙ (o.aside ∙ half.aside));
         passed_over = half.passed_over;
@@ -271,8 +309,10 @@ goes_on old mid new k m c s0 t inbox outbox whole h stands answer going joined r
       told = λ n none_told fetched.
           let nothing_got : m.got ≡ [] = sym half.got ∙ ap (λ x. messages_of old (got_chains x)) fetched in
           let got : is_some inbox.got ≡ is_some (oldest (if is_faulty e.session then [] else news m.shdlc.session e)) =
-          got_some new inbox.got ∙ (ap (λ l. is_some (oldest l)) (came ∙ ap (λ l. l ++ news m.shdlc.session e) nothing_got) ∙ sym (ap (λ b. is_some (oldest (if b then [] else news m.shdlc.session e))) faulty)) in
-          let acks : whole ≡ whole_acked (heard m c) - whole_acked m = (let p = s.1 in omega (arith, p)) ∙ sym (ap (λ x. whole_acked x - whole_acked m) (heard-on m c over faulty)) in
+          got_some new inbox.got ∙ (ap (λ l. is_some (oldest l)) (came ∙ ap (λ l. l ++ news m.shdlc.session e) nothing_got)
+          ∙ sym (ap (λ b. is_some (oldest (if b then [] else news m.shdlc.session e))) faulty)) in
+          let acks : whole ≡ whole_acked (heard m c) - whole_acked m = (let p = s.1 in omega (arith, p))
+          ∙ sym (ap (λ x. whole_acked x - whole_acked m) (heard-on m c over faulty)) in
           let cause : None ≡ (if is_faulty e.session then Some Chain else (take_answer m.shdlc c).ended) =
           sym (ap (λ b. if b then Some Chain else (take_answer m.shdlc c).ended) faulty ∙ none_ended (take_answer m.shdlc c).ended over) in
           ap (λ (x : LinkReport). record x { began = t.began; acked = whole; got = is_some inbox.got }) none_told
@@ -285,7 +325,8 @@ goes_on old mid new k m c s0 t inbox outbox whole h stands answer going joined r
             acked = whole_acked (heard m c) - whole_acked m;
             got = is_some (oldest (if is_faulty e.session then [] else news m.shdlc.session e));
           }) cause)));
-      elsewhere = leaves_more old mid new k.outbox k.outbox outbox k.inbox inbox inbox (leaves_in old mid k.outbox k.inbox inbox r.elsewhere r.owner r.counted) (leaves_out mid new k.outbox outbox inbox g.elsewhere g.owner i);
+      elsewhere = leaves_more old mid new k.outbox k.outbox outbox k.inbox inbox inbox
+          (leaves_in old mid k.outbox k.inbox inbox r.elsewhere r.owner r.counted) (leaves_out mid new k.outbox outbox inbox g.elsewhere g.owner i);
     }
   where
     none_ended : (o : Option Cause) → is_some o ≡ false → o ≡ None
@@ -372,7 +413,8 @@ fault_lies old mid k m inbox h b =
 pub breaks_off : (old mid new : PoolState) (k k1 : End) (m : Machine) (c : Control) (s0 s : KeptEnd) (t : Taken) (inbox : Inbox) → EndStandsFor k old m
     → ((e : EndState) → ShdlcStandsFor k.shdlc e → ShdlcStandsFor s0 (taken e c)) → ((e : EndState) → ShdlcStandsFor k.shdlc e → t ≡ take_answer e c)
     → (IsTrue (are_taken (messages_under_way old k.inbox) (packets_in (brought t))) → ⊥) → k.inbox.got ≡ None → IsBroken old mid k.inbox inbox
-    → ForgetsMessages mid new (record k { shdlc = s0; inbox = inbox }) k1 → ((e : EndState) → ShdlcStandsFor k1.shdlc e → ShdlcStandsFor s (stopped e)) → BreaksOff old mid new k k1 m c s
+    → ForgetsMessages mid new (record k { shdlc = s0; inbox = inbox }) k1 → ((e : EndState) → ShdlcStandsFor k1.shdlc e → ShdlcStandsFor s (stopped e))
+    → BreaksOff old mid new k k1 m c s
 breaks_off old mid new k k1 m c s0 s t inbox h stands answer broken fetched b f stops =
     let half = h.half in
     let e = taken m.shdlc c in
@@ -382,9 +424,11 @@ breaks_off old mid new k k1 m c s0 s t inbox h stands answer broken fetched b f 
     let brings = brings_fragment m.shdlc c some.0 (sym (ap (λ (x : Taken). x.accepted) is) ∙ some.1) in
     let over : ended_in m c ≡ false = ap (λ (x : Option Cause). is_some x) brings.stays in
     let acc : e.session.acc ≡ m.shdlc.session.acc ++ brought t =
-    on.acc ∙ (ap (λ x. left_waiting x (m.shdlc.session.acc ++ brought (take_answer m.shdlc c))) over ∙ ap (λ (x : Taken). m.shdlc.session.acc ++ brought x) (sym is)) in
+    on.acc ∙ (ap (λ x. left_waiting x (m.shdlc.session.acc ++ brought (take_answer m.shdlc c))) over
+    ∙ ap (λ (x : Taken). m.shdlc.session.acc ++ brought x) (sym is)) in
     let none_taken : are_taken [] (packets_in e.session.acc) ≡ false =
-    taken_is m.shdlc.session e (brought t) acc half.receives.sound ∙ (ap (λ u. are_taken u (packets_in (brought t))) (sym half.receives.under) ∙ not_true (are_taken (messages_under_way old k.inbox) (packets_in (brought t))) broken) in
+    taken_is m.shdlc.session e (brought t) acc half.receives.sound ∙ (ap (λ u. are_taken u (packets_in (brought t))) (sym half.receives.under)
+    ∙ not_true (are_taken (messages_under_way old k.inbox) (packets_in (brought t))) broken) in
     let faulty : is_faulty e.session ≡ true = ap not none_taken in
     let down : put_down true m ≡ moved m true (stopped m.shdlc) = down_up m brings.up in
     let heard_is : heard m c ≡ moved m true (stopped m.shdlc) =
@@ -408,12 +452,20 @@ breaks_off old mid new k k1 m c s0 s t inbox h stands answer broken fetched b f 
           (subst Q brings.stopped_is (stopped_before s0 k1.shdlc s _ e (took_link k old m c s0 h stands) f.shdlc stops)) refl refl refl);
       told = λ n none_told.
           let acks : 0 ≡ whole_acked (heard m c) - whole_acked m = omega arith ∙ sym (ap (λ x. whole_acked x - whole_acked m) heard_is) in
-          let cause : Some Chain ≡ (if is_faulty e.session then Some Chain else (take_answer m.shdlc c).ended) = sym (ap (λ x. if x then Some Chain else (take_answer m.shdlc c).ended) faulty) in
-          let got : false ≡ is_some (oldest (if is_faulty e.session then [] else news m.shdlc.session e)) = sym (ap (λ x. is_some (oldest (if x then [] else news m.shdlc.session e))) faulty) in
+          let cause : Some Chain ≡ (if is_faulty e.session then Some Chain else (take_answer m.shdlc c).ended) =
+          sym (ap (λ x. if x then Some Chain else (take_answer m.shdlc c).ended) faulty) in
+          let got : false ≡ is_some (oldest (if is_faulty e.session then [] else news m.shdlc.session e)) =
+          sym (ap (λ x. is_some (oldest (if x then [] else news m.shdlc.session e))) faulty) in
           ap (λ (x : LinkReport). record x { ended = Some Chain }) none_told
           ∙ (ap (λ (x : Option Cause). record nothing_told { ended = x }) cause
-          ∙ (ap (λ (x : Bool). record nothing_told { ended = if is_faulty e.session then Some Chain else (take_answer m.shdlc c).ended; began = x }) (sym brings.goes_on)
-          ∙ (ap (λ (x : ℕ). record nothing_told { ended = if is_faulty e.session then Some Chain else (take_answer m.shdlc c).ended; began = (take_answer m.shdlc c).began; acked = x }) acks
+          ∙ (ap (λ (x : Bool). record nothing_told { ended = if is_faulty e.session then Some Chain else (take_answer m.shdlc c).ended; began = x })
+          (sym brings.goes_on)
+          ∙ (ap (λ (x : ℕ). record nothing_told {
+            ended = if is_faulty e.session then Some Chain else (take_answer m.shdlc c).ended;
+            began =
+                (take_answer m.shdlc c).began;
+            acked = x;
+          }) acks
           ∙ ap (λ (x : Bool). record nothing_told {
             ended = if is_faulty e.session then Some Chain else (take_answer m.shdlc c).ended;
             began = (take_answer m.shdlc c).began;
@@ -435,7 +487,8 @@ pub broken_elsewhere : (old mid : PoolState) (k : End) (inbox : Inbox) → k.inb
     → used_of old k.inbox.joiner.owner ≡ held_blocks old k.inbox.joiner.open.items → IsBroken old mid k.inbox inbox
     → LeavesBoxes old mid k.outbox k.inbox k.outbox inbox
 broken_elsewhere old mid k inbox fetched used b =
-    let chains : chains_in k.inbox ≡ k.inbox.joiner.open.items = ap (λ g. k.inbox.joiner.open.items ++ got_chains g) fetched ∙ append-nil k.inbox.joiner.open.items in
+    let chains : chains_in k.inbox ≡ k.inbox.joiner.open.items = ap (λ g. k.inbox.joiner.open.items ++ got_chains g) fetched
+    ∙ append-nil k.inbox.joiner.open.items in
     let held = ap (held_blocks old) chains in
     let left = ap (held_blocks mid) b.none in
     let P : List Open → Type 0 = λ l. InboxLeaves old mid k.inbox.joiner.owner (chains_in k.inbox) l in
@@ -444,4 +497,5 @@ broken_elsewhere old mid k inbox fetched used b =
 pub received_lies : (old mid : PoolState) (k : End) (m : Machine) (inbox : Inbox) (more : List Fragment) → EndStandsFor k old m
     → ReceivesOn old mid k.inbox inbox more → OutboxLiesIn mid k.outbox
 received_lies old mid k m inbox more h r =
-    (outbox_kept old mid k.inbox.joiner.owner (chains_in k.inbox) (chains_in inbox) k.outbox h.half.receives.lies.holds.own r.elsewhere h.half.sends.lies h.half.differ).lies
+    (outbox_kept old mid k.inbox.joiner.owner (chains_in k.inbox)
+    (chains_in inbox) k.outbox h.half.receives.lies.holds.own r.elsewhere h.half.sends.lies h.half.differ).lies

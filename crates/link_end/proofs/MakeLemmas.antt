@@ -51,7 +51,15 @@ none_in (x ∷ xs) ys e = cc
 new_end_at : (pool : PoolState) (role : Named) (sender receiver : ℕ) (a : Activation) (s : KeptEnd) (inbox : Inbox) (acts : ArrayVec ActDue)
     → IsFree pool sender receiver → role_of a ≡ new_role role
     → ShdlcStandsFor s (new_link_end (new_role role)).shdlc → inbox.joiner.owner ≡ receiver → chains_in inbox ≡ [] → acts.items ≡ []
-    → EndStandsFor (record { activation = a; shdlc = s; outbox = record { owner = sender; queue = buffer [] 128; acked = 0; cut = 0 }; inbox = inbox; acts = acts; passed_over = 0 }) pool (new_link_end (new_role role))
+    → EndStandsFor (record {
+      activation = a;
+      shdlc = s;
+      outbox = record { owner = sender; queue = buffer [] 128; acked = 0; cut = 0 };
+      inbox = inbox;
+      acts =
+          acts;
+      passed_over = 0;
+    }) pool (new_link_end (new_role role))
 new_end_at pool role sender receiver a s inbox acts free is kept owner none no_acts =
     let parts = none_in inbox.joiner.open.items (got_chains inbox.got) none in
     let P : List Open → Type 0 = λ l. HoldsChains pool inbox.joiner.owner l in
@@ -65,7 +73,15 @@ new_end_at pool role sender receiver a s inbox acts free is kept owner none no_a
   where
     by_role : (r : Named) (x : Activation) → role_of x ≡ new_role r → ShdlcStandsFor s (new_link_end (new_role r)).shdlc → InboxLiesIn pool inbox
         → (inbox.joiner.open.items ≡ []) × (got_chains inbox.got ≡ [])
-        → EndStandsFor (record { activation = x; shdlc = s; outbox = record { owner = sender; queue = buffer [] 128; acked = 0; cut = 0 }; inbox = inbox; acts = acts; passed_over = 0 }) pool (new_link_end (new_role r))
+        → EndStandsFor (record {
+          activation = x;
+          shdlc = s;
+          outbox = record { owner = sender; queue = buffer [] 128; acked = 0; cut = 0 };
+          inbox =
+              inbox;
+          acts = acts;
+          passed_over = 0;
+        }) pool (new_link_end (new_role r))
     by_role Bare x i k lies parts = record {
       half = record {
         role = i;
@@ -111,11 +127,15 @@ new_end_at pool role sender receiver a s inbox acts free is kept owner none no_a
 
 pub made : (role : Named) (sender receiver : ℕ) (a : Activation) (s : KeptEnd) (box : Outbox) (inbox : Inbox) (acts : ArrayVec ActDue)
     → role_of a ≡ new_role role
-    → ShdlcStandsFor s (new_link_end (new_role role)).shdlc → box.owner ≡ sender → box.queue ≡ buffer [] 128 → box.acked ≡ 0 → box.cut ≡ 0 → inbox.joiner.owner ≡ receiver → chains_in inbox ≡ [] → acts.items ≡ []
-    → (pool : PoolState) → IsFree pool sender receiver → EndStandsFor (record { activation = a; shdlc = s; outbox = box; inbox = inbox; acts = acts; passed_over = 0 }) pool (new_link_end (new_role role))
+    → ShdlcStandsFor s (new_link_end (new_role role)).shdlc → box.owner ≡ sender → box.queue ≡ buffer [] 128 → box.acked ≡ 0 → box.cut ≡ 0
+    → inbox.joiner.owner ≡ receiver → chains_in inbox ≡ [] → acts.items ≡ []
+    → (pool : PoolState) → IsFree pool sender receiver
+    → EndStandsFor (record { activation = a; shdlc = s; outbox = box; inbox = inbox; acts = acts; passed_over = 0 }) pool (new_link_end (new_role role))
 made role sender receiver a s box inbox acts is kept o q x y owner none no_acts pool free =
-    let P : Outbox → Type 0 = λ b. EndStandsFor (record { activation = a; shdlc = s; outbox = b; inbox = inbox; acts = acts; passed_over = 0 }) pool (new_link_end (new_role role)) in
+    let P : Outbox → Type 0 =
+    λ b. EndStandsFor (record { activation = a; shdlc = s; outbox = b; inbox = inbox; acts = acts; passed_over = 0 }) pool (new_link_end (new_role role)) in
     let same : record { owner = sender; queue = buffer [] 128; acked = 0; cut = 0 } ≡ box =
     sym (ap (λ n. record box { owner = n }) o ∙ (ap (λ b. record { owner = sender; queue = b; acked = box.acked; cut = box.cut }) q
-    ∙ (ap (λ n. record { owner = sender; queue = buffer [] 128; acked = n; cut = box.cut }) x ∙ ap (λ n. record { owner = sender; queue = buffer [] 128; acked = 0; cut = n }) y))) in
+    ∙ (ap (λ n. record { owner = sender; queue = buffer [] 128; acked = n; cut = box.cut }) x
+    ∙ ap (λ n. record { owner = sender; queue = buffer [] 128; acked = 0; cut = n }) y))) in
     subst P same (new_end_at pool role sender receiver a s inbox acts free is kept owner none no_acts)

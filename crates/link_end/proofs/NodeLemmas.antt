@@ -80,13 +80,15 @@ reset_link : (pool : PoolState) (k : End) (m : Machine) (s : KeptEnd) (window : 
     → StandsBefore s [] (reset_with m.shdlc (window_of m window))
 reset_link pool k m s window p h some asks other is =
     let link = h.half.link in
-    let next = stands_reset k.shdlc s (waiting_in pool k.outbox) m.shdlc (window_of m window) link (window_low pool k m window h some) (asks (with_out m.shdlc link.offered) link.kept) in
+    let next = stands_reset k.shdlc s (waiting_in pool k.outbox) m.shdlc (window_of m window) link (window_low pool k m window h some)
+    (asks (with_out m.shdlc link.offered) link.kept) in
     let P : Bool → Type 0 = λ b. StandsBefore s (left_waiting (not b) (waiting_in pool k.outbox)) (reset_with m.shdlc (window_of m window)) in
     subst P (waits_not p m.shdlc other is) next
 
 pub reset_ends : (pool new : PoolState) (k k1 : End) (m : Machine) (s : KeptEnd) (window : Option ℕ) → EndStandsFor k pool m
     → IfSome window (λ w. (1 ≤ w) × (w ≤ 4))
-    → ((e : EndState) → ShdlcStandsFor k.shdlc e → ShdlcStandsFor s (reset_with e (unwrap_or window e.own_window))) → m.shdlc.phase ≡ Up → ForgetsMessages pool new (record k { shdlc = s }) k1
+    → ((e : EndState) → ShdlcStandsFor k.shdlc e → ShdlcStandsFor s (reset_with e (unwrap_or window e.own_window))) → m.shdlc.phase ≡ Up
+    → ForgetsMessages pool new (record k { shdlc = s }) k1
     → EndStandsFor k1 new (moved m true (reset_with m.shdlc (window_of m window)))
 reset_ends pool new k k1 m s window h some asks up f =
     let e = reset_with m.shdlc (window_of m window) in
@@ -108,7 +110,8 @@ reset_begins pool k m s window h some asks down =
     let e = reset_with m.shdlc (window_of m window) in
     let empty : e.session ≡ no_session = reset_empty Down m.shdlc (window_of m window) (λ x. cc) down in
     let idle : m.shdlc.session ≡ no_session = idle_in m.shdlc.phase m.shdlc.session link.session down in
-    let none : waiting_in pool k.outbox ≡ [] = stands_idle k.shdlc (waiting_in pool k.outbox) m.shdlc link (λ up. (let d : Up ≡ Down = sym up ∙ (link.kept.phase ∙ down) in cc)) in
+    let none : waiting_in pool k.outbox ≡ [] =
+    stands_idle k.shdlc (waiting_in pool k.outbox) m.shdlc link (λ up. (let d : Up ≡ Down = sym up ∙ (link.kept.phase ∙ down) in cc)) in
     let P : List Fragment → Type 0 = λ l. StandsBefore s l e in
     let same : e.session ≡ m.shdlc.session = empty ∙ sym idle in
     same_session pool k s m e h.half (subst P (sym none) (reset_link pool k m s window Down h some asks (λ x. cc) down))
@@ -144,7 +147,12 @@ message_fetched pool k inbox m same none h =
         link = half.link;
         acts = half.acts;
         sends = half.sends;
-        receives = record { lies = fetched_lies pool k.inbox inbox half.receives.lies same none; under = ap (λ j. messages_of pool j.open.items) same ∙ half.receives.under; sound = half.receives.sound };
+        receives = record {
+          lies = fetched_lies pool k.inbox inbox half.receives.lies same none;
+          under = ap (λ j. messages_of pool j.open.items) same
+              ∙ half.receives.under;
+          sound = half.receives.sound;
+        };
         got = ap (λ g. messages_of pool (got_chains g)) none ∙ (fetched_got pool k.inbox.got ∙ ap (drop 1) half.got);
         aside = half.aside;
         passed_over = half.passed_over;
@@ -161,23 +169,27 @@ nearer_same (x ∷ xs) = ap (λ (l : List Due). record { frame = x.frame; behind
 
 -- an ACT frame is next
 act_next : (m : Machine) (xs : List ActDue) (act : Act) → Some act ≡ front_act xs
-    → (next_frame (record m { acts = map due_of xs }) ≡ Some (ActFrame act false)) × (frame_fetched (record m { acts = map due_of xs }) ≡ record m { acts = map due_of (behind_front xs) })
+    → (next_frame (record m { acts = map due_of xs }) ≡ Some (ActFrame act false))
+    × (frame_fetched (record m { acts = map due_of xs }) ≡ record m { acts = map due_of (behind_front xs) })
 act_next m [] act is = cc
 act_next m (x ∷ xs) act is = go (x.behind == 0) refl
   where
-    go : (b : Bool) → (x.behind == 0) ≡ b → (next_frame (record m { acts = map due_of (x ∷ xs) }) ≡ Some (ActFrame act false)) × (frame_fetched (record m { acts = map due_of (x ∷ xs) }) ≡ record m { acts = map due_of (behind_front (x ∷ xs)) })
+    go : (b : Bool) → (x.behind == 0) ≡ b → (next_frame (record m { acts = map due_of (x ∷ xs) }) ≡ Some (ActFrame act false))
+        × (frame_fetched (record m { acts = map due_of (x ∷ xs) }) ≡ record m { acts = map due_of (behind_front (x ∷ xs)) })
     go true e = let f : Some act ≡ Some x.frame = rw e at is in (let g : x.frame ≡ act = cc in (rw e (ap (λ a. Some (ActFrame a false)) g), rw e refl))
     go false e = absurd (let f : Some act ≡ None = rw e at is in cc)
 
 -- none is
 link_next : (m : Machine) (xs : List ActDue) → None ≡ front_act xs
-    → (next_frame (record m { acts = map due_of xs }) ≡ frame_due m.shdlc) × (frame_fetched (record m { acts = map due_of xs }) ≡ record m { shdlc = fetched m.shdlc; acts = map due_nearer (map due_of xs) })
+    → (next_frame (record m { acts = map due_of xs }) ≡ frame_due m.shdlc)
+    × (frame_fetched (record m { acts = map due_of xs }) ≡ record m { shdlc = fetched m.shdlc; acts = map due_nearer (map due_of xs) })
     × (behind_front xs ≡ xs)
 link_next m [] is = (refl, refl, refl)
 link_next m (x ∷ xs) is = go (x.behind == 0) refl
   where
     go : (b : Bool) → (x.behind == 0) ≡ b → (next_frame (record m { acts = map due_of (x ∷ xs) }) ≡ frame_due m.shdlc)
-        × (frame_fetched (record m { acts = map due_of (x ∷ xs) }) ≡ record m { shdlc = fetched m.shdlc; acts = map due_nearer (map due_of (x ∷ xs)) }) × (behind_front (x ∷ xs) ≡ x ∷ xs)
+        × (frame_fetched (record m { acts = map due_of (x ∷ xs) }) ≡ record m { shdlc = fetched m.shdlc; acts = map due_nearer (map due_of (x ∷ xs)) })
+        × (behind_front (x ∷ xs) ≡ x ∷ xs)
     go true e = absurd (let f : None ≡ Some x.frame = rw e at is in cc)
     go false e = (rw e, rw e, rw e)
 
@@ -306,7 +318,8 @@ whole_low (x ∷ ms) n = go (nat_le (packet_count (length x.1)) n) refl (whole_l
 
 pub message_given : (old new : PoolState) (k : End) (box : Outbox) (m : Machine) (x : Message) → EndStandsFor k old m → k.shdlc.phase ≡ Up
     → IsSendable x → Accepts old new k.outbox box x
-    → OutboxLeaves old new k.outbox.owner k.outbox.queue.items box.queue.items → Halfway (record k { outbox = box }) new (given m x) × LeavesBoxes old new k.outbox k.inbox box k.inbox
+    → OutboxLeaves old new k.outbox.owner k.outbox.queue.items box.queue.items
+    → Halfway (record k { outbox = box }) new (given m x) × LeavesBoxes old new k.outbox k.inbox box k.inbox
 message_given old new k box m x h up sendable a leaves =
     let half = h.half in
     let link = half.link in
@@ -314,14 +327,17 @@ message_given old new k box m x h up sendable a leaves =
     let i = inbox_kept old new k.outbox.owner k.outbox.queue.items box.queue.items k.inbox sends.lies.kept.own leaves half.receives.lies half.differ in
     let n = m.shdlc.session.acked in
     let some = link.kept.sender.offered in
-    let len : length (fragments_of m.sent) ≡ length link.offered + length (waiting_in old k.outbox) = ap length (sym sends.out ∙ link.out) ∙ length-append link.offered (waiting_in old k.outbox) in
+    let len : length (fragments_of m.sent) ≡ length link.offered + length (waiting_in old k.outbox) = ap length (sym sends.out ∙ link.out)
+    ∙ length-append link.offered (waiting_in old k.outbox) in
     let push = whole-push m.sent x n sendable (omega (arith, len, some)) in
     let P : List Fragment → Type 0 = λ w. StandsBefore k.shdlc w (put_out m.shdlc (map packet_bytes (packets_of x.0 x.1))) in
     let aside : aside_of new k.outbox.owner ≡ aside_of old k.outbox.owner =
-    ap (λ os. (owner_at os k.outbox.owner).aside) leaves.owners ∙ aside-with_used old.owners k.outbox.owner (used_of new k.outbox.owner) sends.lies.kept.has_quota in (
+    ap (λ os. (owner_at os k.outbox.owner).aside) leaves.owners
+    ∙ aside-with_used old.owners k.outbox.owner (used_of new k.outbox.owner) sends.lies.kept.has_quota in (
       record {
         role = half.role;
-        link = subst P (sym a.waiting) (stands_put k.shdlc (waiting_in old k.outbox) (map packet_bytes (packets_of x.0 x.1)) m.shdlc (sym link.kept.phase ∙ up) link);
+        link = subst P (sym a.waiting)
+            (stands_put k.shdlc (waiting_in old k.outbox) (map packet_bytes (packets_of x.0 x.1)) m.shdlc (sym link.kept.phase ∙ up) link);
         acts = half.acts;
         sends = record {
           lies = a.lies;
@@ -348,15 +364,19 @@ message_passed old new k box chain m x h up sendable may a leaves =
     let half = h.half in
     let link = half.link in
     let sends = half.sends in
-    let i = inbox_passed old new k.outbox.owner chain k.outbox.queue.items box.queue.items k.inbox sends.lies.kept.own leaves half.receives.lies half.differ may.apart may.counted in
+    let i =
+    inbox_passed old new k.outbox.owner chain k.outbox.queue.items box.queue.items k.inbox sends.lies.kept.own leaves half.receives.lies half.differ
+    may.apart may.counted in
     let n = m.shdlc.session.acked in
     let some = link.kept.sender.offered in
-    let len : length (fragments_of m.sent) ≡ length link.offered + length (waiting_in old k.outbox) = ap length (sym sends.out ∙ link.out) ∙ length-append link.offered (waiting_in old k.outbox) in
+    let len : length (fragments_of m.sent) ≡ length link.offered + length (waiting_in old k.outbox) = ap length (sym sends.out ∙ link.out)
+    ∙ length-append link.offered (waiting_in old k.outbox) in
     let push = whole-push m.sent x n sendable (omega (arith, len, some)) in
     let P : List Fragment → Type 0 = λ w. StandsBefore k.shdlc w (put_out m.shdlc (map packet_bytes (packets_of x.0 x.1))) in
     record {
       role = half.role;
-      link = subst P (sym a.waiting) (stands_put k.shdlc (waiting_in old k.outbox) (map packet_bytes (packets_of x.0 x.1)) m.shdlc (sym link.kept.phase ∙ up) link);
+      link = subst P (sym a.waiting)
+          (stands_put k.shdlc (waiting_in old k.outbox) (map packet_bytes (packets_of x.0 x.1)) m.shdlc (sym link.kept.phase ∙ up) link);
       acts = half.acts;
       sends = record {
         lies = a.lies;

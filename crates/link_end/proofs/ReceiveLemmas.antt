@@ -29,7 +29,8 @@ received_one old new before after f ready j =
     let packets = packets_in-one f in
     let o = before.joiner.owner in
     let none : came_whole old before ≡ [] = ap (λ g. messages_in old (got_chains g)) ready.fetched in
-    let chains : chains_in before ≡ before.joiner.open.items = ap (λ g. before.joiner.open.items ++ got_chains g) ready.fetched ∙ append-nil before.joiner.open.items in
+    let chains : chains_in before ≡ before.joiner.open.items = ap (λ g. before.joiner.open.items ++ got_chains g) ready.fetched
+    ∙ append-nil before.joiner.open.items in
     let used_old = ready.used ∙ sym (ap (held_blocks old) chains) in
     let used_new : used_of new o ≡ held_blocks new (chains_in after) = ap (used_of new) (sym j.owner) ∙ j.used in
     record {

@@ -70,7 +70,8 @@ held pool k s m r readies h =
     let half = h.half in
     let link = half.link in
     let a = ready_alike m.shdlc link.offered r in
-    let w = stands_ready k.shdlc s (waiting_in pool k.outbox) m.shdlc r (record { stands = link; full = h.full }) (readies (with_out m.shdlc link.offered) link.kept) in
+    let w = stands_ready k.shdlc s (waiting_in pool k.outbox) m.shdlc r (record { stands = link; full = h.full })
+    (readies (with_out m.shdlc link.offered) link.kept) in
     let acc = acc_in m.shdlc m.shdlc.ready r m.shdlc.session.answered_rnr in
     let acked : m.shdlc.session.acked ≡ (with_ready m.shdlc r).session.acked = sym a.acked in
     record {
@@ -119,7 +120,8 @@ tick_ends pool new k k1 m s0 t h stands answer ended f =
     let link = h.half.link in
     let a = alike pool k m h in
     let over : is_some (tick_answer m.shdlc).ended ≡ true = sym (ap (λ (x : Ticked). is_some x.ended) (ticked_answer pool k m t h answer)) ∙ ended in
-    let next = stands_ticked k.shdlc s0 (waiting_in pool k.outbox) m.shdlc (record { stands = link; full = h.full }) (stands (with_out m.shdlc link.offered) link.kept) in
+    let next = stands_ticked k.shdlc s0 (waiting_in pool k.outbox) m.shdlc (record { stands = link; full = h.full })
+    (stands (with_out m.shdlc link.offered) link.kept) in
     let P : Bool → Type 0 = λ b. StandsBefore s0 (left_waiting b (waiting_in pool k.outbox)) e in
     let Q : KeptEnd → Type 0 = λ x. StandsBefore x [] e in
     let R : Bool → Type 0 = λ b. EndStandsFor k1 new (moved m b e) in
@@ -164,7 +166,8 @@ tick_goes_on pool k m s0 t h stands answer going =
     let link = h.half.link in
     let a = alike pool k m h in
     let over : is_some (tick_answer m.shdlc).ended ≡ false = sym (ap (λ (x : Ticked). is_some x.ended) (ticked_answer pool k m t h answer)) ∙ going in
-    let next = stands_ticked k.shdlc s0 (waiting_in pool k.outbox) m.shdlc (record { stands = link; full = h.full }) (stands (with_out m.shdlc link.offered) link.kept) in
+    let next = stands_ticked k.shdlc s0 (waiting_in pool k.outbox) m.shdlc (record { stands = link; full = h.full })
+    (stands (with_out m.shdlc link.offered) link.kept) in
     let P : Bool → Type 0 = λ b. StandsBefore s0 (left_waiting b (waiting_in pool k.outbox)) e in
     let R : Bool → Type 0 = λ b. Halfway (record k { shdlc = s0 }) pool (moved m b e) in
     subst R (sym over)
@@ -212,7 +215,8 @@ may_tick (Clf s) = tt
 may_tick (Uicc s) = tt
 
 -- no message is newly acknowledged by it
-acks_none : (m : Machine) (r : Role) (o : Option Act) (b : Bool) (p : LinkState) → whole_acked (with_act o (record (put_down b (record m { shdlc = record m.shdlc { phase = p } })) { role = r })) - whole_acked m ≡ 0
+acks_none : (m : Machine) (r : Role) (o : Option Act) (b : Bool) (p : LinkState)
+    → whole_acked (with_act o (record (put_down b (record m { shdlc = record m.shdlc { phase = p } })) { role = r })) - whole_acked m ≡ 0
 acks_none m r None false p = omega arith
 acks_none m r (Some a) false p = omega arith
 acks_none m r None true Up = omega arith
@@ -279,10 +283,14 @@ never_gives_up (Uicc s) act again = uicc_takes s s.phase act again
 pub act_is_told : (m : Machine) (act : Act) (again : Bool) → act_told m (ActTake act again) ≡ report_told (report m (Take (ActFrame act again)))
 act_is_told m act again =
     let out : ActOut = act_answer m.role (ActTake act again) in
-    let began : false ≡ (is_open m.role && (take_answer m.shdlc (ActFrame act again)).began) = sym (ap (λ b. is_open m.role && b) (act_begins m.shdlc.phase m.shdlc act again) ∙ and_false (is_open m.role)) in
+    let began : false ≡ (is_open m.role && (take_answer m.shdlc (ActFrame act again)).began) =
+    sym (ap (λ b. is_open m.role && b) (act_begins m.shdlc.phase m.shdlc act again) ∙ and_false (is_open m.role)) in
     let acks : 0 ≡ whole_acked (activated m (ActTake act again)) - whole_acked m = sym (acked-activated m (ActTake act again)) in
-    ap (λ (x : Option ℕ). record nothing_told { ended = ended_by_act m (ActTake act again); became_active = out.became_active; sync = out.sync; gave_up = x }) (never_gives_up m.role act again)
-    ∙ (ap (λ (x : Bool). record nothing_told { ended = ended_by_act m (ActTake act again); became_active = out.became_active; sync = out.sync; began = x }) began
+    ap
+    (λ (x : Option ℕ). record nothing_told { ended = ended_by_act m (ActTake act again); became_active = out.became_active; sync = out.sync; gave_up = x })
+    (never_gives_up m.role act again)
+    ∙ (ap
+    (λ (x : Bool). record nothing_told { ended = ended_by_act m (ActTake act again); became_active = out.became_active; sync = out.sync; began = x }) began
     ∙ ap (λ (x : ℕ). record nothing_told {
       ended = ended_by_act m (ActTake act again);
       became_active = out.became_active;

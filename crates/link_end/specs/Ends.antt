@@ -72,7 +72,8 @@ pub record LeavesBoxes (old new : PoolState) (outbox : Outbox) (inbox : Inbox) (
   pub lengths : length new.owners ≡ length old.owners
   pub received : used_of new inbox.joiner.owner + held_blocks old (chains_in inbox) ≡ used_of old inbox.joiner.owner + held_blocks new (chains_in came)
   pub others : (other : Chain) → IsLive old other → LiesApart Queued chain_in outbox.queue.items other → IsApartFrom (chains_in inbox) other
-      → IsLive new other × (chain_bytes new other ≡ chain_bytes old other) × LiesApart Queued chain_in sent.queue.items other × IsApartFrom (chains_in came) other
+      → IsLive new other × (chain_bytes new other ≡ chain_bytes old other) × LiesApart Queued chain_in sent.queue.items other
+      × IsApartFrom (chains_in came) other
 
 abbrev pub EndLeavesOthers : PoolState → PoolState → End → End → Type 0
 EndLeavesOthers old new before after = LeavesBoxes old new before.outbox before.inbox after.outbox after.inbox

@@ -218,7 +218,8 @@ chain_own who l (Lose why) o = absurd o
 chain_all : (who : End) (es : List EndEvent) (l : Link) → AreOwn l es → NoChain (entries_of_events who l es)
 chain_all who [] l a = tt
 chain_all who (e ∷ es) l a =
-    more (here_entries who l e) (entries_of_events who (happens_at_controller l e) es) (chain_own who l e a.0) (chain_all who es (happens_at_controller l e) a.2)
+    more (here_entries who l e) (entries_of_events who (happens_at_controller l e) es) (chain_own who l e a.0)
+    (chain_all who es (happens_at_controller l e) a.2)
 
 chain_tick : (who : End) (l : Link) (node : Node) → NoChain (tick_entries who l node)
 chain_tick who l node =

@@ -339,7 +339,8 @@ taken_knows t n who l x xs ts ending w a b both = go (began_by e i) refl
         new = record { has = λ up. (at_j (up_number up)).has up; tells = λ up z. (at_j (up_number up)).tells up z }
 
 pub frame_knows : (t : List Entry) (n : Losses) (who : End) (l : Link) (ts : List Turn) (ending : Ending) → IsNode l ts ending → Before l → Both t n l
-    → Both (t ++ step_entries who l NextFrame ts ending) (noted_turns n (core_of l) (core_step l NextFrame ts ending)) (steps_at_controller l NextFrame ts ending)
+    → Both (t ++ step_entries who l NextFrame ts ending) (noted_turns n (core_of l) (core_step l NextFrame ts ending))
+    (steps_at_controller l NextFrame ts ending)
 frame_knows t n who l ts ending a b both = go l.to_controller refl
   where
     as_is : (u v : List Entry) (m k : Losses) (x y : Link) → u ≡ v → m ≡ k → x ≡ y → Both (t ++ v) k y → Both (t ++ u) m x
@@ -361,7 +362,8 @@ frame_knows t n who l ts ending a b both = go l.to_controller refl
     same = let P : List Entry → Type 0 = λ z. Both z n l in subst P (sym (append-nil t)) both
 
     go : (w : List OnWire) → l.to_controller ≡ w
-        → Both (t ++ step_entries who l NextFrame ts ending) (noted_turns n (core_of l) (core_step l NextFrame ts ending)) (steps_at_controller l NextFrame ts ending)
+        → Both (t ++ step_entries who l NextFrame ts ending) (noted_turns n (core_of l) (core_step l NextFrame ts ending))
+        (steps_at_controller l NextFrame ts ending)
     go [] q =
         let z = none q in
         as_is (step_entries who l NextFrame ts ending) [] (noted_turns n (core_of l) (core_step l NextFrame ts ending)) n

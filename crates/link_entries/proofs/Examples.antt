@@ -210,7 +210,8 @@ cut_goes_on : session_in (trace line cut) Host ≡ Some 1
 cut_goes_on = refl
 
 -- a reset at the controller's end, once both ends are active
-settled : IsSettledSince (trace line up) (after_link_events line (activates ∷ AtController takes ∷ AtHost takes ∷ AtController takes ∷ [])) (AtController resets)
+settled : IsSettledSince (trace line up) (after_link_events line (activates ∷ AtController takes ∷ AtHost takes ∷ AtController takes ∷ []))
+    (AtController resets)
     (AtHost takes ∷ AtController takes ∷ [])
 settled =
     record {

@@ -49,7 +49,8 @@ all_heard kf (e ∷ es) l a h safe sound =
     let first = own_heard Controller l e a.0 a.1 (record { tells = h; rests = r; sound = sound }) in
     let more = all_heard kf es m a.2 one.tells next (sound_here l e a.1 sound) in
     record {
-      here = then_heard Controller (number_now l.controller) (number_now m.controller) (number_now (all_at_controller m es).controller) u v first.here more.here;
+      here =
+          then_heard Controller (number_now l.controller) (number_now m.controller) (number_now (all_at_controller m es).controller) u v first.here more.here;
       there = passes-append Host u v first.there more.there;
     }
 
@@ -188,7 +189,8 @@ events_heard (e ∷ es) t l a g r n =
     }
 
 first_heard : (l : Link) → IsStart l
-    → (heard Controller None (first_entries l.controller.side.role) ≡ number_now l.controller) × (heard Host None (first_entries l.controller.side.role) ≡ number_now l.host)
+    → (heard Controller None (first_entries l.controller.side.role) ≡ number_now l.controller)
+    × (heard Host None (first_entries l.controller.side.role) ≡ number_now l.host)
 first_heard l IsBare = (refl, refl)
 first_heard l IsLine = (refl, refl)
 
@@ -199,7 +201,8 @@ both_heard l s events a =
 pub controller_heard : (l : Link) → IsStart l → (events : List LinkEvent) → AllAllowed l events
     → session_in (trace l events) Controller ≡ number_now (after_link_events l events).controller
 controller_heard l s events a =
-    then_heard Controller None (number_now l.controller) (number_now (after_link_events l events).controller) (first_entries l.controller.side.role) (entries l events)
+    then_heard Controller None (number_now l.controller) (number_now (after_link_events l events).controller) (first_entries l.controller.side.role)
+    (entries l events)
     (first_heard l s).0 (both_heard l s events a).controller
 
 pub host_heard : (l : Link) → IsStart l → (events : List LinkEvent) → AllAllowed l events

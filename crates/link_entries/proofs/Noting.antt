@@ -332,7 +332,8 @@ step_told t who l NextFrame ts ending a n fr b = go l.to_controller refl
           few = few_more t who [] (few_told t who l.controller b.here) tt;
         })
     go (x ∷ xs) q =
-        as_is (step_entries who l NextFrame ts ending) (taken_entries who l x xs ts ending) (steps_at_controller l NextFrame ts ending) (has_taken l x xs ts ending)
+        as_is (step_entries who l NextFrame ts ending) (taken_entries who l x xs ts ending) (steps_at_controller l NextFrame ts ending)
+        (has_taken l x xs ts ending)
         (some x xs q) (here x xs q) (taken_told t who l x xs ts ending a n (fr x xs q) b)
 
 -- ## Ends stay sound

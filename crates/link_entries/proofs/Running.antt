@@ -333,7 +333,8 @@ note_here t l e a g r n =
     let u : List Entry = here_entries Controller l e in
     let out = here_told t Controller l e a (before_here l g r n.sounds) n.tolds in
     let st = event_step l (AtController e) a g r in
-    let next : Reached (core_of (happens_at_controller l e)) = subst Reached (sym st.core) (reached_more (core_of l) (core_event l (AtController e)) st.allowed r) in
+    let next : Reached (core_of (happens_at_controller l e)) =
+    subst Reached (sym st.core) (reached_more (core_of l) (core_event l (AtController e)) st.allowed r) in
     let ok : Ok (t ++ u) = reached_ok (t ++ u) (happens_at_controller l e) st.good next out.tolds in
     record {
       noted = record {

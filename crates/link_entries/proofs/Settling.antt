@@ -139,7 +139,8 @@ reset_puts who l window ts sendable h r q s =
     let frames : frames_out (turned f ts) ≡ frames_of most_frames z =
     ap (λ a. among 0 a (frames_of most_frames (turned f ts).shdlc)) tm.mid.acts ∙ ap (λ y. frames_of most_frames y) shdlc in
     let a = spared_parts (told_of who l.controller (Reset window)) (rest_entries who k (after_input e (Reset window)) ts GoesOut) s in
-    let out = spared_parts (turn_entries who _ (after_input e (Reset window)) ts) (puts_entries who k (frames_out (turned (after_input e (Reset window)) ts))) a.1 in
+    let out =
+    spared_parts (turn_entries who _ (after_input e (Reset window)) ts) (puts_entries who k (frames_out (turned (after_input e (Reset window)) ts))) a.1 in
     let none : list_any is_rset (frames_out (turned (after_input e (Reset window)) ts)) ≡ false =
     puts_none (frames_out (turned (after_input e (Reset window)) ts)) who k out.1 in
     let due = first_due us (reset_with e.shdlc w) [] (reset_due e.shdlc w t.1 r.due) in
@@ -238,7 +239,8 @@ frame_spares s who l ts a b k = go l.to_controller refl
     no_more (e ∷ es) n d = no_more es (sure_here n d e) (core_happens_here d e)
 
     go : (w : List OnWire) → l.to_controller ≡ w
-        → Spares (step_entries who l NextFrame ts GoesOut) s (sure_turns s c (core_step l NextFrame ts GoesOut)) (happens_at_controller l (Step NextFrame ts GoesOut))
+        → Spares (step_entries who l NextFrame ts GoesOut) s (sure_turns s c (core_step l NextFrame ts GoesOut))
+        (happens_at_controller l (Step NextFrame ts GoesOut))
     go [] r =
         let none : core_step l NextFrame ts GoesOut ≡ [] = rw r refl in
         let same : happens_at_controller l (Step NextFrame ts GoesOut) ≡ l = rw r refl in
@@ -267,11 +269,13 @@ frame_spares s who l ts a b k = go l.to_controller refl
 
 cut_spares : (s : Bool) (who : End) (l : Link) (ts : List Turn) → is_open l.controller.side.role ≡ true
     → Stands (step_entries who l NextFrame ts CutOff)
-    → Spares (step_entries who l NextFrame ts CutOff) s (sure_turns s (core_of l) (core_step l NextFrame ts CutOff)) (happens_at_controller l (Step NextFrame ts CutOff))
+    → Spares (step_entries who l NextFrame ts CutOff) s (sure_turns s (core_of l) (core_step l NextFrame ts CutOff))
+    (happens_at_controller l (Step NextFrame ts CutOff))
 cut_spares s who l ts k q = go l.to_controller refl
   where
     go : (w : List OnWire) → l.to_controller ≡ w
-        → Spares (step_entries who l NextFrame ts CutOff) s (sure_turns s (core_of l) (core_step l NextFrame ts CutOff)) (happens_at_controller l (Step NextFrame ts CutOff))
+        → Spares (step_entries who l NextFrame ts CutOff) s (sure_turns s (core_of l) (core_step l NextFrame ts CutOff))
+        (happens_at_controller l (Step NextFrame ts CutOff))
     go [] r =
         let none : core_step l NextFrame ts CutOff ≡ [] = rw r refl in
         let same : happens_at_controller l (Step NextFrame ts CutOff) ≡ l = rw r refl in

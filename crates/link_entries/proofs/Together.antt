@@ -314,13 +314,15 @@ asked_here : (s : Bool) (l : Link) (window : Option ℕ) (ts : List Turn) → Is
     × (is_open (happens_at_controller l (Step (AsksReset window) ts GoesOut)).controller.side.role ≡ true)
 asked_here s l window ts a f = (
   reset_sure s l window ts f.granted f.free,
-  ap is_open (turned_role (after_input l.controller.side (Reset window)) ts ∙ reset_role l.controller.side window) ∙ (reset_tells l.controller.side f.granted).0,
+  ap is_open (turned_role (after_input l.controller.side (Reset window)) ts ∙ reset_role l.controller.side window)
+      ∙ (reset_tells l.controller.side f.granted).0,
 )
 
 -- such a reset in place of the tick of the controller's end
 asked_in_tick : (s : Bool) (l : Link) (window : Option ℕ) (ts : List Turn) (es : List EndEvent) (h : Node)
     → IsEvent l (TicksWithout (Step (AsksReset window) ts GoesOut ∷ es) h) → Good l → Reached (core_of l) → FindsReady l
-    → Spared (rest_of l (TicksWithout (Step (AsksReset window) ts GoesOut ∷ es) h)) → Stands (rest_of l (TicksWithout (Step (AsksReset window) ts GoesOut ∷ es) h))
+    → Spared (rest_of l (TicksWithout (Step (AsksReset window) ts GoesOut ∷ es) h))
+    → Stands (rest_of l (TicksWithout (Step (AsksReset window) ts GoesOut ∷ es) h))
     → (sure_after s (core_of l) (core_event l (TicksWithout (Step (AsksReset window) ts GoesOut ∷ es) h)) ≡ true)
     × AreActive (happens l (TicksWithout (Step (AsksReset window) ts GoesOut ∷ es) h))
 asked_in_tick s l window ts es h a g r f sp st =
@@ -334,7 +336,8 @@ asked_in_tick s l window ts es h a g r f sp st =
     let rests = rests_of 0 1 (core_of near) near_safe in
     let one = own_here near x tt a.1.1 g.controller rests in
     let m : Link = happens_at_controller near x in
-    let m_safe : SafeLink 0 1 (core_of m) = subst P (sym one.core) (safe_turns 1 (core_here near x) (core_of near) (own_turns near x rests tt a.1.1) near_safe) in
+    let m_safe : SafeLink 0 1 (core_of m) =
+    subst P (sym one.core) (safe_turns 1 (core_here near x) (core_of near) (own_turns near x rests tt a.1.1) near_safe) in
     let all = all_step 1 near (x ∷ es) a.1 g.controller near_safe in
     let turns : List CoreEndEvent = core_all near (x ∷ es) in
     let last : Link = all_at_controller m es in
@@ -379,8 +382,11 @@ asked_goes : (s : Bool) (l : Link) (e : LinkEvent) → IsEvent l e → Good l �
     → Spared (rest_of l e) → Stands (rest_of l e) → (sure_after s (core_of l) (core_event l e) ≡ true) × AreActive (happens l e)
 asked_goes s l (AtController (Step (AsksReset window) ts GoesOut)) a g r f sp st =
     let x : EndEvent = Step (AsksReset window) ts GoesOut in
-    let k = asked_here s l window ts a f in
-    (sure_near s (core_of l) (core_here l x) ∙ k.0, record { controller = k.1; host = open_as (happens_at_controller l x).host l.host (host_here l x a g r) f.active })
+    let k = asked_here s l window ts a f in (
+      sure_near s (core_of l) (core_here l x)
+          ∙ k.0,
+      record { controller = k.1; host = open_as (happens_at_controller l x).host l.host (host_here l x a g r) f.active },
+    )
 asked_goes s l (AtHost (Step (AsksReset window) ts GoesOut)) a g r f sp st =
     let x : EndEvent = Step (AsksReset window) ts GoesOut in
     let m : Link = exchanged l in
@@ -411,18 +417,21 @@ run_sure (x ∷ before) e behind t s l a g r n is sp st =
     let m : Link = happens l x in
     let next : Reached (core_of m) = subst Reached (sym ev.core) (reached_more (core_of l) (core_event l x) ev.allowed r) in
     sure_first s l x (before ++ e ∷ behind) ev.core
-    ∙ run_sure before e behind (t ++ event_entries l x) (sure_after s (core_of l) (core_event l x)) m a.1 ev.good next (note_event t l x a.0 g r n).noted is sp st
+    ∙ run_sure before e behind (t ++ event_entries l x) (sure_after s (core_of l) (core_event l x)) m a.1 ev.good next
+    (note_event t l x a.0 g r n).noted is sp st
 
 -- where nothing withheld the answer to a reset, and both wires are empty now
 pub together : (l : Link) → IsStart l → (before : List LinkEvent) (reset : LinkEvent) (behind : List LinkEvent) → AllAllowed l (before ++ reset ∷ behind)
-    → IsReset (after_link_events l before) reset → list_any withholds (rest_of (after_link_events l before) reset ++ entries (happens (after_link_events l before) reset) behind) ≡ false
+    → IsReset (after_link_events l before) reset
+    → list_any withholds (rest_of (after_link_events l before) reset ++ entries (happens (after_link_events l before) reset) behind) ≡ false
     → (after_link_events l (before ++ reset ∷ behind)).to_controller ≡ [] → (after_link_events l (before ++ reset ∷ behind)).to_host ≡ []
     → LinkTogether (after_link_events l (before ++ reset ∷ behind))
 together l s before reset behind a asked undisturbed near there =
     let none = none_withholds (rest_of (after_link_events l before) reset ++ entries (happens (after_link_events l before) reset) behind) undisturbed in
     up_together l s (before ++ reset ∷ behind) a
     (record {
-      undisturbed = run_sure before reset behind (first_entries l.controller.side.role) false l a (start_good l s) (start_reached l s) (start_noted l s) asked none.0
+      undisturbed =
+          run_sure before reset behind (first_entries l.controller.side.role) false l a (start_good l s) (start_reached l s) (start_noted l s) asked none.0
           none.1;
       to_controller = ap sans near;
       to_host = ap sans there;

@@ -440,9 +440,12 @@ module _ (W : Type 0) where
           λ s' i j. flows_acked s.out s.window s.acked s.next s.reached s' t.acc h.far_marks ms (S k n) n refl i j near_sends in
           let upper : max s.next n ≤ s.reached = omega (arith, near_sends.next_reach, number.1) in (
             rw shows.0 (taken_S (λ f. Joined W f far to_near to_far) near k (n % 8) n h.near_up place
-                (λ is. from (ready_again near n) h.near_up refl (acked (max s.next n) (omega arith) upper) refl (freed k n ms near_whole (ready_again near n).session refl refl refl))
-                (λ is. from (rejected near n) h.near_up refl (acked n (omega arith) number.1) refl (freed k n ms near_whole (rejected near n).session refl refl refl))
-                (λ is. from (made_busy near n) h.near_up refl (acked n (omega arith) number.1) refl (stopped_by k n ms (inl is) near_whole (made_busy near n).session))
+                (λ is. from (ready_again near n) h.near_up refl (acked (max s.next n) (omega arith) upper) refl
+                (freed k n ms near_whole (ready_again near n).session refl refl refl))
+                (λ is. from (rejected near n) h.near_up refl (acked n (omega arith) number.1) refl
+                (freed k n ms near_whole (rejected near n).session refl refl refl))
+                (λ is. from (made_busy near n) h.near_up refl (acked n (omega arith) number.1) refl
+                (stopped_by k n ms (inl is) near_whole (made_busy near n).session))
                 (λ is. from near h.near_up refl (flows_lost_back s.out s.window s.acked s.next s.reached t.acc h.far_marks ms (S k n) near_sends) refl
                 (stopped_by k n ms (inr is) near_whole s))),
             rw shows.0 (answer_S near k (n % 8) h.near_up),
@@ -506,7 +509,8 @@ module _ (W : Type 0) where
         near_sends = flows_send s.out s.window s.acked s.next s.reached t.acc h.far_marks h.near_marks (length s.acc) info tells.0 tells.1 h.near_sends;
         far_sends = flows_answer t.out t.window t.acked t.next t.reached s.acc h.near_marks h.far_marks (I s.next (length s.acc) info) refl h.far_sends;
         near_whole = λ v q.
-            whole_send s (sent_next s) t.acc far.due h.far_marks h.near_marks (length s.acc) info h.near_sends.next_reach refl refl refl (h.near_whole (weak v) q);
+            whole_send s (sent_next s) t.acc far.due h.far_marks h.near_marks (length s.acc) info h.near_sends.next_reach refl refl refl
+            (h.near_whole (weak v) q);
         far_whole = λ v q. whole_answer_I t s.acc near.due near.due h.near_marks h.far_marks s.next info (h.far_whole (weak v) q);
       }
 

@@ -65,7 +65,8 @@ whole-push [] m n sendable low = let some = some_packets m sendable in whole-non
 whole-push (x ∷ ms) m n sendable low = go (nat_le (packet_count (length x.1)) n) refl (λ k l. whole-push ms m k sendable l)
   where
     go : (b : Bool) → nat_le (packet_count (length x.1)) n ≡ b
-        → ((k : ℕ) → k ≤ length (fragments_of ms) → (whole_among (ms ++ m ∷ []) k ≡ whole_among ms k) × (rest_among (ms ++ m ∷ []) k ≡ rest_among ms k)) → (whole_among (x ∷ (ms ++ m ∷ [])) n ≡ whole_among (x ∷ ms) n) × (rest_among (x ∷ (ms ++ m ∷ [])) n ≡ rest_among (x ∷ ms) n)
+        → ((k : ℕ) → k ≤ length (fragments_of ms) → (whole_among (ms ++ m ∷ []) k ≡ whole_among ms k) × (rest_among (ms ++ m ∷ []) k ≡ rest_among ms k))
+        → (whole_among (x ∷ (ms ++ m ∷ [])) n ≡ whole_among (x ∷ ms) n) × (rest_among (x ∷ (ms ++ m ∷ [])) n ≡ rest_among (x ∷ ms) n)
     go true t more =
         let l = leb-true (packet_count (length x.1)) n t in
         let rest = more (n - packet_count (length x.1)) (omega (arith, length-first x ms, low)) in
@@ -79,8 +80,10 @@ whole-length [] n low = (omega arith, omega arith)
 whole-length (x ∷ ms) n low = go (nat_le (packet_count (length x.1)) n) refl (λ k l. whole-length ms k l)
   where
     go : (b : Bool) → nat_le (packet_count (length x.1)) n ≡ b
-        → ((k : ℕ) → k ≤ length (fragments_of ms) → (length (fragments_of ms) ≡ k - rest_among ms k + length (fragments_of (drop (whole_among ms k) ms))) × (rest_among ms k ≤ k))
-        → (length (fragments_of (x ∷ ms)) ≡ n - rest_among (x ∷ ms) n + length (fragments_of (drop (whole_among (x ∷ ms) n) (x ∷ ms)))) × (rest_among (x ∷ ms) n ≤ n)
+        → ((k : ℕ) → k ≤ length (fragments_of ms)
+        → (length (fragments_of ms) ≡ k - rest_among ms k + length (fragments_of (drop (whole_among ms k) ms))) × (rest_among ms k ≤ k))
+        → (length (fragments_of (x ∷ ms)) ≡ n - rest_among (x ∷ ms) n + length (fragments_of (drop (whole_among (x ∷ ms) n) (x ∷ ms))))
+        × (rest_among (x ∷ ms) n ≤ n)
     go true t more =
         let l = leb-true (packet_count (length x.1)) n t in
         let rest = more (n - packet_count (length x.1)) (omega (arith, length-first x ms, low)) in
@@ -95,15 +98,19 @@ whole-more [] n more = (refl, refl)
 whole-more (x ∷ ms) n more = go (nat_le (packet_count (length x.1)) n) refl (whole-more ms (n - packet_count (length x.1)) more)
   where
     go : (b : Bool) → nat_le (packet_count (length x.1)) n ≡ b
-        → (whole_among ms (n - packet_count (length x.1) + more) ≡ whole_among ms (n - packet_count (length x.1)) + whole_among (drop (whole_among ms (n - packet_count (length x.1))) ms) (rest_among ms (n - packet_count (length x.1)) + more))
-        × (rest_among ms (n - packet_count (length x.1) + more) ≡ rest_among (drop (whole_among ms (n - packet_count (length x.1))) ms) (rest_among ms (n - packet_count (length x.1)) + more))
+        → (whole_among ms (n - packet_count (length x.1) + more) ≡ whole_among ms (n - packet_count (length x.1)) + whole_among
+        (drop (whole_among ms (n - packet_count (length x.1))) ms) (rest_among ms (n - packet_count (length x.1)) + more))
+        × (rest_among ms (n - packet_count (length x.1) + more)
+        ≡ rest_among (drop (whole_among ms (n - packet_count (length x.1))) ms) (rest_among ms (n - packet_count (length x.1)) + more))
         → (whole_among (x ∷ ms) (n + more) ≡ whole_among (x ∷ ms) n + whole_among (drop (whole_among (x ∷ ms) n) (x ∷ ms)) (rest_among (x ∷ ms) n + more))
         × (rest_among (x ∷ ms) (n + more) ≡ rest_among (drop (whole_among (x ∷ ms) n) (x ∷ ms)) (rest_among (x ∷ ms) n + more))
     go true t rest =
         let l = leb-true (packet_count (length x.1)) n t in
         let both = whole-first x ms (n + more) (omega arith) in
         let places : n + more - packet_count (length x.1) ≡ n - packet_count (length x.1) + more = omega arith in
-        let joined : suc (whole_among ms (n - packet_count (length x.1)) + whole_among (drop (whole_among ms (n - packet_count (length x.1))) ms) (rest_among ms (n - packet_count (length x.1)) + more))
-        ≡ suc (whole_among ms (n - packet_count (length x.1))) + whole_among (drop (whole_among ms (n - packet_count (length x.1))) ms) (rest_among ms (n - packet_count (length x.1)) + more) = omega arith in
+        let joined : suc (whole_among ms (n - packet_count (length x.1)) + whole_among (drop (whole_among ms (n - packet_count (length x.1))) ms)
+        (rest_among ms (n - packet_count (length x.1)) + more))
+        ≡ suc (whole_among ms (n - packet_count (length x.1))) + whole_among (drop (whole_among ms (n - packet_count (length x.1))) ms)
+        (rest_among ms (n - packet_count (length x.1)) + more) = omega arith in
         (rw t (both.0 ∙ (ap (λ k. suc (whole_among ms k)) places ∙ (ap suc rest.0 ∙ joined))), rw t (both.1 ∙ (ap (rest_among ms) places ∙ rest.1)))
     go false t rest = (rw t (omega arith), rw t refl)

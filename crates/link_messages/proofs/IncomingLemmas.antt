@@ -48,7 +48,8 @@ held_both pool xs ys = sum_by-append (λ (x : Open). blocks_for (length (chain_b
 -- the message that was got, where the chains under way changed
 pub got_kept : (old new : PoolState) (owner : ℕ) (before after : List Open) (got : Option Got) → KeepsOtherChains old new before after
     → HoldsChains old owner (before ++ got_chains got)
-    → HoldsChains new owner (got_chains got) × (messages_in new (got_chains got) ≡ messages_in old (got_chains got)) × (held_blocks new (got_chains got) ≡ held_blocks old (got_chains got))
+    → HoldsChains new owner (got_chains got) × (messages_in new (got_chains got) ≡ messages_in old (got_chains got))
+    × (held_blocks new (got_chains got) ≡ held_blocks old (got_chains got))
     × AllByRecursion (λ x. IsApartFrom after x.chain) (got_chains got)
 got_kept old new owner before after None keeps h = (record { own = tt; apart = tt }, refl, refl, tt)
 got_kept old new owner before after (Some g) keeps h =
@@ -135,7 +136,8 @@ dropped_bad old new before whole h none bad gives keeps =
     let r = ready_given old new before.joiner whole h gives keeps in
     let own = all_front (IsOwnOpen old o) xs whole h.holds.own in
     let apart = apart_front xs whole h.holds.apart in
-    let k = kept old new o whole.chain whole.chain xs keeps own.0 (all_map (λ y. AreApart y whole) (λ y. IsApart y.chain whole.chain) xs (λ y a. a.chains) apart.1) in
+    let k = kept old new o whole.chain whole.chain xs keeps own.0
+    (all_map (λ y. AreApart y whole) (λ y. IsApart y.chain whole.chain) xs (λ y a. a.chains) apart.1) in
     let chains : chains_in before ≡ xs = ap (λ g. xs ++ got_chains g) none ∙ append-nil xs in
     let owners : new.owners ≡ with_used old.owners o (used_of old o - n) = gives.owners ∙ ap (λ q. with_used old.owners q (used_of old q - n)) own.1.owned in
     let used : used_of new o ≡ used_of old o - n = ap (λ os. (owner_at os o).used) owners ∙ used-with_used old.owners o (used_of old o - n) h.has_quota in
@@ -202,7 +204,8 @@ pub record TakesIn (old new : PoolState) (before : Inbox) (joiner : Joiner) (p :
 -- what stands of its owner
 counts : (old new : PoolState) (before : Inbox) (joiner : Joiner) (p : Packet) (whole : List Open) → InboxLiesIn old before
     → TakesIn old new before joiner p whole
-    → (before.joiner.owner < length new.owners) × (quota_of new before.joiner.owner ≡ 512) × (used_of new before.joiner.owner ≡ held_blocks new (joiner.open.items ++ whole))
+    → (before.joiner.owner < length new.owners) × (quota_of new before.joiner.owner ≡ 512)
+    × (used_of new before.joiner.owner ≡ held_blocks new (joiner.open.items ++ whole))
 counts old new before joiner p whole lies t =
     let o = before.joiner.owner in
     let n = held_blocks new (joiner.open.items ++ whole) in (
@@ -222,7 +225,8 @@ joins_more old new before joiner p lies ready t outcome =
     let o = before.joiner.owner in
     let c = counts old new before joiner p [] lies t in
     let all : joiner.open.items ++ got_chains before.got ≡ joiner.open.items ++ [] = ap (λ g. joiner.open.items ++ got_chains g) ready.fetched in
-    let before_chains : chains_in before ≡ before.joiner.open.items = ap (λ g. before.joiner.open.items ++ got_chains g) ready.fetched ∙ append-nil before.joiner.open.items in
+    let before_chains : chains_in before ≡ before.joiner.open.items = ap (λ g. before.joiner.open.items ++ got_chains g) ready.fetched
+    ∙ append-nil before.joiner.open.items in
     record {
       lies = record {
         holds = subst (λ q. HoldsChains new q (joiner.open.items ++ got_chains before.got)) (sym t.owner) (subst (HoldsChains new o) (sym all) t.holds);
@@ -257,10 +261,12 @@ holds_whole old new before joiner p whole lies t =
 
 pub joins_whole : (old mid new : PoolState) (before after : Inbox) (joiner : Joiner) (p : Packet) (whole : Open) → InboxLiesIn old before
     → IsInboxReady old before → TakesIn old mid before joiner p (whole ∷ [])
-    → (join_step (messages_under_way old before) p).0 ≡ Ended whole.pipe (chain_bytes mid whole.chain) → after.joiner ≡ joiner → Keeps mid new (record before { joiner = joiner }) after whole → Joins old new before after (p ∷ [])
+    → (join_step (messages_under_way old before) p).0 ≡ Ended whole.pipe (chain_bytes mid whole.chain) → after.joiner ≡ joiner
+    → Keeps mid new (record before { joiner = joiner }) after whole → Joins old new before after (p ∷ [])
 joins_whole old mid new before after joiner p whole lies ready t outcome same k =
     let o = before.joiner.owner in
-    let before_chains : chains_in before ≡ before.joiner.open.items = ap (λ g. before.joiner.open.items ++ got_chains g) ready.fetched ∙ append-nil before.joiner.open.items in
+    let before_chains : chains_in before ≡ before.joiner.open.items = ap (λ g. before.joiner.open.items ++ got_chains g) ready.fetched
+    ∙ append-nil before.joiner.open.items in
     let owner : after.joiner.owner ≡ joiner.owner = ap (λ (j : Joiner). j.owner) same in
     record {
       lies = k.lies;
@@ -270,7 +276,8 @@ joins_whole old mid new before after joiner p whole lies ready t outcome same k 
       used = ap (λ q. used_of new q) owner ∙ k.used;
       elsewhere = record {
         owners = k.elsewhere.owners ∙ (ap (λ q. with_used mid.owners q (used_of new q)) t.owner
-            ∙ (ap (λ os. with_used os o (used_of new o)) t.owners ∙ with_used-with_used old.owners o (held_blocks mid (joiner.open.items ++ whole ∷ [])) (used_of new o) lies.has_quota));
+            ∙ (ap (λ os. with_used os o (used_of new o)) t.owners
+            ∙ with_used-with_used old.owners o (held_blocks mid (joiner.open.items ++ whole ∷ [])) (used_of new o) lies.has_quota));
         others = λ other live away.
             let s = t.others other live (subst (λ l. IsApartFrom l other) before_chains away) in
             let u = k.elsewhere.others other s.0 s.2 in
@@ -309,7 +316,8 @@ joins_fault old new before joiner p lies ready t fault =
     let empty : joiner.open.items ≡ [] = none_open new joiner.open.items (t.under ∙ fault_empties (messages_under_way old before) p fault) in
     let all : joiner.open.items ++ got_chains before.got ≡ joiner.open.items ++ [] = ap (λ g. joiner.open.items ++ got_chains g) ready.fetched in
     let nothing : joiner.open.items ++ [] ≡ [] = ap (λ l. l ++ []) empty in
-    let before_chains : chains_in before ≡ before.joiner.open.items = ap (λ g. before.joiner.open.items ++ got_chains g) ready.fetched ∙ append-nil before.joiner.open.items in
+    let before_chains : chains_in before ≡ before.joiner.open.items = ap (λ g. before.joiner.open.items ++ got_chains g) ready.fetched
+    ∙ append-nil before.joiner.open.items in
     record {
       lies = record {
         holds = subst (λ q. HoldsChains new q (joiner.open.items ++ got_chains before.got)) (sym t.owner) (subst (HoldsChains new o) (sym all) t.holds);

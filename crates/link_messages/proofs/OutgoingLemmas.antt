@@ -43,7 +43,8 @@ each_has_block pool (q ∷ queue) s =
 pub aside-with_used : (owners : List Owner) (o n : ℕ) → o < length owners → (owner_at (with_used owners o n) o).aside ≡ (owner_at owners o).aside
 aside-with_used owners o n low =
     let nobody : Owner = record { quota = 0; used = 0; aside = 0 } in
-    ap (λ (x : Owner). x.aside) (get_or-set_same owners o (record { quota = (owner_at owners o).quota; used = n; aside = (owner_at owners o).aside }) nobody low)
+    ap (λ (x : Owner). x.aside)
+    (get_or-set_same owners o (record { quota = (owner_at owners o).quota; used = n; aside = (owner_at owners o).aside }) nobody low)
 
 -- the first of some items
 pub front_is : (items : List Queued) (q : Queued) → Some q ≡ slice_get items 0 → items ≡ q ∷ drop 1 items
@@ -71,7 +72,8 @@ gives_front old new before after q kept items capacity acked cut owner gives kee
     let owners : new.owners ≡ with_used old.owners o (used_of old o - n) = gives.owners ∙ ap (λ p. with_used old.owners p (used_of old p - n)) own.0.owned in
     let used : used_of new o ≡ used_of old o - n = ap (λ os. (owner_at os o).used) owners ∙ used-with_used old.owners o (used_of old o - n) kept.has_quota in
     let aside : aside_of new o ≡ aside_of old o = ap (λ os. (owner_at os o).aside) owners ∙ aside-with_used old.owners o (used_of old o - n) kept.has_quota in
-    let quota : quota_of new o ≡ 128 = ap (λ os. (owner_at os o).quota) owners ∙ (quota-with_used old.owners o (used_of old o - n) kept.has_quota ∙ kept.quota) in
+    let quota : quota_of new o ≡ 128 = ap (λ os. (owner_at os o).quota) owners
+    ∙ (quota-with_used old.owners o (used_of old o - n) kept.has_quota ∙ kept.quota) in
     let has : HasQuota new o = omega (arith, ap length owners ∙ length-with_used old.owners o (used_of old o - n), kept.has_quota) in
     let sum = sum_by-cons (λ (x : Queued). blocks_for (length (chain_bytes old x.chain))) q rest in
     let all : all_blocks Queued chain_in old before.queue.items ≡ all_blocks Queued chain_in old (q ∷ rest) = ap (all_blocks Queued chain_in old) items in
@@ -108,7 +110,8 @@ pub leaves_on : (old mid new : PoolState) (owner : ℕ) (xs ys zs : List Queued)
     → OutboxLeavesOthers mid new owner ys zs
     → OutboxLeavesOthers old new owner xs zs
 leaves_on old mid new owner xs ys zs low a b = record {
-  owners = b.owners ∙ (ap (λ os. with_used os owner (used_of new owner)) a.owners ∙ with_used-with_used old.owners owner (used_of mid owner) (used_of new owner) low);
+  owners = b.owners
+      ∙ (ap (λ os. with_used os owner (used_of new owner)) a.owners ∙ with_used-with_used old.owners owner (used_of mid owner) (used_of new owner) low);
   others = λ other live away.
       let k = a.others other live away in
       let l = b.others other k.0 k.2 in
@@ -134,7 +137,8 @@ gives_whole old new before after g lies low =
     record {
       lies = record { kept = g.kept; acked = omega (arith, g.acked, g.cut, acked); cut = omega (arith, g.cut, cut, len) };
       messages = sym (ap (drop 1) g.messages);
-      waiting = ap (λ n. drop n (fragments_of ms)) cuts ∙ (sym (waiting-first g.first ms before.cut (omega (arith, acked, low))) ∙ sym (ap (λ l. drop before.cut (fragments_of l)) g.messages));
+      waiting = ap (λ n. drop n (fragments_of ms)) cuts
+          ∙ (sym (waiting-first g.first ms before.cut (omega (arith, acked, low))) ∙ sym (ap (λ l. drop before.cut (fragments_of l)) g.messages));
       among = ap (λ n. 1 + whole_among ms n) places ∙ (let e : 1 + whole_among ms (before.acked - c) ≡ suc (whole_among ms (before.acked - c)) = omega arith in
           e ∙ (sym both.0 ∙ sym (ap (λ l. whole_among l before.acked) g.messages)));
       rest = ap (rest_among ms) places ∙ (sym both.1 ∙ sym (ap (λ l. rest_among l before.acked) g.messages));
@@ -151,7 +155,8 @@ gives_on old mid new a b c n low x y = record {
   among = omega (arith, x.among, y.among);
   rest = y.rest ∙ x.rest;
   owner = y.owner ∙ x.owner;
-  elsewhere = leaves_on old mid new a.owner a.queue.items b.queue.items c.queue.items low x.elsewhere (subst (λ o. OutboxLeavesOthers mid new o b.queue.items c.queue.items) x.owner y.elsewhere);
+  elsewhere = leaves_on old mid new a.owner a.queue.items b.queue.items c.queue.items low x.elsewhere
+      (subst (λ o. OutboxLeavesOthers mid new o b.queue.items c.queue.items) x.owner y.elsewhere);
 }
 
 pub gives_none : (pool : PoolState) (a : Outbox) → OutboxLiesIn pool a → GivesBack pool pool a a 0
@@ -169,7 +174,8 @@ gives_none pool a lies = record {
 pub pushed : (old new : PoolState) (o : ℕ) (queue : Buffer Queued) (before after : Chain) (pipe : ℕ) (bytes : List ℕ) → AreKept old o queue
     → KeepsOthers old new before after
     → LiesApart Queued chain_in queue.items before → IsLive new after → after.owner ≡ o → chain_bytes new after ≡ bytes → IsSendable (pipe, bytes)
-    → HasQuota new o → quota_of new o ≡ quota_of old o → used_of new o ≡ used_of old o + blocks_for (length bytes) → aside_of new o ≡ aside_of old o → used_of new o ≤ 128
+    → HasQuota new o → quota_of new o ≡ quota_of old o → used_of new o ≡ used_of old o + blocks_for (length bytes) → aside_of new o ≡ aside_of old o
+    → used_of new o ≤ 128
     → (length queue.items < 128)
     × AreKept new o (buffer (queue.items ++ record { pipe = pipe; chain = after } ∷ []) queue.capacity)
     × (messages_of_all new (queue.items ++ record { pipe = pipe; chain = after } ∷ []) ≡ messages_of_all old queue.items ++ (pipe, bytes) ∷ [])
@@ -212,7 +218,8 @@ accepted old new before after m lies kept messages acked cut owner =
     record {
       lies = record { kept = kept; acked = omega (arith, acked, cut, lies.acked); cut = omega (arith, len, cut, lies.cut) };
       messages = messages;
-      waiting = ap (λ n. drop n (fragments_of (queued_messages new after))) cut ∙ (ap (λ l. drop before.cut (fragments_of l)) messages ∙ waiting-push (queued_messages old before) m before.cut lies.cut);
+      waiting = ap (λ n. drop n (fragments_of (queued_messages new after))) cut
+          ∙ (ap (λ l. drop before.cut (fragments_of l)) messages ∙ waiting-push (queued_messages old before) m before.cut lies.cut);
       acked = acked;
       owner = owner;
     }
@@ -266,12 +273,17 @@ taken_into old new o queue before after pipe bytes kept owned none sendable t =
     let n : more_blocks (length (chain_bytes old before)) (length bytes) ≡ blocks_for (length bytes) =
     ap (λ (l : List ℕ). more_blocks (length l) (length bytes)) empty ∙ omega arith in
     let owners : new.owners ≡ with_used old.owners o (used_of old o + blocks_for (length bytes)) =
-    t.appends.owners ∙ (ap (λ p. with_used old.owners p (used_of old p + more_blocks (length (chain_bytes old before)) (length bytes))) owned ∙ ap (λ k. with_used old.owners o (used_of old o + k)) n) in
-    let used : used_of new o ≡ used_of old o + blocks_for (length bytes) = ap (λ os. (owner_at os o).used) owners ∙ used-with_used old.owners o (used_of old o + blocks_for (length bytes)) kept.has_quota in
-    let aside : aside_of new o ≡ aside_of old o = ap (λ os. (owner_at os o).aside) owners ∙ aside-with_used old.owners o (used_of old o + blocks_for (length bytes)) kept.has_quota in
-    let quota : quota_of new o ≡ quota_of old o = ap (λ os. (owner_at os o).quota) owners ∙ quota-with_used old.owners o (used_of old o + blocks_for (length bytes)) kept.has_quota in
+    t.appends.owners ∙ (ap (λ p. with_used old.owners p (used_of old p + more_blocks (length (chain_bytes old before)) (length bytes))) owned
+    ∙ ap (λ k. with_used old.owners o (used_of old o + k)) n) in
+    let used : used_of new o ≡ used_of old o + blocks_for (length bytes) = ap (λ os. (owner_at os o).used) owners
+    ∙ used-with_used old.owners o (used_of old o + blocks_for (length bytes)) kept.has_quota in
+    let aside : aside_of new o ≡ aside_of old o = ap (λ os. (owner_at os o).aside) owners
+    ∙ aside-with_used old.owners o (used_of old o + blocks_for (length bytes)) kept.has_quota in
+    let quota : quota_of new o ≡ quota_of old o = ap (λ os. (owner_at os o).quota) owners
+    ∙ quota-with_used old.owners o (used_of old o + blocks_for (length bytes)) kept.has_quota in
     let has : HasQuota new o = omega (arith, ap length owners ∙ length-with_used old.owners o (used_of old o + blocks_for (length bytes)), kept.has_quota) in
-    let room : blocks_for (length bytes) ≤ spare_of old o = subst (λ k. k ≤ spare_of old o) n (subst (λ p. more_blocks (length (chain_bytes old before)) (length bytes) ≤ spare_of old p) owned t.room) in
+    let room : blocks_for (length bytes) ≤ spare_of old o =
+    subst (λ k. k ≤ spare_of old o) n (subst (λ p. more_blocks (length (chain_bytes old before)) (length bytes) ≤ spare_of old p) owned t.room) in
     pushed old new o queue before after pipe bytes kept t.others (apart_empty_all queue.items before none) t.live (t.appends.owner ∙ owned)
     (t.appended ∙ ap (λ (l : List ℕ). l ++ bytes) empty) sendable has quota used aside (omega (arith, used, room, kept.quota, kept.within))
 
@@ -292,7 +304,8 @@ pub drop_at : {X : Type 0} (xs : List X) (i : ℕ) (x : X) → Some x ≡ slice_
 drop_at [] i x e = cc
 drop_at {X} (y ∷ xs) zero x e = let same : x ≡ y = cc in ap (λ (z : X). z ∷ xs) (sym same)
 drop_at {X} (y ∷ xs) (suc i) x e =
-    drop_at xs i x e ∙ (let n : drop (i + 1) xs ≡ drop (suc i + 1) (y ∷ xs) = (let k : suc i + 1 ≡ suc (i + 1) = omega arith in sym (ap (λ m. drop m (y ∷ xs)) k)) in ap (λ (l : List X). x ∷ l) n)
+    drop_at xs i x e ∙ (let n : drop (i + 1) xs ≡ drop (suc i + 1) (y ∷ xs) =
+    (let k : suc i + 1 ≡ suc (i + 1) = omega arith in sym (ap (λ m. drop m (y ∷ xs)) k)) in ap (λ (l : List X). x ∷ l) n)
 
 pub drop_none : {X : Type 0} (xs : List X) (i : ℕ) → None ≡ slice_get xs i → drop i xs ≡ []
 drop_none [] zero e = refl
@@ -311,7 +324,8 @@ pub looks_first : (pool : PoolState) (box : Outbox) → OutboxLiesIn pool box �
 looks_first pool box lies = record { low = omega arith; own = lies.kept.own; sendable = lies.kept.sendable; fragment = refl }
 
 pub looks_at : (pool : PoolState) (box : Outbox) (at place : ℕ) (q : Queued) → LooksFor pool box at place → Some q ≡ slice_get box.queue.items at
-    → IsLive pool q.chain × (q.pipe < 112) × (slice_get (map packet_bytes (packets_of q.pipe (chain_bytes pool q.chain)) ++ fragments_of (messages_of_all pool (drop (at + 1) box.queue.items))) place
+    → IsLive pool q.chain × (q.pipe < 112) × (slice_get
+    (map packet_bytes (packets_of q.pipe (chain_bytes pool q.chain)) ++ fragments_of (messages_of_all pool (drop (at + 1) box.queue.items))) place
     ≡ slice_get (fragments_of (queued_messages pool box)) box.cut)
 looks_at pool box at place q looks found =
     let items = drop_at box.queue.items at q found in
@@ -332,7 +346,8 @@ looks_on pool box at place count q looks found counted low =
       low = omega arith;
       own = own.1;
       sendable = sendable.1;
-      fragment = sym (slice_get_behind (map packet_bytes (packets_of q.pipe (chain_bytes pool q.chain))) (fragments_of (messages_of_all pool (drop (at + 1) box.queue.items))) place (place - count)
+      fragment = sym (slice_get_behind (map packet_bytes (packets_of q.pipe (chain_bytes pool q.chain)))
+          (fragments_of (messages_of_all pool (drop (at + 1) box.queue.items))) place (place - count)
           (omega (arith, len, counted, low))) ∙ here.2;
     }
 
@@ -403,22 +418,30 @@ passed_into old new o queue before after pipe kept live differ sendable t =
     let owners : new.owners ≡ with_used without o more = t.passes.owners in
     let other : owner_at without o ≡ owner_at old.owners o = other-with_used old.owners before.owner (used_of old before.owner - n) o (λ e. differ (sym e)) in
     let low : o < length without = omega (arith, length-with_used old.owners before.owner (used_of old before.owner - n), kept.has_quota) in
-    let used : used_of new o ≡ used_of old o + n = ap (λ os. (owner_at os o).used) owners ∙ (used-with_used without o more low ∙ ap (λ (x : Owner). x.used + n) other) in
-    let aside : aside_of new o ≡ aside_of old o = ap (λ os. (owner_at os o).aside) owners ∙ (aside-with_used without o more low ∙ ap (λ (x : Owner). x.aside) other) in
-    let quota : quota_of new o ≡ quota_of old o = ap (λ os. (owner_at os o).quota) owners ∙ (quota-with_used without o more low ∙ ap (λ (x : Owner). x.quota) other) in
-    let len : length new.owners ≡ length old.owners = ap length owners ∙ (length-with_used without o more ∙ length-with_used old.owners before.owner (used_of old before.owner - n)) in
+    let used : used_of new o ≡ used_of old o + n = ap (λ os. (owner_at os o).used) owners
+    ∙ (used-with_used without o more low ∙ ap (λ (x : Owner). x.used + n) other) in
+    let aside : aside_of new o ≡ aside_of old o = ap (λ os. (owner_at os o).aside) owners
+    ∙ (aside-with_used without o more low ∙ ap (λ (x : Owner). x.aside) other) in
+    let quota : quota_of new o ≡ quota_of old o = ap (λ os. (owner_at os o).quota) owners
+    ∙ (quota-with_used without o more low ∙ ap (λ (x : Owner). x.quota) other) in
+    let len : length new.owners ≡ length old.owners = ap length owners
+    ∙ (length-with_used without o more ∙ length-with_used old.owners before.owner (used_of old before.owner - n)) in
     let away = lies_apart_by_owner Queued chain_in old o xs before kept.own live differ in
-    let p = pushed old new o queue before after pipe (chain_bytes old before) kept t.others away t.live t.passes.owner_is t.same_bytes sendable (omega (arith, len, kept.has_quota)) quota used aside
+    let p = pushed old new o queue before after pipe (chain_bytes old before) kept t.others away t.live t.passes.owner_is t.same_bytes sendable
+    (omega (arith, len, kept.has_quota)) quota used aside
     (omega (arith, used, t.room, kept.quota, kept.within)) in (
       p.0,
       p.1,
       p.2,
       record {
-        counts = λ q a b. ap (λ os. owner_at os q) owners ∙ (other-with_used without o more q a ∙ other-with_used old.owners before.owner (used_of old before.owner - n) q b);
+        counts = λ q a b. ap (λ os. owner_at os q) owners
+            ∙ (other-with_used without o more q a ∙ other-with_used old.owners before.owner (used_of old before.owner - n) q b);
         lengths = len;
         aside = aside;
-        giver_quota = ap (λ os. (owner_at os before.owner).quota) owners ∙ (ap (λ (x : Owner). x.quota) (other-with_used without o more before.owner differ) ∙ quota-with_used old.owners before.owner (used_of old before.owner - n) live.0);
-        giver_used = ap (λ os. (owner_at os before.owner).used) owners ∙ (ap (λ (x : Owner). x.used) (other-with_used without o more before.owner differ) ∙ used-with_used old.owners before.owner (used_of old before.owner - n) live.0);
+        giver_quota = ap (λ os. (owner_at os before.owner).quota) owners ∙ (ap (λ (x : Owner). x.quota) (other-with_used without o more before.owner differ)
+            ∙ quota-with_used old.owners before.owner (used_of old before.owner - n) live.0);
+        giver_used = ap (λ os. (owner_at os before.owner).used) owners ∙ (ap (λ (x : Owner). x.used) (other-with_used without o more before.owner differ)
+            ∙ used-with_used old.owners before.owner (used_of old before.owner - n) live.0);
         others = λ other_chain other_live apart from.
             let k = t.others other_chain other_live from in
             (k.1, k.2, all_pushed Queued (λ (x : Queued). IsApart other_chain x.chain) xs (record { pipe = pipe; chain = after }) apart k.0);

@@ -45,7 +45,8 @@ not_fifth ms pipe few =
 not_long : (ms : List (ℕ × List ℕ)) (p : Packet) (bytes : List ℕ) → Alone ms p.pipe bytes → length bytes + length p.bytes.items ≤ 4096
     → ltb 4096 (length (grown ms p)) ≡ false
 not_long ms p bytes alone fits =
-    let len : length (grown ms p) ≡ length bytes + length p.bytes.items = length-append (so_far ms p.pipe) p.bytes.items ∙ ap (λ bs. length bs + length p.bytes.items) alone.under_way in
+    let len : length (grown ms p) ≡ length bytes + length p.bytes.items = length-append (so_far ms p.pipe) p.bytes.items
+    ∙ ap (λ bs. length bs + length p.bytes.items) alone.under_way in
     grind (arith, common_steps, len)
 
 itself : (pipe : ℕ) → eqb pipe pipe ≡ true
@@ -68,7 +69,8 @@ parts_taken pipe (suc n) left bytes ms packets alone fits =
     let p = packet false pipe (take 28 left) in
     let step = more_step ms p (not_fifth ms pipe alone.few) (not_long ms p bytes alone (omega (arith, length-take 28 left))) refl in
     let grown_is : grown ms p ≡ bytes ++ take 28 left = ap (λ bs. bs ++ take 28 left) alone.under_way in
-    let next : others ms pipe ++ (pipe, grown ms p) ∷ [] ≡ (pipe, bytes ++ take 28 left) ∷ [] = ap (λ os. os ++ (pipe, grown ms p) ∷ []) alone.rest ∙ ap (λ bs. (pipe, bs) ∷ []) grown_is in
+    let next : others ms pipe ++ (pipe, grown ms p) ∷ [] ≡ (pipe, bytes ++ take 28 left) ∷ [] = ap (λ os. os ++ (pipe, grown ms p) ∷ []) alone.rest
+    ∙ ap (λ bs. (pipe, bs) ∷ []) grown_is in
     ap (λ ps. are_taken ms (ps ++ packets)) (parts_of-more pipe n left)
     ∙ (ap (λ s. not (is_fault s.0) && are_taken s.1 (parts_of pipe (suc n) (drop 28 left) ++ packets)) step
     ∙ (ap (λ ns. are_taken ns (parts_of pipe (suc n) (drop 28 left) ++ packets)) next
@@ -97,17 +99,20 @@ front_taken (p ∷ front) rest ms taken = by_fault (is_fault (join_step ms p).0)
     by_fault : (b : Bool) → is_fault (join_step ms p).0 ≡ b
         → (are_taken (join_step ms p).1 (front ++ rest) ≡ true → are_taken (join_step ms p).1 front ≡ true)
         → (not (is_fault (join_step ms p).0) && are_taken (join_step ms p).1 front) ≡ true
-    by_fault true e more = absurd (let t : not true && are_taken (join_step ms p).1 (front ++ rest) ≡ true = subst (λ b. not b && are_taken (join_step ms p).1 (front ++ rest) ≡ true) e taken in never t)
+    by_fault true e more = absurd (let t : not true && are_taken (join_step ms p).1 (front ++ rest) ≡ true =
+        subst (λ b. not b && are_taken (join_step ms p).1 (front ++ rest) ≡ true) e taken in never t)
       where
         never : false ≡ true → ⊥
         never f = cc
     by_fault false e more =
-        let t : not false && are_taken (join_step ms p).1 (front ++ rest) ≡ true = subst (λ b. not b && are_taken (join_step ms p).1 (front ++ rest) ≡ true) e taken in
+        let t : not false && are_taken (join_step ms p).1 (front ++ rest) ≡ true =
+        subst (λ b. not b && are_taken (join_step ms p).1 (front ++ rest) ≡ true) e taken in
         ap (λ b. not b && are_taken (join_step ms p).1 front) e ∙ more t
 
 pub no_fault : (sent : List (ℕ × List ℕ)) (got : List (List ℕ)) → AreShort sent → IsFrontOf got (fragments_of sent) → IsTrue (are_taken [] (packets_in got))
 no_fault sent got short front =
-    let all : packets_in got ++ packets_in front.0 ≡ packets_of_all sent = sym (filter_map-append packet_of got front.0) ∙ (ap packets_in front.1 ∙ packets_in-fragments sent short) in
+    let all : packets_in got ++ packets_in front.0 ≡ packets_of_all sent = sym (filter_map-append packet_of got front.0)
+    ∙ (ap packets_in front.1 ∙ packets_in-fragments sent short) in
     let taken : are_taken [] (packets_in got) ≡ true = front_taken (packets_in got) (packets_in front.0) [] (ap (are_taken []) all ∙ all_taken sent short) in
     subst IsTrue (sym taken) (search rules)
 

@@ -587,7 +587,8 @@ step_tick_open l ts ending a can h r o = go ending (is_lost_tick e ending) can r
         let w = waits true q in
         let phase : (turned f ts).shdlc.phase ≡ Waiting =
         turns_phase f ts a now ∙ (ap (λ (z : EndState). z.phase) (shdlc_moved e b (ticked e.shdlc)) ∙ waiting_phase (ticked e.shdlc) w) in
-        step_same l (ticks_at_controller l ts CutOff) (finished (with_ended l b) (turned f ts) CutOff) (CoreTick l ts CutOff) (core_silent (core_of l) (new_end 4))
+        step_same l (ticks_at_controller l ts CutOff) (finished (with_ended l b) (turned f ts) CutOff) (CoreTick l ts CutOff)
+        (core_silent (core_of l) (new_end 4))
         (tick_as l ts CutOff b f t.1 t.0) (core_tick_as l ts CutOff None [] k.0 k.1)
         (step_cut_instead l b (turned f ts) phase (tick_up e.shdlc w) (turned_role f ts ∙ moved_role e b (ticked e.shdlc)) can h)
 

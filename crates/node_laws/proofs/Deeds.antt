@@ -33,7 +33,8 @@ module _ (t : HciTables) (ports : List Port) (h : ℕ) where
   told message [] = tt
   told message (x ∷ hosts) = (tt, told message hosts)
 
-  commit_fine : (room : Bool) (pipe : ℕ) (c : Command) (answer : List ℕ) (behind : List Deed) → EndsAtController c → Fine behind → Fine (commit_deeds room h pipe c answer behind)
+  commit_fine : (room : Bool) (pipe : ℕ) (c : Command) (answer : List ℕ) (behind : List Deed) → EndsAtController c → Fine behind
+      → Fine (commit_deeds room h pipe c answer behind)
   commit_fine true pipe c answer behind ends fine = (inl ends, (tt, (tt, fine)))
   commit_fine false pipe c answer behind ends fine = (tt, tt)
 
@@ -63,41 +64,48 @@ module _ (t : HciTables) (ports : List Port) (h : ℕ) where
   gate_fine gate errors pipe instruction body =
       cond_both (eqb gate 6) (link_deeds h pipe (link_served errors instruction body)) _ Fine
       (λ _. link_fine pipe (link_served errors instruction body))
-      (λ _. cond_both (eqb gate 5) (answers_on h pipe (identity_served gates instruction body)) (answers_on h pipe (answer_of response.CommandNotSupported [])) Fine
+      (λ _. cond_both (eqb gate 5) (answers_on h pipe (identity_served gates instruction body))
+      (answers_on h pipe (answer_of response.CommandNotSupported [])) Fine
       (λ _. (tt, tt)) (λ _. (tt, tt)))
 
   event_fine : (m : Message) → Fine (event_deeds t h m)
   event_fine m = cond_both _ (Sends h m ∷ []) (Drops m.0 ∷ []) Fine (λ _. (tt, tt)) (λ _. (tt, tt))
 
   unrelayed_fine : (up : Bool) (m : Message) → Fine (unrelayed up h m)
-  unrelayed_fine up m = cond_both (up && is_command_message m.1) (answers_on h m.0 (answer_of response.NotConnected [])) (Drops m.0 ∷ []) Fine (λ _. (tt, tt)) (λ _. (tt, tt))
+  unrelayed_fine up m =
+      cond_both (up && is_command_message m.1) (answers_on h m.0 (answer_of response.NotConnected [])) (Drops m.0 ∷ []) Fine (λ _. (tt, tt)) (λ _. (tt, tt))
 
   relay_fine : (m : Message) (other : ℕ) (up : Bool) → Fine (relay_deeds ports h m other up)
   relay_fine m other true = (tt, tt)
   relay_fine m other false = unrelayed_fine (has_link ports h) m
 
-decision_fine : (core : Core) (ports : List Port) (h pipe : ℕ) (d : Decision) → AsksAsAllowed core.tables (view_for core.tables ports h) h d → AreAllowedDeeds core.tables ports h (decision_deeds core h pipe d)
+decision_fine : (core : Core) (ports : List Port) (h pipe : ℕ) (d : Decision) → AsksAsAllowed core.tables (view_for core.tables ports h) h d
+    → AreAllowedDeeds core.tables ports h (decision_deeds core h pipe d)
 decision_fine core ports h pipe (Answer answer) fine = (tt, tt)
 decision_fine core ports h pipe (Commit c answer tell notice) fine =
     commit_fine core.tables ports h (finds_room core c) pipe c answer.items _ fine (told core.tables ports h notice.items (hosts_where (has tell)))
 decision_fine core ports h pipe (Ask asked notice c answer) fine = ((fine, refl), tt)
 
-served_fine : (core : Core) (ports : List Port) (h pipe instruction : ℕ) (body : List ℕ) (gate : Option ℕ) → AreAllowedDeeds core.tables ports h (served_at core (view_for core.tables ports h) h pipe instruction body gate)
+served_fine : (core : Core) (ports : List Port) (h pipe instruction : ℕ) (body : List ℕ) (gate : Option ℕ)
+    → AreAllowedDeeds core.tables ports h (served_at core (view_for core.tables ports h) h pipe instruction body gate)
 served_fine core ports h pipe instruction body None =
     decision_fine core ports h pipe (decided core.tables (view_for core.tables ports h) h pipe instruction body)
     (decided_as_allowed core.tables (view_for core.tables ports h) h pipe instruction body)
 served_fine core ports h pipe instruction body (Some gate) = gate_fine core.tables ports h gate (view_for core.tables ports h).errors pipe instruction body
 
-asking_fine : (core : Core) (ports : List Port) (h : ℕ) (m : Message) (instruction : ℕ) (asks : Bool) → AreAllowedDeeds core.tables ports h (unless_asking core ports h m instruction asks)
+asking_fine : (core : Core) (ports : List Port) (h : ℕ) (m : Message) (instruction : ℕ) (asks : Bool)
+    → AreAllowedDeeds core.tables ports h (unless_asking core ports h m instruction asks)
 asking_fine core ports h m instruction true = (tt, tt)
 asking_fine core ports h m instruction false =
     served_fine core ports h m.0 instruction (body_in m.1) (cond (goes_through core.tables h m.0 instruction) (own_gate core.tables h m.0) None)
 
-notices_fine : (core : Core) (ports : List Port) (h : ℕ) (m : Message) (code : ℕ) (here : Bool) → AreAllowedDeeds core.tables ports h (if_notice core ports h m code here)
+notices_fine : (core : Core) (ports : List Port) (h : ℕ) (m : Message) (code : ℕ) (here : Bool)
+    → AreAllowedDeeds core.tables ports h (if_notice core ports h m code here)
 notices_fine core ports h m code true = response_fine core.tables ports h core code (port_at ports h) refl
 notices_fine core ports h m code false = (tt, tt)
 
-kind_fine : (core : Core) (ports : List Port) (h : ℕ) (m : Message) (header : Result (MessageKind × ℕ) MessageFault) → AreAllowedDeeds core.tables ports h (kind_deeds core ports h m header)
+kind_fine : (core : Core) (ports : List Port) (h : ℕ) (m : Message) (header : Result (MessageKind × ℕ) MessageFault)
+    → AreAllowedDeeds core.tables ports h (kind_deeds core ports h m header)
 kind_fine core ports h m (Ok (IsCommand, instruction)) = asking_fine core ports h m instruction (eqb m.0 1 && asks_for ports h)
 kind_fine core ports h m (Ok (IsEvent, instruction)) = event_fine core.tables ports h m
 kind_fine core ports h m (Ok (IsResponse, code)) = notices_fine core ports h m code (eqb m.0 1)
@@ -107,7 +115,8 @@ own_fine : (core : Core) (ports : List Port) (h : ℕ) (m : Message) (up : Bool)
 own_fine core ports h m true = kind_fine core ports h m (header_of m.1)
 own_fine core ports h m false = (tt, tt)
 
-by_relay_fine : (core : Core) (ports : List Port) (h : ℕ) (m : Message) (other : Option ℕ) → AreAllowedDeeds core.tables ports h (deeds_by_relay core ports h m other)
+by_relay_fine : (core : Core) (ports : List Port) (h : ℕ) (m : Message) (other : Option ℕ)
+    → AreAllowedDeeds core.tables ports h (deeds_by_relay core ports h m other)
 by_relay_fine core ports h m (Some other) = relay_fine core.tables ports h m other (has_link ports other)
 by_relay_fine core ports h m None = own_fine core ports h m (has_link ports h)
 

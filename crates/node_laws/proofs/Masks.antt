@@ -63,11 +63,88 @@ is_in_mask test x some most passed = by_host x some most passed where
 
   by_host : (x : ℕ) → 1 ≤ x → x ≤ 7 → test x ≡ true → has m x ≡ true
   by_host zero some most passed = absurd (omega arith)
-  by_host (suc zero) some most passed = one 2 (omega (arith, digits test, bit_one (test 1) passed, bit_most (test 2), bit_most (test 3), bit_most (test 4), bit_most (test 5), bit_most (test 6), bit_most (test 7)))
-  by_host (suc (suc zero)) some most passed = one 4 (omega (arith, digits test, bit_one (test 2) passed, bit_most (test 1), bit_most (test 3), bit_most (test 4), bit_most (test 5), bit_most (test 6), bit_most (test 7)))
-  by_host (suc (suc (suc zero))) some most passed = one 8 (omega (arith, digits test, bit_one (test 3) passed, bit_most (test 1), bit_most (test 2), bit_most (test 4), bit_most (test 5), bit_most (test 6), bit_most (test 7)))
-  by_host (suc (suc (suc (suc zero)))) some most passed = one 16 (omega (arith, digits test, bit_one (test 4) passed, bit_most (test 1), bit_most (test 2), bit_most (test 3), bit_most (test 5), bit_most (test 6), bit_most (test 7)))
-  by_host (suc (suc (suc (suc (suc zero))))) some most passed = one 32 (omega (arith, digits test, bit_one (test 5) passed, bit_most (test 1), bit_most (test 2), bit_most (test 3), bit_most (test 4), bit_most (test 6), bit_most (test 7)))
-  by_host (suc (suc (suc (suc (suc (suc zero)))))) some most passed = one 64 (omega (arith, digits test, bit_one (test 6) passed, bit_most (test 1), bit_most (test 2), bit_most (test 3), bit_most (test 4), bit_most (test 5), bit_most (test 7)))
-  by_host (suc (suc (suc (suc (suc (suc (suc zero))))))) some most passed = one 128 (omega (arith, digits test, bit_one (test 7) passed, bit_most (test 1), bit_most (test 2), bit_most (test 3), bit_most (test 4), bit_most (test 5), bit_most (test 6)))
+  by_host (suc zero) some most passed = one 2 (omega (
+    arith,
+    digits test,
+    bit_one (test 1) passed,
+    bit_most (test 2),
+    bit_most (test 3),
+    bit_most
+        (test 4),
+    bit_most (test 5),
+    bit_most (test 6),
+    bit_most (test 7),
+  ))
+  by_host (suc (suc zero)) some most passed = one 4 (omega (
+    arith,
+    digits test,
+    bit_one (test 2) passed,
+    bit_most (test 1),
+    bit_most (test 3),
+    bit_most
+        (test 4),
+    bit_most (test 5),
+    bit_most (test 6),
+    bit_most (test 7),
+  ))
+  by_host (suc (suc (suc zero))) some most passed = one 8 (omega (
+    arith,
+    digits test,
+    bit_one (test 3) passed,
+    bit_most (test 1),
+    bit_most (test 2),
+    bit_most
+        (test 4),
+    bit_most (test 5),
+    bit_most (test 6),
+    bit_most (test 7),
+  ))
+  by_host (suc (suc (suc (suc zero)))) some most passed = one 16 (omega (
+    arith,
+    digits test,
+    bit_one (test 4) passed,
+    bit_most (test 1),
+    bit_most
+        (test 2),
+    bit_most (test 3),
+    bit_most (test 5),
+    bit_most (test 6),
+    bit_most (test 7),
+  ))
+  by_host (suc (suc (suc (suc (suc zero))))) some most passed = one 32 (omega (
+    arith,
+    digits test,
+    bit_one (test 5) passed,
+    bit_most (test 1),
+    bit_most
+        (test 2),
+    bit_most (test 3),
+    bit_most (test 4),
+    bit_most (test 6),
+    bit_most (test 7),
+  ))
+  by_host (suc (suc (suc (suc (suc (suc zero)))))) some most passed = one 64 (omega (
+    arith,
+    digits test,
+    bit_one (test 6) passed,
+    bit_most (test 1),
+    bit_most
+        (test 2),
+    bit_most (test 3),
+    bit_most (test 4),
+    bit_most (test 5),
+    bit_most (test 7),
+  ))
+  by_host (suc (suc (suc (suc (suc (suc (suc zero))))))) some most passed = one 128 (omega (
+    arith,
+    digits test,
+    bit_one (test 7) passed,
+    bit_most
+        (test 1),
+    bit_most (test 2),
+    bit_most (test 3),
+    bit_most (test 4),
+    bit_most (test 5),
+    bit_most (test 6),
+  ))
   by_host (suc (suc (suc (suc (suc (suc (suc (suc n)))))))) some most passed = absurd (omega arith)

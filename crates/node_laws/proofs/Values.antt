@@ -30,5 +30,6 @@ kept x some most =
     let host = and_from (leb 1 x) (leb x 7) (le-leb 1 x some) (le-leb x 7 most) in
     and_from (leb 1 x && leb x 7 && true) true (and_from (leb 1 x && leb x 7) true host refl) refl
 
-pub whitelist_left : (t : HciTables) (c : Command) (x : ℕ) → AreTables t → IsCommand c → 1 ≤ x → x ≤ 7 → LeavesWhitelist x c → value_at (apply t c).values x 0 3 ≡ value_at t.values x 0 3
+pub whitelist_left : (t : HciTables) (c : Command) (x : ℕ) → AreTables t → IsCommand c → 1 ≤ x → x ≤ 7 → LeavesWhitelist x c
+    → value_at (apply t c).values x 0 3 ≡ value_at t.values x 0 3
 whitelist_left t c x are may some most leaves = values-apply t c x 3 are may (kept x some most) ∙ left t c x leaves

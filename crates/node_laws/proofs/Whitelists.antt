@@ -80,7 +80,8 @@ creation_leaves x row =
     (Ask row.dest (record { items = 18 ∷ ends_of row }) (Create row) (record { items = answer_of response.Ok (ends_of row) }))
     (Leaves x) (λ _. tt) (λ _. tt)
 
-decided_leaves : (t : HciTables) (v : LinkView) (h pipe instruction x : ℕ) (body : List ℕ) → is_asked v x ≡ true → Leaves x (decided t v h pipe instruction body)
+decided_leaves : (t : HciTables) (v : LinkView) (h pipe instruction x : ℕ) (body : List ℕ) → is_asked v x ≡ true
+    → Leaves x (decided t v h pipe instruction body)
 decided_leaves t v h pipe instruction x body asked =
     unless x (first_of (tests_of_pipe t h pipe instruction)) (carried_out t v h pipe instruction body) (λ _.
     cond_both (eqb instruction 3) (opening t h pipe body) _ (Leaves x)
@@ -104,7 +105,8 @@ module _ (x : ℕ) where
   told message [] = tt
   told message (y ∷ hosts) = (tt, told message hosts)
 
-  commit_fine : (room : Bool) (h pipe : ℕ) (c : Command) (answer : List ℕ) (behind : List Deed) → LeavesWhitelist x c → Fine behind → Fine (commit_deeds room h pipe c answer behind)
+  commit_fine : (room : Bool) (h pipe : ℕ) (c : Command) (answer : List ℕ) (behind : List Deed) → LeavesWhitelist x c → Fine behind
+      → Fine (commit_deeds room h pipe c answer behind)
   commit_fine true h pipe c answer behind leaves fine = (leaves, (tt, (tt, fine)))
   commit_fine false h pipe c answer behind leaves fine = (tt, tt)
 
@@ -128,7 +130,8 @@ module _ (x : ℕ) where
   notice_fine core code None making = (tt, tt)
   notice_fine core code (Some n) making = creation_fine core code (creation_in (Some n)) making
 
-  response_fine : (core : Core) (code : ℕ) (ports : List Port) (h : ℕ) → WaitsForPipes ports h → (o : Option Port) → port_at ports h ≡ o → Fine (response_at core code o)
+  response_fine : (core : Core) (code : ℕ) (ports : List Port) (h : ℕ) → WaitsForPipes ports h → (o : Option Port) → port_at ports h ≡ o
+      → Fine (response_at core code o)
   response_fine core code ports h waits None here = (tt, tt)
   response_fine core code ports h waits (Some p) here = notice_fine core code p.desk.notice (λ c asked. waits p c here asked)
 
@@ -142,14 +145,16 @@ module _ (x : ℕ) where
   gate_fine gate errors h pipe instruction body =
       cond_both (eqb gate 6) (link_deeds h pipe (link_served errors instruction body)) _ Fine
       (λ _. link_fine h pipe (link_served errors instruction body))
-      (λ _. cond_both (eqb gate 5) (answers_on h pipe (identity_served gates instruction body)) (answers_on h pipe (answer_of response.CommandNotSupported [])) Fine
+      (λ _. cond_both (eqb gate 5) (answers_on h pipe (identity_served gates instruction body))
+      (answers_on h pipe (answer_of response.CommandNotSupported [])) Fine
       (λ _. (tt, tt)) (λ _. (tt, tt)))
 
   event_fine : (t : HciTables) (h : ℕ) (m : Message) → Fine (event_deeds t h m)
   event_fine t h m = cond_both _ (Sends h m ∷ []) (Drops m.0 ∷ []) Fine (λ _. (tt, tt)) (λ _. (tt, tt))
 
   unrelayed_fine : (h : ℕ) (up : Bool) (m : Message) → Fine (unrelayed up h m)
-  unrelayed_fine h up m = cond_both (up && is_command_message m.1) (answers_on h m.0 (answer_of response.NotConnected [])) (Drops m.0 ∷ []) Fine (λ _. (tt, tt)) (λ _. (tt, tt))
+  unrelayed_fine h up m =
+      cond_both (up && is_command_message m.1) (answers_on h m.0 (answer_of response.NotConnected [])) (Drops m.0 ∷ []) Fine (λ _. (tt, tt)) (λ _. (tt, tt))
 
   relay_fine : (ports : List Port) (h : ℕ) (m : Message) (other : ℕ) (up : Bool) → Fine (relay_deeds ports h m other up)
   relay_fine ports h m other true = (tt, tt)
@@ -161,7 +166,8 @@ module _ (x : ℕ) where
       commit_fine (finds_room core c) h pipe c answer.items _ leaves (told notice.items (hosts_where (has tell)))
   decision_fine core h pipe (Ask asked notice c answer) leaves = (tt, tt)
 
-  served_fine : (core : Core) (v : LinkView) (h pipe instruction : ℕ) (body : List ℕ) (gate : Option ℕ) → is_asked v x ≡ true → Fine (served_at core v h pipe instruction body gate)
+  served_fine : (core : Core) (v : LinkView) (h pipe instruction : ℕ) (body : List ℕ) (gate : Option ℕ) → is_asked v x ≡ true
+      → Fine (served_at core v h pipe instruction body gate)
   served_fine core v h pipe instruction body None asked =
       decision_fine core h pipe (decided core.tables v h pipe instruction body) (decided_leaves core.tables v h pipe instruction x body asked)
   served_fine core v h pipe instruction body (Some gate) asked = gate_fine gate v.errors h pipe instruction body
@@ -172,29 +178,35 @@ seen t ports h x asks =
     is_in_mask (λ y. option_map_or is_asked_at (port_at ports y) false) x asks.some asks.most
     (ap (λ o. option_map_or is_asked_at o false) asks.here ∙ asks.asked)
 
-asking_fine : (x : ℕ) (core : Core) (ports : List Port) (h : ℕ) (m : Message) (instruction : ℕ) (asks : Bool) → IsBeingAsked ports x → Fine x (unless_asking core ports h m instruction asks)
+asking_fine : (x : ℕ) (core : Core) (ports : List Port) (h : ℕ) (m : Message) (instruction : ℕ) (asks : Bool) → IsBeingAsked ports x
+    → Fine x (unless_asking core ports h m instruction asks)
 asking_fine x core ports h m instruction true asked = (tt, tt)
 asking_fine x core ports h m instruction false asked =
     served_fine x core (view_for core.tables ports h) h m.0 instruction (body_in m.1)
     (cond (goes_through core.tables h m.0 instruction) (own_gate core.tables h m.0) None) (seen core.tables ports h x asked)
 
-notices_fine : (x : ℕ) (core : Core) (ports : List Port) (h : ℕ) (m : Message) (code : ℕ) (here : Bool) → WaitsForPipes ports h → Fine x (if_notice core ports h m code here)
+notices_fine : (x : ℕ) (core : Core) (ports : List Port) (h : ℕ) (m : Message) (code : ℕ) (here : Bool) → WaitsForPipes ports h
+    → Fine x (if_notice core ports h m code here)
 notices_fine x core ports h m code true waits = response_fine x core code ports h waits (port_at ports h) refl
 notices_fine x core ports h m code false waits = (tt, tt)
 
-kind_fine : (x : ℕ) (core : Core) (ports : List Port) (h : ℕ) (m : Message) (header : Result (MessageKind × ℕ) MessageFault) → IsBeingAsked ports x → WaitsForPipes ports h → Fine x (kind_deeds core ports h m header)
+kind_fine : (x : ℕ) (core : Core) (ports : List Port) (h : ℕ) (m : Message) (header : Result (MessageKind × ℕ) MessageFault) → IsBeingAsked ports x
+    → WaitsForPipes ports h → Fine x (kind_deeds core ports h m header)
 kind_fine x core ports h m (Ok (IsCommand, instruction)) asked waits = asking_fine x core ports h m instruction (eqb m.0 1 && asks_for ports h) asked
 kind_fine x core ports h m (Ok (IsEvent, instruction)) asked waits = event_fine x core.tables h m
 kind_fine x core ports h m (Ok (IsResponse, code)) asked waits = notices_fine x core ports h m code (eqb m.0 1) waits
 kind_fine x core ports h m (Err fault) asked waits = (tt, tt)
 
-own_fine : (x : ℕ) (core : Core) (ports : List Port) (h : ℕ) (m : Message) (up : Bool) → IsBeingAsked ports x → WaitsForPipes ports h → Fine x (own_deeds core ports h m up)
+own_fine : (x : ℕ) (core : Core) (ports : List Port) (h : ℕ) (m : Message) (up : Bool) → IsBeingAsked ports x → WaitsForPipes ports h
+    → Fine x (own_deeds core ports h m up)
 own_fine x core ports h m true asked waits = kind_fine x core ports h m (header_of m.1) asked waits
 own_fine x core ports h m false asked waits = (tt, tt)
 
-by_relay_fine : (x : ℕ) (core : Core) (ports : List Port) (h : ℕ) (m : Message) (other : Option ℕ) → IsBeingAsked ports x → WaitsForPipes ports h → Fine x (deeds_by_relay core ports h m other)
+by_relay_fine : (x : ℕ) (core : Core) (ports : List Port) (h : ℕ) (m : Message) (other : Option ℕ) → IsBeingAsked ports x → WaitsForPipes ports h
+    → Fine x (deeds_by_relay core ports h m other)
 by_relay_fine x core ports h m (Some other) asked waits = relay_fine x ports h m other (has_link ports other)
 by_relay_fine x core ports h m None asked waits = own_fine x core ports h m (has_link ports h) asked waits
 
-pub whitelists_stay : (core : Core) (ports : List Port) (h : ℕ) (m : Message) (x : ℕ) → IsBeingAsked ports x → WaitsForPipes ports h → AllByRecursion (DeedLeavesWhitelist x) (controller_deeds core ports h m)
+pub whitelists_stay : (core : Core) (ports : List Port) (h : ℕ) (m : Message) (x : ℕ) → IsBeingAsked ports x → WaitsForPipes ports h
+    → AllByRecursion (DeedLeavesWhitelist x) (controller_deeds core ports h m)
 whitelists_stay core ports h m x asked waits = by_relay_fine x core ports h m (relayed_to core.tables h m) asked waits

@@ -166,7 +166,8 @@ fetch_within : (e : LinkEnd) → IsWithin e → IsWithin (frame_fetched e)
 fetch_within e a = go e.acts refl where
   fetch : (f : LinkEnd) → f.sent ≡ e.sent → f.shdlc ≡ fetched e.shdlc → f.aside ≡ e.aside → IsWithin f
   fetch f sent shdlc aside =
-      same_within e f sent (ap (λ (s : EndState). s.session.acked) shdlc ∙ one_fetched_acked e.shdlc) (ap (λ (s : EndState). s.phase) shdlc ∙ fetched-phase e.shdlc)
+      same_within e f sent (ap (λ (s : EndState). s.session.acked) shdlc ∙ one_fetched_acked e.shdlc)
+      (ap (λ (s : EndState). s.phase) shdlc ∙ fetched-phase e.shdlc)
       aside a
 
   go : (acts : List ActDue) → e.acts ≡ acts → IsWithin (frame_fetched e)

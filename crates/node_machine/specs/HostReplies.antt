@@ -97,11 +97,12 @@ learns core c = if is_command c && finds_room core c then Commits c ∷ [] else 
 
 -- ANY_OK came to a command of an init
 abbrev pub init_agreed : Core → Init → List ℕ → List Deed
-init_agreed core i value = if is_same core i value then Ends (InitSame (end_of_node core core.node)) ∷ [] else next (slice_get (orders_of i) (i.answered + 1)) where
-  next : Option (List ℕ) → List Deed
-  next None =
-      learns core (Set core.node 0 1 (record { items = i.identity })) ++ Ends (InitMade (end_of_node core core.node) (length i.pipes)) ∷ []
-  next (Some order) = GoesOn (record i { answered = i.answered + 1 }) ∷ Orders order ∷ []
+init_agreed core i value =
+    if is_same core i value then Ends (InitSame (end_of_node core core.node)) ∷ [] else next (slice_get (orders_of i) (i.answered + 1)) where
+      next : Option (List ℕ) → List Deed
+      next None =
+          learns core (Set core.node 0 1 (record { items = i.identity })) ++ Ends (InitMade (end_of_node core core.node) (length i.pipes)) ∷ []
+      next (Some order) = GoesOn (record i { answered = i.answered + 1 }) ∷ Orders order ∷ []
 
 -- a response came to a command of an init
 abbrev pub init_deeds : Core → ℕ → List ℕ → Option Init → List Deed

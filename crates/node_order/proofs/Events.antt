@@ -160,7 +160,8 @@ module _ (w : NodeWorld) (t : List Entry) (X : ℕ → WatchedLink) (a : IsWell 
             (happens s.link (AtController (Step (comes_to k comes s.host) (turns_at v s.host) (ending_of v)))).controller.side in
             subst G (sym none)
             (ap (λ x. (happens s.link (AtController (Step (comes_to k comes s.host) (turns_at v s.host) x))).controller.side) ending
-            ∙ cut_clf s.link (comes_to k comes s.host) (turns_at v s.host) (cond (s.host == k) (Some i) None) (arrives (s.host == k) refl) (is_so (s.host == k)) clf)
+            ∙ cut_clf s.link (comes_to k comes s.host) (turns_at v s.host) (cond (s.host == k) (Some i) None) (arrives (s.host == k) refl)
+            (is_so (s.host == k)) clf)
         off false e clf =
             let some : runs_on v ≡ Some (record { core = v.core; desks = map (λ p. p.desk) v.ports }) = rw e refl in
             let G : Option Running → Type 0 = λ o. IfOff o (new_link_end (Clf new_clf))
@@ -281,7 +282,8 @@ module _ (w : NodeWorld) (t : List Entry) (X : ℕ → WatchedLink) (a : IsWell 
         ports_none (d ∷ ds) n = (n.0, ports_none ds n.1)
 
         off : (c : Bool) → worked.cut ≡ c
-            → IfOff (runs_on worked) (new_link_end (Uicc new_uicc)) (happens_at_controller (exchanged s.link) (Step comes (turns_at worked s.host) (ending_of worked))).controller.side
+            → IfOff (runs_on worked) (new_link_end (Uicc new_uicc))
+            (happens_at_controller (exchanged s.link) (Step comes (turns_at worked s.host) (ending_of worked))).controller.side
         off true e =
             let none : runs_on worked ≡ None = rw e refl in
             let ending : ending_of worked ≡ CutOff = rw e refl in
@@ -322,7 +324,8 @@ module _ (w : NodeWorld) (t : List Entry) (X : ℕ → WatchedLink) (a : IsWell 
           (λ x found b.
           let same : Some s ≡ Some x = sym there ∙ found in
           let one : s ≡ x = cc in
-          let R : Site → Type 0 = λ z. Knows t (X k) w.controller k z → Knows (t ++ u) (later X u k) w.controller k (after_host comes (host_work s r comes f) z) in
+          let R : Site → Type 0 = λ z. Knows t (X k) w.controller k z
+          → Knows (t ++ u) (later X u k) w.controller k (after_host comes (host_work s r comes f) z) in
           subst R one (own s there r n) b)
           (λ h z. record { none = (does s r there n).others h z; stands = (does s r there n).leaves h z }) each)
 
@@ -405,7 +408,8 @@ memory_each n m w t X each = go (n == 0)
 
     go : (b : Bool) → Each (t ++ []) (later X []) (by b)
     go true = each_empty t X (by true) (λ h s found. each h s found)
-    go false = each_beside w w.memory t [] X n (λ s. record s { memory = m }) (λ s. refl) (λ s. refl) (λ s b. b) (λ s b. b) (λ h. record { none = refl; stands = λ x. refl }) each
+    go false = each_beside w w.memory t [] X n (λ s. record s { memory = m }) (λ s. refl) (λ s. refl) (λ s b. b) (λ s b. b)
+        (λ h. record { none = refl; stands = λ x. refl }) each
 
 pub power_each : (n : ℕ) (w : NodeWorld) (t : List Entry) (X : ℕ → WatchedLink) → IsWell w → Each t X w
     → Each (t ++ entry.Cut n ∷ []) (later X (entry.Cut n ∷ [])) (loses_power_at n w)
@@ -585,12 +589,14 @@ lost_each w t X e why each = go e.at_host refl
         let F : LinkEnd → Type 0 = IfOff s.node new_far in
         record {
           told = subst T (sym q) (told_more e.link s.link (AtController (Lose why)) t u tt told
-              (clear_stands e.link u (first_lost Controller why s.link.to_controller) (entries_uncut e.link (first_lost Controller why (link_to w.sites e.link).to_controller))
+              (clear_stands e.link u (first_lost Controller why s.link.to_controller)
+              (entries_uncut e.link (first_lost Controller why (link_to w.sites e.link).to_controller))
               (clear_lost Controller why s.link.to_controller) told) b.told);
           shown = let S : Bool → Type 0 = λ c. Shown (happens s.link (event c)) (watched e.link (X e.link) u) in
               subst S (sym q) (shown_more e.link s.link (AtController (Lose why)) t u (X e.link) b.told tt told
               (clear_unstarted (first_lost Controller why s.link.to_controller) (clear_lost Controller why s.link.to_controller))
-              (clear_stands e.link u (first_lost Controller why s.link.to_controller) (entries_uncut e.link (first_lost Controller why (link_to w.sites e.link).to_controller))
+              (clear_stands e.link u (first_lost Controller why s.link.to_controller)
+              (entries_uncut e.link (first_lost Controller why (link_to w.sites e.link).to_controller))
               (clear_lost Controller why s.link.to_controller) told) b.shown);
           near = subst N (sym (near_left e.at_host s.link)) (counts_off why e.link w.controller new_near s.link.controller.side b.near);
           far = subst F (sym (far_left e.at_host s.link)) b.far;

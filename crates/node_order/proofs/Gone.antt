@@ -111,7 +111,8 @@ all_silenced n kf (e ∷ es) l a h s r q =
     go safe tells later (inr x) = later x
 
 -- the other end has its tick
-tick_keeps : (n : ℕ) (m : Link) (node : Node) → IsGone n Controller m → IsGone n Controller (exchanged (ticks_at_controller (exchanged m) node.turns node.ending))
+tick_keeps : (n : ℕ) (m : Link) (node : Node) → IsGone n Controller m
+    → IsGone n Controller (exchanged (ticks_at_controller (exchanged m) node.turns node.ending))
 tick_keeps n m node (inl j) =
     inl (subst (λ (z : Seen). Jumps n Controller z) (tick_seen Host (exchanged m) node)
     (all_jump n Controller (tick_entries Host (exchanged m) node) (kept m) j))
@@ -148,7 +149,8 @@ rest_silenced n es near h a node tells safe r (inr x) =
 pub event_silenced : (n : ℕ) (l : Link) (e : LinkEvent) → IsEvent l e → Good l → Reached (core_of l) → n ≤ l.resets
     → Hears silences (event_entries l e) → Gone n (happens l e)
 event_silenced n l (AtController e) a g r i q =
-    inl (step_gone n Controller l (happens_at_controller l e) (here_entries Controller l e) (here_seen Controller l e) (safe_reached (core_of l) r).hand.n_bound i q
+    inl (step_gone n Controller l (happens_at_controller l e) (here_entries Controller l e) (here_seen Controller l e)
+    (safe_reached (core_of l) r).hand.n_bound i q
     (here_down Controller l e a g.controller.now q))
 event_silenced n l (AtHost e) a g r i q =
     inr (step_gone n Host (exchanged l) (happens_at_controller (exchanged l) e) (here_entries Host (exchanged l) e) (here_seen Host (exchanged l) e)
@@ -261,10 +263,12 @@ own_begins n who l (Step (AsksReset window) ts ending) o q =
     neither (input_heard (begins n) (begins_deaf n) who l.controller i k (after_input l.controller.side i) ts ending q)
 own_begins n who l (Step (Starts v) ts ending) o q =
     let i : LinkInput = Start v in
-    neither (input_heard (begins n) (begins_deaf n) who l.controller i (silent l (after_input l.controller.side i)) (after_input l.controller.side i) ts ending q)
+    neither
+    (input_heard (begins n) (begins_deaf n) who l.controller i (silent l (after_input l.controller.side i)) (after_input l.controller.side i) ts ending q)
 own_begins n who l (Step Stops ts ending) o q =
     let i : LinkInput = Stop in
-    neither (input_heard (begins n) (begins_deaf n) who l.controller i (silent l (after_input l.controller.side i)) (after_input l.controller.side i) ts ending q)
+    neither
+    (input_heard (begins n) (begins_deaf n) who l.controller i (silent l (after_input l.controller.side i)) (after_input l.controller.side i) ts ending q)
 own_begins n who l (Step NoInput ts ending) o q =
     true≢false (sym (rest_heard (begins n) (begins_deaf n) who l l.controller.side ts ending q).1)
 
@@ -276,7 +280,8 @@ tick_begins n who l node q =
 all_begin : (n : ℕ) (es : List EndEvent) (l : Link) → AreOwn l es → Hears (begins n) (entries_of_events Controller l es) → ⊥
 all_begin n [] l a q = true≢false (sym q)
 all_begin n (e ∷ es) l a q =
-    go (all_begin n es (happens_at_controller l e) a.2) (hears_parts (begins n) (here_entries Controller l e) (entries_of_events Controller (happens_at_controller l e) es) q)
+    go (all_begin n es (happens_at_controller l e) a.2)
+    (hears_parts (begins n) (here_entries Controller l e) (entries_of_events Controller (happens_at_controller l e) es) q)
   where
     go : (Hears (begins n) (entries_of_events Controller (happens_at_controller l e) es) → ⊥)
         → Hears (begins n) (here_entries Controller l e) ⊎ Hears (begins n) (entries_of_events Controller (happens_at_controller l e) es) → ⊥

@@ -214,7 +214,8 @@ module _ (w : NodeWorld) (memory : Memory) (o : Option Running) (t u : List Entr
       → ((h : ℕ) → (k == h) ≡ false → LeaveLink h u) → Each t X w
       → Each (t ++ u) (later X u) (record { memory = memory; controller = o; sites = map (λ (s : Site). changed_if (s.host == k) g s) w.sites })
   each_site k g keeps off own others a =
-      each_map (later X u) (λ (s : Site). changed_if (s.host == k) g s) (λ s. changed_host (s.host == k) g s (keeps s)) (λ h s found b. go h s found b (s.host == k) refl) a
+      each_map (later X u) (λ (s : Site). changed_if (s.host == k) g s) (λ s. changed_host (s.host == k) g s (keeps s))
+      (λ h s found b. go h s found b (s.host == k) refl) a
     where
       go : (h : ℕ) (s : Site) → site_at w.sites h ≡ Some s → Knows t (X h) w.controller h s → (b : Bool) → (s.host == k) ≡ b
           → Knows (t ++ u) (later X u h) o h (changed_if b g s)

@@ -27,7 +27,8 @@ marked p q l = record l { controller = below p l.controller; host = below q l.ho
 -- an end that is inactive passes over a frame
 ignored : (l : ShdlcLink) (ts : List ShdlcTurn) (y : OnWire) (ys : List OnWire) → l.controller.side.phase ≡ Down → l.to_controller ≡ y ∷ ys
     → shdlc_happens_at_controller l (Ignore ts)
-    ≡ shdlc_becomes (record l { to_controller = ys; controller = record l.controller { took = took_with l.controller.took y } }) (shdlc_turned l.controller.side ts)
+    ≡ shdlc_becomes (record l { to_controller = ys; controller = record l.controller { took = took_with l.controller.took y } })
+    (shdlc_turned l.controller.side ts)
 ignored l ts y ys x z = rw (x, z) refl
 
 none_first : (l : ShdlcLink) (ts : List ShdlcTurn) → l.to_controller ≡ [] → shdlc_happens_at_controller l (Ignore ts) ≡ l
@@ -79,7 +80,8 @@ module _ (p q : List (ℕ × Session)) where
   here_marked l (Turns ts) = becomes_marked l (shdlc_turned l.controller.side ts)
   here_marked l (Deliver ts) = go l.to_controller refl
     where
-      go : (w : List OnWire) → l.to_controller ≡ w → shdlc_happens_at_controller (marked p q l) (Deliver ts) ≡ marked p q (shdlc_happens_at_controller l (Deliver ts))
+      go : (w : List OnWire) → l.to_controller ≡ w
+          → shdlc_happens_at_controller (marked p q l) (Deliver ts) ≡ marked p q (shdlc_happens_at_controller l (Deliver ts))
       go [] x = rw x refl
       go (y ∷ ys) x =
           let b : Bool = is_some (take_answer l.controller.side y.frame).ended in
@@ -130,7 +132,8 @@ module _ (p q : List (ℕ × Session)) where
 
 module _ (p q : List (ℕ × Session)) where
   then_there : (es : List ShdlcEndEvent) (o : Option (List ShdlcTurn)) (l k : ShdlcLink) → k ≡ marked p q l
-      → shdlc_exchanged (ticks_or_cut o (shdlc_exchanged (shdlc_all_at_controller k es))) ≡ marked p q (shdlc_exchanged (ticks_or_cut o (shdlc_exchanged (shdlc_all_at_controller l es))))
+      → shdlc_exchanged (ticks_or_cut o (shdlc_exchanged (shdlc_all_at_controller k es)))
+      ≡ marked p q (shdlc_exchanged (ticks_or_cut o (shdlc_exchanged (shdlc_all_at_controller l es))))
   then_there es o l k x =
       ap (λ z. shdlc_exchanged (ticks_or_cut o (shdlc_exchanged (shdlc_all_at_controller z es)))) x
       ∙ (ap (λ z. shdlc_exchanged (ticks_or_cut o (shdlc_exchanged z))) (all_marked p q es l)
@@ -140,7 +143,8 @@ module _ (p q : List (ℕ × Session)) where
   event_marked l (AtController e) = here_marked p q l e
   event_marked l (AtHost e) = ap shdlc_exchanged (here_marked q p (shdlc_exchanged l) e)
   event_marked l (Tick c es h) = then_there es h (ticks_or_cut c (shdlc_aged l)) (ticks_or_cut c (shdlc_aged (marked p q l))) (tick_marked p q c (shdlc_aged l))
-  event_marked l (TickWithout es h) = then_there es h (ticks_if_waiting (shdlc_aged l)) (ticks_if_waiting (shdlc_aged (marked p q l))) (waits_marked p q (shdlc_aged l))
+  event_marked l (TickWithout es h) =
+      then_there es h (ticks_if_waiting (shdlc_aged l)) (ticks_if_waiting (shdlc_aged (marked p q l))) (waits_marked p q (shdlc_aged l))
 
 -- ## They change no session
 
@@ -193,12 +197,16 @@ pub safe_marked : (kn kf : ℕ) (p q : List (ℕ × Session)) (l : ShdlcLink) �
 safe_marked kn kf p q l bp bq up uq h =
     record {
       hand = h.hand;
-      n_base = λ k. base (shdlc_session_of l.controller k) (shdlc_session_of n k) (shdlc_session_of l.host k) (shdlc_session_of f k) (mine k) (theirs k) (h.n_base k);
-      f_base = λ k. base (shdlc_session_of l.host k) (shdlc_session_of f k) (shdlc_session_of l.controller k) (shdlc_session_of n k) (theirs k) (mine k) (h.f_base k);
+      n_base = λ k. base (shdlc_session_of l.controller k) (shdlc_session_of n k) (shdlc_session_of l.host k) (shdlc_session_of f k) (mine k) (theirs k)
+          (h.n_base k);
+      f_base = λ k. base (shdlc_session_of l.host k) (shdlc_session_of f k) (shdlc_session_of l.controller k) (shdlc_session_of n k) (theirs k) (mine k)
+          (h.f_base k);
       n_live = lives (live n.side.phase (sans l.to_controller)) (shdlc_session_of l.controller (shdlc_number_of n)) (shdlc_session_of n (shdlc_number_of n))
-          (shdlc_session_of l.host (shdlc_number_of n)) (shdlc_session_of f (shdlc_number_of n)) (mine (shdlc_number_of n)) (theirs (shdlc_number_of n)) h.n_live;
+          (shdlc_session_of l.host (shdlc_number_of n)) (shdlc_session_of f (shdlc_number_of n)) (mine (shdlc_number_of n))
+          (theirs (shdlc_number_of n)) h.n_live;
       f_live = lives (live f.side.phase (sans l.to_host)) (shdlc_session_of l.host (shdlc_number_of f)) (shdlc_session_of f (shdlc_number_of f))
-          (shdlc_session_of l.controller (shdlc_number_of f)) (shdlc_session_of n (shdlc_number_of f)) (theirs (shdlc_number_of f)) (mine (shdlc_number_of f)) h.f_live;
+          (shdlc_session_of l.controller (shdlc_number_of f)) (shdlc_session_of n (shdlc_number_of f)) (theirs (shdlc_number_of f))
+          (mine (shdlc_number_of f)) h.f_live;
       n_past = let P : ℕ → Type 0 = λ b. Below b (l.controller.past ++ p) in
           subst P (sym (bound_below p l.controller)) (below_both (bound l.controller) l.controller.past p h.n_past up);
       f_past = let P : ℕ → Type 0 = λ b. Below b (l.host.past ++ q) in
@@ -249,13 +257,15 @@ abbrev one : ℕ → List (ℕ × Session)
 one n = (n, no_session) ∷ []
 
 -- as things happen at the end
-pub turns_past : (n kf : ℕ) (es : List ShdlcEndEvent) (l : ShdlcLink) → AreTurns es → SafeLink 0 kf l → IsPast n l.controller → IsPast n (shdlc_all_at_controller l es).controller
+pub turns_past : (n kf : ℕ) (es : List ShdlcEndEvent) (l : ShdlcLink) → AreTurns es → SafeLink 0 kf l → IsPast n l.controller
+    → IsPast n (shdlc_all_at_controller l es).controller
 turns_past n kf es l a s x =
     let P : ShdlcLink → Type 0 = λ k. SafeLink 0 kf k in
     (near_bound 0 kf (one n) [] (shdlc_all_at_controller l es)
     (subst P (all_marked (one n) [] es l) (safe_turns kf es (marked (one n) [] l) a (safe_marked 0 kf (one n) [] l (refl, tt) tt (x, tt) tt s)))).0
 
-events_safe : (p q : List (ℕ × Session)) (es : List ShdlcLinkEvent) (l : ShdlcLink) → AllShdlcAllowed es → SafeLink 0 0 (marked p q l) → SafeLink 0 0 (marked p q (shdlc_after l es))
+events_safe : (p q : List (ℕ × Session)) (es : List ShdlcLinkEvent) (l : ShdlcLink) → AllShdlcAllowed es → SafeLink 0 0 (marked p q l)
+    → SafeLink 0 0 (marked p q (shdlc_after l es))
 events_safe p q [] l a s = s
 events_safe p q (e ∷ es) l a s =
     let r = safe_event (marked p q l) e es a s in
@@ -263,7 +273,8 @@ events_safe p q (e ∷ es) l a s =
     events_safe p q es (shdlc_happens l e) r.1 (subst P (event_marked p q l e) r.0)
 
 -- as things happen on the link
-pub near_past : (n : ℕ) (es : List ShdlcLinkEvent) (l : ShdlcLink) → AllShdlcAllowed es → SafeLink 0 0 l → IsPast n l.controller → IsPast n (shdlc_after l es).controller
+pub near_past : (n : ℕ) (es : List ShdlcLinkEvent) (l : ShdlcLink) → AllShdlcAllowed es → SafeLink 0 0 l → IsPast n l.controller
+    → IsPast n (shdlc_after l es).controller
 near_past n es l a s x =
     (near_bound 0 0 (one n) [] (shdlc_after l es) (events_safe (one n) [] es l a (safe_marked 0 0 (one n) [] l (refl, tt) tt (x, tt) tt s))).0
 

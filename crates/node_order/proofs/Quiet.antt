@@ -68,7 +68,8 @@ module _ (h : ℕ) (l : Link) (t : List Entry) (a : IsLinkTold h l t) where
   -- both ends have this of the session that goes on
   near_now : l.controller.side.shdlc.phase ≡ Up → IsReadOff t (end_c h) (number_of l.controller) (talk_now l.controller.side)
   near_now up =
-      let P : Talk → Type 0 = λ k. IsReadOff t (end_c h) (number_of l.controller) k in subst P (talk_up l.controller up) (read_controller (number_of l.controller))
+      let P : Talk
+      → Type 0 = λ k. IsReadOff t (end_c h) (number_of l.controller) k in subst P (talk_up l.controller up) (read_controller (number_of l.controller))
 
   far_now : l.controller.side.shdlc.phase ≡ Up → l.host.side.shdlc.phase ≡ Up → IsReadOff t (end_h h) (number_of l.controller) (talk_now l.host.side)
   far_now near up =

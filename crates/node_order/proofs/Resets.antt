@@ -113,7 +113,8 @@ none_refused : (o : Option Refused) → as_noted o ≡ None → o ≡ None
 none_refused None q = refl
 none_refused (Some why) q = absurd (cc q)
 
-module _ (w : NodeWorld) (t : List Entry) (X : ℕ → WatchedLink) (a : IsWell w) (each : Each t X w) (k : ℕ) (window : Option ℕ) (may : IsWindow window) (s : Site)
+module _ (w : NodeWorld) (t : List Entry) (X : ℕ → WatchedLink) (a : IsWell w) (each : Each t X w) (k : ℕ) (window : Option ℕ) (may : IsWindow window)
+    (s : Site)
     (there : site_at w.sites k ≡ Some s) where
   abbrev comes : Comes
   comes = AsksReset window

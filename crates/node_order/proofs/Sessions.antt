@@ -30,7 +30,8 @@ part Host x = x.host
 
 -- ## What is said of an end
 
-said_own : (who : Side) (s : Saying) (x : Standing) → part who (cond (end_of 0 who).at_host (said_far s x) (said_near s x)) ≡ session_after (part who x) (Some s)
+said_own : (who : Side) (s : Saying) (x : Standing)
+    → part who (cond (end_of 0 who).at_host (said_far s x) (said_near s x)) ≡ session_after (part who x) (Some s)
 said_own Controller (Begins n) x = refl
 said_own Controller Ends x = refl
 said_own Controller (Sends n m) x = refl
@@ -176,7 +177,8 @@ module _ (h : ℕ) (who : Side) (host : (h == 0) ≡ false) where
   one_law x (Acked w n count) = said_part h who x (Some (end_of h w, Counts n count)) ∙ stays_same (same_end (end_of h w) e) (Counts n count) (part who x) refl
   one_law x (Emit w c) = said_part h who x (Some (end_of h w, Puts (lpdu_of c))) ∙ stays_same (same_end (end_of h w) e) (Puts (lpdu_of c)) (part who x) refl
   one_law x (Took w c) = said_part h who x (Some (end_of h w, Takes (lpdu_of c))) ∙ stays_same (same_end (end_of h w) e) (Takes (lpdu_of c)) (part who x) refl
-  one_law x (Lost w c why) = said_part h who x (Some (end_of h w, Loses (lpdu_of c))) ∙ stays_same (same_end (end_of h w) e) (Loses (lpdu_of c)) (part who x) refl
+  one_law x (Lost w c why) = said_part h who x (Some (end_of h w, Loses (lpdu_of c)))
+      ∙ stays_same (same_end (end_of h w) e) (Loses (lpdu_of c)) (part who x) refl
   one_law x (Active w) = refl
   one_law x (GaveUp w tries) = refl
   one_law x Tick = refl

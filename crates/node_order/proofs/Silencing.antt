@@ -341,7 +341,8 @@ module _ (f : Entry → Bool) (mute : HearsNone f) where
   all_mute [] l q = true≢false (sym q)
   all_mute (e ∷ es) l q =
       all_mute es (happens_at_controller l e)
-      (none f mute.deaf (here_mute Controller l e) (hears_parts f (here_entries Controller l e) (entries_of_events Controller (happens_at_controller l e) es) q))
+      (none f mute.deaf (here_mute Controller l e)
+      (hears_parts f (here_entries Controller l e) (entries_of_events Controller (happens_at_controller l e) es) q))
 
   event_mute : (l : Link) (e : LinkEvent) → Hears f (event_entries l e) → ⊥
   event_mute l (AtController e) q = here_mute Controller l e q

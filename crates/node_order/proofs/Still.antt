@@ -200,7 +200,8 @@ are_plain (Tick ∷ t) a b = (tt, are_plain t a b)
 
 -- ## A link that is still
 
-module _ (h : ℕ) (l : Link) (events : List Occurrence) (host : (h == 0) ≡ false) (a : IsLinkTold h l (entries_in events)) (wires : AreWiresRead events h l) where
+module _ (h : ℕ) (l : Link) (events : List Occurrence) (host : (h == 0) ≡ false) (a : IsLinkTold h l (entries_in events))
+    (wires : AreWiresRead events h l) where
   abbrev t : List Entry
   t = entries_in events
 

@@ -63,7 +63,8 @@ module _ (k : ℕ) (hosts : List ℕ) where
   leaves (Activates j sync power) u p q = rw (p, q) refl
   leaves c u p q = rw q refl
 
-  leaves_known : (w : NodeWorld) (c : Happening) → opens_on k c ≡ false → list_any (withholds_on k) (world_step w c).1 ≡ false → LeavesKnown (of_one k) hosts w c
+  leaves_known : (w : NodeWorld) (c : Happening) → opens_on k c ≡ false → list_any (withholds_on k) (world_step w c).1 ≡ false
+      → LeavesKnown (of_one k) hosts w c
   leaves_known w c p q h is =
       let P : ℕ → Type 0 = λ n. (watched n (watch_begins n c (record { stands = new_standing; since = true })) (world_step w c).1).since ≡ true in
       subst P (sym (eqb-true h k is)) (leaves c (world_step w c).1 p q)
@@ -76,7 +77,8 @@ module _ (k : ℕ) (hosts : List ℕ) where
   known_behind (o ∷ events) os w done q p a =
       let c : Happening = o.cause in
       let u : List Entry = o.entries in
-      let both = or_none (list_any (withholds_on k) u) (list_any (withholds_on k) (entries_in events)) (sym (list_any-append (withholds_on k) u (entries_in events)) ∙ q) in
+      let both = or_none (list_any (withholds_on k) u) (list_any (withholds_on k) (entries_in events))
+      (sym (list_any-append (withholds_on k) u (entries_in events)) ∙ q) in
       let opens = or_none (opens_on k c) (list_any (λ (x : Occurrence). opens_on k x.cause) events) p in
       let is : occurs w c ≡ o = ap (λ (z : List Entry). record { cause = c; entries = z }) (sym done.0.0) in
       let left : list_any (withholds_on k) (world_step w c).1 ≡ false = ap (list_any (withholds_on k)) (sym done.0.0) ∙ both.0 in

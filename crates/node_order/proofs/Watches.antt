@@ -51,7 +51,8 @@ pub record IsSince (l : Link) : Type 0 where
   pub behind : List LinkEvent
   pub run : IsRunOf (before ++ reset ∷ behind) l
   pub asked : IsReset (after_link_events new_line before) reset
-  pub undisturbed : list_any withholds (rest_of (after_link_events new_line before) reset ++ entries (happens (after_link_events new_line before) reset) behind) ≡ false
+  pub undisturbed : list_any withholds (rest_of (after_link_events new_line before) reset ++ entries (happens (after_link_events new_line before) reset) behind)
+      ≡ false
 
 -- one event more
 pub since_more : (l : Link) (e : LinkEvent) → IsEvent l e → list_any withholds (event_entries l e) ≡ false → IsSince l → IsSince (happens l e)
@@ -74,7 +75,8 @@ since_more l e can none a =
       run = subst R (append_assoc a.before (a.reset ∷ a.behind) (e ∷ [])) (run_of_more es l e can a.run);
       asked = a.asked;
       undisturbed = ap (list_any withholds) all
-          ∙ (list_any-append withholds (rest ++ entries m a.behind) (event_entries l e) ∙ (ap (λ b. b || list_any withholds (event_entries l e)) a.undisturbed ∙ none));
+          ∙ (list_any-append withholds (rest ++ entries m a.behind) (event_entries l e)
+          ∙ (ap (λ b. b || list_any withholds (event_entries l e)) a.undisturbed ∙ none));
     }
 
 -- ## What is told of power
@@ -345,7 +347,8 @@ since_known h c x u b q leaves = subst P (sym q) (same c leaves)
     rest : Bool
     rest = not (list_any (withholds_on h) u)
 
-    go : (b : Bool) → ((cond b (unwatched (record { stands = new_standing; since = true })) (record { stands = new_standing; since = true })).since && rest) ≡ true
+    go : (b : Bool)
+        → ((cond b (unwatched (record { stands = new_standing; since = true })) (record { stands = new_standing; since = true })).since && rest) ≡ true
         → ((cond b (unwatched (record { stands = x; since = true })) (record { stands = x; since = true })).since && rest) ≡ true
     go true z = z
     go false z = z

@@ -175,7 +175,8 @@ event_seen h l t e a =
     let es : List LinkEvent = a.events in
     let m : Link = after_link_events new_line es in
     let before : see_all nothing_seen (entries new_line es) ≡ kept m = read_off new_line IsLine es in
-    let behind : see_all nothing_seen (entries new_line (es ++ e ∷ [])) ≡ kept (after_link_events new_line (es ++ e ∷ [])) = read_off new_line IsLine (es ++ e ∷ []) in
+    let behind : see_all nothing_seen (entries new_line (es ++ e ∷ [])) ≡ kept (after_link_events new_line (es ++ e ∷ [])) =
+    read_off new_line IsLine (es ++ e ∷ []) in
     let last : see_all (kept m) (entries m (e ∷ [])) ≡ kept (happens m e) =
     sym (ap (see_all nothing_seen) (entries-append es (e ∷ []) new_line)
     ∙ (see_all-append nothing_seen (entries new_line es) (entries m (e ∷ [])) ∙ ap (λ s. see_all s (entries m (e ∷ []))) before))

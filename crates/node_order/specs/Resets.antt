@@ -39,7 +39,8 @@ opens_on h _ = false
 -- Behind the events before it an end was reset, while the other end of its link was active and not waiting, and kept its power. Behind
 -- that reset no frame of the link was lost, no other RSET put on it, no power of its nodes cut and no activation of it begun, and now both
 -- its wires are empty.
-pub record IsUpheld (hosts : List ℕ) (before : List Occurrence) (reset : Occurrence) (behind : List Occurrence) (e : End) (window : Option ℕ) (s : Site) : Type 0 where
+pub record IsUpheld (hosts : List ℕ) (before : List Occurrence) (reset : Occurrence) (behind : List Occurrence) (e : End) (window : Option ℕ)
+    (s : Site) : Type 0 where
   pub cause : reset.cause ≡ Resets e window
   pub there : site_at (world_behind (new_world hosts) before).sites e.link ≡ Some s
   pub active : is_open (machine_of s.link (other_end e)).role ≡ true

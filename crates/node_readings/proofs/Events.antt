@@ -146,7 +146,8 @@ module _ (hosts : List ℕ) (are : AreHosts hosts) where
 
   ticked_host : (l : Link) (late : Bool) (ts : List Turn) (ending : Ending) → (ticked_so l late ts ending).host ≡ l.host
   ticked_host l late ts ending =
-      cond_both (late && not (is_waiting l.controller.side.shdlc)) (has_input l (Reset None) ts ending) (ticks_at_controller l ts ending) (λ (m : Link). m.host ≡ l.host)
+      cond_both (late && not (is_waiting l.controller.side.shdlc)) (has_input l (Reset None) ts ending) (ticks_at_controller l ts ending)
+      (λ (m : Link). m.host ≡ l.host)
       (λ _. here_host l (Step (AsksReset None) ts ending)) (λ _. tick_host l ts ending)
 
   near_ticks : (t : List Entry) (w : NodeWorld) → AllRead hosts t w → AllRead hosts (t ++ (controller_ticks w).1) (controller_ticks w).0

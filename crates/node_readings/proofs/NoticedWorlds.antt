@@ -94,14 +94,15 @@ side_map f host side (s ∷ sites) n = go (cases_Bool (eqb s.host n)) (side_map 
 
 pub side_with : (h : ℕ) (f : Site → Site) → ((s : Site) → (f s).host ≡ s.host) → ((s : Site) → (f s).link.controller.side ≡ s.link.controller.side)
     → (sites : List Site) (n : ℕ) → (link_to (with_site h f sites) n).controller.side ≡ (link_to sites n).controller.side
-side_with h f host side sites n = side_map (λ (s : Site). changed_if (eqb s.host h) f s) (λ s. hosts (eqb s.host h) s) (λ s. sides (eqb s.host h) s) sites n where
-  hosts : (b : Bool) (s : Site) → (changed_if b f s).host ≡ s.host
-  hosts true s = host s
-  hosts false s = refl
+side_with h f host side sites n =
+    side_map (λ (s : Site). changed_if (eqb s.host h) f s) (λ s. hosts (eqb s.host h) s) (λ s. sides (eqb s.host h) s) sites n where
+      hosts : (b : Bool) (s : Site) → (changed_if b f s).host ≡ s.host
+      hosts true s = host s
+      hosts false s = refl
 
-  sides : (b : Bool) (s : Site) → (changed_if b f s).link.controller.side ≡ s.link.controller.side
-  sides true s = side s
-  sides false s = refl
+      sides : (b : Bool) (s : Site) → (changed_if b f s).link.controller.side ≡ s.link.controller.side
+      sides true s = side s
+      sides false s = refl
 
 -- what happens at the host's end leaves the controller's
 pub far_side : (l : Link) (e : EndEvent) → (happens l (AtHost e)).controller.side ≡ l.controller.side
@@ -175,7 +176,8 @@ ending_is : (k : Work) → k.cut ≡ false → ending_of k ≡ GoesOut
 ending_is k z = rw z refl
 
 step_phase : (l : Link) (b : Bool) (comes : Comes) (i : LinkInput) (ts : List Turn) → (b ≡ true → input_of l comes ≡ Some i)
-    → (steps_at_controller l (cond b comes NoInput) ts GoesOut).controller.side.shdlc.phase ≡ (cond b (after_input l.controller.side i) l.controller.side).shdlc.phase
+    → (steps_at_controller l (cond b comes NoInput) ts GoesOut).controller.side.shdlc.phase
+    ≡ (cond b (after_input l.controller.side i) l.controller.side).shdlc.phase
 step_phase l true comes i ts input = stepped_phase l comes ts i (input refl)
 step_phase l false comes i ts input = sent_phase l.controller.side ts
 
@@ -431,7 +433,8 @@ lost_up w e why a = go e.at_host refl where
       subst NoticesAreUp (sym (near_is b)) (kept (with_site e.link lost w.sites) w.sites (counts why e.link w.controller)
       (side_with e.link lost (λ s. refl) (λ s. lost_side e why s.link) w.sites) (counts_up w.sites why e.link w.controller a))
   go true b =
-      subst NoticesAreUp (sym (far_is b)) (kept (with_site e.link (λ (s : Site). record (lost s) { node = counts why e.link s.node }) w.sites) w.sites w.controller
+      subst NoticesAreUp (sym (far_is b))
+      (kept (with_site e.link (λ (s : Site). record (lost s) { node = counts why e.link s.node }) w.sites) w.sites w.controller
       (side_with e.link (λ (s : Site). record (lost s) { node = counts why e.link s.node }) (λ s. refl) (λ s. lost_side e why s.link) w.sites) a)
 
 -- ## Ticks

@@ -106,7 +106,8 @@ module _ (t es : List Entry) (h : ℕ) (f : Site → Site) (silent : (k : ℕ) �
 -- ## Nodes
 
 -- a controller begins a step away from each host
-pub controller_away : (r : Running) → r.core.node ≡ 0 → (k : ℕ) (host : IsHost k) (plan : Option Plan) (halves : ℕ → NumberedEnd) (es : List Entry) → AreSilent k es
+pub controller_away : (r : Running) → r.core.node ≡ 0 → (k : ℕ) (host : IsHost k) (plan : Option Plan) (halves : ℕ → NumberedEnd) (es : List Entry)
+    → AreSilent k es
     → IsAway k 0 (none_zero k host) Controller (work_of r plan halves es)
 controller_away r number k host plan halves es silent = record {
   number = number;
@@ -128,7 +129,8 @@ runs_zero k e = go k.cut refl where
   go false z = subst IfZero (sym (on_is z)) e
 
 -- a host begins a step away from each other one
-pub host_away : (h : ℕ) → IsHost h → (link : Link) (r : Running) → HostRuns h link r → (k : ℕ) (other : eqb h k ≡ false) (plan : Option Plan) (half : NumberedEnd)
+pub host_away : (h : ℕ) → IsHost h → (link : Link) (r : Running) → HostRuns h link r
+    → (k : ℕ) (other : eqb h k ≡ false) (plan : Option Plan) (half : NumberedEnd)
     (es : List Entry) → AreSilent k es → IsAway k h other Host (work_of r plan (λ n. half) es)
 host_away h host link r so k other plan half es silent = record {
   number = so.number;

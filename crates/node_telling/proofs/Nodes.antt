@@ -284,7 +284,8 @@ module _ (s : Site) (r : Running) (comes : Comes) (host : (s.host == 0) ≡ fals
         stands = host_stands (Some i) v q (is_step comes i)
             (steps_powered s.host s.host (without_power Host) (own_power s.host host) (twice Host) (AtEnd s.host i) HostStart node.number refl start_uncut) own;
         leaves = λ h z. step_away h s.host (other_power s.host h host z) v _
-            (steps_powered h s.host (λ x. x) (other_power s.host h host z) (λ x. refl) (AtEnd s.host i) HostStart node.number refl start_uncut) out.0 (others h z);
+            (steps_powered h s.host (λ x. x) (other_power s.host h host z) (λ x. refl) (AtEnd s.host i) HostStart node.number refl start_uncut) out.0
+            (others h z);
       }
 
 -- a host does these things of itself

@@ -238,7 +238,8 @@ module _ (h n : ℕ) (off : Standing → Standing) (powers : (x : Standing) → 
   came_uncut (AtEnd k i) w u =
       uncut-append w.entries _ u (uncut_flat (λ p. told_at w.core p (input_at (AtEnd k i) p)) (λ p. told_uncut w.core p (input_at (AtEnd k i) p)) w.ports)
   came_uncut TimePasses w u =
-      uncut-append _ _ (uncut-append w.entries _ u (uncut_flat (λ p. told_at w.core p (input_at TimePasses p)) (λ p. told_uncut w.core p (input_at TimePasses p)) w.ports))
+      uncut-append _ _
+      (uncut-append w.entries _ u (uncut_flat (λ p. told_at w.core p (input_at TimePasses p)) (λ p. told_uncut w.core p (input_at TimePasses p)) w.ports))
       (uncut_flat (told_late w.core) (late_uncut w.core) (map with_older (all_come TimePasses w).ports))
 
   came_cut : (input : NodeInput) (w : Work) → (times_out input (all_come input w)).cut ≡ w.cut

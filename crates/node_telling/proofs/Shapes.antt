@@ -82,8 +82,11 @@ clear_pushed who wire = go (nat_lt 64 (length wire))
 
 clear_puts : (who : Side) (l : Link) (cs : List Control) → AreClear (puts_entries who l cs)
 clear_puts who l [] = tt
-clear_puts who l (c ∷ cs) =
-    (tt, clear-append (pushed_out (far who) (wire_with l c)) (puts_entries who (put l c) cs) (clear_pushed (far who) (wire_with l c)) (clear_puts who (put l c) cs))
+clear_puts who l (c ∷ cs) = (
+  tt,
+  clear-append (pushed_out (far who) (wire_with l c)) (puts_entries who (put l c) cs) (clear_pushed (far who) (wire_with l c))
+      (clear_puts who (put l c) cs),
+)
 
 pub clear_aged : (who : Side) (xs : List OnWire) → AreClear (aged_entries who xs)
 clear_aged who [] = tt
@@ -165,7 +168,8 @@ shaped_step who l NextFrame ts ending (Some i) q c = go l.to_controller q
     go (x ∷ xs) e =
         let k : Link = at_wire (x ∷ xs) in
         let near : NumberedEnd = record k.controller { took = took_with k.controller.took x } in
-        let rest : List Noted = told_of who near (Take x.frame) ++ rest_entries who (left_after k x xs) (after_input k.controller.side (Take x.frame)) ts ending in
+        let rest : List Noted =
+        told_of who near (Take x.frame) ++ rest_entries who (left_after k x xs) (after_input k.controller.side (Take x.frame)) ts ending in
         record {
           rest = Took who x.frame ∷ rest;
           shaped = shaped_behind who ending (Took who x.frame ∷ []) rest (tt, tt)

@@ -133,7 +133,8 @@ module _ (h : ℕ) where
       go (Some n) b none =
           let k : Work = host_tick x n in
           step_away h x.host (other_power x.host h host q) k (frames_noted Host x.host (exchanged x.link) k)
-          (steps_powered h x.host (λ z. z) (other_power x.host h host q) (λ z. refl) TimePasses (work_of n x.memory.plan (λ j. x.link.host) []) b.number refl tt)
+          (steps_powered h x.host (λ z. z) (other_power x.host h host q) (λ z. refl) TimePasses
+          (work_of n x.memory.plan (λ j. x.link.host) []) b.number refl tt)
           (own_frames Host x.host (exchanged x.link) k).0 none y
 
   abbrev pub AreNumbered : List Site → Type 0
@@ -263,7 +264,8 @@ host_stands_so x n host node young =
     let l : Link = exchanged x.link in
     let out = own_frames Host x.host l k in
     step_stands x.host x.host Host (own_power x.host host) k (frames_noted Host x.host l k) (tick_entries Host l (had k x.host))
-    (steps_powered x.host x.host (without_power Host) (own_power x.host host) (twice Host) TimePasses (work_of n x.memory.plan (λ j. x.link.host) []) node.number
+    (steps_powered x.host x.host (without_power Host) (own_power x.host host) (twice Host) TimePasses
+    (work_of n x.memory.plan (λ j. x.link.host) []) node.number
     refl tt)
     out.0 out.1 (shaped_tick Host l (had k x.host)) (host_tells x n host node young)
 

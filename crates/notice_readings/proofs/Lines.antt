@@ -30,7 +30,8 @@ schedule_is : (header : Header) (lines : List Line) (t : NodeHistory) → Follow
 schedule_is header lines t follows are =
     subst (λ l. KeepsNotices l (world_after (new_world header.hosts.items) lines))
     (ap (λ (steps : List LineStep). entries_in (flat_map (λ (s : LineStep). occurrences_of s.outcome) steps)) (sym follows.steps_are))
-    (lines_last KeepsNotices MayBoot AnyLine event_read boots_may lines [] (new_world header.hosts.items) (begins_read header.hosts.items are) (all_lines lines))
+    (lines_last KeepsNotices MayBoot AnyLine event_read boots_may lines [] (new_world header.hosts.items) (begins_read header.hosts.items are)
+    (all_lines lines))
 
 pub schedule_read : (header : Header) (lines : List Line) (t : NodeHistory) → FollowsNodes header lines t → AreHosts header.hosts.items
     → NoticesAreRead (node_entries t) (world_after (new_world header.hosts.items) lines)

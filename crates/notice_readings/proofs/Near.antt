@@ -173,7 +173,8 @@ module _ (t : List Entry) (w : NodeWorld) (r : Running) (has : HasEnds 0 (hosts_
 
     go : (after_it.cut ≡ true) ⊎ (after_it.cut ≡ false) → IfReads (t ++ (after_it.entries ++ frames)) (runs_on after_it)
     go (inl e) =
-        subst (IfReads (t ++ (after_it.entries ++ frames))) (sym (off_is e)) (λ x. let gone = none e x (stands x) in (parts x ∙ gone.0, parts_asking x ∙ gone.1))
+        subst (IfReads (t ++ (after_it.entries ++ frames))) (sym (off_is e))
+        (λ x. let gone = none e x (stands x) in (parts x ∙ gone.0, parts_asking x ∙ gone.1))
     go (inr e) = subst (IfReads (t ++ (after_it.entries ++ frames))) (sym (on_is e)) (record {
       sorted = (on e 0 (stands 0)).sorted;
       two = (on e 0 (stands 0)).two;

@@ -38,7 +38,8 @@ module _ (content body : List ℕ) (state : State) (says : Says content state) (
 
   pub says_after : Says (after_writes (append_writes state body) content) (appended state body)
   says_after = subst (λ s. Says (then s) (appended s body)) says.state_is
-      (says_started (then (state_of content)) (appended (state_of content) body) (append_started content body started has_room) (append_says content body started has_room))
+      (says_started (then (state_of content)) (appended (state_of content) body) (append_started content body started has_room)
+      (append_says content body started has_room))
 
   pub records_after : records (after_writes (append_writes state body) content) ≡ records content ++ body ∷ []
   records_after = subst (λ s. records (then s) ≡ records content ++ body ∷ []) says.state_is

@@ -23,7 +23,9 @@ pub made_at : {M : Type 0} (writes : M → ℕ → List ℕ → Bool → M → T
 made_at writes s side bodies at bytes old ok new is at_is bytes_are made =
     subst (λ planned. AreMade writes planned old ok new)
     (ap₂ (λ p b. close_bank s.beside p ++ write (p + 1) b ∷ write p (90 ∷ []) ∷ []) at_is bytes_are
-    ∙ ap (λ o. option_map_or (λ t. close_bank s.beside (bank_place (other t)) ++ open_bank (bank_place (other t)) (s.generation + 1) (count_of s) bodies) o []) (sym is))
+    ∙ ap
+    (λ o. option_map_or (λ t. close_bank s.beside (bank_place (other t)) ++ open_bank (bank_place (other t)) (s.generation + 1) (count_of s) bodies) o [])
+    (sym is))
     made
 
 module _ (content : List ℕ) (bodies : List (List ℕ)) (state : State) (says : Says content state) (can : CanCompact state bodies) where
@@ -38,7 +40,8 @@ module _ (content : List ℕ) (bodies : List (List ℕ)) (state : State) (says :
 
   pub says_after : Says (after_writes (compact_writes state bodies) content) (compacted state bodies)
   says_after = subst (λ s. Says (then s) (compacted s bodies)) says.state_is
-      (says_started (then (state_of content)) (compacted (state_of content) bodies) (compact_started content bodies started can_now) (compact_says content bodies started can_now))
+      (says_started (then (state_of content)) (compacted (state_of content) bodies) (compact_started content bodies started can_now)
+      (compact_says content bodies started can_now))
 
   pub records_after : records (after_writes (compact_writes state bodies) content) ≡ bodies
   records_after = subst (λ s. records (then s) ≡ bodies) says.state_is

@@ -27,7 +27,8 @@ module _ (c : List ℕ) (long : 65536 ≤ length c) where
   state = begun_scan (head c First) (head c Second)
 
   abbrev state_in : Option Side → State
-  state_in o = option_map_or (λ side. begun_in side (head_at (head c First) (head c Second) side) (is_opened_gate (head_at (head c First) (head c Second) (other side)).gate))
+  state_in o = option_map_or
+      (λ side. begun_in side (head_at (head c First) (head c Second) side) (is_opened_gate (head_at (head c First) (head c Second) (other side)).gate))
       o (state_by None unformatted false)
 
   begun_side : (side : Side) → current c ≡ Some side → state ≡ begun_in side (head c side) (is_opened_gate (head c (other side)).gate)
@@ -68,7 +69,8 @@ module _ (c : List ℕ) (long : 65536 ≤ length c) where
   none_begun : current c ≡ None → IsTrue (state.version == 1 || state.version == 2) → Says c state
   none_begun is known = record {
     size = long;
-    state_is = ap₂ (λ o (j : Journal). state_by o j (option_map_or (λ side. is_opened_gate (head c (other side)).gate) o false)) is (no_journal c is) ∙ sym (ap state_in is);
+    state_is = ap₂ (λ o (j : Journal). state_by o j (option_map_or (λ side. is_opened_gate (head c (other side)).gate) o false)) is (no_journal c is)
+        ∙ sym (ap state_in is);
     sound = record {
       known = subst (λ v. IsTrue (v == 1 || v == 2)) (sym version_begun) known;
       good = ap (λ (j : Journal). j.found.is_bad) (no_journal c is);
@@ -91,8 +93,10 @@ module _ (c : List ℕ) (long : 65536 ≤ length c) where
 
   pub unknown_is_told : state.version ≢ 1 → state.version ≢ 2 → fault c ≡ Some (UnknownFormat state.version)
   unknown_is_told not_1 not_2 =
-      ap (λ v. cond (v == 1 || v == 2) (cond (journal c).found.is_bad (Some (BadRecord (gate_at c (length (records c))))) None) (Some (UnknownFormat v))) version_begun
-      ∙ ap (λ b. cond b (cond (journal c).found.is_bad (Some (BadRecord (gate_at c (length (records c))))) None) (Some (UnknownFormat state.version))) (unknown state.version not_1 not_2)
+      ap (λ v. cond (v == 1 || v == 2) (cond (journal c).found.is_bad (Some (BadRecord (gate_at c (length (records c))))) None)
+      (Some (UnknownFormat v))) version_begun
+      ∙ ap (λ b. cond b (cond (journal c).found.is_bad (Some (BadRecord (gate_at c (length (records c))))) None) (Some (UnknownFormat state.version)))
+      (unknown state.version not_1 not_2)
     where
       unknown : (v : ℕ) → v ≢ 1 → v ≢ 2 → (v == 1 || v == 2) ≡ false
       unknown v a b = grind (arith, nat_tests)

@@ -21,7 +21,8 @@ some_side : (o : Option Side) (ended : Bool) → (o ≡ None → IsTrue ended) �
 some_side None ended idle going = absurd (true≢false (sym (idle refl) ∙ going))
 some_side (Some side) ended idle going = (side, refl)
 
-module _ (c : List ℕ) (state : State) (ahead : List ℕ) (ended : Bool) (says : SaysSoFar c state ahead ended) (going : ended ≡ false) (idle : state.in_use ≡ None → IsTrue ended)
+module _ (c : List ℕ) (state : State) (ahead : List ℕ) (ended : Bool) (says : SaysSoFar c state ahead ended) (going : ended ≡ false)
+    (idle : state.in_use ≡ None → IsTrue ended)
     (few : 3 * state.many ≤ state.size) (inside : state.size < 32756) (known : IsTrue (state.version == 1 || state.version == 2))
     (enough : min 65 (left state) ≤ length ahead) where
   abbrev side : Side
@@ -64,7 +65,8 @@ module _ (c : List ℕ) (state : State) (ahead : List ℕ) (ended : Bool) (says 
   pub faulty_so_far : Bad ≡ gate_of state.version state.many (left state) ahead → IsFaulty c state.many (BadRecord (next_place state))
   faulty_so_far is = record { fault_is = bad_so_far is; last = bad_is_last is }
 
-  module _ (len : ℕ) (is : Record len ≡ gate_of state.version state.many (left state) ahead) (short : len ≤ 61) (fits : 2 + index_len state.version + len < left state) where
+  module _ (len : ℕ) (is : Record len ≡ gate_of state.version state.many (left state) ahead) (short : len ≤ 61)
+      (fits : 2 + index_len state.version + len < left state) where
     right : (is_opened_gate (slice_index bytes 0) ≡ true) × (is_record state.version state.many (length bytes) bytes ≡ true) × (slice_index bytes 1 ≡ len)
     right = record_gate state.version state.many (length bytes) len bytes (sym gate_now ∙ sym is)
 
@@ -80,7 +82,8 @@ module _ (c : List ℕ) (state : State) (ahead : List ℕ) (ended : Bool) (says 
 
     body_is : take len (drop (2 + index_len state.version) ahead) ≡ body state.version bytes
     body_is =
-        window ahead bytes (length ahead) (2 + index_len state.version) len (ap (take (length ahead)) p.ahead_is ∙ take-take (length ahead) (length ahead) bytes (omega arith)) within
+        window ahead bytes (length ahead) (2 + index_len state.version) len
+        (ap (take (length ahead)) p.ahead_is ∙ take-take (length ahead) (length ahead) bytes (omega arith)) within
         ∙ ap (λ n. take n (drop (2 + index_len state.version) bytes)) (sym right.2)
 
     pub record_so_far : slice_get (records c) state.many ≡ Some (take len (drop (2 + index_len state.version) ahead))
@@ -98,7 +101,8 @@ module _ (c : List ℕ) (state : State) (ahead : List ℕ) (ended : Bool) (says 
 
     passed_now : IsPassed c side next_state (drop (2 + index_len state.version + len) ahead)
     passed_now =
-        subst (λ n. IsPassed c side (record state { many = state.many + 1; size = state.size + (2 + index_len state.version + n) }) (drop (2 + index_len state.version + len) ahead)) body_size
+        subst (λ n. IsPassed c side (record state { many = state.many + 1; size = state.size + (2 + index_len state.version + n) })
+        (drop (2 + index_len state.version + len) ahead)) body_size
         (subst (λ n. IsPassed c side (passed_on state (body state.version bytes)) (drop n ahead)) gap_is
         (passed_then c side state ahead p says.size used few inside known right.0 right.1 (omega (arith, gap_is, within))))
 
@@ -106,7 +110,8 @@ module _ (c : List ℕ) (state : State) (ahead : List ℕ) (ended : Bool) (says 
     says_then = record {
       size = says.size;
       in_use = says.in_use;
-      passed = λ s used_too. subst (λ t. IsPassed c t next_state (drop (2 + index_len state.version + len) ahead)) (same_side side s (sym used ∙ used_too)) passed_now;
+      passed = λ s used_too. subst (λ t. IsPassed c t next_state (drop (2 + index_len state.version + len) ahead))
+          (same_side side s (sym used ∙ used_too)) passed_now;
       at_end = λ at_end. absurd (true≢false (sym at_end ∙ going));
     }
       where

@@ -115,7 +115,8 @@ same_state s in_use version generation base snapshot many size beside a b c d e 
 
 -- ---- the next gate
 
-module _ (c : List ℕ) (side : Side) (state : State) (ahead : List ℕ) (p : IsPassed c side state ahead) (long : 65536 ≤ length c) (used : state.in_use ≡ Some side)
+module _ (c : List ℕ) (side : Side) (state : State) (ahead : List ℕ) (p : IsPassed c side state ahead) (long : 65536 ≤ length c)
+    (used : state.in_use ≡ Some side)
     (few : 3 * state.many ≤ state.size) (inside : state.size < 32756) (known : IsTrue (state.version == 1 || state.version == 2)) where
   abbrev bytes : List ℕ
   bytes = drop (next_gate state) (bank c side)
@@ -179,7 +180,8 @@ module _ (c : List ℕ) (side : Side) (state : State) (ahead : List ℕ) (p : Is
 
   pub bad_last : is_opened_gate (slice_index bytes 0) ≡ true → is_record state.version state.many (length bytes) bytes ≡ false → length (records c) ≡ state.many
   bad_last opened wrong =
-      ap (λ (x : Found). length x.bodies) (found_then bad (bad_found state.version most state.many bytes opened wrong)) ∙ ap length (append-nil p.passed) ∙ p.many
+      ap (λ (x : Found). length x.bodies) (found_then bad (bad_found state.version most state.many bytes opened wrong)) ∙ ap length (append-nil p.passed)
+      ∙ p.many
 
   -- a good one
   module _ (opened : is_opened_gate (slice_index bytes 0) ≡ true) (good : is_record state.version state.many (length bytes) bytes ≡ true) where
@@ -203,7 +205,8 @@ module _ (c : List ℕ) (side : Side) (state : State) (ahead : List ℕ) (p : Is
         ap₂ (λ l n. slice_get l n) (ap (λ (x : Found). x.bodies) f) (sym p.many) ∙ get_at_end p.passed b later.bodies
 
     pub body_len : length b ≡ slice_index bytes 1
-    body_len = omega (arith, length-take (slice_index bytes 1) (drop (2 + index_len state.version) bytes), length-drop (2 + index_len state.version) bytes, within)
+    body_len =
+        omega (arith, length-take (slice_index bytes 1) (drop (2 + index_len state.version) bytes), length-drop (2 + index_len state.version) bytes, within)
 
     abbrev then : State
     then = passed_on state b
@@ -217,7 +220,8 @@ module _ (c : List ℕ) (side : Side) (state : State) (ahead : List ℕ) (p : Is
         regroup : g ≡ 2 + index_len state.version + length b → 12 + state.size + g ≡ 12 + (state.size + (2 + index_len state.version + length b))
         regroup is = omega arith
 
-    one_behind : behind p.passed state.size (behind (b ∷ []) g later) ≡ behind (p.passed ++ b ∷ []) (state.size + (2 + index_len state.version + length b)) later
+    one_behind : behind p.passed state.size (behind (b ∷ []) g later)
+        ≡ behind (p.passed ++ b ∷ []) (state.size + (2 + index_len state.version + length b)) later
     one_behind =
         ap₂ (λ l n. record { bodies = l; size = n; is_bad = later.is_bad }) (sym (append_assoc p.passed (b ∷ []) later.bodies)) (regroup (sym gap_is))
       where
@@ -302,4 +306,5 @@ piece_says c state ahead now ended at says going few inside known at_is more fit
 }
   where
     regroup : (side : Side) → state.in_use ≡ Some side → next_place state + length ahead ≡ bank_place side + (next_gate state + length ahead)
-    regroup side used = ap (λ o. option_map_or bank_place o 0 + next_gate state + length ahead) used ∙ add_assoc (bank_place side) (next_gate state) (length ahead)
+    regroup side used = ap (λ o. option_map_or bank_place o 0 + next_gate state + length ahead) used
+        ∙ add_assoc (bank_place side) (next_gate state) (length ahead)

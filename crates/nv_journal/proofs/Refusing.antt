@@ -48,7 +48,8 @@ module _ {N : Type 0} (reads : N → Bool → N → Type 0) (first : N) where
     said = λ t. subst (λ l. Says l s.state) (kept t) (said t);
   }
 
-  pub unformattable_by : (writes : N → ℕ → List ℕ → Bool → N → Type 0) (faults : N → ℕ) (tells : Bool) (content : N → List ℕ) (s : Scanned N) (new : N) (f : JournalFault)
+  pub unformattable_by : (writes : N → ℕ → List ℕ → Bool → N → Type 0) (faults : N → ℕ) (tells : Bool) (content : N → List ℕ) (s : Scanned N) (new : N)
+      (f : JournalFault)
       → IsReadSoFar reads first s → AreMade writes (start_writes s.state) s.nv false new → f ≡ NvFault → s.state.in_use ≡ None
       → faults first ≤ faults s.nv → Rose (faults s.nv) (faults new) → (IsTrue tells → content s.nv ≡ content first)
       → (IsTrue tells → Says (content s.nv) s.state) → (IsTrue tells → LeftByCut format_writes (content s.nv) (content new))

@@ -37,7 +37,8 @@ bodies_of_records bodies short room =
         ap (λ m. found_from 2 m 0 (records_bytes 0 bodies ++ 255 ∷ [])) (omega arith)
         ∙ records_are_read (n - length bodies) 0 bodies (255 ∷ []) (omega (arith, few_records bodies)) short (omega arith)
 
-module _ (bytes : List ℕ) (many : ℕ) (body : List ℕ) (old : AreRecords bytes many (bodies_of bytes)) (short : IsBody body) (room : used (bodies_of bytes) + length body + 4 ≤ 2560) where
+module _ (bytes : List ℕ) (many : ℕ) (body : List ℕ) (old : AreRecords bytes many (bodies_of bytes)) (short : IsBody body)
+    (room : used (bodies_of bytes) + length body + 4 ≤ 2560) where
   abbrev bodies : List (List ℕ)
   bodies = bodies_of bytes
 

@@ -116,7 +116,8 @@ module _ (version : ℕ) where
       Sized f = f.size ≡ size_in version f.bodies
 
       by_gate : Sized later → (is_opened_gate (slice_index bytes 0) ≡ true) ⊎ (is_opened_gate (slice_index bytes 0) ≡ false)
-          → (is_good_record version position bytes ≡ true) ⊎ (is_good_record version position bytes ≡ false) → Sized (found_from version (suc most) position bytes)
+          → (is_good_record version position bytes ≡ true) ⊎ (is_good_record version position bytes ≡ false)
+          → Sized (found_from version (suc most) position bytes)
       by_gate more (inl opened) (inl good) =
           subst Sized (sym (found_good version most position bytes opened good)) (ap₂ (λ a b. a + b) (sym (body_size version position bytes good)) more)
       by_gate more (inl opened) (inr wrong) = subst Sized (sym (bad_found version most position bytes opened wrong)) refl
@@ -243,8 +244,10 @@ module _ (c : List ℕ) (state : State) (says : Says c state) where
     read_there : read ≡ take n bytes
     read_there =
         read_is
-        ∙ ap₂ (λ m l. take m l) (just at) (ap (λ m. drop m c) (gate.place ∙ gate_is k ∙ regroup (bank_place side)) ∙ sym (drop-drop (12 + size) (bank_place side) c))
-        ∙ window (drop (bank_place side) c) (take 32768 (drop (bank_place side) c)) 32768 (12 + size) n (sym (take-take 32768 32768 (drop (bank_place side) c) (omega arith)))
+        ∙ ap₂ (λ m l. take m l) (just at)
+        (ap (λ m. drop m c) (gate.place ∙ gate_is k ∙ regroup (bank_place side)) ∙ sym (drop-drop (12 + size) (bank_place side) c))
+        ∙ window (drop (bank_place side) c) (take 32768 (drop (bank_place side) c)) 32768 (12 + size) n
+        (sym (take-take 32768 32768 (drop (bank_place side) c) (omega arith)))
         (omega (arith, n_is, rest_there, before, gate.place, gate_is k, end_there, inside))
         ∙ ap (take n) (sym (drop-drop size 12 (bank c side)))
       where

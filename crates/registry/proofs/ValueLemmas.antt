@@ -45,6 +45,7 @@ AreValues-with_row v values present h =
     let within = place_of-within v present in
     record {
       sorted = AreRows-with_row place_of_value 2 16 v values h.sorted within.0 within.1;
-      present = AllByRecursion-append IsPresent (rows_before place_of_value (place_of_value v) values) (v ∷ rows_behind place_of_value (place_of_value v) values)
+      present =
+          AllByRecursion-append IsPresent (rows_before place_of_value (place_of_value v) values) (v ∷ rows_behind place_of_value (place_of_value v) values)
           (AllByRecursion-filter IsPresent _ values h.present) (present, AllByRecursion-filter IsPresent _ values h.present);
     }

@@ -8,7 +8,6 @@ use Rattle.swp_base.specs.declared.control_frames.Control.{Control}
 use Rattle.swp_base.specs.declared.control_frames.Control.TheVariants.{I, S, Rset, Ua, Act as ActFrame, Clt}
 use Rattle.shdlc_core.specs.Machine.{EndState, Fragment, Session, taken, take_answer}
 use Rattle.shdlc_core.specs.Offering.{left_waiting}
-use Rattle.shdlc_core.proofs.Offering.{taken_alike}
 use Rattle.hcp_packet.specs.declared.Packet.{Packet}
 use Rattle.hcp_packet.specs.Packets.{packet_of, packets_in, is_good, good_of}
 use Rattle.hcp_chain.specs.Joining.{JoinOutcome, join_step, message_in, given_by, open_after}
@@ -16,6 +15,7 @@ use Rattle.hcp_chain.specs.Joining.JoinOutcome.{Nothing, Message as Whole, Fifth
 use Rattle.hcp_chain.proofs.ReadyLemmas.{given_by-append}
 use Rattle.link_machine.specs.Machine.{Message, LinkEnd, LinkInput, is_faulty, is_open, messages_got, news, brought, got_by}
 use Rattle.link_machine.specs.Machine.LinkInput.{Take, TakeUnknown, TakeBroken, Tick, Reset, Start, Stop, FromNode, Fetch}
+use Rattle.shdlc_core.proofs.OfferedFrames.{taken_alike}
 
 -- ## Of one packet
 

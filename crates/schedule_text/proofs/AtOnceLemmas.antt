@@ -16,7 +16,8 @@ pub sends : (header : Header) (ws : List (List ℕ)) (a b c : List ℕ) → ws �
 sends header ws a b c is at pid message =
     let P : List (List ℕ) → Type 0 = λ l. Ok (read.Line (line.Send at.0 pid.0 message.0)) ≡ by_row (Some header) (row_for (codes "send")) l in
     subst P (sym is)
-    (sym (again header.hci header.hosts.items send_row (a ∷ b ∷ c ∷ []) _ (record { least = omega arith; most = omega arith; words = (at, (pid, (message, tt))) })
+    (sym (again header.hci header.hosts.items send_row (a ∷ b ∷ c ∷ []) _
+    (record { least = omega arith; most = omega arith; words = (at, (pid, (message, tt))) })
     (rw (at.1, pid.1, message.1) refl)))
 
 -- one word that fits its kind

@@ -58,7 +58,8 @@ later_words : (hci : Bool) (hosts : List ℕ) (row : FormRow) (ws : List (List �
 later_words hci hosts row ws = go (is_well_formed hci row ws)
   where
     go : (t : Bool)
-        → AreLater (cond t (option_or (first_digits_fault 2 0 (slots row.kinds ws)) (option_map fault.Host (first_host_fault hosts 0 (slots row.kinds ws)))) (Some fault.Word))
+        → AreLater (cond t (option_or (first_digits_fault 2 0 (slots row.kinds ws)) (option_map fault.Host (first_host_fault hosts 0 (slots row.kinds ws))))
+        (Some fault.Word))
     go true = later_or _ _ (later_first 2 0 (slots row.kinds ws)) (later_host (first_host_fault hosts 0 (slots row.kinds ws)))
     go false = tt
 

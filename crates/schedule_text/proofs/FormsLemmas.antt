@@ -12,6 +12,7 @@ row-find [] first = refl
 row-find (form ∷ forms) first = go (bytes_eq form.first.now first) (row-find forms first)
   where
     go : (t : Bool) → option_map row_of_form (find (λ f. bytes_eq f.first.now first) forms) ≡ row_in (map row_of_form forms) first
-        → option_map row_of_form (cond t (Some form) (find (λ f. bytes_eq f.first.now first) forms)) ≡ cond t (Some (row_of_form form)) (row_in (map row_of_form forms) first)
+        → option_map row_of_form (cond t (Some form) (find (λ f. bytes_eq f.first.now first) forms))
+        ≡ cond t (Some (row_of_form form)) (row_in (map row_of_form forms) first)
     go true h = refl
     go false h = h

@@ -58,7 +58,8 @@ pub holds_longer : (start : Start) (first word letters : List ℕ) (more : List 
     → HoldsText start (spaced (first ∷ (more ++ word ∷ [])) ++ letters) t → HoldsWords start (first ∷ (more ++ (word ++ letters) ∷ [])) t
 holds_longer start first word letters more t h =
     subst (λ x. HoldsText start x t)
-    (ap (λ t. t ++ letters) (spaced-push first word more) ∙ append_assoc (spaced (first ∷ more)) (32 ∷ word) letters ∙ sym (spaced-push first (word ++ letters) more)) h
+    (ap (λ t. t ++ letters) (spaced-push first word more) ∙ append_assoc (spaced (first ∷ more)) (32 ∷ word) letters
+    ∙ sym (spaced-push first (word ++ letters) more)) h
 
 -- the digits of bytes and of more bytes
 pub encode-append : (bytes more : List ℕ) → encode_upper (bytes ++ more) ≡ encode_upper bytes ++ encode_upper more
@@ -104,7 +105,8 @@ pub one_entry_more : (start : Start) (before : List ℕ) (entries : List Entry) 
 one_entry_more start before entries entry i t within is h =
     let next : take (i + 1) entries ≡ take i entries ++ entry ∷ [] = take_more entries i entry within ∙ ap (λ e. take i entries ++ e ∷ []) (sym is) in
     let lines : entry_lines (take (i + 1) entries) ≡ entry_lines (take i entries) ++ entry_line entry =
-    ap entry_lines next ∙ (flat_map-append entry_line (take i entries) (entry ∷ []) ∙ ap (λ l. entry_lines (take i entries) ++ l) (append-nil (entry_line entry))) in
+    ap entry_lines next
+    ∙ (flat_map-append entry_line (take i entries) (entry ∷ []) ∙ ap (λ l. entry_lines (take i entries) ++ l) (append-nil (entry_line entry))) in
     subst (λ x. HoldsText start x t) (append_assoc before (entry_lines (take i entries)) (entry_line entry) ∙ ap (λ l. before ++ l) (sym lines)) h
 
 -- words that follow one another

@@ -113,7 +113,8 @@ line_unknown header row ws id old h = go (may_stand row.place (Some header)) h
         → list_any (λ host. host == id) header.hosts.items ≡ false
     go true e =
         let found = pick_fault (is_well_formed header.hci row ws) _ id (unless_some _ (read_of row.name ws) id e) in
-        first_unknown header.hosts.items 0 row.kinds ws id old (host_behind (first_digits_fault 2 0 (slots row.kinds ws)) _ id (no_host_first 2 0 (slots row.kinds ws) id) found)
+        first_unknown header.hosts.items 0 row.kinds ws id old
+        (host_behind (first_digits_fault 2 0 (slots row.kinds ws)) _ id (no_host_first 2 0 (slots row.kinds ws) id) found)
     go false e = cc
 
 pub row_unknown : (header : Header) (first : List ℕ) (ws : List (List ℕ)) (id : ℕ) → by_row (Some header) (row_for first) ws ≡ Err (fault.Host id)

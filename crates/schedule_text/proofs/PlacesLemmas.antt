@@ -37,7 +37,8 @@ in_range low high n None h = cc
 in_range low high n (Some k) h = go (nat_le low k && nat_le k high) refl h
   where
     go : (t : Bool) → (nat_le low k && nat_le k high) ≡ t → cond t (Some k) None ≡ Some n → (Some k ≡ Some n) × (low ≤ n) × (n ≤ high)
-    go true e h = let same : k ≡ n = cc in let parts = and_parts _ _ e in (h, subst (λ m. low ≤ m) same (leb-true _ _ parts.0), subst (λ m. m ≤ high) same (leb-true _ _ parts.1))
+    go true e h = let same : k ≡ n = cc in let parts =
+        and_parts _ _ e in (h, subst (λ m. low ≤ m) same (leb-true _ _ parts.0), subst (λ m. m ≤ high) same (leb-true _ _ parts.1))
     go false e h = cc
 
 -- a number that is read is in its range

@@ -53,7 +53,8 @@ none_test false a h = refl
 pub no_word : (line : List ℕ) → position is_letter line ≡ None → words line ≡ []
 no_word line h =
     let far = ltb-false _ _ (none_test _ _ h) in
-    sym (spaces_first (length line) line (omega arith) (λ k lt. before_letter line k (omega (arith, far)))) ∙ ap words (drop_all (length line) line (omega arith))
+    sym (spaces_first (length line) line (omega arith) (λ k lt. before_letter line k (omega (arith, far))))
+    ∙ ap words (drop_all (length line) line (omega arith))
 
 pub kept : (word : List ℕ) (parts : List (List ℕ)) → 0 < length word
     → filter (λ w. nat_lt 0 (length w)) (word ∷ parts) ≡ word ∷ filter (λ w. nat_lt 0 (length w)) parts
@@ -72,7 +73,8 @@ word_then_space rest end e some within =
     eqb-true _ _ (subst (λ n. is_space (get_or rest n 0) ≡ true) (sym e) (passes_at_first is_space rest 0 (subst (λ n. n < length rest) e within))) in
     let behind : words (drop end rest) ≡ words (drop (end + 1) rest) =
     rw (add-one, drop-cons rest end 0 within) (space_first (get_or rest end 0) (drop (suc end) rest) at_space) in
-    ap (filter (λ w. nat_lt 0 (length w))) parts ∙ kept (take end rest) (slice_split is_space (drop (end + 1) rest)) sized ∙ ap (λ ws. take end rest ∷ ws) (sym behind)
+    ap (filter (λ w. nat_lt 0 (length w))) parts ∙ kept (take end rest) (slice_split is_space (drop (end + 1) rest)) sized
+    ∙ ap (λ ws. take end rest ∷ ws) (sym behind)
 
 -- a word that the line ends
 word_then_end : (rest : List ℕ) → position_or_len is_space rest ≡ length rest → 0 < length rest
@@ -80,7 +82,8 @@ word_then_end : (rest : List ℕ) → position_or_len is_space rest ≡ length r
 word_then_end rest e some =
     let parts : slice_split is_space rest ≡ rest ∷ [] =
     slice_split_none is_space rest (λ k d lt. fails_before_first is_space rest k d (omega (arith, e))) in
-    ap (filter (λ w. nat_lt 0 (length w))) parts ∙ kept rest [] some ∙ rw (drop_all (length rest) rest (omega arith), take_all (length rest) rest (omega arith)) refl
+    ap (filter (λ w. nat_lt 0 (length w))) parts ∙ kept rest [] some
+    ∙ rw (drop_all (length rest) rest (omega arith), take_all (length rest) rest (omega arith)) refl
 
 by_end : (t : Bool) (rest : List ℕ) (end : ℕ) → nat_lt end (length rest) ≡ t → end ≡ position_or_len is_space rest → 0 < end
     → words rest ≡ take end rest ∷ words (drop end rest)
@@ -108,7 +111,8 @@ letter_first : (line : List ℕ) (start : ℕ) → start ≡ position_or_len is_
 letter_first line start e within h =
     let long : 0 < length (drop start line) = simp length-drop (omega arith) in
     let spaced : is_space (get_or (drop start line) 0 0) ≡ true =
-    subst (λ n. is_space (get_or (drop start line) n 0) ≡ true) h (passes_at_first is_space (drop start line) 0 (subst (λ n. n < length (drop start line)) (sym h) long)) in
+    subst (λ n. is_space (get_or (drop start line) n 0) ≡ true) h
+    (passes_at_first is_space (drop start line) 0 (subst (λ n. n < length (drop start line)) (sym h) long)) in
     let letter : is_letter (get_or line start 0) ≡ true =
     subst (λ n. is_letter (get_or line n 0) ≡ true) (sym e) (passes_at_first is_letter line 0 (subst (λ n. n < length line) e within)) in
     let same : get_or (drop start line) 0 0 ≡ get_or line start 0 = get_or-drop start line 0 0 ∙ ap (λ n. get_or line n 0) (add-zero start) in

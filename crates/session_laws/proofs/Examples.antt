@@ -38,7 +38,8 @@ gap = rejected ++ (AtHost (Deliver []) ∷ AtHost (Deliver []) ∷ [])
 gap_sends_again : frames (shdlc_after start gap).to_controller ≡ I 1 0 packet ∷ I 2 0 packet ∷ []
 gap_sends_again = refl
 
-gap_accepts_all : (shdlc_after start (gap ++ (AtController (Deliver []) ∷ AtController (Deliver []) ∷ []))).controller.side.session.acc ≡ packet ∷ packet ∷ packet ∷ []
+gap_accepts_all : (shdlc_after start (gap ++ (AtController (Deliver []) ∷ AtController (Deliver []) ∷ []))).controller.side.session.acc
+    ≡ packet ∷ packet ∷ packet ∷ []
 gap_accepts_all = refl
 
 -- a lost acknowledgement is answered again

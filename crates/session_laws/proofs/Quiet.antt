@@ -296,7 +296,8 @@ ticks kf n ts l h t = go e.phase (runs_timer e.session) (nat_lt (e.timer + 1) 10
         (waits_turned n ts l (record e { timer = e.timer + 1 }) p p refl refl h.n_due (h.n_none (λ u. let g = sym p ∙ u in cc)) t)
     go Waiting a false true p q r s = by_parts false (asked_again e) (rw (p, r, s) refl) (rw (p, r, s) refl) (asks n ts l (asked_again e) false p (late r).1)
     go Waiting a false false p q r s =
-        by_parts false (given_up e) (rw (p, r, s) refl) (rw (p, r, s) refl) (tied_none 12 n l (shdlc_turned (given_up e) ts) (rw (turned-phase ts (given_up e)) refl))
+        by_parts false (given_up e) (rw (p, r, s) refl) (rw (p, r, s) refl)
+        (tied_none 12 n l (shdlc_turned (given_up e) ts) (rw (turned-phase ts (given_up e)) refl))
 
 -- ## It takes a frame
 
@@ -471,7 +472,8 @@ takes n l ts x xs h t = takes_by (TiedLink (noted_took n l ts x xs) (took l ts x
             by Down q = absurd (let z : None ≡ Some b = rw q at r in cc)
             by Up q =
                 let same : shdlc_number_of l.controller ≡ shdlc_number_of l.host =
-                agreed (live e.phase (x ∷ sans xs)) (live l.host.side.phase (sans l.to_host)) (sans xs) b (shdlc_number_of l.controller ≡ shdlc_number_of l.host)
+                agreed (live e.phase (x ∷ sans xs)) (live l.host.side.phase (sans l.to_host)) (sans xs) b
+                (shdlc_number_of l.controller ≡ shdlc_number_of l.host)
                 lives r h.hand.agree in
                 let z : (shdlc_number_of l.host == shdlc_number_of c) ≡ false = rw q at off in
                 absurd (eqb-false (shdlc_number_of l.host) (shdlc_number_of c) z (sym same ∙ sym n))
@@ -510,7 +512,8 @@ delivers n ts l h t = go l.to_controller h t
         subst (λ s. Goes n m ts s) side (stays n ts m z.0 z.1 (subst P (sym side) (rw q at t))))
 
     go : (wire : List OnWire) → Safe 0 0 l.controller l.host (sans wire) (sans l.to_host) l.resets → Tied (IsWhole n) e l.host.side (sans wire) (sans l.to_host)
-        → TiedLink (noted_here n (record l { to_controller = wire }) (Deliver ts)) (shdlc_happens_at_controller (record l { to_controller = wire }) (Deliver ts))
+        → TiedLink (noted_here n (record l { to_controller = wire }) (Deliver ts))
+        (shdlc_happens_at_controller (record l { to_controller = wire }) (Deliver ts))
     go [] g t = t
     go (x ∷ xs) g t = first x xs (is_act x.frame) refl g t
 
@@ -694,7 +697,8 @@ tied_if_waiting kf n l h t = go (is_waiting l.controller.side) refl
 
 -- a tick of the host's end, where these things have happened at the controller's
 tied_there : (turns : List ShdlcEndEvent) (d : Option (List ShdlcTurn)) (i : Losses) (near : ShdlcLink) → AreTurns turns → SafeLink 0 1 near → TiedLink i near
-    → TiedLink (noted_tick (noted_turns i near turns) d (shdlc_exchanged (shdlc_all_at_controller near turns))) (shdlc_exchanged (ticks_or_cut d (shdlc_exchanged (shdlc_all_at_controller near turns))))
+    → TiedLink (noted_tick (noted_turns i near turns) d (shdlc_exchanged (shdlc_all_at_controller near turns)))
+    (shdlc_exchanged (ticks_or_cut d (shdlc_exchanged (shdlc_all_at_controller near turns))))
 tied_there turns d i near a one t =
     let m : ShdlcLink = shdlc_all_at_controller near turns in
     let j : Losses = noted_turns i near turns in
@@ -706,12 +710,14 @@ tied_event : (n : Losses) (l : ShdlcLink) (e : ShdlcLinkEvent) (es : List ShdlcL
     → TiedLink (noted_event n l e) (shdlc_happens l e)
 tied_event n l (AtController e) es a h t = tied_at n l e h t
 tied_event n l (AtHost e) es a h t =
-    swaps (noted_here n (shdlc_exchanged l) e) (shdlc_happens_at_controller (shdlc_exchanged l) e) (tied_at n (shdlc_exchanged l) e (safe_exchanged 0 0 l h) (swaps n l t))
+    swaps (noted_here n (shdlc_exchanged l) e) (shdlc_happens_at_controller (shdlc_exchanged l) e)
+    (tied_at n (shdlc_exchanged l) e (safe_exchanged 0 0 l h) (swaps n l t))
 tied_event n l (Tick c turns d) es a h t =
     tied_there turns d (noted_tick (noted_aged n l) c (shdlc_aged l)) (ticks_or_cut c (shdlc_aged l)) a.0 (tick_or_cut 1 c (shdlc_aged l) (safe_aged l h))
     (tied_tick 1 (noted_aged n l) c (shdlc_aged l) (safe_aged l h) (ages n l h t))
 tied_event n l (TickWithout turns d) es a h t =
-    tied_there turns d (noted_if_waiting (noted_aged n l) (shdlc_aged l)) (ticks_if_waiting (shdlc_aged l)) a.0 (tick_if_waiting 1 (shdlc_aged l) (safe_aged l h))
+    tied_there turns d (noted_if_waiting (noted_aged n l) (shdlc_aged l)) (ticks_if_waiting (shdlc_aged l)) a.0
+    (tick_if_waiting 1 (shdlc_aged l) (safe_aged l h))
     (tied_if_waiting 1 (noted_aged n l) (shdlc_aged l) (safe_aged l h) (ages n l h t))
 
 tied_from : (events : List ShdlcLinkEvent) (n : Losses) (l : ShdlcLink) → AllShdlcAllowed events → SafeLink 0 0 l → TiedLink n l

@@ -153,7 +153,8 @@ abbrev Goes : Bool → ShdlcLink → List ShdlcTurn → EndState → Type 0
 Goes s l ts e = SureLink (sure_out s l (shdlc_turned e ts)) (shdlc_becomes l (shdlc_turned e ts))
 
 sure_drains : (m : ℕ) (s : Bool) (ts : List ShdlcTurn) (e : EndState) (l : ShdlcLink) → AnswersOnly e.due → SureAt s l e
-    → SureLink (sure_all s l (frames_of m (shdlc_turned e ts))) (with_shdlc_controller (shdlc_put_all l (frames_of m (shdlc_turned e ts))) (after_frames m (shdlc_turned e ts)))
+    → SureLink (sure_all s l (frames_of m (shdlc_turned e ts)))
+    (with_shdlc_controller (shdlc_put_all l (frames_of m (shdlc_turned e ts))) (after_frames m (shdlc_turned e ts)))
 sure_drains m s ts e l a h =
     (sends_all m s (shdlc_turned e ts) l (turned_answers ts e a, λ n. rw (turned-phase ts e) (h n))).1
 
@@ -224,7 +225,8 @@ resets kf s ts l w h t = go l.controller.side.phase refl
     e = waiting_from (record l.controller.side { own_window = w })
 
     by_parts : (k b : Bool) (q : EndState) → sure_here s l (Reset w ts) ≡ k → is_up l.controller.side.phase ≡ b → reset_with l.controller.side w ≡ q
-        → SureLink k (shdlc_becomes (with_shdlc_ended l b) (shdlc_turned q ts)) → SureLink (sure_here s l (Reset w ts)) (shdlc_happens_at_controller l (Reset w ts))
+        → SureLink k (shdlc_becomes (with_shdlc_ended l b) (shdlc_turned q ts))
+        → SureLink (sure_here s l (Reset w ts)) (shdlc_happens_at_controller l (Reset w ts))
     by_parts k b q sure up is a =
         let P : Bool → Bool → EndState → Type 0 = λ i c f. SureLink i (shdlc_becomes (with_shdlc_ended l c) (shdlc_turned f ts)) in
         subst (λ i. P i (is_up l.controller.side.phase) (reset_with l.controller.side w)) (sym sure)
@@ -248,7 +250,8 @@ resets kf s ts l w h t = go l.controller.side.phase refl
         subst P (sym frames) (inl (waits, (λ u. not_waiting l.host.side n (sym host ∙ u)), inl (rset_stands m.to_host x q.own_window 0 refl)))
 
     go : (p : LinkState) → l.controller.side.phase ≡ p → SureLink (sure_here s l (Reset w ts)) (shdlc_happens_at_controller l (Reset w ts))
-    go Waiting q = by_parts (sure_out s l (shdlc_turned l.controller.side ts)) false l.controller.side (rw q refl) (rw q refl) (rw q refl) (stays s ts l h.n_due t)
+    go Waiting q =
+        by_parts (sure_out s l (shdlc_turned l.controller.side ts)) false l.controller.side (rw q refl) (rw q refl) (rw q refl) (stays s ts l h.n_due t)
     go Up q = by_parts (not (is_waiting l.host.side)) true e (rw q refl) (rw q refl) (rw q refl) (asked (with_shdlc_ended l true) refl (rw q refl))
     go Down q = by_parts (not (is_waiting l.host.side)) false e (rw q refl) (rw q refl) (rw q refl) (asked l refl (rw (q, h.n_due) refl))
 
@@ -356,7 +359,8 @@ takes s l ts x xs h t =
         let m : ShdlcLink = record l { to_controller = xs; controller = c } in
         let y : OnWire = record { frame = Ua; age = 0; number = 0 } in
         let w : List OnWire = l.to_host ++ y ∷ [] in
-        let P : EndState → Type 0 = λ g. SureLink (sure_all s m (frames_of 12 g)) (with_shdlc_controller (shdlc_put_all m (frames_of 12 g)) (after_frames 12 g)) in
+        let P : EndState
+        → Type 0 = λ g. SureLink (sure_all s m (frames_of 12 g)) (with_shdlc_controller (shdlc_put_all m (frames_of 12 g)) (after_frames 12 g)) in
         subst P (sym (turned-first Ua_due ts q))
         (sure_drains 11 (sure_put s m Ua) ts q (shdlc_put m Ua) (rw due tt)
         (λ n. let parts = and_parts s (not (overflows w)) n in
@@ -526,7 +530,8 @@ sure_waiting kf s l h t = go (is_waiting l.controller.side) refl
 
 -- a tick of the host's end, where these things have happened at the controller's
 sure_there : (turns : List ShdlcEndEvent) (d : Option (List ShdlcTurn)) (i : Bool) (near : ShdlcLink) → AreTurns turns → SafeLink 0 1 near → SureLink i near
-    → SureLink (sure_tick (sure_turns i near turns) d (shdlc_exchanged (shdlc_all_at_controller near turns))) (shdlc_exchanged (ticks_or_cut d (shdlc_exchanged (shdlc_all_at_controller near turns))))
+    → SureLink (sure_tick (sure_turns i near turns) d (shdlc_exchanged (shdlc_all_at_controller near turns)))
+    (shdlc_exchanged (ticks_or_cut d (shdlc_exchanged (shdlc_all_at_controller near turns))))
 sure_there turns d i near a one t =
     let m : ShdlcLink = shdlc_all_at_controller near turns in
     let j : Bool = sure_turns i near turns in
@@ -538,7 +543,8 @@ event_sure : (s : Bool) (l : ShdlcLink) (e : ShdlcLinkEvent) (es : List ShdlcLin
     → SureLink (sure_event s l e) (shdlc_happens l e)
 event_sure s l (AtController e) es a h t = sure_at s l e h t
 event_sure s l (AtHost e) es a h t =
-    swaps (sure_here s (shdlc_exchanged l) e) (shdlc_happens_at_controller (shdlc_exchanged l) e) (sure_at s (shdlc_exchanged l) e (safe_exchanged 0 0 l h) (swaps s l t))
+    swaps (sure_here s (shdlc_exchanged l) e) (shdlc_happens_at_controller (shdlc_exchanged l) e)
+    (sure_at s (shdlc_exchanged l) e (safe_exchanged 0 0 l h) (swaps s l t))
 event_sure s l (Tick c turns d) es a h t =
     sure_there turns d (sure_tick (sure_aged s l) c (shdlc_aged l)) (ticks_or_cut c (shdlc_aged l)) a.0 (tick_or_cut 1 c (shdlc_aged l) (safe_aged l h))
     (tick_sure 1 (sure_aged s l) c (shdlc_aged l) (safe_aged l h) (ages s l t))

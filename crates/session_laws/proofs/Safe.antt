@@ -85,7 +85,8 @@ pair_from kn kf n f to_n to_f r up h =
       comes =
           let a : OnLive (live Up to_n) (shdlc_session_of n (shdlc_number_of n)) (shdlc_session_of f (shdlc_number_of n)) =
           live_to n.side.phase Up to_n (shdlc_session_of n (shdlc_number_of n)) (shdlc_session_of f (shdlc_number_of n)) up h.n_live in
-          on_live_same (Some to_n) (shdlc_session_of n (shdlc_number_of n)) n.side.session (shdlc_session_of f (shdlc_number_of n)) (shdlc_session_of f (shdlc_number_of n))
+          on_live_same (Some to_n) (shdlc_session_of n (shdlc_number_of n)) n.side.session (shdlc_session_of f (shdlc_number_of n))
+          (shdlc_session_of f (shdlc_number_of n))
           (sym (of_up n up)) refl a;
       goes = goes (live f.side.phase to_f) refl h.f_live;
     }
@@ -99,10 +100,13 @@ pair_from kn kf n f to_n to_f r up h =
     goes None e g = tt
     goes (Some w) e g =
         let lives : live n.side.phase to_n ≡ Some to_n = rw up refl in
-        let same : shdlc_number_of n ≡ shdlc_number_of f = agreed (live n.side.phase to_n) (live f.side.phase to_f) to_n w (shdlc_number_of n ≡ shdlc_number_of f) lives e
+        let same : shdlc_number_of n ≡ shdlc_number_of f =
+        agreed (live n.side.phase to_n) (live f.side.phase to_f) to_n w (shdlc_number_of n ≡ shdlc_number_of f) lives e
         h.hand.agree in
-        let b : OnLive (Some w) (shdlc_session_of f (shdlc_number_of n)) (shdlc_session_of n (shdlc_number_of n)) = moved (shdlc_number_of f) (shdlc_number_of n) w (sym same) g in
-        on_live_same (Some w) (shdlc_session_of f (shdlc_number_of n)) (shdlc_session_of f (shdlc_number_of n)) (shdlc_session_of n (shdlc_number_of n)) n.side.session refl (sym (of_up n up)) b
+        let b : OnLive (Some w) (shdlc_session_of f (shdlc_number_of n)) (shdlc_session_of n (shdlc_number_of n)) =
+        moved (shdlc_number_of f) (shdlc_number_of n) w (sym same) g in
+        on_live_same (Some w) (shdlc_session_of f (shdlc_number_of n)) (shdlc_session_of f (shdlc_number_of n))
+        (shdlc_session_of n (shdlc_number_of n)) n.side.session refl (sym (of_up n up)) b
 
 -- the near end goes on in its session
 pub safe_up : (kn kn' kf : ℕ) (n f : NumberedShdlc) (q : EndState) (to_n to_f to_n' to_f' : List OnWire) (r : ℕ) → n.side.phase ≡ Up → q.phase ≡ Up → q.due ≡ []
@@ -148,10 +152,12 @@ safe_up kn kn' kf n f q to_n to_f to_n' to_f' r up qup due own peer hand pair h 
     f_live None e g = tt
     f_live (Some w) e g =
         let lives : live q.phase to_n' ≡ Some to_n' = rw qup refl in
-        let same : shdlc_number_of n ≡ shdlc_number_of f = agreed (live q.phase to_n') (live f.side.phase to_f') to_n' w (shdlc_number_of n ≡ shdlc_number_of f) lives e hand.agree in
+        let same : shdlc_number_of n ≡ shdlc_number_of f =
+        agreed (live q.phase to_n') (live f.side.phase to_f') to_n' w (shdlc_number_of n ≡ shdlc_number_of f) lives e hand.agree in
         let is : shdlc_session_of (record n { side = q }) (shdlc_number_of n) ≡ q.session = of_up (record n { side = q }) qup in
         let a : OnLive (Some w) (shdlc_session_of f (shdlc_number_of n)) (shdlc_session_of (record n { side = q }) (shdlc_number_of n)) =
-        on_live_same (Some w) (shdlc_session_of f (shdlc_number_of n)) (shdlc_session_of f (shdlc_number_of n)) q.session (shdlc_session_of (record n { side = q }) (shdlc_number_of n))
+        on_live_same (Some w) (shdlc_session_of f (shdlc_number_of n)) (shdlc_session_of f (shdlc_number_of n)) q.session
+        (shdlc_session_of (record n { side = q }) (shdlc_number_of n))
         refl is g in
         moved (shdlc_number_of n) (shdlc_number_of f) w same a
 
@@ -209,13 +215,15 @@ pub safe_idle : (kn kn' kf : ℕ) (n f : NumberedShdlc) (q : EndState) (to_n to_
 safe_idle kn kn' kf n f q to_n to_f to_n' r no_up same due own peer none lives hand h =
     let g : NumberedShdlc = record n { side = q } in
     let no_up' : q.phase ≡ Up → ⊥ = λ e. no_up (sym same ∙ e) in
-    let m : (P : ℕ → Session → Type 0) → ((k : ℕ) → P k (shdlc_session_of n k)) → (k : ℕ) → P k (shdlc_session_of g k) = λ P all k. of_none P n g no_up no_up' refl all k in
+    let m : (P : ℕ → Session → Type 0) → ((k : ℕ) → P k (shdlc_session_of n k)) → (k : ℕ)
+    → P k (shdlc_session_of g k) = λ P all k. of_none P n g no_up no_up' refl all k in
     record {
       hand = hand;
       n_base = m (λ k t. Base t (shdlc_session_of f k)) h.n_base;
       f_base = m (λ k t. Base (shdlc_session_of f k) t) h.f_base;
       n_live = live_to n.side.phase q.phase to_n' (shdlc_session_of g (shdlc_number_of n)) (shdlc_session_of f (shdlc_number_of n)) (sym same)
-          (on_live_part (live n.side.phase to_n) (live n.side.phase to_n') (shdlc_session_of g (shdlc_number_of n)) (shdlc_session_of f (shdlc_number_of n)) lives
+          (on_live_part (live n.side.phase to_n) (live n.side.phase to_n') (shdlc_session_of g (shdlc_number_of n))
+          (shdlc_session_of f (shdlc_number_of n)) lives
           (at_number (λ t. OnLive (live n.side.phase to_n) t (shdlc_session_of f (shdlc_number_of n))) (shdlc_number_of n) g n m h.n_live));
       f_live = at_number (λ t. OnLive (live f.side.phase to_f) (shdlc_session_of f (shdlc_number_of f)) t) (shdlc_number_of f) g n m h.f_live;
       n_past = rw same h.n_past;
@@ -261,7 +269,8 @@ safe_asks kn kf n f e x w c past to_n to_f r none empty frame wide age num windo
       f_base = move (λ k t. Base (shdlc_session_of f k) t) h.f_base;
       n_live = on_live_part None (behind_ua to_n) (shdlc_session_of g (shdlc_number_of g)) (shdlc_session_of f (shdlc_number_of g)) (behind_none to_n empty) tt;
       f_live = move (λ k t. k ≡ shdlc_number_of f → OnLive (live f.side.phase l) (shdlc_session_of f (shdlc_number_of f)) t)
-          (λ k q. at k q (live_push_rset f.side.phase to_f x w c (shdlc_session_of f (shdlc_number_of f)) (shdlc_session_of n (shdlc_number_of f)) frame none h.f_live))
+          (λ k q. at k q
+          (live_push_rset f.side.phase to_f x w c (shdlc_session_of f (shdlc_number_of f)) (shdlc_session_of n (shdlc_number_of f)) frame none h.f_live))
           (shdlc_number_of f) refl;
       n_past = below;
       f_past = h.f_past;
@@ -276,7 +285,8 @@ safe_asks kn kf n f e x w c past to_n to_f r none empty frame wide age num windo
     at : (k : ℕ) → k ≡ shdlc_number_of f
         → OnLive (live f.side.phase (to_f ++ x ∷ [])) (shdlc_session_of f (shdlc_number_of f)) (shdlc_session_of n (shdlc_number_of f))
         → OnLive (live f.side.phase (to_f ++ x ∷ [])) (shdlc_session_of f (shdlc_number_of f)) (shdlc_session_of n k)
-    at k q a = let P : ℕ → Type 0 = λ j. OnLive (live f.side.phase (to_f ++ x ∷ [])) (shdlc_session_of f (shdlc_number_of f)) (shdlc_session_of n j) in subst P (sym q) a
+    at k q a = let P : ℕ
+        → Type 0 = λ j. OnLive (live f.side.phase (to_f ++ x ∷ [])) (shdlc_session_of f (shdlc_number_of f)) (shdlc_session_of n j) in subst P (sym q) a
 
 -- it waited, and gives up
 pub safe_down : (kn kf : ℕ) (n f : NumberedShdlc) (e : EndState) (to_n to_f : List OnWire) (r : ℕ)
@@ -290,7 +300,8 @@ safe_down kn kf n f e to_n to_f r waiting none empty late windows h =
       n_base = move (λ k t. Base t (shdlc_session_of f k)) h.n_base;
       f_base = move (λ k t. Base (shdlc_session_of f k) t) h.f_base;
       n_live = tt;
-      f_live = move (λ k t. k ≡ shdlc_number_of f → OnLive (live f.side.phase to_f) (shdlc_session_of f (shdlc_number_of f)) t) (λ k q. at k q h.f_live) (shdlc_number_of f) refl;
+      f_live = move (λ k t. k ≡ shdlc_number_of f → OnLive (live f.side.phase to_f) (shdlc_session_of f (shdlc_number_of f)) t) (λ k q. at k q h.f_live)
+          (shdlc_number_of f) refl;
       n_past = let a : Below n.emitted n.past = rw waiting at h.n_past in below_more n.emitted (shdlc_number_of n + 1) n.past (omega arith) a;
       f_past = h.f_past;
       n_none = λ _. refl;
@@ -332,14 +343,17 @@ pub safe_begins : (kn kf : ℕ) (f g : NumberedShdlc) (w : ℕ) (to_n to_f : Lis
     → Safe kn kf g f to_n to_f r
 safe_begins kn kf f g w to_n to_f r up new due windows fits hand n_base f_base below f_past f_none f_due f_windows active there =
     let gone : ended_session g.past (shdlc_number_of g) ≡ no_session = none_ended (shdlc_number_of g) (shdlc_number_of g) g.past (omega arith) below in
-    let mine : Base (new_session w) (shdlc_session_of f (shdlc_number_of g)) = base_begins (shdlc_session_of f (shdlc_number_of g)) w fits (rw gone at (n_base (shdlc_number_of g))) in
-    let theirs : Base (shdlc_session_of f (shdlc_number_of g)) (new_session w) = base_begins_there (shdlc_session_of f (shdlc_number_of g)) w (rw gone at (f_base (shdlc_number_of g))) in
+    let mine : Base (new_session w) (shdlc_session_of f (shdlc_number_of g)) =
+    base_begins (shdlc_session_of f (shdlc_number_of g)) w fits (rw gone at (n_base (shdlc_number_of g))) in
+    let theirs : Base (shdlc_session_of f (shdlc_number_of g)) (new_session w) =
+    base_begins_there (shdlc_session_of f (shdlc_number_of g)) w (rw gone at (f_base (shdlc_number_of g))) in
     record {
       hand = hand;
       n_base = begins_at (λ k t. Base t (shdlc_session_of f k)) g up n_base (rw new mine);
       f_base = begins_at (λ k t. Base (shdlc_session_of f k) t) g up f_base (rw new theirs);
       n_live = live_to Up g.side.phase to_n (shdlc_session_of g (shdlc_number_of g)) (shdlc_session_of f (shdlc_number_of g)) (sym up)
-          (on_live_same (Some to_n) (new_session w) (shdlc_session_of g (shdlc_number_of g)) (shdlc_session_of f (shdlc_number_of g)) (shdlc_session_of f (shdlc_number_of g))
+          (on_live_same (Some to_n) (new_session w) (shdlc_session_of g (shdlc_number_of g)) (shdlc_session_of f (shdlc_number_of g))
+          (shdlc_session_of f (shdlc_number_of g))
           (of_up g up ∙ new) refl
           (record { marks = active.marks; shows = active.shows; places = active.places; counts = active.counts }));
       f_live = begins_at (λ k t. k ≡ shdlc_number_of f → OnLive (live f.side.phase to_f) (shdlc_session_of f (shdlc_number_of f)) t) g up (λ k q. at k q there)
@@ -378,8 +392,10 @@ safe_up_ua kn kf n f w x to_n to_f r frame waiting fits h =
     safe_begins kn kf f g w to_n to_f r refl refl refl (record { own = h.n_windows.own; peer = h.n_windows.peer }) fits
     (hand_up_ua kn kf (peer_of n) (peer_of f) x to_n to_f r frame h.hand)
     (move (λ k t. Base t (shdlc_session_of f k)) h.n_base) (move (λ k t. Base (shdlc_session_of f k) t) h.f_base) below h.f_past h.f_none h.f_due h.f_windows
-    (on_live_same (Some to_n) (ended_session n.past (shdlc_number_of n)) no_session (shdlc_session_of f (shdlc_number_of n)) (shdlc_session_of f (shdlc_number_of n)) (sym gone) refl d)
-    (move (λ k t. k ≡ shdlc_number_of f → OnLive (live f.side.phase to_f) (shdlc_session_of f (shdlc_number_of f)) t) (λ k q. there k q h.f_live) (shdlc_number_of f) refl)
+    (on_live_same (Some to_n) (ended_session n.past (shdlc_number_of n)) no_session (shdlc_session_of f (shdlc_number_of n))
+    (shdlc_session_of f (shdlc_number_of n)) (sym gone) refl d)
+    (move (λ k t. k ≡ shdlc_number_of f → OnLive (live f.side.phase to_f) (shdlc_session_of f (shdlc_number_of f)) t) (λ k q. there k q h.f_live)
+    (shdlc_number_of f) refl)
   where
     at : (k : ℕ) → k ≡ shdlc_number_of n → OnLive (Some to_n) (shdlc_session_of n (shdlc_number_of n)) (shdlc_session_of f (shdlc_number_of n))
         → OnLive (Some to_n) (shdlc_session_of n k) (shdlc_session_of f (shdlc_number_of n))
@@ -406,7 +422,8 @@ safe_up_rset n f w v c x y past to_n to_f r frame no_wait ua age fits move below
     let low : Below (shdlc_number_of g) past = below_more f.emitted (shdlc_number_of g) past (omega arith) below in
     let none : ended_session past (shdlc_number_of g) ≡ no_session = none_ended (shdlc_number_of g) (shdlc_number_of g) past (omega arith) low in
     let first : Base no_session (shdlc_session_of f (shdlc_number_of g)) = rw none at (n_base (shdlc_number_of g)) in
-    let act : Active to_n no_session (shdlc_session_of f (shdlc_number_of g)) = rw gone (active_empty no_session (shdlc_session_of f (shdlc_number_of g)) first) in
+    let act : Active to_n no_session (shdlc_session_of f (shdlc_number_of g)) =
+    rw gone (active_empty no_session (shdlc_session_of f (shdlc_number_of g)) first) in
     safe_begins 0 0 f g w to_n (to_f ++ y ∷ []) r refl refl refl (record { own = h.n_windows.own; peer = h.n_windows.peer }) fits
     (hand_up_rset (peer_of n) (peer_of f) x y v c to_n to_f r frame no_wait ua age h.hand)
     n_base f_base low h.f_past h.f_none h.f_due h.f_windows act
@@ -430,8 +447,10 @@ safe_wait_rset n f e v c x y to_n to_f r frame waiting ua age ewait timer none d
       hand = rw (ewait, timer) (hand_wait_rset (peer_of n) (peer_of f) x y v c to_n to_f r frame waiting ua age h.hand);
       n_base = n_base;
       f_base = f_base;
-      n_live = live_after_rset e.phase to_n (shdlc_session_of g (shdlc_number_of g)) (shdlc_session_of f (shdlc_number_of g)) no_up t.6 (n_base (shdlc_number_of g));
-      f_live = live_push_ua f.side.phase to_f y (shdlc_session_of f (shdlc_number_of f)) (shdlc_session_of g (shdlc_number_of f)) ua t.1 t.2 (f_base (shdlc_number_of f));
+      n_live =
+          live_after_rset e.phase to_n (shdlc_session_of g (shdlc_number_of g)) (shdlc_session_of f (shdlc_number_of g)) no_up t.6 (n_base (shdlc_number_of g));
+      f_live = live_push_ua f.side.phase to_f y (shdlc_session_of f (shdlc_number_of f)) (shdlc_session_of g (shdlc_number_of f)) ua t.1 t.2
+          (f_base (shdlc_number_of f));
       n_past = let a : Below n.emitted n.past = rw waiting at h.n_past in rw ewait a;
       f_past = h.f_past;
       n_none = λ _. none;
@@ -523,7 +542,8 @@ safe_ignore n f x v c to_n to_f r frame down h =
     let t = rset_tells 0 (peer_of n) (peer_of f) x v c to_n to_f r frame h.hand in
     let s : Safe 0 0 n f to_n to_f r = safe_lose 0 n f x to_n to_f r h in
     let no_up : n.side.phase ≡ Up → ⊥ = down_not_up n.side.phase down in
-    let m : (P : ℕ → Session → Type 0) → ((k : ℕ) → P k (shdlc_session_of n k)) → (k : ℕ) → P k (shdlc_session_of g k) = λ P all k. of_none P n g no_up no_up refl all k in
+    let m : (P : ℕ → Session → Type 0) → ((k : ℕ) → P k (shdlc_session_of n k)) → (k : ℕ)
+    → P k (shdlc_session_of g k) = λ P all k. of_none P n g no_up no_up refl all k in
     let early : Below (shdlc_number_of n + 1) n.past = rw down at s.n_past in
     record {
       hand = hand_ignore 0 0 (peer_of n) (peer_of f) to_n to_f r down t.0 t.1 s.hand;

@@ -316,7 +316,8 @@ turn_pending kf l e (SetReady r) h =
     answered : e.phase ≡ Up → SafeAt 0 kf (shdlc_put_all l (controls (changed e r (e.due ++ Rr_due ∷ [])))) (changed e r [])
     answered up =
         let f : EndState = changed e r (e.due ++ Rr_due ∷ []) in
-        let a : SafeAt 0 kf (shdlc_put (shdlc_put_all l (controls e)) (S Rr (expected e.session))) (changed e r []) = put_answer kf (shdlc_put_all l (controls e))
+        let a : SafeAt 0 kf (shdlc_put (shdlc_put_all l (controls e)) (S Rr (expected e.session))) (changed e r []) =
+        put_answer kf (shdlc_put_all l (controls e))
         (changed e r []) Rr up s in
         let q : controls f ≡ controls e ++ S Rr (expected e.session) ∷ [] =
         map-append (control_due f) e.due (Rr_due ∷ []) ∙ ap (λ cs. cs ++ S Rr (expected e.session) ∷ []) (controls_same e f e.due refl refl) in
@@ -357,7 +358,8 @@ becomes_none kf ts l e h =
     pending_goes kf l (shdlc_turned e ts)
     (turned_pending kf ts l e
     (record {
-      safe = let due : e.due ≡ [] = h.n_due in let P : List Due → Type 0 = λ ds. SafeAt 0 kf (shdlc_put_all l (map (control_due e) ds)) (record e { due = [] }) in
+      safe = let due : e.due ≡ [] = h.n_due in let P : List Due
+          → Type 0 = λ ds. SafeAt 0 kf (shdlc_put_all l (map (control_due e) ds)) (record e { due = [] }) in
           let Q : List Due → Type 0 = λ ds. SafeAt 0 kf l (record e { due = ds }) in subst P (sym due) (subst Q due h);
       few = let due : length e.due ≡ 0 = ap (length {A = Due}) h.n_due in omega (arith, due, at_most_one e.session.answered_rnr);
     }))

@@ -335,7 +335,8 @@ few_turn : (e : EndState) (t : ShdlcTurn) → e.phase ≡ Up → room e ≤ 2 �
 few_turn e (Offer fragments) up few = let P : EndState → Type 0 = λ f. room f ≤ 2 in subst P (sym (offer_up e fragments up)) few
 few_turn e (SetReady r) up few =
     ready_by (λ f. room f ≤ 2) e r (inr up) (λ no. absurd (no up)) few (omega (arith, few))
-    (λ up noted_loss. let j : length (e.due ++ Rr_due ∷ []) ≡ length e.due + 1 = length-append e.due (Rr_due ∷ []) in let i = rw noted_loss at few in omega arith)
+    (λ up noted_loss. let j : length (e.due ++ Rr_due ∷ []) ≡ length e.due + 1 = length-append e.due (Rr_due ∷ []) in let i =
+    rw noted_loss at few in omega arith)
 
 pub few_turns : (ts : List ShdlcTurn) (e : EndState) → e.phase ≡ Up → room e ≤ 2 → room (shdlc_turned e ts) ≤ 2
 few_turns [] e up few = few
@@ -364,7 +365,8 @@ turns_keep n (t ∷ ts) e l k = turns_keep n ts (shdlc_turn e t) l (turn_keeps n
 -- an end that is up, and has few answers to send, has its turns
 pub drains : (m : ℕ) → 6 ≤ m → (n : Losses) (ts : List ShdlcTurn) (l : ShdlcLink) (e : EndState) → e.phase ≡ Up → AnswersOnly e.due → room e ≤ 2
     → Rests (Unit {0}) (IsWhole n) e l.host.side (sans l.to_controller) (sans l.to_host)
-    → TiedLink (noted_all n l (frames_of m (shdlc_turned e ts))) (with_shdlc_controller (shdlc_put_all l (frames_of m (shdlc_turned e ts))) (after_frames m (shdlc_turned e ts)))
+    → TiedLink (noted_all n l (frames_of m (shdlc_turned e ts)))
+    (with_shdlc_controller (shdlc_put_all l (frames_of m (shdlc_turned e ts))) (after_frames m (shdlc_turned e ts)))
 drains m i n ts l e up answers few h =
     let k = turns_keep n ts e l (up, answers, h) in
     let f = few_turns ts e up few in

@@ -54,7 +54,8 @@ noted_here n l (Deliver ts) = first l.to_controller where
 noted_here n l (Ignore ts) = by_phase l.controller.side.phase l.to_controller where
   by_phase : LinkState → List OnWire → Losses
   by_phase Down (x ∷ xs) =
-      noted_out n (record l { to_controller = xs; controller = record l.controller { took = took_with l.controller.took x } }) (shdlc_turned l.controller.side ts)
+      noted_out n (record l { to_controller = xs; controller = record l.controller { took = took_with l.controller.took x } })
+      (shdlc_turned l.controller.side ts)
   by_phase _ _ = n
 noted_here n l (Acts acts ts) =
     noted_out (noted_all n l (map act_frame acts)) (shdlc_put_all l (map act_frame acts)) (shdlc_turned l.controller.side ts)

@@ -175,7 +175,8 @@ shdlc_happens_at_controller l (Deliver ts) = first l.to_controller where
 shdlc_happens_at_controller l (Ignore ts) = by_phase l.controller.side.phase l.to_controller where
   by_phase : LinkState → List OnWire → ShdlcLink
   by_phase Down (x ∷ xs) =
-      shdlc_becomes (record l { to_controller = xs; controller = record l.controller { took = took_with l.controller.took x } }) (shdlc_turned l.controller.side ts)
+      shdlc_becomes (record l { to_controller = xs; controller = record l.controller { took = took_with l.controller.took x } })
+      (shdlc_turned l.controller.side ts)
   by_phase _ _ = l
 shdlc_happens_at_controller l (Acts acts ts) = shdlc_becomes (shdlc_put_all l (map act_frame acts)) (shdlc_turned l.controller.side ts)
 shdlc_happens_at_controller l Lose = record l { to_controller = drop 1 l.to_controller }

@@ -3,4 +3,5 @@ pub mod Steps
 pub mod Histories
 pub mod FramesDue
 pub mod Timers
+pub mod OfferedFrames
 pub mod Offering

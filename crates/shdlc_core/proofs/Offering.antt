@@ -1,176 +1,22 @@
 -- What the machine does where it was offered only some of its fragments is what it does with all of them.
-use Rattle.std.proofs.Common.{◌≡◌, ℕ, ◌+◌, ◌<◌, ◌≤◌, ◌==◌, ◌⊎◌, inl, inr, Bool, true, false, List, [], ◌∷◌, ◌++◌, length, refl, sym, ap, ◌∙◌, arith, subst, length-append, min}
+use Rattle.std.proofs.Common.{◌≡◌, ℕ, ◌+◌, ◌<◌, ◌≤◌, ◌==◌, ◌⊎◌, inl, inr, Bool, true, false, List, [], ◌∷◌, ◌++◌, length, refl, sym, ap, ◌∙◌, arith, subst, length-append}
 use Rattle.std.specs.Prelude.{Option, Some, None, not, ◌&&◌, ◌||◌, slice_get, is_some, nat_lt, if◌then◌else◌}
 use Rattle.std.proofs.lemmas.Option.{slice_get-get_or}
 use Rattle.std.proofs.lemmas.List.{get_or_append_left, append-nil, append_assoc}
 use Rattle.std.proofs.lemmas.Bool.{ltb-true, ltb-false, lt-ltb}
 use Rattle.swp_base.specs.declared.control_frames.Control.{Control}
 use Rattle.swp_base.specs.declared.control_frames.Control.TheVariants.{I, S, Rset, Ua, Act, Clt}
-use Rattle.swp_base.specs.declared.control_frames.Kind.{Kind}
-use Rattle.swp_base.specs.declared.control_frames.Kind.TheVariants.{Rr, Rej, Rnr, Srej}
 use Rattle.shdlc_core.specs.declared.answers.LinkState.{LinkState}
 use Rattle.shdlc_core.specs.declared.answers.LinkState.TheVariants.{Down, Waiting, Up}
 use Rattle.shdlc_core.specs.declared.answers.Taken.{Taken}
 use Rattle.shdlc_core.specs.declared.answers.Due.{Due}
 use Rattle.shdlc_core.specs.declared.answers.Due.TheVariants.{Rr as Rr_due, Rej as Rej_due, Rnr as Rnr_due, Rset as Rset_due, Ua as Ua_due}
-use Rattle.shdlc_core.specs.Machine.{EndState, Session, Fragment, runs_timer, taken, take_answer, ticked, tick_answer, reset_with, with_ready, fetched, frame_due, fragment_due, sent_next, sent_again, asked_again, given_up, place_of, ahead, accepted, repeated, discarded, acknowledged, ready_again, rejected, made_busy, received, fragment_accepted, is_waiting, up_with, offered, put_out, stopped, no_session}
+use Rattle.shdlc_core.specs.Machine.{EndState, Session, Fragment, runs_timer, taken, take_answer, ticked, tick_answer, reset_with, with_ready, fetched, frame_due, fragment_due, sent_next, sent_again, asked_again, given_up, place_of, ahead, accepted, repeated, discarded, acknowledged, received, is_waiting, offered, put_out, stopped, no_session}
 use Rattle.shdlc_core.specs.Kept.{KeptEnd, ShdlcStandsFor}
 use Rattle.shdlc_core.specs.Offering.{with_out, left_waiting, IsNarrow, HasSession, StandsBefore, StandsWith}
 use Rattle.std.specs.Option.{option_to_list}
-use Rattle.shdlc_core.proofs.Histories.{in_phase, place_of-within}
-
--- ## Taking a frame
-
--- what a frame does to a machine, and to one to which only these fragments were offered
-pub record TakesAlike (e : EndState) (o : List Fragment) (c : Control) : Type 0 where
-  pub same : taken (with_out e o) c ≡ with_out (taken e c) (left_waiting (take_answer e c).began o)
-  pub answer : take_answer (with_out e o) c ≡ take_answer e c
-  pub out : (taken e c).session.out ≡ left_waiting (take_answer e c).began e.session.out
-  pub narrow : IsNarrow e → IsNarrow (taken e c)
-  pub session : HasSession e.phase e.session → HasSession (taken e c).phase (taken e c).session
-  pub acked : (taken e c).session.acked ≡ (if (take_answer e c).began then 0 else e.session.acked + (take_answer e c).acked)
-  pub acc : (taken e c).session.acc ≡ left_waiting (take_answer e c).began (e.session.acc ++ option_to_list (take_answer e c).accepted)
-
-same_windows : (old new : EndState) → new.own_window ≡ old.own_window → new.peer_window ≡ old.peer_window → new.session.window ≡ old.session.window
-    → IsNarrow old → IsNarrow new
-same_windows old new own peer session h =
-    let P : ℕ → Type 0 = λ n. n ≤ 4 in
-    record { own = subst P (sym own) h.own; peer = subst P (sym peer) h.peer; session = subst P (sym session) h.session }
-
-received_alike : (e : EndState) (o : List Fragment) (x ns : ℕ) (info : Fragment)
-    → (received (acknowledged (with_out (in_phase Up e) o) x) ns info ≡ with_out (received (acknowledged (in_phase Up e) x) ns info) o)
-    × ((received (acknowledged (in_phase Up e) x) ns info).session.out ≡ e.session.out)
-    × (IsNarrow (in_phase Up e) → IsNarrow (received (acknowledged (in_phase Up e) x) ns info))
-    × (Unit {0} → HasSession (received (acknowledged (in_phase Up e) x) ns info).phase (received (acknowledged (in_phase Up e) x) ns info).session)
-    × ((received (acknowledged (in_phase Up e) x) ns info).session.acked ≡ x)
-    × ((received (acknowledged (in_phase Up e) x) ns info).session.acc ≡ e.session.acc ++ option_to_list (fragment_accepted e ns info))
-received_alike e o x ns info = go e.ready (ahead e.session ns == 0) (nat_lt (ahead e.session ns) 4) e.session.gap_open
-  where
-    f : EndState
-    f = acknowledged (in_phase Up e) x
-
-    g : EndState
-    g = acknowledged (with_out (in_phase Up e) o) x
-
-    gap : EndState → EndState
-    gap h = record h { due = h.due ++ Rej_due ∷ []; session = record h.session { gap_open = true } }
-
-    all : (h : EndState) → h.own_window ≡ e.own_window → h.peer_window ≡ e.peer_window → h.session.window ≡ e.session.window
-        → IsNarrow (in_phase Up e) → IsNarrow h
-    all h = same_windows (in_phase Up e) h
-
-    go : (r b c d : Bool) →
-        ((if r then (if b then accepted g info else (if c then (if d then g else gap g) else repeated g)) else discarded g)
-        ≡ with_out (if r then (if b then accepted f info else (if c then (if d then f else gap f) else repeated f)) else discarded f) o)
-        × ((if r then (if b then accepted f info else (if c then (if d then f else gap f) else repeated f)) else discarded f).session.out ≡ e.session.out)
-        × (IsNarrow (in_phase Up e) → IsNarrow (if r then (if b then accepted f info else (if c then (if d then f else gap f) else repeated f)) else discarded f))
-        × (Unit {0} → HasSession (if r then (if b then accepted f info else (if c then (if d then f else gap f) else repeated f)) else discarded f).phase
-        (if r then (if b then accepted f info else (if c then (if d then f else gap f) else repeated f)) else discarded f).session)
-        × ((if r then (if b then accepted f info else (if c then (if d then f else gap f) else repeated f)) else discarded f).session.acked ≡ x)
-        × ((if r then (if b then accepted f info else (if c then (if d then f else gap f) else repeated f)) else discarded f).session.acc ≡ e.session.acc ++ option_to_list (if r && b then Some info else None))
-    go true true c d = (refl, refl, all (accepted f info) refl refl refl, λ h. h, refl, refl)
-    go true false true true = (refl, refl, all f refl refl refl, λ h. h, refl, sym (append-nil e.session.acc))
-    go true false true false = (refl, refl, all (gap f) refl refl refl, λ h. h, refl, sym (append-nil e.session.acc))
-    go true false false d = (refl, refl, all (repeated f) refl refl refl, λ h. h, refl, sym (append-nil e.session.acc))
-    go false b c d = (refl, refl, all (discarded f) refl refl refl, λ h. h, refl, sym (append-nil e.session.acc))
-
-fragment_alike : (e : EndState) (o : List Fragment) (ns nr : ℕ) (info : Fragment) (q : Option ℕ) → place_of e.session nr ≡ q
-    → TakesAlike (in_phase Up e) o (I ns nr info)
-fragment_alike e o ns nr info None at =
-    record { same = rw at; answer = rw at; out = rw at; narrow = rw at (λ h. h); session = rw at (λ h. h); acked = rw at (omega arith); acc = rw at (sym (append-nil e.session.acc)) }
-fragment_alike e o ns nr info (Some x) at =
-    let r = received_alike e o x ns info in
-    let w = place_of-within e.session nr x at in
-    record { same = rw at r.0; answer = rw at; out = rw at r.1; narrow = rw at r.2; session = rw at r.3; acked = rw at (r.4 ∙ omega arith); acc = rw at r.5 }
-
-some_narrow : (e new : EndState) → new.own_window ≡ e.own_window → new.peer_window ≡ e.peer_window → new.session.window ≡ e.session.window
-    → IsNarrow (in_phase Up e) → IsNarrow new
-some_narrow e new own peer session h = same_windows (in_phase Up e) new own peer session h
-
-kind_alike : (e : EndState) (o : List Fragment) (k : Kind) (nr : ℕ) (q : Option ℕ) → place_of e.session nr ≡ q → TakesAlike (in_phase Up e) o (S k nr)
-kind_alike e o Rr nr None at =
-    record { same = rw at; answer = rw at; out = rw at; narrow = rw at (λ h. h); session = rw at (λ h. h); acked = rw at (omega arith); acc = rw at (sym (append-nil e.session.acc)) }
-kind_alike e o Rr nr (Some x) at =
-    let w = place_of-within e.session nr x at in
-    record { same = rw at; answer = rw at; out = rw at; narrow = rw at (some_narrow e (ready_again (in_phase Up e) x) refl refl refl); session = rw at (λ h. h); acked = rw at (omega arith); acc = rw at (sym (append-nil e.session.acc)) }
-kind_alike e o Rej nr None at =
-    record { same = rw at; answer = rw at; out = rw at; narrow = rw at (λ h. h); session = rw at (λ h. h); acked = rw at (omega arith); acc = rw at (sym (append-nil e.session.acc)) }
-kind_alike e o Rej nr (Some x) at =
-    let w = place_of-within e.session nr x at in
-    record { same = rw at; answer = rw at; out = rw at; narrow = rw at (some_narrow e (rejected (in_phase Up e) x) refl refl refl); session = rw at (λ h. h); acked = rw at (omega arith); acc = rw at (sym (append-nil e.session.acc)) }
-kind_alike e o Rnr nr None at =
-    record { same = rw at; answer = rw at; out = rw at; narrow = rw at (λ h. h); session = rw at (λ h. h); acked = rw at (omega arith); acc = rw at (sym (append-nil e.session.acc)) }
-kind_alike e o Rnr nr (Some x) at =
-    let w = place_of-within e.session nr x at in
-    record { same = rw at; answer = rw at; out = rw at; narrow = rw at (some_narrow e (made_busy (in_phase Up e) x) refl refl refl); session = rw at (λ h. h); acked = rw at (omega arith); acc = rw at (sym (append-nil e.session.acc)) }
-kind_alike e o Srej nr q at =
-    record { same = refl; answer = refl; out = refl; narrow = λ h. h; session = λ h. h; acked = omega arith; acc = sym (append-nil e.session.acc) }
-
-lesser_own : (e : EndState) (w : ℕ) → IsNarrow e → min e.own_window w ≤ 4
-lesser_own e w h = let own = h.own in omega arith
-
-begun_narrow : (p : LinkState) (e : EndState) (w : ℕ) (due : List Due) → IsNarrow (in_phase p e)
-    → IsNarrow (up_with (record e { due = due }) (min e.own_window w))
-begun_narrow p e w due h = record { own = h.own; peer = h.peer; session = lesser_own (in_phase p e) w h }
-
-reset_alike : (p : LinkState) (e : EndState) (o : List Fragment) (w caps : ℕ) (b : Bool) → (w == 0) ≡ b → TakesAlike (in_phase p e) o (Rset w caps)
-reset_alike Up e o w caps true at =
-    record { same = rw at; answer = rw at; out = rw at; narrow = rw at (λ h. h); session = rw at (λ h. h); acked = rw at (omega arith); acc = rw at (sym (append-nil e.session.acc)) }
-reset_alike Up e o w caps false at =
-    record { same = rw at; answer = rw at; out = rw at; narrow = rw at (begun_narrow Up e (min w 4) (Ua_due ∷ [])); session = rw at (λ h. tt); acked = rw at; acc = rw at }
-reset_alike Down e o w caps true at =
-    record { same = rw at; answer = rw at; out = rw at; narrow = rw at (λ h. h); session = rw at (λ h. h); acked = rw at (omega arith); acc = rw at (sym (append-nil e.session.acc)) }
-reset_alike Down e o w caps false at =
-    record { same = rw at; answer = rw at; out = rw at; narrow = rw at (begun_narrow Down e (min w 4) (e.due ++ Ua_due ∷ [])); session = rw at (λ h. tt); acked = rw at; acc = rw at }
-reset_alike Waiting e o w caps true at =
-    record { same = rw at; answer = refl; out = rw at; narrow = rw at (λ h. h); session = rw at (λ h. h); acked = rw at (omega arith); acc = rw at (sym (append-nil e.session.acc)) }
-reset_alike Waiting e o w caps false at = record {
-  same = rw at;
-  answer = refl;
-  out = rw at;
-  narrow = rw at (λ h. record { own = h.own; peer = omega arith; session = h.session });
-  session = rw at (λ h. h);
-  acked = rw at (omega arith);
-  acc = rw at (sym (append-nil e.session.acc));
-}
-
-accepted_narrow : (e : EndState) → IsNarrow (in_phase Waiting e) → IsNarrow (up_with (in_phase Waiting e) (min e.own_window e.peer_window))
-accepted_narrow e h = record { own = h.own; peer = h.peer; session = lesser_own (in_phase Waiting e) e.peer_window h }
-
-alike_in : (p : LinkState) (e : EndState) (o : List Fragment) (c : Control) → TakesAlike (in_phase p e) o c
-alike_in Up e o (I ns nr info) = fragment_alike e o ns nr info (place_of e.session nr) refl
-alike_in Up e o (S k nr) = kind_alike e o k nr (place_of e.session nr) refl
-alike_in Up e o (Rset w caps) = reset_alike Up e o w caps (w == 0) refl
-alike_in Up e o Ua =
-    record { same = refl; answer = refl; out = refl; narrow = λ h. h; session = λ h. h; acked = omega arith; acc = sym (append-nil e.session.acc) }
-alike_in Up e o (Act act again) =
-    record { same = refl; answer = refl; out = refl; narrow = λ h. h; session = λ h. h; acked = omega arith; acc = sym (append-nil e.session.acc) }
-alike_in Up e o Clt =
-    record { same = refl; answer = refl; out = refl; narrow = λ h. h; session = λ h. h; acked = omega arith; acc = sym (append-nil e.session.acc) }
-alike_in Down e o (I ns nr info) =
-    record { same = refl; answer = refl; out = refl; narrow = λ h. h; session = λ h. h; acked = omega arith; acc = sym (append-nil e.session.acc) }
-alike_in Down e o (S k nr) =
-    record { same = refl; answer = refl; out = refl; narrow = λ h. h; session = λ h. h; acked = omega arith; acc = sym (append-nil e.session.acc) }
-alike_in Down e o (Rset w caps) = reset_alike Down e o w caps (w == 0) refl
-alike_in Down e o Ua =
-    record { same = refl; answer = refl; out = refl; narrow = λ h. h; session = λ h. h; acked = omega arith; acc = sym (append-nil e.session.acc) }
-alike_in Down e o (Act act again) =
-    record { same = refl; answer = refl; out = refl; narrow = λ h. h; session = λ h. h; acked = omega arith; acc = sym (append-nil e.session.acc) }
-alike_in Down e o Clt =
-    record { same = refl; answer = refl; out = refl; narrow = λ h. h; session = λ h. h; acked = omega arith; acc = sym (append-nil e.session.acc) }
-alike_in Waiting e o (I ns nr info) =
-    record { same = refl; answer = refl; out = refl; narrow = λ h. h; session = λ h. h; acked = omega arith; acc = sym (append-nil e.session.acc) }
-alike_in Waiting e o (S k nr) =
-    record { same = refl; answer = refl; out = refl; narrow = λ h. h; session = λ h. h; acked = omega arith; acc = sym (append-nil e.session.acc) }
-alike_in Waiting e o (Rset w caps) = reset_alike Waiting e o w caps (w == 0) refl
-alike_in Waiting e o Ua = record { same = refl; answer = refl; out = refl; narrow = accepted_narrow e; session = λ h. tt; acked = refl; acc = refl }
-alike_in Waiting e o (Act act again) =
-    record { same = refl; answer = refl; out = refl; narrow = λ h. h; session = λ h. h; acked = omega arith; acc = sym (append-nil e.session.acc) }
-alike_in Waiting e o Clt =
-    record { same = refl; answer = refl; out = refl; narrow = λ h. h; session = λ h. h; acked = omega arith; acc = sym (append-nil e.session.acc) }
-
-pub taken_alike : (e : EndState) (o : List Fragment) (c : Control) → TakesAlike e o c
-taken_alike e o c = alike_in e.phase e o c
+use Rattle.shdlc_core.proofs.Histories.{in_phase}
+use Rattle.shdlc_core.proofs.OfferedFrames.{same_windows, some_narrow, alike_in, taken_alike}
 
 -- ## Time
 
@@ -422,7 +268,8 @@ left_append true o waiting = refl
 left_append false o waiting = refl
 
 stands_after : (k : KeptEnd) (waiting : List Fragment) (e new : EndState) (h_offered : List Fragment) (b : Bool) → e.session.out ≡ h_offered ++ waiting
-    → new.session.out ≡ left_waiting b e.session.out → ShdlcStandsFor k (with_out new (left_waiting b h_offered)) → IsNarrow new → HasSession new.phase new.session
+    → new.session.out ≡ left_waiting b e.session.out → ShdlcStandsFor k (with_out new (left_waiting b h_offered)) → IsNarrow new
+    → HasSession new.phase new.session
     → StandsBefore k (left_waiting b waiting) new
 stands_after k waiting e new o b out left kept narrow session = record {
   offered = left_waiting b o;
@@ -436,7 +283,8 @@ pub stands_taken : (k new : KeptEnd) (waiting : List Fragment) (e : EndState) (c
     → ShdlcStandsFor new (taken (with_out e h.offered) c) → StandsBefore new (left_waiting (take_answer e c).began waiting) (taken e c)
 stands_taken k new waiting e c h kept =
     let a = taken_alike e h.offered c in
-    stands_after new waiting e (taken e c) h.offered (take_answer e c).began h.out a.out (subst (ShdlcStandsFor new) a.same kept) (a.narrow h.narrow) (a.session h.session)
+    stands_after new waiting e (taken e c) h.offered (take_answer e c).began h.out a.out (subst (ShdlcStandsFor new) a.same kept) (a.narrow h.narrow)
+    (a.session h.session)
 
 pub stands_ticked : (k new : KeptEnd) (waiting : List Fragment) (e : EndState) (h : StandsWith k waiting e)
     → ShdlcStandsFor new (ticked (with_out e h.stands.offered)) → StandsBefore new (left_waiting (is_some (tick_answer e).ended) waiting) (ticked e)
@@ -444,13 +292,15 @@ stands_ticked k new waiting e h kept =
     let s = h.stands in
     let next = s.kept.sender.next in
     let a = ticked_alike e s.offered waiting s.out h.full (omega arith) in
-    stands_after new waiting e (ticked e) s.offered (is_some (tick_answer e).ended) s.out a.out (subst (ShdlcStandsFor new) a.same kept) (a.narrow s.narrow) (a.session s.session)
+    stands_after new waiting e (ticked e) s.offered (is_some (tick_answer e).ended) s.out a.out (subst (ShdlcStandsFor new) a.same kept) (a.narrow s.narrow)
+    (a.session s.session)
 
 pub stands_reset : (k new : KeptEnd) (waiting : List Fragment) (e : EndState) (w : ℕ) (h : StandsBefore k waiting e) → w ≤ 4
     → ShdlcStandsFor new (reset_with (with_out e h.offered) w) → StandsBefore new (left_waiting (not (is_waiting e)) waiting) (reset_with e w)
 stands_reset k new waiting e w h l kept =
     let a = reset_alike_with e h.offered w in
-    stands_after new waiting e (reset_with e w) h.offered (not (is_waiting e)) h.out a.out (subst (ShdlcStandsFor new) a.same kept) (a.narrow h.narrow l) (a.session h.session)
+    stands_after new waiting e (reset_with e w) h.offered (not (is_waiting e)) h.out a.out (subst (ShdlcStandsFor new) a.same kept) (a.narrow h.narrow l)
+    (a.session h.session)
 
 pub stands_ready : (k new : KeptEnd) (waiting : List Fragment) (e : EndState) (r : Bool) (h : StandsWith k waiting e)
     → ShdlcStandsFor new (with_ready (with_out e h.stands.offered) r) → StandsWith new waiting (with_ready e r)
@@ -458,7 +308,14 @@ stands_ready k new waiting e r h kept =
     let s = h.stands in
     let a = ready_alike e s.offered r in
     record {
-      stands = record { offered = s.offered; out = a.out ∙ s.out; kept = subst (ShdlcStandsFor new) a.same kept; narrow = a.narrow s.narrow; session = a.session s.session };
+      stands = record {
+        offered = s.offered;
+        out = a.out
+            ∙ s.out;
+        kept = subst (ShdlcStandsFor new) a.same kept;
+        narrow = a.narrow s.narrow;
+        session = a.session s.session;
+      };
       full = elim h.full [ inl none ↦ inl none | inr four ↦ inr (four ∙ ap (λ n. n + 4) (sym a.acked)) ];
     }
 
@@ -468,7 +325,14 @@ stands_fetched k new waiting e h kept =
     let s = h.stands in
     let a = fetched_alike e s.offered waiting s.out s.narrow.session h.full in
     record {
-      stands = record { offered = s.offered; out = a.out ∙ s.out; kept = subst (ShdlcStandsFor new) a.same kept; narrow = a.narrow s.narrow; session = a.session s.session };
+      stands = record {
+        offered = s.offered;
+        out = a.out
+            ∙ s.out;
+        kept = subst (ShdlcStandsFor new) a.same kept;
+        narrow = a.narrow s.narrow;
+        session = a.session s.session;
+      };
       full = elim h.full [ inl none ↦ inl none | inr four ↦ inr (four ∙ ap (λ n. n + 4) (sym a.acked)) ];
     }
 
@@ -675,11 +539,14 @@ idle_takes : (e : EndState) (c : Control) → (e.phase ≡ Up → ⊥) → e.ses
 idle_takes e c other none idle =
     let a = taken_alike e [] c in
     let out : e.session.out ≡ [] = ap (λ (s : Session). s.out) none in
-    let acked : e.session.acked + (take_answer e c).acked ≡ 0 = ap (λ (s : Session). s.acked + (take_answer e c).acked) none ∙ (ap (λ n. 0 + n) idle.none_acked ∙ omega arith) in
-    let acc : e.session.acc ++ option_to_list (take_answer e c).accepted ≡ [] = ap (λ (s : Session). s.acc ++ option_to_list (take_answer e c).accepted) none ∙ ap option_to_list idle.none_accepted in
+    let acked : e.session.acked + (take_answer e c).acked ≡ 0 = ap (λ (s : Session). s.acked + (take_answer e c).acked) none
+    ∙ (ap (λ n. 0 + n) idle.none_acked ∙ omega arith) in
+    let acc : e.session.acc ++ option_to_list (take_answer e c).accepted ≡ [] = ap (λ (s : Session). s.acc ++ option_to_list (take_answer e c).accepted) none
+    ∙ ap option_to_list idle.none_accepted in
     record {
       out = a.out ∙ (left_none (take_answer e c).began e.session.out out ∙ sym (left_none (is_some (take_answer e c).ended) e.session.out out));
-      acked = a.acked ∙ (count_none (take_answer e c).began (e.session.acked + (take_answer e c).acked) acked ∙ sym (count_none (is_some (take_answer e c).ended) (e.session.acked + (take_answer e c).acked) acked));
+      acked = a.acked ∙ (count_none (take_answer e c).began (e.session.acked + (take_answer e c).acked) acked
+          ∙ sym (count_none (is_some (take_answer e c).ended) (e.session.acked + (take_answer e c).acked) acked));
       acc = a.acc ∙ (left_none (take_answer e c).began (e.session.acc ++ option_to_list (take_answer e c).accepted) acc
           ∙ sym (left_none (is_some (take_answer e c).ended) (e.session.acc ++ option_to_list (take_answer e c).accepted) acc));
       waiting = λ w empty. left_none (take_answer e c).began w (empty other) ∙ sym (left_none (is_some (take_answer e c).ended) w (empty other));

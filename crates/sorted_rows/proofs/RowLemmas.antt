@@ -100,7 +100,8 @@ AreRows-with_row {X} key low high row (r ∷ rows) h low_le below =
             ∙ ap (λ back. (r ∷ rows_before key k rows) ++ row ∷ back) (behind-below key k r rows (omega arith))))
             (h.0, h.1, AreRows-with_row key (key r + 1) high row rows h.2 (omega arith) below)
         | inr more ↦ subst P (sym (
-            ap (λ front. front ++ row ∷ rows_behind key k (r ∷ rows)) (before-above key k r rows (omega arith) ∙ rows_before-none key k (key r + 1) high rows (omega arith) h.2)
+            ap (λ front. front ++ row ∷ rows_behind key k (r ∷ rows))
+            (before-above key k r rows (omega arith) ∙ rows_before-none key k (key r + 1) high rows (omega arith) h.2)
             ∙ ap (λ back. row ∷ back) (behind-above key k r rows more ∙ ap (λ back. r ∷ back) (rows_behind-all key k (key r + 1) high rows (omega arith) h.2))))
             (low_le, below, (omega arith, h.1, h.2))
       ]
@@ -156,7 +157,8 @@ drop-place key k low high (r ∷ rows) h =
 pub inserted_is_put : {X : Type 0} (key : X → ℕ) (low high : ℕ) (row : X) (rows : List X) → AreRows key low high rows
     → insert (without_row key (key row) rows) (prefix_len (λ r. ltb (key r) (key row)) (without_row key (key row) rows)) row ≡ with_row key row rows
 inserted_is_put key low high row rows h =
-    ap (λ front. front ++ row ∷ drop (place key (key row) (without_row key (key row) rows)) (without_row key (key row) rows)) (take-place key (key row) low high rows h)
+    ap (λ front. front ++ row ∷ drop (place key (key row) (without_row key (key row) rows)) (without_row key (key row) rows))
+    (take-place key (key row) low high rows h)
     ∙ ap (λ back. rows_before key (key row) rows ++ row ∷ back) (drop-place key (key row) low high rows h)
 
 -- the same, as the code's calls say it
@@ -205,8 +207,10 @@ row_of-kept {X} key kept k (r ∷ rows) keeps =
           ap (row_of key k) (cond-true (kept (key r)) (r ∷ filter (λ r. kept (key r)) rows) (filter (λ r. kept (key r)) rows) keeps_it)
           ∙ (cond-true (eqb (key r) k) (Some r) (row_of key k (filter (λ r. kept (key r)) rows)) (eq-eqb (key r) k same)
           ∙ sym (cond-true (eqb (key r) k) (Some r) (row_of key k rows) (eq-eqb (key r) k same)))
-      | inr other ↦ cond_both (kept (key r)) (r ∷ filter (λ r. kept (key r)) rows) (filter (λ r. kept (key r)) rows) (λ rs. row_of key k rs ≡ row_of key k (r ∷ rows))
-          (λ yes. cond-false (eqb (key r) k) (Some r) (row_of key k (filter (λ r. kept (key r)) rows)) (ne_eqb (key r) k other) ∙ rest ∙ sym (cond-false (eqb (key r) k) (Some r) (row_of key k rows) (ne_eqb (key r) k other)))
+      | inr other ↦ cond_both (kept (key r)) (r ∷ filter (λ r. kept (key r)) rows) (filter (λ r. kept (key r)) rows)
+          (λ rs. row_of key k rs ≡ row_of key k (r ∷ rows))
+          (λ yes. cond-false (eqb (key r) k) (Some r) (row_of key k (filter (λ r. kept (key r)) rows)) (ne_eqb (key r) k other) ∙ rest
+          ∙ sym (cond-false (eqb (key r) k) (Some r) (row_of key k rows) (ne_eqb (key r) k other)))
           (λ no. rest ∙ sym (cond-false (eqb (key r) k) (Some r) (row_of key k rows) (ne_eqb (key r) k other)))
     ]
 
@@ -215,7 +219,8 @@ row_of-dropped key kept k [] drops = refl
 row_of-dropped {X} key kept k (r ∷ rows) drops =
     let rest = row_of-dropped key kept k rows drops in
     elim (cases_eq (key r) k) [
-      | inl same ↦ ap (row_of key k) (cond-false (kept (key r)) (r ∷ filter (λ r. kept (key r)) rows) (filter (λ r. kept (key r)) rows) (ap kept same ∙ drops)) ∙ rest
+      | inl same ↦ ap (row_of key k) (cond-false (kept (key r)) (r ∷ filter (λ r. kept (key r)) rows) (filter (λ r. kept (key r)) rows) (ap kept same ∙ drops))
+          ∙ rest
       | inr other ↦ cond_both (kept (key r)) (r ∷ filter (λ r. kept (key r)) rows) (filter (λ r. kept (key r)) rows) (λ rs. row_of key k rs ≡ None)
           (λ yes. cond-false (eqb (key r) k) (Some r) (row_of key k (filter (λ r. kept (key r)) rows)) (ne_eqb (key r) k other) ∙ rest)
           (λ no. rest)
@@ -225,8 +230,10 @@ pub row_of-without_row : {X : Type 0} (key : X → ℕ) (gone : ℕ) (rows : Lis
     → row_of key k (without_row key gone rows) ≡ cond (eqb gone k) None (row_of key k rows)
 row_of-without_row key gone rows k =
     elim (cases_eq gone k) [
-      | inl same ↦ row_of-dropped key (λ j. not (eqb j gone)) k rows (ap not (eq-eqb k gone (sym same))) ∙ sym (cond-true (eqb gone k) None (row_of key k rows) (eq-eqb gone k same))
-      | inr other ↦ row_of-kept key (λ j. not (eqb j gone)) k rows (ap not (ne_eqb k gone (λ same. other (sym same)))) ∙ sym (cond-false (eqb gone k) None (row_of key k rows) (ne_eqb gone k other))
+      | inl same ↦ row_of-dropped key (λ j. not (eqb j gone)) k rows (ap not (eq-eqb k gone (sym same)))
+          ∙ sym (cond-true (eqb gone k) None (row_of key k rows) (eq-eqb gone k same))
+      | inr other ↦ row_of-kept key (λ j. not (eqb j gone)) k rows (ap not (ne_eqb k gone (λ same. other (sym same))))
+          ∙ sym (cond-false (eqb gone k) None (row_of key k rows) (ne_eqb gone k other))
     ]
 
 pub row_of-with_row : {X : Type 0} (key : X → ℕ) (row : X) (rows : List X) (k : ℕ)
@@ -235,18 +242,24 @@ row_of-with_row {X} key row rows k =
     let found = row_of key k rows in
     let behind = rows_behind key (key row) rows in
     find-append (λ r. eqb (key r) k) (rows_before key (key row) rows) (row ∷ behind)
-    ∙ elim (cases_order (key row) k) as (λ _. or_else (row_of key k (rows_before key (key row) rows)) (cond (eqb (key row) k) (Some row) (row_of key k behind)) ≡ cond (eqb (key row) k) (Some row) found) [
-      | inl same ↦ ap (λ o. or_else o (cond (eqb (key row) k) (Some row) (row_of key k behind))) (row_of-dropped key (λ j. ltb j (key row)) k rows (le-ltb k (key row) (omega arith)))
-          ∙ (cond-true (eqb (key row) k) (Some row) (row_of key k behind) (eq-eqb (key row) k same) ∙ sym (cond-true (eqb (key row) k) (Some row) found (eq-eqb (key row) k same)))
+    ∙ elim (cases_order (key row) k) as (λ _. or_else (row_of key k (rows_before key (key row) rows)) (cond (eqb (key row) k) (Some row) (row_of key k behind))
+    ≡ cond (eqb (key row) k) (Some row) found) [
+      | inl same ↦ ap (λ o. or_else o (cond (eqb (key row) k) (Some row) (row_of key k behind)))
+          (row_of-dropped key (λ j. ltb j (key row)) k rows (le-ltb k (key row) (omega arith)))
+          ∙ (cond-true (eqb (key row) k) (Some row) (row_of key k behind) (eq-eqb (key row) k same)
+          ∙ sym (cond-true (eqb (key row) k) (Some row) found (eq-eqb (key row) k same)))
       | inr other ↦ elim other [
         | inl less ↦ let differs : (key row ≡ k → ⊥) = λ same. omega arith in
-            ap (λ o. or_else o (cond (eqb (key row) k) (Some row) (row_of key k behind))) (row_of-dropped key (λ j. ltb j (key row)) k rows (le-ltb k (key row) (omega arith)))
+            ap (λ o. or_else o (cond (eqb (key row) k) (Some row) (row_of key k behind)))
+            (row_of-dropped key (λ j. ltb j (key row)) k rows (le-ltb k (key row) (omega arith)))
             ∙ (cond-false (eqb (key row) k) (Some row) (row_of key k behind) (ne_eqb (key row) k differs)
             ∙ (row_of-kept key (λ j. ltb (key row) j) k rows (lt-ltb (key row) k less)
             ∙ sym (cond-false (eqb (key row) k) (Some row) found (ne_eqb (key row) k differs))))
         | inr more ↦ let differs : (key row ≡ k → ⊥) = λ same. omega arith in
-            ap (λ o. or_else o (cond (eqb (key row) k) (Some row) (row_of key k behind))) (row_of-kept key (λ j. ltb j (key row)) k rows (lt-ltb k (key row) more))
-            ∙ (ap (or_else found) (cond-false (eqb (key row) k) (Some row) (row_of key k behind) (ne_eqb (key row) k differs) ∙ row_of-dropped key (λ j. ltb (key row) j) k rows (le-ltb (key row) k (omega arith)))
+            ap (λ o. or_else o (cond (eqb (key row) k) (Some row) (row_of key k behind)))
+            (row_of-kept key (λ j. ltb j (key row)) k rows (lt-ltb k (key row) more))
+            ∙ (ap (or_else found) (cond-false (eqb (key row) k) (Some row) (row_of key k behind) (ne_eqb (key row) k differs)
+            ∙ row_of-dropped key (λ j. ltb (key row) j) k rows (le-ltb (key row) k (omega arith)))
             ∙ (or_else-none found ∙ sym (cond-false (eqb (key row) k) (Some row) found (ne_eqb (key row) k differs))))
       ]
     ]

@@ -89,7 +89,8 @@ answer_is last t n small fits =
         rw (no, e) refl
 
 -- what doesn't answer a UICC changes nothing but its ticks
-uicc_kept : (s : UiccAct) (es : List ActEvent) → AllByRecursion IsNoPowerMode es → uicc_after s es ≡ record { phase = phase_after (ticks_in es) s.phase; last = s.last }
+uicc_kept : (s : UiccAct) (es : List ActEvent) → AllByRecursion IsNoPowerMode es
+    → uicc_after s es ≡ record { phase = phase_after (ticks_in es) s.phase; last = s.last }
 uicc_kept s [] quiet = refl
 uicc_kept s (Start value ∷ es) quiet = absurd quiet.0
 uicc_kept s (Take act true ∷ es) quiet = uicc_kept s es quiet.1
@@ -101,7 +102,8 @@ uicc_kept s (Take (SyncId id) false ∷ es) quiet = uicc_kept s es quiet.1
 uicc_kept s (Tick ∷ es) quiet = uicc_kept (record { phase = phase_ticked s.phase; last = s.last }) es quiet.1
 uicc_kept s (Stop ∷ es) quiet = absurd quiet.0
 
-clf_kept : (s : ClfAct) (es : List ActEvent) → AllByRecursion IsNoReady es → clf_after s es ≡ record { phase = phase_after (ticks_in es) s.phase; last = s.last; power = s.power }
+clf_kept : (s : ClfAct) (es : List ActEvent) → AllByRecursion IsNoReady es
+    → clf_after s es ≡ record { phase = phase_after (ticks_in es) s.phase; last = s.last; power = s.power }
 clf_kept s [] quiet = refl
 clf_kept s (Start value ∷ es) quiet = absurd quiet.0
 clf_kept s (Take act true ∷ es) quiet = clf_kept s es quiet.1
@@ -124,7 +126,9 @@ uicc_tries s id between quiet few =
     ap (λ u. (uicc_step u Tick).1) (uicc_kept (record { phase = Awaiting 1 0; last = Some (SyncId id) }) between quiet)
     ∙ answer_after (Some (SyncId id)) 1 (ticks_in between) (omega arith) few
 
-clf_waits : (power id t : ℕ) (between : List ActEvent) → t ≤ 3 → AllByRecursion IsNoReady between → ticks_in between < ticks_from t → (clf_step (clf_after (record { phase = Awaiting t 0; last = Some (PowerMode power); power = power }) between) Tick).1 ≡ answer_to_tick (Some (PowerMode power)) t (ticks_in between + 1)
+clf_waits : (power id t : ℕ) (between : List ActEvent) → t ≤ 3 → AllByRecursion IsNoReady between → ticks_in between < ticks_from t →
+    (clf_step (clf_after (record { phase = Awaiting t 0; last = Some (PowerMode power); power = power }) between) Tick).1 ≡ answer_to_tick
+    (Some (PowerMode power)) t (ticks_in between + 1)
 clf_waits power id t between small quiet few =
     ap (λ u. (clf_step u Tick).1) (clf_kept (record { phase = Awaiting t 0; last = Some (PowerMode power); power = power }) between quiet)
     ∙ answer_after (Some (PowerMode power)) t (ticks_in between) small few
@@ -135,7 +139,8 @@ pub clf_tries_first : (s : ClfAct) (id : ℕ) (between : List ActEvent) → ((tr
 clf_tries_first s id between idle quiet few = by_phase s.phase s.last s.power idle
   where
     by_phase : (p : Phase) (last : Option Act) (power : ℕ) → ((tries ticks : ℕ) → p ≡ Awaiting tries ticks → ⊥)
-        → (clf_step (clf_after (record { phase = p; last = last; power = power }) (Take (SyncId id) false ∷ between)) Tick).1 ≡ answer_to_tick (Some (PowerMode power)) 1 (ticks_in between + 1)
+        → (clf_step (clf_after (record { phase = p; last = last; power = power }) (Take (SyncId id) false ∷ between)) Tick).1
+        ≡ answer_to_tick (Some (PowerMode power)) 1 (ticks_in between + 1)
     by_phase Inactive last power idle = clf_waits power id 1 between (omega arith) quiet few
     by_phase (Awaiting tries ticks) last power idle = absurd (idle tries ticks refl)
     by_phase Active last power idle = clf_waits power id 1 between (omega arith) quiet few

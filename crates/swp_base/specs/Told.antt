@@ -21,8 +21,12 @@ planned_is_told old at bytes ok new made = by_plan (cases_Bool (is_next old.plan
     whole = record old { content = overwritten old.content at bytes; plan = plan_after old.plan }
 
     by_plan : (is_next old.plan ≡ true) ⊎ (is_next old.plan ≡ false) → IsWritten ok old.content new.content at bytes
-    by_plan (inl next) = subst (λ o. IsWritten o old.content new.content at bytes) (sym (made.answer ∙ ap not next))
-        (torn_bytes old.plan (length bytes), length-torn_bytes old.plan (length bytes) next, ap (λ m. m.content) (made.memory ∙ ap (λ b. if b then torn else whole) next))
+    by_plan (inl next) = subst (λ o. IsWritten o old.content new.content at bytes) (sym (made.answer ∙ ap not next)) (
+      torn_bytes old.plan (length bytes),
+      length-torn_bytes old.plan (length bytes) next,
+      ap (λ m. m.content)
+          (made.memory ∙ ap (λ b. if b then torn else whole) next),
+    )
     by_plan (inr later) = subst (λ o. IsWritten o old.content new.content at bytes) (sym (made.answer ∙ ap not later))
         (ap (λ m. m.content) (made.memory ∙ ap (λ b. if b then torn else whole) later))
 

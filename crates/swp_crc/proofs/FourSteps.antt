@@ -90,14 +90,16 @@ bits_of_sum bits n b eight is small =
 upper_half : (r : ℕ) (high low : List Bool) → length low ≡ 8 → r ≡ spelled_number (high ++ low) → r / 256 ≡ spelled_number high
 upper_half r high low l is =
     let power : 2 ^ length low ≡ 256 = ap (λ n. 2 ^ n) l in
-    let parts : r ≡ spelled_number high * 256 + spelled_number low = is ∙ number_of-append high low ∙ ap (λ n. spelled_number high * n + spelled_number low) power in
+    let parts : r ≡ spelled_number high * 256 + spelled_number low = is ∙ number_of-append high low
+    ∙ ap (λ n. spelled_number high * n + spelled_number low) power in
     let small : spelled_number low < 256 = subst (λ n. spelled_number low < n) power (number_of-lt low) in
     omega (arith, parts, small)
 
 lower_half : (r : ℕ) (high low : List Bool) → length low ≡ 8 → r ≡ spelled_number (high ++ low) → r % 256 ≡ spelled_number low
 lower_half r high low l is =
     let power : 2 ^ length low ≡ 256 = ap (λ n. 2 ^ n) l in
-    let parts : r ≡ spelled_number high * 256 + spelled_number low = is ∙ number_of-append high low ∙ ap (λ n. spelled_number high * n + spelled_number low) power in
+    let parts : r ≡ spelled_number high * 256 + spelled_number low = is ∙ number_of-append high low
+    ∙ ap (λ n. spelled_number high * n + spelled_number low) power in
     let small : spelled_number low < 256 = subst (λ n. spelled_number low < n) power (number_of-lt low) in
     omega (arith, parts, small)
 
@@ -116,7 +118,8 @@ four_numbers : (ws xs ys zs : List Bool) → length ws ≡ 16 → length xs ≡ 
     ≡ bit_xor (spelled_number ws) (bit_xor (spelled_number xs) (bit_xor (spelled_number ys) (spelled_number zs)))
 four_numbers ws xs ys zs a b c d =
     number_of-sum ws (sum_from_front xs (sum_from_front ys zs)) (a ∙ sym outer)
-    ∙ ap (bit_xor (spelled_number ws)) (number_of-sum xs (sum_from_front ys zs) (b ∙ sym inner) ∙ ap (bit_xor (spelled_number xs)) (number_of-sum ys zs (c ∙ sym d)))
+    ∙ ap (bit_xor (spelled_number ws))
+    (number_of-sum xs (sum_from_front ys zs) (b ∙ sym inner) ∙ ap (bit_xor (spelled_number xs)) (number_of-sum ys zs (c ∙ sym d)))
   where
     inner : length (sum_from_front ys zs) ≡ 16
     inner = length-sum ys zs (omega (arith, c, d)) ∙ d
@@ -136,7 +139,8 @@ goes_on_by_four bytes b0 b1 b2 b3 high low h l whole =
     ∙ ap (λ xs. divided 32 (sum_from_front xs (bits_of (b0 ∷ b1 ∷ b2 ∷ b3 ∷ []) ++ zeros))) (sym whole)
     ∙ ap (λ xs. divided 32 (sum_from_front (high ++ low) xs)) nested
     ∙ ap (divided 32) (added high low first second (bits_of_byte b2 ++ (bits_of_byte b3 ++ zeros)) h l (length-byte b0) (length-byte b1))
-    ∙ each_alone (sum_from_front high first) (sum_from_front low second) (bits_of_byte b2) (bits_of_byte b3) (long_sum high b0 h) (long_sum low b1 l) (length-byte b2) (length-byte b3)
+    ∙ each_alone (sum_from_front high first) (sum_from_front low second) (bits_of_byte b2) (bits_of_byte b3) (long_sum high b0 h) (long_sum low b1 l)
+    (length-byte b2) (length-byte b3)
   where
     first : List Bool
     first = bits_of_byte b0
@@ -172,11 +176,13 @@ pub push_four_step : (r b0 b1 b2 b3 e0 e1 e2 e3 : ℕ) (bytes : List ℕ) → b0
     → bit_xor e0 (bit_xor e1 (bit_xor e2 e3)) ≡ running_of (bytes ++ b0 ∷ b1 ∷ b2 ∷ b3 ∷ [])
 push_four_step r b0 b1 b2 b3 e0 e1 e2 e3 bytes small0 small1 is is0 is1 is2 is3 =
     ap (λ n. bit_xor n (bit_xor e1 (bit_xor e2 e3))) (is0 ∙ ap (λ xs. spelled_number (alone 3 xs)) (bits_of_sum high (r / 256) b0 h upper small0))
-    ∙ ap (λ n. bit_xor (spelled_number (alone 3 top0)) (bit_xor n (bit_xor e2 e3))) (is1 ∙ ap (λ xs. spelled_number (alone 2 xs)) (bits_of_sum low (r % 256) b1 l lower small1))
+    ∙ ap (λ n. bit_xor (spelled_number (alone 3 top0)) (bit_xor n (bit_xor e2 e3)))
+    (is1 ∙ ap (λ xs. spelled_number (alone 2 xs)) (bits_of_sum low (r % 256) b1 l lower small1))
     ∙ ap (λ n. bit_xor (spelled_number (alone 3 top0)) (bit_xor (spelled_number (alone 2 top1)) (bit_xor n e3))) is2
     ∙ ap (λ n. bit_xor (spelled_number (alone 3 top0)) (bit_xor (spelled_number (alone 2 top1)) (bit_xor (spelled_number (alone 1 (bits_of_byte b2))) n))) is3
     ∙ sym (four_numbers (alone 3 top0) (alone 2 top1) (alone 1 (bits_of_byte b2)) (alone 0 (bits_of_byte b3))
-    (length-alone 3 top0 (long_sum high b0 h)) (length-alone 2 top1 (long_sum low b1 l)) (length-alone 1 (bits_of_byte b2) (length-byte b2)) (length-alone 0 (bits_of_byte b3) (length-byte b3)))
+    (length-alone 3 top0 (long_sum high b0 h)) (length-alone 2 top1 (long_sum low b1 l)) (length-alone 1 (bits_of_byte b2) (length-byte b2))
+    (length-alone 0 (bits_of_byte b3) (length-byte b3)))
     ∙ ap spelled_number (sym (goes_on_by_four bytes b0 b1 b2 b3 high low h l whole))
   where
     high : List Bool

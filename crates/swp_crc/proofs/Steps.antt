@@ -59,7 +59,8 @@ left-append bits more =
     ∙ divided-+ (length bits) (length more) (complement_first 16 ((bits ++ more) ++ zeros))
     ∙ ap (divided (length more))
     (ap (divided (length bits)) whole
-    ∙ divided_sum (length bits) front (replicate (length bits) false ++ behind) (omega (arith, length-complemented 16 (bits ++ zeros), length-append bits zeros))
+    ∙ divided_sum (length bits) front (replicate (length bits) false ++ behind)
+    (omega (arith, length-complemented 16 (bits ++ zeros), length-append bits zeros))
     (omega (arith, length-append (replicate (length bits) false) behind, length-replicate (length bits) false, long))
     ∙ ap (sum_from_front (divided (length bits) front)) (divided-zeros (length bits) behind))
   where
@@ -158,11 +159,20 @@ numbers_step r b e high low small h l is entry =
     same : bits_of_byte (bit_xor (r / 256) b) ≡ top
     same =
         ap bits_of_byte index
-        ∙ number_of-injective (bits_of_byte (spelled_number top)) top (length-byte (spelled_number top) ∙ sym eight) (number_of_byte (spelled_number top) within)
+        ∙ number_of-injective (bits_of_byte (spelled_number top)) top (length-byte (spelled_number top) ∙ sym eight)
+        (number_of_byte (spelled_number top) within)
 
     lengths : length (low ++ replicate 8 false) ≡ length (divided 8 (top ++ zeros))
     lengths =
-        omega (arith, length-append low (replicate 8 false), l, length-append top zeros, eight, length-divided 8 (top ++ zeros) (omega (arith, length-append top zeros, eight)))
+        omega (
+          arith,
+          length-append low (replicate 8 false),
+          l,
+          length-append top zeros,
+          eight,
+          length-divided 8 (top ++ zeros)
+              (omega (arith, length-append top zeros, eight)),
+        )
 
 pub push_step : (r b e : ℕ) (bytes : List ℕ) → b < 256 → r ≡ running_of bytes → e ≡ table_entry (bit_xor (r / 256) b)
     → bit_xor (r * 256 % 65536) e ≡ running_of (bytes ++ b ∷ [])

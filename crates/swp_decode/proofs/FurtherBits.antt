@@ -107,7 +107,8 @@ front_at_end place w n ones older some (all_ones over is) = (
 front_at_end place w n ones older some (last_zero lt is) = (
   (λ over. absurd (omega (arith, lt, over))),
   (λ _. front_of-readings_on place (low_bits w n) older
-      ∙ front_at_last_zero place 0 (place + w - 1 - ones) (low_bits w n) (front_of older) (ap has_zero is ∙ has_zero-behind (low_bits (w - suc ones) (n / 2 ^ suc ones)) (replicate ones true))
+      ∙ front_at_last_zero place 0 (place + w - 1 - ones) (low_bits w n) (front_of older)
+      (ap has_zero is ∙ has_zero-behind (low_bits (w - suc ones) (n / 2 ^ suc ones)) (replicate ones true))
       (omega (arith, lt, (run_at_end w n ones 0 (last_zero lt is)).1 lt, length-low_bits w n))),
 )
 
@@ -115,7 +116,8 @@ front_at_end place w n ones older some (last_zero lt is) = (
 
 -- further bits, in two parts
 pub readings_further : (place from to n x : ℕ) (older : List ReadSymbol) → from ≤ to → to ≤ n
-    → readings_on (place + from) (take (to - from) (drop from (low_bits n x))) (readings_on place (take from (low_bits n x)) older) ≡ readings_on place (take to (low_bits n x)) older
+    → readings_on (place + from) (take (to - from) (drop from (low_bits n x))) (readings_on place (take from (low_bits n x)) older)
+    ≡ readings_on place (take to (low_bits n x)) older
 readings_further place from to n x older order within =
     let bits = low_bits n x in
     let sized : length (take from bits) ≡ from = length-take-le from bits (omega (arith, order, within, length-low_bits n x)) in
@@ -156,7 +158,8 @@ pub quiet_further : (word : Word) (from mid to : ℕ) → from ≤ mid → mid �
     → NoMarkEnds word from to
 quiet_further word from mid to order further within quiet none =
     let n : ℕ = word.marks / 2 ^ (64 - to) in
-    let upper : n / 2 ^ (to - mid) ≡ word.marks / 2 ^ (64 - mid) = shr-shr word.marks (64 - to) (to - mid) ∙ ap (λ k. word.marks / 2 ^ k) (omega (arith, further, within)) in
+    let upper : n / 2 ^ (to - mid) ≡ word.marks / 2 ^ (64 - mid) = shr-shr word.marks (64 - to) (to - mid)
+    ∙ ap (λ k. word.marks / 2 ^ k) (omega (arith, further, within)) in
     ap (λ j. n % 2 ^ j) (omega (arith, order, further))
     ∙ mod-pow-add n (mid - from) (to - mid)
     ∙ ap₂ (λ a b. a * 2 ^ (to - mid) + b) (ap (λ m. m % 2 ^ (mid - from)) upper ∙ quiet) none
@@ -181,7 +184,8 @@ word_bits-more x last h =
     ∙ ap (λ b. take last (low_bits 64 x) ++ b ∷ []) (low_bits-at 64 last x h ∙ ap (bit x) (omega arith))
 
 pub readings_more : (place x last : ℕ) (older : List ReadSymbol) → last < 64
-    → with_reading (Some (symbol_of (bit x (63 - last)))) (place + last) (readings_on place (take last (low_bits 64 x)) older) ≡ readings_on place (take (last + 1) (low_bits 64 x)) older
+    → with_reading (Some (symbol_of (bit x (63 - last)))) (place + last) (readings_on place (take last (low_bits 64 x)) older)
+    ≡ readings_on place (take (last + 1) (low_bits 64 x)) older
 readings_more place x last older h =
     let bits = take last (low_bits 64 x) in
     let sized : length bits ≡ last = length-take-le last (low_bits 64 x) (omega (arith, h, length-low_bits 64 x)) in
@@ -193,7 +197,8 @@ readings_more place x last older h =
 pub quiet_line : (wire : Wire) (bit : Bool) (older : List ReadSymbol) → mark_of (symbol_of bit ∷ symbols older) ≡ no_mark
     → line_with wire (Some (symbol_of bit)) older ≡ []
 quiet_line wire b older none =
-    ap (λ fed. verdict_line wire (start_of older) fed) (ap (λ mark. verdict_after mark (since_start (symbols older))) none ∙ quiet_verdict (since_start (symbols older)))
+    ap (λ fed. verdict_line wire (start_of older) fed)
+    (ap (λ mark. verdict_after mark (since_start (symbols older))) none ∙ quiet_verdict (since_start (symbols older)))
 
 one_there : (x last : ℕ) → last < 64 → take (last + 1 - last) (drop last (low_bits 64 x)) ≡ bit x (63 - last) ∷ []
 unfolding low_bits
@@ -212,5 +217,6 @@ quiet_line_at word wire place last older h behind none =
     let one : last + 1 - last ≡ 1 = omega arith in
     let quiet : NoMarkEnds word last (last + 1) = ap₂ (λ k j. word.marks / 2 ^ k % 2 ^ j) place_is one ∙ none in
     let marks : HasNoMark (symbols before) (bit word.bits (63 - last) ∷ []) =
-    subst (HasNoMark (symbols before)) (one_there word.bits last h) (quiet_between word place last (last + 1) older (omega arith) (omega (arith, h)) behind quiet) in
+    subst (HasNoMark (symbols before)) (one_there word.bits last h)
+    (quiet_between word place last (last + 1) older (omega arith) (omega (arith, h)) behind quiet) in
     quiet_line wire (bit word.bits (63 - last)) before marks.0

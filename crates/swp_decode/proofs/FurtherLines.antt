@@ -84,7 +84,8 @@ wire_lines-bits wire (byte ∷ bytes) (bit ∷ bits) older are =
     ap (λ lines. line_at wire (byte ∷ older) ++ lines)
     (wire_lines-bits wire bytes bits (byte ∷ older) are.1
     ∙ ap (λ n. lines_on wire n bits (signal wire (byte ∷ older))) (omega arith))
-    ∙ ap (λ symbol. line_with wire symbol (signal wire older) ++ lines_on wire (length older + 1) bits (with_reading symbol (length older) (signal wire older))) are.0
+    ∙ ap (λ symbol. line_with wire symbol (signal wire older)
+    ++ lines_on wire (length older + 1) bits (with_reading symbol (length older) (signal wire older))) are.0
 
 no_parts : (xs ys : List ℕ) → xs ++ ys ≡ [] → (xs ≡ []) × (ys ≡ [])
 no_parts [] ys e = (refl, e)
@@ -100,7 +101,8 @@ s1_silent (byte ∷ bytes) older e =
 -- Where both readers have read the bits of further bytes, the decoder stands for these too.
 pub stands_behind : (old new : Decoder) (bytes older : List ℕ) (first second : List Bool) → AreBits S1 bytes first → AreBits S2 bytes second
     → DecoderStandsFor old older
-    → new.count ≡ old.count + length bytes → ReadsSignal new.s1 (readings_on old.count first (signal S1 older)) → ReadsSignal new.s2 (readings_on old.count second (signal S2 older))
+    → new.count ≡ old.count + length bytes → ReadsSignal new.s1 (readings_on old.count first (signal S1 older))
+    → ReadsSignal new.s2 (readings_on old.count second (signal S2 older))
     → DecoderStandsFor new (reverse bytes ++ older)
 stands_behind old new bytes older first second s1 s2 stands count reads_s1 reads_s2 = record {
   count = omega (arith, count, stands.count, length-append (reverse bytes) older, length-reverse bytes);
@@ -141,7 +143,8 @@ lines_between bytes older first second from to s1 s2 order quiet_s1 quiet_s2 =
     ∙ append-nil (lines_with older (take from bytes))
 
 line_there : (wire : Wire) (bytes older : List ℕ) (bits : List Bool) (i : ℕ) → AreBits wire bytes bits → i < length bytes
-    → line_at wire (get_or bytes i 0 ∷ (reverse (take i bytes) ++ older)) ≡ line_with wire (Some (symbol_of (get_or bits i false))) (readings_on (length older) (take i bits) (signal wire older))
+    → line_at wire (get_or bytes i 0 ∷ (reverse (take i bytes) ++ older))
+    ≡ line_with wire (Some (symbol_of (get_or bits i false))) (readings_on (length older) (take i bits) (signal wire older))
 line_there wire bytes older bits i are h = ap₂ (line_with wire) (AreBits-at wire i bytes bits are h) (signal_at wire bytes older bits i are)
 
 -- where no mark ends on either wire from one place up to another, the lines that come with the bytes through the other are those of its bits
@@ -154,7 +157,9 @@ pub lines_through : (text bytes older : List ℕ) (first second : List Bool) (fr
     ++ line_with S2 (Some (symbol_of (get_or second last false))) (readings_on (length older) (take last second) (signal S2 older))
     ≡ text ++ lines_with older (take (last + 1) bytes)
 lines_through text bytes older first second from last s1 s2 order h quiet_s1 quiet_s2 =
-    ap₂ (λ a b. ((text ++ lines_with older (take from bytes)) ++ a) ++ b) (sym (line_there S1 bytes older first last s1 h)) (sym (line_there S2 bytes older second last s2 h))
-    ∙ ap (λ lines. ((text ++ lines) ++ line_at S1 (get_or bytes last 0 ∷ (reverse (take last bytes) ++ older))) ++ line_at S2 (get_or bytes last 0 ∷ (reverse (take last bytes) ++ older)))
+    ap₂ (λ a b. ((text ++ lines_with older (take from bytes)) ++ a) ++ b) (sym (line_there S1 bytes older first last s1 h))
+    (sym (line_there S2 bytes older second last s2 h))
+    ∙ ap (λ lines. ((text ++ lines) ++ line_at S1 (get_or bytes last 0 ∷ (reverse (take last bytes) ++ older)))
+    ++ line_at S2 (get_or bytes last 0 ∷ (reverse (take last bytes) ++ older)))
     (sym (lines_between bytes older first second from last s1 s2 order quiet_s1 quiet_s2))
     ∙ lines_behind-more text older bytes last h

@@ -5,13 +5,15 @@ use Rattle.std.specs.Fmt.{digit_glyph}
 use Rattle.swp_decode.specs.declared.words.TheConstants.{PAIRS}
 use Rattle.swp_decode.specs.Texts.{hex_of}
 
-pair_checks : agree_below (λ b. eqb (get_or PAIRS b 0) (digit_glyph true (b / 16) + 256 * digit_glyph true (b % 16)) && (ltb (digit_glyph true (b / 16)) 256 && ltb (digit_glyph true (b % 16)) 256)) (λ b. true) 256 ≡ true
+pair_checks : agree_below (λ b. eqb (get_or PAIRS b 0) (digit_glyph true (b / 16) + 256 * digit_glyph true (b % 16)) &&
+    (ltb (digit_glyph true (b / 16)) 256 && ltb (digit_glyph true (b % 16)) 256)) (λ b. true) 256 ≡ true
 pair_checks = refl
 
 pair_right : (b : ℕ) → b < 256
     → (get_or PAIRS b 0 ≡ digit_glyph true (b / 16) + 256 * digit_glyph true (b % 16)) × ((digit_glyph true (b / 16) < 256) × (digit_glyph true (b % 16) < 256))
 pair_right b h =
-    let parts = and_parts _ _ (agree_below_at (λ b. eqb (get_or PAIRS b 0) (digit_glyph true (b / 16) + 256 * digit_glyph true (b % 16)) && (ltb (digit_glyph true (b / 16)) 256 && ltb (digit_glyph true (b % 16)) 256)) (λ b. true) 256 b pair_checks h) in
+    let parts = and_parts _ _ (agree_below_at (λ b. eqb (get_or PAIRS b 0) (digit_glyph true (b / 16) + 256 * digit_glyph true (b % 16)) &&
+    (ltb (digit_glyph true (b / 16)) 256 && ltb (digit_glyph true (b % 16)) 256)) (λ b. true) 256 b pair_checks h) in
     let small = and_parts _ _ parts.1 in
     (eqb-true _ _ parts.0, (ltb-true _ _ small.0, ltb-true _ _ small.1))
 

@@ -144,11 +144,15 @@ pub number_s2 : (xs : List ℕ) → spelled_number (map has_second xs) + spelled
 number_s2 xs = either_places has_second has_both (λ x. apart x 0 0xFC has_second refl) xs
 
 pub number_some : (xs : List ℕ)
-    → spelled_number (map has_neither xs) + spelled_number (map has_first xs) + spelled_number (map has_second xs) + spelled_number (map has_both xs) ≡ spelled_number (map is_some xs)
+    → spelled_number (map has_neither xs) + spelled_number (map has_first xs) + spelled_number (map has_second xs) + spelled_number (map has_both xs)
+    ≡ spelled_number (map is_some xs)
 number_some xs =
-    ap (λ n. n + spelled_number (map has_second xs) + spelled_number (map has_both xs)) (either_places has_neither has_first (λ x. apart x 0 0x54 has_neither refl) xs)
-    ∙ ap (λ n. n + spelled_number (map has_both xs)) (either_places (λ x. has_neither x || has_first x) has_second (λ x. apart x 0 0xC0 (λ y. has_neither y || has_first y) refl) xs)
-    ∙ either_places (λ x. (has_neither x || has_first x) || has_second x) has_both (λ x. apart x 0 0xFC (λ y. (has_neither y || has_first y) || has_second y) refl) xs
+    ap (λ n. n + spelled_number (map has_second xs) + spelled_number (map has_both xs))
+    (either_places has_neither has_first (λ x. apart x 0 0x54 has_neither refl) xs)
+    ∙ ap (λ n. n + spelled_number (map has_both xs))
+    (either_places (λ x. has_neither x || has_first x) has_second (λ x. apart x 0 0xC0 (λ y. has_neither y || has_first y) refl) xs)
+    ∙ either_places (λ x. (has_neither x || has_first x) || has_second x) has_both
+    (λ x. apart x 0 0xFC (λ y. (has_neither y || has_first y) || has_second y) refl) xs
 
 -- what holds of the four periods holds of a byte that is one of them
 for_some : (P : ℕ → Type 0) → P 0x40 → P 0x54 → P 0xC0 → P 0xFC → (x : ℕ) → is_some x ≡ true → P x

@@ -199,7 +199,8 @@ pub content_bytes : (bytes : List ℕ) (partial last n : ℕ) (bits end : List B
 content_bytes bytes partial last n bits end kept l short some is =
     bytes_in_front (bytes ++ to_be_bytes w64 last) bits (end ++ zeros) n (AreBytes-append bytes (to_be_bytes w64 last) kept.in_range (word_in_range last))
     (bits_of-append bytes (to_be_bytes w64 last)
-    ∙ ap (λ xs. bits_of bytes ++ xs) (word_bytes last ∙ ap (low_bits 64) moved ∙ low_bits-add filled (64 - filled) 64 top (omega arith) ∙ ap (λ xs. xs ++ zeros) spelled)
+    ∙ ap (λ xs. bits_of bytes ++ xs)
+    (word_bytes last ∙ ap (low_bits 64) moved ∙ low_bits-add filled (64 - filled) 64 top (omega arith) ∙ ap (λ xs. xs ++ zeros) spelled)
     ∙ sym (append_assoc (bits_of bytes) kept.rest zeros)
     ∙ ap (λ xs. xs ++ zeros) (sym kept.whole)
     ∙ append_assoc bits end zeros)
@@ -249,7 +250,8 @@ crc_differs bytes want got w g h =
     rw (← w, ← g, ne_eqb want got h) refl
 
 pub crc_is_right : (bytes : List ℕ) (want got : ℕ) → want ≡ crc_of (take (length bytes - 2) bytes)
-    → got ≡ 256 * get_or bytes (length bytes - 2) 0 + get_or bytes (length bytes - 1) 0 → want ≡ got → Frame (take (length bytes - 2) bytes) ≡ judged_bytes bytes
+    → got ≡ 256 * get_or bytes (length bytes - 2) 0 + get_or bytes (length bytes - 1) 0 → want ≡ got
+    → Frame (take (length bytes - 2) bytes) ≡ judged_bytes bytes
 crc_is_right bytes want got w g h =
     rw (← w, ← g, eq-eqb want got h) refl
 

@@ -14,14 +14,16 @@ quiet_since seen [] h = same (since_start seen)
     same None = refl
     same (Some x) = refl
 quiet_since seen (next ∷ bits) h =
-    quiet_since (symbol_of next ∷ seen) bits h.1 ∙ ap (λ before. option_map (λ since. read_on since bits) before) (one next h.0 ∙ refl) ∙ twice (since_start seen)
+    quiet_since (symbol_of next ∷ seen) bits h.1 ∙ ap (λ before. option_map (λ since. read_on since bits) before) (one next h.0 ∙ refl)
+    ∙ twice (since_start seen)
   where
     one : (b : Bool) → mark_of (symbol_of b ∷ seen) ≡ no_mark → since_start (symbol_of b ∷ seen) ≡ option_map (λ since. symbol_of b ∷ since) (since_start seen)
     one true e = rw e refl
     one false e = rw e refl
 
     twice : (before : Option (List Symbol))
-        → option_map (λ since. read_on since bits) (option_map (λ since. symbol_of next ∷ since) before) ≡ option_map (λ since. read_on (symbol_of next ∷ since) bits) before
+        → option_map (λ since. read_on since bits) (option_map (λ since. symbol_of next ∷ since) before)
+        ≡ option_map (λ since. read_on (symbol_of next ∷ since) bits) before
     twice None = refl
     twice (Some x) = refl
 

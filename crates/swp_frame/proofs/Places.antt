@@ -59,7 +59,8 @@ drop-marks (suc n) ones (false ∷ bits) = drop-marks n 0 bits
 
 -- the places put in of a part, from those of the whole
 pub put_in_between : (w from width ones x given : ℕ) → from + width ≤ w → given ≡ spelled_number (places_put_in ones (low_bits w x))
-    → given / 2 ^ (w - (from + width)) % 2 ^ width ≡ spelled_number (places_put_in (run_after ones (take from (low_bits w x))) (take width (drop from (low_bits w x))))
+    → given / 2 ^ (w - (from + width)) % 2 ^ width
+    ≡ spelled_number (places_put_in (run_after ones (take from (low_bits w x))) (take width (drop from (low_bits w x))))
 put_in_between w from width ones x given h is =
     let bits = low_bits w x in
     let places = places_put_in ones bits in
@@ -73,7 +74,8 @@ put_in_between w from width ones x given h is =
 
 -- the marks in a part, from those of the whole
 pub marks_between : (w from width ones x given : ℕ) → from + width ≤ w → given ≡ spelled_number (places_of_marks ones (low_bits w x))
-    → given / 2 ^ (w - (from + width)) % 2 ^ width ≡ spelled_number (places_of_marks (run_after ones (take from (low_bits w x))) (take width (drop from (low_bits w x))))
+    → given / 2 ^ (w - (from + width)) % 2 ^ width
+    ≡ spelled_number (places_of_marks (run_after ones (take from (low_bits w x))) (take width (drop from (low_bits w x))))
 marks_between w from width ones x given h is =
     let bits = low_bits w x in
     let places = places_of_marks ones bits in
@@ -217,7 +219,8 @@ removed w bits places t few bits_fit places_fit some is =
         record {
           within = within;
           bits_fit = subst (λ k. squeezed bits t < 2 ^ k) below (squeezed_fits a t bits (subst (λ k. bits < 2 ^ k) above bits_fit));
-          places_fit = subst (λ k. k < 2 ^ (w - 1)) kept (subst (λ k. squeezed places t < 2 ^ k) below (squeezed_fits a t places (subst (λ k. places < 2 ^ k) above places_fit)));
+          places_fit = subst (λ k. k < 2 ^ (w - 1)) kept
+              (subst (λ k. squeezed places t < 2 ^ k) below (squeezed_fits a t places (subst (λ k. places < 2 ^ k) above places_fit)));
           same =
               ap₂ (λ xs ys. without xs ys)
               (ap₂ low_bits (sym below) (sym kept) ∙ squeezed_bits a t places)
@@ -336,8 +339,10 @@ middle : (xs ys : List Bool) (b : Bool) (k : ℕ) → length ys ≡ k → eqb (s
 middle xs ys b k l =
     let low : spelled_number ys < 2 ^ k = subst (λ n. spelled_number ys < 2 ^ n) l (number_of-lt ys) in
     let split : spelled_number (xs ++ b ∷ ys) ≡ (spelled_number xs * 2 + bool_byte b) * 2 ^ k + spelled_number ys =
-    number_of-append xs (b ∷ ys) ∙ ap₂ (λ p n. spelled_number xs * p + n) (ap (λ n. 2 ^ suc n) l ∙ pow-suc 2 k) (front b ys k l) ∙ spread (spelled_number xs) (2 ^ k) (bool_byte b) (spelled_number ys) in
-    ap (λ n. eqb (n % 2) 0) (ap (λ n. n / 2 ^ k) split ∙ shr_high (spelled_number xs * 2 + bool_byte b) k (spelled_number ys) low) ∙ parity (spelled_number xs) b
+    number_of-append xs (b ∷ ys) ∙ ap₂ (λ p n. spelled_number xs * p + n) (ap (λ n. 2 ^ suc n) l ∙ pow-suc 2 k) (front b ys k l)
+    ∙ spread (spelled_number xs) (2 ^ k) (bool_byte b) (spelled_number ys) in
+    ap (λ n. eqb (n % 2) 0) (ap (λ n. n / 2 ^ k) split ∙ shr_high (spelled_number xs * 2 + bool_byte b) k (spelled_number ys) low)
+    ∙ parity (spelled_number xs) b
   where
     front : (b : Bool) (ys : List Bool) (k : ℕ) → length ys ≡ k → spelled_number (b ∷ ys) ≡ bool_byte b * 2 ^ k + spelled_number ys
     front true ys k l = rw l (omega arith)
@@ -359,6 +364,8 @@ zero_at_end w n ones before given z (last_zero lt is) e =
     let tail = places_put_in 0 (replicate ones true) in (
       (λ over. absurd (omega (arith, lt, over))),
       (λ _. ap (zero_of z before) is ∙ zero_of-zero before ones z upper
-          ∙ sym (middle (places_put_in before upper) tail (eqb (run_after before upper) 5) ones (length-put_in 0 (replicate ones true) ∙ length-replicate ones true))
-          ∙ ap (λ m. eqb (m / 2 ^ ones % 2) 0) (sym (e ∙ ap (λ xs. spelled_number (places_put_in before xs)) is ∙ ap spelled_number (put_in-zero before ones upper)))),
+          ∙ sym (middle (places_put_in before upper) tail (eqb (run_after before upper) 5) ones
+          (length-put_in 0 (replicate ones true) ∙ length-replicate ones true))
+          ∙ ap (λ m. eqb (m / 2 ^ ones % 2) 0)
+          (sym (e ∙ ap (λ xs. spelled_number (places_put_in before xs)) is ∙ ap spelled_number (put_in-zero before ones upper)))),
     )

@@ -140,7 +140,8 @@ window front bits j k n l m =
     let all : ℕ = j + n + k in
     let sized : length (front ++ bits) ≡ all = omega (arith, length-append front bits, l, m) in
     let same : low_bits all whole ≡ front ++ bits =
-    ap (low_bits all) (sym (number_of-append front bits ∙ ap (λ p. spelled_number front * 2 ^ p + spelled_number bits) l)) ∙ low_bits-number_of (front ++ bits) all sized in
+    ap (low_bits all) (sym (number_of-append front bits ∙ ap (λ p. spelled_number front * 2 ^ p + spelled_number bits) l))
+    ∙ low_bits-number_of (front ++ bits) all sized in
     let places : all - (j + n) ≡ k = omega arith in
     ap (λ xs. spelled_number (take n (drop j xs))) (sym same)
     ∙ ap spelled_number (sym (low_bits-between all j n whole (omega arith)))
@@ -155,14 +156,18 @@ front_bit ones k = ltb k ones
 abbrev front_of_seven : ℕ → List Bool
 front_of_seven ones = front_bit ones 6 ∷ front_bit ones 5 ∷ front_bit ones 4 ∷ front_bit ones 3 ∷ front_bit ones 2 ∷ front_bit ones 1 ∷ front_bit ones 0 ∷ []
 
-front_checks : agree_below (λ ones. eqb (spelled_number (front_of_seven ones)) (2 ^ ones - 1) && eqb (min 7 ones) (run_of_seven (front_bit ones 6) (front_bit ones 5) (front_bit ones 4) (front_bit ones 3) (front_bit ones 2) (front_bit ones 1) (front_bit ones 0))) (λ ones. true) 8 ≡ true
+front_checks : agree_below (λ ones. eqb (spelled_number (front_of_seven ones)) (2 ^ ones - 1) && eqb (min 7 ones) (run_of_seven (front_bit ones 6)
+    (front_bit ones 5) (front_bit ones 4) (front_bit ones 3) (front_bit ones 2) (front_bit ones 1) (front_bit ones 0))) (λ ones. true) 8 ≡ true
 front_checks = refl
 
 front_right : (ones : ℕ) → ones ≤ 7
     → (spelled_number (front_of_seven ones) ≡ 2 ^ ones - 1)
-    × (min 7 ones ≡ run_of_seven (front_bit ones 6) (front_bit ones 5) (front_bit ones 4) (front_bit ones 3) (front_bit ones 2) (front_bit ones 1) (front_bit ones 0))
+    × (min 7 ones
+    ≡ run_of_seven (front_bit ones 6) (front_bit ones 5) (front_bit ones 4) (front_bit ones 3) (front_bit ones 2) (front_bit ones 1) (front_bit ones 0))
 front_right ones h =
-    let parts = and_parts _ _ (agree_below_at (λ ones. eqb (spelled_number (front_of_seven ones)) (2 ^ ones - 1) && eqb (min 7 ones) (run_of_seven (front_bit ones 6) (front_bit ones 5) (front_bit ones 4) (front_bit ones 3) (front_bit ones 2) (front_bit ones 1) (front_bit ones 0))) (λ ones. true) 8 ones front_checks (omega arith)) in
+    let parts = and_parts _ _ (agree_below_at (λ ones. eqb (spelled_number (front_of_seven ones)) (2 ^ ones - 1) && eqb (min 7 ones) (run_of_seven
+    (front_bit ones 6) (front_bit ones 5) (front_bit ones 4) (front_bit ones 3) (front_bit ones 2) (front_bit ones 1)
+    (front_bit ones 0))) (λ ones. true) 8 ones front_checks (omega arith)) in
     (eqb-true _ _ parts.0, eqb-true _ _ parts.1)
 
 -- the bits that stand so many places before each of a number's, from what the code computes
@@ -234,7 +239,8 @@ put_in_number n x ones fits few =
     let no_six = length-map sixth not ∙ l6 in
     let no_bits = length-map bits not ∙ length-low_bits n x in
     let together = length-both list (map not sixth) n behind.0 no_six in
-    sym (ap spelled_number (put_in_places (front_bit ones 6) (front_bit ones 5) (front_bit ones 4) (front_bit ones 3) (front_bit ones 2) (front_bit ones 1) (front_bit ones 0) ones bits (front_right ones few).1)
+    sym (ap spelled_number (put_in_places (front_bit ones 6) (front_bit ones 5) (front_bit ones 4) (front_bit ones 3) (front_bit ones 2) (front_bit ones 1)
+    (front_bit ones 0) ones bits (front_right ones few).1)
     ∙ number_of-both (both list (map not sixth)) (map not bits) n together no_bits
     ∙ ap₂ bit_and
     (number_of-both list (map not sixth) n behind.0 no_six
@@ -253,7 +259,8 @@ marks_number n x ones fits few =
     let l7 = length-earlier (front_of_seven ones) n x in
     let no_seven = length-map seventh not ∙ l7 in
     let together = length-both list sixth n behind.0 l6 in
-    sym (ap spelled_number (mark_places (front_bit ones 6) (front_bit ones 5) (front_bit ones 4) (front_bit ones 3) (front_bit ones 2) (front_bit ones 1) (front_bit ones 0) ones bits (front_right ones few).1)
+    sym (ap spelled_number (mark_places (front_bit ones 6) (front_bit ones 5) (front_bit ones 4) (front_bit ones 3) (front_bit ones 2) (front_bit ones 1)
+    (front_bit ones 0) ones bits (front_right ones few).1)
     ∙ number_of-both (both list sixth) (map not seventh) n together no_seven
     ∙ ap₂ bit_and
     (number_of-both list sixth n behind.0 l6 ∙ ap₂ bit_and behind.1 (before_right n x ones 1 6 fits few refl))

@@ -20,7 +20,8 @@ split_some (b ∷ bytes) =
     by_case (eqb b 10) rest
   where
     by_case : (t : Bool) → (first : List ℕ) × (more : List (List ℕ)) × (slice_split (λ c. eqb c 10) bytes ≡ first ∷ more)
-        → (first : List ℕ) × (more : List (List ℕ)) × (cond t ([] ∷ slice_split (λ c. eqb c 10) bytes) (onto_first b (slice_split (λ c. eqb c 10) bytes)) ≡ first ∷ more)
+        → (first : List ℕ) × (more : List (List ℕ))
+        × (cond t ([] ∷ slice_split (λ c. eqb c 10) bytes) (onto_first b (slice_split (λ c. eqb c 10) bytes)) ≡ first ∷ more)
     by_case true rest = ([], slice_split (λ c. eqb c 10) bytes, refl)
     by_case false rest = (b ∷ rest.0, rest.1, ap (onto_first b) rest.2)
 
@@ -91,12 +92,30 @@ some_line b rest =
 
     by_byte : (t : Bool) → eqb b 10 ≡ t → (f : List ℕ) (m : List (List ℕ)) → slice_split (λ c. eqb c 10) rest ≡ f ∷ m → FirstLine (b ∷ rest) (λ line. Unit {0})
     by_byte true is f m parts =
-        record { line = strip_carriage_return []; more = lines_of_parts (f ∷ m); lines_are = ap lines_of_parts (split_is true is ∙ ap (λ p. [] ∷ p) parts); holds = tt }
+        record {
+          line = strip_carriage_return [];
+          more = lines_of_parts (f ∷ m);
+          lines_are =
+              ap lines_of_parts (split_is true is ∙ ap (λ p. [] ∷ p) parts);
+          holds = tt;
+        }
     by_byte false is f [] parts =
         let some : eqb (length (b ∷ f)) 0 ≡ false = grind (arith, common_steps) in
-        record { line = b ∷ f; more = []; lines_are = ap lines_of_parts (split_is false is ∙ ap (onto_first b) parts) ∙ ap (λ u. cond u [] ((b ∷ f) ∷ [])) some; holds = tt }
+        record {
+          line = b ∷ f;
+          more = [];
+          lines_are = ap lines_of_parts (split_is false is ∙ ap (onto_first b) parts)
+              ∙ ap (λ u. cond u [] ((b ∷ f) ∷ [])) some;
+          holds = tt;
+        }
     by_byte false is f (y ∷ ys) parts =
-        record { line = strip_carriage_return (b ∷ f); more = lines_of_parts (y ∷ ys); lines_are = ap lines_of_parts (split_is false is ∙ ap (onto_first b) parts); holds = tt }
+        record {
+          line = strip_carriage_return (b ∷ f);
+          more = lines_of_parts (y ∷ ys);
+          lines_are =
+              ap lines_of_parts (split_is false is ∙ ap (onto_first b) parts);
+          holds = tt;
+        }
 
 -- a line that no LF has ended
 pub lines-lacks : (x : List ℕ) → LacksLineFeed x → 0 < length x → lines x ≡ x ∷ []

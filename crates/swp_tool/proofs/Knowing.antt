@@ -173,7 +173,8 @@ tells_complete input text h =
       header_is = header.1;
       history = played.history;
       follows = played.follows;
-      told = subst (λ t. TellsEntries t (entries_told played.history)) (sym text_is) (tells_all (entries_told played.history) s.count in_range (omega (arith, most)));
+      told = subst (λ t. TellsEntries t (entries_told played.history)) (sym text_is)
+          (tells_all (entries_told played.history) s.count in_range (omega (arith, most)));
     }
 
 done_replayed : (tells : Bool) (input left before after : List ℕ) → Replayed tells status.Done input left before after

@@ -51,7 +51,8 @@ began r r' s written w header h none stands world_is count_is text_is =
       at = subst P (sym world_is) (record {
         history = opened header;
         stands = subst Q (sym before.0) stands;
-        text_is = ap (λ l. written ++ l) text_is ∙ (sym (append_assoc written r.text.items (transcript_of (opened header))) ∙ ap (λ l. l ++ transcript_of (opened header)) before.1);
+        text_is = ap (λ l. written ++ l) text_is
+            ∙ (sym (append_assoc written r.text.items (transcript_of (opened header))) ∙ ap (λ l. l ++ transcript_of (opened header)) before.1);
       });
     }
 
@@ -82,7 +83,8 @@ misread_is w header lines text line at =
 -- the world went on by a line
 pub went_on : (r r' : Replay) (s : Schedule) (written : List ℕ) (w w' : World) (line : Line) → HasPlayed r s written → r.world ≡ Some w → r'.world ≡ Some w'
     → r'.count ≡ r.count + 1
-    → ((header : Header) (lines : List Line) (before : List ℕ) → Runs w header lines (before ++ r.text.items) → Runs w' header (lines ++ line ∷ []) (before ++ r'.text.items))
+    → ((header : Header) (lines : List Line) (before : List ℕ) → Runs w header lines (before ++ r.text.items)
+    → Runs w' header (lines ++ line ∷ []) (before ++ r'.text.items))
     → ((header : Header) (lines : List Line) (t : History) → WorldStandsFor w header lines t → misread (link_at t) line ≡ None)
     → HasPlayed r' (with_said s (Ok (read.Line line))) written
 went_on r r' s written w w' line h is is' count_is runs told =

@@ -109,7 +109,8 @@ stops_next p bytes written rest why text h line more next stop transcript =
     let s' = with_line s line in
     let is : schedule_of (bytes ++ rest) ≡ s' =
     ap (λ l. ended (with_lines nothing_read l)) (lines_on p bytes written rest h ∙ ap (λ l. map strip_carriage_return h.whole ++ l) next)
-    ∙ (ap ended (with_lines-append nothing_read (map strip_carriage_return h.whole) (line ∷ more) ∙ with_lines-stopped s' why more stop) ∙ ended-stopped s' why stop) in
+    ∙ (ap ended (with_lines-append nothing_read (map strip_carriage_return h.whole) (line ∷ more) ∙ with_lines-stopped s' why more stop)
+    ∙ ended-stopped s' why stop) in
     let there = stops_there s why line h.played.running stop in
     let P : Schedule → Type 0 = λ x. IsTranscript x text in
     record {
@@ -122,14 +123,24 @@ stops_next p bytes written rest why text h line more next stop transcript =
 pub front_so_far : (p : Pieces) (bytes written rest text : List ℕ) (h : HasRead p bytes written) → IsTranscript (schedule_so_far h.whole) text
     → IsFrontTranscript (bytes ++ rest) text
 front_so_far p bytes written rest text h transcript =
-    record { front = map strip_carriage_return h.whole; back = lines (p.partial.items ++ rest); lines_are = lines_on p bytes written rest h; transcript = transcript }
+    record {
+      front = map strip_carriage_return h.whole;
+      back = lines (p.partial.items ++ rest);
+      lines_are = lines_on p bytes written rest h;
+      transcript =
+          transcript;
+    }
 
 -- what holds however the bytes go on holds behind more of them
 pub halts_more : (why : Halt) (count : ℕ) (bytes more text : List ℕ) → Halts why count bytes text → Halts why count (bytes ++ more) text
-halts_more (halt.Fault f) count bytes more text h = λ rest. (let P : List ℕ → Type 0 = λ b. StopsAt b (AtFault f) (count + 1) text in subst P (sym (append_assoc bytes more rest)) (h (more ++ rest)))
-halts_more halt.Undetected count bytes more text h = λ rest. (let P : List ℕ → Type 0 = λ b. StopsAt b AtMisread (count + 1) text in subst P (sym (append_assoc bytes more rest)) (h (more ++ rest)))
-halts_more halt.TooMany count bytes more text h = λ rest. (let P : List ℕ → Type 0 = λ b. StopsAt b Too_many (count + 1) text in subst P (sym (append_assoc bytes more rest)) (h (more ++ rest)))
-halts_more halt.NoMemory count bytes more text h = λ rest. (let P : List ℕ → Type 0 = λ b. IsFrontTranscript b text in subst P (sym (append_assoc bytes more rest)) (h (more ++ rest)))
+halts_more (halt.Fault f) count bytes more text h =
+    λ rest. (let P : List ℕ → Type 0 = λ b. StopsAt b (AtFault f) (count + 1) text in subst P (sym (append_assoc bytes more rest)) (h (more ++ rest)))
+halts_more halt.Undetected count bytes more text h =
+    λ rest. (let P : List ℕ → Type 0 = λ b. StopsAt b AtMisread (count + 1) text in subst P (sym (append_assoc bytes more rest)) (h (more ++ rest)))
+halts_more halt.TooMany count bytes more text h =
+    λ rest. (let P : List ℕ → Type 0 = λ b. StopsAt b Too_many (count + 1) text in subst P (sym (append_assoc bytes more rest)) (h (more ++ rest)))
+halts_more halt.NoMemory count bytes more text h =
+    λ rest. (let P : List ℕ → Type 0 = λ b. IsFrontTranscript b text in subst P (sym (append_assoc bytes more rest)) (h (more ++ rest)))
 
 -- ## A line too many, a line too long
 
@@ -143,7 +154,8 @@ halts_too_many p bytes written byte reading full h = λ rest.
     let stop : (with_line s line.line).stop ≡ Some Too_many = at_limit s line.line h.played.running (sym h.played.count_is ∙ full) in
     let P : List ℕ → Type 0 = λ b. StopsAt b Too_many (p.replay.count + 1) (written ++ p.replay.text.items) in
     subst P (sym (append_assoc bytes (byte ∷ []) rest))
-    (stops_next p bytes written (byte ∷ rest) Too_many (written ++ p.replay.text.items) h line.line line.more next stop (played_transcript p.replay s written h.played))
+    (stops_next p bytes written (byte ∷ rest) Too_many (written ++ p.replay.text.items) h line.line line.more next stop
+    (played_transcript p.replay s written h.played))
   where
     no_partial : (l : List ℕ) → (0 < length l → p.replay.count < 20000) → l ≡ []
     no_partial [] begun = refl
@@ -153,7 +165,8 @@ halts_too_many p bytes written byte reading full h = λ rest.
     at_limit s line running count =
         let P : Option Stop → Type 0 = λ o. (with_line (record s { stop = o }) line).stop ≡ Some Too_many in
         subst P (sym running)
-        (ap (λ b. (cond b (record s { count = s.count + 1; stop = Some Too_many }) (with_said (record s { stop = None }) (line_of s.header line))).stop) (ap (λ n. eqb n 20000) count))
+        (ap (λ b. (cond b (record s { count = s.count + 1; stop = Some Too_many }) (with_said (record s { stop = None }) (line_of s.header line))).stop)
+        (ap (λ n. eqb n 20000) count))
 
 -- the same where more bytes than one come
 pub halts_too_many_in : (p : Pieces) (before written bytes : List ℕ) → 0 < length bytes → IsReading p → p.replay.count ≡ 20000 → HasRead p before written
@@ -170,13 +183,16 @@ pub halts_too_long : (p : Pieces) (before written bytes : List ℕ) → p.replay
     → Halts (halt.Fault fault.TooLong) p.replay.count (before ++ bytes) (written ++ p.replay.text.items)
 halts_too_long p before written bytes room long lacks h = λ rest.
     let x = p.partial.items ++ bytes in
-    let line = long_line x rest 9000 (lacks_append p.partial.items bytes h.partial_lacks lacks) (let e : length x ≡ length p.partial.items + length bytes = Rattle.std.proofs.Common.length-append p.partial.items bytes in omega arith) in
+    let line = long_line x rest 9000 (lacks_append p.partial.items bytes h.partial_lacks lacks)
+    (let e : length x ≡ length p.partial.items + length bytes = Rattle.std.proofs.Common.length-append p.partial.items bytes in omega arith) in
     let next : lines (p.partial.items ++ (bytes ++ rest)) ≡ line.line ∷ line.more = ap lines (sym (append_assoc p.partial.items bytes rest)) ∙ line.lines_are in
     let s = schedule_so_far h.whole in
-    let stop : (with_line s line.line).stop ≡ Some (AtFault fault.TooLong) = too_long s line.line h.played.running (omega (arith, h.played.count_is)) line.holds in
+    let stop : (with_line s line.line).stop ≡ Some (AtFault fault.TooLong) =
+    too_long s line.line h.played.running (omega (arith, h.played.count_is)) line.holds in
     let P : List ℕ → Type 0 = λ b. StopsAt b (AtFault fault.TooLong) (p.replay.count + 1) (written ++ p.replay.text.items) in
     subst P (sym (append_assoc before bytes rest))
-    (stops_next p before written (bytes ++ rest) (AtFault fault.TooLong) (written ++ p.replay.text.items) h line.line line.more next stop (played_transcript p.replay s written h.played))
+    (stops_next p before written (bytes ++ rest) (AtFault fault.TooLong) (written ++ p.replay.text.items) h line.line line.more next stop
+    (played_transcript p.replay s written h.played))
   where
     too_long : (s : Schedule) (line : List ℕ) → s.stop ≡ None → s.count < 20000 → 9000 < length line → (with_line s line).stop ≡ Some (AtFault fault.TooLong)
     too_long s line running room' long' =
@@ -198,7 +214,8 @@ read_more p q before written bytes lacks items replay h =
     let Q : Replay → Type 0 = λ r. HasPlayed r (schedule_so_far h.whole) written in
     record {
       whole = h.whole;
-      cut = ap (λ b. b ++ bytes) h.cut ∙ (append_assoc (flat_map ended_line h.whole) p.partial.items bytes ∙ ap (λ l. flat_map ended_line h.whole ++ l) (sym items));
+      cut = ap (λ b. b ++ bytes) h.cut
+          ∙ (append_assoc (flat_map ended_line h.whole) p.partial.items bytes ∙ ap (λ l. flat_map ended_line h.whole ++ l) (sym items));
       lack = h.lack;
       partial_lacks = subst P (sym items) (lacks_append p.partial.items bytes h.partial_lacks lacks);
       played = subst Q (sym replay) h.played;
@@ -222,12 +239,14 @@ strip-push (x ∷ whole) line = ap (λ l. strip_carriage_return x ∷ l) (strip-
 
 so_far-push : (whole : List (List ℕ)) (line : List ℕ) → schedule_so_far (whole ++ line ∷ []) ≡ with_line (schedule_so_far whole) (strip_carriage_return line)
 so_far-push whole line =
-    ap (λ l. with_lines nothing_read l) (strip-push whole line) ∙ with_lines-append nothing_read (map strip_carriage_return whole) (strip_carriage_return line ∷ [])
+    ap (λ l. with_lines nothing_read l) (strip-push whole line)
+    ∙ with_lines-append nothing_read (map strip_carriage_return whole) (strip_carriage_return line ∷ [])
 
 -- the line was played: with these bytes the one under way has ended
 pub read_when : (p q : Pieces) (bytes written line tail : List ℕ) → HasRead p bytes written → p.partial.items ++ tail ≡ ended_line line
     → LacksLineFeed line → q.partial.items ≡ []
-    → ((s : Schedule) (w : List ℕ) → HasPlayed p.replay s w → HasPlayed q.replay (with_line s (strip_carriage_return line)) w) → HasRead q (bytes ++ tail) written
+    → ((s : Schedule) (w : List ℕ) → HasPlayed p.replay s w → HasPlayed q.replay (with_line s (strip_carriage_return line)) w)
+    → HasRead q (bytes ++ tail) written
 read_when p q bytes written line tail h ends lacks none played =
     let whole = h.whole ++ line ∷ [] in
     let P : Schedule → Type 0 = λ s. HasPlayed q.replay s written in
@@ -386,7 +405,8 @@ no_world (Some x) ls text at = absurd at
 ended_no_header : (s : Schedule) → s.stop ≡ None → s.header ≡ None → ended s ≡ record s { count = s.count + 1; stop = Some (AtFault fault.Order) }
 ended_no_header s running none =
     let P : Option Stop → Type 0 = λ o. ended (record s { stop = o }) ≡ record s { count = s.count + 1; stop = Some (AtFault fault.Order) } in
-    let Q : Option Header → Type 0 = λ x. ended (record s { stop = None; header = x }) ≡ record s { header = x; count = s.count + 1; stop = Some (AtFault fault.Order) } in
+    let Q : Option Header
+    → Type 0 = λ x. ended (record s { stop = None; header = x }) ≡ record s { header = x; count = s.count + 1; stop = Some (AtFault fault.Order) } in
     subst P (sym running) (subst Q (sym none) refl)
 
 -- without a header the line after the last is out of order

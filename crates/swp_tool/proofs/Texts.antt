@@ -18,7 +18,8 @@ step_texts-append (x ∷ a) b =
 
 -- the transcript of a history with one line more
 pub text_of-step : (t : History) (line : Line)
-    → transcript_of (with_step t line) ≡ transcript_of t ++ (entry_line (entry.Echo line) ++ entry_lines (noted (outcome_of (host_of t.header) (link_at t) line)))
+    → transcript_of (with_step t line)
+    ≡ transcript_of t ++ (entry_line (entry.Echo line) ++ entry_lines (noted (outcome_of (host_of t.header) (link_at t) line)))
 text_of-step t line =
     let front = entry_line (entry.Head t.header) ++ entry_lines t.opening in
     let step : Step = record { line = line; outcome = outcome_of (host_of t.header) (link_at t) line } in

@@ -76,7 +76,8 @@ pub record IsCutOff (tells : Bool) (input left before after : List ℕ) : Type 0
   pub after_is : IsTrue tells → after ≡ before ++ record_lines bytes
 
 -- How a decoding of this input ended. On Done all of its text was written; where reading failed or the record was too long,
--- the lines of what was read before; where writing failed, a front, all of the pieces before the last among it. Whether the sink tells what was written comes first.
+-- the lines of what was read before; where writing failed, a front, all of the pieces before the last among it. Whether the sink
+-- tells what was written comes first.
 abbrev pub DecodedBy : Bool → Status → List ℕ → List ℕ → List ℕ → List ℕ → Type 0
 DecodedBy tells status.Done input left before after = (left ≡ []) × (length input ≤ most_bytes) × (IsTrue tells → after ≡ before ++ decoded input)
 DecodedBy tells (status.TooMany count) input left before after = (count ≡ 16777217) × IsTooLong tells input before after

@@ -47,9 +47,9 @@ pub record IsCutShort (most : ℕ) (input left front : List ℕ) : Type 0 where
 abbrev pub IsTranscriptOfRead : List ℕ → List ℕ → List ℕ → Type 0
 IsTranscriptOfRead input left text = (bytes : List ℕ) × (input ≡ bytes ++ left) × IsWholeTranscript bytes text × IsRunning bytes
 
--- How a replay of this input ended. The transcript of the lines before the fault was written, on Done all of it; on a
--- fault of writing, a front of it, all of the pieces before the last among it. Whether the sink tells what was written comes first: without it there is such a text, and
--- nothing is said of where it went.
+-- How a replay of this input ended. The transcript of the lines before the fault was written, on Done all of it; on a fault of writing,
+-- a front of it, all of the pieces before the last among it. Whether the sink tells what was written comes first: without it there is
+-- such a text, and nothing is said of where it went.
 abbrev pub Replayed : Bool → Status → List ℕ → List ℕ → List ℕ → List ℕ → Type 0
 Replayed tells status.Done input left before after = (left ≡ []) × AppendsText tells (IsCompleteTranscript input) before after
 Replayed tells (status.BadSchedule line why) input left before after = AppendsText tells (StopsAt input (AtFault why) line) before after

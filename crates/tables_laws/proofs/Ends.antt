@@ -34,8 +34,12 @@ changed : (t : HciTables) (pid other : ℕ) (opened : Bool) (o : Option PipeRow)
     → IfSome (option_map (set_opened other opened) o) (WasThere t pid)
 unfolding set_opened
 changed t pid other opened None is = tt
-changed t pid other opened (Some row) is =
-    (row, is, cond_both (eqb row.pid other) (as_opened opened row) row (SameEnds row) (λ yes. record { creator = refl; creator_gate = refl; dest = refl; dest_gate = refl }) (λ no. same_ends row))
+changed t pid other opened (Some row) is = (
+  row,
+  is,
+  cond_both (eqb row.pid other) (as_opened opened row) row (SameEnds row)
+      (λ yes. record { creator = refl; creator_gate = refl; dest = refl; dest_gate = refl }) (λ no. same_ends row),
+)
 
 pub ends-apply : (t : HciTables) (command : Command) (pid : ℕ) → AreTables t → IfSome (pipe_at (apply t command).rows pid) (ComesFrom t command pid)
 unfolding set_opened
@@ -60,9 +64,11 @@ ends-apply t (Clear host) pid h =
     (filtered t pid (λ row. not (joins_host row host)) (pipe_at t.rows pid) refl)
 ends-apply t (SetOpened host other opened) pid h =
     let From : Option PipeRow → Type 0 = λ o. IfSome o (WasThere t pid) in
-    cond_both (ltb other 2) (record t { statics = with_static t.statics host other opened }) (record t { rows = with_opened t.rows other opened }) (λ u. From (pipe_at u.rows pid))
+    cond_both (ltb other 2) (record t { statics = with_static t.statics host other opened }) (record t { rows = with_opened t.rows other opened })
+    (λ u. From (pipe_at u.rows pid))
     (λ static. as_before t pid)
-    (λ dynamic. subst From (sym (row_of-map pid_of (set_opened other opened) pid t.rows (keeps other opened))) (changed t pid other opened (pipe_at t.rows pid) refl))
+    (λ dynamic. subst From (sym (row_of-map pid_of (set_opened other opened) pid t.rows (keeps other opened)))
+    (changed t pid other opened (pipe_at t.rows pid) refl))
   where
     keeps : (other : ℕ) (opened : Bool) (row : PipeRow) → (cond (eqb row.pid other) (as_opened opened row) row).pid ≡ row.pid
     keeps other opened row = cond_both (eqb row.pid other) (as_opened opened row) row (λ r. r.pid ≡ row.pid) (λ yes. refl) (λ no. refl)

@@ -12,7 +12,8 @@ row_of-map key change k [] keeps = refl
 row_of-map {X} key change k (row ∷ rows) keeps =
     let rest = row_of-map key change k rows keeps in
     ap (λ n. cond (eqb n k) (Some (change row)) (row_of key k (map change rows))) (keeps row)
-    ∙ cond_both (eqb (key row) k) (Some row) (row_of key k rows) (λ o. cond (eqb (key row) k) (Some (change row)) (row_of key k (map change rows)) ≡ option_map change o)
+    ∙ cond_both (eqb (key row) k) (Some row) (row_of key k rows)
+    (λ o. cond (eqb (key row) k) (Some (change row)) (row_of key k (map change rows)) ≡ option_map change o)
     (λ same. cond-true (eqb (key row) k) (Some (change row)) (row_of key k (map change rows)) same)
     (λ other. cond-false (eqb (key row) k) (Some (change row)) (row_of key k (map change rows)) other ∙ rest)
 
@@ -40,9 +41,11 @@ row_of-filter {X} key low high test k (row ∷ rows) h =
           let none = row_of-above key k (key row + 1) high rows (omega arith) h.2 in
           cond_both (test row) (row ∷ passed) passed (λ rs. row_of key k rs ≡ option_and_then (if_passes test) (row_of key k (row ∷ rows)))
           (λ yes. cond-true (eqb (key row) k) (Some row) (row_of key k passed) here
-          ∙ (sym (cond-true (test row) (Some row) None yes) ∙ ap (option_and_then (if_passes test)) (sym (cond-true (eqb (key row) k) (Some row) (row_of key k rows) here))))
+          ∙ (sym (cond-true (test row) (Some row) None yes)
+          ∙ ap (option_and_then (if_passes test)) (sym (cond-true (eqb (key row) k) (Some row) (row_of key k rows) here))))
           (λ no. rest ∙ (ap (option_and_then (if_passes test)) none
-          ∙ (sym (cond-false (test row) (Some row) None no) ∙ ap (option_and_then (if_passes test)) (sym (cond-true (eqb (key row) k) (Some row) (row_of key k rows) here)))))
+          ∙ (sym (cond-false (test row) (Some row) None no)
+          ∙ ap (option_and_then (if_passes test)) (sym (cond-true (eqb (key row) k) (Some row) (row_of key k rows) here)))))
       | inr other ↦
           let there = ne_eqb (key row) k other in
           let after = ap (option_and_then (if_passes test)) (sym (cond-false (eqb (key row) k) (Some row) (row_of key k rows) there)) in

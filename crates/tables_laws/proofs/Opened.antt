@@ -53,7 +53,8 @@ static_step statics h p true host pid e =
     let place = static_place (h, p) in
     let before = rows_before static_place place statics in
     let behind = rows_behind static_place place statics in
-    elim (or_cases (static_opened before host pid) (static_opened ((h, p) ∷ behind) host pid) (sym (list_any-append (is_static host pid) before ((h, p) ∷ behind)) ∙ e)) [
+    elim (or_cases (static_opened before host pid) (static_opened ((h, p) ∷ behind) host pid)
+    (sym (list_any-append (is_static host pid) before ((h, p) ∷ behind)) ∙ e)) [
       | inl front ↦ inl (filtered_any (is_static host pid) (λ s. ltb (static_place s) place) statics front)
       | inr here ↦ elim (or_cases (is_static host pid (h, p)) (static_opened behind host pid) here) [
         | inl this ↦
@@ -111,12 +112,15 @@ opened_dynamic t (SetOpened other p opened) host pid from h may e =
     (λ u. dynamic_opened u.rows pid ≡ true → (dynamic_opened t.rows pid ≡ true) ⊎ (opens host pid (SetOpened other p opened) ≡ true))
     (λ static before. inl before)
     (λ dynamic now.
-    let keeps : (row : PipeRow) → (cond (eqb row.pid p) (as_opened opened row) row).pid ≡ row.pid = λ row. cond_both (eqb row.pid p) (as_opened opened row) row (λ r. r.pid ≡ row.pid) (λ yes. refl) (λ no. refl) in
+    let keeps : (row : PipeRow) → (cond (eqb row.pid p) (as_opened opened row) row).pid ≡ row.pid =
+    λ row. cond_both (eqb row.pid p) (as_opened opened row) row (λ r. r.pid ≡ row.pid) (λ yes. refl) (λ no. refl) in
     let mapped = subst Opened (row_of-map pid_of (λ row. cond (eqb row.pid p) (as_opened opened row) row) pid t.rows keeps) now in
-    let key : (row : PipeRow) → pipe_at t.rows pid ≡ Some row → row.pid ≡ pid = λ row is. (found_is pid_of (λ _. Unit {0}) pid t.rows row (nothing_of t.rows) is).1 in
+    let key : (row : PipeRow) → pipe_at t.rows pid ≡ Some row
+    → row.pid ≡ pid = λ row is. (found_is pid_of (λ _. Unit {0}) pid t.rows row (nothing_of t.rows) is).1 in
     elim (dynamic_step p opened pid (pipe_at t.rows pid) key mapped) [
       | inl before ↦ inl before
-      | inr here ↦ inr (and_from (opened && eqb p pid) (eqb other host || not (ltb pid 2)) here (or_right (eqb other host) (not (ltb pid 2)) (not_from_false (ltb pid 2) (le-ltb pid 2 from))))
+      | inr here ↦ inr (and_from (opened && eqb p pid) (eqb other host || not (ltb pid 2)) here
+          (or_right (eqb other host) (not (ltb pid 2)) (not_from_false (ltb pid 2) (le-ltb pid 2 from))))
     ]) e
 opened_dynamic t (Set other gate param value) host pid from h may e = inl e
 opened_dynamic t (Sync other id) host pid from h may e = inl e
@@ -132,7 +136,8 @@ opened-apply t command host pid h may e =
             | inr here ↦ inr here
           ]
       | inr dynamic ↦
-          elim (opened_dynamic t command host pid (ltb-false pid 2 dynamic) h may (sym (cond-false (ltb pid 2) (static_opened u.statics host pid) (dynamic_opened u.rows pid) dynamic) ∙ e)) [
+          elim (opened_dynamic t command host pid (ltb-false pid 2 dynamic) h may
+          (sym (cond-false (ltb pid 2) (static_opened u.statics host pid) (dynamic_opened u.rows pid) dynamic) ∙ e)) [
             | inl before ↦ inl (cond-false (ltb pid 2) (static_opened t.statics host pid) (dynamic_opened t.rows pid) dynamic ∙ before)
             | inr here ↦ inr here
           ]

@@ -19,9 +19,11 @@ pub AreValues-with_value : (values : List RegValue) (host gate param : ℕ) (val
     → registry.AreValues values → registry.AreValues (registry.with_value values host gate param value)
 AreValues-with_value values host gate param value kept h =
     let v : RegValue = record { host = host; gate = gate; param = param; value = record { items = value } } in
-    cond_both (registry.is_default param value) (without_row registry.place_of_value (registry.value_place host param) values) (with_row registry.place_of_value v values) registry.AreValues
+    cond_both (registry.is_default param value) (without_row registry.place_of_value (registry.value_place host param) values)
+    (with_row registry.place_of_value v values) registry.AreValues
     (λ default. AreValues-filter (λ r. not (eqb (registry.place_of_value r) (registry.value_place host param))) values h)
-    (λ other. AreValues-with_row v values (and_from (registry.is_kept host gate param) (not (registry.is_default param value)) kept (not_from_false (registry.is_default param value) other)) h)
+    (λ other. AreValues-with_row v values
+    (and_from (registry.is_kept host gate param) (not (registry.is_default param value)) kept (not_from_false (registry.is_default param value) other)) h)
 
 with_static-sorted : (statics : List (ℕ × ℕ)) (host pid : ℕ) (opened : Bool) → host ≤ 7 → pid < 2 → AreRows static_place 0 16 statics
     → AreRows static_place 0 16 (with_static statics host pid opened)

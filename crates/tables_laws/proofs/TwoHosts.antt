@@ -55,7 +55,8 @@ JoinTwo-apply t (Create row) may two =
 JoinTwo-apply t (Delete pid) may two = all-kept joins_two (λ row. not (eqb row.pid pid)) t.rows two
 JoinTwo-apply t (Clear host) may two = all-kept joins_two (λ row. not (joins_host row host)) t.rows two
 JoinTwo-apply t (SetOpened host pid opened) may two =
-    cond_both (ltb pid 2) (record t { statics = with_static t.statics host pid opened }) (record t { rows = with_opened t.rows pid opened }) (λ u. JoinTwo u.rows)
+    cond_both (ltb pid 2) (record t { statics = with_static t.statics host pid opened }) (record t { rows = with_opened t.rows pid opened })
+    (λ u. JoinTwo u.rows)
     (λ static. two) (λ dynamic. JoinTwo-opened t.rows pid opened two)
 JoinTwo-apply t (Set host gate param value) may two = two
 JoinTwo-apply t (Sync host id) may two = two

@@ -88,11 +88,13 @@ value_at-with_value values h gate p value host param one other =
     let v : RegValue = record { host = h; gate = gate; param = p; value = record { items = value } } in
     let old = row_of place_of_value (value_place host param) values in
     let same = place_test h p host param one other in
-    cond_both (is_default p value) (without_row place_of_value (value_place h p) values) (with_row place_of_value v values) (λ vs. value_at vs host 0 param ≡ cond (eqb h host && eqb p param) value (value_at values host 0 param))
+    cond_both (is_default p value) (without_row place_of_value (value_place h p) values) (with_row place_of_value v values)
+    (λ vs. value_at vs host 0 param ≡ cond (eqb h host && eqb p param) value (value_at values host 0 param))
     (λ default.
     ap (read param) (row_of-without_row place_of_value (value_place h p) values (value_place host param))
     ∙ (ap (λ b. read param (cond b None old)) same
-    ∙ taken_out param (eqb h host && eqb p param) value old (λ here. ap default_of (sym (eqb-true p param (and_parts (eqb h host) (eqb p param) here).1)) ∙ sym (default_is p value default))))
+    ∙ taken_out param (eqb h host && eqb p param) value old
+    (λ here. ap default_of (sym (eqb-true p param (and_parts (eqb h host) (eqb p param) here).1)) ∙ sym (default_is p value default))))
     (λ kept.
     ap (read param) (row_of-with_row place_of_value v values (value_place host param))
     ∙ (ap (λ b. read param (cond b (Some v) old)) same
@@ -108,7 +110,11 @@ found_host values host param v which h is =
 
 eqb_turned : (a b : ℕ) → eqb a b ≡ eqb b a
 eqb_turned a b =
-    elim (cases_eq a b) [ inl same ↦ eq-eqb a b same ∙ sym (eq-eqb b a (sym same)) | inr differ ↦ ne_eqb a b differ ∙ sym (ne_eqb b a (λ same. differ (sym same))) ]
+    elim (cases_eq a b) [
+      | inl same ↦ eq-eqb a b same ∙ sym (eq-eqb b a (sym same))
+      | inr differ ↦ ne_eqb a b differ
+          ∙ sym (ne_eqb b a (λ same. differ (sym same)))
+    ]
 
 cleared_read : (param h host : ℕ) (o : Option RegValue) → ((v : RegValue) → o ≡ Some v → v.host ≡ host)
     → read param (option_and_then (if_passes (λ v. not (eqb v.host h))) o) ≡ cond (eqb h host) (default_of param) (read param o)
@@ -145,7 +151,9 @@ values-apply t (Set other gate p value) host param h may kept =
 values-apply t (Sync other id) host param h may kept =
     let same = is_kept_sync t.syncs other id in
     let old = value_at t.values host 0 param in
-    cond_both same t.values (with_value t.values other 0 1 (default_of 1)) (λ vs. value_at vs host 0 param ≡ cond (eqb other host && eqb 1 param && not same) (default_of 1) old)
-    (λ yes. sym (cond-false (eqb other host && eqb 1 param && not same) (default_of 1) old (and_right (eqb other host && eqb 1 param) (not same) (not_from_true same yes))))
+    cond_both same t.values (with_value t.values other 0 1 (default_of 1))
+    (λ vs. value_at vs host 0 param ≡ cond (eqb other host && eqb 1 param && not same) (default_of 1) old)
+    (λ yes. sym (cond-false (eqb other host && eqb 1 param && not same) (default_of 1) old
+    (and_right (eqb other host && eqb 1 param) (not same) (not_from_true same yes))))
     (λ no. value_at-with_value t.values other 0 1 (default_of 1) host param (inl refl) (kept_param host 0 param kept)
     ∙ unkept (eqb other host && eqb 1 param) same (default_of 1) old no)

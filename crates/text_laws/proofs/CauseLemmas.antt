@@ -31,7 +31,8 @@ speaks : (header : Header) (row : FormRow) (ws : List (List ℕ)) → Says heade
 speaks header row ws says h = let said = says (no_fault header.hci header.hosts.items row ws h) in subst IsSome (sym said.1) refl
 
 line_iff : (header : Header) (row : FormRow) (ws : List (List ℕ)) (f : LineFault) → Says header row ws
-    → (unless_fault (words_fault header.hci header.hosts.items row ws) (read_of row.name ws) ≡ Err f) ↔ (words_fault header.hci header.hosts.items row ws ≡ Some f)
+    → (unless_fault (words_fault header.hci header.hosts.items row ws) (read_of row.name ws) ≡ Err f) ↔
+    (words_fault header.hci header.hosts.items row ws ≡ Some f)
 line_iff header row ws f says = unless_iff _ _ f (speaks header row ws says)
 
 header_iff : (ws : List (List ℕ)) (f : LineFault) → HasFault None ws f (Some header_row)

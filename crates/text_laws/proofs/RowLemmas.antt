@@ -152,7 +152,8 @@ of_length f xs ys e = length-map xs f ∙ e ∙ sym (length-map ys f)
 -- so they have as many lines
 pub rows_length : (t u : HciTables) → SameCounts t u → length (rows_words t) ≡ length (rows_words u)
 rows_length t u count =
-    let values = by_two (map value_words t.values) (map value_words u.values) _ _ (of_length value_words _ _ count.values) (of_length sync_words t.syncs u.syncs count.syncs) in
+    let values = by_two (map value_words t.values) (map value_words u.values) _ _ (of_length value_words _ _ count.values)
+    (of_length sync_words t.syncs u.syncs count.syncs) in
     let statics = by_two (map static_words t.statics) (map static_words u.statics) _ _ (of_length static_words _ _ count.statics) values in
     by_two (map pipe_words t.rows) (map pipe_words u.rows) _ _ (of_length pipe_words _ _ count.rows) statics
   where

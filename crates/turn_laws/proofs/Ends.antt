@@ -126,7 +126,8 @@ input_had : (l : Link) (i : LinkInput) (ts : List Turn) (ending : Ending)
     → (has_input l i ts ending).controller.side.got ≡ ended_with ending (left_by ts (after_input l.controller.side i).got)
 input_had l i ts ending = all_got (with_ended l (is_some (ended_by l.controller.side i))) (after_input l.controller.side i) ts ending
 
-pub ticks_got : (l : Link) (ts : List Turn) (ending : Ending) → (ticks_at_controller l ts ending).controller.side.got ≡ ended_with ending (left_by ts l.controller.side.got)
+pub ticks_got : (l : Link) (ts : List Turn) (ending : Ending)
+    → (ticks_at_controller l ts ending).controller.side.got ≡ ended_with ending (left_by ts l.controller.side.got)
 ticks_got l ts ending = input_had l Tick ts ending ∙ ap (λ ms. ended_with ending (left_by ts ms)) (tick_got l.controller.side)
 
 pub late_got : (l : Link) (late : Bool) (ts : List Turn) (ending : Ending)

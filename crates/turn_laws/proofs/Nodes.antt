@@ -239,7 +239,8 @@ module _ (w : NodeWorld) (r : Running) (memory : Memory) (halves : ℕ → Numbe
         waits = sites_is g host w.sites h (FarWaits q) (λ z. tt)
             (λ s z.
             let was : ByPower (is_some s.node) q s.link.host.side.got = subst (FarWaits q) z x in
-            subst (λ (o : Option Running). ByPower (is_some o) q (g s).link.host.side.got) (sym (stays s)) (subst (ByPower (is_some s.node) q) (sym (far s)) was));
+            subst (λ (o : Option Running). ByPower (is_some o) q (g s).link.host.side.got) (sym (stays s))
+            (subst (ByPower (is_some s.node) q) (sym (far s)) was));
       }
   controller_moves host stays far before behind false h q x = go (site_at w.sites h) refl
     where
@@ -270,7 +271,8 @@ module _ (w : NodeWorld) (r : Running) (memory : Memory) (halves : ℕ → Numbe
                 (λ v y. ends_so k own.left (g v).link.controller.side.got (behind h v y ∙ ap (ended_with (ending_of k)) own.turns));
           }
 
-module _ (w : NodeWorld) (r : Running) (runs : w.controller ≡ Some r) (node : HasEnds 0 (hosts_in w.sites) r) (different : AreDifferent (hosts_in w.sites)) where
+module _ (w : NodeWorld) (r : Running) (runs : w.controller ≡ Some r) (node : HasEnds 0 (hosts_in w.sites) r)
+    (different : AreDifferent (hosts_in w.sites)) where
   near_side : own_side r.core ≡ Controller
   near_side = ap (λ (n : ℕ). if n == 0 then Controller else Host) node.number
 
@@ -298,7 +300,8 @@ module _ (w : NodeWorld) (r : Running) (runs : w.controller ≡ Some r) (node : 
       (λ e. arrival_still e Controller k (link_to w.sites k) comes) (AtEnd k i) (comes_outside (link_to w.sites k) comes i q) (near_different halves es))
       (λ e. flat_leaves e _ (λ s. still_leaves e _ (frames_still e Controller s.host (wires_for s.link (comes_to k comes s.host)) v)) w.sites)
       (λ s. refl) (λ s. refl) (λ s. ap (λ (x : NumberedEnd). x.side.got) (here_host s.link (Step (comes_to k comes s.host) (turns_at v s.host) (ending_of v))))
-      (λ h s z. ap (λ (e : LinkEnd). e.got) (half_side (link_to w.sites h) (comes_to k comes h)) ∙ ap (λ (l : Link). l.controller.side.got) (link_is w.sites h s z))
+      (λ h s z. ap (λ (e : LinkEnd). e.got) (half_side (link_to w.sites h) (comes_to k comes h))
+      ∙ ap (λ (l : Link). l.controller.side.got) (link_is w.sites h s z))
       (λ h s z. behind h s z v)
     where
       behind : (h : ℕ) (s : Site) → site_at w.sites h ≡ Some s → (v : Work)
@@ -360,7 +363,8 @@ module _ (w : NodeWorld) (r : Running) (runs : w.controller ≡ Some r) (node : 
       let v : Work = steps TimePasses begun in
       controller_moves w r _ halves (came_by (λ j. (halves j).side) TimePasses) begun v (ticked_site v)
       (flat_map (λ (s : Site). frames_noted Controller s.host s.link v) w.sites) runs node refl
-      (step_does 0 (hosts_in w.sites) Controller (λ j. (halves j).side) begun near_side (near_kept halves []) (λ e. tt) TimePasses tt (near_different halves []))
+      (step_does 0 (hosts_in w.sites) Controller (λ j. (halves j).side) begun near_side (near_kept halves []) (λ e. tt) TimePasses tt
+      (near_different halves []))
       (λ e. flat_leaves e _ (λ s. still_leaves e _ (frames_still e Controller s.host s.link v)) w.sites)
       (λ s. refl) (λ s. refl)
       (λ s. ap (λ (x : NumberedEnd). x.side.got) (late_host s.link (is_late_at v s.host) (turns_at v s.host) (ending_of v)))

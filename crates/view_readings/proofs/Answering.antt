@@ -174,7 +174,8 @@ module _ (h : ℕ) (now : LinkState) where
     init_go : (code : ℕ) (value : List ℕ) (init : Option Init) → now ≡ Up → MayGo (option_map with_response init) None init (init_deeds core code value init)
     init_go code value None up = ended None None refl
     init_go code value (Some i) up =
-        cond_both (eqb code 0) (init_agreed core i value) (Ends (InitFailed (end_of_node core core.node) code) ∷ []) (MayGo (Some (with_response i)) None (Some i))
+        cond_both (eqb code 0) (init_agreed core i value) (Ends (InitFailed (end_of_node core core.node) code) ∷ [])
+        (MayGo (Some (with_response i)) None (Some i))
         (λ _. by_same (is_same core i value) refl) (λ _. ended _ None (over (Some (with_response i)))) where
           by_order : (o : Option (List ℕ)) → slice_get (orders_of i) (i.answered + 1) ≡ o → is_same core i value ≡ false
               → MayGo (Some (with_response i)) None (Some i) (init_agreed core i value)
@@ -208,14 +209,16 @@ module _ (h : ℕ) (now : LinkState) where
       by None q = subst (MayGo (option_map with_response core.init) core.command core.init) (sym (silent_is q))
           (subst (λ i. MayGo (option_map with_response i) core.command i []) (sym (none_is q)) (ended None core.command refl))
       by (Some order) q = subst (MayGo (option_map with_response core.init) core.command core.init) (sym (heard_is order q))
-          (neutral_go (option_map with_response core.init) None core.init (cond (eqb code 0) (learned core order value) []) (init_deeds core code value core.init)
+          (neutral_go (option_map with_response core.init) None core.init (cond (eqb code 0) (learned core order value) [])
+          (init_deeds core code value core.init)
           (neutral_if (eqb code 0) (learned core order value) [] (learned_neutral core order value) tt) (init_go code value core.init up))
 
     -- what is read of the init behind the turn of a message
     abbrev pub answered_by : Message → Option Init → Option Init
     answered_by m y = cond (eqb m.0 1 && is_response m.1) (option_map with_response y) y
 
-    neutral_all : (y : Option Init) (deeds : List Deed) → y ≡ core.init → (is_some core.init ≡ true → (is_some core.command ≡ true) × (now ≡ Up)) → AreNeutral deeds
+    neutral_all : (y : Option Init) (deeds : List Deed) → y ≡ core.init → (is_some core.init ≡ true → (is_some core.command ≡ true) × (now ≡ Up))
+        → AreNeutral deeds
         → MayGo y core.command core.init deeds
     neutral_all y deeds is waits all = subst (MayGo y core.command core.init) (append-nil deeds) (neutral_go y core.command core.init deeds [] all (is, waits))
 
@@ -252,7 +255,8 @@ module _ (h : ℕ) (now : LinkState) where
       go true (Ok (IsCommand, n)) q z =
           let other : is_response m.1 ≡ false = rw z refl in
           let shown : host_deeds core p m ≡ ordered_deeds core p.desk.errors m.0 n (body_in m.1) = rw (q, z) refl in
-          subst Fine (sym shown) (neutral_all (answered_by m core.init) (ordered_deeds core p.desk.errors m.0 n (body_in m.1)) (not_answered m core.init other) waits
+          subst Fine (sym shown)
+          (neutral_all (answered_by m core.init) (ordered_deeds core p.desk.errors m.0 n (body_in m.1)) (not_answered m core.init other) waits
           (ordered_neutral core p.desk.errors m.0 n (body_in m.1)))
       go true (Ok (IsEvent, n)) q z = by (is_gate 4 (gate_of_pipe core m.0) && posts_back m.1) refl where
         other : is_response m.1 ≡ false
@@ -278,7 +282,8 @@ module _ (h : ℕ) (now : LinkState) where
         by_pipe : (eqb m.0 1 ≡ true) ⊎ (eqb m.0 1 ≡ false) → Fine (cond (eqb m.0 1) (response_deeds core n (body_in m.1)) [])
         by_pipe (inl one) =
             subst (λ b. MayGo (cond (b && is_response m.1) (option_map with_response core.init) core.init) core.command core.init (cond b
-            (response_deeds core n (body_in m.1)) [])) (sym one) (subst (λ b. MayGo (cond b (option_map with_response core.init) core.init) core.command core.init
+            (response_deeds core n (body_in m.1)) [])) (sym one) (subst (λ b. MayGo
+            (cond b (option_map with_response core.init) core.init) core.command core.init
             (response_deeds core n (body_in m.1))) (sym yes) (response_go n (body_in m.1) (sym phase ∙ up_of p.side.shdlc.phase q) (λ some. (waits some).0)))
         by_pipe (inr off) =
             subst (λ b. MayGo (cond (b && is_response m.1) (option_map with_response core.init) core.init) core.command core.init (cond b

@@ -154,7 +154,8 @@ module _ (e : End) (hosts : List ℕ) (x0 : ErrorCount) where
   }
 
   -- a command is read, and REC_ERROR stays
-  with_read : (w : Work) (y : Entry) (r : Right w) → IsRead (errors_after e (reads e w.entries x0) y) r.errors → IsRead (reads e (w.entries ++ y ∷ []) x0) r.errors
+  with_read : (w : Work) (y : Entry) (r : Right w) → IsRead (errors_after e (reads e w.entries x0) y) r.errors
+      → IsRead (reads e (w.entries ++ y ∷ []) x0) r.errors
   with_read w y r is = subst (λ x. IsRead x r.errors) (sym (reads_append e w.entries (y ∷ []) x0)) is
 
   commits : (c : Command) (w : Work) → Right w → Right (commit c w)

@@ -193,7 +193,8 @@ module _ (P : Entry → Type 0) (core : Core) (same : P (entry.InitSame (end_of_
       (λ _. go (is_same core i value) refl) (λ _. (failed code, tt)) where
         by : (o : Option (List ℕ)) → slice_get (orders_of i) (i.answered + 1) ≡ o → is_same core i value ≡ false
             → AllByRecursion (NotesSo P) (init_agreed core i value)
-        by None q e = rw (e, q) (AllByRecursion-append (NotesSo P) (learns core (Set core.node 0 1 (record { items = i.identity }))) (Ends (entry.InitMade (end_of_node
+        by None q e =
+            rw (e, q) (AllByRecursion-append (NotesSo P) (learns core (Set core.node 0 1 (record { items = i.identity }))) (Ends (entry.InitMade (end_of_node
             core core.node) (length i.pipes)) ∷ []) (neutral_notes P (learns core (Set core.node 0 1 (record { items = i.identity }))) (learns_neutral core
             (Set core.node 0 1 (record { items = i.identity })))) (made (length i.pipes), tt))
         by (Some order) q e = rw (e, q) (tt, (tt, tt))
@@ -289,10 +290,11 @@ module _ (h n : ℕ) (other : eqb n h ≡ false) (who : Side) (is_side : cond (e
     by false = option_map_or (λ p. host_deeds core p m) (port_at ports k) []
 
     own_off : eqb core.node 0 ≡ false → same_end (end_of_node core core.node) (end_h h) ≡ false
-    own_off q = ap (λ b. same_end (end_of core.node (cond b Controller Host)) (end_h h)) q ∙ (right (eqb core.node h) ∙ (ap (λ m. eqb m h) number ∙ other)) where
-      right : (b : Bool) → (b && true) ≡ b
-      right true = refl
-      right false = refl
+    own_off q = ap (λ b. same_end (end_of core.node (cond b Controller Host)) (end_h h)) q
+        ∙ (right (eqb core.node h) ∙ (ap (λ m. eqb m h) number ∙ other)) where
+          right : (b : Bool) → (b && true) ≡ b
+          right true = refl
+          right false = refl
 
     one : eqb core.node 0 ≡ false → (o : Option Port) → AllByRecursion (NotesSo (LeavesInit h)) (option_map_or (λ p. host_deeds core p m) o [])
     one q None = tt
@@ -309,7 +311,8 @@ module _ (h n : ℕ) (other : eqb n h ≡ false) (who : Side) (is_side : cond (e
   ends_off halves [] all = tt
   ends_off halves (d ∷ desks) all = (all.0, ends_off halves desks all.1)
 
-  begun_notes : (hosts : List ℕ) (r : Running) (plan : Option Plan) (halves : ℕ → NumberedEnd) (es : List Entry) → HasEnds n hosts r → AllByRecursion IsOff hosts
+  begun_notes : (hosts : List ℕ) (r : Running) (plan : Option Plan) (halves : ℕ → NumberedEnd) (es : List Entry) → HasEnds n hosts r
+      → AllByRecursion IsOff hosts
       → AllByRecursion (LeavesInit h) es
       → Notes (LeavesInit h) n who IsOff note_leaves turned_leaves beside_leaves deeds_leave (work_of r plan halves es)
   begun_notes hosts r plan halves es has off so = record {
@@ -333,7 +336,8 @@ module _ (h n : ℕ) (other : eqb n h ≡ false) (who : Side) (is_side : cond (e
       (begun_notes hosts r plan halves [] has off tt)).so
 
 -- a step of another node
-pub other_steps : (h n : ℕ) (hosts : List ℕ) (r : Running) (plan : Option Plan) (halves : ℕ → NumberedEnd) (es : List Entry) (input : NodeInput) → eqb n h ≡ false
+pub other_steps : (h n : ℕ) (hosts : List ℕ) (r : Running) (plan : Option Plan) (halves : ℕ → NumberedEnd) (es : List Entry) (input : NodeInput)
+    → eqb n h ≡ false
     → HasEnds n hosts r → AllByRecursion (IsNoEndOf h n) hosts → AllByRecursion (LeavesInit h) es
     → AllByRecursion (LeavesInit h) (steps input (work_of r plan halves es)).entries
 other_steps h n hosts r plan halves es input other has off so =

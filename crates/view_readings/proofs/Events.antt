@@ -58,7 +58,8 @@ module _ (e : End) (real : e.at_host ≡ true → eqb e.link 0 ≡ false) where
 
   aged_kept : (w : NodeWorld) (x : ErrorCount) → So w x → Then (all_aged w) x
   aged_kept w x k =
-      left e real w (all_aged w).0 (all_aged w).1 x (moved_node w (all_aged w).0 (λ (s : Site). record s { link = aged s.link }) (λ s. refl) (λ s. refl) refl refl)
+      left e real w (all_aged w).0 (all_aged w).1 x
+      (moved_node w (all_aged w).0 (λ (s : Site). record s { link = aged s.link }) (λ s. refl) (λ s. refl) refl refl)
       (still_leaves e (all_aged w).1 (aged_entries_still w)) k
 
   near_ticks : (w : NodeWorld) (x : ErrorCount) → IfItRuns 0 (hosts_in w.sites) w.controller → Known e real w x → So w x → Then (controller_ticks w) x
@@ -140,7 +141,8 @@ module _ (e : End) (real : e.at_host ≡ true → eqb e.link 0 ≡ false) where
     by_node None q = subst (λ (p : Site × List Entry). AllByRecursion (Leaves e) p.1) (sym off_is) tt where
       off_is : host_ticks s ≡ (record s { link = exchanged (ticks_at_controller (exchanged s.link) [] GoesOut) }, [])
       off_is = rw q refl
-    by_node (Some r) q = subst (AllByRecursion (Leaves e)) (sym on_is) (AllByRecursion-append (Leaves e) c.entries (frames_noted Host s.host (exchanged s.link) c)
+    by_node (Some r) q =
+        subst (AllByRecursion (Leaves e)) (sym on_is) (AllByRecursion-append (Leaves e) c.entries (frames_noted Host s.host (exchanged s.link) c)
         (others_step e s.host Host (s.host ∷ []) r s.memory.plan (λ n. s.link.host) [] TimePasses (subst (IfItRuns s.host (s.host ∷ [])) q runs)
         (host_side e real s.host real_host) (far_other e real s.host off, tt) tt) (still_leaves e (frames_noted Host s.host (exchanged s.link) c)
         (frames_still e Host s.host (exchanged s.link) c))) where
@@ -219,13 +221,16 @@ module _ (e : End) (real : e.at_host ≡ true → eqb e.link 0 ≡ false) where
             → IfKeeps e (far_node (site_at (first.0 ∷ later.0) e.link)) (reads e (first.1 ++ later.1) x)
         by_host (inl is) next =
             let here : s.host ≡ e.link = eqb-true s.host e.link is in
-            let mine : IfKeeps e first.0.node (reads e first.1 x) = tick_own s x fine.nodes.0 far here (subst (λ o. IfKeeps e (far_node o) x) (was true is) k) in
+            let mine : IfKeeps e first.0.node (reads e first.1 x) =
+            tick_own s x fine.nodes.0 far here (subst (λ o. IfKeeps e (far_node o) x) (was true is) k) in
             subst (λ o. IfKeeps e (far_node o) (reads e (first.1 ++ later.1) x)) (sym (found true is))
-            (subst (IfKeeps e first.0.node) (sym (reads_append e first.1 later.1 x)) (leaves_kept e first.0.node (reads e first.1 x) later.1 (ticks_leave sites rest
+            (subst (IfKeeps e first.0.node) (sym (reads_append e first.1 later.1 x))
+            (leaves_kept e first.0.node (reads e first.1 x) later.1 (ticks_leave sites rest
             (λ f. subst (λ n. AllByRecursion (λ k. eqb k n ≡ false) (hosts_in sites)) here fine.different.0)) mine))
         by_host (inr off) next =
             let there : IfKeeps e (far_node (site_at sites e.link)) (reads e first.1 x) =
-            leaves_kept e (far_node (site_at sites e.link)) x first.1 (tick_leaves s fine.nodes.0 fine.hosts.0 (λ f. off)) (subst (λ o. IfKeeps e (far_node o) x)
+            leaves_kept e (far_node (site_at sites e.link)) x first.1 (tick_leaves s fine.nodes.0 fine.hosts.0 (λ f. off))
+            (subst (λ o. IfKeeps e (far_node o) x)
             (was false off) k) in
             subst (λ o. IfKeeps e (far_node o) (reads e (first.1 ++ later.1) x)) (sym (found false off))
             (subst (IfKeeps e (far_node (site_at later.0 e.link))) (sym (reads_append e first.1 later.1 x)) (next there))
@@ -249,7 +254,8 @@ module _ (e : End) (real : e.at_host ≡ true → eqb e.link 0 ≡ false) where
       let grow : Site → Site = λ (s : Site). record s { link = aged s.link } in
       let x1 : ErrorCount = reads e old.1 x in
       let x2 : ErrorCount = reads e near.1 x1 in
-      let book : x1.book ≡ x.book = (still_all e old.1 x x.errors (aged_entries_still w) (record { sets = keeps_sets e (own_node e real w) x k; is = refl })).1 in
+      let book : x1.book ≡ x.book =
+      (still_all e old.1 x x.errors (aged_entries_still w) (record { sets = keeps_sets e (own_node e real w) x k; is = refl })).1 in
       let fine : AreFine old.0.sites = map_fine grow (λ s. refl) (λ s. refl) w.sites (orderly_fine w orderly) in
       let runs : IfItRuns 0 (hosts_in old.0.sites) old.0.controller =
       subst (λ hs. IfItRuns 0 hs w.controller) (sym (hosts_same grow (λ s. refl) w.sites)) orderly.controller in
@@ -282,16 +288,19 @@ module _ (e : End) (real : e.at_host ≡ true → eqb e.link 0 ≡ false) where
 
     at_site : e.at_host ≡ true → (o : Option Site) → site_at w.sites e.link ≡ o → (eqb e.link n ≡ true) ⊎ (eqb e.link n ≡ false)
         → So (record w { sites = with_site n host_cut w.sites }) (reads e (entry.Cut n ∷ []) x)
-    at_site far o here (inr off) = stays (record w { sites = with_site n host_cut w.sites }) (host_node e real (record w { sites = with_site n host_cut w.sites }) far
+    at_site far o here (inr off) =
+        stays (record w { sites = with_site n host_cut w.sites }) (host_node e real (record w { sites = with_site n host_cut w.sites }) far
         ∙ (with_other n host_cut (λ s. refl) w.sites e.link off ∙ sym (host_node e real w far)))
-    at_site far None here (inl is) = stays (record w { sites = with_site n host_cut w.sites }) (host_node e real (record w { sites = with_site n host_cut w.sites }) far
+    at_site far None here (inl is) =
+        stays (record w { sites = with_site n host_cut w.sites }) (host_node e real (record w { sites = with_site n host_cut w.sites }) far
         ∙ (lost ∙ sym (host_node e real w far ∙ ap far_node here))) where
           lost : far_node (site_at (with_site n host_cut w.sites) e.link) ≡ None
           lost = with_none n host_cut (λ s. refl) w.sites e.link here
     at_site far (Some s) here (inl is) =
         let link : e.link ≡ n = eqb-true e.link n is in
         gone (record w { sites = with_site n host_cut w.sites }) n x (host_node e real (record w { sites = with_site n host_cut w.sites }) far
-        ∙ (ap (λ m. far_node (site_at (with_site n host_cut w.sites) m)) link ∙ with_own n host_cut (λ s. refl) w.sites s (sym (ap (site_at w.sites) link) ∙ here)))
+        ∙ (ap (λ m. far_node (site_at (with_site n host_cut w.sites) m)) link
+        ∙ with_own n host_cut (λ s. refl) w.sites s (sym (ap (site_at w.sites) link) ∙ here)))
 
     by_number : (eqb n 0 ≡ true) ⊎ (eqb n 0 ≡ false) → (e.at_host ≡ true) ⊎ (e.at_host ≡ false) → So (loses_power_at n w) (reads e (entry.Cut n ∷ []) x)
     by_number (inl z) (inr near) = subst (λ v. So v (reads e (entry.Cut n ∷ []) x)) (sym (loses_near w n z))
@@ -372,14 +381,16 @@ module _ (e : End) (real : e.at_host ≡ true → eqb e.link 0 ≡ false) where
     stays v same off = left e real written v (noted ∷ []) x same (booted_other n (count_of runs.core.journal) off, tt) written_kept
 
     starts : (v : NodeWorld) → own_node e real v ≡ Some runs → eqb n (node_of e) ≡ true → So v (reads e (noted ∷ []) x)
-    starts v node is = subst (λ o. IfKeeps e o (reads e (noted ∷ []) x)) (sym node) (booted_own n (count_of runs.core.journal) (links_of w n) before.content x is)
+    starts v node is =
+        subst (λ o. IfKeeps e o (reads e (noted ∷ []) x)) (sym node) (booted_own n (count_of runs.core.journal) (links_of w n) before.content x is)
 
     abbrev far_v : NodeWorld
     far_v = record written { sites = with_site n (λ (s : Site). record s { node = Some runs }) written.sites }
 
     at_site : e.at_host ≡ true → (o : Option Site) → site_at written.sites e.link ≡ o → (eqb e.link n ≡ true) ⊎ (eqb e.link n ≡ false)
         → So far_v (reads e (noted ∷ []) x)
-    at_site far o here (inr off) = stays far_v (host_node e real far_v far ∙ (with_other n (λ (s : Site). record s { node = Some runs }) (λ s. refl) written.sites e.link
+    at_site far o here (inr off) =
+        stays far_v (host_node e real far_v far ∙ (with_other n (λ (s : Site). record s { node = Some runs }) (λ s. refl) written.sites e.link
         off ∙ sym (host_node e real written far))) (ne_eqb n (node_of e) (λ z. eqb-false e.link n off (sym (z ∙ rw far refl))))
     at_site far None here (inl is) = subst (λ o. IfKeeps e o (reads e (noted ∷ []) x)) (sym (host_node e real far_v far ∙ none)) refl where
       none : far_node (site_at far_v.sites e.link) ≡ None

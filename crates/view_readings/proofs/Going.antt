@@ -225,7 +225,8 @@ module _ (h : ℕ) (host : IsHost h) (i0 : Option Init) where
     all_go k (GoesOn i ∷ deeds) w y on b was may =
         then_on (all_done k deeds) (done k (GoesOn i) w) on (all_go k deeds (done k (GoesOn i) w) y on (same_base w (done k (GoesOn i) w) refl refl b) was may)
     all_go k (Ends x ∷ deeds) w y on b was may =
-        then_on (all_done k deeds) (done k (Ends x) w) on (all_go k deeds (done k (Ends x) w) (init_after h y x) on (same_base w (done k (Ends x) w) refl refl b)
+        then_on (all_done k deeds) (done k (Ends x) w) on
+        (all_go k deeds (done k (Ends x) w) (init_after h y x) on (same_base w (done k (Ends x) w) refl refl b)
         (init_append h w.entries (x ∷ []) i0 ∙ ap (λ z. init_after h z x) was) may)
 
     -- ## Turns
@@ -299,7 +300,8 @@ module _ (h : ℕ) (host : IsHost h) (i0 : Option Init) where
     node_off w b = by (eqb w.core.node 0) refl where
       by : (c : Bool) → eqb w.core.node 0 ≡ c → c ≡ false
       by false q = refl
-      by true q = let no : Rattle.link_entries.specs.Entries.End.Controller ≡ Host = sym (ap (λ c. cond c Rattle.link_entries.specs.Entries.End.Controller Host) q)
+      by true q = let no : Rattle.link_entries.specs.Entries.End.Controller ≡ Host =
+          sym (ap (λ c. cond c Rattle.link_entries.specs.Entries.End.Controller Host) q)
           ∙ side_of_host w b in absurd (cc no)
 
     deeds_is : (m : Message) (w : Work) (b : Base now w) → deeds_of w.core w.ports h m ≡ host_deeds w.core b.port m

@@ -124,7 +124,8 @@ module _ (h : ℕ) (host : IsHost h) where
           off_is : controller_ticks w ≡ (record w { sites = map alone w.sites }, [])
           off_is = rw q refl
     by_node (Some r) q = subst (λ p. So p i) (sym on_is) (left h host v (c.entries ++ frames) i
-        (AllByRecursion-append (LeavesInit h) c.entries frames (others_step h 0 (zero_off h host) Controller refl (hosts_in w.sites) r w.memory.plan halves [] TimePasses
+        (AllByRecursion-append (LeavesInit h) c.entries frames
+        (others_step h 0 (zero_off h host) Controller refl (hosts_in w.sites) r w.memory.plan halves [] TimePasses
         (subst (IfItRuns 0 (hosts_in w.sites)) q runs) (near_off h host (hosts_in w.sites)) tt) (all_flat (LeavesInit h)
         (λ (s : Site). frames_noted Controller s.host s.link c) (λ s. frames_leave h host Controller s.host s.link c) w.sites))
         (map_keeps h host ticked (λ s. refl) (λ s. refl) (λ s. ap (λ (x : NumberedEnd). x.side) (so_host s.link (is_late_at c s.host) (turns_at c s.host)
@@ -177,7 +178,8 @@ module _ (h : ℕ) (host : IsHost h) where
     by_node None q = subst (λ (p : Site × List Entry). AllByRecursion (LeavesInit h) p.1) (sym off_is) tt where
       off_is : host_ticks s ≡ (record s { link = exchanged (ticks_at_controller (exchanged s.link) [] GoesOut) }, [])
       off_is = rw q refl
-    by_node (Some r) q = subst (AllByRecursion (LeavesInit h)) (sym on_is) (AllByRecursion-append (LeavesInit h) c.entries (frames_noted Host s.host (exchanged s.link) c)
+    by_node (Some r) q =
+        subst (AllByRecursion (LeavesInit h)) (sym on_is) (AllByRecursion-append (LeavesInit h) c.entries (frames_noted Host s.host (exchanged s.link) c)
         (host_steps h host s r (λ n. s.link.host) [] TimePasses (subst (IfItRuns s.host (s.host ∷ [])) q runs) number off tt)
         (frames_leave h host Host s.host (exchanged s.link) c)) where
           c : Work
@@ -400,7 +402,8 @@ module _ (h : ℕ) (host : IsHost h) where
     own_boots q same None here = subst (λ m. AtSite i (site_at (with_site m (λ (s : Site). record s { node = Some runs }) written.sites) h)) (sym same)
         (own_none here) where
           own_none : site_at written.sites h ≡ None → AtSite i (site_at (with_site h (λ (s : Site). record s { node = Some runs }) written.sites) h)
-          own_none here = sites_is (λ s. changed_if (eqb s.host h) (λ (s : Site). record s { node = Some runs }) s) (λ s. changed (eqb s.host h) s) written.sites h
+          own_none here =
+              sites_is (λ s. changed_if (eqb s.host h) (λ (s : Site). record s { node = Some runs }) s) (λ s. changed (eqb s.host h) s) written.sites h
               (AtSite i) (λ z. subst (AtSite i) here written_keeps) (λ s z. let none : None ≡ Some s = sym here ∙ z in absurd (cc none)) where
                 changed : (b : Bool) (s : Site) → (changed_if b (λ (s : Site). record s { node = Some runs }) s).host ≡ s.host
                 changed true s = refl
@@ -418,7 +421,8 @@ module _ (h : ℕ) (host : IsHost h) where
     runs_keep : (eqb n 0 ≡ true) ⊎ (eqb n 0 ≡ false) → (eqb n h ≡ true) ⊎ (eqb n h ≡ false) → So (with_node n runs written, noted ∷ []) i
     runs_keep (inl q) b = subst (λ v. So (v, noted ∷ []) i) (sym (node_near q)) written_keeps
     runs_keep (inr q) (inl is) = subst (λ v. So (v, noted ∷ []) i) (sym (node_far q)) (own_boots q (eqb-true n h is) (site_at written.sites h) refl)
-    runs_keep (inr q) (inr off) = subst (λ v. So (v, noted ∷ []) i) (sym (node_far q)) (other_keeps h host n (λ (s : Site). record s { node = Some runs }) (λ s. refl)
+    runs_keep (inr q) (inr off) =
+        subst (λ v. So (v, noted ∷ []) i) (sym (node_far q)) (other_keeps h host n (λ (s : Site). record s { node = Some runs }) (λ s. refl)
         written.sites i (ne_eqb h n (λ same. eqb-false n h off (sym same))) written_keeps)
 
     pub boots_keep : So (boots w n) i

@@ -51,7 +51,8 @@ init_may w e side none =
     let runs = off_none (node_at w (node_of e)) none.0 in record {
       node = runs.0;
       runs = ap (node_at w) (sym link_is) ∙ runs.1;
-      up = ap (λ (x : LinkEnd). x.shdlc.phase) (sym end_is) ∙ taken_up (eqb 1 1 && is_command_message (3 ∷ []) && has_order (node_at w (node_of e))) (machine_in w e)
+      up = ap (λ (x : LinkEnd). x.shdlc.phase) (sym end_is)
+          ∙ taken_up (eqb 1 1 && is_command_message (3 ∷ []) && has_order (node_at w (node_of e))) (machine_in w e)
           (1, 3 ∷ []) none.1;
     } where
       link_is : node_of e ≡ e.link

@@ -160,7 +160,8 @@ module _ (h : ℕ) (host : IsHost h) where
         (link_to w.sites n) (comes_to k comes n)) (entries_for k (arrival Controller (link_to w.sites k) comes)) (AtEnd k input) has (near_off
         (hosts_in w.sites)) (arrival_leave Controller k (link_to w.sites k) comes)) (all_flat (LeavesInit h) (λ (s : Site). frames_noted Controller s.host
         (wires_for s.link (comes_to k comes s.host)) c) (λ s. frames_leave Controller s.host (wires_for s.link (comes_to k comes s.host)) c) w.sites))
-        (map_keeps (link_after_controller k comes c) (λ s. refl) (λ s. refl) (λ s. ap (λ (x : NumberedEnd). x.side) (here_host s.link (Step (comes_to k comes s.host)
+        (map_keeps (link_after_controller k comes c) (λ s. refl) (λ s. refl)
+        (λ s. ap (λ (x : NumberedEnd). x.side) (here_host s.link (Step (comes_to k comes s.host)
         (turns_at c s.host) (ending_of c)))) w.sites i keeps)) where
           c : Work
           c = f (work_of r w.memory.plan (λ n. half_in (link_to w.sites n) (comes_to k comes n)) (entries_for k (arrival Controller (link_to w.sites k) comes)))
@@ -176,7 +177,8 @@ module _ (h : ℕ) (host : IsHost h) where
 
   -- ## A host acts
 
-  pub host_steps : (s : Site) (r : Running) (halves : ℕ → NumberedEnd) (es : List Entry) (input : NodeInput) → HasEnds s.host (s.host ∷ []) r → eqb s.host 0 ≡ false
+  pub host_steps : (s : Site) (r : Running) (halves : ℕ → NumberedEnd) (es : List Entry) (input : NodeInput) → HasEnds s.host (s.host ∷ []) r
+      → eqb s.host 0 ≡ false
       → eqb s.host h ≡ false → AllByRecursion (LeavesInit h) es → AllByRecursion (LeavesInit h) (steps input (work_of r s.memory.plan halves es)).entries
   host_steps s r halves es input has zero off so =
       others_step h s.host off Host (ap (λ b. cond b Controller Host) zero) (s.host ∷ []) r s.memory.plan halves es input has (far_off s.host off, tt) so
@@ -217,7 +219,8 @@ module _ (h : ℕ) (host : IsHost h) where
       by_node : (s : Site) → site_at w.sites k ≡ Some s → (o : Option Running) → s.node ≡ o → Then (host_does w k comes f) i
       by_node s here None q = subst (λ p. Then p i) (sym (no_node s here q)) keeps
       by_node s here (Some r) q = subst (λ p. Then p i) (sym (acts_is s r here q)) (left (record w { sites = with_site k (after_host comes c) w.sites })
-          (c.entries ++ frames) i (AllByRecursion-append (LeavesInit h) c.entries frames (others s r here q) (frames_leave Host k (wires_for (exchanged s.link) comes) c))
+          (c.entries ++ frames) i
+          (AllByRecursion-append (LeavesInit h) c.entries frames (others s r here q) (frames_leave Host k (wires_for (exchanged s.link) comes) c))
           (other_keeps k (after_host comes c) (λ s. refl) w.sites i off keeps)) where
             c : Work
             c = host_work s r comes f
@@ -297,7 +300,8 @@ module _ (h : ℕ) (host : IsHost h) where
     go : (o : Option LinkInput) → input_of (seen_from a (link_to w.sites a.link)) comes ≡ o → (b : Bool) → a.at_host ≡ b → Then (comes_at w a comes) i
     go None q b z = subst (λ p. Then p i) (sym (none_is q)) keeps
     go (Some input) q false z = subst (λ p. Then p i) (sym (near_is input q z)) (near_does w i a.link comes input orderly keeps)
-    go (Some input) q true z = subst (λ p. Then p i) (sym (far_is input q z)) (far_does w i a.link comes input orderly (ap (λ l. input_of l comes) (seen_is z) ∙ q)
+    go (Some input) q true z =
+        subst (λ p. Then p i) (sym (far_is input q z)) (far_does w i a.link comes input orderly (ap (λ l. input_of l comes) (seen_is z) ∙ q)
         keeps)
 
   pub activates_keep : (w : NodeWorld) (i : Option Init) (k sync power : ℕ) → IsOrderly w → Keeps w i → Then (activates w k sync power) i
@@ -321,7 +325,8 @@ module _ (h : ℕ) (host : IsHost h) where
       → Then (host_does w k NoInput (begins_with k (sending k m))) i
   gives_keep w i k m orderly keeps = by (cases_Bool (eqb h k)) where
     by : (eqb h k ≡ true) ⊎ (eqb h k ≡ false) → Then (host_does w k NoInput (begins_with k (sending k m))) i
-    by (inl z) = subst (λ n. Then (host_does w n NoInput (begins_with n (sending n m))) i) (eqb-true h k z) (own_acts w NoInput (λ n. begins_with n (sending n m)) i
+    by (inl z) =
+        subst (λ n. Then (host_does w n NoInput (begins_with n (sending n m))) i) (eqb-true h k z) (own_acts w NoInput (λ n. begins_with n (sending n m)) i
         (λ s r here q kept. sends_keeps s (real_host w.sites s here) i r q kept m) keeps)
     by (inr z) = others_act w i k (sending k m) orderly (cond_both (eqb m.0 1 && is_command_message m.1) (Orders m.1 ∷ []) (Sends k m ∷ [])
         (AllByRecursion (NotesSo (LeavesInit h))) (λ _. (tt, tt)) (λ _. (tt, tt))) z keeps

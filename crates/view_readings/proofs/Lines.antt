@@ -94,7 +94,8 @@ desk_found e k (d ∷ desks) n all q = by (eqb d.host e.link) refl (desk_found e
 
   by : (b : Bool) → eqb d.host e.link ≡ b → (Told (find (λ (d : Desk). eqb d.host e.link) desks) → k ≡ n) → k ≡ n
   by true z later =
-      let here : Some d.errors ≡ Some n = sym (ap (λ b. option_map (λ (d : Desk). d.errors) (cond b (Some d) (find (λ (d : Desk). eqb d.host e.link) desks))) z) ∙ q in
+      let here : Some d.errors ≡ Some n = sym (ap (λ b. option_map (λ (d : Desk). d.errors) (cond b (Some d) (find (λ (d : Desk). eqb d.host e.link) desks))) z)
+      ∙ q in
       let is : d.errors ≡ n = cc in
       sym (all.0 z) ∙ is
   by false z later = later (sym (ap (λ b. option_map (λ (d : Desk). d.errors) (cond b (Some d) (find (λ (d : Desk). eqb d.host e.link) desks))) z) ∙ q)

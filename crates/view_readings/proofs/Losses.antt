@@ -209,10 +209,12 @@ module _ (e : End) (real : e.at_host ≡ true → eqb e.link 0 ≡ false) where
           by false q = near_controller why q ∙ (counts_same why a.link w.controller not ∙ sym (near_node e real w q))
 
     far_plain : (why : Loss) → IsRefusal why → After e real (far_v why, entries_for a.link (first_lost Host why wire_far)) x
-    far_plain why not = left e real w (far_v why) (entries_for a.link (first_lost Host why wire_far)) x (by (cases_Bool e.at_host) (cases_Bool (eqb a.link e.link)))
+    far_plain why not =
+        left e real w (far_v why) (entries_for a.link (first_lost Host why wire_far)) x (by (cases_Bool e.at_host) (cases_Bool (eqb a.link e.link)))
         (still_leaves e (entries_for a.link (first_lost Host why wire_far)) (notes_still e a.link (first_lost Host why wire_far)
         (lost_undamaged Host why wire_far not))) k where
-          by : (e.at_host ≡ true) ⊎ (e.at_host ≡ false) → (eqb a.link e.link ≡ true) ⊎ (eqb a.link e.link ≡ false) → own_node e real (far_v why) ≡ own_node e real w
+          by : (e.at_host ≡ true) ⊎ (e.at_host ≡ false) → (eqb a.link e.link ≡ true) ⊎ (eqb a.link e.link ≡ false)
+              → own_node e real (far_v why) ≡ own_node e real w
           by (inr near) b = far_controller why near
           by (inl far) (inl is) = far_hosts why far is ∙ counts_same why a.link (own_node e real w) not
           by (inl far) (inr off) = far_others why far off

@@ -87,7 +87,8 @@ frames_still e who h l k = go (port_at k.ports h) where
 pub arrival_still : (e : End) (who : Side) (h : ℕ) (l : Link) (comes : Comes) → AllByRecursion (IsStill e) (entries_for h (arrival who l comes))
 arrival_still e who h l comes = notes_still e h (arrival who l comes) (arrival_undamaged who l comes)
 
-pub aged_still : (e : End) (h : ℕ) (l : Link) → AllByRecursion (IsStill e) (entries_for h (aged_entries Controller l.to_controller ++ aged_entries Host l.to_host))
+pub aged_still : (e : End) (h : ℕ) (l : Link)
+    → AllByRecursion (IsStill e) (entries_for h (aged_entries Controller l.to_controller ++ aged_entries Host l.to_host))
 aged_still e h l = notes_still e h (aged_entries Controller l.to_controller ++ aged_entries Host l.to_host)
     (undamaged-append (aged_entries Controller l.to_controller) (aged_entries Host l.to_host) (aged_undamaged Controller l.to_controller)
     (aged_undamaged Host l.to_host))
@@ -127,7 +128,8 @@ module _ (e : End) (real : e.at_host ≡ true → eqb e.link 0 ≡ false) (hosts
     by true q = rw (q, real q) refl
     by false q = rw q refl
 
-  ends_has : (x : ErrorCount) (halves : ℕ → NumberedEnd) (desks : List Desk) → AllByRecursion (λ (d : Desk). eqb d.host e.link ≡ true → d.errors ≡ x.errors) desks
+  ends_has : (x : ErrorCount) (halves : ℕ → NumberedEnd) (desks : List Desk)
+      → AllByRecursion (λ (d : Desk). eqb d.host e.link ≡ true → d.errors ≡ x.errors) desks
       → AllByRecursion (HasErrors e x.errors) (ports_for halves desks)
   ends_has x halves [] all = tt
   ends_has x halves (d ∷ desks) all = (all.0, ends_has x halves desks all.1)

@@ -186,7 +186,8 @@ module _ (P : Entry → Type 0) (n : ℕ) (who : Side) (At : ℕ → Type 0)
   does : (h : ℕ) (d : Deed) (w : Work) → NotesSo P d → Notes w → Notes (done h d w)
   does h (Commits c) w q a = commits c w a
   does h (Sends to m) w q a = turns to (Give m) w a
-  does h SaysOk w q a = notes (entry.AnyOk w.core.node (count_of w.core.journal) ∷ []) w (beside (entry.AnyOk w.core.node (count_of w.core.journal)) a.number, tt) a
+  does h SaysOk w q a =
+      notes (entry.AnyOk w.core.node (count_of w.core.journal) ∷ []) w (beside (entry.AnyOk w.core.node (count_of w.core.journal)) a.number, tt) a
   does h (Asks to message c) w q a =
       tells to (Waits c) message (noting (entry.Ask to message ∷ []) (turn_at c.asker SetAside w))
       (notes (entry.Ask to message ∷ []) (turn_at c.asker SetAside w) (beside (entry.Ask to message) tt, tt) (turns c.asker SetAside w a))
@@ -368,7 +369,8 @@ module _ (P : Entry → Type 0) (n : ℕ) (who : Side) (At : ℕ → Type 0)
       all_do 0 syncs (all_done 0 freed begun) (all_flat (NotesSo P) (synced w.core input) (synced_so w.core input) w.ports)
       (all_do 0 freed begun (releases_so _) first) in
       let owed_all : AllByRecursion (NotesSo P) owing =
-      AllByRecursion-append (NotesSo P) _ _ (all_flat (NotesSo P) (λ p. owed response.NotConnected (asked_at p)) (λ p. owed_so response.NotConnected (asked_at p))
+      AllByRecursion-append (NotesSo P) _ _
+      (all_flat (NotesSo P) (λ p. owed response.NotConnected (asked_at p)) (λ p. owed_so response.NotConnected (asked_at p))
       (filter (λ p. p.ended) left))
       (all_flat (NotesSo P) (λ p. owed response.Timeout (asked_at p)) (λ p. owed_so response.Timeout (asked_at p)) (filter (λ p. p.late) left)) in
       unless passes (unless_cut (all_done 0 owing) (all_done 0 syncs (all_done 0 freed begun))) (λ c. passes_all _ c)

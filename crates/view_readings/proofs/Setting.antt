@@ -97,10 +97,11 @@ set_is errors instruction body v sets = by (eqb instruction 1) (eqb instruction 
 
 link_unset : (h pipe errors instruction : ℕ) (body : List ℕ) → (link_served 0 instruction body).1 ≡ None
     → AreUnset (link_deeds h pipe (link_served errors instruction body))
-link_unset h pipe errors instruction body none = by (link_served errors instruction body).0 (link_served errors instruction body).1 (set_same errors instruction body ∙ none) where
-  by : (answer : List ℕ) (o : Option ℕ) → o ≡ None → AreUnset (link_deeds h pipe (answer, o))
-  by answer None e = (tt, tt)
-  by answer (Some v) e = absurd (cc e)
+link_unset h pipe errors instruction body none =
+    by (link_served errors instruction body).0 (link_served errors instruction body).1 (set_same errors instruction body ∙ none) where
+      by : (answer : List ℕ) (o : Option ℕ) → o ≡ None → AreUnset (link_deeds h pipe (answer, o))
+      by answer None e = (tt, tt)
+      by answer (Some v) e = absurd (cc e)
 
 -- ## The controller
 
@@ -168,13 +169,15 @@ gate_unset h gate errors pipe instruction body none = by (eqb gate 6) none where
   by true none = link_unset h pipe errors instruction body none
   by false none = either (eqb gate 5) answered neither (tt, tt) (tt, tt)
 
-served_unset : (core : Core) (v : LinkView) (h pipe instruction : ℕ) (body : List ℕ) (gate : Option ℕ) → SetsNone (is_link_gate gate) (link_served 0 instruction body).1
+served_unset : (core : Core) (v : LinkView) (h pipe instruction : ℕ) (body : List ℕ) (gate : Option ℕ)
+    → SetsNone (is_link_gate gate) (link_served 0 instruction body).1
     → AreUnset (served_at core v h pipe instruction body gate)
 served_unset core v h pipe instruction body None none = decision_unset core h pipe (decided core.tables v h pipe instruction body)
 served_unset core v h pipe instruction body (Some gate) none = gate_unset h gate v.errors pipe instruction body none
 
 asking_unset : (core : Core) (ports : List Port) (h : ℕ) (m : Message) (instruction : ℕ) (asks : Bool)
-    → SetsNone (is_link_gate (own_gate core.tables h m.0)) (link_served 0 instruction (body_in m.1)).1 → AreUnset (unless_asking core ports h m instruction asks)
+    → SetsNone (is_link_gate (own_gate core.tables h m.0)) (link_served 0 instruction (body_in m.1)).1
+    → AreUnset (unless_asking core ports h m instruction asks)
 asking_unset core ports h m instruction true none = (tt, tt)
 asking_unset core ports h m instruction false none =
     served_unset core (view_for core.tables ports h) h m.0 instruction (body_in m.1) (cond (goes_through core.tables h m.0 instruction) (own_gate
@@ -304,7 +307,8 @@ ordered_unset : (core : Core) (errors pipe instruction : ℕ) (body : List ℕ) 
 ordered_unset core errors pipe instruction body none =
     either (eqb pipe 1) (notified_deeds core instruction body) _ (notified_unset core instruction body) (by (eqb pipe 0) none) where
       by : (b : Bool) → SetsNone b (link_served 0 instruction body).1
-          → AreUnset (cond b (link_deeds core.node 0 (link_served errors instruction body)) (cond (is_gate 5 (gate_of_pipe core pipe)) (answers_on core.node pipe
+          → AreUnset
+          (cond b (link_deeds core.node 0 (link_served errors instruction body)) (cond (is_gate 5 (gate_of_pipe core pipe)) (answers_on core.node pipe
           (identity_served gates instruction body)) []))
       by true none = link_unset core.node 0 errors instruction body none
       by false none = either (is_gate 5 (gate_of_pipe core pipe)) (answers_on core.node pipe (identity_served gates instruction body)) [] (tt, tt) tt
@@ -314,7 +318,8 @@ host_unset core p m none = go (is_up p.side.shdlc.phase) (header_of m.1) refl re
   go : (b : Bool) (x : Result (MessageKind × ℕ) MessageFault) → is_up p.side.shdlc.phase ≡ b → header_of m.1 ≡ x → AreUnset (host_deeds core p m)
   go false x q r = rw q (tt, tt)
   go true (Ok (IsCommand, n)) q r =
-      let here : SetsNone (eqb m.0 0) (link_served 0 n (body_in m.1)).1 = ap (λ o. cond (eqb m.0 0) o None) (sym (set_by_is m.1 ∙ ap (set_by_header m.1) r)) ∙ none in
+      let here : SetsNone (eqb m.0 0) (link_served 0 n (body_in m.1)).1 = ap (λ o. cond (eqb m.0 0) o None) (sym (set_by_is m.1 ∙ ap (set_by_header m.1) r))
+      ∙ none in
       rw (q, r) (ordered_unset core p.desk.errors m.0 n (body_in m.1) here)
   go true (Ok (IsEvent, n)) q r = rw (q, r) (cond_both _ (Sends core.node m ∷ []) [] AreUnset (λ _. (tt, tt)) (λ _. tt))
   go true (Ok (IsResponse, n)) q r =
@@ -430,7 +435,8 @@ controller_sets core ports h m v leads sets =
       refused : is_opened core.tables h m.0 ≡ false → decided core.tables view h m.0 s.instruction (body_in m.1) ≡ answers response.PipeNotOpened []
       refused q = ap (λ n. decided core.tables view h m.0 n (body_in m.1)) one_is ∙ rw (far, q) refl
 
-      by_opened : (b : Bool) → is_opened core.tables h m.0 ≡ b → IsUpAt ports h → SetDeeds ports h m.0 v (command_deeds core ports h m.0 s.instruction (body_in m.1))
+      by_opened : (b : Bool) → is_opened core.tables h m.0 ≡ b → IsUpAt ports h
+          → SetDeeds ports h m.0 v (command_deeds core ports h m.0 s.instruction (body_in m.1))
       by_opened true q up = IsSet up (command_is true q ∙ set_deeds h m.0 view.errors s.instruction v (body_in m.1) s.sets)
       by_opened false q up = IsRefused up (command_is false q ∙ ap (decision_deeds core h m.0) (refused q))
 
@@ -447,7 +453,8 @@ host_sets core ports p m v here zero sets = go (is_up p.side.shdlc.phase) refl w
   zero_is : m.0 ≡ 0
   zero_is = eqb-true m.0 0 zero
 
-  ordered_is : ordered_deeds core p.desk.errors m.0 s.instruction (body_in m.1) ≡ link_deeds core.node m.0 (link_served p.desk.errors s.instruction (body_in m.1))
+  ordered_is : ordered_deeds core p.desk.errors m.0 s.instruction (body_in m.1)
+      ≡ link_deeds core.node m.0 (link_served p.desk.errors s.instruction (body_in m.1))
   ordered_is =
       ap (λ n. ordered_deeds core p.desk.errors n s.instruction (body_in m.1)) zero_is
       ∙ ap (λ n. link_deeds core.node n (link_served p.desk.errors s.instruction (body_in m.1))) (sym zero_is)

@@ -171,7 +171,8 @@ module _ (e : End) (hosts : List ℕ) (x0 : ErrorCount) (single : e.at_host ≡ 
     errors = n;
     read = subst (λ x. IsRead x n) (sym is) read;
     ends = ends;
-    tables = λ at near. ap (λ (c : Core). c.tables) core ∙ (r.tables on near ∙ sym (ap (λ (x : ErrorCount). x.book.tables) is ∙ ap (λ (b : Book). b.tables) book));
+    tables = λ at near. ap (λ (c : Core). c.tables) core
+        ∙ (r.tables on near ∙ sym (ap (λ (x : ErrorCount). x.book.tables) is ∙ ap (λ (b : Book). b.tables) book));
   } where
     is : reads e k.entries x0 ≡ errors_after e (record (seen w) { sets = sets_now w h m }) y
     is =
@@ -180,7 +181,8 @@ module _ (e : End) (hosts : List ℕ) (x0 : ErrorCount) (single : e.at_host ≡ 
         ∙ (ap (λ x. errors_after e x y) (reads_append e w.entries (turn_of w h m ∷ []) x0 ∙ turn_reads w h m on r)))
 
   fetched_entries : (h : ℕ) (m : Message) (w : Work) → (fetched h m w).entries ≡ w.entries ++ turn_of w h m ∷ []
-  fetched_entries h m w = ap (λ es. (w.entries ++ turn_of w h m ∷ []) ++ es) (fetch_silent w.core (port_at w.ports h)) ∙ append-nil (w.entries ++ turn_of w h m ∷ [])
+  fetched_entries h m w = ap (λ es. (w.entries ++ turn_of w h m ∷ []) ++ es) (fetch_silent w.core (port_at w.ports h))
+      ∙ append-nil (w.entries ++ turn_of w h m ∷ [])
 
   fetched_hosts : (h : ℕ) (m : Message) (w : Work) → hosts_of_ends (fetched h m w).ports ≡ hosts_of_ends w.ports
   fetched_hosts h m w =
@@ -197,7 +199,8 @@ module _ (e : End) (hosts : List ℕ) (x0 : ErrorCount) (single : e.at_host ≡ 
       with_has e n h (λ p. record p { desk = record p.desk { holds = false } }) (λ p. refl) (λ p. refl) (with_port h (after_turn FetchMessage) w.ports)
       (with_has e n h (after_turn FetchMessage) (λ p. refl) (λ p. refl) w.ports all)
 
-  sent_read : (w : Work) (h : ℕ) (m : Message) (v k : ℕ) (a : Message) (n : ℕ) (ok : Bool) → So w → eqb h e.link ≡ true → sets_now w h m ≡ Some v → is_any_ok a.1 ≡ ok
+  sent_read : (w : Work) (h : ℕ) (m : Message) (v k : ℕ) (a : Message) (n : ℕ) (ok : Bool) → So w → eqb h e.link ≡ true → sets_now w h m ≡ Some v
+      → is_any_ok a.1 ≡ ok
       → cond ok v (seen w).errors ≡ n
       → IsRead (errors_after e (record (seen w) { sets = sets_now w h m }) (entry.Sent (end_of_node w.core h) k a.0 a.1)) n
   sent_read w h m v k a n ok r here sets is value = record {
@@ -319,11 +322,13 @@ module _ (e : End) (hosts : List ℕ) (x0 : ErrorCount) (single : e.at_host ≡ 
       now_is = both_so (eqb h e.link) (leads_to_link_gate w.core.tables e m.0) (errors_set_by m.1) (eq-eqb h e.link link) ∙ rw near refl
 
       by_set : (o : Option ℕ) → cond (eqb m.0 0) (errors_set_by m.1) None ≡ o → Fine (host_deeds w.core p m)
-      by_set None q = λ none. plain_handled h m (host_deeds w.core p m) w on (now_is ∙ q) (unset_fine e hosts x0 h (host_deeds w.core p m) (host_unset w.core p m q)) r
+      by_set None q =
+          λ none. plain_handled h m (host_deeds w.core p m) w on (now_is ∙ q) (unset_fine e hosts x0 h (host_deeds w.core p m) (host_unset w.core p m q)) r
       by_set (Some v) q = λ none.
           let both = some_so (eqb m.0 0) (errors_set_by m.1) v q in
           set_handled h m (host_deeds w.core p m) v w on (eq-eqb h e.link link) (now_is ∙ q) none
-          (subst (λ n. SetDeeds w.ports n m.0 v (host_deeds w.core p m)) node (host_sets w.core w.ports p m v (ap (port_at w.ports) node ∙ there) both.0 both.1)) r
+          (subst (λ n. SetDeeds w.ports n m.0 v (host_deeds w.core p m)) node
+          (host_sets w.core w.ports p m v (ap (port_at w.ports) node ∙ there) both.0 both.1)) r
 
     -- at the controller
     near_by : e.at_host ≡ false → Fine (controller_deeds w.core w.ports h m)
@@ -353,7 +358,8 @@ module _ (e : End) (hosts : List ℕ) (x0 : ErrorCount) (single : e.at_host ≡ 
         by_host : lack w.ports (needs h (controller_deeds w.core w.ports h m)) ≡ None → (eqb h e.link ≡ true) ⊎ (eqb h e.link ≡ false)
             → So (handles h m (controller_deeds w.core w.ports h m) w)
         by_host none (inl z) = set_handled h m (controller_deeds w.core w.ports h m) v w on z (here_is z ∙ q) none set r
-        by_host none (inr z) = plain_handled h m (controller_deeds w.core w.ports h m) w on (away_is z) (set_fine w.ports h m.0 v (controller_deeds w.core w.ports h m) z set) r
+        by_host none (inr z) =
+            plain_handled h m (controller_deeds w.core w.ports h m) w on (away_is z) (set_fine w.ports h m.0 v (controller_deeds w.core w.ports h m) z set) r
 
     deeds_far : e.at_host ≡ true → deeds_of w.core w.ports h m ≡ host_deeds w.core p m
     deeds_far near = rw (side_zero w.core r.side near, there) refl
@@ -368,7 +374,8 @@ module _ (e : End) (hosts : List ℕ) (x0 : ErrorCount) (single : e.at_host ≡ 
   -- ## Turns
 
   -- the hosts of ends stay as a node does something, so an end that was there is there
-  is_there : (ports qs : List Port) (h : ℕ) (p : Port) → hosts_of_ends ports ≡ hosts_of_ends qs → port_at ports h ≡ Some p → (q : Port) × (port_at qs h ≡ Some q)
+  is_there : (ports qs : List Port) (h : ℕ) (p : Port) → hosts_of_ends ports ≡ hosts_of_ends qs → port_at ports h ≡ Some p
+      → (q : Port) × (port_at qs h ≡ Some q)
   is_there [] qs h p same e = absurd (cc e)
   is_there (x ∷ ports) [] h p same e = absurd (cc same)
   is_there (x ∷ ports) (y ∷ qs) h p same e = by (eqb x.desk.host h) refl (is_there ports qs h p) where

@@ -167,7 +167,8 @@ module _ (t : List Entry) (w : NodeWorld) (r : Running) (runs : w.controller ≡
             let host : d.host ≡ h = found_host r.desks h d q in
             let link : link_to w.sites d.host ≡ there.0.link = ap (link_to w.sites) host ∙ link_is w.sites h there.0 there.1 in
             let up : is_up (link_to w.sites d.host).controller.side.shdlc.phase ≡ is_some (session_now t (end_c h) 0) =
-            ap (λ (l : Link). is_up l.controller.side.shdlc.phase) link ∙ (sym (up_is there.0.link.controller) ∙ ap is_some (sym (sessions h there.0 there.1))) in
+            ap (λ (l : Link). is_up l.controller.side.shdlc.phase) link
+            ∙ (sym (up_is there.0.link.controller) ∙ ap is_some (sym (sessions h there.0 there.1))) in
             let open_is : is_opened r.core.tables d.host 1 ≡ is_opened (tables_in t 0) h 1 = ap₂ (λ a n. is_opened a n 1) tables host in
             ap₂ (λ a b. a && b) up open_is ∙ sym (ap (λ o. is_some o && is_connected_in t h) q)
 
@@ -199,7 +200,8 @@ module _ (t : List Entry) (w : NodeWorld) (r : Running) (runs : w.controller ≡
     hosts = where_same (λ k. option_map_or (λ (p : Port). true) (port_at (ends_between w.sites r) k) false) (is_one_of (hosts_in w.sites)) configured;
     connected = where_same (λ k. option_map_or (is_connected_at r.core.tables) (port_at (ends_between w.sites r) k) false)
         (λ k. is_one_of (hosts_in w.sites) k && is_connected_in t k) connected;
-    noticed = where_same (λ k. option_map_or (λ (p : Port). is_some p.desk.notice) (port_at (ends_between w.sites r) k) false) (λ k. is_some (notice_in t k)) noticed;
+    noticed =
+        where_same (λ k. option_map_or (λ (p : Port). is_some p.desk.notice) (port_at (ends_between w.sites r) k) false) (λ k. is_some (notice_in t k)) noticed;
     asked = where_same (λ k. option_map_or is_asked_at (port_at (ends_between w.sites r) k) false) (λ k. is_of_creation (notice_in t k)) asked;
     waiting = λ pid. pipes pid ∙ pipes_same t pid (hosts_in w.sites);
     errors = counted h host one;

@@ -86,21 +86,26 @@ pub record AreFine (sites : List Site) : Type 0 where
 pub orderly_fine : (w : NodeWorld) → IsOrderly w → AreFine w.sites
 orderly_fine w o = record { different = o.different; hosts = o.hosts; nodes = o.nodes }
 
-pub map_fine : (g : Site → Site) → ((s : Site) → (g s).host ≡ s.host) → ((s : Site) → (g s).node ≡ s.node) → (sites : List Site) → AreFine sites → AreFine (map g sites)
+pub map_fine : (g : Site → Site) → ((s : Site) → (g s).host ≡ s.host) → ((s : Site) → (g s).node ≡ s.node) → (sites : List Site) → AreFine sites
+    → AreFine (map g sites)
 map_fine g host node sites a = record {
   different = subst AreDifferent (sym (hosts_same g host sites)) a.different;
   hosts = all_hosts sites a.hosts;
   nodes = all_nodes sites a.nodes;
 } where
-  all_hosts : (sites : List Site) → AllByRecursion (λ (s : Site). (eqb s.host 0) ≡ false) sites → AllByRecursion (λ (s : Site). (eqb s.host 0) ≡ false) (map g sites)
+  all_hosts : (sites : List Site) → AllByRecursion (λ (s : Site). (eqb s.host 0) ≡ false) sites
+      → AllByRecursion (λ (s : Site). (eqb s.host 0) ≡ false) (map g sites)
   all_hosts [] all = tt
   all_hosts (s ∷ sites) all = (ap (λ n. eqb n 0) (host s) ∙ all.0, all_hosts sites all.1)
 
   all_nodes : (sites : List Site) → AllByRecursion (λ (s : Site). IfItRuns s.host (s.host ∷ []) s.node) sites
       → AllByRecursion (λ (s : Site). IfItRuns s.host (s.host ∷ []) s.node) (map g sites)
   all_nodes [] all = tt
-  all_nodes (s ∷ sites) all =
-      (subst (λ o. IfItRuns (g s).host ((g s).host ∷ []) o) (sym (node s)) (subst (λ n. IfItRuns n (n ∷ []) s.node) (sym (host s)) all.0), all_nodes sites all.1)
+  all_nodes (s ∷ sites) all = (
+    subst (λ o. IfItRuns (g s).host ((g s).host ∷ []) o) (sym (node s))
+        (subst (λ n. IfItRuns n (n ∷ []) s.node) (sym (host s)) all.0),
+    all_nodes sites all.1,
+  )
 
 module _ (e : End) (real : e.at_host ≡ true → eqb e.link 0 ≡ false) where
   -- ## The node of the end
@@ -116,7 +121,8 @@ module _ (e : End) (real : e.at_host ≡ true → eqb e.link 0 ≡ false) where
     far_is (Some s) z q = rw (real q, z) refl
 
     by : (b : Bool) → e.at_host ≡ b → node_at w (node_of e) ≡ own_node w
-    by true q = ap (λ b. node_at w (cond b e.link 0)) q ∙ (far_is (site_at w.sites e.link) refl q ∙ sym (ap (λ b. cond b (far_node (site_at w.sites e.link)) w.controller) q))
+    by true q = ap (λ b. node_at w (cond b e.link 0)) q
+        ∙ (far_is (site_at w.sites e.link) refl q ∙ sym (ap (λ b. cond b (far_node (site_at w.sites e.link)) w.controller) q))
     by false q = ap (λ b. node_at w (cond b e.link 0)) q ∙ sym (ap (λ b. cond b (far_node (site_at w.sites e.link)) w.controller) q)
 
   pub near_node : (w : NodeWorld) → e.at_host ≡ false → own_node w ≡ w.controller
@@ -211,7 +217,8 @@ module _ (e : End) (real : e.at_host ≡ true → eqb e.link 0 ≡ false) where
           has) came frames_so (λ n. known n r q) (subst (λ o. IfKeeps e o x) (near_node w near ∙ q) k))
       by_side true far =
           left w (after_controller w h comes c).0 (c.entries ++ frames) x
-          (host_node (after_controller w h comes c).0 far ∙ (node_map (link_after_controller h comes c) (λ s. refl) (λ s. refl) w.sites e.link ∙ sym (host_node w far)))
+          (host_node (after_controller w h comes c).0 far
+          ∙ (node_map (link_after_controller h comes c) (λ s. refl) (λ s. refl) w.sites e.link ∙ sym (host_node w far)))
           (AllByRecursion-append (Leaves e) c.entries frames (others_step e 0 Controller (hosts_in w.sites) r w.memory.plan (λ n. half_in (link_to w.sites n)
           (comes_to h comes n)) (entries_for h (arrival Controller (link_to w.sites h) comes)) (AtEnd h i) has refl (near_other far (hosts_in w.sites))
           (still_leaves e (entries_for h (arrival Controller (link_to w.sites h) comes)) came)) (still_leaves e frames frames_so)) k
@@ -262,7 +269,8 @@ module _ (e : End) (real : e.at_host ≡ true → eqb e.link 0 ≡ false) where
           (λ z. ne_eqb h e.link (λ y. eqb-false e.link h off (sym y)))
       by_side (inl far) (inl is) =
           let link : e.link ≡ h = eqb-true e.link h is in
-          let node : own_node v ≡ runs_on c = host_node v far ∙ (ap (λ n. far_node (site_at v.sites n)) link ∙ with_own h (after_host comes c) (λ z. refl) w.sites s here) in
+          let node : own_node v ≡ runs_on c = host_node v far
+          ∙ (ap (λ n. far_node (site_at v.sites n)) link ∙ with_own h (after_host comes c) (λ z. refl) w.sites s here) in
           let was : own_node w ≡ Some r = host_node w far ∙ (ap (λ n. far_node (site_at w.sites n)) link ∙ (ap far_node here ∙ q)) in
           subst (λ o. IfKeeps e o (reads e (c.entries ++ frames) x)) (sym node) (own s r here q far is (subst (λ o. IfKeeps e o x) was k))
 

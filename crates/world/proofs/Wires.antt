@@ -90,7 +90,8 @@ was_full wire new flying lost (y ∷ frames) x to before now w is read made full
     let len : length all ≡ length frames + 1 = length-append frames (x ∷ []) in
     let big : nat_lt 64 (suc (length all)) ≡ true = lt-ltb 64 (suc (length all)) (omega (arith, len, full)) in
     let items : wire.items ++ flying ∷ [] ≡ kept_of y ∷ map kept_of all =
-    ap (λ l. l ++ flying ∷ []) w.frames ∙ (ap (λ f. kept_of y ∷ (map kept_of frames ++ f ∷ [])) is ∙ ap (λ l. kept_of y ∷ l) (sym (map-append frames (x ∷ [])))) in
+    ap (λ l. l ++ flying ∷ []) w.frames
+    ∙ (ap (λ f. kept_of y ∷ (map kept_of frames ++ f ∷ [])) is ∙ ap (λ l. kept_of y ∷ l) (sym (map-append frames (x ∷ [])))) in
     let kept : keep_last 64 (kept_of y ∷ map kept_of all) ≡ map kept_of all =
     keep_but_one 64 (kept_of y) (map kept_of all) (let z = length-map all in omega (arith, z, len, full)) in
     let new_is : new ≡ buffer (map kept_of all) 64 =

@@ -14,8 +14,10 @@ returns-in-Some-split_first-clause-slots c =
     let rest = c.in-Some-split_first.rest.now in
     let begun = c.begin-first.ensures.slots in
     let low = c.begin-first.ensures.fits in
-    let owner_is : owner_of c.begin-first.new.self.slots b ≡ owner = ap (λ (ss : List (Option Held)). owner_of ss b) begun ∙ owner_of-put old b owner (byte ∷ []) low in
-    let bytes_are : held_bytes c.begin-first.new.self.slots b ≡ byte ∷ [] = ap (λ (ss : List (Option Held)). held_bytes ss b) begun ∙ bytes_of-put old b owner (byte ∷ []) low in
+    let owner_is : owner_of c.begin-first.new.self.slots b ≡ owner = ap (λ (ss : List (Option Held)). owner_of ss b) begun
+    ∙ owner_of-put old b owner (byte ∷ []) low in
+    let bytes_are : held_bytes c.begin-first.new.self.slots b ≡ byte ∷ [] = ap (λ (ss : List (Option Held)). held_bytes ss b) begun
+    ∙ bytes_of-put old b owner (byte ∷ []) low in
     c.extend-in-Some-split_first.ensures.slots
     ∙ (ap (λ (o : ℕ). with_chain c.begin-first.new.self.slots b o (held_bytes c.begin-first.new.self.slots b ++ rest)) owner_is
     ∙ (ap (λ (bs : List ℕ). with_chain c.begin-first.new.self.slots b owner (bs ++ rest)) bytes_are

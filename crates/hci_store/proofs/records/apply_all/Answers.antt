@@ -11,7 +11,8 @@ returns-in-Err-clause-fault g c =
     let inv = c.records.invariant in
     let content = g.N.Nv.content in
     carried c.in-Err.ensures.fault (λ tells faulty known.
-    journal_fault_is_told (content c.args.scan.now.nv) (content c.records.scan.nv) c.records.scan.state.many c.records.tables c.in-Err.fault (inv.kept tells) (inv.so_far tells) faulty)
+    journal_fault_is_told (content c.args.scan.now.nv) (content c.records.scan.nv) c.records.scan.state.many c.records.tables c.in-Err.fault (inv.kept tells)
+    (inv.so_far tells) faulty)
 
 pub returns-in-None-clause-fault : goal.returns-in-None-clause-fault
 returns-in-None-clause-fault g c =

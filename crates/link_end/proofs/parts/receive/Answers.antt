@@ -14,7 +14,8 @@ returns-in-Some-clause-ok c =
     let f : Fragment = c.in-Some.info in
     let P : Option Fragment → Type 0 = λ o. IfSome o (λ _. IsInboxReady c.args.pool.now c.args.inbox.now) in
     let ready : IsInboxReady c.args.pool.now c.args.inbox.now = subst P c.in-Some.is c.requires.ready in
-    let Q : Option Fragment → Type 0 = λ o. OnOk c.take.result (ReceivesOn c.args.pool.now c.take.new.pool c.args.inbox.now c.take.new.self (option_to_list o)) in
+    let Q : Option Fragment
+    → Type 0 = λ o. OnOk c.take.result (ReceivesOn c.args.pool.now c.take.new.pool c.args.inbox.now c.take.new.self (option_to_list o)) in
     subst Q (sym c.in-Some.is)
     (on_ok c.take.result (Joins c.args.pool.now c.take.new.pool c.args.inbox.now c.take.new.self (option_to_list (packet_of f)))
     (ReceivesOn c.args.pool.now c.take.new.pool c.args.inbox.now c.take.new.self (option_to_list (Some f)))

@@ -13,4 +13,5 @@ returns-clause-fragment c =
     let packets = packets_of c.args.queued.now.pipe (chain_bytes c.args.pool.now c.args.queued.now.chain) in
     let place : c.args.place ≡ c.args.place * 28 / 28 = omega arith in
     slice_get-map packet_bytes packets c.args.place
-    ∙ (ap (λ n. option_map packet_bytes (slice_get packets n)) place ∙ (ap (option_map packet_bytes) c.cut-packet.ensures.of_message ∙ ap (λ (l : List ℕ). Some l) (sym c.write_packet.ensures.written)))
+    ∙ (ap (λ n. option_map packet_bytes (slice_get packets n)) place
+    ∙ (ap (option_map packet_bytes) c.cut-packet.ensures.of_message ∙ ap (λ (l : List ℕ). Some l) (sym c.write_packet.ensures.written)))

@@ -15,11 +15,13 @@ returns-in_err-second-clause-step g c =
     let old = c.args.nv.now in
     let between = c.read_head.new.nv in
     rw (not_ok c.from_residual-in_err-second.result c.from_residual-in_err-second.ensures.0)
-    (one_more_read reads 1 old between _ c.read_head-2.new.nv (one_more_read reads 0 old old _ between (no_reads reads 0 old) c.in_ok-first.ensures.step) c.in_err-second.ensures.step)
+    (one_more_read reads 1 old between _ c.read_head-2.new.nv
+    (one_more_read reads 0 old old _ between (no_reads reads 0 old) c.in_ok-first.ensures.step) c.in_err-second.ensures.step)
 
 pub returns-clause-step : goal.returns-clause-step
 returns-clause-step g c =
     let reads = g.N.Nv.reads in
     let old = c.args.nv.now in
     let between = c.read_head.new.nv in
-    one_more_read reads 1 old between _ c.read_head-2.new.nv (one_more_read reads 0 old old _ between (no_reads reads 0 old) c.in_ok-first.ensures.step) c.in_ok-second.ensures.step
+    one_more_read reads 1 old between _ c.read_head-2.new.nv
+    (one_more_read reads 0 old old _ between (no_reads reads 0 old) c.in_ok-first.ensures.step) c.in_ok-second.ensures.step

@@ -14,7 +14,8 @@ returns-in-Ok c =
     let bytes = c.in-Ok.bytes.items in
     let none = where_none (words c.in_ok-third.more.now ≡ []) c.next_word-4.result c.if-is_some.ensures c.next_word-4.ensures.none in
     let is : words c.args.rest.now ≡ first ∷ second ∷ third ∷ [] =
-    c.in_ok-first.ensures.some ∙ ap (λ ws. first ∷ ws) (c.in_ok-second.ensures.some ∙ ap (λ ws. second ∷ ws) (c.in_ok-third.ensures.some ∙ ap (λ ws. third ∷ ws) none)) in
+    c.in_ok-first.ensures.some
+    ∙ ap (λ ws. first ∷ ws) (c.in_ok-second.ensures.some ∙ ap (λ ws. second ∷ ws) (c.in_ok-third.ensures.some ∙ ap (λ ws. third ∷ ws) none)) in
     let long = (decode_of-ok third bytes c.in-Ok.ensures.ok).2 in
     sends c.args.header.now (words c.args.rest.now) first second third is
     (c.in_ok-at.at, sym c.end_of.ensures ∙ c.in_ok-at.was, sym c.knows.ensures ∙ c.if-not-knows.false, sym c.may_send.ensures ∙ c.if-not-may_send.false)

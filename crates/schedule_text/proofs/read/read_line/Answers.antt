@@ -15,13 +15,15 @@ returns-clause-fits c =
 
 pub returns-clause-too_long : goal.returns-clause-too_long
 returns-clause-too_long c = (
-  λ h. absurd (not_too_long (option_copied c.args.header) (row_for c.in-Some.first.now) (words c.in-Some.rest.now) ((same_fault c.read_words.result _ fault.TooLong c.read_words.ensures).0 h)),
+  λ h. absurd (not_too_long (option_copied c.args.header) (row_for c.in-Some.first.now) (words c.in-Some.rest.now)
+      ((same_fault c.read_words.result _ fault.TooLong c.read_words.ensures).0 h)),
   λ long. absurd (omega arith),
 )
 
 pub returns-clause-skip : goal.returns-clause-skip
 returns-clause-skip c = (
-  λ h. absurd (never_skipped (option_copied c.args.header) c.in-Some.first.now (words c.in-Some.rest.now) (same_skip c.read_words.result _ c.read_words.ensures h)),
+  λ h. absurd
+      (never_skipped (option_copied c.args.header) c.in-Some.first.now (words c.in-Some.rest.now) (same_skip c.read_words.result _ c.read_words.ensures h)),
   λ h. absurd (let comment = subst IsSkipped c.in-Some.ensures.some h.1 in let other = c.if-comment.ensures in cc),
 )
 

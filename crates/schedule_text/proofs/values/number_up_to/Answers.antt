@@ -6,7 +6,8 @@ use Rattle.schedule_text.proofs.values.number_up_to.Goals as goal
 pub returns-then-next-from : goal.returns-then-next-from
 returns-then-next-from c =
     let e = c.loop-digit.invariant.0
-    ∙ onward_at c.loop-digit.number c.loop-digit.digit-index c.args.word.now (omega arith) (sym c.is_ascii_digit.ensures.value ∙ c.if-not-is_ascii_digit.false) in
+    ∙ onward_at c.loop-digit.number c.loop-digit.digit-index c.args.word.now (omega arith)
+    (sym c.is_ascii_digit.ensures.value ∙ c.if-not-is_ascii_digit.false) in
     let over : c.args.high < c.loop-digit.number * 10 + (slice_index_or c.args.word.now c.loop-digit.digit-index 0 - 48) = omega arith in
     sym (ap (option_if (λ n. nat_le n c.args.high)) e
     ∙ onward_above _ c.args.high (drop (c.loop-digit.digit-index + 1) c.args.word.now) over)
@@ -14,5 +15,6 @@ returns-then-next-from c =
 pub loop-digit-preserved : goal.loop-digit-preserved
 loop-digit-preserved c =
     let e = c.loop-digit.invariant.0
-    ∙ onward_at c.loop-digit.number c.loop-digit.digit-index c.args.word.now (omega arith) (sym c.is_ascii_digit.ensures.value ∙ c.if-not-is_ascii_digit.false) in
+    ∙ onward_at c.loop-digit.number c.loop-digit.digit-index c.args.word.now (omega arith)
+    (sym c.is_ascii_digit.ensures.value ∙ c.if-not-is_ascii_digit.false) in
     (rw (c.from.ensures, c.from-in-loop-digit.ensures) e, omega arith)

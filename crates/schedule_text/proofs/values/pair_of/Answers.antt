@@ -9,7 +9,8 @@ returns-in_err-first c = rw c.from_residual.ensures (no_high c.args.high c.args.
 pub returns-in_err-second : goal.returns-in_err-second
 returns-in_err-second c =
     rw c.from_residual-in_err-second.ensures
-    (no_low c.args.high c.args.low c.in_ok-first.first (sym c.digit_of.ensures.value ∙ c.in_ok-first.was) (sym c.digit_of-2.ensures.value ∙ c.in_err-second.was))
+    (no_low c.args.high c.args.low c.in_ok-first.first (sym c.digit_of.ensures.value ∙ c.in_ok-first.was)
+    (sym c.digit_of-2.ensures.value ∙ c.in_err-second.was))
 
 pub returns : goal.returns
 returns c =

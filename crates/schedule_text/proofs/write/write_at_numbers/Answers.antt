@@ -8,4 +8,5 @@ returns c =
     λ start h.
     let word = c.args.word.now in
     let at = end_text c.args.at in
-    c.short_number-2.ensures start word (at ∷ decimal c.args.first ∷ []) (c.short_number.ensures start word (at ∷ []) (c.end.ensures start word [] (c.push.ensures start [] h)))
+    c.short_number-2.ensures start word (at ∷ decimal c.args.first ∷ [])
+    (c.short_number.ensures start word (at ∷ []) (c.end.ensures start word [] (c.push.ensures start [] h)))

@@ -10,7 +10,8 @@ returns-clause-err c =
     let old = c.args.out.now.items in
     let start = start_in old in
     on_err_weaker c.hand_back.result
-    (λ back. back start _ (c.write_whole.ensures start [] c.text_behind-text.ensures) ∙ (take-append-le (length old) old _ (omega arith) ∙ take_all (length old) old (omega arith))) c.hand_back.ensures.err
+    (λ back. back start _ (c.write_whole.ensures start [] c.text_behind-text.ensures)
+    ∙ (take-append-le (length old) old _ (omega arith) ∙ take_all (length old) old (omega arith))) c.hand_back.ensures.err
 
 pub returns-clause-ok : goal.returns-clause-ok
 returns-clause-ok c =

@@ -10,9 +10,11 @@ returns-clause-err c =
     let old = c.args.out.now.items in
     let start = start_in old in
     on_err_weaker c.hand_back.result
-    (λ back. back start _ (c.write_each.ensures start _ (c.write_echo.ensures start c.text_behind-text.ensures)) ∙ (take-append-le (length old) old _ (omega arith) ∙ take_all (length old) old (omega arith))) c.hand_back.ensures.err
+    (λ back. back start _ (c.write_each.ensures start _ (c.write_echo.ensures start c.text_behind-text.ensures))
+    ∙ (take-append-le (length old) old _ (omega arith) ∙ take_all (length old) old (omega arith))) c.hand_back.ensures.err
 
 pub returns-clause-ok : goal.returns-clause-ok
 returns-clause-ok c =
     let start = start_in c.args.out.now.items in
-    on_ok_weaker c.hand_back.result (λ behind. behind start _ (c.write_each.ensures start _ (c.write_echo.ensures start c.text_behind-text.ensures))) c.hand_back.ensures.ok
+    on_ok_weaker c.hand_back.result
+    (λ behind. behind start _ (c.write_each.ensures start _ (c.write_echo.ensures start c.text_behind-text.ensures))) c.hand_back.ensures.ok

@@ -21,7 +21,8 @@ returns-in_err-bits-clause-none c =
     let sixteen = c.in-Some.ensures.cases.0 ∙ ap (take 16) (left_behind bytes at c.told-bytes) in
     rw c.from_residual.ensures (λ bits has.
     c.in_err-bits.ensures.none (take 16 (drop at bits))
-    (subst (λ xs. AreBits S1 xs (take 16 (drop at bits))) (sym sixteen) (AreBits-take S1 16 (drop at bytes) (drop at bits) (AreBits-drop S1 at bytes bits has))))
+    (subst (λ xs. AreBits S1 xs (take 16 (drop at bits))) (sym sixteen)
+    (AreBits-take S1 16 (drop at bytes) (drop at bits) (AreBits-drop S1 at bytes bits has))))
 
 pub sixteens-preserved : goal.sixteens-preserved
 sixteens-preserved c =
@@ -34,7 +35,9 @@ sixteens-preserved c =
       within = omega (arith, few);
       whole = omega (arith, kept.whole);
       s1 = rw (take-add at 16 bytes, ← sixteen, c.from.ensures, low_bits-more at c.sixteens.s1 c.in_ok-bits.bits.s1 few (omega arith))
-          (AreBits-append S1 (take at bytes) c.in-Some.sixteen.now (low_bits at c.sixteens.s1) (low_bits 16 c.in_ok-bits.bits.s1) kept.s1 c.in_ok-bits.ensures.s1);
+          (AreBits-append S1 (take at bytes) c.in-Some.sixteen.now (low_bits at c.sixteens.s1)
+          (low_bits 16 c.in_ok-bits.bits.s1) kept.s1 c.in_ok-bits.ensures.s1);
       s2 = rw (take-add at 16 bytes, ← sixteen, c.from-in-Some.ensures, low_bits-more at c.sixteens.s2 c.in_ok-bits.bits.s2 few (omega arith))
-          (AreBits-append S2 (take at bytes) c.in-Some.sixteen.now (low_bits at c.sixteens.s2) (low_bits 16 c.in_ok-bits.bits.s2) kept.s2 c.in_ok-bits.ensures.s2);
+          (AreBits-append S2 (take at bytes) c.in-Some.sixteen.now (low_bits at c.sixteens.s2)
+          (low_bits 16 c.in_ok-bits.bits.s2) kept.s2 c.in_ok-bits.ensures.s2);
     }

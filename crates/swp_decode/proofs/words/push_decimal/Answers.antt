@@ -5,12 +5,14 @@ use Rattle.swp_decode.proofs.words.push_decimal.Goals as goal
 
 pub push_digits-requires : goal.push_digits-requires
 push_digits-requires c =
-    let short : length (decimal c.args.n) ≤ 10 = length-decimal-le 10 c.args.n (omega arith) (omega (arith, c.ranges.n.fits)) (omega (arith, c.ranges.n.fits)) in
+    let short : length (decimal c.args.n) ≤ 10 =
+    length-decimal-le 10 c.args.n (omega arith) (omega (arith, c.ranges.n.fits)) (omega (arith, c.ranges.n.fits)) in
     omega (arith, short, c.requires)
 
 pub returns-clause-sized : goal.returns-clause-sized
 returns-clause-sized c =
-    let short : length (decimal c.args.n) ≤ 10 = length-decimal-le 10 c.args.n (omega arith) (omega (arith, c.ranges.n.fits)) (omega (arith, c.ranges.n.fits)) in
+    let short : length (decimal c.args.n) ≤ 10 =
+    length-decimal-le 10 c.args.n (omega arith) (omega (arith, c.ranges.n.fits)) (omega (arith, c.ranges.n.fits)) in
     omega (arith, short, ap length c.push_digits.ensures, length-append c.args.text.now.items (decimal c.args.n))
 
 pub returns-then-n-lt10-clause-items : goal.returns-then-n-lt10-clause-items

@@ -8,7 +8,8 @@ pub push_hex_of_four-requires : goal.push_hex_of_four-requires
 push_hex_of_four-requires c =
     let bytes = c.args.bytes.now in
     let at = c.fours.read in
-    let left : at + 4 ≤ length bytes = omega (arith, c.in-Some.ensures.cases.2, ap length (take_rest bytes at), length-drop at bytes, c.fours.invariant.within) in
+    let left : at + 4 ≤ length bytes =
+    omega (arith, c.in-Some.ensures.cases.2, ap length (take_rest bytes at), length-drop at bytes, c.fours.invariant.within) in
     room_of c.args.text.now.items bytes c.fours.text.items at 4 c.fours.invariant.so_far left c.requires
 
 pub fours-preserved : goal.fours-preserved

@@ -38,7 +38,14 @@ finished-requires c =
     omega (
       arith,
       room_for_end c.push_byte-3.new.self ((front ++ high ∷ []) ++ low ∷ []) writes
-          (omega (arith, length-append (front ++ high ∷ []) (low ∷ []), length-append front (high ∷ []), length-take c.loop-byte.byte-index c.bytes-byte-items.result.now, c.bytes-byte-items.ensures.sized)),
+          (omega (
+            arith,
+            length-append (front ++ high ∷ []) (low ∷ []),
+            length-append front
+                (high ∷ []),
+            length-take c.loop-byte.byte-index c.bytes-byte-items.result.now,
+            c.bytes-byte-items.ensures.sized,
+          )),
     )
 
 pub returns-clause-frame : goal.returns-clause-frame
@@ -62,5 +69,12 @@ returns-clause-sized c =
     let low = get_or c.to_be_bytes.result 1 0 in
     let writes = c.push_byte-3.ensures (front ++ high ∷ []) (c.push_byte-2.ensures front c.loop-byte.invariant) in
     let short = room_for_end c.push_byte-3.new.self ((front ++ high ∷ []) ++ low ∷ []) writes
-    (omega (arith, length-append (front ++ high ∷ []) (low ∷ []), length-append front (high ∷ []), length-take c.loop-byte.byte-index c.bytes-byte-items.result.now, c.bytes-byte-items.ensures.sized)) in
+    (omega (
+      arith,
+      length-append (front ++ high ∷ []) (low ∷ []),
+      length-append front
+          (high ∷ []),
+      length-take c.loop-byte.byte-index c.bytes-byte-items.result.now,
+      c.bytes-byte-items.ensures.sized,
+    )) in
     rw c.finished.ensures (omega (arith, short, length-append c.push_byte-3.new.self.bits.items end_of_frame))

@@ -9,8 +9,10 @@ returns-in_err-write_all-clause-ends g c =
     let was = g.K.Sink.written c.args.sink.now in
     let after = g.K.Sink.written c.write_all.new.sink in
     let front = c.in_err-write_all.ensures.front in
-    on_err ((earlier bytes before : List ℕ) → IsDecoding tells c.args.decoding.now earlier bytes before was → IsFrontOfLines tells earlier bytes before after) c.from_residual.result
-    (λ earlier bytes before h. cut_lines tells c.args.decoding.now earlier bytes before was after h (front.0, λ told. front.1 told ∙ ap (λ l. was ++ take front.0 l) c.as_slice.ensures.value))
+    on_err ((earlier bytes before : List ℕ) → IsDecoding tells c.args.decoding.now earlier bytes before was
+    → IsFrontOfLines tells earlier bytes before after) c.from_residual.result
+    (λ earlier bytes before h. cut_lines tells c.args.decoding.now earlier bytes before was after h
+    (front.0, λ told. front.1 told ∙ ap (λ l. was ++ take front.0 l) c.as_slice.ensures.value))
 
 pub returns-clause-goes : goal.returns-clause-goes
 returns-clause-goes g c earlier bytes before h =

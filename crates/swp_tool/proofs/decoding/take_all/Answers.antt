@@ -16,4 +16,5 @@ returns-in-Ok-clause-ends g c =
     if_err _ _ c.take_each.result (λ status ends earlier bytes rest before h.
     let said = ends earlier (bytes ++ take n piece) rest before (c.in-Ok.ensures.goes earlier bytes before h) in
     subst (λ l. EndedIn g.K.Sink.tells status earlier l before (g.K.Sink.written c.take_each.new.sink))
-    (ap (λ l. ((bytes ++ take n piece) ++ l) ++ rest) (left_of piece n c.in-Ok.ensures.within) ∙ append_assoc (bytes ++ take n piece) (drop n piece) rest ∙ sym (whole_after bytes piece rest n)) said) c.take_each.ensures.ends
+    (ap (λ l. ((bytes ++ take n piece) ++ l) ++ rest) (left_of piece n c.in-Ok.ensures.within) ∙ append_assoc (bytes ++ take n piece) (drop n piece) rest
+    ∙ sym (whole_after bytes piece rest n)) said) c.take_each.ensures.ends

@@ -25,7 +25,8 @@ loop-byte-preserved g c = record {
   read = λ earlier bytes before h.
       let i = c.loop-byte.byte-index in
       let piece = c.args.piece.now in
-      let is = append_assoc bytes (take i piece) (get_or piece i 0 ∷ []) ∙ ap (λ l. bytes ++ l) (sym (take_more piece i 0 (omega (arith, c.loop-byte-test.true)))) in
+      let is = append_assoc bytes (take i piece) (get_or piece i 0 ∷ [])
+      ∙ ap (λ l. bytes ++ l) (sym (take_more piece i 0 (omega (arith, c.loop-byte-test.true)))) in
       subst (λ l. IsDecoding g.K.Sink.tells c.take_next.new.decoding earlier l before (g.K.Sink.written c.take_next.new.sink)) is
       (c.in_default.ensures.goes earlier (bytes ++ take i piece) before (c.loop-byte.invariant.read earlier bytes before h));
 }

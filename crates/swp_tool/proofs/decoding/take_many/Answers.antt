@@ -30,7 +30,8 @@ piece-preserved g c =
       writes = omega (arith, c.take_first.ensures.count, old.writes);
       so_far = λ earlier bytes before h.
           let next = c.in_ok-further.ensures.goes earlier (bytes ++ take at piece) before (old.so_far earlier bytes before h) in
-          let is = append_assoc bytes (take at piece) (take n c.in-Some.first.now) ∙ ap (λ l. bytes ++ l) (further piece c.in-Some.first.now at n first c.in_ok-further.ensures.within) in
+          let is = append_assoc bytes (take at piece) (take n c.in-Some.first.now)
+          ∙ ap (λ l. bytes ++ l) (further piece c.in-Some.first.now at n first c.in_ok-further.ensures.within) in
           subst (λ l. IsDecoding g.K.Sink.tells c.take_first.new.decoding earlier l before (g.K.Sink.written c.take_first.new.sink)) is next;
     }
 

@@ -11,7 +11,8 @@ returns-then-decoding-eq-MAX_BYTES-clause-ends g c earlier bytes ahead before h 
     let was = g.K.Sink.written c.args.sink.now in
     let after = g.K.Sink.written c.flush_lines.new.sink in
     let fine = c.is_err.ensures.value in
-    let goes = of_ok ((e b f : List ℕ) → IsDecoding tells c.args.decoding.now e b f was → IsDecoding tells d e b f after) c.flush_lines.result c.is_err.result fine c.if-is_err.false c.flush_lines.ensures.goes in
+    let goes = of_ok ((e b f : List ℕ) → IsDecoding tells c.args.decoding.now e b f was
+    → IsDecoding tells d e b f after) c.flush_lines.result c.is_err.result fine c.if-is_err.false c.flush_lines.ensures.goes in
     let none = of_ok (d.text.items ≡ []) c.flush_lines.result c.is_err.result fine c.if-is_err.false c.flush_lines.ensures.room in (
       refl,
       record {

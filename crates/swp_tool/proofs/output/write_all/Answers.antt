@@ -13,5 +13,6 @@ loop-at-preserved g c = record {
       let at = c.loop-at.at in
       let n = c.in_ok-at.field-0 in
       let rest : take (length bytes - at) (drop at bytes) ≡ drop at bytes = grind (arith, common_steps) in
-      c.in_ok-at.ensures.wrote t ∙ ap (λ w. w ++ take n (take (length bytes - at) (drop at bytes))) (c.loop-at.invariant.wrote t) ∙ append_assoc start (take at bytes) _ ∙ ap (λ r. start ++ (take at bytes ++ take n r)) rest ∙ ap (λ w. start ++ w) (sym (take-add at n bytes));
+      c.in_ok-at.ensures.wrote t ∙ ap (λ w. w ++ take n (take (length bytes - at) (drop at bytes))) (c.loop-at.invariant.wrote t)
+      ∙ append_assoc start (take at bytes) _ ∙ ap (λ r. start ++ (take at bytes ++ take n r)) rest ∙ ap (λ w. start ++ w) (sym (take-add at n bytes));
 }

@@ -19,7 +19,8 @@ returns-clause-runs c header lines before runs =
     let stands = under_own_header w header lines t runs.stands in
     let Q : Header → Type 0 = λ h. WorldStandsFor c.step.new.self h (lines ++ line ∷ []) (with_step t line) in
     let below : c.entries.result.now ≡ noted (outcome_of (host_of t.header) (link_at t) line) =
-    c.entries.ensures ∙ (c.in_ok-step.ensures.entries lines t stands ∙ ap (λ h. noted (outcome_of (host_of h) (link_at t) line)) (sym stands.follows.header_is)) in
+    c.entries.ensures
+    ∙ (c.in_ok-step.ensures.entries lines t stands ∙ ap (λ h. noted (outcome_of (host_of h) (link_at t) line)) (sym stands.follows.header_is)) in
     let more = entry_line (entry.Echo line) ++ entry_lines c.entries.result.now in
     record {
       history = with_step t line;

@@ -33,8 +33,12 @@ step-requires-2-clause-room g c =
 pub step-requires-2-clause-line : goal.step-requires-2-clause-line
 step-requires-2-clause-line g c =
     let first = own c.in_ok-world.world c.bare_02.result [] (opened c.bare_02.result) c.in_ok-world.ensures.stands in
-    let second = c.in_ok-step.ensures.stands [] (opened c.bare_02.result) first in
-    (has_two c.step.new.self.header.hosts.items c.other-controller.result.link (ap (λ h. h.hosts.items) (second.header_is ∙ c.in_ok-world.ensures.stands.header_is) ∙ c.bare_02.ensures.hosts) (ap (λ e. e.link) c.other-controller.ensures), tt)
+    let second = c.in_ok-step.ensures.stands [] (opened c.bare_02.result) first in (
+      has_two c.step.new.self.header.hosts.items c.other-controller.result.link
+          (ap (λ h. h.hosts.items) (second.header_is ∙ c.in_ok-world.ensures.stands.header_is) ∙ c.bare_02.ensures.hosts)
+          (ap (λ e. e.link) c.other-controller.ensures),
+      tt,
+    )
 
 pub step-requires-3-clause-room : goal.step-requires-3-clause-room
 step-requires-3-clause-room g c =
@@ -48,5 +52,8 @@ step-requires-3-clause-line g c =
     let first = own c.in_ok-world.world c.bare_02.result [] (opened c.bare_02.result) c.in_ok-world.ensures.stands in
     let early = c.in_ok-step.ensures.stands [] (opened c.bare_02.result) first in
     let second = own c.step.new.self c.in_ok-world.world.header _ _ early in
-    let third = c.in_ok-step-2.ensures.stands _ _ second in
-    (has_two c.step-2.new.self.header.hosts.items 2 (ap (λ h. h.hosts.items) (third.header_is ∙ (early.header_is ∙ c.in_ok-world.ensures.stands.header_is)) ∙ c.bare_02.ensures.hosts) refl, (omega arith, omega arith))
+    let third = c.in_ok-step-2.ensures.stands _ _ second in (
+      has_two c.step-2.new.self.header.hosts.items 2
+          (ap (λ h. h.hosts.items) (third.header_is ∙ (early.header_is ∙ c.in_ok-world.ensures.stands.header_is)) ∙ c.bare_02.ensures.hosts) refl,
+      (omega arith, omega arith),
+    )

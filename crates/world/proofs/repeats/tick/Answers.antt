@@ -67,5 +67,6 @@ returns-clause-stands c l stands few =
           c.requires.controller
           (turned_round c.tick_end-2.new.near c.tick_end-2.new.far c.tick_end-2.new.resets (ticks_at_controller (exchanged near) [] GoesOut) last.0);
       noted_are = tick_noted c.args.at l c.args.entries.now.items c.age_frames.new.entries.items c.age_frames-2.new.entries.items
-          c.tick_end.new.entries.items c.tick_end-2.new.entries.items c.requires.controller a.1 (subst P c.other.ensures b.1) t.1 (subst Q c.other-2.ensures last.1);
+          c.tick_end.new.entries.items c.tick_end-2.new.entries.items c.requires.controller a.1 (subst P c.other.ensures b.1) t.1
+          (subst Q c.other-2.ensures last.1);
     })

@@ -43,5 +43,6 @@ returns-clause-stands c l h none =
     gives c.send_all.new.near c.send_all.new.far c.send_all.new.resets l c.args.at c.place-place.result.session x c.in_ok-clone.field-0
     c.args.entries.now.items c.push.new.self.items c.send_all.new.entries.items
     (ap (λ (p : Place). p.session) c.place-place.ensures ∙ session_is c.args.near.now c.args.far.now c.args.resets.now l h)
-    (accepted g.result (give_refusal m x) (subst P c.as_slice.ensures (g.ensures.refused m h.here.has.node)) (sym c.if-is_some.ensures)) c.in_ok-clone.ensures.cases
+    (accepted g.result (give_refusal m x) (subst P c.as_slice.ensures (g.ensures.refused m h.here.has.node))
+    (sym c.if-is_some.ensures)) c.in_ok-clone.ensures.cases
     c.in_ok-push.ensures.items r

@@ -14,11 +14,13 @@ pub returns-clause-stands : goal.returns-clause-stands
 returns-clause-stands c l m frame h is read =
     let k = c.number_of-number in
     let P : End → Type 0 = λ z. WireStandsFor c.put_last.new.wire (fits (l.to_host ++ record { frame = frame; age = 0; number = k.result } ∷ []))
-    × AreNoted z c.push.new.self.items c.put_last.new.entries.items (pushed_out (side_of z) (l.to_host ++ record { frame = frame; age = 0; number = k.result } ∷ [])) in
+    × AreNoted z c.push.new.self.items c.put_last.new.entries.items
+    (pushed_out (side_of z) (l.to_host ++ record { frame = frame; age = 0; number = k.result } ∷ [])) in
     on_ok c.put_last.result
     (c.put_last.ensures l.to_host (record { frame = frame; age = 0; number = k.result }) h.there.has.wire_is (flying_is c.args.lpdu frame k.result is)
     (made_is c.args.lpdu frame k.result (c.args.resets.now + 1) is read (k.ensures.number frame read)))
     (λ put. put_is c.args.near.now c.args.far.now c.args.resets.now l m frame k.new.emitted k.new.resets k.result c.put_last.new.wire c.args.at
     c.args.entries.now.items c.push.new.self.items c.put_last.new.entries.items h (k.ensures.number frame read) (k.ensures.resets frame read)
     (k.ensures.emitted frame read)
-    (c.in_ok-push.ensures.items ∙ ap (λ (b : List ℕ). c.args.entries.now.items ++ entry.Emit c.args.at b ∷ []) (c.copied.ensures ∙ is)) (subst P c.other.ensures put))
+    (c.in_ok-push.ensures.items ∙ ap (λ (b : List ℕ). c.args.entries.now.items ++ entry.Emit c.args.at b ∷ []) (c.copied.ensures ∙ is))
+    (subst P c.other.ensures put))

@@ -3,8 +3,9 @@ use Rattle.std.specs.Prelude.{[], ◌∷◌, None}
 use Rattle.std.proofs.lemmas.List.{get_or_read}
 use Rattle.block_pool.specs.Slots.{BlocksState, slot, with_chain}
 use Rattle.block_pool.specs.Layout.{held_by}
-use Rattle.block_pool.proofs.LayoutLemmas.{length-slots_of, slot_is, first_free, no_head, begin_sound, begin_slots}
+use Rattle.block_pool.proofs.LayoutLemmas.{first_free, no_head, begin_sound, begin_slots}
 use Rattle.block_pool.proofs.blocks.Blocks.begin.Goals as goal
+use Rattle.block_pool.proofs.LinkLemmas.{length-slots_of, slot_is}
 
 some_free : (c : goal.After-self-4-1) → 0 < c.self.inside.free_len
 some_free c = subst (λ (v : BlocksState). 0 < v.free) (sym c.self.view_is) c.requires
@@ -13,7 +14,8 @@ pub invariant_of-self : goal.invariant_of-self
 invariant_of-self c =
     let s = c.self.inside in
     let first = first_free s.region.items s.next.items s.heads.items s.free s.free_len c.self.invariant (some_free c) in
-    begin_sound s.region.items s.next.items s.heads.items s.free s.free_len c.self.invariant c.args.owner c.args.byte (32 * s.free) c.index.result.now (some_free c)
+    begin_sound s.region.items s.next.items s.heads.items s.free s.free_len c.self.invariant c.args.owner c.args.byte (32 * s.free) c.index.result.now
+    (some_free c)
     (get_or_read s.next.items s.free c.index.result.now (omega (arith, first.0, c.self.invariant.links)) c.index.ensures 0)
 
 pub returns-clause-fits : goal.returns-clause-fits

@@ -16,16 +16,20 @@ pub overflow_sub-left : goal.overflow_sub-left
 overflow_sub-left c =
     let s = c.self.inside in
     let at : get_or s.heads.items c.args.first None ≡ Some c.head_at-head.result = rw c.deref.ensures.value at c.head_at-head.ensures.head in
-    let len_is = len_says s.region.items s.next.items s.heads.items c.args.self.now.slots (ap (λ (v : BlocksState). v.slots) c.self.view_is) c.args.first c.head_at-head.result at in
+    let len_is = len_says s.region.items s.next.items s.heads.items c.args.self.now.slots
+    (ap (λ (v : BlocksState). v.slots) c.self.view_is) c.args.first c.head_at-head.result at in
     omega (arith, len_is, c.requires.in_chain)
 
 pub copy_from-read_on-requires-clause-reached : goal.copy_from-read_on-requires-clause-reached
 copy_from-read_on-requires-clause-reached c =
     let s = c.self.inside in
     let at : get_or s.heads.items c.args.first None ≡ Some c.head_at-head.result = rw c.deref.ensures.value at c.head_at-head.ensures.head in
-    let len_is = len_says s.region.items s.next.items s.heads.items c.args.self.now.slots (ap (λ (v : BlocksState). v.slots) c.self.view_is) c.args.first c.head_at-head.result at in
-    subst (λ (ns : List ℕ). (k : ℕ) → k * 32 < c.args.from + length (take c.min-count.result c.args.out.now) → block_at ns c.args.first k < length ns) (sym c.deref-3.ensures.value)
-    (λ k low. blocks_reached s.region.items s.next.items s.heads.items s.free s.free_len c.self.invariant c.args.self.now.slots (ap (λ (v : BlocksState). v.slots) c.self.view_is) c.args.first c.requires.some k
+    let len_is = len_says s.region.items s.next.items s.heads.items c.args.self.now.slots
+    (ap (λ (v : BlocksState). v.slots) c.self.view_is) c.args.first c.head_at-head.result at in
+    subst (λ (ns : List ℕ). (k : ℕ) → k * 32 < c.args.from + length (take c.min-count.result c.args.out.now) → block_at ns c.args.first k < length ns)
+    (sym c.deref-3.ensures.value)
+    (λ k low. blocks_reached s.region.items s.next.items s.heads.items s.free s.free_len c.self.invariant c.args.self.now.slots
+    (ap (λ (v : BlocksState). v.slots) c.self.view_is) c.args.first c.requires.some k
     (omega (arith, length-take c.min-count.result c.args.out.now, c.min-count.ensures, len_is, c.requires.in_chain)))
 
 pub invariant_of-self : goal.invariant_of-self
@@ -33,26 +37,32 @@ invariant_of-self c =
     let s = c.self.inside in
     let head = c.head_at-head.result in
     let at : get_or s.heads.items c.args.first None ≡ Some head = rw c.deref.ensures.value at c.head_at-head.ensures.head in
-    let copied : length (take c.min-count.result c.args.out.now) ≡ c.min-count.result = omega (arith, length-take c.min-count.result c.args.out.now, c.min-count.ensures) in
+    let copied : length (take c.min-count.result c.args.out.now) ≡ c.min-count.result =
+    omega (arith, length-take c.min-count.result c.args.out.now, c.min-count.ensures) in
     let behind : c.copy_from-read_on.result ≡ block_at s.next.items c.args.first ((c.args.from + c.min-count.result) / 32) =
     rw (c.deref-3.ensures.value, copied) at c.copy_from-read_on.ensures.behind in
     let low : (c.args.from + c.min-count.result) / 32 < blocks_for head.len = omega (arith, c.if-count-left.true) in
-    read_on_sound s.region.items s.next.items s.heads.items s.free s.free_len c.self.invariant c.args.first c.copy_from-read_on.result ((c.args.from + c.min-count.result) / 32) head at low behind
+    read_on_sound s.region.items s.next.items s.heads.items s.free s.free_len c.self.invariant c.args.first c.copy_from-read_on.result
+    ((c.args.from + c.min-count.result) / 32) head at low behind
 
 pub returns-then-count-left-clause-count : goal.returns-then-count-left-clause-count
 returns-then-count-left-clause-count c =
     let s = c.self.inside in
     let at : get_or s.heads.items c.args.first None ≡ Some c.head_at-head.result = rw c.deref.ensures.value at c.head_at-head.ensures.head in
-    let len_is = len_says s.region.items s.next.items s.heads.items c.args.self.now.slots (ap (λ (v : BlocksState). v.slots) c.self.view_is) c.args.first c.head_at-head.result at in
+    let len_is = len_says s.region.items s.next.items s.heads.items c.args.self.now.slots
+    (ap (λ (v : BlocksState). v.slots) c.self.view_is) c.args.first c.head_at-head.result at in
     omega (arith, c.min-count.ensures, len_is)
 
 pub returns-then-count-left-clause-copied : goal.returns-then-count-left-clause-copied
 returns-then-count-left-clause-copied c =
     let s = c.self.inside in
     let at : get_or s.heads.items c.args.first None ≡ Some c.head_at-head.result = rw c.deref.ensures.value at c.head_at-head.ensures.head in
-    let len_is = len_says s.region.items s.next.items s.heads.items c.args.self.now.slots (ap (λ (v : BlocksState). v.slots) c.self.view_is) c.args.first c.head_at-head.result at in
-    copied_out s.region.items s.next.items s.heads.items s.free s.free_len c.self.invariant c.args.self.now.slots (ap (λ (v : BlocksState). v.slots) c.self.view_is) c.args.first c.requires.some
-    c.args.from c.min-count.result c.args.out.now c.copy_from-read_on.new.out c.requires.in_chain (omega (arith, c.min-count.ensures, len_is)) (rw (c.deref-2.ensures.value, c.deref-3.ensures.value) at c.copy_from-read_on.ensures.copied)
+    let len_is = len_says s.region.items s.next.items s.heads.items c.args.self.now.slots
+    (ap (λ (v : BlocksState). v.slots) c.self.view_is) c.args.first c.head_at-head.result at in
+    copied_out s.region.items s.next.items s.heads.items s.free s.free_len c.self.invariant c.args.self.now.slots
+    (ap (λ (v : BlocksState). v.slots) c.self.view_is) c.args.first c.requires.some
+    c.args.from c.min-count.result c.args.out.now c.copy_from-read_on.new.out c.requires.in_chain (omega (arith, c.min-count.ensures, len_is))
+    (rw (c.deref-2.ensures.value, c.deref-3.ensures.value) at c.copy_from-read_on.ensures.copied)
 
 pub returns-then-count-left-clause-unchanged : goal.returns-then-count-left-clause-unchanged
 returns-then-count-left-clause-unchanged c =
@@ -61,7 +71,8 @@ returns-then-count-left-clause-unchanged c =
     let at : get_or s.heads.items c.args.first None ≡ Some head = rw c.deref.ensures.value at c.head_at-head.ensures.head in
     let passed = (c.args.from + c.min-count.result) / 32 in
     let low : c.args.first < length s.heads.items = rw c.deref.ensures.value at c.head_at-head.ensures.low in
-    let slots = read_on_slots s.region.items s.next.items s.heads.items s.free s.free_len c.self.invariant c.args.first c.copy_from-read_on.result passed head at in
+    let slots =
+    read_on_slots s.region.items s.next.items s.heads.items s.free s.free_len c.self.invariant c.args.first c.copy_from-read_on.result passed head at in
     let chains = read_on_chains s.next.items s.heads.items c.args.first c.copy_from-read_on.result passed head low at in
     same_state _ _ _ _ _ _ s.free_len slots chains ∙ c.self.view_is
 
@@ -69,13 +80,17 @@ pub returns-else-count-left-clause-count : goal.returns-else-count-left-clause-c
 returns-else-count-left-clause-count c =
     let s = c.self.inside in
     let at : get_or s.heads.items c.args.first None ≡ Some c.head_at-head.result = rw c.deref.ensures.value at c.head_at-head.ensures.head in
-    let len_is = len_says s.region.items s.next.items s.heads.items c.args.self.now.slots (ap (λ (v : BlocksState). v.slots) c.self.view_is) c.args.first c.head_at-head.result at in
+    let len_is = len_says s.region.items s.next.items s.heads.items c.args.self.now.slots
+    (ap (λ (v : BlocksState). v.slots) c.self.view_is) c.args.first c.head_at-head.result at in
     omega (arith, c.min-count.ensures, len_is)
 
 pub returns-else-count-left-clause-copied : goal.returns-else-count-left-clause-copied
 returns-else-count-left-clause-copied c =
     let s = c.self.inside in
     let at : get_or s.heads.items c.args.first None ≡ Some c.head_at-head.result = rw c.deref.ensures.value at c.head_at-head.ensures.head in
-    let len_is = len_says s.region.items s.next.items s.heads.items c.args.self.now.slots (ap (λ (v : BlocksState). v.slots) c.self.view_is) c.args.first c.head_at-head.result at in
-    copied_out s.region.items s.next.items s.heads.items s.free s.free_len c.self.invariant c.args.self.now.slots (ap (λ (v : BlocksState). v.slots) c.self.view_is) c.args.first c.requires.some
-    c.args.from c.min-count.result c.args.out.now c.copy_from-read_on.new.out c.requires.in_chain (omega (arith, c.min-count.ensures, len_is)) (rw (c.deref-2.ensures.value, c.deref-3.ensures.value) at c.copy_from-read_on.ensures.copied)
+    let len_is = len_says s.region.items s.next.items s.heads.items c.args.self.now.slots
+    (ap (λ (v : BlocksState). v.slots) c.self.view_is) c.args.first c.head_at-head.result at in
+    copied_out s.region.items s.next.items s.heads.items s.free s.free_len c.self.invariant c.args.self.now.slots
+    (ap (λ (v : BlocksState). v.slots) c.self.view_is) c.args.first c.requires.some
+    c.args.from c.min-count.result c.args.out.now c.copy_from-read_on.new.out c.requires.in_chain (omega (arith, c.min-count.ensures, len_is))
+    (rw (c.deref-2.ensures.value, c.deref-3.ensures.value) at c.copy_from-read_on.ensures.copied)

@@ -17,8 +17,10 @@ loop-byte-preserved c =
     let so_far = front ++ take i c.args.bytes.now in
     let low = slot_low old b c.requires.some in
     let owner_is : owner_of now b ≡ owner = ap (λ (ss : List (Option Held)). owner_of ss b) c.loop-byte.invariant.0 ∙ owner_of-put old b owner so_far low in
-    let bytes_are : held_bytes now b ≡ so_far = ap (λ (ss : List (Option Held)). held_bytes ss b) c.loop-byte.invariant.0 ∙ bytes_of-put old b owner so_far low in
-    let len : length (held_bytes now b) ≡ length front + i = ap length bytes_are ∙ (length-append front (take i c.args.bytes.now) ∙ omega (arith, length-take i c.args.bytes.now)) in
+    let bytes_are : held_bytes now b ≡ so_far = ap (λ (ss : List (Option Held)). held_bytes ss b) c.loop-byte.invariant.0
+    ∙ bytes_of-put old b owner so_far low in
+    let len : length (held_bytes now b) ≡ length front + i = ap length bytes_are
+    ∙ (length-append front (take i c.args.bytes.now) ∙ omega (arith, length-take i c.args.bytes.now)) in
     let joined : so_far ++ byte ∷ [] ≡ front ++ take (i + 1) c.args.bytes.now =
     append_assoc front (take i c.args.bytes.now) (byte ∷ []) ∙ ap (λ bs. front ++ bs) (sym (take_more c.args.bytes.now i 0 c.loop-byte-test.true)) in (
       c.push.ensures.slots

@@ -6,4 +6,5 @@ use Rattle.block_pool.proofs.blocks.Blocks.extend.Given as goal
 abbrev pub invariant-loop-byte : goal.invariant-loop-byte
 invariant-loop-byte l =
     (l.self.slots ≡ with_chain l.fn.self.slots l.first (owner_of l.fn.self.slots l.first) (held_bytes l.fn.self.slots l.first ++ take l.byte-index l.bytes))
-    × (l.self.free + blocks_for (length (held_bytes l.fn.self.slots l.first) + l.byte-index) ≡ l.fn.self.free + blocks_for (length (held_bytes l.fn.self.slots l.first)))
+    × (l.self.free + blocks_for (length (held_bytes l.fn.self.slots l.first) + l.byte-index)
+    ≡ l.fn.self.free + blocks_for (length (held_bytes l.fn.self.slots l.first)))

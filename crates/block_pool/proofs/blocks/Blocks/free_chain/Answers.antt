@@ -16,7 +16,8 @@ index_mut-requires c =
     let s = c.self.inside in
     let head = c.head_at-head.result in
     let at : get_or s.heads.items c.args.first None ≡ Some head = rw c.deref.ensures.value at c.head_at-head.ensures.head in
-    omega (arith, last_in s.region.items s.next.items s.heads.items s.free s.free_len c.self.invariant c.args.first head at, c.self.invariant.links, s.next.ok.0)
+    omega
+    (arith, last_in s.region.items s.next.items s.heads.items s.free s.free_len c.self.invariant c.args.first head at, c.self.invariant.links, s.next.ok.0)
 
 pub overflow_cast-self : goal.overflow_cast-self
 overflow_cast-self c =
@@ -46,7 +47,9 @@ invariant_of-self c =
     let head = c.head_at-head.result in
     let at : get_or s.heads.items c.args.first None ≡ Some head = rw c.deref.ensures.value at c.head_at-head.ensures.head in
     let blocks : c.div_ceil.result ≡ blocks_for head.len = blocks_is c.div_ceil.result head.len c.div_ceil.ensures in
-    subst (λ n. AreSoundBlocks s.region.items (slice_set s.next.items head.last s.free) (slice_set s.heads.items c.args.first None) c.args.first (s.free_len + n)) (sym blocks)
+    subst
+    (λ n. AreSoundBlocks s.region.items (slice_set s.next.items head.last s.free) (slice_set s.heads.items c.args.first None) c.args.first (s.free_len + n))
+    (sym blocks)
     (free_chain_sound s.region.items s.next.items s.heads.items s.free s.free_len c.self.invariant c.args.first head at)
 
 pub returns-clause-slots : goal.returns-clause-slots
@@ -54,7 +57,8 @@ returns-clause-slots c =
     let s = c.self.inside in
     let head = c.head_at-head.result in
     let at : get_or s.heads.items c.args.first None ≡ Some head = rw c.deref.ensures.value at c.head_at-head.ensures.head in
-    free_chain_slots s.region.items s.next.items s.heads.items s.free s.free_len c.self.invariant c.args.first head at ∙ ap (λ (v : BlocksState). slice_set v.slots c.args.first None) c.self.view_is
+    free_chain_slots s.region.items s.next.items s.heads.items s.free s.free_len c.self.invariant c.args.first head at
+    ∙ ap (λ (v : BlocksState). slice_set v.slots c.args.first None) c.self.view_is
 
 pub returns-clause-free : goal.returns-clause-free
 returns-clause-free c =

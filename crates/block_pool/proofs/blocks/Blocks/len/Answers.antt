@@ -14,4 +14,5 @@ pub returns : goal.returns
 returns c =
     let s = c.self.inside in
     let at : get_or s.heads.items c.args.first None ≡ Some c.head_at.result = rw c.deref.ensures.value at c.head_at.ensures.head in
-    sym (len_says s.region.items s.next.items s.heads.items c.args.self.now.slots (ap (λ (v : BlocksState). v.slots) c.self.view_is) c.args.first c.head_at.result at)
+    sym (len_says s.region.items s.next.items s.heads.items c.args.self.now.slots
+    (ap (λ (v : BlocksState). v.slots) c.self.view_is) c.args.first c.head_at.result at)

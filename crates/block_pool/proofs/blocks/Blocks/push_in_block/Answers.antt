@@ -9,14 +9,20 @@ pub head_at-head-requires : goal.head_at-head-requires
 head_at-head-requires c =
     let s = c.self.inside in
     subst (λ hs. IsSome (get_or hs c.args.first None)) (sym c.deref.ensures.value)
-    (has_head s.region.items s.next.items s.heads.items c.args.self.now.slots (ap (λ (v : BlocksState). v.slots) c.self.view_is) c.args.first (let r = c.requires.room in omega arith))
+    (has_head s.region.items s.next.items s.heads.items c.args.self.now.slots (ap (λ (v : BlocksState). v.slots) c.self.view_is) c.args.first
+    (let r = c.requires.room in omega arith))
 
 pub index_mut-requires : goal.index_mut-requires
 index_mut-requires c =
     let s = c.self.inside in
     let head = c.head_at-head.result in
     let at : get_or s.heads.items c.args.first None ≡ Some head = rw c.deref.ensures.value at c.head_at-head.ensures.head in
-    omega (arith, last_in s.region.items s.next.items s.heads.items s.free s.free_len c.self.invariant c.args.first head at, c.self.invariant.bytes, s.region.ok.0)
+    omega (
+      arith,
+      last_in s.region.items s.next.items s.heads.items s.free s.free_len c.self.invariant c.args.first head at,
+      c.self.invariant.bytes,
+      s.region.ok.0,
+    )
 
 pub overflow_add-head : goal.overflow_add-head
 overflow_add-head c =
@@ -34,7 +40,8 @@ invariant_of-self c =
     let at : get_or s.heads.items c.args.first None ≡ Some head = rw c.deref.ensures.value at c.head_at-head.ensures.head in
     let view : slots_of s.region.items s.next.items s.heads.items ≡ c.args.self.now.slots = ap (λ (v : BlocksState). v.slots) c.self.view_is in
     let len_is = len_says s.region.items s.next.items s.heads.items c.args.self.now.slots view c.args.first head at in
-    push_in_block_sound s.region.items s.next.items s.heads.items s.free s.free_len c.self.invariant c.args.first head (32 * head.last + head.len % 32) c.args.byte at (let r = c.requires.room in subst (λ n. 0 < n % 32) len_is r)
+    push_in_block_sound s.region.items s.next.items s.heads.items s.free s.free_len c.self.invariant c.args.first head
+    (32 * head.last + head.len % 32) c.args.byte at (let r = c.requires.room in subst (λ n. 0 < n % 32) len_is r)
 
 pub returns-clause-slots : goal.returns-clause-slots
 returns-clause-slots c =
@@ -45,7 +52,8 @@ returns-clause-slots c =
     let len_is = len_says s.region.items s.next.items s.heads.items c.args.self.now.slots view c.args.first head at in
     let bytes_are = bytes_say s.region.items s.next.items s.heads.items c.args.self.now.slots view c.args.first head at in
     let owner_is = owner_says s.region.items s.next.items s.heads.items c.args.self.now.slots view c.args.first head at in
-    push_in_block_slots s.region.items s.next.items s.heads.items s.free s.free_len c.self.invariant c.args.first head c.args.byte at (let r = c.requires.room in subst (λ n. 0 < n % 32) len_is r)
+    push_in_block_slots s.region.items s.next.items s.heads.items s.free s.free_len c.self.invariant c.args.first head c.args.byte at
+    (let r = c.requires.room in subst (λ n. 0 < n % 32) len_is r)
     ∙ (ap (λ ss. with_chain ss c.args.first head.owner (laid_bytes s.region.items s.next.items c.args.first head.len ++ c.args.byte ∷ [])) view
     ∙ (ap (λ bs. with_chain c.args.self.now.slots c.args.first head.owner (bs ++ c.args.byte ∷ [])) (sym bytes_are)
     ∙ ap (λ o. with_chain c.args.self.now.slots c.args.first o (held_bytes c.args.self.now.slots c.args.first ++ c.args.byte ∷ [])) (sym owner_is)))

@@ -17,7 +17,8 @@ index_mut-requires c =
     let s = c.self.inside in
     let head = c.head_at-head.result in
     let at : get_or s.heads.items c.args.first None ≡ Some head = rw c.deref.ensures.value at c.head_at-head.ensures.head in
-    omega (arith, last_in s.region.items s.next.items s.heads.items s.free s.free_len c.self.invariant c.args.first head at, c.self.invariant.links, s.next.ok.0)
+    omega
+    (arith, last_in s.region.items s.next.items s.heads.items s.free s.free_len c.self.invariant c.args.first head at, c.self.invariant.links, s.next.ok.0)
 
 pub overflow_add-head : goal.overflow_add-head
 overflow_add-head c =
@@ -38,7 +39,8 @@ invariant_of-self c =
     let some : 0 < s.free_len = subst (λ (v : BlocksState). 0 < v.free) (sym c.self.view_is) c.requires.free in
     let full : head.len % 32 ≡ 0 = subst (λ n. n % 32 ≡ 0) len_is c.requires.full in
     let first = first_free s.region.items s.next.items s.heads.items s.free s.free_len c.self.invariant some in
-    push_in_new_block_sound s.region.items s.next.items s.heads.items s.free s.free_len c.self.invariant c.args.first head (32 * s.free) c.args.byte c.index.result.now at full some
+    push_in_new_block_sound s.region.items s.next.items s.heads.items s.free s.free_len c.self.invariant c.args.first head
+    (32 * s.free) c.args.byte c.index.result.now at full some
     (get_or_read s.next.items s.free c.index.result.now (omega (arith, first.0, c.self.invariant.links)) c.index.ensures 0)
 
 pub returns-clause-slots : goal.returns-clause-slots

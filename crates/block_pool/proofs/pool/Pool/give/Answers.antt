@@ -13,7 +13,8 @@ overflow_cast-need c =
     let s = c.self.inside in
     let pool : PoolState = record { slots = s.blocks.slots; owners = s.owners.items; places = s.blocks.places } in
     let live = subst (λ (v : PoolState). IsLive v c.args.chain) (sym c.self.view_is) c.requires in
-    let len : c.len.result ≡ length (named_bytes pool.slots c.args.chain.first) = c.len.ensures ∙ ap (λ (v : PoolState). length (named_bytes v.slots c.args.chain.first)) (sym c.self.view_is) in
+    let len : c.len.result ≡ length (named_bytes pool.slots c.args.chain.first) = c.len.ensures
+    ∙ ap (λ (v : PoolState). length (named_bytes v.slots c.args.chain.first)) (sym c.self.view_is) in
     let low = chain_low pool c.self.invariant.0 c.args.chain.owner live.0 c.args.chain.first live.1 in
     let few = used_low pool c.self.invariant.0 c.args.chain.owner live.0 in
     (blocks_fit c.div_ceil-need.result 0 c.len.result c.div_ceil-need.ensures (omega (arith, low, few, len))).0
@@ -23,7 +24,8 @@ overflow_sub-old c =
     let s = c.self.inside in
     let pool : PoolState = record { slots = s.blocks.slots; owners = s.owners.items; places = s.blocks.places } in
     let live = subst (λ (v : PoolState). IsLive v c.args.chain) (sym c.self.view_is) c.requires in
-    let len : c.len.result ≡ length (named_bytes pool.slots c.args.chain.first) = c.len.ensures ∙ ap (λ (v : PoolState). length (named_bytes v.slots c.args.chain.first)) (sym c.self.view_is) in
+    let len : c.len.result ≡ length (named_bytes pool.slots c.args.chain.first) = c.len.ensures
+    ∙ ap (λ (v : PoolState). length (named_bytes v.slots c.args.chain.first)) (sym c.self.view_is) in
     let low = chain_low pool c.self.invariant.0 c.args.chain.owner live.0 c.args.chain.first live.1 in
     let old_is = get_or_read s.owners.items c.args.chain.owner c.index-old.result.now live.0 c.index-old.ensures (record { quota = 0; used = 0; aside = 0 }) in
     omega (arith, low, len, blocks_is c.div_ceil-need.result c.len.result c.div_ceil-need.ensures, ap (λ (x : Owner). x.used) old_is)
@@ -45,7 +47,9 @@ invariant_of-self c =
     let s = c.self.inside in
     let pool : PoolState = record { slots = s.blocks.slots; owners = s.owners.items; places = s.blocks.places } in
     let live = subst (λ (v : PoolState). IsLive v c.args.chain) (sym c.self.view_is) c.requires in
-    let len : c.len.result ≡ length (named_bytes pool.slots c.args.chain.first) = c.len.ensures ∙ ap (λ (v : PoolState). length (named_bytes v.slots c.args.chain.first)) (sym c.self.view_is) in
-    given_counted pool c.self.invariant.0 s.blocks.free c.self.invariant.1 c.args.chain.owner live.0 c.args.chain.first c.free_all.new.blocks.slots c.free_all.new.blocks.free c.div_ceil-need.result c.index-old.result.now
+    let len : c.len.result ≡ length (named_bytes pool.slots c.args.chain.first) = c.len.ensures
+    ∙ ap (λ (v : PoolState). length (named_bytes v.slots c.args.chain.first)) (sym c.self.view_is) in
+    given_counted pool c.self.invariant.0 s.blocks.free c.self.invariant.1 c.args.chain.owner live.0 c.args.chain.first c.free_all.new.blocks.slots
+    c.free_all.new.blocks.free c.div_ceil-need.result c.index-old.result.now
     live.1 c.free_all.ensures.slots c.free_all.ensures.free (blocks_is c.div_ceil-need.result c.len.result c.div_ceil-need.ensures ∙ ap blocks_for len)
     (get_or_read s.owners.items c.args.chain.owner c.index-old.result.now live.0 c.index-old.ensures (record { quota = 0; used = 0; aside = 0 }))

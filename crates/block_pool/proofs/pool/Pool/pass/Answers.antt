@@ -14,7 +14,8 @@ overflow_cast-need c =
     let s = c.self.inside in
     let pool : PoolState = record { slots = s.blocks.slots; owners = s.owners.items; places = s.blocks.places } in
     let live = subst (λ (v : PoolState). IsLive v c.args.chain.now) (sym c.self.view_is) c.requires.live in
-    let len : c.len.result ≡ length (named_bytes pool.slots c.args.chain.now.first) = c.len.ensures ∙ ap (λ (v : PoolState). length (named_bytes v.slots c.args.chain.now.first)) (sym c.self.view_is) in
+    let len : c.len.result ≡ length (named_bytes pool.slots c.args.chain.now.first) = c.len.ensures
+    ∙ ap (λ (v : PoolState). length (named_bytes v.slots c.args.chain.now.first)) (sym c.self.view_is) in
     let low = chain_low pool c.self.invariant.0 c.args.chain.now.owner live.0 c.args.chain.now.first live.1 in
     let few = used_low pool c.self.invariant.0 c.args.chain.now.owner live.0 in
     (blocks_fit c.div_ceil-need.result 0 c.len.result c.div_ceil-need.ensures (omega (arith, low, few, len))).0
@@ -24,9 +25,11 @@ overflow_sub-before c =
     let s = c.self.inside in
     let pool : PoolState = record { slots = s.blocks.slots; owners = s.owners.items; places = s.blocks.places } in
     let live = subst (λ (v : PoolState). IsLive v c.args.chain.now) (sym c.self.view_is) c.requires.live in
-    let len : c.len.result ≡ length (named_bytes pool.slots c.args.chain.now.first) = c.len.ensures ∙ ap (λ (v : PoolState). length (named_bytes v.slots c.args.chain.now.first)) (sym c.self.view_is) in
+    let len : c.len.result ≡ length (named_bytes pool.slots c.args.chain.now.first) = c.len.ensures
+    ∙ ap (λ (v : PoolState). length (named_bytes v.slots c.args.chain.now.first)) (sym c.self.view_is) in
     let low = chain_low pool c.self.invariant.0 c.args.chain.now.owner live.0 c.args.chain.now.first live.1 in
-    let old_is = get_or_read s.owners.items c.args.chain.now.owner c.index-before.result.now live.0 c.index-before.ensures (record { quota = 0; used = 0; aside = 0 }) in
+    let old_is =
+    get_or_read s.owners.items c.args.chain.now.owner c.index-before.result.now live.0 c.index-before.ensures (record { quota = 0; used = 0; aside = 0 }) in
     omega (arith, low, len, blocks_is c.div_ceil-need.result c.len.result c.div_ceil-need.ensures, ap (λ (x : Owner). x.used) old_is)
 
 pub invariant_of-self : goal.invariant_of-self
@@ -37,14 +40,28 @@ invariant_of-self c =
     let q = c.args.owner in
     let live = subst (λ (v : PoolState). IsLive v chain) (sym c.self.view_is) c.requires.live in
     let other : q < length s.owners.items = subst (λ (v : PoolState). q < length v.owners) (sym c.self.view_is) c.requires.quota in
-    let len : c.len.result ≡ length (named_bytes pool.slots chain.first) = c.len.ensures ∙ ap (λ (v : PoolState). length (named_bytes v.slots chain.first)) (sym c.self.view_is) in
+    let len : c.len.result ≡ length (named_bytes pool.slots chain.first) = c.len.ensures
+    ∙ ap (λ (v : PoolState). length (named_bytes v.slots chain.first)) (sym c.self.view_is) in
     let spare : c.spare-spare.result ≡ spare_of pool q = c.spare-spare.ensures.spare ∙ ap (λ (v : PoolState). spare_of v q) (sym c.self.view_is) in
     let old = c.index-before.result.now in
     let lowered : Owner = record { quota = old.quota; used = old.used - c.div_ceil-need.result; aside = old.aside } in
-    subst (λ (n : ℕ). AreCounted c.hand_over.new.blocks.slots (set (set s.owners.items chain.owner lowered) q (record { quota = c.index-after.result.now.quota; used = c.index-after.result.now.used + c.div_ceil-need.result; aside = c.index-after.result.now.aside }))
-    × AreFree (set (set s.owners.items chain.owner lowered) q (record { quota = c.index-after.result.now.quota; used = c.index-after.result.now.used + c.div_ceil-need.result; aside = c.index-after.result.now.aside })) n)
+    subst (λ (n : ℕ). AreCounted c.hand_over.new.blocks.slots (set (set s.owners.items chain.owner lowered) q (record {
+      quota =
+          c.index-after.result.now.quota;
+      used = c.index-after.result.now.used + c.div_ceil-need.result;
+      aside = c.index-after.result.now.aside;
+    }))
+    × AreFree (set (set s.owners.items chain.owner lowered) q (record {
+      quota = c.index-after.result.now.quota;
+      used =
+          c.index-after.result.now.used + c.div_ceil-need.result;
+      aside = c.index-after.result.now.aside;
+    })) n)
     (sym c.hand_over.ensures.free)
-    (passed_counted pool c.self.invariant.0 s.blocks.free c.self.invariant.1 chain.owner q live.0 other chain.first c.hand_over.new.blocks.slots c.div_ceil-need.result old c.index-after.result.now
-    live.1 c.hand_over.ensures.slots (blocks_is c.div_ceil-need.result c.len.result c.div_ceil-need.ensures ∙ ap blocks_for len) (omega (arith, spare, c.if-need-spare.false))
+    (passed_counted pool c.self.invariant.0 s.blocks.free c.self.invariant.1 chain.owner q live.0 other chain.first c.hand_over.new.blocks.slots
+    c.div_ceil-need.result old c.index-after.result.now
+    live.1 c.hand_over.ensures.slots (blocks_is c.div_ceil-need.result c.len.result c.div_ceil-need.ensures ∙ ap blocks_for len)
+    (omega (arith, spare, c.if-need-spare.false))
     (get_or_read s.owners.items chain.owner old live.0 c.index-before.ensures (record { quota = 0; used = 0; aside = 0 }))
-    (get_or_read (set s.owners.items chain.owner lowered) q c.index-after.result.now (omega (arith, other, length-set s.owners.items chain.owner lowered)) c.index-after.ensures (record { quota = 0; used = 0; aside = 0 })))
+    (get_or_read (set s.owners.items chain.owner lowered) q c.index-after.result.now
+    (omega (arith, other, length-set s.owners.items chain.owner lowered)) c.index-after.ensures (record { quota = 0; used = 0; aside = 0 })))

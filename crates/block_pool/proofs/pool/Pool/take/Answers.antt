@@ -13,8 +13,10 @@ append-requires-clause-room c =
     let pool : PoolState = record { slots = s.blocks.slots; owners = s.owners.items; places = s.blocks.places } in
     let chain = c.args.chain.now in
     let live = subst (λ (v : PoolState). IsLive v chain) (sym c.self.view_is) c.requires in
-    let len : c.len-len.result ≡ length (named_bytes pool.slots chain.first) = c.len-len.ensures ∙ ap (λ (v : PoolState). length (named_bytes v.slots chain.first)) (sym c.self.view_is) in
-    let spare : c.spare-spare.result ≡ spare_of pool chain.owner = c.spare-spare.ensures.spare ∙ ap (λ (v : PoolState). spare_of v chain.owner) (sym c.self.view_is) in
+    let len : c.len-len.result ≡ length (named_bytes pool.slots chain.first) = c.len-len.ensures
+    ∙ ap (λ (v : PoolState). length (named_bytes v.slots chain.first)) (sym c.self.view_is) in
+    let spare : c.spare-spare.result ≡ spare_of pool chain.owner = c.spare-spare.ensures.spare
+    ∙ ap (λ (v : PoolState). spare_of v chain.owner) (sym c.self.view_is) in
     let all = blocks_is c.div_ceil.result (c.len-len.result + length c.args.bytes.now) c.div_ceil.ensures in
     let had = blocks_is c.div_ceil-2.result c.len-len.result c.div_ceil-2.ensures in
     let enough = enough_free pool c.self.invariant.0 chain.owner live.0 s.blocks.free c.self.invariant.1 in
@@ -27,12 +29,17 @@ invariant_of-self c =
     let pool : PoolState = record { slots = s.blocks.slots; owners = s.owners.items; places = s.blocks.places } in
     let chain = c.args.chain.now in
     let live = subst (λ (v : PoolState). IsLive v chain) (sym c.self.view_is) c.requires in
-    let len : c.len-len.result ≡ length (named_bytes pool.slots chain.first) = c.len-len.ensures ∙ ap (λ (v : PoolState). length (named_bytes v.slots chain.first)) (sym c.self.view_is) in
-    let spare : c.spare-spare.result ≡ spare_of pool chain.owner = c.spare-spare.ensures.spare ∙ ap (λ (v : PoolState). spare_of v chain.owner) (sym c.self.view_is) in
+    let len : c.len-len.result ≡ length (named_bytes pool.slots chain.first) = c.len-len.ensures
+    ∙ ap (λ (v : PoolState). length (named_bytes v.slots chain.first)) (sym c.self.view_is) in
+    let spare : c.spare-spare.result ≡ spare_of pool chain.owner = c.spare-spare.ensures.spare
+    ∙ ap (λ (v : PoolState). spare_of v chain.owner) (sym c.self.view_is) in
     let all = blocks_is c.div_ceil.result (c.len-len.result + length c.args.bytes.now) c.div_ceil.ensures in
     let had = blocks_is c.div_ceil-2.result c.len-len.result c.div_ceil-2.ensures in
-    let more : c.div_ceil.result - c.div_ceil-2.result ≡ blocks_for (length (named_bytes pool.slots chain.first) + length c.args.bytes.now) - blocks_for (length (named_bytes pool.slots chain.first)) =
+    let more : c.div_ceil.result - c.div_ceil-2.result
+    ≡ blocks_for (length (named_bytes pool.slots chain.first) + length c.args.bytes.now) - blocks_for (length (named_bytes pool.slots chain.first)) =
     subst (λ n. c.div_ceil.result - c.div_ceil-2.result ≡ blocks_for (n + length c.args.bytes.now) - blocks_for n) len (omega (arith, all, had)) in
-    taken_counted pool c.self.invariant.0 s.blocks.free c.self.invariant.1 chain.owner live.0 chain.first c.args.bytes.now c.append.new.chain.first c.append.new.blocks.slots c.append.new.blocks.free (c.div_ceil.result - c.div_ceil-2.result) c.index-old.result.now
+    taken_counted pool c.self.invariant.0 s.blocks.free c.self.invariant.1 chain.owner live.0 chain.first c.args.bytes.now c.append.new.chain.first
+    c.append.new.blocks.slots c.append.new.blocks.free
+    (c.div_ceil.result - c.div_ceil-2.result) c.index-old.result.now
     live.1 c.append.ensures.name c.append.ensures.slots c.append.ensures.free more (omega (arith, spare, c.if-need-spare.false))
     (get_or_read s.owners.items chain.owner c.index-old.result.now live.0 c.index-old.ensures (record { quota = 0; used = 0; aside = 0 }))

@@ -13,8 +13,10 @@ returns-in-Ok-clause-made g c = λ not_spent.
     let old = c.args.self.now in
     let room = c.in-Ok.ensures in
     let body_is = c.write_command-body.ensures.body in
-    commit_made g.N.Nv.writes old.journal.state old.tables (body_of c.args.command.now) c.as_slice.result.now c.as_slice-in-Ok.result.now c.make_room.new.self.journal.state
-    old.journal.nv c.make_room.new.self.journal.nv _ c.keep.new.self.journal.nv (c.as_slice.ensures.value ∙ body_is) (c.as_slice-in-Ok.ensures.value ∙ body_is) room.state
+    commit_made g.N.Nv.writes old.journal.state old.tables
+    (body_of c.args.command.now) c.as_slice.result.now c.as_slice-in-Ok.result.now c.make_room.new.self.journal.state
+    old.journal.nv c.make_room.new.self.journal.nv _ c.keep.new.self.journal.nv (c.as_slice.ensures.value ∙ body_is)
+    (c.as_slice-in-Ok.ensures.value ∙ body_is) room.state
     (room.made (λ e. cc)) c.keep.ensures.made
 
 pub returns-in-Err-clause-made : goal.returns-in-Err-clause-made

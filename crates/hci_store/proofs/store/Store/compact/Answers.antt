@@ -17,7 +17,8 @@ invariant_of-self g c =
       holds = λ live tells.
           holds_by c.compact.result c.compact.new.self.live (HoldsTables (content c.compact.new.self.nv) k.tables)
           (on_ok c.compact.result _ _ (made.records tells)
-          (λ is. holds_snapshot (content c.compact.new.self.nv) k.tables c.self.invariant.recordable c.snapshot_of-snapshot.ensures.tables (is ∙ c.snapshot_of-snapshot.ensures.records)))
+          (λ is. holds_snapshot (content c.compact.new.self.nv) k.tables c.self.invariant.recordable c.snapshot_of-snapshot.ensures.tables
+          (is ∙ c.snapshot_of-snapshot.ensures.records)))
           made.fault made.dead
           (λ spent. rw (made.unchanged spent) (c.self.invariant.holds (rw (← c.self.view_is) at c.requires.live) tells)) live;
     }
@@ -34,7 +35,8 @@ returns-clause-holds g c tells =
     let k = c.self.inside in
     let content = g.N.Nv.content in
     on_ok c.compact.result _ _ (c.compact.ensures.records tells)
-    (λ is. holds_snapshot (content c.compact.new.self.nv) k.tables c.self.invariant.recordable c.snapshot_of-snapshot.ensures.tables (is ∙ c.snapshot_of-snapshot.ensures.records))
+    (λ is. holds_snapshot (content c.compact.new.self.nv) k.tables c.self.invariant.recordable c.snapshot_of-snapshot.ensures.tables
+    (is ∙ c.snapshot_of-snapshot.ensures.records))
 
 pub returns-clause-cut : goal.returns-clause-cut
 returns-clause-cut g c = λ tells failed.
@@ -44,4 +46,6 @@ returns-clause-cut g c = λ tells failed.
     rw (← c.self.view_is)
     (compact_left (g.N.Nv.content k.journal.nv) (g.N.Nv.content c.compact.new.self.nv) k.journal.state k.tables (made.said tells)
     (c.self.invariant.holds (rw (← c.self.view_is) at c.requires.live) tells) c.snapshot_of-snapshot.result
-    (rw (← c.self.view_is) at c.requires.started) (omega (arith, c.generation.type_inv, c.generation.ensures, c.if-generation.false)) c.self.invariant.recordable bodies.tables bodies.records bodies.room (made.cut tells failed))
+    (rw (← c.self.view_is) at c.requires.started)
+    (omega (arith, c.generation.type_inv, c.generation.ensures, c.if-generation.false)) c.self.invariant.recordable bodies.tables bodies.records bodies.room
+    (made.cut tells failed))

@@ -19,7 +19,8 @@ returns-then-len-gt-MAX_MESSAGE-clause-used c =
     let same = c.take_out.ensures.pool in
     let same_owner = c.take_out.ensures.owner in
     let cleared : done.new.pool.owners ≡ with_used c.give.new.self.owners owner (used_of c.give.new.self owner - held_blocks c.give.new.self left.open.items) =
-    done.ensures.used ∙ ap (λ (o : ℕ). with_used c.give.new.self.owners o (used_of c.give.new.self o - held_blocks c.give.new.self left.open.items)) same_owner in
+    done.ensures.used
+    ∙ ap (λ (o : ℕ). with_used c.give.new.self.owners o (used_of c.give.new.self o - held_blocks c.give.new.self left.open.items)) same_owner in
     let given = all_given pool c.give.new.self done.new.pool owner chain left.open.items c.requires.has_quota out.owned
     (subst (λ (o : ℕ). HoldsChains pool o left.open.items) same_owner out.holds)
     (all_map (λ x. (x.pipe ≢ c.args.packet.now.pipe) × IsApart x.chain chain) (λ x. IsApart x.chain chain) left.open.items (λ x a. a.1) out.apart)
@@ -55,6 +56,7 @@ returns-then-len-gt-MAX_MESSAGE-clause-ready c none =
     let owner = c.args.self.now.owner in
     let empty : done.new.self.open.items ++ whole_in done.result ≡ [] =
     ap (λ (ys : List Open). ys ++ whole_in done.result) done.ensures.«open» ∙ none in
-    ready_again c.args.pool.now done.new.pool c.args.self.now done.new.self (whole_in done.result) c.requires (done.ensures.owner ∙ c.take_out.ensures.owner) none
+    ready_again c.args.pool.now done.new.pool c.args.self.now done.new.self (whole_in done.result) c.requires
+    (done.ensures.owner ∙ c.take_out.ensures.owner) none
     (subst (HoldsChains done.new.pool owner) (sym empty) (record { own = tt; apart = tt }))
     (returns-then-len-gt-MAX_MESSAGE-clause-used c)

@@ -9,12 +9,14 @@ end_link-ended-requires c =
     let m = c.requires.stands.0 in
     let h = c.requires.stands.1 in (
       record m { role = role_after m.role c.args.event.now },
-      with_role c.args.pool.now k c.step-out.new.self m (role_after m.role c.args.event.now) (c.step-out.ensures.role ∙ ap (λ r. role_after r c.args.event.now) h.half.role) h,
+      with_role c.args.pool.now k c.step-out.new.self m (role_after m.role c.args.event.now)
+          (c.step-out.ensures.role ∙ ap (λ r. role_after r c.args.event.now) h.half.role) h,
     )
 
 pub returns-clause-stands : goal.returns-clause-stands
 returns-clause-stands c m h =
-    event_stands c.args.pool.now c.end_link-ended.new.pool c.args.self.now c.end_link-ended.new.self c.make_act.new.self c.step-out.new.self m c.args.event.now c.step-out.result h
+    event_stands c.args.pool.now c.end_link-ended.new.pool c.args.self.now c.end_link-ended.new.self c.make_act.new.self c.step-out.new.self m
+    c.args.event.now c.step-out.result h
     c.step-out.ensures.role c.step-out.ensures.out c.end_link-ended.ensures.stands c.make_act.ensures.stands
 
 pub returns-clause-answer : goal.returns-clause-answer

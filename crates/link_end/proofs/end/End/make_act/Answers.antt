@@ -10,4 +10,5 @@ pub returns-in-Some-clause-stands : goal.returns-in-Some-clause-stands
 returns-in-Some-clause-stands c pool m h =
     let k = c.args.self.now in
     let P : Option Act → Type 0 = λ o. EndStandsFor (record k { acts = c.push.new.self }) pool (with_act o m) in
-    subst P (sym c.in-Some.is) (act_made pool k c.push.new.self c.in-Some.frame c.controls_due-behind.result m c.push.ensures.items c.controls_due-behind.ensures.value h)
+    subst P (sym c.in-Some.is)
+    (act_made pool k c.push.new.self c.in-Some.frame c.controls_due-behind.result m c.push.ensures.items c.controls_due-behind.ensures.value h)

@@ -11,10 +11,12 @@ returns-in-Some-clause-answer c pool m h =
 
 pub returns-in-None-clause-stands : goal.returns-in-None-clause-stands
 returns-in-None-clause-stands c pool m h =
-    (link_sent pool c.args.self.now c.next_out.new.self c.bring_nearer.new.acts c.take_front.new.acts.items m c.next_out.result h c.in-None.ensures.act c.in-None.ensures.rest c.bring_nearer.ensures
+    (link_sent pool c.args.self.now c.next_out.new.self c.bring_nearer.new.acts c.take_front.new.acts.items m c.next_out.result h c.in-None.ensures.act
+    c.in-None.ensures.rest c.bring_nearer.ensures
     c.next_out.ensures.frame c.next_out.ensures.stands).1
 
 pub returns-in-None-clause-answer : goal.returns-in-None-clause-answer
 returns-in-None-clause-answer c pool m h =
-    (link_sent pool c.args.self.now c.next_out.new.self c.bring_nearer.new.acts c.take_front.new.acts.items m c.next_out.result h c.in-None.ensures.act c.in-None.ensures.rest c.bring_nearer.ensures
+    (link_sent pool c.args.self.now c.next_out.new.self c.bring_nearer.new.acts c.take_front.new.acts.items m c.next_out.result h c.in-None.ensures.act
+    c.in-None.ensures.rest c.bring_nearer.ensures
     c.next_out.ensures.frame c.next_out.ensures.stands).0

@@ -18,22 +18,27 @@ returns-then-len-gt-MAX_MESSAGE-clause-stands c m h =
     let x : Message = (c.args.pipe, chain_bytes c.args.pool.now c.args.chain) in
     let up : m.shdlc.phase ≡ Up = sym h.half.link.kept.phase ∙ c.requires.up in
     let P : LinkEnd → Type 0 = λ y. EndStandsFor c.args.self.now c.args.pool.now y in
-    subst P (sym (refusal_stays m x (TooLong (length x.1)) (refused_long m x up (let l = c.len-len.ensures in omega (arith, l, c.if-len-gt-MAX_MESSAGE.true))))) h
+    subst P
+    (sym (refusal_stays m x (TooLong (length x.1)) (refused_long m x up (let l = c.len-len.ensures in omega (arith, l, c.if-len-gt-MAX_MESSAGE.true))))) h
 
 pub returns-in-Ok-clause-stands : goal.returns-in-Ok-clause-stands
 returns-in-Ok-clause-stands c m h =
     let x : Message = (c.args.pipe, chain_bytes c.args.pool.now c.args.chain) in
     let up : m.shdlc.phase ≡ Up = sym h.half.link.kept.phase ∙ c.requires.up in
-    let fits : blocks_for (length x.1) ≤ spare m = subst (λ n. blocks_for (length x.1) ≤ n) (sym (spare_is c.args.pool.now c.args.self.now m h)) (c.in-Ok.ensures.room.0 refl) in
+    let fits : blocks_for (length x.1) ≤ spare m =
+    subst (λ n. blocks_for (length x.1) ≤ n) (sym (spare_is c.args.pool.now c.args.self.now m h)) (c.in-Ok.ensures.room.0 refl) in
     let P : LinkEnd → Type 0 = λ y. EndStandsFor c.refill.new.self c.refill.new.pool y in
     subst P (sym (gives m x (refused_none m x up (let l = c.len-len.ensures in omega (arith, l, c.if-len-gt-MAX_MESSAGE.false)) fits)))
-    (c.refill.ensures.stands _ (message_passed c.args.pool.now c.accept_chain.new.pool c.args.self.now c.accept_chain.new.self c.args.chain m x h c.requires.up c.requires.sendable c.requires.chain c.in-Ok.ensures.ok c.in-Ok.ensures.elsewhere))
+    (c.refill.ensures.stands _
+    (message_passed c.args.pool.now c.accept_chain.new.pool c.args.self.now c.accept_chain.new.self c.args.chain m x h c.requires.up c.requires.sendable
+    c.requires.chain c.in-Ok.ensures.ok c.in-Ok.ensures.elsewhere))
 
 pub returns-in-Ok-clause-answer : goal.returns-in-Ok-clause-answer
 returns-in-Ok-clause-answer c m h =
     let x : Message = (c.args.pipe, chain_bytes c.args.pool.now c.args.chain) in
     let up : m.shdlc.phase ≡ Up = sym h.half.link.kept.phase ∙ c.requires.up in
-    let fits : blocks_for (length x.1) ≤ spare m = subst (λ n. blocks_for (length x.1) ≤ n) (sym (spare_is c.args.pool.now c.args.self.now m h)) (c.in-Ok.ensures.room.0 refl) in
+    let fits : blocks_for (length x.1) ≤ spare m =
+    subst (λ n. blocks_for (length x.1) ≤ n) (sym (spare_is c.args.pool.now c.args.self.now m h)) (c.in-Ok.ensures.room.0 refl) in
     sym (ap (pass_by c.args.chain) (refused_none m x up (let l = c.len-len.ensures in omega (arith, l, c.if-len-gt-MAX_MESSAGE.false)) fits))
 
 pub returns-in-Err-clause-stands : goal.returns-in-Err-clause-stands
@@ -46,7 +51,8 @@ returns-in-Err-clause-stands c m h =
     let P : LinkEnd → Type 0 = λ y. EndStandsFor (record k { outbox = c.accept_chain.new.self }) c.accept_chain.new.pool y in
     let Q : Outbox → Type 0 = λ b. EndStandsFor (record k { outbox = b }) c.accept_chain.new.pool m in
     let R : PoolState → Type 0 = λ p. EndStandsFor k p m in
-    subst P (sym (refusal_stays m x (Full (blocks_for (length x.1)) (spare m)) full)) (subst Q (sym c.in-Err.ensures.err.1) (subst R (sym c.in-Err.ensures.err.0) h))
+    subst P (sym (refusal_stays m x (Full (blocks_for (length x.1)) (spare m)) full))
+    (subst Q (sym c.in-Err.ensures.err.1) (subst R (sym c.in-Err.ensures.err.0) h))
 
 pub returns-in-Err-clause-answer : goal.returns-in-Err-clause-answer
 returns-in-Err-clause-answer c m h =

@@ -11,7 +11,8 @@ loop-self-preserved c =
     let box = c.next_fragment.new.self in
     let P : PoolState → Type 0 = λ p. Refills p c.args.self.now (record c.loop-self.self { shdlc = c.offer-taken.new.self; outbox = box }) in (
       subst P (sym same)
-          (refills_more c.loop-self.pool c.args.self.now c.loop-self.self c.offer-taken.new.self box c.in-Some.info c.in-Some.ensures.fragment c.in-Some.ensures.kept c.in-Some.ensures.lies
+          (refills_more c.loop-self.pool c.args.self.now c.loop-self.self c.offer-taken.new.self box c.in-Some.info c.in-Some.ensures.fragment
+          c.in-Some.ensures.kept c.in-Some.ensures.lies
           room.0 room.1 c.offer-taken.ensures.stands c.loop-self.invariant.0),
       same ∙ c.loop-self.invariant.1,
     )

@@ -24,26 +24,33 @@ pub returns-in-Ok-clause-stands : goal.returns-in-Ok-clause-stands
 returns-in-Ok-clause-stands c m h =
     let x : Message = (c.args.pipe, c.args.message.now) in
     let up : m.shdlc.phase ≡ Up = sym h.half.link.kept.phase ∙ c.requires.up in
-    let fits : blocks_for (length x.1) ≤ spare m = subst (λ n. blocks_for (length x.1) ≤ n) (sym (spare_is c.args.pool.now c.args.self.now m h)) (c.in-Ok.ensures.room.0 refl) in
+    let fits : blocks_for (length x.1) ≤ spare m =
+    subst (λ n. blocks_for (length x.1) ≤ n) (sym (spare_is c.args.pool.now c.args.self.now m h)) (c.in-Ok.ensures.room.0 refl) in
     let P : LinkEnd → Type 0 = λ y. EndStandsFor c.refill.new.self c.refill.new.pool y in
     subst P (sym (gives m x (refused_none m x up c.if-message.false fits)))
-    (c.refill.ensures.stands _ (message_given c.args.pool.now c.accept.new.pool c.args.self.now c.accept.new.self m x h c.requires.up c.requires.sendable c.in-Ok.ensures.ok c.in-Ok.ensures.elsewhere).0)
+    (c.refill.ensures.stands _
+    (message_given c.args.pool.now c.accept.new.pool c.args.self.now c.accept.new.self m x h c.requires.up c.requires.sendable c.in-Ok.ensures.ok
+    c.in-Ok.ensures.elsewhere).0)
 
 pub returns-in-Ok-clause-answer : goal.returns-in-Ok-clause-answer
 returns-in-Ok-clause-answer c m h =
     let x : Message = (c.args.pipe, c.args.message.now) in
     let up : m.shdlc.phase ≡ Up = sym h.half.link.kept.phase ∙ c.requires.up in
-    let fits : blocks_for (length x.1) ≤ spare m = subst (λ n. blocks_for (length x.1) ≤ n) (sym (spare_is c.args.pool.now c.args.self.now m h)) (c.in-Ok.ensures.room.0 refl) in
+    let fits : blocks_for (length x.1) ≤ spare m =
+    subst (λ n. blocks_for (length x.1) ≤ n) (sym (spare_is c.args.pool.now c.args.self.now m h)) (c.in-Ok.ensures.room.0 refl) in
     sym (ap by_refusal_told (refused_none m x up c.if-message.false fits))
 
 pub returns-in-Ok-clause-elsewhere : goal.returns-in-Ok-clause-elsewhere
 returns-in-Ok-clause-elsewhere c =
     let x : Message = (c.args.pipe, c.args.message.now) in
     let boxes = c.refill.ensures.boxes in
-    let P : PoolState → Type 0 = λ p. LeavesBoxes c.args.pool.now p c.args.self.now.outbox c.args.self.now.inbox c.refill.new.self.outbox c.refill.new.self.inbox in
+    let P : PoolState
+    → Type 0 = λ p. LeavesBoxes c.args.pool.now p c.args.self.now.outbox c.args.self.now.inbox c.refill.new.self.outbox c.refill.new.self.inbox in
     subst P (sym c.refill.ensures.pool)
-    (leaves_same c.args.pool.now c.accept.new.pool c.args.self.now.outbox c.accept.new.self c.refill.new.self.outbox c.args.self.now.inbox c.args.self.now.inbox c.refill.new.self.inbox
-    (message_given c.args.pool.now c.accept.new.pool c.args.self.now c.accept.new.self c.requires.stands.0 x c.requires.stands.1 c.requires.up c.requires.sendable c.in-Ok.ensures.ok c.in-Ok.ensures.elsewhere).1
+    (leaves_same c.args.pool.now c.accept.new.pool c.args.self.now.outbox c.accept.new.self c.refill.new.self.outbox c.args.self.now.inbox
+    c.args.self.now.inbox c.refill.new.self.inbox
+    (message_given c.args.pool.now c.accept.new.pool c.args.self.now c.accept.new.self c.requires.stands.0 x c.requires.stands.1 c.requires.up
+    c.requires.sendable c.in-Ok.ensures.ok c.in-Ok.ensures.elsewhere).1
     boxes.1 boxes.0 boxes.2)
 
 pub returns-in-Err-clause-stands : goal.returns-in-Err-clause-stands
@@ -56,7 +63,8 @@ returns-in-Err-clause-stands c m h =
     let P : LinkEnd → Type 0 = λ y. EndStandsFor (record k { outbox = c.accept.new.self }) c.accept.new.pool y in
     let Q : Outbox → Type 0 = λ b. EndStandsFor (record k { outbox = b }) c.accept.new.pool m in
     let R : PoolState → Type 0 = λ p. EndStandsFor k p m in
-    subst P (sym (refusal_stays m x (Full (blocks_for (length x.1)) (spare m)) full)) (subst Q (sym c.in-Err.ensures.err.1) (subst R (sym c.in-Err.ensures.err.0) h))
+    subst P (sym (refusal_stays m x (Full (blocks_for (length x.1)) (spare m)) full))
+    (subst Q (sym c.in-Err.ensures.err.1) (subst R (sym c.in-Err.ensures.err.0) h))
 
 pub returns-in-Err-clause-answer : goal.returns-in-Err-clause-answer
 returns-in-Err-clause-answer c m h =

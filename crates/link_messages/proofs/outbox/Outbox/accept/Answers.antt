@@ -10,8 +10,10 @@ push-requires c =
     let old = c.args.self.now in
     let e = c.in_ok-take.ensures in
     let P : PoolState → Type 0 = λ p. TakesInto p c.take.new.self c.chain-chain.result c.take.new.chain c.args.message.now in
-    let t = subst P c.chain-chain.ensures.unchanged (record { appends = e.ok; appended = e.appended; live = e.live; others = e.others; room = e.room.0 refl }) in
-    let into = taken_into c.args.pool.now c.take.new.self old.owner old.queue c.chain-chain.result c.take.new.chain c.args.pipe c.args.message.now c.requires.lies.kept
+    let t =
+    subst P c.chain-chain.ensures.unchanged (record { appends = e.ok; appended = e.appended; live = e.live; others = e.others; room = e.room.0 refl }) in
+    let into =
+    taken_into c.args.pool.now c.take.new.self old.owner old.queue c.chain-chain.result c.take.new.chain c.args.pipe c.args.message.now c.requires.lies.kept
     c.chain-chain.ensures.chain.0 c.chain-chain.ensures.chain.1 c.requires.sendable t in
     subst (λ n. length old.queue.items < n) (sym c.requires.lies.kept.capacity) into.0
 
@@ -20,8 +22,10 @@ returns-clause-ok c =
     let old = c.args.self.now in
     let e = c.in_ok-take.ensures in
     let P : PoolState → Type 0 = λ p. TakesInto p c.take.new.self c.chain-chain.result c.take.new.chain c.args.message.now in
-    let t = subst P c.chain-chain.ensures.unchanged (record { appends = e.ok; appended = e.appended; live = e.live; others = e.others; room = e.room.0 refl }) in
-    let into = taken_into c.args.pool.now c.take.new.self old.owner old.queue c.chain-chain.result c.take.new.chain c.args.pipe c.args.message.now c.requires.lies.kept
+    let t =
+    subst P c.chain-chain.ensures.unchanged (record { appends = e.ok; appended = e.appended; live = e.live; others = e.others; room = e.room.0 refl }) in
+    let into =
+    taken_into c.args.pool.now c.take.new.self old.owner old.queue c.chain-chain.result c.take.new.chain c.args.pipe c.args.message.now c.requires.lies.kept
     c.chain-chain.ensures.chain.0 c.chain-chain.ensures.chain.1 c.requires.sendable t in
     let Q : Outbox → Type 0 = λ b. Accepts c.args.pool.now c.take.new.self old b (c.args.pipe, c.args.message.now) in
     subst Q (sym c.push.ensures)

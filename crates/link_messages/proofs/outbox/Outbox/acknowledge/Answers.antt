@@ -10,5 +10,6 @@ loop-whole-init c =
 
 pub loop-whole-preserved : goal.loop-whole-preserved
 loop-whole-preserved c =
-    acknowledges_more c.args.pool.now c.loop-whole.pool c.give_first.new.pool (record c.args.self.now { acked = c.args.self.now.acked + c.from.result }) c.loop-whole.self c.give_first.new.self c.loop-whole.whole
+    acknowledges_more c.args.pool.now c.loop-whole.pool c.give_first.new.pool
+    (record c.args.self.now { acked = c.args.self.now.acked + c.from.result }) c.loop-whole.self c.give_first.new.self c.loop-whole.whole
     c.loop-whole.invariant c.loop-whole-test.ensures.given c.loop-whole-test.ensures.fewer

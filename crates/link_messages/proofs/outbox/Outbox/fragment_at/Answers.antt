@@ -26,7 +26,9 @@ returns-then-place-count-clause-fragment c =
     let here = looks_at c.loop-queued.pool c.args.self.now c.loop-queued.at c.loop-queued.place q c.loop-queued.invariant.0 c.in-Some.ensures in
     let fragments = map packet_bytes (packets_of q.pipe (chain_bytes c.loop-queued.pool q.chain)) in
     sym c.fragment_of.ensures.fragment
-    ∙ (sym (slice_get_inside fragments _ c.loop-queued.place (omega (arith, length-fragments (queued_message c.loop-queued.pool q), c.fragment_count-count.ensures.count, c.if-place-count.true))) ∙ (here.2 ∙ ap (λ (p : PoolState). slice_get (fragments_of (queued_messages p c.args.self.now)) c.args.self.now.cut) c.loop-queued.invariant.1))
+    ∙ (sym (slice_get_inside fragments _ c.loop-queued.place
+    (omega (arith, length-fragments (queued_message c.loop-queued.pool q), c.fragment_count-count.ensures.count, c.if-place-count.true))) ∙ (here.2 ∙ ap
+    (λ (p : PoolState). slice_get (fragments_of (queued_messages p c.args.self.now)) c.args.self.now.cut) c.loop-queued.invariant.1))
 
 pub returns-then-place-count-clause-unchanged : goal.returns-then-place-count-clause-unchanged
 returns-then-place-count-clause-unchanged c = c.fragment_of.ensures.unchanged ∙ c.loop-queued.invariant.1
@@ -43,7 +45,8 @@ loop-queued-smaller c =
 
 pub loop-queued-preserved : goal.loop-queued-preserved
 loop-queued-preserved c = (
-  looks_on c.loop-queued.pool c.args.self.now c.loop-queued.at c.loop-queued.place c.fragment_count-count.result c.in-Some.queued.now c.loop-queued.invariant.0 c.in-Some.ensures
+  looks_on c.loop-queued.pool c.args.self.now c.loop-queued.at c.loop-queued.place c.fragment_count-count.result c.in-Some.queued.now
+      c.loop-queued.invariant.0 c.in-Some.ensures
       c.fragment_count-count.ensures.count c.if-place-count.false,
   c.loop-queued.invariant.1,
 )
@@ -51,7 +54,8 @@ loop-queued-preserved c = (
 pub returns-clause-fragment : goal.returns-clause-fragment
 returns-clause-fragment c =
     let none = drop_none c.args.self.now.queue.items c.loop-queued.at c.in_default.ensures in
-    sym (ap (λ l. slice_get (fragments_of (messages_of_all c.loop-queued.pool l)) c.loop-queued.place) none ∙ nothing c.loop-queued.place) ∙ ((let f = c.loop-queued.invariant.0.fragment in f)
+    sym (ap (λ l. slice_get (fragments_of (messages_of_all c.loop-queued.pool l)) c.loop-queued.place) none ∙ nothing c.loop-queued.place)
+    ∙ ((let f = c.loop-queued.invariant.0.fragment in f)
     ∙ ap (λ (p : PoolState). slice_get (fragments_of (queued_messages p c.args.self.now)) c.args.self.now.cut) c.loop-queued.invariant.1)
   where
     nothing : (n : ℕ) → slice_get (fragments_of []) n ≡ None

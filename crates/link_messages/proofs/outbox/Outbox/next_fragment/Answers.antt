@@ -15,13 +15,15 @@ returns-in-Some-clause-fragment c =
 pub returns-in-Some-clause-none : goal.returns-in-Some-clause-none
 returns-in-Some-clause-none c = (
   λ e. absurd cc,
-  λ none. absurd (some_waits c.in-Some.info _ _ (drop_at (fragments_of (queued_messages c.args.pool.now c.args.self.now)) c.args.self.now.cut c.in-Some.info c.in-Some.ensures.fragment) none),
+  λ none. absurd (some_waits c.in-Some.info _ _
+      (drop_at (fragments_of (queued_messages c.args.pool.now c.args.self.now)) c.args.self.now.cut c.in-Some.info c.in-Some.ensures.fragment) none),
 )
 
 pub returns-in-Some-clause-lies : goal.returns-in-Some-clause-lies
 returns-in-Some-clause-lies c =
     let lies = c.requires in
-    let within = slice_get_within (fragments_of (queued_messages c.args.pool.now c.args.self.now)) c.args.self.now.cut c.in-Some.info (sym c.in-Some.ensures.fragment) in
+    let within =
+    slice_get_within (fragments_of (queued_messages c.args.pool.now c.args.self.now)) c.args.self.now.cut c.in-Some.info (sym c.in-Some.ensures.fragment) in
     record { kept = lies.kept; acked = omega (arith, lies.acked); cut = omega (arith, within) }
 
 pub returns-in-None-clause-none : goal.returns-in-None-clause-none

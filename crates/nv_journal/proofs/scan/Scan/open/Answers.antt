@@ -30,7 +30,8 @@ returns-then-state-ne2-clause-refused g c = (
         let is : c.begun-state.result ≡ begun_scan (head content First) (head content Second) = c.begun-state.ensures ∙ ap₂ begun_scan heads.0 heads.1 in
         let long : 65536 ≤ length content = omega (arith, g.met.N.Nv.sized c.args.nv tells, c.requires) in
         rw is
-        (unknown_is_told content long (λ e. c.if-state-ne1.true (ap (λ (s : State). s.version) is ∙ e)) (λ e. c.if-state-ne2.true (ap (λ (s : State). s.version) is ∙ e)));
+        (unknown_is_told content long (λ e. c.if-state-ne1.true (ap (λ (s : State). s.version) is ∙ e))
+        (λ e. c.if-state-ne2.true (ap (λ (s : State). s.version) is ∙ e)));
   },
   c.in-Ok.ensures.kept,
 )
@@ -80,4 +81,5 @@ returns-then-state-ne2-clause-unknown g c = λ tells.
     let heads = c.in-Ok.ensures.heads tells in
     let is : c.begun-state.result ≡ begun_scan (head content First) (head content Second) = c.begun-state.ensures ∙ ap₂ begun_scan heads.0 heads.1 in
     let long : 65536 ≤ length content = omega (arith, g.met.N.Nv.sized c.args.nv tells, c.requires) in
-    inr (ap is_known (version_begun content long ∙ sym (ap (λ (t : State). t.version) is)) ∙ unknown_version c.begun-state.result.version c.if-state-ne1.true c.if-state-ne2.true)
+    inr (ap is_known (version_begun content long ∙ sym (ap (λ (t : State). t.version) is))
+    ∙ unknown_version c.begun-state.result.version c.if-state-ne1.true c.if-state-ne2.true)

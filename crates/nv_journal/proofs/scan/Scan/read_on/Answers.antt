@@ -38,6 +38,7 @@ invariant_of-self-2 g c =
 pub returns-clause-read : goal.returns-clause-read
 returns-clause-read g c = λ first r.
     let k = c.self.inside in
-    let left_is : c.left.result - length c.as_slice.result.now ≡ 32768 - (next_gate k.state + length k.ahead) = omega (arith, c.left.ensures, ap length c.as_slice.ensures) in
+    let left_is : c.left.result - length c.as_slice.result.now ≡ 32768 - (next_gate k.state + length k.ahead) =
+    omega (arith, c.left.ensures, ap length c.as_slice.ensures) in
     filled_so_far g.N.Nv.reads first k.nv c.fill.new.nv k.state k.ahead c.fill.new.ahead k.ended (rw (← c.self.view_is) at r) c.self.invariant.read
     (subst (λ n. IsFilled g.N.Nv.reads n k.nv k.ahead c.fill.new.nv c.fill.new.ahead) left_is c.in_ok-fill.ensures.filled)

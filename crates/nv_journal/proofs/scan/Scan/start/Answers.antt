@@ -20,7 +20,8 @@ of-requires-in-Ok g c =
         says = λ live tells.
             let content = g.N.Nv.content k.nv in
             let says = (c.self.invariant.says tells).at_end (rw (← c.self.view_is) at c.requires) in
-            rw (made_whole g.N.Nv.writes g.N.Nv.content (λ m at bytes ok n step. g.met.N.Nv.told m at bytes ok n tells step) format_writes k.nv c.format.new.nv c.in-Ok.ensures.made)
+            rw (made_whole g.N.Nv.writes g.N.Nv.content
+            (λ m at bytes ok n step. g.met.N.Nv.told m at bytes ok n tells step) format_writes k.nv c.format.new.nv c.in-Ok.ensures.made)
             (says_formatted content k.state says none);
       };
     }
@@ -33,7 +34,8 @@ returns-in-Err-clause-cut g c = λ tells.
     let says = (c.self.invariant.says tells).at_end (rw (← c.self.view_is) at c.requires) in
     rw (← c.self.view_is)
     (left_by_cut format_writes content (g.N.Nv.content c.format.new.nv) (format_all_or_nothing content k.state says none)
-    (made_in_part g.N.Nv.writes g.N.Nv.content (λ m at bytes ok n step. g.met.N.Nv.told m at bytes ok n tells step) format_writes k.nv c.format.new.nv c.in-Err.ensures.made))
+    (made_in_part g.N.Nv.writes g.N.Nv.content
+    (λ m at bytes ok n step. g.met.N.Nv.told m at bytes ok n tells step) format_writes k.nv c.format.new.nv c.in-Err.ensures.made))
 
 pub returns-in-Ok-clause-records : goal.returns-in-Ok-clause-records
 returns-in-Ok-clause-records g c = λ tells.
@@ -41,6 +43,7 @@ returns-in-Ok-clause-records g c = λ tells.
     let none = none_of k.state.in_use (sym c.is_some.ensures ∙ c.if-is_some.false) in
     let content = g.N.Nv.content k.nv in
     let says = (c.self.invariant.says tells).at_end (rw (← c.self.view_is) at c.requires) in
-    let whole = made_whole g.N.Nv.writes g.N.Nv.content (λ m at bytes ok n step. g.met.N.Nv.told m at bytes ok n tells step) format_writes k.nv c.format.new.nv c.in-Ok.ensures.made in
+    let whole = made_whole g.N.Nv.writes g.N.Nv.content
+    (λ m at bytes ok n step. g.met.N.Nv.told m at bytes ok n tells step) format_writes k.nv c.format.new.nv c.in-Ok.ensures.made in
     rw (← c.self.view_is)
     (ap (λ (j : KeptMemory g.row.N.Denot). records (g.N.Nv.content j.nv)) c.of-in-Ok.ensures ∙ ap records whole ∙ no_records_then content k.state says none)

@@ -16,7 +16,8 @@ invariant_of-self g c =
       few = old.few;
       known = old.known;
       idle = λ none. refl;
-      says = λ tells. ended_so_far (g.N.Nv.content k.nv) k.state k.ahead k.ended (old.says tells) (rw (← c.self.view_is) at c.requires.going) old.idle old.few old.inside old.known
+      says = λ tells. ended_so_far (g.N.Nv.content k.nv) k.state k.ahead k.ended (old.says tells)
+          (rw (← c.self.view_is) at c.requires.going) old.idle old.few old.inside old.known
           (rw (← c.self.view_is) at c.requires.enough) is;
     }
 
@@ -36,7 +37,8 @@ invariant_of-self-in-Record g c =
       few = omega (arith, old.few, bounds.0);
       known = old.known;
       idle = old.idle;
-      says = λ tells. says_then (g.N.Nv.content k.nv) k.state k.ahead k.ended (old.says tells) (rw (← c.self.view_is) at c.requires.going) old.idle old.few old.inside old.known
+      says = λ tells. says_then (g.N.Nv.content k.nv) k.state k.ahead k.ended (old.says tells)
+          (rw (← c.self.view_is) at c.requires.going) old.idle old.few old.inside old.known
           (rw (← c.self.view_is) at c.requires.enough) len is bounds.1 fits;
     }
 
@@ -46,7 +48,8 @@ returns-in-Closed-clause-body g c = λ tells.
     let old = c.self.invariant in
     let is = c.in-Closed.ensures.gate ∙ ap₂ (gate_of k.state.version k.state.many) c.left-rest.ensures c.as_slice.ensures in
     rw (← c.self.view_is)
-    (closed_so_far (g.N.Nv.content k.nv) k.state k.ahead k.ended (old.says tells) (rw (← c.self.view_is) at c.requires.going) old.idle old.few old.inside old.known
+    (closed_so_far (g.N.Nv.content k.nv) k.state k.ahead k.ended (old.says tells)
+    (rw (← c.self.view_is) at c.requires.going) old.idle old.few old.inside old.known
     (rw (← c.self.view_is) at c.requires.enough) is)
 
 pub returns-in-Bad-clause-fault : goal.returns-in-Bad-clause-fault
@@ -56,7 +59,8 @@ returns-in-Bad-clause-fault g c =
     let is = c.in-Bad.ensures.gate ∙ ap₂ (gate_of k.state.version k.state.many) c.left-rest.ensures c.as_slice.ensures in (
       tt,
       λ tells. rw (← c.self.view_is, c.next_place.ensures.place)
-          (faulty_so_far (g.N.Nv.content k.nv) k.state k.ahead k.ended (old.says tells) (rw (← c.self.view_is) at c.requires.going) old.idle old.few old.inside old.known
+          (faulty_so_far (g.N.Nv.content k.nv) k.state k.ahead k.ended (old.says tells)
+          (rw (← c.self.view_is) at c.requires.going) old.idle old.few old.inside old.known
           (rw (← c.self.view_is) at c.requires.enough) is),
     )
 
@@ -70,5 +74,6 @@ returns-in-Record-clause-body g c = λ tells.
     let fits = rw c.left-rest.ensures at bounds.2 in
     let body_is = c.body_of-body.ensures ∙ ap₂ (λ n l. take len (drop (2 + n) l)) c.index_len-from.ensures c.as_slice-in-Record.ensures in
     rw (← c.self.view_is, body_is)
-    (record_so_far (g.N.Nv.content k.nv) k.state k.ahead k.ended (old.says tells) (rw (← c.self.view_is) at c.requires.going) old.idle old.few old.inside old.known
+    (record_so_far (g.N.Nv.content k.nv) k.state k.ahead k.ended (old.says tells)
+    (rw (← c.self.view_is) at c.requires.going) old.idle old.few old.inside old.known
     (rw (← c.self.view_is) at c.requires.enough) len is bounds.1 fits)

@@ -23,7 +23,8 @@ twos-preserved c =
     let long : length two ≡ 2 = omega (arith, ap length cases.0, length-take 2 left, cases.2) in (
       front ++ two,
       (
-        append_assoc front two c.in-Some.more.now ∙ ap (λ xs. front ++ xs) (ap₂ (λ xs ys. xs ++ ys) cases.0 cases.1 ∙ take-append-drop 2 left) ∙ c.twos.invariant.1.0,
+        append_assoc front two c.in-Some.more.now ∙ ap (λ xs. front ++ xs) (ap₂ (λ xs ys. xs ++ ys) cases.0 cases.1 ∙ take-append-drop 2 left)
+            ∙ c.twos.invariant.1.0,
         λ start text h.
             holds_two start text front two c.hex_digits.result c.hex_digits-in-Some.result _ long c.hex_digits.ensures c.hex_digits-in-Some.ensures
             (c.push.ensures start _ (c.twos.invariant.1.1 start text h)),

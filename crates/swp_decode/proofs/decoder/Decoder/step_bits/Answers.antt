@@ -140,7 +140,8 @@ marks-preserved c =
 pub returns-clause-some : goal.returns-clause-some
 unfolding count_leading_zeros
 returns-clause-some c =
-    let next = next_of c.marks.marks (bit_or c.word-s1.result.marks c.word-s2.result.marks) c.marks.invariant.0 c.marks.invariant.1.within c.marks.invariant.1.marks in
+    let next =
+    next_of c.marks.marks (bit_or c.word-s1.result.marks c.word-s2.result.marks) c.marks.invariant.0 c.marks.invariant.1.within c.marks.invariant.1.marks in
     elim c.marks-test.branch [
       | then-marks-test+else-passed-lt-MOST_PLACES w ↦ omega (arith, w.if-passed-lt-MOST_PLACES.false, c.marks.invariant.1.progress, next.behind)
       | else-marks-test w ↦

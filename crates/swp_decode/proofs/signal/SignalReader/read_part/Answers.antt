@@ -14,7 +14,8 @@ returns c older reads behind quiet =
     let ends = ends_in part.width part.bits c.trailing_ones-ones.result part.few part.bits_fit c.trailing_ones-ones.ensures in
     let front = front_at_end place part.width part.bits c.trailing_ones-ones.result older c.requires.some ends in
     record {
-      frames = subst (DeframerStandsFor c.feed_part.new.self) (sym (symbols-readings_on place (part_bits part) older)) (c.feed_part.ensures (symbols older) reads.frames behind quiet);
+      frames = subst (DeframerStandsFor c.feed_part.new.self) (sym (symbols-readings_on place (part_bits part) older))
+          (c.feed_part.ensures (symbols older) reads.frames behind quiet);
       front = elim c.if-ones-part.branch [
         | then-ones-part w ↦ ap (λ n. Some n) w.self-is ∙ sym (front.1 w.if-ones-part.true)
         | else-ones-part w ↦ ap (λ n. Some n) (w.self-is ∙ w.unwrap_or.ensures ∙ ap (λ o. unwrap_or o place) reads.front) ∙ sym (front.0 w.if-ones-part.false)

@@ -23,7 +23,8 @@ returns c = λ since kept run.
       | then-bit w ↦
           let is_one : bit_1 ≡ symbol_of c.args.bit = ap symbol_of (sym w.if-bit.true) in
           let content : c.if-bit.is_content ≡ true = w.is_content-is ∙ w.if-bit.true in
-          let after = subst (KeepsContent c.push_bits.new.self) (sym (reverse-append (true ∷ []) (unstuffed since)) ∙ ap (λ s. reverse (unstuffed (s ∷ since))) is_one)
+          let after =
+          subst (KeepsContent c.push_bits.new.self) (sym (reverse-append (true ∷ []) (unstuffed since)) ∙ ap (λ s. reverse (unstuffed (s ∷ since))) is_one)
           (c.push_bits.ensures.bits (reverse (unstuffed since)) (true ∷ []) kept.bits
           (sym (c.from-2.ensures ∙ ap bool_byte content)) (sym (c.from.ensures ∙ ap bool_byte w.if-bit.true))) in
           record {

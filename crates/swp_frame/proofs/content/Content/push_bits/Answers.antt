@@ -58,10 +58,13 @@ returns-clause-bits c = λ bits more kept l n.
           let same : old.bits ≡ length bits = omega (arith, kept.count, length-append bits more) in
           let places : length bits % 64 + c.args.width ≡ 64 + surplus = omega (arith, same) in
           let few : surplus < 64 = omega (arith, c.requires.width) in
-          let word : old.partial * 2 ^ (63 - old.bits % 64) % 2 ^ 64 * 2 % 2 ^ 64 + c.args.value / 2 ^ surplus ≡ old.partial * 2 ^ (64 - length bits % 64) + c.args.value / 2 ^ surplus =
+          let word : old.partial * 2 ^ (63 - old.bits % 64) % 2 ^ 64 * 2 % 2 ^ 64 + c.args.value / 2 ^ surplus
+          ≡ old.partial * 2 ^ (64 - length bits % 64) + c.args.value / 2 ^ surplus =
           ap (λ x. x + c.args.value / 2 ^ surplus) (to_top old.partial (old.bits % 64) fits (omega arith) ∙ ap (λ n. old.partial * 2 ^ (64 - n % 64)) same) in
-          let bytes : c.push_word.new.bytes.items ≡ old.bytes.items ++ to_be_bytes w64 (old.partial * 2 ^ (64 - length bits % 64) + c.args.value / 2 ^ surplus) =
+          let bytes : c.push_word.new.bytes.items
+          ≡ old.bytes.items ++ to_be_bytes w64 (old.partial * 2 ^ (64 - length bits % 64) + c.args.value / 2 ^ surplus) =
           c.push_word.ensures ∙ ap (λ x. old.bytes.items ++ to_be_bytes w64 x) word in
           rw (bytes, one_shl surplus 64 few)
-          (more_than_word old.bytes.items old.partial bits more c.args.value c.args.width surplus (kept.few (omega (arith, length-append bits more))) l n places few);
+          (more_than_word old.bytes.items old.partial bits more c.args.value c.args.width surplus
+          (kept.few (omega (arith, length-append bits more))) l n places few);
     }

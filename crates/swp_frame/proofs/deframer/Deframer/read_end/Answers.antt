@@ -18,5 +18,6 @@ returns-in-Some-clause-answer c = λ seen stands.
     let inside = since_run seen open_frame.0 open_frame.1.0 in
     let six : run_of seen ≡ 6 = omega (arith, stands.ones, inside.1) in
     rw (open_frame.1.0, eq-eqb (run_of seen) 6 six)
-    (c.judge.ensures _ (subst (KeepsContent c.in-Some.content) (since_bits c.in-Some.content.zero open_frame.0 open_frame.1.1.zero ∙ ap (λ n. reverse (unstuffed (drop 1 (before_run open_frame.0))) ++ run_bits c.in-Some.content.zero n) (inside.0 ∙ six)) open_frame.1.1.bits)
+    (c.judge.ensures _ (subst (KeepsContent c.in-Some.content) (since_bits c.in-Some.content.zero open_frame.0 open_frame.1.1.zero
+    ∙ ap (λ n. reverse (unstuffed (drop 1 (before_run open_frame.0))) ++ run_bits c.in-Some.content.zero n) (inside.0 ∙ six)) open_frame.1.1.bits)
     ∙ ap (λ xs. judged (reverse (unstuffed xs))) (sym (drop_run open_frame.0) ∙ ap (λ n. drop (suc n) open_frame.0) (inside.0 ∙ six)))

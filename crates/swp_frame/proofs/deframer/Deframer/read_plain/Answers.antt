@@ -14,10 +14,12 @@ returns-in-Some-clause-stands c seen stands =
     let other : run_of seen ≢ 6 = λ six. c.requires (omega (arith, six, stands.ones)) in
     let open_frame = opened c.args.self.now.content (since_start seen) c.in-Some.content stands.open_frame c.in-Some.is in
     let inside = since_run seen open_frame.0 open_frame.1.0 in
-    let since_is = quiet_since seen (next ∷ []) (no_mark_after seen next other, tt) ∙ ap (λ before. option_map (λ since. read_on since (next ∷ [])) before) open_frame.1.0 in
+    let since_is = quiet_since seen (next ∷ []) (no_mark_after seen next other, tt)
+    ∙ ap (λ before. option_map (λ since. read_on since (next ∷ [])) before) open_frame.1.0 in
     record {
       ones = elim c.if-bit.branch [
-        | then-bit w ↦ let more : run_of (symbol_of next ∷ seen) ≡ suc (run_of seen) = ap (λ b. run_of (symbol_of b ∷ seen)) w.if-bit.true in omega (arith, w.self-is, w.min-self.ensures, more, stands.ones)
+        | then-bit w ↦ let more : run_of (symbol_of next ∷ seen) ≡ suc (run_of seen) =
+            ap (λ b. run_of (symbol_of b ∷ seen)) w.if-bit.true in omega (arith, w.self-is, w.min-self.ensures, more, stands.ones)
         | else-bit w ↦ let none : run_of (symbol_of next ∷ seen) ≡ 0 = ap (λ b. run_of (symbol_of b ∷ seen)) w.if-bit.false in omega (arith, w.self-is, none)
       ];
       open_frame = subst (KeepsOpen (Some c.push_bit.new.self)) (sym since_is)

@@ -14,5 +14,6 @@ loop-place-preserved c = record {
 
 pub returns : goal.returns
 returns c = λ bytes old.
-    subst (λ xs. Writes c.loop-place.self xs) (ap (λ xs. bits_of bytes ++ xs) (all_bits c.args.byte c.loop-place.place (omega arith)) ∙ sym (bits_of-push bytes c.args.byte))
+    subst (λ xs. Writes c.loop-place.self xs)
+    (ap (λ xs. bits_of bytes ++ xs) (all_bits c.args.byte c.loop-place.place (omega arith)) ∙ sym (bits_of-push bytes c.args.byte))
     (c.loop-place.invariant.content (bits_of bytes) old)

@@ -12,4 +12,9 @@ pub returns-else-last-self : goal.returns-else-last-self
 returns-else-last-self c =
     let own = c.args.self in
     let ends = ends_in own.width own.bits c.trailing_ones-last.result own.few own.bits_fit c.trailing_ones-last.ensures in
-    omega (arith, c.min-else-last-self.ensures, c.from.ensures, (run_at_end own.width own.bits c.trailing_ones-last.result c.args.ones ends).0 c.if-last-self.false)
+    omega (
+      arith,
+      c.min-else-last-self.ensures,
+      c.from.ensures,
+      (run_at_end own.width own.bits c.trailing_ones-last.result c.args.ones ends).0 c.if-last-self.false,
+    )

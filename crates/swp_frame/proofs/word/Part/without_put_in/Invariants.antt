@@ -8,7 +8,8 @@ invariant-loop-put_in l = record {
   few : l.width ≤ 64;
   bits_fit : l.bits < 2 ^ l.width;
   put_in_fit : l.put_in < 2 ^ l.width;
-  same : without (low_bits l.width l.put_in) (low_bits l.width l.bits) ≡ without (low_bits l.initial.width l.initial.put_in) (low_bits l.initial.width l.initial.bits);
+  same : without (low_bits l.width l.put_in) (low_bits l.width l.bits)
+      ≡ without (low_bits l.initial.width l.initial.put_in) (low_bits l.initial.width l.initial.bits);
 }
 
 abbrev pub decreases-loop-put_in : goal.decreases-loop-put_in

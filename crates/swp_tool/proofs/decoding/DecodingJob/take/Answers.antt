@@ -19,7 +19,8 @@ pub returns-in-Err-clause-ends : goal.returns-in-Err-clause-ends
 returns-in-Err-clause-ends g c input rest before h =
     let piece = c.args.piece.now in
     let after = g.K.Sink.written c.take_all.new.sink in
-    ended_in g.K.Sink.tells c.in-Err.status h.bytes input piece rest before after h.input_is (piece_fits c.args.self.now.decoder.count (length piece) c.requires.size)
+    ended_in g.K.Sink.tells c.in-Err.status h.bytes input piece rest before after h.input_is
+    (piece_fits c.args.self.now.decoder.count (length piece) c.requires.size)
     (subst (λ l. EndedIn g.K.Sink.tells c.in-Err.status h.bytes l before after) (append_assoc h.bytes piece rest ∙ sym h.input_is)
     (c.in-Err.ensures.ends h.bytes h.bytes rest before h.decoding))
 

@@ -8,4 +8,5 @@ returns-in-Ok-clause-done c bytes written h =
 
 pub returns-in-Err-clause-halts : goal.returns-in-Err-clause-halts
 returns-in-Err-clause-halts c bytes written h =
-    halts_closing c.args.self.now.replay c.in-Err.why c.close.new.self.count c.close.new.self.text.items bytes written h c.in-Err.ensures.count c.in-Err.ensures.same c.in-Err.ensures.halts
+    halts_closing c.args.self.now.replay c.in-Err.why c.close.new.self.count c.close.new.self.text.items bytes written h c.in-Err.ensures.count
+    c.in-Err.ensures.same c.in-Err.ensures.halts

@@ -8,7 +8,8 @@ use Rattle.swp_tool.proofs.pieces.Pieces.keep.Goals as goal
 -- a line too many begins
 pub returns-then-self-eq-MAX_LINES-clause-halts : goal.returns-then-self-eq-MAX_LINES-clause-halts
 returns-then-self-eq-MAX_LINES-clause-halts c before written h =
-    halts_too_many_in c.args.self.now before written c.args.bytes.now (tests_some c.args.bytes.now c.is_empty.result c.is_empty.ensures c.if-is_empty.false) c.requires.reading
+    halts_too_many_in c.args.self.now before written c.args.bytes.now
+    (tests_some c.args.bytes.now c.is_empty.result c.is_empty.ensures c.if-is_empty.false) c.requires.reading
     (omega (arith, c.if-self-eq-MAX_LINES.true)) h
 
 -- the line is too long, however it goes on

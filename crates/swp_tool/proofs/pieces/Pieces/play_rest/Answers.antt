@@ -8,14 +8,16 @@ use Rattle.swp_tool.proofs.pieces.Pieces.play_rest.Goals as goal
 
 pub returns-then-is_empty-clause-played : goal.returns-then-is_empty-clause-played
 returns-then-is_empty-clause-played c bytes written h =
-    let none : c.args.self.now.partial.items ≡ [] = sym c.as_slice-rest.ensures.value ∙ tests_empty c.as_slice-rest.result.now c.is_empty.result c.is_empty.ensures c.if-is_empty.true in
+    let none : c.args.self.now.partial.items ≡ [] = sym c.as_slice-rest.ensures.value
+    ∙ tests_empty c.as_slice-rest.result.now c.is_empty.result c.is_empty.ensures c.if-is_empty.true in
     played_all c.args.self.now bytes written h none
 
 pub returns-in-Ok-clause-played : goal.returns-in-Ok-clause-played
 returns-in-Ok-clause-played c bytes written h =
     let p = c.args.self.now in
     let P : List ℕ → Type 0 = λ l. 0 < length l in
-    let some : 0 < length p.partial.items = subst P c.as_slice-rest.ensures.value (tests_some c.as_slice-rest.result.now c.is_empty.result c.is_empty.ensures c.if-is_empty.false) in
+    let some : 0 < length p.partial.items =
+    subst P c.as_slice-rest.ensures.value (tests_some c.as_slice-rest.result.now c.is_empty.result c.is_empty.ensures c.if-is_empty.false) in
     played_rest p c.play.new.self bytes written h some
     (λ (s : Schedule) (w : List ℕ) (k : HasPlayed p.replay s w).
     (let P : List ℕ → Type 0 = λ l. HasPlayed c.play.new.self (with_line s l) w in subst P c.as_slice-rest.ensures.value (c.in-Ok.ensures.played s w k)))
@@ -24,7 +26,8 @@ pub returns-in-Err-clause-halts : goal.returns-in-Err-clause-halts
 returns-in-Err-clause-halts c bytes written h =
     let p = c.args.self.now in
     let P : List ℕ → Type 0 = λ l. 0 < length l in
-    let some : 0 < length p.partial.items = subst P c.as_slice-rest.ensures.value (tests_some c.as_slice-rest.result.now c.is_empty.result c.is_empty.ensures c.if-is_empty.false) in
+    let some : 0 < length p.partial.items =
+    subst P c.as_slice-rest.ensures.value (tests_some c.as_slice-rest.result.now c.is_empty.result c.is_empty.ensures c.if-is_empty.false) in
     halts_at_rest p c.in-Err.why c.play.new.self.count c.play.new.self.text.items bytes written h some c.in-Err.ensures.uncounted c.in-Err.ensures.same
     (λ (s : Schedule) (w : List ℕ) (k : HasPlayed p.replay s w).
     (let P : List ℕ → Type 0 = λ l. HaltsAt c.in-Err.why s l in subst P c.as_slice-rest.ensures.value (c.in-Err.ensures.halts s w k)))

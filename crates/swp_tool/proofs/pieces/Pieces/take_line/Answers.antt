@@ -6,7 +6,8 @@ use Rattle.swp_tool.proofs.pieces.Pieces.take_line.Goals as goal
 
 pub returns-then-self-eq-MAX_LINES-clause-halts : goal.returns-then-self-eq-MAX_LINES-clause-halts
 returns-then-self-eq-MAX_LINES-clause-halts c before written h =
-    halts_too_many_in c.args.self.now before written (ended_line c.args.bytes.now) (omega (arith, length-append c.args.bytes.now (10 ∷ []))) c.requires.reading (omega (arith, c.if-self-eq-MAX_LINES.true)) h
+    halts_too_many_in c.args.self.now before written (ended_line c.args.bytes.now)
+    (omega (arith, length-append c.args.bytes.now (10 ∷ []))) c.requires.reading (omega (arith, c.if-self-eq-MAX_LINES.true)) h
 
 pub returns-in-Err-clause-halts : goal.returns-in-Err-clause-halts
 returns-in-Err-clause-halts c before written h =
@@ -20,4 +21,5 @@ pub returns-in-Err-end_line-clause-halts : goal.returns-in-Err-end_line-clause-h
 returns-in-Err-end_line-clause-halts c before written h =
     let p = c.end_line.new.self in
     let P : List ℕ → Type 0 = λ b. Halts c.in-Err-end_line.why p.replay.count b (written ++ p.replay.text.items) in
-    subst P (append_assoc before c.args.bytes.now (10 ∷ [])) (c.in-Err-end_line.ensures.halts (before ++ c.args.bytes.now) written (c.in_default.ensures.read before written h))
+    subst P (append_assoc before c.args.bytes.now (10 ∷ []))
+    (c.in-Err-end_line.ensures.halts (before ++ c.args.bytes.now) written (c.in_default.ensures.read before written h))

@@ -4,5 +4,13 @@ use Rattle.swp_tool.proofs.replaying.PiecesJob.cut_off.Goals as goal
 
 pub returns-clause-ends : goal.returns-clause-ends
 returns-clause-ends c tells input left before after under =
-    let p = c.args.self.now in
-    (under.text, (under.bytes, under.input_is, whole_transcript p under.bytes under.text under.read under.gathered, is_running p under.bytes under.text under.read c.requires.goes), under.after_is)
+    let p = c.args.self.now in (
+      under.text,
+      (
+        under.bytes,
+        under.input_is,
+        whole_transcript p under.bytes under.text under.read under.gathered,
+        is_running p under.bytes under.text under.read c.requires.goes,
+      ),
+      under.after_is,
+    )

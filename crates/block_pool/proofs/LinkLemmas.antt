@@ -1,0 +1,195 @@
+-- Links between blocks, bytes and marks, one by one.
+use Rattle.std.proofs.Common.{◌≡◌, ◌≢◌, ℕ, zero, suc, ◌+◌, ◌-◌, ◌*◌, ◌/◌, ◌%◌, ◌<◌, ◌≤◌, true, false, cond, eqb, ◌⊎◌, inl, inr, List, [], ◌∷◌, ◌++◌, length, get_or, set, map, refl, sym, ap, ◌∙◌, subst, arith, length-set, get_or-set_same, get_or-set_other}
+use Rattle.std.specs.Prelude.{Option, Some, None}
+use Rattle.std.specs.List.{range_with_len}
+use Rattle.std.proofs.lemmas.List.{same_lists, get_or_past, get_or_default}
+use Rattle.std.proofs.lemmas.Bool.{cases_lt, cases_eq}
+use Rattle.std.proofs.lemmas.List.FromFn.{length-map-range_with_len, get_or-map-range_with_len, map-range_with_len_more}
+use Rattle.std.proofs.lemmas.Grind.{common_steps}
+use Rattle.block_pool.specs.declared.blocks.Head.{Head}
+use Rattle.block_pool.specs.Slots.{Held, blocks_for, slot}
+use Rattle.block_pool.specs.Links.{block_at, linked_byte}
+use Rattle.block_pool.specs.Layout.{laid_bytes, held_by, slots_of, IsMarked, IsChain}
+
+-- ---- links
+
+-- a link that a list of blocks doesn't follow changes none of its blocks
+pub unchanged : (next : List ℕ) (at link first k : ℕ) → ((j : ℕ) → j < k → block_at next first j ≢ at) → block_at (set next at link) first k ≡ block_at next first k
+unchanged next at link first zero apart = refl
+unchanged next at link first (suc k) apart =
+    ap (λ b. get_or (set next at link) b 0) (unchanged next at link first k (λ j h. apart j (omega arith)))
+    ∙ get_or-set_other next at (block_at next first k) link 0 (apart k (omega arith))
+
+-- blocks behind a block of a list of blocks
+pub behind : (next : List ℕ) (first i j : ℕ) → block_at next (block_at next first i) j ≡ block_at next first (i + j)
+behind next first i zero = let e : i ≡ i + 0 = omega arith in ap (block_at next first) e
+behind next first i (suc j) =
+    let e : suc (i + j) ≡ i + suc j = omega arith in
+    ap (λ b. get_or next b 0) (behind next first i j) ∙ ap (block_at next first) e
+
+-- ---- bytes
+
+-- two lists of bytes made by place are the same where each byte is
+same_made : (f g : ℕ → ℕ) (n : ℕ) → ((i : ℕ) → i < n → f i ≡ g i) → map f (range_with_len 0 n) ≡ map g (range_with_len 0 n)
+same_made f g n same =
+    same_lists _ _ (length-map-range_with_len f 0 n ∙ sym (length-map-range_with_len g 0 n))
+    (λ k d h. let low : k < n = omega (arith, length-map-range_with_len f 0 n) in
+    get_or-map-range_with_len f 0 n k k d low (omega arith)
+    ∙ (same k low ∙ sym (get_or-map-range_with_len g 0 n k k d low (omega arith))))
+
+pub same_bytes : (region next region' next' : List ℕ) (first len : ℕ) → ((i : ℕ) → i < len → linked_byte region' next' first i ≡ linked_byte region next first i)
+    → laid_bytes region' next' first len ≡ laid_bytes region next first len
+unfolding laid_bytes
+same_bytes region next region' next' first len same = same_made (linked_byte region' next' first) (linked_byte region next first) len same
+
+pub one_more_byte : (region next : List ℕ) (first len : ℕ)
+    → laid_bytes region next first (len + 1) ≡ laid_bytes region next first len ++ linked_byte region next first len ∷ []
+unfolding laid_bytes
+one_more_byte region next first len = map-range_with_len_more (linked_byte region next first) 0 len len (omega arith)
+
+pub one_byte : (region next : List ℕ) (first : ℕ) → laid_bytes region next first 1 ≡ get_or region (32 * first + 0) 0 ∷ []
+unfolding laid_bytes
+one_byte region next first = refl
+
+pub length-chain_bytes : (region next : List ℕ) (first len : ℕ) → length (laid_bytes region next first len) ≡ len
+unfolding laid_bytes
+length-chain_bytes region next first len = length-map-range_with_len (linked_byte region next first) 0 len
+
+-- ---- slots
+
+pub length-slots_of : (region next : List ℕ) (heads : List (Option Head)) → length (slots_of region next heads) ≡ length heads
+unfolding slots_of
+length-slots_of region next heads = length-map-range_with_len (λ b. held_by region next b (get_or heads b None)) 0 (length heads)
+
+pub slot_is : (region next : List ℕ) (heads : List (Option Head)) (b : ℕ) → slot (slots_of region next heads) b ≡ held_by region next b (get_or heads b None)
+unfolding slots_of
+slot_is region next heads b = by_place (cases_lt b (length heads))
+  where
+    made : ℕ → Option Held
+    made b = held_by region next b (get_or heads b None)
+
+    by_place : (b < length heads) ⊎ (length heads ≤ b)
+        → get_or (map (λ b. held_by region next b (get_or heads b None)) (range_with_len 0 (length heads))) b None ≡ held_by region next b (get_or heads b None)
+    by_place (inl low) = get_or-map-range_with_len (λ b. held_by region next b (get_or heads b None)) 0 (length heads) b b None low (omega arith)
+    by_place (inr high) =
+        get_or_past (map (λ b. held_by region next b (get_or heads b None)) (range_with_len 0 (length heads))) b None
+        (omega (arith, length-map-range_with_len (λ b. held_by region next b (get_or heads b None)) 0 (length heads)))
+        ∙ sym (ap (held_by region next b) (get_or_past heads b None high))
+
+-- two lists made by place are the same where each element is
+pub same_slots : (f g : ℕ → Option Held) (n : ℕ) → ((c : ℕ) → f c ≡ g c) → map f (range_with_len 0 n) ≡ map g (range_with_len 0 n)
+same_slots f g n same =
+    same_lists _ _ (length-map-range_with_len f 0 n ∙ sym (length-map-range_with_len g 0 n))
+    (λ k d h. let low : k < n = omega (arith, length-map-range_with_len f 0 n) in
+    get_or-map-range_with_len f 0 n k k d low (omega arith)
+    ∙ (same k ∙ sym (get_or-map-range_with_len g 0 n k k d low (omega arith))))
+
+-- one chain was written, and each other one stayed
+pub slots_set : (region next region' next' : List ℕ) (heads heads' : List (Option Head)) (b : ℕ) (v : Option Held) → length heads' ≡ length heads
+    → b < length heads → held_by region' next' b (get_or heads' b None) ≡ v
+    → ((c : ℕ) → c ≢ b → held_by region' next' c (get_or heads' c None) ≡ held_by region next c (get_or heads c None))
+    → slots_of region' next' heads' ≡ set (slots_of region next heads) b v
+slots_set region next region' next' heads heads' b v lens low here others =
+    same_lists _ _
+    (length-slots_of region' next' heads' ∙ (lens ∙ sym (length-set (slots_of region next heads) b v ∙ length-slots_of region next heads)))
+    (λ k d h.
+    let inside : k < length heads' = omega (arith, length-slots_of region' next' heads') in
+    let left = get_or_default (slots_of region' next' heads') k d None h ∙ slot_is region' next' heads' k in
+    elim (cases_eq k b) [
+      | inl same ↦ left ∙ (ap (λ c. held_by region' next' c (get_or heads' c None)) same ∙ (here
+          ∙ sym (ap (λ c. get_or (set (slots_of region next heads) b v) c d) same
+          ∙ get_or-set_same (slots_of region next heads) b v d (omega (arith, length-slots_of region next heads)))))
+      | inr other ↦ left ∙ (others k other
+          ∙ sym (get_or-set_other (slots_of region next heads) b k v d other
+          ∙ (get_or_default (slots_of region next heads) k d None (omega (arith, length-slots_of region next heads)) ∙ slot_is region next heads k)))
+    ])
+
+-- ---- marks
+
+pub none_is_some : (h : Head) → None ≡ Some h → ⊥
+none_is_some h e = cc
+
+-- equal blocks have one mark
+pub same_mark : (mark : ℕ → ℕ × ℕ) (x y c k d j : ℕ) → mark x ≡ (c, k) → mark y ≡ (d, j) → x ≡ y → (c ≡ d) × (k ≡ j)
+same_mark mark x y c k d j mx my same =
+    let e : ◌≡◌ {A = ℕ × ℕ} (c, k) (d, j) = sym mx ∙ (ap mark same ∙ my) in
+    (ap (λ m. m.0) e, ap (λ m. m.1) e)
+
+-- places in two blocks differ, and two places in one block
+pub other_block : (x y i j : ℕ) → x ≢ y → 32 * x + i % 32 ≢ 32 * y + j % 32
+other_block x y i j apart same = apart (omega arith)
+
+other_offset : (x i j : ℕ) → i % 32 ≢ j % 32 → 32 * x + i % 32 ≢ 32 * x + j % 32
+other_offset x i j apart same = apart (omega arith)
+
+test_true : (a b : ℕ) → a ≡ b → eqb a b ≡ true
+test_true a b e = grind (arith, common_steps)
+
+test_false : (a b : ℕ) → a ≢ b → eqb a b ≡ false
+test_false a b e = grind (arith, common_steps)
+
+-- the marks after the first free block became block k of chain c
+abbrev pub popped : ℕ → ℕ → ℕ → ℕ × ℕ → ℕ × ℕ
+popped count c k m = cond (eqb m.0 count) (cond (eqb m.1 0) (c, k) (count, m.1 - 1)) m
+
+pub popped_other : (count c k d j : ℕ) → d ≢ count → popped count c k (d, j) ≡ (d, j)
+popped_other count c k d j apart = rw (test_false d count apart) refl
+
+pub popped_first : (count c k : ℕ) → popped count c k (count, 0) ≡ (c, k)
+popped_first count c k = rw (test_true count count refl) refl
+
+pub popped_rest : (count c k j : ℕ) → popped count c k (count, 1 + j) ≡ (count, j)
+popped_rest count c k j =
+    let some : 1 + j ≢ 0 = omega arith in
+    let less : 1 + j - 1 ≡ j = omega arith in
+    rw (test_true count count refl, test_false (1 + j) 0 some, less) refl
+
+-- the marks after the n blocks of chain b became the first free ones
+abbrev pub freed : ℕ → ℕ → ℕ → ℕ × ℕ → ℕ × ℕ
+freed count b n m = cond (eqb m.0 b) (count, m.1) (cond (eqb m.0 count) (count, m.1 + n) m)
+
+pub freed_chain : (count b n k : ℕ) → freed count b n (b, k) ≡ (count, k)
+freed_chain count b n k = rw (test_true b b refl) refl
+
+pub freed_free : (count b n k : ℕ) → count ≢ b → freed count b n (count, k) ≡ (count, k + n)
+freed_free count b n k apart = rw (test_false count b apart, test_true count count refl) refl
+
+pub freed_other : (count b n d k : ℕ) → d ≢ b → d ≢ count → freed count b n (d, k) ≡ (d, k)
+freed_other count b n d k apart below = rw (test_false d b apart, test_false d count below) refl
+
+-- ---- chains
+
+-- a chain begins at a block
+pub in_pool : (next : List ℕ) (mark : ℕ → ℕ × ℕ) (count b : ℕ) (head : Head) → IsChain next mark count b head → b < count
+in_pool next mark count b head chain = let some : 0 < head.len = chain.some in (chain.marked 0 (omega arith)).0
+
+-- the block of byte i of a chain
+pub block_of_byte : (next : List ℕ) (mark : ℕ → ℕ × ℕ) (count b : ℕ) (head : Head) → IsChain next mark count b head → (i : ℕ) → i < head.len
+    → IsMarked mark count (block_at next b (i / 32)) b (i / 32)
+block_of_byte next mark count b head chain i low = chain.marked (i / 32) (omega arith)
+
+-- a link of another chain leads nowhere in this one
+pub other_link : (next : List ℕ) (mark : ℕ → ℕ × ℕ) (count b : ℕ) (head : Head) → IsChain next mark count b head → (at link d j : ℕ) → mark at ≡ (d, j) → d ≢ b
+    → (k : ℕ) → k < blocks_for head.len → block_at (set next at link) b k ≡ block_at next b k
+other_link next mark count b head chain at link d j marked apart k low =
+    unchanged next at link b k (λ i h same. apart (sym (same_mark mark (block_at next b i) at b i d j (chain.marked i (omega arith)).1 marked same).0))
+
+-- nor does the link of its last block lead to a block before
+pub last_link : (next : List ℕ) (mark : ℕ → ℕ × ℕ) (count b : ℕ) (head : Head) → IsChain next mark count b head → (at link j : ℕ) → mark at ≡ (b, j) → (k : ℕ)
+    → k < blocks_for head.len → k ≤ j → block_at (set next at link) b k ≡ block_at next b k
+last_link next mark count b head chain at link j marked k low before =
+    unchanged next at link b k
+    (λ i h same. absurd (let e : i ≡ j = (same_mark mark (block_at next b i) at b i b j (chain.marked i (omega arith)).1 marked same).1 in omega arith))
+
+-- the mark of the last block
+pub last_marked : (next : List ℕ) (mark : ℕ → ℕ × ℕ) (count b : ℕ) (head : Head) → IsChain next mark count b head
+    → IsMarked mark count head.last b (blocks_for head.len - 1)
+last_marked next mark count b head chain =
+    let some : 0 < head.len = chain.some in
+    subst (λ x. IsMarked mark count x b (blocks_for head.len - 1)) chain.last (chain.marked (blocks_for head.len - 1) (omega arith))
+
+-- free blocks where a link of a chain changed
+pub free_link : (next : List ℕ) (mark : ℕ → ℕ × ℕ) (count free free_len : ℕ) → ((k : ℕ) → k < free_len → IsMarked mark count (block_at next free k) count k)
+    → (at link d j : ℕ) → mark at ≡ (d, j) → d ≢ count → (k : ℕ) → k < free_len → block_at (set next at link) free k ≡ block_at next free k
+free_link next mark count free free_len spare at link d j marked apart k low =
+    unchanged next at link free k (λ i h same. apart (sym (same_mark mark (block_at next free i) at count i d j (spare i (omega arith)).1 marked same).0))
