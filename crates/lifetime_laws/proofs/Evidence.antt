@@ -1,5 +1,5 @@
 -- What shows that an unacknowledged fragment will be answered in time: it, its answer or the answer that is due.
-use Rattle.std.proofs.Common.{◌≡◌, ℕ, ◌+◌, ◌<◌, ◌≤◌, ◌==◌, Bool, true, false, cond, List, [], ◌∷◌, ◌++◌, ◌⊎◌, inl, inr, refl, arith}
+use Rattle.std.proofs.Common.{◌≡◌, ℕ, ◌+◌, ◌<◌, ◌≤◌, ◌==◌, Bool, true, false, cond, List, [], ◌∷◌, ◌++◌, ◌⊎◌, inl, inr, refl, ap, arith}
 use Rattle.std.proofs.lemmas.Bool.{eqb-true, eqb-false}
 use Rattle.swp_base.specs.declared.control_frames.Kind.{Kind}
 use Rattle.swp_base.specs.declared.control_frames.Kind.TheVariants.{Rr, Rej, Rnr, Srej}
@@ -61,6 +61,12 @@ abbrev pub NoSrej : List Control → Type 0
 NoSrej [] = Unit {0}
 NoSrej (S Srej n ∷ ms) = ⊥
 NoSrej (_ ∷ ms) = NoSrej ms
+
+-- this mark acknowledges the places below k, and asks for nothing to be sent again
+abbrev pub OnlyAcks : Control → ℕ → Type 0
+OnlyAcks (I p n info) k = n ≡ k
+OnlyAcks (S Rr n) k = n ≡ k
+OnlyAcks _ k = ⊥
 
 -- the length accepted once all these marks are taken, by a receiver that stays ready
 abbrev pub course_of : ℕ → List Control → ℕ
@@ -218,6 +224,26 @@ no_srej_push (Rset _ _ ∷ ms) m e h = no_srej_push ms m e h
 no_srej_push (Ua ∷ ms) m e h = no_srej_push ms m e h
 no_srej_push (Act _ _ ∷ ms) m e h = no_srej_push ms m e h
 no_srej_push (Clt ∷ ms) m e h = no_srej_push ms m e h
+
+-- ## Wires whose first mark is taken
+
+pub no_srej_rest : (m : Control) (ms : List Control) → NoSrej (m ∷ ms) → NoSrej ms
+no_srej_rest (S Srej n) ms h = absurd h
+no_srej_rest (S Rr n) ms h = h
+no_srej_rest (S Rej n) ms h = h
+no_srej_rest (S Rnr n) ms h = h
+no_srej_rest (I _ _ _) ms h = h
+no_srej_rest (Rset _ _) ms h = h
+no_srej_rest Ua ms h = h
+no_srej_rest (Act _ _) ms h = h
+no_srej_rest Clt ms h = h
+
+-- what one that only acknowledges leaves
+pub only_acks : (m : Control) (n a : ℕ) (ms : List Control) → OnlyAcks m n
+    → (Answers a m → a < n) × (RewindBy (m ∷ ms) → RewindBy ms) × (last_count a (m ∷ ms) ≡ last_count n ms)
+only_acks (I p k info) n a ms e = (λ g. omega arith, λ g. g, ap (λ b. last_count b ms) e)
+only_acks (S Rr k) n a ms e = (λ g. omega arith, λ g. g, ap (λ b. last_count b ms) e)
+only_acks (_) n a ms e = absurd e
 
 -- ## The course
 

@@ -1,3 +1,4 @@
+pub mod SameMarks
 pub mod Evidence
 pub mod Timely
 pub mod Lasts

@@ -6,10 +6,10 @@ use mathlib.Core.List.{IsPrefix}
 use Rattle.swp_base.specs.declared.control_frames.Control.{Control}
 use Rattle.swp_base.specs.declared.control_frames.Control.TheVariants.{I, S, Rset, Ua, Act, Clt}
 use Rattle.shdlc_core.specs.declared.answers.LinkState.TheVariants.{Up}
-use Rattle.shdlc_core.specs.Machine.{EndState, begun, new_end, new_session, taken, take_answer, ticked, tick_answer, fetched, frame_due, frames_of, most_frames}
+use Rattle.shdlc_core.specs.Machine.{EndState, begun, new_end, taken, take_answer, ticked, tick_answer, fetched, frame_due, frames_of, most_frames}
 use Rattle.link_laws.specs.Wire.{OnWire, with_frame, fits, is_act, sans, overflows, loses_aged, aged_wire, older}
 use Rattle.link_laws.proofs.Marks.{Shows, Counts}
-use Rattle.link_laws.proofs.Flows.{flows_new}
+use Rattle.link_laws.proofs.Joined.{joined_weaker}
 use Rattle.link_laws.proofs.Idle.{few_taken, idle_after, left, no_due}
 use Rattle.session_laws.specs.Sessions.{NumberedShdlc, ShdlcLink, shdlc_exchanged, shdlc_put, shdlc_put_all, shdlc_becomes, with_shdlc_ended, took_with, shdlc_happens_at_controller, shdlc_ticks_at_controller, shdlc_aged, ShdlcEndEvent, shdlc_all_at_controller, ShdlcLinkEvent, shdlc_happens, shdlc_after, start, ShdlcTurn, shdlc_turn, shdlc_turned}
 use Rattle.session_laws.specs.Sessions.ShdlcTurn.{Offer, SetReady}
@@ -18,11 +18,11 @@ use Rattle.session_laws.specs.Sessions.ShdlcLinkEvent.{AtController, AtHost, Tic
 use Rattle.session_laws.specs.Losses.{Losses, no_losses, noted_loss, noted_all, noted_out, came_up, noted_here, noted_turns, noted_tick, noted_aged, noted_event, losses_after}
 use Rattle.session_laws.proofs.Wire.{IsData, Young, young_later, young_older}
 use Rattle.session_laws.proofs.Steps.{not_rset, took_other}
-use Rattle.session_laws.proofs.Ties.{data_due, sends_noted, offer_up, few_turns, none_due}
+use Rattle.session_laws.proofs.Ties.{Meets, IsNew, new_meets, data_due, sends_noted, offer_up, few_turns}
 use Rattle.session_laws.proofs.Quiet.{began_data, few_room}
 use Rattle.lifetime_laws.specs.Lifetime.{IsAnew, BeginsAnew, OnlyTurns, IsPlainHere, IsPlainEvent, AllPlain, LosesNone, GoesOn}
 use Rattle.lifetime_laws.proofs.Timely.{Timely}
-use Rattle.lifetime_laws.proofs.Lasts.{Lasts, lasts_exchanged, lasts_put, lasts_ready, lasts_ticked, lasts_older, lasts_taken, lasts_fetched, no_probe, ticked-due}
+use Rattle.lifetime_laws.proofs.Lasts.{Lasts, lasts_of, lasts_exchanged, lasts_put, lasts_ready, lasts_ticked, lasts_older, lasts_taken, lasts_fetched, no_probe, ticked-due}
 
 -- ## Wires that show marks
 
@@ -110,31 +110,13 @@ sends_each : (kf : ℕ) (c h : NumberedShdlc) (n : Losses) (e : EndState) (m : S
 sends_each kf c h n e m f is k v =
     let parts = or_parts n.lost (overflows (with_frame m.to_host f)) v in
     let g = k parts.0 in
-    let d = data_due e f g.0.near_due is in
+    let d = data_due e f g.0.joined.near_due is in
     let one : Lasts 0 kf (fetched e) m.host.side m.to_controller (with_frame m.to_host f) =
     rw is at (lasts_fetched kf e m.host.side m.to_controller m.to_host g.0) in
     let all : fits (with_frame m.to_host f) ≡ with_frame m.to_host f =
-    fits_all (with_frame m.to_host f) m.host.side.session.acked (length (fetched e).session.acc) one.far_marks one.far_shows one.far_sends.counts parts.1 in
+    let j = one.joined in
+    fits_all (with_frame m.to_host f) m.host.side.session.acked (length (fetched e).session.acc) j.far_marks j.far_shows j.far_sends.counts parts.1 in
     rw (not_rset f (inl d.0), all) (one, g.1, g.2)
-
--- it becomes e, and sends all that is due
-alive_becomes : (kf : ℕ) (c h : NumberedShdlc) (n : Losses) (l : ShdlcLink) (e : EndState) → Lasts 0 kf e l.host.side l.to_controller l.to_host
-    → left e ≤ most_frames
-    → frame_due l.host.side ≡ None → Keeps c l.controller → Keeps h l.host → (noted_out n l e).lost ≡ false → IsAlive 0 kf c h (shdlc_becomes l e)
-alive_becomes kf c h n l e lasts few idle near far v =
-    let m : ShdlcLink = shdlc_put_all l (frames_of most_frames e) in
-    let r = sends_noted (Sends kf l.controller l.host) (sends_each kf l.controller l.host) most_frames n e l (λ w. (lasts, refl, refl)) v in
-    record {
-      lasts = r.0;
-      near_idle = idle_after most_frames e few;
-      far_idle = ap (λ (k : NumberedShdlc). frame_due k.side) r.2 ∙ idle;
-      near = record {
-        emitted = ap (λ (k : NumberedShdlc). k.emitted) r.1 ∙ near.emitted;
-        took = ap (λ (k : NumberedShdlc). k.took) r.1 ∙ near.took;
-        past = ap (λ (k : NumberedShdlc). k.past) r.1 ∙ near.past;
-      };
-      far = let P : NumberedShdlc → Type 0 = Keeps h in subst P (sym r.2) far;
-    }
 
 -- ## Turns
 
@@ -142,7 +124,7 @@ lasts_turn : (kn kf : ℕ) (e f : EndState) (to_near to_far : List OnWire) (t : 
     → Lasts kn kf (shdlc_turn e t) f to_near to_far
 lasts_turn kn kf e f to_near to_far (Offer fragments) k =
     let P : EndState → Type 0 = λ g. Lasts kn kf g f to_near to_far in
-    subst P (sym (offer_up e fragments k.near_up)) (lasts_put kn kf e f to_near to_far fragments k)
+    subst P (sym (offer_up e fragments k.joined.near_up)) (lasts_put kn kf e f to_near to_far fragments k)
 lasts_turn kn kf e f to_near to_far (SetReady r) k = lasts_ready kn kf e f to_near to_far r k
 
 lasts_turns : (kn kf : ℕ) (ts : List ShdlcTurn) (e f : EndState) (to_near to_far : List OnWire) → Lasts kn kf e f to_near to_far
@@ -150,15 +132,34 @@ lasts_turns : (kn kf : ℕ) (ts : List ShdlcTurn) (e f : EndState) (to_near to_f
 lasts_turns kn kf [] e f to_near to_far k = k
 lasts_turns kn kf (t ∷ ts) e f to_near to_far k = lasts_turns kn kf ts (shdlc_turn e t) f to_near to_far (lasts_turn kn kf e f to_near to_far t k)
 
--- it becomes e, with few answers to send, has its turns, and sends all that is due
-alive_turned : (kf : ℕ) (c h : NumberedShdlc) (n : Losses) (l : ShdlcLink) (ts : List ShdlcTurn) (e : EndState)
-    → Lasts 0 kf e l.host.side l.to_controller l.to_host
-    → length e.due ≤ 1 → frame_due l.host.side ≡ None → Keeps c l.controller → Keeps h l.host → (noted_out n l (shdlc_turned e ts)).lost ≡ false
-    → IsAlive 0 kf c h (shdlc_becomes l (shdlc_turned e ts))
-alive_turned kf c h n l ts e lasts one idle near far v =
-    let k = lasts_turns 0 kf ts e l.host.side l.to_controller l.to_host lasts in
-    let few = few_turns ts e lasts.near_up (few_room e one) in
-    alive_becomes kf c h n l (shdlc_turned e ts) k (omega (arith, few, k.near_sends.window, k.near_sends.acked_next)) idle near far v
+-- c and h are what the ends were as the session began, and the far end has sent all that is due
+module _ (kf : ℕ) (c h : NumberedShdlc) (n : Losses) (l : ShdlcLink) (idle : frame_due l.host.side ≡ None) (near : Keeps c l.controller)
+    (far : Keeps h l.host) where
+  -- the near end becomes e, and sends all that is due
+  alive_becomes : (e : EndState) → Lasts 0 kf e l.host.side l.to_controller l.to_host → left e ≤ most_frames → (noted_out n l e).lost ≡ false
+      → IsAlive 0 kf c h (shdlc_becomes l e)
+  alive_becomes e lasts few v =
+      let m : ShdlcLink = shdlc_put_all l (frames_of most_frames e) in
+      let r = sends_noted (Sends kf l.controller l.host) (sends_each kf l.controller l.host) most_frames n e l (λ w. (lasts, refl, refl)) v in
+      record {
+        lasts = r.0;
+        near_idle = idle_after most_frames e few;
+        far_idle = ap (λ (k : NumberedShdlc). frame_due k.side) r.2 ∙ idle;
+        near = record {
+          emitted = ap (λ (k : NumberedShdlc). k.emitted) r.1 ∙ near.emitted;
+          took = ap (λ (k : NumberedShdlc). k.took) r.1 ∙ near.took;
+          past = ap (λ (k : NumberedShdlc). k.past) r.1 ∙ near.past;
+        };
+        far = let P : NumberedShdlc → Type 0 = Keeps h in subst P (sym r.2) far;
+      }
+
+  -- it becomes e, with few answers to send, has its turns, and sends all that is due
+  alive_turned : (ts : List ShdlcTurn) (e : EndState) → Lasts 0 kf e l.host.side l.to_controller l.to_host → length e.due ≤ 1
+      → (noted_out n l (shdlc_turned e ts)).lost ≡ false → IsAlive 0 kf c h (shdlc_becomes l (shdlc_turned e ts))
+  alive_turned ts e lasts one v =
+      let k = lasts_turns 0 kf ts e l.host.side l.to_controller l.to_host lasts in
+      let few = few_turns ts e lasts.joined.near_up (few_room e one) in
+      alive_becomes (shdlc_turned e ts) k (omega (arith, few, k.joined.near_sends.window, k.joined.near_sends.acked_next)) v
 
 none_waits : (e : EndState) → frame_due e ≡ None → length e.due ≡ 0
 none_waits e idle = ap length (no_due e idle)
@@ -166,7 +167,7 @@ none_waits e idle = ap length (no_due e idle)
 alive_turns : (kf : ℕ) (c h : NumberedShdlc) (n : Losses) (l : ShdlcLink) (ts : List ShdlcTurn) → IsAlive 0 kf c h l → (noted_here n l (Turns ts)).lost ≡ false
     → IsAlive 0 kf c h (shdlc_happens_at_controller l (Turns ts))
 alive_turns kf c h n l ts a v =
-    alive_turned kf c h n l ts l.controller.side a.lasts (let z = none_waits l.controller.side a.near_idle in omega arith) a.far_idle a.near a.far v
+    alive_turned kf c h n l a.far_idle a.near a.far ts l.controller.side a.lasts (let z = none_waits l.controller.side a.near_idle in omega arith) v
 
 -- ## A frame is taken
 
@@ -183,12 +184,13 @@ alive_takes c h n l ts a = go l.to_controller a
     go [] b v = b
     go (x ∷ xs) b v =
         let t = lasts_taken e l.host.side x xs l.to_host (no_probe 0 0 e l.host.side (x ∷ xs) l.to_host b.near_idle b.lasts) b.lasts in
-        let d = (mark_data x xs e.session.acked (length l.host.side.session.acc) b.lasts.near_marks b.lasts.near_shows b.lasts.near_sends.counts).0 in
-        let few = few_taken e l.host.side.session.acc x xs b.lasts.far_marks b.lasts.near_marks b.lasts.near_up b.lasts.near_shows b.lasts.near_sends in
+        let j = b.lasts.joined in
+        let d = (mark_data x xs e.session.acked (length l.host.side.session.acc) j.near_marks j.near_shows j.near_sends.counts).0 in
+        let few = few_taken e l.host.side.session.acc x xs j.far_marks j.near_marks j.near_up j.near_shows j.near_sends in
         let none = none_waits e b.near_idle in
         by (is_some (take_answer e x.frame).ended) (take_answer e x.frame).began (took_with l.controller.took x) (ap is_some t.1) (began_data e x.frame d)
         (took_other l.controller.took x (not_rset x.frame (inl d)))
-        (λ w. alive_turned 0 c h n (record l { to_controller = xs }) ts (taken e x.frame) t.0 (omega arith) b.far_idle b.near b.far w) v
+        (λ w. alive_turned 0 c h n (record l { to_controller = xs }) b.far_idle b.near b.far ts (taken e x.frame) t.0 (omega arith) w) v
       where
         from : Bool → ℕ → ShdlcLink
         from ended took =
@@ -212,8 +214,9 @@ alive_aged : (c h : NumberedShdlc) (n : Losses) (l : ShdlcLink) → IsAlive 0 0 
 alive_aged c h n l a v =
     let s = l.controller.side.session in
     let t = l.host.side.session in
-    let near_sans = sans_all l.to_controller s.acked (length t.acc) a.lasts.near_marks a.lasts.near_shows a.lasts.near_sends.counts in
-    let far_sans = sans_all l.to_host t.acked (length s.acc) a.lasts.far_marks a.lasts.far_shows a.lasts.far_sends.counts in
+    let j = a.lasts.joined in
+    let near_sans = sans_all l.to_controller s.acked (length t.acc) j.near_marks j.near_shows j.near_sends.counts in
+    let far_sans = sans_all l.to_host t.acked (length s.acc) j.far_marks j.far_shows j.far_sends.counts in
     let x : Bool = loses_aged (sans l.to_controller) in
     let y : Bool = loses_aged (sans l.to_host) in
     let parts = or_parts (n.lost || x) y v in
@@ -235,7 +238,7 @@ alive_ticks : (kf : ℕ) (c h : NumberedShdlc) (n : Losses) (l : ShdlcLink) (ts 
     → IsAlive 0 kf c h (shdlc_ticks_at_controller l ts)
 alive_ticks kf c h n l ts a v =
     by (is_some (tick_answer e).ended) (ap is_some t.1)
-    (λ w. alive_turned kf c h n l ts (ticked e) t.0 (omega (arith, none)) a.far_idle a.near a.far w) v
+    (λ w. alive_turned kf c h n l a.far_idle a.near a.far ts (ticked e) t.0 (omega (arith, none)) w) v
   where
     e : EndState
     e = l.controller.side
@@ -245,7 +248,7 @@ alive_ticks kf c h n l ts a v =
         (no_due l.host.side a.far_idle) a.lasts
 
     none : length (ticked e).due ≡ 0
-    none = ap length (ticked-due e a.lasts.near_up (omega (arith, a.lasts.near_timely.most)) ∙ no_due e a.near_idle)
+    none = ap length (ticked-due e a.lasts.joined.near_up (omega (arith, a.lasts.near_timely.most)) ∙ no_due e a.near_idle)
 
     Goes : Bool → Type 0
     Goes ended = (noted_out n (with_shdlc_ended l ended) (shdlc_turned (ticked e) ts)).lost ≡ false
@@ -320,50 +323,43 @@ alive_after (e ∷ es) c h n l p none a =
 
 -- ## A new session
 
-anew_lasts : (n f : EndState) → IsAnew n → IsAnew f → Lasts 0 0 n f [] []
-anew_lasts n f g k =
-    record {
-      near_up = g.up;
-      far_up = k.up;
-      near_due = rw g.due tt;
-      far_due = rw k.due tt;
-      near_marks = [];
-      far_marks = [];
-      near_shows = tt;
-      far_shows = tt;
-      near_young = tt;
-      far_young = tt;
-      near_sends = rw (g.session, k.session) (flows_new g.window g.fits.0 g.fits.1);
-      far_sends = rw (g.session, k.session) (flows_new k.window k.fits.0 k.fits.1);
-      near_timely = rw (g.session, k.session, g.timer, g.tries, k.due) (timely g.window);
-      far_timely = rw (g.session, k.session, k.timer, k.tries, g.due) (timely k.window);
-    }
-  where
-    timely : (w : ℕ) → Timely 0 (new_session w) 0 0 [] [] [] [] [] []
-    timely w =
-        record {
-          told = λ e. refl;
-          known = tt;
-          course = inl (omega arith);
-          evidence = λ e. absurd (omega arith);
-          starts = λ e b. refl;
-          probes = λ e. cc;
-          most = omega arith;
-          tried = λ e. absurd (omega arith);
-        }
+anew_is_new : (e : EndState) → IsAnew e → IsNew e
+anew_is_new e a = record { up = a.up; due = a.due; window = a.window; fits = a.fits; session = a.session }
 
 begins_alive : (l : ShdlcLink) → BeginsAnew l → IsAlive 0 0 l.controller l.host l
 begins_alive l b =
     record {
-      lasts = rw (b.to_controller, b.to_host) (anew_lasts l.controller.side l.host.side b.controller b.host);
-      near_idle = anew_idle l.controller.side b.controller;
-      far_idle = anew_idle l.host.side b.host;
+      lasts = rw (b.to_controller, b.to_host)
+          (lasts_of 0 0 n f [] [] [] [] (joined_weaker (Unit {0}) ⊥ (λ v. absurd v) n f [] [] m.joined)
+          (record { near_shows = tt; far_shows = tt; near_within = tt; far_within = tt }) tt tt
+          (timely n f b.controller b.host, timely f n b.host b.controller));
+      near_idle = m.near;
+      far_idle = m.far;
       near = record { emitted = refl; took = refl; past = refl };
       far = record { emitted = refl; took = refl; past = refl };
     }
   where
-    anew_idle : (e : EndState) → IsAnew e → frame_due e ≡ None
-    anew_idle e a = rw (a.due, a.session, none_due a.window) refl
+    n : EndState
+    n = l.controller.side
+
+    f : EndState
+    f = l.host.side
+
+    m : Meets n f [] []
+    m = new_meets n f (anew_is_new n b.controller) (anew_is_new f b.host)
+
+    timely : (n f : EndState) → IsAnew n → IsAnew f → Timely 0 n f [] [] [] []
+    timely n f g k =
+        record {
+          told = λ e. rw (g.session, k.session) refl;
+          known = tt;
+          course = inl (rw (g.session, k.session) (omega arith));
+          evidence = λ e. absurd (let z = rw g.session at e in omega arith);
+          starts = λ e b. g.timer;
+          probes = λ e. absurd (true≢false (sym (rw g.session at e)));
+          most = rw g.tries (omega arith);
+          tried = λ e. absurd (let z = rw g.tries at e in omega arith);
+        }
 
 goes_on : (before now : NumberedShdlc) → now.side.phase ≡ Up → Keeps before now → GoesOn before now
 goes_on before now up k = record { up = up; number = rw (k.emitted, k.took) refl; past = k.past }
@@ -372,13 +368,13 @@ pub alive_at_controller : (l : ShdlcLink) → BeginsAnew l → (events : List Sh
     → GoesOn l.controller (shdlc_after l events).controller
 alive_at_controller l b events plain none =
     let a = alive_after events l.controller l.host no_losses l plain none (begins_alive l b) in
-    goes_on l.controller (shdlc_after l events).controller a.lasts.near_up a.near
+    goes_on l.controller (shdlc_after l events).controller a.lasts.joined.near_up a.near
 
 pub alive_at_host : (l : ShdlcLink) → BeginsAnew l → (events : List ShdlcLinkEvent) → AllPlain events → LosesNone l events
     → GoesOn l.host (shdlc_after l events).host
 alive_at_host l b events plain none =
     let a = alive_after events l.controller l.host no_losses l plain none (begins_alive l b) in
-    goes_on l.host (shdlc_after l events).host a.lasts.far_up a.far
+    goes_on l.host (shdlc_after l events).host a.lasts.joined.far_up a.far
 
 start_anew : BeginsAnew start
 start_anew = record { controller = anew; host = anew; to_controller = refl; to_host = refl }

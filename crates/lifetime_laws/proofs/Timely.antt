@@ -1,431 +1,555 @@
 -- One sender, its receiver and the wires between them, where nothing was lost: the sender's timer never comes to ten while
--- something is sent and unacknowledged, and at most one try is made.
-use Rattle.std.proofs.Common.{◌≡◌, ℕ, ◌+◌, ◌<◌, ◌≤◌, true, false, List, [], ◌∷◌, ◌++◌, ◌⊎◌, inl, inr, refl, sym, ◌∙◌, arith, length, max}
+-- something is sent and unacknowledged, and at most one try is made. The near end is the sender.
+use Rattle.std.proofs.Common.{◌≡◌, ℕ, ◌+◌, ◌<◌, ◌≤◌, ◌==◌, Bool, true, false, cond, List, [], ◌∷◌, ◌++◌, ◌⊎◌, inl, inr, refl, sym, ◌∙◌, arith, length, length-append, max}
 use Rattle.std.proofs.lemmas.Bool.{cases_eq, cases_order, true≢false}
 use Rattle.swp_base.specs.declared.control_frames.Kind.{Kind}
 use Rattle.swp_base.specs.declared.control_frames.Control.{Control}
 use Rattle.swp_base.specs.declared.control_frames.Control.TheVariants.{I, S}
 use Rattle.shdlc_core.specs.declared.answers.Due.{Due}
-use Rattle.shdlc_core.specs.Machine.{Fragment, Session}
+use Rattle.shdlc_core.specs.Machine.{EndState, Fragment, Session, put_out, sent_again, sent_next}
 use Rattle.link_laws.specs.Wire.{OnWire, older, with_frame}
 use Rattle.link_laws.proofs.Marks.{Shows, last_count, last_count_push_I, last_count_push_S}
-use Rattle.link_laws.proofs.Whole.{AnswersOnly}
+use Rattle.link_laws.proofs.Whole.{AnswersOnly, push_not_empty}
+use Rattle.link_laws.proofs.Joined.{changed}
 use Rattle.session_laws.proofs.Wire.{Young}
-use Rattle.lifetime_laws.proofs.Evidence.{Answers, SentBy, AnswerBy, DueBy, RewindDue, RewindBy, NoSrej, course_of, sent_push, sent_new, answer_push, answer_new, sent_older, answer_older, sent_in_time, answer_in_time, rewind_push, rewind_new, no_srej_push, course_from, course_push, course_push_S, course_shows, last_answers, rewind_answers, rewind_due_answers, due_answers}
+use Rattle.lifetime_laws.proofs.Evidence.{Answers, SentBy, AnswerBy, DueBy, RewindDue, RewindBy, NoSrej, OnlyAcks, course_of, sent_push, sent_new, answer_push, answer_new, sent_older, answer_older, sent_in_time, answer_in_time, rewind_push, rewind_new, no_srej_push, no_srej_rest, only_acks, course_from, course_push, course_push_S, course_shows, last_answers, rewind_answers, rewind_due_answers, due_answers, due_push, rewind_due_push}
 
 -- the place a is answered in time
-abbrev pub Evidence : ℕ → ℕ → ℕ → List Due → List OnWire → List Control → List OnWire → List Control → Type 0
-Evidence a t r due there tm back bm = SentBy a t there tm ⊎ (AnswerBy a t back bm ⊎ DueBy a t r due)
+abbrev pub Evidence : ℕ → ℕ → EndState → List OnWire → List OnWire → List Control → List Control → Type 0
+Evidence a t far to_near to_far near_marks far_marks =
+    SentBy a t to_far far_marks ⊎ (AnswerBy a t to_near near_marks ⊎ DueBy a t (length far.session.acc) far.due)
+
+-- all places below n will be accepted, or are to be sent again
+abbrev pub Course : ℕ → EndState → List Control → List Control → Type 0
+Course n far near_marks far_marks = (n ≤ course_of (length far.session.acc) far_marks) ⊎ (RewindDue far.due ⊎ RewindBy near_marks)
+
+-- the other end isn't busy, or a probe goes out
+abbrev pub MaySend : Session → Type 0
+MaySend s = (s.peer_busy ≡ false) ⊎ (s.probe ≡ true)
 
 -- k ticks have passed that the sender has still to count
-pub record Timely (k : ℕ) (s : Session) (timer tries : ℕ) (acc : List Fragment) (due : List Due)
-    (there : List OnWire) (tm : List Control) (back : List OnWire) (bm : List Control) : Type 0 where
-  pub told : due ≡ [] → last_count s.acked bm ≡ length acc
-  pub known : NoSrej bm
-  pub course : (s.next ≤ course_of (length acc) tm) ⊎ (RewindDue due ⊎ RewindBy bm)
-  pub evidence : s.acked < s.next → Evidence s.acked (timer + k) (length acc) due there tm back bm
-  pub starts : s.acked ≡ s.next → (s.peer_busy ≡ false) ⊎ (s.probe ≡ true) → timer ≡ 0
-  pub probes : s.probe ≡ true → (s.next ≡ s.acked) × (s.acked < length s.out)
-  pub most : tries ≤ 1
-  pub tried : tries ≡ 1 → (s.acked < length s.out) × ((s.acked < s.next) ⊎ ((s.peer_busy ≡ false) ⊎ (s.probe ≡ true)))
+pub record Timely (k : ℕ) (near far : EndState) (to_near to_far : List OnWire) (near_marks far_marks : List Control) : Type 0 where
+  pub told : far.due ≡ [] → last_count near.session.acked near_marks ≡ length far.session.acc
+  pub known : NoSrej near_marks
+  pub course : Course near.session.next far near_marks far_marks
+  pub evidence : near.session.acked < near.session.next → Evidence near.session.acked (near.timer + k) far to_near to_far near_marks far_marks
+  pub starts : near.session.acked ≡ near.session.next → MaySend near.session → near.timer ≡ 0
+  pub probes : near.session.probe ≡ true → (near.session.next ≡ near.session.acked) × (near.session.acked < length near.session.out)
+  pub most : near.tries ≤ 1
+  pub tried : near.tries ≡ 1 → (near.session.acked < length near.session.out) × ((near.session.acked < near.session.next) ⊎ MaySend near.session)
 
--- ## The sender takes an answer
+-- ## What an end becomes
 
--- a place that was sent and isn't acknowledged is answered
-untimed : (s : Session) (n : ℕ) (acc : List Fragment) (due : List Due) (there : List OnWire) (tm : List Control) (back : List OnWire) (bm : List Control)
-    → AnswersOnly due → Shows there tm → Shows back bm → NoSrej bm → n ≤ length acc → n < s.next
-    → (due ≡ [] → last_count n bm ≡ length acc)
-    → (s.next ≤ course_of (length acc) tm) ⊎ (RewindDue due ⊎ RewindBy bm)
-    → Evidence n 0 (length acc) due there tm back bm
-untimed s n acc due there tm back bm answers st sb known i j told (inr (inl h)) = inr (inr (rewind_due_answers n (length acc) due h))
-untimed s n acc due there tm back bm answers st sb known i j told (inr (inr h)) = inr (inl (rewind_answers n back bm sb h))
-untimed s n acc due there tm back bm answers st sb known i j told (inl h) = go (cases_order n (length acc))
-  where
-    at : (ds : List Due) → due ≡ ds → n < length acc → Evidence n 0 (length acc) due there tm back bm
-    at [] q k = pick (last_answers n n (length acc) back bm sb known k (told q))
-      where
-        pick : (n ≡ length acc) ⊎ AnswerBy n 0 back bm → Evidence n 0 (length acc) due there tm back bm
-        pick (inl e) = absurd (omega arith)
-        pick (inr e) = inr (inl e)
-    at (d ∷ ds) q k = inr (inr (rw q (due_answers n (length acc) d ds (rw q at answers) k)))
+-- the sender takes the number n, which its receiver told, and becomes near'
+pub record TookNumber (near near' far : EndState) (n : ℕ) : Type 0 where
+  pub fits : (near.session.acked ≤ n) × (n ≤ length far.session.acc)
+  pub acked : near'.session.acked ≡ n
+  pub next : near'.session.next ≡ max near.session.next n
+  pub out : near'.session.out ≡ near.session.out
+  pub no_probe : (near.session.probe ≡ false) × (near'.session.probe ≡ false)
+  pub busy : (near'.session.peer_busy ≡ false) ⊎ (near'.session.peer_busy ≡ near.session.peer_busy)
+  pub grew : near.session.acked < n → (near'.timer ≡ 0) × (near'.tries ≡ 0)
+  pub same_tries : near.session.acked ≡ n → near'.tries ≡ near.tries
+  pub same_timer : near.session.acked ≡ n → n < max near.session.next n → near'.timer ≡ near.timer
+  pub starts : near'.session.acked ≡ near'.session.next → near'.session.peer_busy ≡ false → near'.timer ≡ 0
 
-    go : (n ≡ length acc) ⊎ ((n < length acc) ⊎ (length acc < n)) → Evidence n 0 (length acc) due there tm back bm
-    go (inl e) = inl (rw e (course_shows (length acc) there tm st (omega arith)))
-    go (inr (inl k)) = at due refl k
-    go (inr (inr k)) = absurd (omega arith)
+-- it takes the number n of a frame that asks for all from this place on again
+pub record Rewound (near near' far : EndState) (n : ℕ) : Type 0 where
+  pub fits : n ≤ length far.session.acc
+  pub acked : near'.session.acked ≡ n
+  pub next : near'.session.next ≡ n
+  pub out : near'.session.out ≡ near.session.out
+  pub no_probe : near'.session.probe ≡ false
+  pub timer : near'.timer ≡ 0
+  pub most : near'.tries ≤ 1
+  pub again : near'.tries ≡ 1 → (n ≡ near.session.acked) × (near.tries ≡ 1) × (near'.session.peer_busy ≡ false)
 
--- RR, or the number of an I frame
-pub timely_acked : (s s' : Session) (timer timer' tries tries' n : ℕ) (acc : List Fragment) (due : List Due)
-    (there : List OnWire) (tm : List Control) (x : OnWire) (back : List OnWire) (m : Control) (bm : List Control)
-    → (Answers s.acked m → s.acked < n) → (RewindBy (m ∷ bm) → RewindBy bm) → (NoSrej (m ∷ bm) → NoSrej bm)
-    → last_count s.acked (m ∷ bm) ≡ last_count n bm
-    → AnswersOnly due → Shows there tm → Shows back bm → s.acked ≤ n → n ≤ length acc
-    → s'.acked ≡ n → s'.next ≡ max s.next n → s'.out ≡ s.out → s.probe ≡ false → s'.probe ≡ false
-    → ((s'.peer_busy ≡ false) ⊎ (s'.peer_busy ≡ s.peer_busy))
-    → (s.acked < n → (timer' ≡ 0) × (tries' ≡ 0)) → (s.acked ≡ n → tries' ≡ tries) → (s.acked ≡ n → n < max s.next n → timer' ≡ timer)
-    → (s'.acked ≡ s'.next → s'.peer_busy ≡ false → timer' ≡ 0)
-    → Timely 0 s timer tries acc due there tm (x ∷ back) (m ∷ bm) → Timely 0 s' timer' tries' acc due there tm back bm
-timely_acked s s' timer timer' tries tries' n acc due there tm x back m bm plain rewind srej last answers st sb i j acked next out noprobe noprobe' busy grew
-    tries_same timer_same starts h =
+-- a receiver that accepted q, with these control frames to send, answers all that it was to answer when it had accepted r
+pub record AnswersAll (r q : ℕ) (due due' : List Due) : Type 0 where
+  pub told : due' ≡ [] → (due ≡ []) × (q ≡ r)
+  pub kept : (a t : ℕ) → DueBy a t r due → DueBy a t q due'
+  pub rewind : RewindDue due → RewindDue due'
+
+pub answers_same : (r : ℕ) (due : List Due) → AnswersAll r r due due
+answers_same r due = record { told = λ e. (e, refl); kept = λ a t g. g; rewind = λ g. g }
+
+-- one more control frame waits
+pub answers_pushed : (r : ℕ) (due : List Due) (d : Due) → AnswersAll r r due (due ++ d ∷ [])
+answers_pushed r due d =
     record {
-      told = λ e. rw acked (sym last ∙ h.told e);
-      known = srej h.known;
-      course = rw next (course h.course);
-      evidence = λ k. rw acked (evidence (let a : s'.acked < s'.next = k in omega (arith, acked, next)) (cases_order s.acked n));
-      starts = λ e b. starts e (free b);
-      probes = λ e. absurd (true≢false (sym e ∙ noprobe'));
-      most = most (cases_order s.acked n);
-      tried = λ e. tried e (cases_order s.acked n);
-    }
-  where
-    free : (s'.peer_busy ≡ false) ⊎ (s'.probe ≡ true) → s'.peer_busy ≡ false
-    free (inl b) = b
-    free (inr b) = absurd (true≢false (sym b ∙ noprobe'))
-
-    course : (s.next ≤ course_of (length acc) tm) ⊎ (RewindDue due ⊎ RewindBy (m ∷ bm))
-        → (max s.next n ≤ course_of (length acc) tm) ⊎ (RewindDue due ⊎ RewindBy bm)
-    course (inl k) = inl (omega (arith, course_from (length acc) tm))
-    course (inr (inl k)) = inr (inl k)
-    course (inr (inr k)) = inr (inr (rewind k))
-
-    tell : due ≡ [] → last_count n bm ≡ length acc
-    tell e = sym last ∙ h.told e
-
-    course_now : (s.next ≤ course_of (length acc) tm) ⊎ (RewindDue due ⊎ RewindBy (m ∷ bm))
-        → (s.next ≤ course_of (length acc) tm) ⊎ (RewindDue due ⊎ RewindBy bm)
-    course_now (inl k) = inl k
-    course_now (inr (inl k)) = inr (inl k)
-    course_now (inr (inr k)) = inr (inr (rewind k))
-
-    old : s.acked ≡ n → Evidence s.acked (timer + 0) (length acc) due there tm (x ∷ back) (m ∷ bm)
-        → Evidence s.acked (timer + 0) (length acc) due there tm back bm
-    old e (inl k) = inl k
-    old e (inr (inl (inl k))) = absurd (let g = plain k.0 in omega arith)
-    old e (inr (inl (inr k))) = inr (inl k)
-    old e (inr (inr k)) = inr (inr k)
-
-    evidence : n < max s.next n → (s.acked ≡ n) ⊎ ((s.acked < n) ⊎ (n < s.acked)) → Evidence n (timer' + 0) (length acc) due there tm back bm
-    evidence k (inl e) = rw (timer_same e k, ← e) (old e (h.evidence (omega arith)))
-    evidence k (inr (inl g)) =
-        let zero_timer : timer' + 0 ≡ 0 = omega (arith, (grew g).0) in
-        rw zero_timer (untimed s n acc due there tm back bm answers st sb (srej h.known) j (omega arith) tell (course_now h.course))
-    evidence k (inr (inr g)) = absurd (omega arith)
-
-    most : (s.acked ≡ n) ⊎ ((s.acked < n) ⊎ (n < s.acked)) → tries' ≤ 1
-    most (inl e) = omega (arith, tries_same e, h.most)
-    most (inr (inl g)) = omega (arith, (grew g).1)
-    most (inr (inr g)) = absurd (omega arith)
-
-    later : s.acked ≡ n → (s.acked < s.next) ⊎ ((s.peer_busy ≡ false) ⊎ (s.probe ≡ true)) → (s'.acked < s'.next) ⊎ ((s'.peer_busy ≡ false) ⊎ (s'.probe ≡ true))
-    later e (inl k) = inl (omega (arith, acked, next))
-    later e (inr (inl k)) = inr (inl (now busy))
-      where
-        now : (s'.peer_busy ≡ false) ⊎ (s'.peer_busy ≡ s.peer_busy) → s'.peer_busy ≡ false
-        now (inl b) = b
-        now (inr b) = b ∙ k
-    later e (inr (inr k)) = absurd (true≢false (sym k ∙ noprobe))
-
-    tried : tries' ≡ 1 → (s.acked ≡ n) ⊎ ((s.acked < n) ⊎ (n < s.acked))
-        → (s'.acked < length s'.out) × ((s'.acked < s'.next) ⊎ ((s'.peer_busy ≡ false) ⊎ (s'.probe ≡ true)))
-    tried e (inl q) =
-        let t = h.tried (sym (tries_same q) ∙ e) in
-        (rw (acked, out, ← q) t.0, later q t.1)
-    tried e (inr (inl g)) = absurd (let z = (grew g).1 in omega arith)
-    tried e (inr (inr g)) = absurd (omega arith)
-
--- REJ or RNR: all from its place on is to be sent again
-pub timely_rewound : (s s' : Session) (timer tries tries' n : ℕ) (acc : List Fragment) (due : List Due)
-    (there : List OnWire) (tm : List Control) (x : OnWire) (back : List OnWire) (m : Control) (bm : List Control)
-    → (NoSrej (m ∷ bm) → NoSrej bm) → last_count s.acked (m ∷ bm) ≡ last_count n bm → n ≤ length acc
-    → s'.acked ≡ n → s'.next ≡ n → s'.out ≡ s.out → s'.probe ≡ false → tries' ≤ 1
-    → (tries' ≡ 1 → (n ≡ s.acked) × (tries ≡ 1) × (s'.peer_busy ≡ false))
-    → Timely 0 s timer tries acc due there tm (x ∷ back) (m ∷ bm) → Timely 0 s' 0 tries' acc due there tm back bm
-timely_rewound s s' timer tries tries' n acc due there tm x back m bm srej last j acked next out noprobe most again h =
-    record {
-      told = λ e. rw acked (sym last ∙ h.told e);
-      known = srej h.known;
-      course = inl (omega (arith, course_from (length acc) tm, next));
-      evidence = λ k. absurd (omega (arith, acked, next));
-      starts = λ e b. refl;
-      probes = λ e. absurd (true≢false (sym e ∙ noprobe));
-      most = most;
-      tried = λ e. let g = again e in ((rw (acked, out, g.0) (h.tried g.1).0), inr (inl g.2));
+      told = λ e. absurd (push_not_empty due d e);
+      kept = λ a t g. due_push a t r due d g;
+      rewind = rewind_due_push due d;
     }
 
--- ## The receiver takes a frame
+-- it took the fragment at the place p and answers this one too; ms stand behind it on the wire
+pub record TookFragment (r q : ℕ) (due due' : List Due) (p : ℕ) (ms : List Control) : Type 0 where
+  pub all : AnswersAll r q due due'
+  pub new : (t : ℕ) → p ≤ r → t ≤ 4 → DueBy p t q due'
+  pub course : (n : ℕ) → n ≤ course_of (cond (p == r) (r + 1) r) ms → (n ≤ course_of q ms) ⊎ RewindDue due'
 
--- a fragment, with what the receiver has accepted and has to answer then
-pub timely_received : (k : ℕ) (s : Session) (timer tries p n : ℕ) (info : Fragment) (acc acc' : List Fragment) (due due' : List Due)
-    (x : OnWire) (there : List OnWire) (tm : List Control) (back : List OnWire) (bm : List Control)
-    → Young 4 (x ∷ there) → s.acked ≤ length acc
-    → ((t : ℕ) → p ≤ length acc → t ≤ 4 → DueBy p t (length acc') due')
-    → ((a t : ℕ) → DueBy a t (length acc) due → DueBy a t (length acc') due')
-    → (RewindDue due → RewindDue due')
-    → (s.next ≤ course_of (length acc) (I p n info ∷ tm) → (s.next ≤ course_of (length acc') tm) ⊎ RewindDue due')
-    → (due' ≡ [] → (due ≡ []) × (length acc' ≡ length acc))
-    → Timely k s timer tries acc due (x ∷ there) (I p n info ∷ tm) back bm → Timely k s timer tries acc' due' there tm back bm
-timely_received k s timer tries p n info acc acc' due due' x there tm back bm young low new kept rewind course told h =
-    record {
-      told = λ e. let g = told e in h.told g.0 ∙ sym g.1;
-      known = h.known;
-      course = go h.course;
-      evidence = λ e. evidence (h.evidence e);
-      starts = h.starts;
-      probes = h.probes;
-      most = h.most;
-      tried = h.tried;
-    }
-  where
-    pick : (s.next ≤ course_of (length acc') tm) ⊎ RewindDue due' → (s.next ≤ course_of (length acc') tm) ⊎ (RewindDue due' ⊎ RewindBy bm)
-    pick (inl c) = inl c
-    pick (inr c) = inr (inl c)
+module _ (near far : EndState) (to_near to_far : List OnWire) (near_marks far_marks : List Control) where
+  -- ## The sender takes an answer
 
-    go : (s.next ≤ course_of (length acc) (I p n info ∷ tm)) ⊎ (RewindDue due ⊎ RewindBy bm)
-        → (s.next ≤ course_of (length acc') tm) ⊎ (RewindDue due' ⊎ RewindBy bm)
-    go (inl c) = pick (course c)
-    go (inr (inl c)) = inr (inl (rewind c))
-    go (inr (inr c)) = inr (inr c)
+  -- a place that was sent and isn't acknowledged is answered
+  untimed : (n : ℕ) → AnswersOnly far.due → Shows to_far far_marks → Shows to_near near_marks → NoSrej near_marks
+      → n ≤ length far.session.acc → n < near.session.next → (far.due ≡ [] → last_count n near_marks ≡ length far.session.acc)
+      → Course near.session.next far near_marks far_marks → Evidence n 0 far to_near to_far near_marks far_marks
+  untimed n answers sf sn known i j told (inr (inl h)) = inr (inr (rewind_due_answers n (length far.session.acc) far.due h))
+  untimed n answers sf sn known i j told (inr (inr h)) = inr (inl (rewind_answers n to_near near_marks sn h))
+  untimed n answers sf sn known i j told (inl h) = go (cases_order n (length far.session.acc))
+    where
+      at : (ds : List Due) → far.due ≡ ds → n < length far.session.acc → Evidence n 0 far to_near to_far near_marks far_marks
+      at [] q k = pick (last_answers n n (length far.session.acc) to_near near_marks sn known k (told q))
+        where
+          pick : (n ≡ length far.session.acc) ⊎ AnswerBy n 0 to_near near_marks → Evidence n 0 far to_near to_far near_marks far_marks
+          pick (inl e) = absurd (omega arith)
+          pick (inr e) = inr (inl e)
+      at (d ∷ ds) q k = inr (inr (rw q (due_answers n (length far.session.acc) d ds (rw q at answers) k)))
 
-    evidence : Evidence s.acked (timer + k) (length acc) due (x ∷ there) (I p n info ∷ tm) back bm
-        → Evidence s.acked (timer + k) (length acc') due' there tm back bm
-    evidence (inl (inl e)) =
-        let fits : timer + k ≤ 4 = omega (arith, e.1, young.0) in
-        let here : p ≤ length acc = omega (arith, e.0) in
-        inr (inr (rw (← e.0) (new (timer + k) here fits)))
-    evidence (inl (inr e)) = inl e
-    evidence (inr (inl e)) = inr (inl e)
-    evidence (inr (inr e)) = inr (inr (kept s.acked (timer + k) e))
+      go : (n ≡ length far.session.acc) ⊎ ((n < length far.session.acc) ⊎ (length far.session.acc < n))
+          → Evidence n 0 far to_near to_far near_marks far_marks
+      go (inl e) = inl (rw e (course_shows (length far.session.acc) to_far far_marks sf (omega arith)))
+      go (inr (inl k)) = at far.due refl k
+      go (inr (inr k)) = absurd (omega arith)
 
--- ## Frames are made
+  -- RR, or the number of an I frame
+  pub timely_acked : (near' : EndState) (x : OnWire) (m : Control) (n : ℕ) → OnlyAcks m n → AnswersOnly far.due
+      → Shows to_far far_marks → Shows to_near near_marks → TookNumber near near' far n
+      → Timely 0 near far (x ∷ to_near) to_far (m ∷ near_marks) far_marks → Timely 0 near' far to_near to_far near_marks far_marks
+  timely_acked near' x m n is answers sf sn took h =
+      record {
+        told = λ e. rw took.acked (tell e);
+        known = known;
+        course = rw took.next (grown (course h.course));
+        evidence = λ k.
+            rw took.acked (evidence (let a : near'.session.acked < near'.session.next = k in omega (arith, took.acked, took.next)) order);
+        starts = λ e b. took.starts e (free b);
+        probes = λ e. absurd (true≢false (sym e ∙ took.no_probe.1));
+        most = most order;
+        tried = λ e. tried e order;
+      }
+    where
+      order : (near.session.acked ≡ n) ⊎ ((near.session.acked < n) ⊎ (n < near.session.acked))
+      order = cases_order near.session.acked n
 
--- the receiver sends an answer that was due
-pub timely_answer : (k : ℕ) (s : Session) (timer tries : ℕ) (acc : List Fragment) (d : Due) (ds : List Due) (kind : Kind) (c : Control)
-    (there : List OnWire) (tm : List Control) (back : List OnWire) (bm : List Control)
-    → Shows back bm → NoSrej (S kind (length acc) ∷ []) → (RewindDue (d ∷ ds) → RewindBy (S kind (length acc) ∷ []) ⊎ RewindDue ds)
-    → ((a t : ℕ) → DueBy a t (length acc) (d ∷ ds) → (Answers a (S kind (length acc)) × (t ≤ 4)) ⊎ DueBy a t (length acc) ds)
-    → Timely k s timer tries acc (d ∷ ds) there tm back bm
-    → Timely k s timer tries acc ds there tm (with_frame back c) (bm ++ S kind (length acc) ∷ [])
-timely_answer k s timer tries acc d ds kind c there tm back bm sb srej rewind answers h =
-    record {
-      told = λ e. last_count_push_S s.acked (length acc) kind bm;
-      known = no_srej_push bm (S kind (length acc)) srej h.known;
-      course = go h.course;
-      evidence = λ e. evidence (h.evidence e);
-      starts = h.starts;
-      probes = h.probes;
-      most = h.most;
-      tried = h.tried;
-    }
-  where
-    pick : RewindBy (S kind (length acc) ∷ []) ⊎ RewindDue ds
-        → (s.next ≤ course_of (length acc) tm) ⊎ (RewindDue ds ⊎ RewindBy (bm ++ S kind (length acc) ∷ []))
-    pick (inl c) = inr (inr (rewind_new bm (S kind (length acc)) c))
-    pick (inr c) = inr (inl c)
+      rest : (Answers near.session.acked m → near.session.acked < n) × (RewindBy (m ∷ near_marks) → RewindBy near_marks)
+          × (last_count near.session.acked (m ∷ near_marks) ≡ last_count n near_marks)
+      rest = only_acks m n near.session.acked near_marks is
 
-    go : (s.next ≤ course_of (length acc) tm) ⊎ (RewindDue (d ∷ ds) ⊎ RewindBy bm)
-        → (s.next ≤ course_of (length acc) tm) ⊎ (RewindDue ds ⊎ RewindBy (bm ++ S kind (length acc) ∷ []))
-    go (inl c) = inl c
-    go (inr (inl c)) = pick (rewind c)
-    go (inr (inr c)) = inr (inr (rewind_push bm (S kind (length acc)) c))
+      known : NoSrej near_marks
+      known = no_srej_rest m near_marks h.known
 
-    made : (Answers s.acked (S kind (length acc)) × (timer + k ≤ 4)) ⊎ DueBy s.acked (timer + k) (length acc) ds
-        → Evidence s.acked (timer + k) (length acc) ds there tm (with_frame back c) (bm ++ S kind (length acc) ∷ [])
-    made (inl e) = inr (inl (answer_new s.acked (timer + k) back bm c (S kind (length acc)) e.0 e.1 sb))
-    made (inr e) = inr (inr e)
+      free : MaySend near'.session → near'.session.peer_busy ≡ false
+      free (inl b) = b
+      free (inr b) = absurd (true≢false (sym b ∙ took.no_probe.1))
 
-    evidence : Evidence s.acked (timer + k) (length acc) (d ∷ ds) there tm back bm
-        → Evidence s.acked (timer + k) (length acc) ds there tm (with_frame back c) (bm ++ S kind (length acc) ∷ [])
-    evidence (inl e) = inl e
-    evidence (inr (inl e)) = inr (inl (answer_push s.acked (timer + k) back bm c (S kind (length acc)) e))
-    evidence (inr (inr e)) = made (answers s.acked (timer + k) e)
+      course : Course near.session.next far (m ∷ near_marks) far_marks → Course near.session.next far near_marks far_marks
+      course (inl k) = inl k
+      course (inr (inl k)) = inr (inl k)
+      course (inr (inr k)) = inr (inr (rest.1 k))
 
--- it sends a fragment of its own
-pub timely_answer_I : (k : ℕ) (s : Session) (timer tries p : ℕ) (info : Fragment) (acc : List Fragment) (due : List Due) (c : Control)
-    (there : List OnWire) (tm : List Control) (back : List OnWire) (bm : List Control)
-    → Timely k s timer tries acc due there tm back bm
-    → Timely k s timer tries acc due there tm (with_frame back c) (bm ++ I p (length acc) info ∷ [])
-timely_answer_I k s timer tries p info acc due c there tm back bm h =
-    record {
-      told = λ e. last_count_push_I s.acked p (length acc) info bm;
-      known = no_srej_push bm (I p (length acc) info) tt h.known;
-      course = go h.course;
-      evidence = λ e. evidence (h.evidence e);
-      starts = h.starts;
-      probes = h.probes;
-      most = h.most;
-      tried = h.tried;
-    }
-  where
-    go : (s.next ≤ course_of (length acc) tm) ⊎ (RewindDue due ⊎ RewindBy bm)
-        → (s.next ≤ course_of (length acc) tm) ⊎ (RewindDue due ⊎ RewindBy (bm ++ I p (length acc) info ∷ []))
-    go (inl c) = inl c
-    go (inr (inl c)) = inr (inl c)
-    go (inr (inr c)) = inr (inr (rewind_push bm (I p (length acc) info) c))
+      grown : Course near.session.next far near_marks far_marks → Course (max near.session.next n) far near_marks far_marks
+      grown (inl k) = inl (omega (arith, course_from (length far.session.acc) far_marks, took.fits.1))
+      grown (inr k) = inr k
 
-    evidence : Evidence s.acked (timer + k) (length acc) due there tm back bm
-        → Evidence s.acked (timer + k) (length acc) due there tm (with_frame back c) (bm ++ I p (length acc) info ∷ [])
-    evidence (inl e) = inl e
-    evidence (inr (inl e)) = inr (inl (answer_push s.acked (timer + k) back bm c (I p (length acc) info) e))
-    evidence (inr (inr e)) = inr (inr e)
+      tell : far.due ≡ [] → last_count n near_marks ≡ length far.session.acc
+      tell e = sym rest.2 ∙ h.told e
 
--- the sender sends an answer
-pub timely_send_S : (k : ℕ) (s : Session) (timer tries n : ℕ) (kind : Kind) (acc : List Fragment) (due : List Due) (c : Control)
-    (there : List OnWire) (tm : List Control) (back : List OnWire) (bm : List Control)
-    → Timely k s timer tries acc due there tm back bm
-    → Timely k s timer tries acc due (with_frame there c) (tm ++ S kind n ∷ []) back bm
-timely_send_S k s timer tries n kind acc due c there tm back bm h =
-    record {
-      told = h.told;
-      known = h.known;
-      course = go h.course;
-      evidence = λ e. evidence (h.evidence e);
-      starts = h.starts;
-      probes = h.probes;
-      most = h.most;
-      tried = h.tried;
-    }
-  where
-    go : (s.next ≤ course_of (length acc) tm) ⊎ (RewindDue due ⊎ RewindBy bm)
-        → (s.next ≤ course_of (length acc) (tm ++ S kind n ∷ [])) ⊎ (RewindDue due ⊎ RewindBy bm)
-    go (inl c) = inl (course_push_S (length acc) s.next n kind tm c)
-    go (inr c) = inr c
+      old : near.session.acked ≡ n → Evidence near.session.acked (near.timer + 0) far (x ∷ to_near) to_far (m ∷ near_marks) far_marks
+          → Evidence near.session.acked (near.timer + 0) far to_near to_far near_marks far_marks
+      old e (inl k) = inl k
+      old e (inr (inl (inl k))) = absurd (let g = rest.0 k.0 in omega arith)
+      old e (inr (inl (inr k))) = inr (inl k)
+      old e (inr (inr k)) = inr (inr k)
 
-    evidence : Evidence s.acked (timer + k) (length acc) due there tm back bm
-        → Evidence s.acked (timer + k) (length acc) due (with_frame there c) (tm ++ S kind n ∷ []) back bm
-    evidence (inl e) = inl (sent_push s.acked (timer + k) there tm c (S kind n) e)
-    evidence (inr e) = inr e
+      evidence : n < max near.session.next n → (near.session.acked ≡ n) ⊎ ((near.session.acked < n) ⊎ (n < near.session.acked))
+          → Evidence n (near'.timer + 0) far to_near to_far near_marks far_marks
+      evidence k (inl e) = rw (took.same_timer e k, ← e) (old e (h.evidence (omega arith)))
+      evidence k (inr (inl g)) =
+          let zero_timer : near'.timer + 0 ≡ 0 = omega (arith, (took.grew g).0) in
+          rw zero_timer (untimed n answers sf sn known took.fits.1 (omega arith) tell (course h.course))
+      evidence k (inr (inr g)) = absurd (omega (arith, took.fits.0))
 
--- the sender sends its next fragment
-pub timely_send : (s s' : Session) (timer tries n : ℕ) (info : Fragment) (acc : List Fragment) (due : List Due) (c : Control)
-    (there : List OnWire) (tm : List Control) (back : List OnWire) (bm : List Control)
-    → Shows there tm → s.acked ≤ s.next → s.next < length s.out → (s.peer_busy ≡ false) ⊎ (s.probe ≡ true)
-    → s'.acked ≡ s.acked → s'.next ≡ s.next + 1 → s'.out ≡ s.out → s'.probe ≡ false
-    → Timely 0 s timer tries acc due there tm back bm
-    → Timely 0 s' timer tries acc due (with_frame there c) (tm ++ I s.next n info ∷ []) back bm
-timely_send s s' timer tries n info acc due c there tm back bm st from inside may acked next out noprobe h =
-    record {
-      told = λ e. rw acked (h.told e);
-      known = h.known;
-      course = rw next (go h.course);
-      evidence = λ e. rw acked (evidence (cases_order s.acked s.next));
-      starts = λ e b. absurd (omega (arith, acked, next));
-      probes = λ e. absurd (true≢false (sym e ∙ noprobe));
-      most = h.most;
-      tried = λ e. (rw (acked, out) (omega arith), inl (omega (arith, acked, next)));
-    }
-  where
-    go : (s.next ≤ course_of (length acc) tm) ⊎ (RewindDue due ⊎ RewindBy bm)
-        → (s.next + 1 ≤ course_of (length acc) (tm ++ I s.next n info ∷ [])) ⊎ (RewindDue due ⊎ RewindBy bm)
-    go (inl c) = inl (course_push (length acc) s.next n info tm c)
-    go (inr c) = inr c
+      most : (near.session.acked ≡ n) ⊎ ((near.session.acked < n) ⊎ (n < near.session.acked)) → near'.tries ≤ 1
+      most (inl e) = omega (arith, took.same_tries e, h.most)
+      most (inr (inl g)) = omega (arith, (took.grew g).1)
+      most (inr (inr g)) = absurd (omega (arith, took.fits.0))
 
-    old : Evidence s.acked (timer + 0) (length acc) due there tm back bm
-        → Evidence s.acked (timer + 0) (length acc) due (with_frame there c) (tm ++ I s.next n info ∷ []) back bm
-    old (inl e) = inl (sent_push s.acked (timer + 0) there tm c (I s.next n info) e)
-    old (inr e) = inr e
+      later : near.session.acked ≡ n → (near.session.acked < near.session.next) ⊎ MaySend near.session
+          → (near'.session.acked < near'.session.next) ⊎ MaySend near'.session
+      later e (inl k) = inl (omega (arith, took.acked, took.next))
+      later e (inr (inl k)) = inr (inl (now took.busy))
+        where
+          now : (near'.session.peer_busy ≡ false) ⊎ (near'.session.peer_busy ≡ near.session.peer_busy) → near'.session.peer_busy ≡ false
+          now (inl b) = b
+          now (inr b) = b ∙ k
+      later e (inr (inr k)) = absurd (true≢false (sym k ∙ took.no_probe.0))
 
-    evidence : (s.acked ≡ s.next) ⊎ ((s.acked < s.next) ⊎ (s.next < s.acked))
-        → Evidence s.acked (timer + 0) (length acc) due (with_frame there c) (tm ++ I s.next n info ∷ []) back bm
-    evidence (inl e) =
-        let zero_timer : timer + 0 ≡ 0 = omega (arith, h.starts e may) in
-        inl (rw e (sent_new s.next (timer + 0) n info there tm c zero_timer st))
-    evidence (inr (inl e)) = old (h.evidence e)
-    evidence (inr (inr e)) = absurd (omega arith)
+      tried : near'.tries ≡ 1 → (near.session.acked ≡ n) ⊎ ((near.session.acked < n) ⊎ (n < near.session.acked))
+          → (near'.session.acked < length near'.session.out) × ((near'.session.acked < near'.session.next) ⊎ MaySend near'.session)
+      tried e (inl q) =
+          let t = h.tried (sym (took.same_tries q) ∙ e) in
+          (rw (took.acked, took.out, ← q) t.0, later q t.1)
+      tried e (inr (inl g)) = absurd (let z = (took.grew g).1 in omega arith)
+      tried e (inr (inr g)) = absurd (omega (arith, took.fits.0))
 
--- ## Time
+  -- REJ or RNR: all from its place on is to be sent again
+  pub timely_rewound : (near' : EndState) (x : OnWire) (kind : Kind) (n : ℕ) → Rewound near near' far n
+      → Timely 0 near far (x ∷ to_near) to_far (S kind n ∷ near_marks) far_marks → Timely 0 near' far to_near to_far near_marks far_marks
+  timely_rewound near' x kind n is h =
+      record {
+        told = λ e. rw is.acked (h.told e);
+        known = no_srej_rest (S kind n) near_marks h.known;
+        course = inl (omega (arith, course_from (length far.session.acc) far_marks, is.next, is.fits));
+        evidence = λ k. absurd (omega (arith, is.acked, is.next));
+        starts = λ e b. is.timer;
+        probes = λ e. absurd (true≢false (sym e ∙ is.no_probe));
+        most = is.most;
+        tried = λ e. let g = is.again e in ((rw (is.acked, is.out, g.0) (h.tried g.1).0), inr (inl g.2));
+      }
 
--- all frames grow older by a tick that the sender has still to count
-pub timely_older : (s : Session) (timer tries : ℕ) (acc : List Fragment) (due : List Due)
-    (there : List OnWire) (tm : List Control) (back : List OnWire) (bm : List Control) → due ≡ []
-    → Timely 0 s timer tries acc due there tm back bm → Timely 1 s timer tries acc due (older there) tm (older back) bm
-timely_older s timer tries acc due there tm back bm none h =
-    record {
-      told = h.told;
-      known = h.known;
-      course = h.course;
-      evidence = λ e. evidence (h.evidence e);
-      starts = h.starts;
-      probes = h.probes;
-      most = h.most;
-      tried = h.tried;
-    }
-  where
-    same : (timer + 0) + 1 ≡ timer + 1
-    same = omega arith
+  -- ## The receiver takes a frame
 
-    evidence : Evidence s.acked (timer + 0) (length acc) due there tm back bm → Evidence s.acked (timer + 1) (length acc) due (older there) tm (older back) bm
-    evidence (inl e) = inl (rw (← same) (sent_older s.acked (timer + 0) there tm e))
-    evidence (inr (inl e)) = inr (inl (rw (← same) (answer_older s.acked (timer + 0) back bm e)))
-    evidence (inr (inr e)) = absurd (rw none at e)
+  -- it answers all that it was to answer
+  pub timely_answering : (k : ℕ) (far' : EndState) → far'.session.acc ≡ far.session.acc
+      → AnswersAll (length far.session.acc) (length far'.session.acc) far.due far'.due
+      → Timely k near far to_near to_far near_marks far_marks → Timely k near far' to_near to_far near_marks far_marks
+  timely_answering k far' same all h =
+      record {
+        told = λ e. let g = all.told e in h.told g.0 ∙ sym g.1;
+        known = h.known;
+        course = go h.course;
+        evidence = λ e. evidence (h.evidence e);
+        starts = h.starts;
+        probes = h.probes;
+        most = h.most;
+        tried = h.tried;
+      }
+    where
+      go : Course near.session.next far near_marks far_marks → Course near.session.next far' near_marks far_marks
+      go (inl c) = inl (rw same c)
+      go (inr (inl c)) = inr (inl (all.rewind c))
+      go (inr (inr c)) = inr (inr c)
 
--- a tick of the sender comes before the tenth while something is sent and unacknowledged
-pub in_time : (s : Session) (timer tries : ℕ) (acc : List Fragment) (due : List Due)
-    (there : List OnWire) (tm : List Control) (back : List OnWire) (bm : List Control) → due ≡ [] → Young 4 there → Young 4 back
-    → Timely 1 s timer tries acc due there tm back bm → s.acked < s.next → timer + 1 < 10
-in_time s timer tries acc due there tm back bm none yt yb h e = go (h.evidence e)
-  where
-    go : Evidence s.acked (timer + 1) (length acc) due there tm back bm → timer + 1 < 10
-    go (inl k) = omega (arith, sent_in_time s.acked (timer + 1) 4 there tm yt k)
-    go (inr (inl k)) = omega (arith, answer_in_time s.acked (timer + 1) 4 back bm yb k)
-    go (inr (inr k)) = absurd (rw none at k)
+      evidence : Evidence near.session.acked (near.timer + k) far to_near to_far near_marks far_marks
+          → Evidence near.session.acked (near.timer + k) far' to_near to_far near_marks far_marks
+      evidence (inl e) = inl e
+      evidence (inr (inl e)) = inr (inl e)
+      evidence (inr (inr e)) = inr (inr (all.kept near.session.acked (near.timer + k) e))
 
--- the sender counts a tick
-pub timely_counted : (s : Session) (timer tries : ℕ) (acc : List Fragment) (due : List Due)
-    (there : List OnWire) (tm : List Control) (back : List OnWire) (bm : List Control)
-    → (s.acked ≡ s.next → (s.peer_busy ≡ false) ⊎ (s.probe ≡ true) → ⊥)
-    → Timely 1 s timer tries acc due there tm back bm → Timely 0 s (timer + 1) tries acc due there tm back bm
-timely_counted s timer tries acc due there tm back bm runs h =
-    record {
-      told = h.told;
-      known = h.known;
-      course = h.course;
-      evidence = λ e. let same : (timer + 1) + 0 ≡ timer + 1 = omega arith in rw same (h.evidence e);
-      starts = λ e b. absurd (runs e b);
-      probes = h.probes;
-      most = h.most;
-      tried = h.tried;
-    }
+  -- what it accepted and has to answer is the same
+  pub timely_kept : (k : ℕ) (far' : EndState) → far'.session.acc ≡ far.session.acc → far'.due ≡ far.due
+      → Timely k near far to_near to_far near_marks far_marks → Timely k near far' to_near to_far near_marks far_marks
+  timely_kept k far' same due h = timely_answering k far' same (rw (same, due) (answers_same (length far.session.acc) far.due)) h
 
--- a timer that doesn't run counts nothing
-pub timely_still : (s : Session) (timer tries : ℕ) (acc : List Fragment) (due : List Due)
-    (there : List OnWire) (tm : List Control) (back : List OnWire) (bm : List Control)
-    → (s.acked < s.next → ⊥)
-    → Timely 1 s timer tries acc due there tm back bm → Timely 0 s timer tries acc due there tm back bm
-timely_still s timer tries acc due there tm back bm still h =
-    record {
-      told = h.told;
-      known = h.known;
-      course = h.course;
-      evidence = λ e. absurd (still e);
-      starts = h.starts;
-      probes = h.probes;
-      most = h.most;
-      tried = h.tried;
-    }
+  -- it takes a frame without a fragment
+  pub timely_past : (k : ℕ) (x : OnWire) (kind : Kind) (n : ℕ) → Timely k near far to_near (x ∷ to_far) near_marks (S kind n ∷ far_marks)
+      → Timely k near far to_near to_far near_marks far_marks
+  timely_past k x kind n h =
+      record {
+        told = h.told;
+        known = h.known;
+        course = h.course;
+        evidence = h.evidence;
+        starts = h.starts;
+        probes = h.probes;
+        most = h.most;
+        tried = h.tried;
+      }
 
--- the other end is busy, something waits and nothing is sent: the first try is made, with a probe
-pub timely_probe : (s s' : Session) (timer tries : ℕ) (acc : List Fragment) (due : List Due)
-    (there : List OnWire) (tm : List Control) (back : List OnWire) (bm : List Control)
-    → s.acked ≡ s.next → s.next < length s.out → s.peer_busy ≡ true → s.probe ≡ false
-    → s'.acked ≡ s.acked → s'.next ≡ s.acked → s'.out ≡ s.out → s'.probe ≡ true → s.acked ≤ length acc
-    → Timely 1 s timer tries acc due there tm back bm → Timely 0 s' 0 (tries + 1) acc due there tm back bm
-timely_probe s s' timer tries acc due there tm back bm none waits busy noprobe acked next out probe low h =
-    record {
-      told = λ e. rw acked (h.told e);
-      known = h.known;
-      course = inl (omega (arith, course_from (length acc) tm, next));
-      evidence = λ e. absurd (omega (arith, acked, next));
-      starts = λ e b. refl;
-      probes = λ e. (omega (arith, acked, next), rw (acked, out) (omega arith));
-      most = first (cases_eq tries 1);
-      tried = λ e. (rw (acked, out) (omega arith), inr (inr probe));
-    }
-  where
-    no_try : (s.acked < s.next) ⊎ ((s.peer_busy ≡ false) ⊎ (s.probe ≡ true)) → ⊥
-    no_try (inl k) = omega arith
-    no_try (inr (inl k)) = true≢false (sym busy ∙ k)
-    no_try (inr (inr k)) = true≢false (sym k ∙ noprobe)
+  -- it takes a fragment
+  pub timely_received : (k : ℕ) (far' : EndState) (x : OnWire) (p n : ℕ) (info : Fragment) → Young 4 (x ∷ to_far) → near.session.acked ≤ length far.session.acc
+      → TookFragment (length far.session.acc) (length far'.session.acc) far.due far'.due p far_marks
+      → Timely k near far to_near (x ∷ to_far) near_marks (I p n info ∷ far_marks) → Timely k near far' to_near to_far near_marks far_marks
+  timely_received k far' x p n info young low took h =
+      record {
+        told = λ e. let g = took.all.told e in h.told g.0 ∙ sym g.1;
+        known = h.known;
+        course = go h.course;
+        evidence = λ e. evidence (h.evidence e);
+        starts = h.starts;
+        probes = h.probes;
+        most = h.most;
+        tried = h.tried;
+      }
+    where
+      pick : (near.session.next ≤ course_of (length far'.session.acc) far_marks) ⊎ RewindDue far'.due → Course near.session.next far' near_marks far_marks
+      pick (inl c) = inl c
+      pick (inr c) = inr (inl c)
 
-    first : (tries ≡ 1) ⊎ (tries ≡ 1 → ⊥) → tries + 1 ≤ 1
-    first (inl e) = absurd (no_try (h.tried e).1)
-    first (inr e) = omega (arith, h.most)
+      go : Course near.session.next far near_marks (I p n info ∷ far_marks) → Course near.session.next far' near_marks far_marks
+      go (inl c) = pick (took.course near.session.next c)
+      go (inr (inl c)) = inr (inl (took.all.rewind c))
+      go (inr (inr c)) = inr (inr c)
+
+      evidence : Evidence near.session.acked (near.timer + k) far to_near (x ∷ to_far) near_marks (I p n info ∷ far_marks)
+          → Evidence near.session.acked (near.timer + k) far' to_near to_far near_marks far_marks
+      evidence (inl (inl e)) =
+          let fits : near.timer + k ≤ 4 = omega (arith, e.1, young.0) in
+          let here : p ≤ length far.session.acc = omega (arith, e.0) in
+          inr (inr (rw (← e.0) (took.new (near.timer + k) here fits)))
+      evidence (inl (inr e)) = inl e
+      evidence (inr (inl e)) = inr (inl e)
+      evidence (inr (inr e)) = inr (inr (took.all.kept near.session.acked (near.timer + k) e))
+
+  -- ## Turns
+
+  -- more is offered to the sender
+  pub timely_put : (k : ℕ) (more : List Fragment) → Timely k near far to_near to_far near_marks far_marks
+      → Timely k (put_out near more) far to_near to_far near_marks far_marks
+  timely_put k more h =
+      let longer : length near.session.out ≤ length (near.session.out ++ more) = omega (arith, length-append near.session.out more) in
+      record {
+        told = h.told;
+        known = h.known;
+        course = h.course;
+        evidence = h.evidence;
+        starts = h.starts;
+        probes = λ e. ((h.probes e).0, omega (arith, (h.probes e).1));
+        most = h.most;
+        tried = λ e. (omega (arith, (h.tried e).0), (h.tried e).1);
+      }
+
+  -- the sender becomes ready or not ready to receive
+  pub timely_changed : (k : ℕ) (ready : Bool) (due : List Due) → Timely k near far to_near to_far near_marks far_marks
+      → Timely k (changed near ready due) far to_near to_far near_marks far_marks
+  timely_changed k ready due h =
+      record {
+        told = h.told;
+        known = h.known;
+        course = h.course;
+        evidence = h.evidence;
+        starts = h.starts;
+        probes = h.probes;
+        most = h.most;
+        tried = h.tried;
+      }
+
+  -- ## Frames are made
+
+  -- the receiver sends an answer that was due
+  pub timely_answer : (k : ℕ) (ds : List Due) (kind : Kind) (c : Control) → Shows to_near near_marks
+      → NoSrej (S kind (length far.session.acc) ∷ []) → (RewindDue far.due → RewindBy (S kind (length far.session.acc) ∷ []) ⊎ RewindDue ds)
+      → ((a t : ℕ) → DueBy a t (length far.session.acc) far.due
+      → (Answers a (S kind (length far.session.acc)) × (t ≤ 4)) ⊎ DueBy a t (length far.session.acc) ds)
+      → Timely k near far to_near to_far near_marks far_marks
+      → Timely k near (record far { due = ds }) (with_frame to_near c) to_far (near_marks ++ S kind (length far.session.acc) ∷ []) far_marks
+  timely_answer k ds kind c shows srej rewind answers h =
+      record {
+        told = λ e. last_count_push_S near.session.acked (length far.session.acc) kind near_marks;
+        known = no_srej_push near_marks m srej h.known;
+        course = go h.course;
+        evidence = λ e. evidence (h.evidence e);
+        starts = h.starts;
+        probes = h.probes;
+        most = h.most;
+        tried = h.tried;
+      }
+    where
+      m : Control
+      m = S kind (length far.session.acc)
+
+      pick : RewindBy (m ∷ []) ⊎ RewindDue ds → Course near.session.next (record far { due = ds }) (near_marks ++ m ∷ []) far_marks
+      pick (inl c) = inr (inr (rewind_new near_marks m c))
+      pick (inr c) = inr (inl c)
+
+      go : Course near.session.next far near_marks far_marks → Course near.session.next (record far { due = ds }) (near_marks ++ m ∷ []) far_marks
+      go (inl c) = inl c
+      go (inr (inl c)) = pick (rewind c)
+      go (inr (inr c)) = inr (inr (rewind_push near_marks m c))
+
+      made : (Answers near.session.acked m × (near.timer + k ≤ 4)) ⊎ DueBy near.session.acked (near.timer + k) (length far.session.acc) ds
+          → Evidence near.session.acked (near.timer + k) (record far { due = ds }) (with_frame to_near c) to_far (near_marks ++ m ∷ []) far_marks
+      made (inl e) = inr (inl (answer_new near.session.acked (near.timer + k) to_near near_marks c m e.0 e.1 shows))
+      made (inr e) = inr (inr e)
+
+      evidence : Evidence near.session.acked (near.timer + k) far to_near to_far near_marks far_marks
+          → Evidence near.session.acked (near.timer + k) (record far { due = ds }) (with_frame to_near c) to_far (near_marks ++ m ∷ []) far_marks
+      evidence (inl e) = inl e
+      evidence (inr (inl e)) = inr (inl (answer_push near.session.acked (near.timer + k) to_near near_marks c m e))
+      evidence (inr (inr e)) = made (answers near.session.acked (near.timer + k) e)
+
+  -- it sends a fragment of its own
+  pub timely_answer_I : (k p : ℕ) (info : Fragment) (c : Control) → Timely k near far to_near to_far near_marks far_marks
+      → Timely k near (record far { session = sent_next far.session }) (with_frame to_near c) to_far
+      (near_marks ++ I p (length far.session.acc) info ∷ []) far_marks
+  timely_answer_I k p info c h =
+      record {
+        told = λ e. last_count_push_I near.session.acked p (length far.session.acc) info near_marks;
+        known = no_srej_push near_marks m tt h.known;
+        course = go h.course;
+        evidence = λ e. evidence (h.evidence e);
+        starts = h.starts;
+        probes = h.probes;
+        most = h.most;
+        tried = h.tried;
+      }
+    where
+      m : Control
+      m = I p (length far.session.acc) info
+
+      go : Course near.session.next far near_marks far_marks → Course near.session.next far (near_marks ++ m ∷ []) far_marks
+      go (inl c) = inl c
+      go (inr (inl c)) = inr (inl c)
+      go (inr (inr c)) = inr (inr (rewind_push near_marks m c))
+
+      evidence : Evidence near.session.acked (near.timer + k) far to_near to_far near_marks far_marks
+          → Evidence near.session.acked (near.timer + k) far (with_frame to_near c) to_far (near_marks ++ m ∷ []) far_marks
+      evidence (inl e) = inl e
+      evidence (inr (inl e)) = inr (inl (answer_push near.session.acked (near.timer + k) to_near near_marks c m e))
+      evidence (inr (inr e)) = inr (inr e)
+
+  -- the sender sends an answer
+  pub timely_send_S : (k : ℕ) (ds : List Due) (kind : Kind) (n : ℕ) (c : Control) → Timely k near far to_near to_far near_marks far_marks
+      → Timely k (record near { due = ds }) far to_near (with_frame to_far c) near_marks (far_marks ++ S kind n ∷ [])
+  timely_send_S k ds kind n c h =
+      record {
+        told = h.told;
+        known = h.known;
+        course = go h.course;
+        evidence = λ e. evidence (h.evidence e);
+        starts = h.starts;
+        probes = h.probes;
+        most = h.most;
+        tried = h.tried;
+      }
+    where
+      go : Course near.session.next far near_marks far_marks → Course near.session.next far near_marks (far_marks ++ S kind n ∷ [])
+      go (inl e) = inl (course_push_S (length far.session.acc) near.session.next n kind far_marks e)
+      go (inr e) = inr e
+
+      evidence : Evidence near.session.acked (near.timer + k) far to_near to_far near_marks far_marks
+          → Evidence near.session.acked (near.timer + k) far to_near (with_frame to_far c) near_marks (far_marks ++ S kind n ∷ [])
+      evidence (inl e) = inl (sent_push near.session.acked (near.timer + k) to_far far_marks c (S kind n) e)
+      evidence (inr e) = inr e
+
+  -- the sender sends its next fragment
+  pub timely_send : (n : ℕ) (info : Fragment) (c : Control) → Shows to_far far_marks → near.session.acked ≤ near.session.next
+      → near.session.next < length near.session.out → MaySend near.session
+      → Timely 0 near far to_near to_far near_marks far_marks
+      → Timely 0 (record near { session = sent_next near.session }) far to_near (with_frame to_far c) near_marks
+      (far_marks ++ I near.session.next n info ∷ [])
+  timely_send n info c shows from inside may h =
+      record {
+        told = h.told;
+        known = h.known;
+        course = go h.course;
+        evidence = λ e. evidence (cases_order near.session.acked near.session.next);
+        starts = λ e b. absurd (omega arith);
+        probes = λ e. absurd (true≢false (sym e));
+        most = h.most;
+        tried = λ e. (omega arith, inl (omega arith));
+      }
+    where
+      m : Control
+      m = I near.session.next n info
+
+      go : Course near.session.next far near_marks far_marks → Course (near.session.next + 1) far near_marks (far_marks ++ m ∷ [])
+      go (inl e) = inl (course_push (length far.session.acc) near.session.next n info far_marks e)
+      go (inr e) = inr e
+
+      old : Evidence near.session.acked (near.timer + 0) far to_near to_far near_marks far_marks
+          → Evidence near.session.acked (near.timer + 0) far to_near (with_frame to_far c) near_marks (far_marks ++ m ∷ [])
+      old (inl e) = inl (sent_push near.session.acked (near.timer + 0) to_far far_marks c m e)
+      old (inr e) = inr e
+
+      evidence : (near.session.acked ≡ near.session.next) ⊎ ((near.session.acked < near.session.next) ⊎ (near.session.next < near.session.acked))
+          → Evidence near.session.acked (near.timer + 0) far to_near (with_frame to_far c) near_marks (far_marks ++ m ∷ [])
+      evidence (inl e) =
+          let zero_timer : near.timer + 0 ≡ 0 = omega (arith, h.starts e may) in
+          inl (rw e (sent_new near.session.next (near.timer + 0) n info to_far far_marks c zero_timer shows))
+      evidence (inr (inl e)) = old (h.evidence e)
+      evidence (inr (inr e)) = absurd (omega arith)
+
+  -- ## Time
+
+  -- all frames grow older by a tick that the sender has still to count
+  pub timely_older : far.due ≡ [] → Timely 0 near far to_near to_far near_marks far_marks
+      → Timely 1 near far (older to_near) (older to_far) near_marks far_marks
+  timely_older none h =
+      record {
+        told = h.told;
+        known = h.known;
+        course = h.course;
+        evidence = λ e. evidence (h.evidence e);
+        starts = h.starts;
+        probes = h.probes;
+        most = h.most;
+        tried = h.tried;
+      }
+    where
+      same : (near.timer + 0) + 1 ≡ near.timer + 1
+      same = omega arith
+
+      evidence : Evidence near.session.acked (near.timer + 0) far to_near to_far near_marks far_marks
+          → Evidence near.session.acked (near.timer + 1) far (older to_near) (older to_far) near_marks far_marks
+      evidence (inl e) = inl (rw (← same) (sent_older near.session.acked (near.timer + 0) to_far far_marks e))
+      evidence (inr (inl e)) = inr (inl (rw (← same) (answer_older near.session.acked (near.timer + 0) to_near near_marks e)))
+      evidence (inr (inr e)) = absurd (rw none at e)
+
+  -- a tick of the sender comes before the tenth while something is sent and unacknowledged
+  pub in_time : far.due ≡ [] → Young 4 to_near → Young 4 to_far → Timely 1 near far to_near to_far near_marks far_marks
+      → near.session.acked < near.session.next → near.timer + 1 < 10
+  in_time none yn yf h e = go (h.evidence e)
+    where
+      go : Evidence near.session.acked (near.timer + 1) far to_near to_far near_marks far_marks → near.timer + 1 < 10
+      go (inl k) = omega (arith, sent_in_time near.session.acked (near.timer + 1) 4 to_far far_marks yf k)
+      go (inr (inl k)) = omega (arith, answer_in_time near.session.acked (near.timer + 1) 4 to_near near_marks yn k)
+      go (inr (inr k)) = absurd (rw none at k)
+
+  -- the sender counts a tick
+  pub timely_counted : (near.session.acked ≡ near.session.next → MaySend near.session → ⊥)
+      → Timely 1 near far to_near to_far near_marks far_marks
+      → Timely 0 (record near { timer = near.timer + 1 }) far to_near to_far near_marks far_marks
+  timely_counted runs h =
+      record {
+        told = h.told;
+        known = h.known;
+        course = h.course;
+        evidence = λ e. let same : (near.timer + 1) + 0 ≡ near.timer + 1 = omega arith in rw same (h.evidence e);
+        starts = λ e b. absurd (runs e b);
+        probes = h.probes;
+        most = h.most;
+        tried = h.tried;
+      }
+
+  -- a timer that doesn't run counts nothing
+  pub timely_still : (near.session.acked < near.session.next → ⊥) → Timely 1 near far to_near to_far near_marks far_marks
+      → Timely 0 near far to_near to_far near_marks far_marks
+  timely_still still h =
+      record {
+        told = h.told;
+        known = h.known;
+        course = h.course;
+        evidence = λ e. absurd (still e);
+        starts = h.starts;
+        probes = h.probes;
+        most = h.most;
+        tried = h.tried;
+      }
+
+  -- the other end is busy, something waits and nothing is sent: the first try is made, with a probe
+  pub timely_probe : near.session.acked ≡ near.session.next → near.session.next < length near.session.out → near.session.peer_busy ≡ true
+      → near.session.probe ≡ false → near.session.acked ≤ length far.session.acc
+      → Timely 1 near far to_near to_far near_marks far_marks → Timely 0 (sent_again near) far to_near to_far near_marks far_marks
+  timely_probe none waits busy noprobe low h =
+      record {
+        told = h.told;
+        known = h.known;
+        course = inl (omega (arith, course_from (length far.session.acc) far_marks));
+        evidence = λ e. absurd (omega arith);
+        starts = λ e b. refl;
+        probes = λ e. (refl, omega arith);
+        most = first (cases_eq near.tries 1);
+        tried = λ e. (omega arith, inr (inr busy));
+      }
+    where
+      no_try : (near.session.acked < near.session.next) ⊎ MaySend near.session → ⊥
+      no_try (inl k) = omega arith
+      no_try (inr (inl k)) = true≢false (sym busy ∙ k)
+      no_try (inr (inr k)) = true≢false (sym k ∙ noprobe)
+
+      first : (near.tries ≡ 1) ⊎ (near.tries ≡ 1 → ⊥) → near.tries + 1 ≤ 1
+      first (inl e) = absurd (no_try (h.tried e).1)
+      first (inr e) = omega (arith, h.most)
