@@ -229,14 +229,7 @@ no_srej_push (Clt ∷ ms) m e h = no_srej_push ms m e h
 
 pub no_srej_rest : (m : Control) (ms : List Control) → NoSrej (m ∷ ms) → NoSrej ms
 no_srej_rest (S Srej n) ms h = absurd h
-no_srej_rest (S Rr n) ms h = h
-no_srej_rest (S Rej n) ms h = h
-no_srej_rest (S Rnr n) ms h = h
-no_srej_rest (I _ _ _) ms h = h
-no_srej_rest (Rset _ _) ms h = h
-no_srej_rest Ua ms h = h
-no_srej_rest (Act _ _) ms h = h
-no_srej_rest Clt ms h = h
+no_srej_rest (_) ms h = h
 
 -- what one that only acknowledges leaves
 pub only_acks : (m : Control) (n a : ℕ) (ms : List Control) → OnlyAcks m n

@@ -1,8 +1,8 @@
 -- Two ends that are Up in one session and the wires between them, where nothing was lost: how each thing that one end does
 -- keeps its timer in time.
-use Rattle.std.proofs.Common.{◌≡◌, ℕ, ◌+◌, ◌%◌, ◌<◌, ◌≤◌, ◌==◌, Bool, true, false, ◌&&◌, ◌||◌, not, List, [], ◌∷◌, ◌++◌, Option, Some, None, refl, sym, subst, ◌∙◌, ◌⊎◌, inl, inr, arith, length, length-append, max}
+use Rattle.std.proofs.Common.{◌≡◌, ℕ, ◌+◌, ◌%◌, ◌<◌, ◌≤◌, ◌==◌, Bool, true, false, ◌&&◌, ◌||◌, not, List, [], ◌∷◌, ◌++◌, Option, Some, None, refl, sym, subst, ◌∙◌, ◌⊎◌, inl, inr, ⊎_elim, arith, length, length-append, max}
 use Rattle.std.specs.Prelude.{slice_get, nat_lt}
-use Rattle.std.proofs.lemmas.Bool.{eq-eqb, ne_eqb, ltb-true, ltb-false, lt-ltb, le-ltb, and_parts, and_from, or_parts, or_cases, or_right, cases_order, true≢false, not-true}
+use Rattle.std.proofs.lemmas.Bool.{eq-eqb, ne_eqb, ltb-true, ltb-false, lt-ltb, le-ltb, and_parts, and_from, or_parts, or_cases, or_right, cases_lt, true≢false, not-true}
 use Rattle.std.proofs.lemmas.Option.{slice_get_within}
 use Rattle.swp_base.specs.declared.control_frames.Kind.{Kind}
 use Rattle.swp_base.specs.declared.control_frames.Kind.TheVariants.{Rr, Rej, Rnr}
@@ -22,7 +22,7 @@ use Rattle.link_laws.proofs.Joined.{Joined, Sends, changed, ready_cases, receive
 use Rattle.session_laws.proofs.Wire.{Young, young_push, young_later}
 use Rattle.lifetime_laws.proofs.SameMarks.{Within, Shown, shown, within_push, marks_are, marks_exchanged}
 use Rattle.lifetime_laws.proofs.Evidence.{Answers, DueBy, RewindDue, RewindBy, NoSrej, due_push, due_more, due_new_rr, due_new_rnr, rewind_due_push, rewind_due_rnr}
-use Rattle.lifetime_laws.proofs.Timely.{Timely, MaySend, Rewound, AnswersAll, TookFragment, answers_same, answers_pushed, timely_acked, timely_rewound, timely_answering, timely_kept, timely_past, timely_received, timely_put, timely_changed, timely_answer, timely_answer_I, timely_send, timely_send_S, timely_older, in_time, timely_counted, timely_still, timely_probe}
+use Rattle.lifetime_laws.proofs.Timely.{Timely, MaySend, AnswersAll, TookFragment, answers_same, answers_pushed, same_or_below, timely_acked, timely_rewound, timely_answering, timely_kept, timely_past, timely_received, timely_put, timely_changed, timely_answer, timely_answer_I, timely_send, timely_send_S, timely_older, in_time, timely_counted, timely_still, timely_probe}
 
 -- kn and kf ticks have passed that the near and the far end have still to count
 pub record Lasts (kn kf : ℕ) (near far : EndState) (to_near to_far : List OnWire) : Type 0 where
@@ -134,7 +134,7 @@ lasts_ticked kf near far to_near to_far noprobe none h =
     (λ r. at (record near { timer = near.timer + 1 }) refl refl
     (timely_counted near far to_near to_far near_marks far_marks (λ e b. runs r e b) h.near_timely))
     (λ r late.
-    let none_sent : s.next ≤ s.acked = no_more late (cases_order s.acked s.next) in
+    let none_sent : s.next ≤ s.acked = no_more late in
     let w = waits s r none_sent in
     at (sent_again near) refl refl
     (timely_probe near far to_near to_far near_marks far_marks (omega (arith, h.joined.near_sends.acked_next)) w.1 w.0 noprobe
@@ -161,11 +161,10 @@ lasts_ticked kf near far to_near to_far noprobe none h =
     runs r e (inl b) = true≢false (sym (waits s r (omega arith)).0 ∙ b)
     runs r e (inr b) = true≢false (sym b ∙ noprobe)
 
-    no_more : 10 ≤ near.timer + 1 → (s.acked ≡ s.next) ⊎ ((s.acked < s.next) ⊎ (s.next < s.acked)) → s.next ≤ s.acked
-    no_more late (inl e) = omega arith
-    no_more late (inr (inl e)) = absurd (let g =
-        in_time near far to_near to_far near_marks far_marks none h.near_young h.far_young h.near_timely e in omega arith)
-    no_more late (inr (inr e)) = omega arith
+    no_more : 10 ≤ near.timer + 1 → s.next ≤ s.acked
+    no_more late = ⊎_elim (λ (e : s.acked < s.next). absurd (let g =
+        in_time near far to_near to_far near_marks far_marks none h.near_young h.far_young h.near_timely e in omega arith)) (λ e. e)
+        (cases_lt s.acked s.next)
 
 -- all frames grow older
 pub lasts_older : (near far : EndState) (to_near to_far : List OnWire) → near.due ≡ [] → far.due ≡ [] → Young 4 (older to_near) → Young 4 (older to_far)
@@ -280,7 +279,7 @@ lasts_taken near far x to_near to_far noprobe h = (
                 grew = ack_timer near n;
                 same_tries = λ g. (ack_same near n g).1;
                 same_timer = λ g i. (ack_same near n g).0;
-                starts = λ q b. zeroed n q b near_sends.acked_next near_timely (cases_order s.acked n);
+                starts = λ q b. zeroed q b (same_or_below s.acked n number.0);
               })
               near_timely,
           timely_received far near to_far to_near back ms 0 (answering e acc due gap noted) x p n info h.near_young low took far_timely,
@@ -326,12 +325,9 @@ lasts_taken near far x to_near to_far noprobe h = (
           course = λ m c. inr (rewind_due_rnr near.due);
         })))))
       where
-        zeroed : (n : ℕ) → n ≡ max s.next n → s.peer_busy ≡ false → s.acked ≤ s.next
-            → Timely 0 near far (x ∷ to_near) to_far (I p n info ∷ ms) back
-            → (s.acked ≡ n) ⊎ ((s.acked < n) ⊎ (n < s.acked)) → (acknowledged near n).timer ≡ 0
-        zeroed n q b i k (inl e) = (ack_same near n e).0 ∙ k.starts (omega arith) (inl b)
-        zeroed n q b i k (inr (inl e)) = (ack_timer near n e).0
-        zeroed n q b i k (inr (inr e)) = absurd (omega arith)
+        zeroed : n ≡ max s.next n → s.peer_busy ≡ false → (s.acked ≡ n) ⊎ (s.acked < n) → (acknowledged near n).timer ≡ 0
+        zeroed q b (inl e) = (ack_same near n e).0 ∙ near_timely.starts (omega (arith, near_sends.acked_next)) (inl b)
+        zeroed q b (inr e) = (ack_timer near n e).0
     go (S k n ∷ ms) were near_sends far_sends near_timely far_timely =
         let number = flows_number s.out s.window s.acked s.next s.reached t.acc back ms (S k n) n refl near_sends in
         let reach : s.reached ≤ s.acked + 4 = omega (arith, near_sends.window, near_sends.reach_window) in
@@ -342,8 +338,10 @@ lasts_taken near far x to_near to_far noprobe h = (
           timely,
           timely_kept far near to_far to_near back ms 0 f acc due (timely_past far near to_far to_near back ms 0 x k n far_timely),
         ) in
-        let rewound : (f : EndState) → Rewound near f far n → Timely 0 f far to_near to_far ms back =
-        λ f is. timely_rewound near far to_near to_far ms back f x k n is near_timely in
+        let rewound : (f : EndState) → f.session.acked ≡ n → f.session.next ≡ n → f.session.out ≡ s.out → f.session.probe ≡ false → f.timer ≡ 0
+        → (f.tries ≤ 1) × (f.tries ≡ 1 → (n ≡ s.acked) × (near.tries ≡ 1) × (f.session.peer_busy ≡ false)) → Timely 0 f far to_near to_far ms back =
+        λ f a b c d g tries. timely_rewound near far to_near to_far ms back f x k n
+        (record { fits = told; acked = a; next = b; out = c; no_probe = d; timer = g; most = tries.0; again = tries.1 }) near_timely in
         from (S k n) ms were
         (subst (λ (c : Control). Both ms (taken near c)) (sym were.near_shows.0) (taken_S (Both ms) near k (n % 8) n h.joined.near_up place
         (λ is. at (ready_again near n) refl refl
@@ -361,45 +359,14 @@ lasts_taken near far x to_near to_far noprobe h = (
           starts = λ q b. rr_stops near n q;
         })
         near_timely))
-        (λ is. at (rejected near n) refl refl (rewound (rejected near n) (rej n number.0 told (cases_order s.acked n))))
-        (λ is. at (made_busy near n) refl refl
-        (rewound (made_busy near n)
-        (record {
-          fits = told;
-          acked = refl;
-          next = refl;
-          out = refl;
-          no_probe = refl;
-          timer = refl;
-          most = omega arith;
-          again = λ e. absurd (omega arith);
-        })))
+        (λ is. at (rejected near n) refl refl (rewound (rejected near n) refl refl refl refl refl (once (same_or_below s.acked n number.0))))
+        (λ is. at (made_busy near n) refl refl (rewound (made_busy near n) refl refl refl refl refl (omega arith, λ e. absurd (omega arith))))
         (λ is. absurd (rw is at near_timely.known))))
       where
-        rej : (n : ℕ) → s.acked ≤ n → n ≤ length t.acc → (s.acked ≡ n) ⊎ ((s.acked < n) ⊎ (n < s.acked)) → Rewound near (rejected near n) far n
-        rej n i j (inl e) =
-            record {
-              fits = j;
-              acked = refl;
-              next = refl;
-              out = refl;
-              no_probe = refl;
-              timer = refl;
-              most = omega (arith, (ack_same near n e).1, near_timely.most);
-              again = λ k. (sym e, sym (ack_same near n e).1 ∙ k, refl);
-            }
-        rej n i j (inr (inl e)) =
-            record {
-              fits = j;
-              acked = refl;
-              next = refl;
-              out = refl;
-              no_probe = refl;
-              timer = refl;
-              most = omega (arith, (ack_timer near n e).1);
-              again = λ k. absurd (let z = (ack_timer near n e).1 in omega arith);
-            }
-        rej n i j (inr (inr e)) = absurd (omega arith)
+        once : (s.acked ≡ n) ⊎ (s.acked < n)
+            → ((rejected near n).tries ≤ 1) × ((rejected near n).tries ≡ 1 → (n ≡ s.acked) × (near.tries ≡ 1) × (false ≡ false))
+        once (inl e) = (omega (arith, (ack_same near n e).1, near_timely.most), λ k. (sym e, sym (ack_same near n e).1 ∙ k, refl))
+        once (inr e) = (omega (arith, (ack_timer near n e).1), λ k. absurd (let z = (ack_timer near n e).1 in omega arith))
     go (Rset _ _ ∷ ms) were near_sends far_sends near_timely far_timely = absurd near_sends.counts
     go (Ua ∷ ms) were near_sends far_sends near_timely far_timely = absurd near_sends.counts
     go (Act _ _ ∷ ms) were near_sends far_sends near_timely far_timely = absurd near_sends.counts
@@ -498,18 +465,8 @@ module _ (kf : ℕ) (near far : EndState) (to_near to_far : List OnWire) (h : La
     where
       control : (d : Due) (ds : List Due) → near.due ≡ d ∷ ds → AnswersOnly (d ∷ ds) → Sent (record near { due = ds }) (Some (control_due near d))
       control Rr_due ds p a = answered Rr ds tt (λ g. inr (rw p at g)) (λ b t g. rw p at g)
-      control Rej_due ds p a = answered Rej ds tt (λ g. inl tt) (λ b t g. rej b t (rw p at g))
-        where
-          rej : (b t : ℕ) → DueBy b t (length near.session.acc) (Rej_due ∷ ds)
-              → (Answers b (S Rej (length near.session.acc)) × (t ≤ 4)) ⊎ DueBy b t (length near.session.acc) ds
-          rej b t (inl g) = inl (tt, g)
-          rej b t (inr g) = inr g
-      control Rnr_due ds p a = answered Rnr ds tt (λ g. inl tt) (λ b t g. rnr b t (rw p at g))
-        where
-          rnr : (b t : ℕ) → DueBy b t (length near.session.acc) (Rnr_due ∷ ds)
-              → (Answers b (S Rnr (length near.session.acc)) × (t ≤ 4)) ⊎ DueBy b t (length near.session.acc) ds
-          rnr b t (inl g) = inl (tt, g)
-          rnr b t (inr g) = inr g
+      control Rej_due ds p a = answered Rej ds tt (λ g. inl tt) (λ b t g. ⊎_elim (λ e. inl (tt, e)) (λ e. inr e) (rw p at g))
+      control Rnr_due ds p a = answered Rnr ds tt (λ g. inl tt) (λ b t g. ⊎_elim (λ e. inl (tt, e)) (λ e. inr e) (rw p at g))
       control Rset_due ds p a = absurd a
       control Ua_due ds p a = absurd a
 

@@ -1,7 +1,7 @@
 -- One sender, its receiver and the wires between them, where nothing was lost: the sender's timer never comes to ten while
 -- something is sent and unacknowledged, and at most one try is made. The near end is the sender.
-use Rattle.std.proofs.Common.{◌≡◌, ℕ, ◌+◌, ◌<◌, ◌≤◌, ◌==◌, Bool, true, false, cond, List, [], ◌∷◌, ◌++◌, ◌⊎◌, inl, inr, refl, sym, ◌∙◌, arith, length, length-append, max}
-use Rattle.std.proofs.lemmas.Bool.{cases_eq, cases_order, true≢false}
+use Rattle.std.proofs.Common.{◌≡◌, ℕ, ◌+◌, ◌<◌, ◌≤◌, ◌==◌, Bool, true, false, cond, List, [], ◌∷◌, ◌++◌, ◌⊎◌, inl, inr, ⊎_elim, refl, sym, ◌∙◌, arith, length, length-append, max}
+use Rattle.std.proofs.lemmas.Bool.{cases_eq, cases_lt, true≢false}
 use Rattle.swp_base.specs.declared.control_frames.Kind.{Kind}
 use Rattle.swp_base.specs.declared.control_frames.Control.{Control}
 use Rattle.swp_base.specs.declared.control_frames.Control.TheVariants.{I, S}
@@ -13,6 +13,15 @@ use Rattle.link_laws.proofs.Whole.{AnswersOnly, push_not_empty}
 use Rattle.link_laws.proofs.Joined.{changed}
 use Rattle.session_laws.proofs.Wire.{Young}
 use Rattle.lifetime_laws.proofs.Evidence.{Answers, SentBy, AnswerBy, DueBy, RewindDue, RewindBy, NoSrej, OnlyAcks, course_of, sent_push, sent_new, answer_push, answer_new, sent_older, answer_older, sent_in_time, answer_in_time, rewind_push, rewind_new, no_srej_push, no_srej_rest, only_acks, course_from, course_push, course_push_S, course_shows, last_answers, rewind_answers, rewind_due_answers, due_answers, due_push, rewind_due_push}
+
+-- one of three ways, each of which is kept
+each : {A B C D E F : Type 0} → A ⊎ (B ⊎ C) → (A → D) → (B → E) → (C → F) → D ⊎ (E ⊎ F)
+each (inl x) f g h = inl (f x)
+each (inr (inl x)) f g h = inr (inl (g x))
+each (inr (inr x)) f g h = inr (inr (h x))
+
+pub same_or_below : (a b : ℕ) → a ≤ b → (a ≡ b) ⊎ (a < b)
+same_or_below a b i = ⊎_elim (λ h. inr h) (λ h. inl (omega arith)) (cases_lt a b)
 
 -- the place a is answered in time
 abbrev pub Evidence : ℕ → ℕ → EndState → List OnWire → List OnWire → List Control → List Control → Type 0
@@ -97,21 +106,14 @@ module _ (near far : EndState) (to_near to_far : List OnWire) (near_marks far_ma
       → Course near.session.next far near_marks far_marks → Evidence n 0 far to_near to_far near_marks far_marks
   untimed n answers sf sn known i j told (inr (inl h)) = inr (inr (rewind_due_answers n (length far.session.acc) far.due h))
   untimed n answers sf sn known i j told (inr (inr h)) = inr (inl (rewind_answers n to_near near_marks sn h))
-  untimed n answers sf sn known i j told (inl h) = go (cases_order n (length far.session.acc))
+  untimed n answers sf sn known i j told (inl h) = ⊎_elim
+      (λ (e : n ≡ length far.session.acc). inl (rw e (course_shows (length far.session.acc) to_far far_marks sf (omega arith))))
+      (at far.due refl) (same_or_below n (length far.session.acc) i)
     where
       at : (ds : List Due) → far.due ≡ ds → n < length far.session.acc → Evidence n 0 far to_near to_far near_marks far_marks
-      at [] q k = pick (last_answers n n (length far.session.acc) to_near near_marks sn known k (told q))
-        where
-          pick : (n ≡ length far.session.acc) ⊎ AnswerBy n 0 to_near near_marks → Evidence n 0 far to_near to_far near_marks far_marks
-          pick (inl e) = absurd (omega arith)
-          pick (inr e) = inr (inl e)
+      at [] q k = ⊎_elim (λ e. absurd (omega arith)) (λ e. inr (inl e))
+          (last_answers n n (length far.session.acc) to_near near_marks sn known k (told q))
       at (d ∷ ds) q k = inr (inr (rw q (due_answers n (length far.session.acc) d ds (rw q at answers) k)))
-
-      go : (n ≡ length far.session.acc) ⊎ ((n < length far.session.acc) ⊎ (length far.session.acc < n))
-          → Evidence n 0 far to_near to_far near_marks far_marks
-      go (inl e) = inl (rw e (course_shows (length far.session.acc) to_far far_marks sf (omega arith)))
-      go (inr (inl k)) = at far.due refl k
-      go (inr (inr k)) = absurd (omega arith)
 
   -- RR, or the number of an I frame
   pub timely_acked : (near' : EndState) (x : OnWire) (m : Control) (n : ℕ) → OnlyAcks m n → AnswersOnly far.due
@@ -121,7 +123,8 @@ module _ (near far : EndState) (to_near to_far : List OnWire) (near_marks far_ma
       record {
         told = λ e. rw took.acked (tell e);
         known = known;
-        course = rw took.next (grown (course h.course));
+        course = rw took.next
+            (each course (λ k. omega (arith, course_from (length far.session.acc) far_marks, took.fits.1)) (λ k. k) (λ k. k));
         evidence = λ k.
             rw took.acked (evidence (let a : near'.session.acked < near'.session.next = k in omega (arith, took.acked, took.next)) order);
         starts = λ e b. took.starts e (free b);
@@ -130,8 +133,8 @@ module _ (near far : EndState) (to_near to_far : List OnWire) (near_marks far_ma
         tried = λ e. tried e order;
       }
     where
-      order : (near.session.acked ≡ n) ⊎ ((near.session.acked < n) ⊎ (n < near.session.acked))
-      order = cases_order near.session.acked n
+      order : (near.session.acked ≡ n) ⊎ (near.session.acked < n)
+      order = same_or_below near.session.acked n took.fits.0
 
       rest : (Answers near.session.acked m → near.session.acked < n) × (RewindBy (m ∷ near_marks) → RewindBy near_marks)
           × (last_count near.session.acked (m ∷ near_marks) ≡ last_count n near_marks)
@@ -144,14 +147,8 @@ module _ (near far : EndState) (to_near to_far : List OnWire) (near_marks far_ma
       free (inl b) = b
       free (inr b) = absurd (true≢false (sym b ∙ took.no_probe.1))
 
-      course : Course near.session.next far (m ∷ near_marks) far_marks → Course near.session.next far near_marks far_marks
-      course (inl k) = inl k
-      course (inr (inl k)) = inr (inl k)
-      course (inr (inr k)) = inr (inr (rest.1 k))
-
-      grown : Course near.session.next far near_marks far_marks → Course (max near.session.next n) far near_marks far_marks
-      grown (inl k) = inl (omega (arith, course_from (length far.session.acc) far_marks, took.fits.1))
-      grown (inr k) = inr k
+      course : Course near.session.next far near_marks far_marks
+      course = each h.course (λ k. k) (λ k. k) rest.1
 
       tell : far.due ≡ [] → last_count n near_marks ≡ length far.session.acc
       tell e = sym rest.2 ∙ h.told e
@@ -163,36 +160,29 @@ module _ (near far : EndState) (to_near to_far : List OnWire) (near_marks far_ma
       old e (inr (inl (inr k))) = inr (inl k)
       old e (inr (inr k)) = inr (inr k)
 
-      evidence : n < max near.session.next n → (near.session.acked ≡ n) ⊎ ((near.session.acked < n) ⊎ (n < near.session.acked))
+      evidence : n < max near.session.next n → (near.session.acked ≡ n) ⊎ (near.session.acked < n)
           → Evidence n (near'.timer + 0) far to_near to_far near_marks far_marks
       evidence k (inl e) = rw (took.same_timer e k, ← e) (old e (h.evidence (omega arith)))
-      evidence k (inr (inl g)) =
+      evidence k (inr g) =
           let zero_timer : near'.timer + 0 ≡ 0 = omega (arith, (took.grew g).0) in
-          rw zero_timer (untimed n answers sf sn known took.fits.1 (omega arith) tell (course h.course))
-      evidence k (inr (inr g)) = absurd (omega (arith, took.fits.0))
+          rw zero_timer (untimed n answers sf sn known took.fits.1 (omega arith) tell course)
 
-      most : (near.session.acked ≡ n) ⊎ ((near.session.acked < n) ⊎ (n < near.session.acked)) → near'.tries ≤ 1
+      most : (near.session.acked ≡ n) ⊎ (near.session.acked < n) → near'.tries ≤ 1
       most (inl e) = omega (arith, took.same_tries e, h.most)
-      most (inr (inl g)) = omega (arith, (took.grew g).1)
-      most (inr (inr g)) = absurd (omega (arith, took.fits.0))
+      most (inr g) = omega (arith, (took.grew g).1)
 
       later : near.session.acked ≡ n → (near.session.acked < near.session.next) ⊎ MaySend near.session
           → (near'.session.acked < near'.session.next) ⊎ MaySend near'.session
       later e (inl k) = inl (omega (arith, took.acked, took.next))
-      later e (inr (inl k)) = inr (inl (now took.busy))
-        where
-          now : (near'.session.peer_busy ≡ false) ⊎ (near'.session.peer_busy ≡ near.session.peer_busy) → near'.session.peer_busy ≡ false
-          now (inl b) = b
-          now (inr b) = b ∙ k
+      later e (inr (inl k)) = inr (inl (⊎_elim (λ b. b) (λ b. b ∙ k) took.busy))
       later e (inr (inr k)) = absurd (true≢false (sym k ∙ took.no_probe.0))
 
-      tried : near'.tries ≡ 1 → (near.session.acked ≡ n) ⊎ ((near.session.acked < n) ⊎ (n < near.session.acked))
+      tried : near'.tries ≡ 1 → (near.session.acked ≡ n) ⊎ (near.session.acked < n)
           → (near'.session.acked < length near'.session.out) × ((near'.session.acked < near'.session.next) ⊎ MaySend near'.session)
       tried e (inl q) =
           let t = h.tried (sym (took.same_tries q) ∙ e) in
           (rw (took.acked, took.out, ← q) t.0, later q t.1)
-      tried e (inr (inl g)) = absurd (let z = (took.grew g).1 in omega arith)
-      tried e (inr (inr g)) = absurd (omega (arith, took.fits.0))
+      tried e (inr g) = absurd (let z = (took.grew g).1 in omega arith)
 
   -- REJ or RNR: all from its place on is to be sent again
   pub timely_rewound : (near' : EndState) (x : OnWire) (kind : Kind) (n : ℕ) → Rewound near near' far n
@@ -219,24 +209,13 @@ module _ (near far : EndState) (to_near to_far : List OnWire) (near_marks far_ma
       record {
         told = λ e. let g = all.told e in h.told g.0 ∙ sym g.1;
         known = h.known;
-        course = go h.course;
-        evidence = λ e. evidence (h.evidence e);
+        course = each h.course (λ c. rw same c) all.rewind (λ c. c);
+        evidence = λ e. each (h.evidence e) (λ g. g) (λ g. g) (all.kept near.session.acked (near.timer + k));
         starts = h.starts;
         probes = h.probes;
         most = h.most;
         tried = h.tried;
       }
-    where
-      go : Course near.session.next far near_marks far_marks → Course near.session.next far' near_marks far_marks
-      go (inl c) = inl (rw same c)
-      go (inr (inl c)) = inr (inl (all.rewind c))
-      go (inr (inr c)) = inr (inr c)
-
-      evidence : Evidence near.session.acked (near.timer + k) far to_near to_far near_marks far_marks
-          → Evidence near.session.acked (near.timer + k) far' to_near to_far near_marks far_marks
-      evidence (inl e) = inl e
-      evidence (inr (inl e)) = inr (inl e)
-      evidence (inr (inr e)) = inr (inr (all.kept near.session.acked (near.timer + k) e))
 
   -- what it accepted and has to answer is the same
   pub timely_kept : (k : ℕ) (far' : EndState) → far'.session.acc ≡ far.session.acc → far'.due ≡ far.due
@@ -274,12 +253,8 @@ module _ (near far : EndState) (to_near to_far : List OnWire) (near_marks far_ma
         tried = h.tried;
       }
     where
-      pick : (near.session.next ≤ course_of (length far'.session.acc) far_marks) ⊎ RewindDue far'.due → Course near.session.next far' near_marks far_marks
-      pick (inl c) = inl c
-      pick (inr c) = inr (inl c)
-
       go : Course near.session.next far near_marks (I p n info ∷ far_marks) → Course near.session.next far' near_marks far_marks
-      go (inl c) = pick (took.course near.session.next c)
+      go (inl c) = ⊎_elim (λ g. inl g) (λ g. inr (inl g)) (took.course near.session.next c)
       go (inr (inl c)) = inr (inl (took.all.rewind c))
       go (inr (inr c)) = inr (inr c)
 
@@ -350,25 +325,17 @@ module _ (near far : EndState) (to_near to_far : List OnWire) (near_marks far_ma
       m : Control
       m = S kind (length far.session.acc)
 
-      pick : RewindBy (m ∷ []) ⊎ RewindDue ds → Course near.session.next (record far { due = ds }) (near_marks ++ m ∷ []) far_marks
-      pick (inl c) = inr (inr (rewind_new near_marks m c))
-      pick (inr c) = inr (inl c)
-
       go : Course near.session.next far near_marks far_marks → Course near.session.next (record far { due = ds }) (near_marks ++ m ∷ []) far_marks
-      go (inl c) = inl c
-      go (inr (inl c)) = pick (rewind c)
-      go (inr (inr c)) = inr (inr (rewind_push near_marks m c))
-
-      made : (Answers near.session.acked m × (near.timer + k ≤ 4)) ⊎ DueBy near.session.acked (near.timer + k) (length far.session.acc) ds
-          → Evidence near.session.acked (near.timer + k) (record far { due = ds }) (with_frame to_near c) to_far (near_marks ++ m ∷ []) far_marks
-      made (inl e) = inr (inl (answer_new near.session.acked (near.timer + k) to_near near_marks c m e.0 e.1 shows))
-      made (inr e) = inr (inr e)
+      go (inl g) = inl g
+      go (inr (inl g)) = ⊎_elim (λ e. inr (inr (rewind_new near_marks m e))) (λ e. inr (inl e)) (rewind g)
+      go (inr (inr g)) = inr (inr (rewind_push near_marks m g))
 
       evidence : Evidence near.session.acked (near.timer + k) far to_near to_far near_marks far_marks
           → Evidence near.session.acked (near.timer + k) (record far { due = ds }) (with_frame to_near c) to_far (near_marks ++ m ∷ []) far_marks
       evidence (inl e) = inl e
       evidence (inr (inl e)) = inr (inl (answer_push near.session.acked (near.timer + k) to_near near_marks c m e))
-      evidence (inr (inr e)) = made (answers near.session.acked (near.timer + k) e)
+      evidence (inr (inr e)) = ⊎_elim (λ g. inr (inl (answer_new near.session.acked (near.timer + k) to_near near_marks c m g.0 g.1 shows)))
+          (λ g. inr (inr g)) (answers near.session.acked (near.timer + k) e)
 
   -- it sends a fragment of its own
   pub timely_answer_I : (k p : ℕ) (info : Fragment) (c : Control) → Timely k near far to_near to_far near_marks far_marks
@@ -378,8 +345,9 @@ module _ (near far : EndState) (to_near to_far : List OnWire) (near_marks far_ma
       record {
         told = λ e. last_count_push_I near.session.acked p (length far.session.acc) info near_marks;
         known = no_srej_push near_marks m tt h.known;
-        course = go h.course;
-        evidence = λ e. evidence (h.evidence e);
+        course = each h.course (λ g. g) (λ g. g) (rewind_push near_marks m);
+        evidence = λ e.
+            each (h.evidence e) (λ g. g) (answer_push near.session.acked (near.timer + k) to_near near_marks c m) (λ g. g);
         starts = h.starts;
         probes = h.probes;
         most = h.most;
@@ -389,17 +357,6 @@ module _ (near far : EndState) (to_near to_far : List OnWire) (near_marks far_ma
       m : Control
       m = I p (length far.session.acc) info
 
-      go : Course near.session.next far near_marks far_marks → Course near.session.next far (near_marks ++ m ∷ []) far_marks
-      go (inl c) = inl c
-      go (inr (inl c)) = inr (inl c)
-      go (inr (inr c)) = inr (inr (rewind_push near_marks m c))
-
-      evidence : Evidence near.session.acked (near.timer + k) far to_near to_far near_marks far_marks
-          → Evidence near.session.acked (near.timer + k) far (with_frame to_near c) to_far (near_marks ++ m ∷ []) far_marks
-      evidence (inl e) = inl e
-      evidence (inr (inl e)) = inr (inl (answer_push near.session.acked (near.timer + k) to_near near_marks c m e))
-      evidence (inr (inr e)) = inr (inr e)
-
   -- the sender sends an answer
   pub timely_send_S : (k : ℕ) (ds : List Due) (kind : Kind) (n : ℕ) (c : Control) → Timely k near far to_near to_far near_marks far_marks
       → Timely k (record near { due = ds }) far to_near (with_frame to_far c) near_marks (far_marks ++ S kind n ∷ [])
@@ -407,22 +364,13 @@ module _ (near far : EndState) (to_near to_far : List OnWire) (near_marks far_ma
       record {
         told = h.told;
         known = h.known;
-        course = go h.course;
-        evidence = λ e. evidence (h.evidence e);
+        course = each h.course (course_push_S (length far.session.acc) near.session.next n kind far_marks) (λ g. g) (λ g. g);
+        evidence = λ e. each (h.evidence e) (sent_push near.session.acked (near.timer + k) to_far far_marks c (S kind n)) (λ g. g) (λ g. g);
         starts = h.starts;
         probes = h.probes;
         most = h.most;
         tried = h.tried;
       }
-    where
-      go : Course near.session.next far near_marks far_marks → Course near.session.next far near_marks (far_marks ++ S kind n ∷ [])
-      go (inl e) = inl (course_push_S (length far.session.acc) near.session.next n kind far_marks e)
-      go (inr e) = inr e
-
-      evidence : Evidence near.session.acked (near.timer + k) far to_near to_far near_marks far_marks
-          → Evidence near.session.acked (near.timer + k) far to_near (with_frame to_far c) near_marks (far_marks ++ S kind n ∷ [])
-      evidence (inl e) = inl (sent_push near.session.acked (near.timer + k) to_far far_marks c (S kind n) e)
-      evidence (inr e) = inr e
 
   -- the sender sends its next fragment
   pub timely_send : (n : ℕ) (info : Fragment) (c : Control) → Shows to_far far_marks → near.session.acked ≤ near.session.next
@@ -434,8 +382,8 @@ module _ (near far : EndState) (to_near to_far : List OnWire) (near_marks far_ma
       record {
         told = h.told;
         known = h.known;
-        course = go h.course;
-        evidence = λ e. evidence (cases_order near.session.acked near.session.next);
+        course = each h.course (course_push (length far.session.acc) near.session.next n info far_marks) (λ g. g) (λ g. g);
+        evidence = λ e. evidence (same_or_below near.session.acked near.session.next from);
         starts = λ e b. absurd (omega arith);
         probes = λ e. absurd (true≢false (sym e));
         most = h.most;
@@ -445,22 +393,12 @@ module _ (near far : EndState) (to_near to_far : List OnWire) (near_marks far_ma
       m : Control
       m = I near.session.next n info
 
-      go : Course near.session.next far near_marks far_marks → Course (near.session.next + 1) far near_marks (far_marks ++ m ∷ [])
-      go (inl e) = inl (course_push (length far.session.acc) near.session.next n info far_marks e)
-      go (inr e) = inr e
-
-      old : Evidence near.session.acked (near.timer + 0) far to_near to_far near_marks far_marks
-          → Evidence near.session.acked (near.timer + 0) far to_near (with_frame to_far c) near_marks (far_marks ++ m ∷ [])
-      old (inl e) = inl (sent_push near.session.acked (near.timer + 0) to_far far_marks c m e)
-      old (inr e) = inr e
-
-      evidence : (near.session.acked ≡ near.session.next) ⊎ ((near.session.acked < near.session.next) ⊎ (near.session.next < near.session.acked))
+      evidence : (near.session.acked ≡ near.session.next) ⊎ (near.session.acked < near.session.next)
           → Evidence near.session.acked (near.timer + 0) far to_near (with_frame to_far c) near_marks (far_marks ++ m ∷ [])
       evidence (inl e) =
           let zero_timer : near.timer + 0 ≡ 0 = omega (arith, h.starts e may) in
           inl (rw e (sent_new near.session.next (near.timer + 0) n info to_far far_marks c zero_timer shows))
-      evidence (inr (inl e)) = old (h.evidence e)
-      evidence (inr (inr e)) = absurd (omega arith)
+      evidence (inr e) = each (h.evidence e) (sent_push near.session.acked (near.timer + 0) to_far far_marks c m) (λ g. g) (λ g. g)
 
   -- ## Time
 
@@ -472,21 +410,15 @@ module _ (near far : EndState) (to_near to_far : List OnWire) (near_marks far_ma
         told = h.told;
         known = h.known;
         course = h.course;
-        evidence = λ e. evidence (h.evidence e);
+        evidence = λ e.
+            let same : (near.timer + 0) + 1 ≡ near.timer + 1 = omega arith in
+            each (h.evidence e) (λ g. rw (← same) (sent_older near.session.acked (near.timer + 0) to_far far_marks g))
+            (λ g. rw (← same) (answer_older near.session.acked (near.timer + 0) to_near near_marks g)) (λ g. absurd (rw none at g));
         starts = h.starts;
         probes = h.probes;
         most = h.most;
         tried = h.tried;
       }
-    where
-      same : (near.timer + 0) + 1 ≡ near.timer + 1
-      same = omega arith
-
-      evidence : Evidence near.session.acked (near.timer + 0) far to_near to_far near_marks far_marks
-          → Evidence near.session.acked (near.timer + 1) far (older to_near) (older to_far) near_marks far_marks
-      evidence (inl e) = inl (rw (← same) (sent_older near.session.acked (near.timer + 0) to_far far_marks e))
-      evidence (inr (inl e)) = inr (inl (rw (← same) (answer_older near.session.acked (near.timer + 0) to_near near_marks e)))
-      evidence (inr (inr e)) = absurd (rw none at e)
 
   -- a tick of the sender comes before the tenth while something is sent and unacknowledged
   pub in_time : far.due ≡ [] → Young 4 to_near → Young 4 to_far → Timely 1 near far to_near to_far near_marks far_marks
