@@ -30,7 +30,6 @@ use Rattle.node_readings.specs.Orders.{IsFresh}
 use Rattle.node_readings.proofs.Noticed.{up_is}
 use Rattle.notice_readings.proofs.Reading.{reads}
 use Rattle.notice_readings.proofs.Far.{asks}
-use Rattle.notice_readings.proofs.Telling.{at_port}
 use Rattle.notice_readings.proofs.Doing.{controller_side}
 use Rattle.notice_readings.proofs.Shut.{input_shut}
 use Rattle.notice_readings.proofs.Stepping.{flat_reads, told_elsewhere, told_here, late_elsewhere, reset_ends}
@@ -40,7 +39,7 @@ use Rattle.creation_readings.proofs.Asks.{Asked, asked_of, waits, asked_map}
 use Rattle.creation_readings.proofs.Reading.{ask_more, told_same, flat_same}
 use Rattle.creation_readings.proofs.Asides.{input_aside}
 use Rattle.creation_readings.proofs.Doing.{EndHas, EndAt, IsOn, reading}
-use Rattle.node_laws.proofs.Ports.{come_host}
+use Rattle.node_laws.proofs.Ports.{at_port, come_host}
 
 or_false : (b : Bool) → (b || false) ≡ b
 or_false true = refl

@@ -27,11 +27,10 @@ use Rattle.node_machine.specs.Node.NodeInput.{AtEnd, TimePasses}
 use Rattle.node_telling.proofs.Steps.{without_same, forgets_same}
 use Rattle.notice_readings.proofs.Own.{IsOwn, AreOwn, host_own, forgotten_own, all_owed_own, all_synced_own}
 use Rattle.notice_readings.proofs.Doing.{all_map}
-use Rattle.notice_readings.proofs.Telling.{at_port}
 use Rattle.registry.proofs.ValueLemmas.{AllByRecursion-append as all_append}
 use Rattle.creation_readings.proofs.Asides.{input_aside}
 use Rattle.creation_readings.proofs.Doing.{give_aside}
-use Rattle.node_laws.proofs.Ports.{sessions_node}
+use Rattle.node_laws.proofs.Ports.{at_port, sessions_node}
 
 -- ## One end
 

@@ -24,11 +24,11 @@ use Rattle.creation_readings.proofs.Near.{none_side, desks_back}
 
 -- ## Lists
 
-some_wait : List Creation → Bool
+pub some_wait : List Creation → Bool
 some_wait [] = false
 some_wait (c ∷ l) = true
 
-read_some : (r : Option (List ℕ)) (l : List Creation) → IsReadSo r l → is_some r ≡ some_wait l
+pub read_some : (r : Option (List ℕ)) (l : List Creation) → IsReadSo r l → is_some r ≡ some_wait l
 unfolding some_wait
 read_some None [] k = refl
 read_some (Some m) (c ∷ []) k = refl
@@ -36,7 +36,7 @@ read_some None (c ∷ l) k = absurd k
 read_some (Some m) [] k = absurd k
 read_some (Some m) (c ∷ d ∷ l) k = absurd k
 
-asks_some : (x : ℕ) (ports : List Port) → asks_for ports x ≡ some_wait (waits x (asked_of ports))
+pub asks_some : (x : ℕ) (ports : List Port) → asks_for ports x ≡ some_wait (waits x (asked_of ports))
 unfolding some_wait
 asks_some x [] = refl
 asks_some x (p ∷ ports) = go (asked_at p) refl (asks_some x ports) where
@@ -48,13 +48,13 @@ asks_some x (p ∷ ports) = go (asked_at p) refl (asks_some x ports) where
     by (inl e) = rw (q, e) refl
     by (inr e) = rw (q, e) later
 
-two_ways : (a b : Bool) → (a ≡ true → b ≡ true) → (b ≡ true → a ≡ true) → a ≡ b
+pub two_ways : (a b : Bool) → (a ≡ true → b ≡ true) → (b ≡ true → a ≡ true) → a ≡ b
 two_ways true b f g = sym (f refl)
 two_ways false true f g = g refl
 two_ways false false f g = refl
 
 -- a creation of this pipe
-abbrev is_of_pipe : ℕ → Creation → Bool
+abbrev pub is_of_pipe : ℕ → Creation → Bool
 is_of_pipe pid c = option_map_or (λ (n : ℕ). eqb n pid) (pipe_of c.command) false
 
 any_behind : {X : Type 0} (test : X → Bool) (xs ys : List X) → list_any test ys ≡ true → list_any test (xs ++ ys) ≡ true
@@ -73,15 +73,15 @@ module _ (pid : ℕ) where
   is_it n = eqb n pid
 
   -- a pipe that waits is that of a creation of some asker
-  record HasAsker (ports : List Port) : Type 0 where
-    asker : ℕ
-    waits_there : list_any (is_of_pipe pid) (waits asker (asked_of ports)) ≡ true
+  pub record HasAsker (ports : List Port) : Type 0 where
+    pub asker : ℕ
+    pub waits_there : list_any (is_of_pipe pid) (waits asker (asked_of ports)) ≡ true
 
   first_here : (c : Creation) (l : List Creation) → is_of_pipe pid c ≡ true → list_any (is_of_pipe pid) (one_of c.asker (Some c) ++ l) ≡ true
   first_here c l e =
       ap (λ b. list_any (is_of_pipe pid) (cond b (c ∷ []) [] ++ l)) (eq-eqb c.asker c.asker refl) ∙ ap (λ b. b || list_any (is_of_pipe pid) l) e
 
-  asker_of : (ports : List Port) → list_any is_it (waiting_pipes ports) ≡ true → HasAsker ports
+  pub asker_of : (ports : List Port) → list_any is_it (waiting_pipes ports) ≡ true → HasAsker ports
   asker_of [] e = absurd (true≢false (sym e))
   asker_of (p ∷ ports) e = go (asked_at p) refl (asker_of ports) where
     behind : HasAsker ports → HasAsker (p ∷ ports)
@@ -105,7 +105,7 @@ module _ (pid : ℕ) where
         by (inr tail) = behind (later tail)
 
   -- and the pipe of a creation of any asker waits
-  asker_waits : (x : ℕ) (ports : List Port) → list_any (is_of_pipe pid) (waits x (asked_of ports)) ≡ true → list_any is_it (waiting_pipes ports) ≡ true
+  pub asker_waits : (x : ℕ) (ports : List Port) → list_any (is_of_pipe pid) (waits x (asked_of ports)) ≡ true → list_any is_it (waiting_pipes ports) ≡ true
   asker_waits x [] e = absurd (true≢false (sym e))
   asker_waits x (p ∷ ports) e = go (asked_at p) refl (asker_waits x ports) where
     go : (o : Option Creation) → asked_at p ≡ o
@@ -140,7 +140,7 @@ module _ (pid : ℕ) where
         by_first (inr tail) = skip (later tail)
 
   -- what is read of one asker
-  read_pipe : (r : Option (List ℕ)) (l : List Creation) → IsReadSo r l
+  pub read_pipe : (r : Option (List ℕ)) (l : List Creation) → IsReadSo r l
       → list_any (is_of_pipe pid) l ≡ option_map_or (λ (m : List ℕ). eqb (slice_index m 5) pid) r false
   read_pipe None [] k = refl
   read_pipe (Some m) (c ∷ []) k =
@@ -167,11 +167,11 @@ module _ (pid : ℕ) where
         ap (λ b. b || list_any test (hosts_in sites)) (ap test (eqb-true y.host x is) ∙ e)
     go (inr off) later = tail_true (test y.host) (list_any test (hosts_in sites)) (later (rw off at q) e)
 
-  record Any (test : ℕ → Bool) : Type 0 where
-    which : ℕ
-    holds : test which ≡ true
+  pub record Any (test : ℕ → Bool) : Type 0 where
+    pub which : ℕ
+    pub holds : test which ≡ true
 
-  any_of : (test : ℕ → Bool) (xs : List ℕ) → list_any test xs ≡ true → Any test
+  pub any_of : (test : ℕ → Bool) (xs : List ℕ) → list_any test xs ≡ true → Any test
   any_of test [] e = absurd (true≢false (sym e))
   any_of test (x ∷ xs) e = by (either_true (test x) (list_any test xs) e) (any_of test xs) where
     by : (test x ≡ true) ⊎ (list_any test xs ≡ true) → (list_any test xs ≡ true → Any test) → Any test
@@ -180,7 +180,7 @@ module _ (pid : ℕ) where
 
 -- ## The pipe that is given
 
-any_asked : (t : List Entry) (pid : ℕ) (hosts : List ℕ) → list_any (λ p. eqb p pid) (asked_pipes t hosts) ≡ list_any (is_asked_pipe t pid) hosts
+pub any_asked : (t : List Entry) (pid : ℕ) (hosts : List ℕ) → list_any (λ p. eqb p pid) (asked_pipes t hosts) ≡ list_any (is_asked_pipe t pid) hosts
 any_asked t pid [] = refl
 any_asked t pid (h ∷ hosts) = go (asking_in t h) refl (any_asked t pid hosts) where
   go : (r : Option (List ℕ)) → asking_in t h ≡ r

@@ -90,7 +90,7 @@ port_of halves (d ∷ desks) x = go (cases_Bool (eqb d.host x)) (port_of halves 
   go (inl is) later = rw is (ap (λ n. Some (port_for (halves n) d)) (eqb-true d.host x is))
   go (inr off) later = rw off later
 
-all_ports : (P : Port → Type 0) (halves : ℕ → NumberedEnd) → ((d : Desk) → P (port_for (halves d.host) d)) → (desks : List Desk)
+pub all_ports : (P : Port → Type 0) (halves : ℕ → NumberedEnd) → ((d : Desk) → P (port_for (halves d.host) d)) → (desks : List Desk)
     → AllByRecursion P (ports_for halves desks)
 all_ports P halves one [] = tt
 all_ports P halves one (d ∷ desks) = (one d, all_ports P halves one desks)
@@ -220,7 +220,7 @@ module _ (t : List Entry) (w : NodeWorld) (r : Running) (runs : w.controller ≡
         (has_is (many x t (hosts_in w.sites) asked []) (waits x asked ++ []) (halves x).side refl
         (subst (HasSetAside (waits x asked ++ [])) (sym (same x)) ready))
 
-  begins : (x : ℕ) → Good x t (hosts_in w.sites) asked [] begun
+  pub begins : (x : ℕ) → Good x t (hosts_in w.sites) asked [] begun
   begins x = record {
     on = refl;
     node = has.number;
@@ -238,7 +238,7 @@ module _ (t : List Entry) (w : NodeWorld) (r : Running) (runs : w.controller ≡
     abbrev pub after_it : Work
     after_it = steps input begun
 
-    up_at : (x : ℕ) → UpAt (port_at begun.ports x)
+    pub up_at : (x : ℕ) → UpAt (port_at begun.ports x)
     up_at x = go (find (λ (d : Desk). eqb d.host x) r.desks) refl where
       go : (o : Option Desk) → find (λ (d : Desk). eqb d.host x) r.desks ≡ o → UpAt (port_at begun.ports x)
       go None e = subst UpAt (sym (port_of halves r.desks x ∙ ap (option_map (λ d. port_for (halves x) d)) e)) tt

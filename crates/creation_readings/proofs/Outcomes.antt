@@ -1,12 +1,8 @@
 -- What a message of a host does to the creations that wait at a controller.
 use Rattle.std.proofs.Common.{◌≡◌, ◌⊎◌, inl, inr, ℕ, Bool, true, false, cond, eqb, ◌&&◌, List, [], ◌∷◌, map, refl, sym, ap, ap₂, ◌∙◌, subst}
-use Rattle.std.specs.Prelude.{Option, Some, None, Result, Ok, Err, is_some}
+use Rattle.std.specs.Prelude.{Option, Some, None, is_some}
 use Rattle.std.specs.List.{AllByRecursion}
-use Rattle.std.proofs.lemmas.Bool.{cond_both, cases_Bool, true≢false, eqb-true}
-use Rattle.hcp_packet.specs.declared.MessageKind.{MessageKind}
-use Rattle.hcp_packet.specs.declared.MessageKind.TheVariants.{Command as IsCommand, Event as IsEvent, Response as IsResponse}
-use Rattle.hcp_packet.specs.declared.MessageFault.{MessageFault}
-use Rattle.hcp_packet.specs.MessageHeader.{header_of}
+use Rattle.std.proofs.lemmas.Bool.{cases_Bool, true≢false, eqb-true}
 use Rattle.pipe_table.specs.declared.row.PipeRow.{PipeRow}
 use Rattle.hci_tables.specs.declared.command.Command.{Command}
 use Rattle.gate_answers.specs.declared.response.Response.TheVariants as response
@@ -23,10 +19,11 @@ use Rattle.link_machine.specs.Machine.{Message}
 use Rattle.node_machine.specs.Parts.{Creation, Notice, Core, Port, Deed}
 use Rattle.node_machine.specs.Parts.Deed.{Commits, Sends, SaysOk, Asks, Releases, Tells, IsAnswered, Drops, SetsErrors, Orders, Hears, GoesOn, Ends}
 use Rattle.node_machine.specs.Carrying.{port_at, finds_room}
-use Rattle.node_machine.specs.Controller.{has_link, creation_in, asked_at, asks_for, view_for, answers_on, commit_deeds, decision_deeds, link_deeds, gates, gate_deeds, own_gate, goes_through, served_at, agreed, creation_deeds, notice_deeds, response_at, is_command_message, relayed_to, unrelayed, event_deeds, unless_asking, if_notice, kind_deeds, own_deeds, relay_deeds, deeds_by_relay, controller_deeds}
+use Rattle.node_machine.specs.Controller.{has_link, creation_in, asked_at, asks_for, view_for, commit_deeds, decision_deeds, link_deeds, gates, own_gate, goes_through, agreed, controller_deeds}
 use Rattle.node_world.specs.NodeFilters.{is_response}
 use Rattle.notice_readings.specs.Notices.{has_notice, GoesToFree, IsNoticeOf}
 use Rattle.creation_readings.specs.Worlds.{IsProperCommand, AreProper, IsAwaited}
+use Rattle.node_laws.proofs.Walks.{IsServed, controller_holds}
 use Rattle.creation_readings.proofs.Asks.{Asked, asked_of, waits, set_asked, none_waits}
 use Rattle.creation_readings.proofs.Deciding.{IsAskFor, Suits, AsksNobody, decided_suits, nobody_asked}
 
@@ -42,10 +39,6 @@ three : (a b c : Bool) → (a && b && c) ≡ true → (a ≡ true) × (b ≡ tru
 three true true c e = (refl, refl, e)
 three true false c e = absurd (true≢false (sym e))
 three false b c e = absurd (true≢false (sym e))
-
-second_false : (a b : Bool) → (a && b) ≡ false → a ≡ true → b ≡ false
-second_false true b e is = e
-second_false false b e is = absurd (true≢false (sym is))
 
 module _ (x : ℕ) where
   -- it leaves the creations that wait
@@ -118,50 +111,7 @@ module _ (x : ℕ) where
       by_value message None = (one_sent pipe message free, tt)
       by_value message (Some errors) = (tt, (one_sent pipe message free, tt))
 
-    gate_stays : (gate errors pipe instruction : ℕ) (body : List ℕ) → (eqb pipe 1 ≡ true → asks_for ports h ≡ false)
-        → All (gate_deeds gate errors h pipe instruction body)
-    gate_stays gate errors pipe instruction body free =
-        cond_both (eqb gate 6) (link_deeds h pipe (link_served errors instruction body)) _ All
-        (λ _. link_stays pipe (link_served errors instruction body) free)
-        (λ _. cond_both (eqb gate 5) (answers_on h pipe (identity_served gates instruction body))
-        (answers_on h pipe (answer_of response.CommandNotSupported [])) All
-        (λ _. (one_sent pipe (identity_served gates instruction body) free, tt))
-        (λ _. (one_sent pipe (answer_of response.CommandNotSupported []) free, tt)))
-
-    -- ## A command
-
-    command_is : (m : Message) (instruction : ℕ) (asks : Bool) → (eqb m.0 1 && asks_for ports h) ≡ asks → header_of m.1 ≡ Ok (IsCommand, instruction)
-        → relayed_to core.tables h m ≡ None → has_link ports h ≡ true → Of (unless_asking core ports h m instruction asks)
-    command_is m instruction true e command none up = Stays (tt, tt)
-    command_is m instruction false e command none up =
-        go (cond (goes_through core.tables h m.0 instruction) (own_gate core.tables h m.0) None) refl where
-          v : LinkView
-          v = view_for core.tables ports h
-
-          free : eqb m.0 1 ≡ true → asks_for ports h ≡ false
-          free is = second_false (eqb m.0 1) (asks_for ports h) e is
-
-          asked : cond (goes_through core.tables h m.0 instruction) (own_gate core.tables h m.0) None ≡ None
-              → AsksNobody (decided core.tables v h m.0 instruction (body_in m.1)) ⊎ (asks_for ports h ≡ false)
-          asked gate = by (cases_Bool (eqb m.0 1)) where
-            by : (eqb m.0 1 ≡ true) ⊎ (eqb m.0 1 ≡ false)
-                → AsksNobody (decided core.tables v h m.0 instruction (body_in m.1)) ⊎ (asks_for ports h ≡ false)
-            by (inl is) = inr (free is)
-            by (inr off) = inl (nobody_asked v h host core.tables m instruction (body_in m.1) command proper off none gate)
-
-          go : (o : Option ℕ) → cond (goes_through core.tables h m.0 instruction) (own_gate core.tables h m.0) None ≡ o
-              → Of (served_at core v h m.0 instruction (body_in m.1)
-              (cond (goes_through core.tables h m.0 instruction) (own_gate core.tables h m.0) None))
-          go None gate =
-              subst (λ o. Of (served_at core v h m.0 instruction (body_in m.1) o)) (sym gate)
-              (decision_is m.0 (decided core.tables v h m.0 instruction (body_in m.1)) up free
-              (decided_suits v h host core.tables m.0 instruction (body_in m.1))
-              (asked gate))
-          go (Some g) gate =
-              subst (λ o. Of (served_at core v h m.0 instruction (body_in m.1) o)) (sym gate)
-              (Stays (gate_stays g v.errors m.0 instruction (body_in m.1) free))
-
-    -- ## Other messages
+    -- ## A message
 
     off_one : (a b c : Bool) → b ≡ false → (a && b && c) ≡ true → waits x (asked_of ports) ≡ []
     off_one a b c off e = absurd (true≢false (sym (three a b c e).1 ∙ off))
@@ -169,60 +119,32 @@ module _ (x : ℕ) where
     off_last : (a b c : Bool) → c ≡ false → (a && b && c) ≡ true → waits x (asked_of ports) ≡ []
     off_last a b c off e = absurd (true≢false (sym (three a b c e).2 ∙ off))
 
-    event_is : (m : Message) → is_response m.1 ≡ false → Of (event_deeds core.tables h m)
-    event_is m off = Stays (cond_both _ (Sends h m ∷ []) (Drops m.0 ∷ []) All (λ _. (off_last (eqb h x) (eqb m.0 1) (is_response m.1) off, tt)) (λ _. (tt, tt)))
-
-    unrelayed_stays : (up : Bool) (m : Message) → eqb m.0 1 ≡ false → All (unrelayed up h m)
-    unrelayed_stays up m off =
-        cond_both (up && is_command_message m.1) (answers_on h m.0 (answer_of response.NotConnected [])) (Drops m.0 ∷ []) All
-        (λ _. (off_one (eqb h x) (eqb m.0 1) (is_response (answer_of response.NotConnected [])) off, tt)) (λ _. (tt, tt))
-
-    relay_is : (m : Message) (other : ℕ) (up : Bool) → eqb m.0 1 ≡ false → Of (relay_deeds ports h m other up)
-    relay_is m other true off = Stays (off_one (eqb other x) (eqb m.0 1) (is_response m.1) off, tt)
-    relay_is m other false off = Stays (unrelayed_stays (has_link ports h) m off)
-
-    response_is : (code : ℕ) (o : Option Port) → port_at ports h ≡ o → Of (response_at core code o)
-    response_is code None here = Stays (tt, tt)
-    response_is code (Some p) here = by_notice p.desk.notice refl where
-      by_creation : (n : Notice) → p.desk.notice ≡ Some n → (o : Option Creation) → creation_in (Some n) ≡ o → Of (creation_deeds core code o)
-      by_creation n is None q = IsHeard p here (ap creation_in is ∙ q) refl
-      by_creation n is (Some c) q = IsDone p c (eqb code 0 && finds_room core c.command) here (ap creation_in is ∙ q) refl
-
-      by_notice : (o : Option Notice) → p.desk.notice ≡ o → Of (notice_deeds core code o)
-      by_notice None is = Stays (tt, tt)
-      by_notice (Some n) is = by_creation n is (creation_in (Some n)) refl
-
-    if_notice_is : (m : Message) (code : ℕ) (b : Bool) → Of (if_notice core ports h m code b)
-    if_notice_is m code true = response_is code (port_at ports h) refl
-    if_notice_is m code false = Stays (tt, tt)
-
-    kind_is : (m : Message) (header : Result (MessageKind × ℕ) MessageFault) → header_of m.1 ≡ header → relayed_to core.tables h m ≡ None
-        → has_link ports h ≡ true → Of (kind_deeds core ports h m header)
-    kind_is m (Ok (IsCommand, instruction)) q none up = command_is m instruction (eqb m.0 1 && asks_for ports h) refl q none up
-    kind_is m (Ok (IsEvent, instruction)) q none up = event_is m (rw q refl)
-    kind_is m (Ok (IsResponse, code)) q none up = if_notice_is m code (eqb m.0 1)
-    kind_is m (Err fault) q none up = Stays (tt, tt)
-
-    own_is : (m : Message) (b : Bool) → has_link ports h ≡ b → relayed_to core.tables h m ≡ None → Of (own_deeds core ports h m b)
-    own_is m true e none = kind_is m (header_of m.1) refl none e
-    own_is m false e none = Stays (tt, tt)
-
-    -- pipe 01 leads to no other host
-    relayed_off : (m : Message) (other : ℕ) → relayed_to core.tables h m ≡ Some other → eqb m.0 1 ≡ false
-    relayed_off m other q = go (eqb m.0 1) refl where
-      none : (n : ℕ) → n ≡ 1 → relayed_to core.tables h (n, m.1) ≡ None
-      none n e = subst (λ k. relayed_to core.tables h (k, m.1) ≡ None) (sym e) (cond_both _ None None (λ o. o ≡ None) (λ _. refl) (λ _. refl))
-
-      go : (b : Bool) → eqb m.0 1 ≡ b → eqb m.0 1 ≡ false
-      go true e = let z : None ≡ Some other = sym (none m.0 (eqb-true m.0 1 e)) ∙ q in absurd (cc z)
-      go false e = e
-
-    by_relay : (m : Message) (o : Option ℕ) → relayed_to core.tables h m ≡ o → Of (deeds_by_relay core ports h m o)
-    by_relay m (Some other) q = relay_is m other (has_link ports other) (relayed_off m other q)
-    by_relay m None q = own_is m (has_link ports h) refl q
+    -- who asks for none on pipe 01 isn't asked for one by another pipe
+    asked : (m : Message) (n : ℕ) → IsServed core ports h m n → cond (goes_through core.tables h m.0 n) (own_gate core.tables h m.0) None ≡ None
+        → AsksNobody (decided core.tables (view_for core.tables ports h) h m.0 n (body_in m.1)) ⊎ (asks_for ports h ≡ false)
+    asked m n served gate = by (cases_Bool (eqb m.0 1)) where
+      by : (eqb m.0 1 ≡ true) ⊎ (eqb m.0 1 ≡ false)
+          → AsksNobody (decided core.tables (view_for core.tables ports h) h m.0 n (body_in m.1)) ⊎ (asks_for ports h ≡ false)
+      by (inl is) = inr (served.free is)
+      by (inr off) =
+          inl (nobody_asked (view_for core.tables ports h) h host core.tables m n (body_in m.1) served.command proper off served.not_relayed gate)
 
     pub outcome : (m : Message) → Of (controller_deeds core ports h m)
-    outcome m = by_relay m (relayed_to core.tables h m) refl
+    outcome m =
+        let v : LinkView = view_for core.tables ports h in
+        controller_holds Of core ports h m (record {
+          drops = λ pid none. Stays (tt, tt);
+          goes_on = λ to off. Stays (off_one (eqb to x) (eqb m.0 1) (is_response m.1) off, tt);
+          goes_back = λ n event. Stays (off_last (eqb h x) (eqb m.0 1) (is_response m.1) (rw event refl), tt);
+          refuses = λ r off free. Stays (one_sent m.0 (answer_of r []) free, tt);
+          names = λ n served gate. Stays (one_sent m.0 (identity_served gates n (body_in m.1)) served.free, tt);
+          counts = λ errors n served gate. Stays (link_stays m.0 (link_served errors n (body_in m.1)) served.free);
+          decides =
+              λ n served gate. decision_is m.0 (decided core.tables v h m.0 n (body_in m.1)) served.up served.free
+              (decided_suits v h host core.tables m.0 n (body_in m.1)) (asked m n served gate);
+          hears = λ p reply here none. IsHeard p here none refl;
+          agrees = λ flag p c reply here waits room. IsDone p c flag here waits refl;
+        })
 
 -- ## Hosts that are told
 

@@ -59,11 +59,11 @@ answer_response response.PipeAccessDenied = refl
 abbrev AllAwaited : List Port → Type 0
 AllAwaited ports = AllByRecursion (λ (p : Port). IfAwaited (asked_at p)) ports
 
-due_ports : (ports : List Port) → AllByRecursion (λ (e : ℕ × Option Creation). IfAwaited e.1) (asked_of ports) → AllAwaited ports
+pub due_ports : (ports : List Port) → AllByRecursion (λ (e : ℕ × Option Creation). IfAwaited e.1) (asked_of ports) → AllAwaited ports
 due_ports [] a = tt
 due_ports (p ∷ ports) a = (a.0, due_ports ports a.1)
 
-ports_due : (ports : List Port) → AllAwaited ports → AllByRecursion (λ (e : ℕ × Option Creation). IfAwaited e.1) (asked_of ports)
+pub ports_due : (ports : List Port) → AllAwaited ports → AllByRecursion (λ (e : ℕ × Option Creation). IfAwaited e.1) (asked_of ports)
 ports_due [] a = tt
 ports_due (p ∷ ports) a = (a.0, ports_due ports a.1)
 
@@ -146,7 +146,7 @@ freed_are x all (p ∷ ports) = by_creation (asked_at p) refl (freed_are x all p
 
 module _ (x : ℕ) (before : List Entry) (hosts : List ℕ) where
   -- blocks are freed, one after another
-  frees : (asked : Asked) (owing : List Creation) (j : ℕ) (cs : List Creation) (w : Work) → IsOn x before hosts asked owing (length (owes x cs) + j) w
+  pub frees : (asked : Asked) (owing : List Creation) (j : ℕ) (cs : List Creation) (w : Work) → IsOn x before hosts asked owing (length (owes x cs) + j) w
       → IsOn x before hosts asked owing j (all_done 0 (map (λ (c : Creation). Releases c.asker) cs) w)
   frees asked owing j [] w a = subst (λ n. IsOn x before hosts asked owing n w) (omega arith) a
   frees asked owing j (c ∷ cs) w a =
@@ -184,12 +184,12 @@ module _ (x : ℕ) (before : List Entry) (hosts : List ℕ) where
       by None e = rw (q, e) tt
       by (Some id) e = rw (q, e) (either (not (is_kept_sync core.tables.syncs p.desk.host id) && finds_room core (Sync p.desk.host id)) id)
 
-  all_kept : (core : Core) (input : NodeInput) (ports : List Port) → AllByRecursion IsKept (flat_map (synced core input) ports)
+  pub all_kept : (core : Core) (input : NodeInput) (ports : List Port) → AllByRecursion IsKept (flat_map (synced core input) ports)
   all_kept core input [] = tt
   all_kept core input (p ∷ ports) =
       kept_append (synced core input p) (flat_map (synced core input) ports) (synced_kept core input p) (all_kept core input ports)
 
-  keeps_all : (asked : Asked) (owing : List Creation) (deeds : List Deed) (w : Work) → AllByRecursion IsKept deeds → Good x before hosts asked owing w
+  pub keeps_all : (asked : Asked) (owing : List Creation) (deeds : List Deed) (w : Work) → AllByRecursion IsKept deeds → Good x before hosts asked owing w
       → Good x before hosts asked owing (all_done 0 deeds w) ⊎ IsOff x before hosts (all_done 0 deeds w)
   keeps_all asked owing [] w may a = inl a
   keeps_all asked owing (Commits c ∷ deeds) w may a =
@@ -201,7 +201,7 @@ module _ (x : ℕ) (before : List Entry) (hosts : List ℕ) where
 
   -- ## What is owed
 
-  pays_all : (asked : Asked) (r : Response) (ports : List Port) (owing : List Creation) (rest : List Deed) (w : Work)
+  pub pays_all : (asked : Asked) (r : Response) (ports : List Port) (owing : List Creation) (rest : List Deed) (w : Work)
       → Good x before hosts asked (filter_map asked_at ports ++ owing) w
       → ((v : Work) → Good x before hosts asked owing v → Fine x before hosts (all_done 0 rest v))
       → Fine x before hosts (all_done 0 (flat_map (λ p. owed r (asked_at p)) ports ++ rest) w)
@@ -317,7 +317,7 @@ module _ (x : ℕ) (before : List Entry) (hosts : List ℕ) where
           over_now : over ≡ option_map_or is_over (port_at v.ports x) false
           over_now = over_at v.ports x (subst AreDifferent (sym c.hosts_are) different)
 
-      begins : IsOn x before hosts now owing n begun
+      pub begins : IsOn x before hosts now owing n begun
       begins = record {
         on = c.on;
         node = sessions_node v.core v.ports ∙ (ap (λ (k : Core). k.node) c.core ∙ a.node);
@@ -337,7 +337,7 @@ module _ (x : ℕ) (before : List Entry) (hosts : List ℕ) where
       freed = filter (λ (c : Creation). is_over_at v.ports c.asker) (filter_map asked_at v.ports)
 
       -- as many blocks are freed as creations are forgotten
-      shared : n ≡ length (owes x freed) + many x before hosts now owing
+      pub shared : n ≡ length (owes x freed) + many x before hosts now owing
       shared = go over refl where
         freed_is : owes x freed ≡ cond over (waits x asked) []
         freed_is = freed_are x v.ports v.ports ∙ ap (λ l. cond over (waits x l) []) c.asked_are

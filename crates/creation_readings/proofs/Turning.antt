@@ -129,7 +129,7 @@ module _ (x : ℕ) (before : List Entry) (hosts : List ℕ) (different : AreDiff
               (lack_parts w.ports c.asker 1 ((to, need notice) ∷ []) (ap (λ d. lack w.ports (needs k d)) (sym e) ∙ room)).0)
               (subst (λ n. has_link w.ports n ≡ true) (asker_is z) so.up))
 
-      handled : lack w.ports (needs k deeds) ≡ None → Fine x before hosts (handles k m deeds w)
+      pub handled : lack w.ports (needs k deeds) ≡ None → Fine x before hosts (handles k m deeds w)
       handled room = go (outcome x w.core w.ports k (ne_eqb k 0 (λ z. omega (arith, z, host.0))) a.rows m) where
         go : Outcome x w.ports k deeds → Fine x before hosts (handles k m deeds w)
         go (Stays may) =
@@ -145,7 +145,7 @@ module _ (x : ℕ) (before : List Entry) (hosts : List ℕ) (different : AreDiff
             subst (λ d. Fine x before hosts (handles k m d w)) (sym e)
             (agrees x before hosts k asked c flag (fetched m w) s (due_at asked k c s a.due) (fetched_good asked m w a))
 
-    holds_good : (asked : Asked) (short : ℕ × ℕ) (w : Work) → Good x before hosts asked [] w → Good x before hosts asked [] (holds_back k short w)
+    pub holds_good : (asked : Asked) (short : ℕ × ℕ) (w : Work) → Good x before hosts asked [] w → Good x before hosts asked [] (holds_back k short w)
     holds_good asked short w a = go (option_map_or (λ (p : Port). p.desk.holds) (port_at w.ports k) false) where
       n : ℕ
       n = many x before hosts asked []
@@ -164,7 +164,7 @@ module _ (x : ℕ) (before : List Entry) (hosts : List ℕ) (different : AreDiff
           (desks x before hosts asked [] n k (λ d. record d { holds = true }) told (λ d. refl) (λ d. refl)
           (notes x before hosts asked [] n (entry.Held (end_of_node w.core k) short.0 short.1 ∷ []) w (λ b. refl) refl a))
 
-    lets_good : (asked : Asked) (w : Work) → Good x before hosts asked [] w → Good x before hosts asked [] (lets_go k w)
+    pub lets_good : (asked : Asked) (w : Work) → Good x before hosts asked [] w → Good x before hosts asked [] (lets_go k w)
     lets_good asked w a = go (option_map_or (λ (p : Port). is_held p.side) (port_at w.ports k) false) where
       by : Bool → Work
       by true = turn_at k (Hold false) w

@@ -92,10 +92,10 @@ ticked_good k sites a =
         cond_both (late && not (is_waiting l.controller.side.shdlc)) (has_input l (Reset None) ts ending) (ticks_at_controller l ts ending)
         (λ (m : Link). IsShut m.controller.side) (λ _. here_shut l (Step (AsksReset None) ts ending) b) (λ _. ticks_shut l ts ending b)
 
-aged_good : (w : NodeWorld) → AreGood w.sites → AreGood (all_aged w).0.sites
+pub aged_good : (w : NodeWorld) → AreGood w.sites → AreGood (all_aged w).0.sites
 aged_good w a = good_map (λ (s : Site). record s { link = aged s.link }) (λ s b. record { host = b.host; node = b.node; shut = b.shut }) w.sites a
 
-near_good : (w : NodeWorld) → AreGood w.sites → AreGood (controller_ticks w).0.sites
+pub near_good : (w : NodeWorld) → AreGood w.sites → AreGood (controller_ticks w).0.sites
 near_good w a = go w.controller refl where
   k : Running → Work
   k r = steps TimePasses (work_of r w.memory.plan (λ h. (link_to w.sites h).controller) [])

@@ -1,13 +1,8 @@
 -- A host may do what it does with a message.
 use Rattle.std.proofs.Common.{◌≡◌, ◌⊎◌, ℕ, ◌+◌, ◌≤◌, zero, suc, Bool, true, false, not, cond, eqb, leb, ◌&&◌, subst, List, [], ◌∷◌, ◌++◌, map, slice_get, add-one, eqb-true, sym, refl, ap, ◌∙◌, inl, inr}
-use Rattle.std.specs.Prelude.{Option, Some, None, Result, Ok, Err, is_some}
+use Rattle.std.specs.Prelude.{Option, Some, None, is_some}
 use Rattle.std.specs.Option.{option_map_or}
 use Rattle.std.proofs.lemmas.Bool.{cond_both, cases_Bool, and_parts, and_from, le-leb, lt-ltb}
-use Rattle.hcp_packet.specs.declared.MessageKind.{MessageKind}
-use Rattle.hcp_packet.specs.declared.MessageKind.TheVariants.{Command as IsCommandKind, Event as IsEvent, Response as IsResponse}
-use Rattle.hcp_packet.specs.declared.MessageFault.{MessageFault}
-use Rattle.hcp_packet.specs.MessageHeader.{header_of}
-use Rattle.session_laws.specs.Sessions.{is_up}
 use Rattle.trace_model.specs.declared.entry.Entry.TheVariants.{InitSame}
 use Rattle.journal_laws.specs.declared.state.State.{State}
 use Rattle.sorted_rows.proofs.RowLemmas.{row_of-within}
@@ -18,17 +13,15 @@ use Rattle.hci_tables.specs.declared.command.Command.TheVariants.{Create, Delete
 use Rattle.hci_tables.specs.Commands.{is_command, is_host, is_dynamic, IsCommand}
 use Rattle.hci_tables.specs.Tables.{HciTables, AreTables}
 use Rattle.gate_answers.specs.declared.response.Response.TheVariants as response
-use Rattle.gate_answers.specs.Answers.{answer_of, instruction_in, body_in}
+use Rattle.gate_answers.specs.Answers.{answer_of, body_in}
 use Rattle.gate_link.specs.Link.{link_served}
-use Rattle.gate_identity.specs.Identity.{identity_served}
-use Rattle.gate_loopback.specs.Loopback.{posts_back}
 use Rattle.link_machine.specs.Machine.{Message}
 use Rattle.node_machine.specs.Parts.{Init, Core, Port, Deed}
-use Rattle.node_machine.specs.Parts.Deed.{Commits, Sends, Ends}
+use Rattle.node_machine.specs.Parts.Deed.{Commits, Ends}
 use Rattle.node_machine.specs.Carrying.{end_of_node, finds_room}
-use Rattle.node_machine.specs.Controller.{answers_on, link_deeds, gates}
-use Rattle.node_machine.specs.HostReplies.{replies, accepts, is_open_gate, is_welcome, pipe_named_in, pipe_created, pipe_deleted, pipes_cleared, notified_deeds, orders_of, is_same, learns, init_agreed, init_deeds, deleted_by, created_by, learned, response_deeds, gate_of_pipe, is_gate, ordered_deeds, host_deeds}
+use Rattle.node_machine.specs.HostReplies.{accepts, is_open_gate, is_welcome, pipe_named_in, orders_of, is_same, learns, init_agreed, init_deeds, learned, ordered_deeds, host_deeds}
 use Rattle.kept_laws.specs.Deeds.{IsOnOrder, MayBeDone}
+use Rattle.node_laws.proofs.Walks.{ordered_holds, learns_holds, learned_holds, host_holds}
 use Rattle.kept_laws.proofs.Replies.{commit_may, link_may}
 
 -- a pipe that a message names is closed
@@ -72,27 +65,11 @@ last_one (x ∷ front) l o (suc k) is none = last_one front l o k is none
 abbrev pub OneOrNone : Core → List Deed → Type 0
 OneOrNone core deeds = (deeds ≡ []) ⊎ ((c : Command) × (deeds ≡ Commits c ∷ []) × IsCommand c × (finds_room core c ≡ true))
 
-learns_one : (core : Core) (c : Command) → OneOrNone core (learns core c)
-learns_one core c =
-    cond_both (is_command c && finds_room core c) (Commits c ∷ []) [] (OneOrNone core)
-    (λ e. inr (c, refl, (and_parts (is_command c) (finds_room core c) e).0, (and_parts (is_command c) (finds_room core c) e).1))
-    (λ _. inl refl)
-
-created_one : (core : Core) (o : Option PipeRow) → OneOrNone core (option_map_or (λ row. learns core (Create row)) o [])
-created_one core None = inl refl
-created_one core (Some row) = learns_one core (Create row)
-
-deleted_one : (core : Core) (body : List ℕ) → OneOrNone core (deleted_by core body)
-deleted_one core [] = inl refl
-deleted_one core (pid ∷ []) = learns_one core (Delete pid)
-deleted_one core (a ∷ b ∷ body) = inl refl
+one : (core : Core) (c : Command) → is_command c ≡ true → finds_room core c ≡ true → OneOrNone core (Commits c ∷ [])
+one core c may room = inr (c, refl, may, room)
 
 learned_one : (core : Core) (order value : List ℕ) → OneOrNone core (learned core order value)
-learned_one core order value =
-    cond_both (eqb (instruction_in order) 16) (created_by core value) _ (OneOrNone core) (λ _. created_one core (pipe_named_in value))
-    (λ _. cond_both (eqb (instruction_in order) 17) (deleted_by core (body_in order)) _ (OneOrNone core) (λ _. deleted_one core (body_in order))
-    (λ _. cond_both (eqb (instruction_in order) 20) (learns core (Clear core.node)) [] (OneOrNone core) (λ _. learns_one core (Clear core.node))
-    (λ _. inl refl)))
+learned_one core order value = learned_holds (OneOrNone core) core (inl refl) (one core) order value
 
 -- what may be done behind nothing or one command
 pub behind_one : (core : Core) (first behind : List Deed) (command : Option (List ℕ)) (init : Option Init) → OneOrNone core first
@@ -112,8 +89,8 @@ agreed_last : (core : Core) (i : Init) (value : List ℕ) → slice_get (orders_
     → MayBeDone (Some core.journal) None (Some i) (init_agreed core i value)
 agreed_last core i value none =
     cond_both (is_same core i value) (Ends (InitSame (end_of_node core core.node)) ∷ []) _ (MayBeDone (Some core.journal) None (Some i)) (λ _. (tt, tt))
-    (λ _. rw none (behind_one core (learns core (Set core.node 0 1 (record { items = i.identity }))) _ None (Some i) (learns_one core (Set core.node 0 1
-    (record { items = i.identity }))) (tt, tt) (tt, tt)))
+    (λ _. rw none (behind_one core (learns core (Set core.node 0 1 (record { items = i.identity }))) _ None (Some i)
+    (learns_holds (OneOrNone core) core (inl refl) (one core) (Set core.node 0 1 (record { items = i.identity }))) (tt, tt) (tt, tt)))
 
 -- behind the last command of an init nothing else is learned
 last_learned : (core : Core) (i : Init) (order value : List ℕ) → slice_get (orders_of i) i.answered ≡ Some order
@@ -144,14 +121,6 @@ answered_may core code value order (Some i) on = by_code (cases_Bool (eqb code 0
   by_code (inl e) = rw e (by_next (slice_get (orders_of i) (i.answered + 1)) refl)
   by_code (inr e) = rw e (tt, tt)
 
-response_may : (core : Core) (code : ℕ) (value : List ℕ) → IsOnOrder core.command core.init
-    → MayBeDone (Some core.journal) core.command core.init (response_deeds core code value)
-response_may core code value on = by_order core.command refl on where
-  by_order : (o : Option (List ℕ)) → core.command ≡ o → IsOnOrder o core.init
-      → MayBeDone (Some core.journal) core.command core.init (response_deeds core code value)
-  by_order None e on = rw e on
-  by_order (Some order) e on = rw e (answered_may core code value order core.init on)
-
 module _ (core : Core) (on : IsOnOrder core.command core.init) (sorted : AreTables core.tables) (most : core.node ≤ 7) where
   abbrev Fine : List Deed → Type 0
   Fine deeds = MayBeDone (Some core.journal) core.command core.init deeds
@@ -159,50 +128,22 @@ module _ (core : Core) (on : IsOnOrder core.command core.init) (sorted : AreTabl
   accepts_may : (c : Command) → IsCommand c → Fine (accepts core c)
   accepts_may c may = commit_may core on c (finds_room core c) refl core.node 1 (answer_of response.Ok []) [] may on
 
-  created_may : (body : List ℕ) → Fine (pipe_created core body)
-  created_may body = by_row (pipe_named_in body) refl where
-    by_row : (o : Option PipeRow) → pipe_named_in body ≡ o → Fine (pipe_created core body)
-    by_row None e = rw e on
-    by_row (Some row) e =
-        rw e (cond_both (is_welcome core.node row) (accepts core (Create row)) (replies core response.NotOk) Fine
-        (λ w. accepts_may (Create row) (welcome_may core.node row most w (named_closed body row e))) (λ _. on))
-
-  deleted_may : (body : List ℕ) → Fine (pipe_deleted core body)
-  deleted_may [] = on
-  deleted_may (pid ∷ []) =
-      cond_both (is_some (pipe_at core.tables.rows pid)) (accepts core (Delete pid)) (replies core response.Ok) Fine
-      (λ e. accepts_may (Delete pid) (delete_may core.tables pid sorted e)) (λ _. on)
-  deleted_may (a ∷ b ∷ body) = on
-
-  cleared_may : (body : List ℕ) → Fine (pipes_cleared core body)
-  cleared_may [] = on
-  cleared_may (x ∷ []) =
-      cond_both (is_host x) (accepts core (Clear x)) (replies core response.CommandParameterUnknown) Fine (λ e. accepts_may (Clear x) e) (λ _. on)
-  cleared_may (a ∷ b ∷ body) = on
-
-  notified_may : (instruction : ℕ) (body : List ℕ) → Fine (notified_deeds core instruction body)
-  notified_may instruction body =
-      cond_both (eqb instruction 18) (pipe_created core body) _ Fine (λ _. created_may body)
-      (λ _. cond_both (eqb instruction 19) (pipe_deleted core body) _ Fine (λ _. deleted_may body)
-      (λ _. cond_both (eqb instruction 21) (pipes_cleared core body) (replies core response.CommandNotSupported) Fine (λ _. cleared_may body) (λ _. on)))
-
-  ordered_may : (errors pipe instruction : ℕ) (body : List ℕ) → Fine (ordered_deeds core errors pipe instruction body)
-  ordered_may errors pipe instruction body =
-      cond_both (eqb pipe 1) (notified_deeds core instruction body) _ Fine (λ _. notified_may instruction body)
-      (λ _. cond_both (eqb pipe 0) (link_deeds core.node 0 (link_served errors instruction body)) _ Fine (λ _. link_may core on core.node 0
-      (link_served errors instruction body))
-      (λ _. cond_both (is_gate 5 (gate_of_pipe core pipe)) (answers_on core.node pipe (identity_served gates instruction body)) [] Fine (λ _. on) (λ _. on)))
+  ordered_may : (errors pipe n : ℕ) (body : List ℕ) → Fine (ordered_deeds core errors pipe n body)
+  ordered_may errors pipe n body = ordered_holds Fine core errors pipe n body (record {
+    none = on;
+    refuses = λ r. on;
+    creates = λ row named welcome. accepts_may (Create row) (welcome_may core.node row most welcome (named_closed body row named));
+    deletes = λ pid kept. accepts_may (Delete pid) (delete_may core.tables pid sorted kept);
+    clears = λ x host. accepts_may (Clear x) host;
+    counts = λ zero. link_may core on core.node 0 (link_served errors n body);
+    names = λ off. on;
+  })
 
   pub host_may : (p : Port) (m : Message) → Fine (host_deeds core p m)
-  host_may p m = by_up (cases_Bool (is_up p.side.shdlc.phase)) where
-    by_header : is_up p.side.shdlc.phase ≡ true → (header : Result (MessageKind × ℕ) MessageFault) → header_of m.1 ≡ header → Fine (host_deeds core p m)
-    by_header up (Ok (IsCommandKind, instruction)) e = rw up (rw e (ordered_may p.desk.errors m.0 instruction (body_in m.1)))
-    by_header up (Ok (IsEvent, instruction)) e =
-        rw up (rw e (cond_both (is_gate 4 (gate_of_pipe core m.0) && posts_back m.1) (Sends core.node m ∷ []) [] Fine (λ _. on) (λ _. on)))
-    by_header up (Ok (IsResponse, code)) e =
-        rw up (rw e (cond_both (eqb m.0 1) (response_deeds core code (body_in m.1)) [] Fine (λ _. response_may core code (body_in m.1) on) (λ _. on)))
-    by_header up (Err fault) e = rw up (rw e on)
-
-    by_up : (is_up p.side.shdlc.phase ≡ true) ⊎ (is_up p.side.shdlc.phase ≡ false) → Fine (host_deeds core p m)
-    by_up (inl up) = by_header up (header_of m.1) refl
-    by_up (inr down) = rw down on
+  host_may p m = host_holds Fine core p m (record {
+    none = on;
+    drops = on;
+    goes = on;
+    ordered = λ n is. ordered_may p.desk.errors m.0 n (body_in m.1);
+    heard = λ code order is. answered_may core code (body_in m.1) order core.init (subst (λ o. IsOnOrder o core.init) is on);
+  })

@@ -1,7 +1,7 @@
 -- What a node keeps in a step.
-use Rattle.std.proofs.Common.{◌≡◌, ◌⊎◌, inl, inr, ℕ, ◌+◌, true, false, not, cond, eqb, leb, ◌&&◌, List, [], ◌∷◌, ◌++◌, map, filter, sym, refl, ap, ◌∙◌, subst, append-nil}
+use Rattle.std.proofs.Common.{◌≡◌, ◌⊎◌, inl, inr, ℕ, ◌+◌, true, false, not, cond, eqb, leb, ◌&&◌, List, [], ◌∷◌, ◌++◌, map, sym, refl, ap, ◌∙◌, subst, append-nil}
 use Rattle.std.specs.Prelude.{Option, Some, None}
-use Rattle.std.specs.List.{AllByRecursion, flat_map, list_any, filter_map}
+use Rattle.std.specs.List.{AllByRecursion, flat_map, list_any}
 use Rattle.std.specs.Option.{option_map_or}
 use Rattle.std.proofs.lemmas.Bool.{cond_both, cases_Bool, and_parts, and_from, le-leb, eqb-true, true≢false}
 use Rattle.swp_base.specs.InMemory.{Memory}
@@ -17,8 +17,6 @@ use Rattle.journal_laws.specs.declared.state.State.{State}
 use Rattle.hci_tables.specs.declared.command.Command.TheVariants.{Sync}
 use Rattle.hci_tables.specs.Commands.{IsCommand}
 use Rattle.hci_tables.specs.Tables.{HciTables, AreTables, apply, is_kept_sync}
-use Rattle.gate_answers.specs.declared.response.Response.{Response}
-use Rattle.gate_answers.specs.declared.response.Response.TheVariants as response
 use Rattle.link_machine.specs.Machine.{Role, LinkInput, after_input, act_out, act_answer, is_open, report, whole_acked}
 use Rattle.link_machine.specs.Machine.Role.{Bare, Clf, Uicc}
 use Rattle.link_machine.specs.Machine.LinkInput.{Reset}
@@ -35,7 +33,7 @@ use Rattle.node_laws.proofs.Waits.{within, same_list}
 use Rattle.kept_laws.proofs.Asking.{same_new, new_then, map_new}
 use Rattle.registry.proofs.ValueLemmas.{AllByRecursion-append as all_append}
 use Rattle.node_machine.specs.Turns.{passes}
-use Rattle.node_machine.specs.Node.{NodeInput, input_at, has_come, told_at, all_come, with_older, is_late, reset_late, told_late, times_out, is_over, is_over_at, is_forgotten, forgotten, forgets, owed, all_owed, without_notice, after_sessions, synced, steps}
+use Rattle.node_machine.specs.Node.{NodeInput, input_at, has_come, told_at, all_come, with_older, is_late, reset_late, told_late, times_out, is_over, is_forgotten, forgotten, forgets, all_owed, without_notice, after_sessions, synced, steps}
 use Rattle.node_machine.specs.Node.NodeInput.{AtEnd, TimePasses}
 use Rattle.kept_laws.specs.Books.{IsPlain, WaitsFor, WaitsAt, hosts_of_ends, StillRuns}
 use Rattle.kept_laws.specs.Deeds.{IsOnOrder, MayBeDone}
@@ -45,6 +43,7 @@ use Rattle.kept_laws.proofs.Doing.{uncut, GoesOn_or_lost, all_fine}
 use Rattle.kept_laws.proofs.HostsReply.{OneOrNone, behind_one}
 use Rattle.kept_laws.proofs.Turning.{then_all, passes_fine}
 use Rattle.node_laws.proofs.Ports.{come_host, forgets_host}
+use Rattle.node_laws.proofs.Walks.{forgotten_hold, all_owed_hold}
 
 -- ## What comes
 
@@ -60,7 +59,7 @@ told_plain : (core : Core) (p : Port) (o : Option LinkInput) → AllByRecursion 
 told_plain core p None = tt
 told_plain core p (Some i) = plain_entries p.desk.host (told (own_side core) p.session (report p.side i) (whole_acked (after_input p.side i)))
 
-plainly_come : (input : NodeInput) (w : Work) → Plainly w (all_come input w)
+pub plainly_come : (input : NodeInput) (w : Work) → Plainly w (all_come input w)
 plainly_come input w =
     plainly_map w (λ p. has_come p (input_at input p)) (flat_map (λ p. told_at w.core p (input_at input p)) w.ports)
     (plain_flat (λ p. told_at w.core p (input_at input p)) (λ p. told_plain w.core p (input_at input p)) w.ports)
@@ -114,7 +113,7 @@ plainly_ports w f host waits none = record {
   none_new = map_new f host none w.ports;
 }
 
-plainly_late : (input : NodeInput) (w : Work) → Plainly w (times_out input w)
+pub plainly_late : (input : NodeInput) (w : Work) → Plainly w (times_out input w)
 plainly_late (AtEnd h i) w = record {
   more = [];
   plain = tt;
@@ -135,7 +134,7 @@ plainly_late TimePasses w =
     (plainly_map a reset_late (flat_map (told_late w.core) a.ports) (plain_flat (told_late w.core) (late_plain w.core) a.ports) late_host late_waits late_new)
 
 -- what came changes no core
-core_late : (input : NodeInput) (w : Work) → (times_out input w).core ≡ w.core
+pub core_late : (input : NodeInput) (w : Work) → (times_out input w).core ≡ w.core
 core_late (AtEnd h i) w = refl
 core_late TimePasses w = refl
 
@@ -167,7 +166,7 @@ without_new p c asked =
     cond_both (is_over p) (record p { desk = record p.desk { notice = None } }) p (λ q. asked_at q ≡ Some c → asked_at p ≡ Some c) (λ _ e. absurd (cc e))
     (λ _ e. e) asked
 
-plainly_sessions : (w : Work) → Plainly w (record w { core = after_sessions w.core w.ports; ports = map without_notice (map (forgets w.ports) w.ports) })
+pub plainly_sessions : (w : Work) → Plainly w (record w { core = after_sessions w.core w.ports; ports = map without_notice (map (forgets w.ports) w.ports) })
 plainly_sessions w = record {
   more = [];
   plain = tt;
@@ -188,7 +187,7 @@ plainly_sessions w = record {
       (forgets w.ports) w.ports));
 }
 
-sessions_order : (core : Core) (ports : List Port) → IsOnOrder core.command core.init
+pub sessions_order : (core : Core) (ports : List Port) → IsOnOrder core.command core.init
     → IsOnOrder (after_sessions core ports).command (after_sessions core ports).init
 sessions_order core ports on =
     cond_both (list_any is_over ports) (record core { command = None; init = None }) core (λ (c : Core). IsOnOrder c.command c.init) (λ _. tt) (λ _. on)
@@ -201,34 +200,15 @@ IsFree (Releases asker) = Unit {0}
 IsFree (Sends to m) = Unit {0}
 IsFree _ = ⊥
 
-free_may : (s : Option State) (command : Option (List ℕ)) (init : Option Init) (deeds : List Deed) → AllByRecursion IsFree deeds → IsOnOrder command init
+pub free_may : (s : Option State) (command : Option (List ℕ)) (init : Option Init) (deeds : List Deed) → AllByRecursion IsFree deeds → IsOnOrder command init
     → MayBeDone s command init deeds
 free_may s command init [] all on = on
 free_may s command init (Releases asker ∷ deeds) all on = free_may s command init deeds all.1 on
 free_may s command init (Sends to m ∷ deeds) all on = free_may s command init deeds all.1 on
 free_may s command init (_ ∷ deeds) all on = absurd all.0
 
-free_append : (xs ys : List Deed) → AllByRecursion IsFree xs → AllByRecursion IsFree ys → AllByRecursion IsFree (xs ++ ys)
-free_append [] ys a b = b
-free_append (x ∷ xs) ys a b = (a.0, free_append xs ys a.1 b)
-
-free_owed : (r : Response) (o : Option Creation) → AllByRecursion IsFree (owed r o)
-free_owed r None = tt
-free_owed r (Some c) = (tt, (tt, tt))
-
-free_flat : (r : Response) (ports : List Port) → AllByRecursion IsFree (flat_map (λ p. owed r (asked_at p)) ports)
-free_flat r [] = tt
-free_flat r (p ∷ ports) = free_append (owed r (asked_at p)) _ (free_owed r (asked_at p)) (free_flat r ports)
-
-free_all : (ports : List Port) → AllByRecursion IsFree (all_owed ports)
-free_all ports = free_append _ _ (free_flat response.NotConnected (filter (λ p. p.ended) ports)) (free_flat response.Timeout (filter (λ p. p.late) ports))
-
-free_forgotten : (cs : List Creation) → AllByRecursion IsFree (map (λ (c : Creation). Releases c.asker) cs)
-free_forgotten [] = tt
-free_forgotten (c ∷ cs) = (tt, free_forgotten cs)
-
 -- they leave the core
-freed_core : (deeds : List Deed) → AllByRecursion IsFree deeds → (w : Work) → w.cut ≡ false → (all_done 0 deeds w).core ≡ w.core
+pub freed_core : (deeds : List Deed) → AllByRecursion IsFree deeds → (w : Work) → w.cut ≡ false → (all_done 0 deeds w).core ≡ w.core
 freed_core [] all w on = refl
 freed_core (Releases asker ∷ deeds) all w on =
     ap (λ (x : Work). x.core) (uncut (all_done 0 deeds) (turn_at asker Release w) on) ∙ freed_core deeds all.1 (turn_at asker Release w) on
@@ -237,7 +217,7 @@ freed_core (Sends to m ∷ deeds) all w on =
     ∙ freed_core deeds all.1 (turn_at to (Give m) w) on
 freed_core (_ ∷ deeds) all w on = absurd all.0
 
-freed_cut : (deeds : List Deed) → AllByRecursion IsFree deeds → (w : Work) → w.cut ≡ false → (all_done 0 deeds w).cut ≡ false
+pub freed_cut : (deeds : List Deed) → AllByRecursion IsFree deeds → (w : Work) → w.cut ≡ false → (all_done 0 deeds w).cut ≡ false
 freed_cut [] all w on = on
 freed_cut (Releases asker ∷ deeds) all w on =
     ap (λ (x : Work). x.cut) (uncut (all_done 0 deeds) (turn_at asker Release w) on) ∙ freed_cut deeds all.1 (turn_at asker Release w) on
@@ -307,16 +287,16 @@ flat_one core h i (p ∷ ports) different all = by_host (cases_Bool (eqb p.desk.
       (subst (OneOrNone core) (sym (append-nil (synced core (AtEnd h i) p))) (synced_here core h i p all.0 e))
   by_host (inr e) rest = subst (λ l. OneOrNone core (l ++ flat_map (synced core (AtEnd h i)) ports)) (sym (synced_other core h i p e)) rest
 
-syncs_one : (core : Core) (input : NodeInput) (ports : List Port) → AreDifferent (hosts_of_ends ports) → AllByRecursion IsHost (hosts_of_ends ports)
+pub syncs_one : (core : Core) (input : NodeInput) (ports : List Port) → AreDifferent (hosts_of_ends ports) → AllByRecursion IsHost (hosts_of_ends ports)
     → OneOrNone core (flat_map (synced core input) ports)
 syncs_one core (AtEnd h i) ports different all = flat_one core h i ports different all
 syncs_one core TimePasses ports different all = inl (flat_tick core ports)
 
-one_may : (core : Core) (deeds : List Deed) (command : Option (List ℕ)) (init : Option Init) → OneOrNone core deeds → IsOnOrder command init
+pub one_may : (core : Core) (deeds : List Deed) (command : Option (List ℕ)) (init : Option Init) → OneOrNone core deeds → IsOnOrder command init
     → MayBeDone (Some core.journal) command init deeds
 one_may core deeds command init one on = subst (MayBeDone (Some core.journal) command init) (append-nil deeds) (behind_one core deeds [] command init one on on)
 
-free_fit : (t : HciTables) (ports : List Port) (deeds : List Deed) → AllByRecursion IsFree deeds → AllByRecursion (IsAllowedStill t ports) deeds
+pub free_fit : (t : HciTables) (ports : List Port) (deeds : List Deed) → AllByRecursion IsFree deeds → AllByRecursion (IsAllowedStill t ports) deeds
 free_fit t ports [] all = tt
 free_fit t ports (Releases asker ∷ deeds) all = (tt, free_fit t ports deeds all.1)
 free_fit t ports (Sends to m ∷ deeds) all = (tt, free_fit t ports deeds all.1)
@@ -343,7 +323,7 @@ module _ (t : HciTables) (ports : List Port) (sorted : AreTables t) (may : MayWa
     by_input None e = rw e tt
     by_input (Some i) e = by_id i e (report p.side i).sync refl
 
-  syncs_fit : (core : Core) (input : NodeInput) (ends : List Port) → AllByRecursion (IsAllowedStill t ports) (flat_map (synced core input) ends)
+  pub syncs_fit : (core : Core) (input : NodeInput) (ends : List Port) → AllByRecursion (IsAllowedStill t ports) (flat_map (synced core input) ends)
   syncs_fit core input [] = tt
   syncs_fit core input (p ∷ ends) = all_append (IsAllowedStill t ports) (synced core input p) (flat_map (synced core input) ends) (sync_fit core input p)
       (syncs_fit core input ends)
@@ -358,8 +338,8 @@ module _ (n : ℕ) (hosts : List ℕ) (old : Memory) (before : List Entry) (node
       (then_all n hosts old before (all_done 0 owing) (all_done 0 syncs x) (synced_fine freed_fine)
       (λ y q o.
       all_fine n hosts old before 0 owing y (Some y.core.journal) q refl (free_may (Some y.core.journal) y.core.command y.core.init owing
-      (free_all left) o) y.ports
-      (same_new y.ports) (λ z. free_fit y.core.tables y.ports owing (free_all left))))
+      (all_owed_hold IsFree (λ asker. tt) (λ to r. tt) left) o) y.ports
+      (same_new y.ports) (λ z. free_fit y.core.tables y.ports owing (all_owed_hold IsFree (λ asker. tt) (λ to r. tt) left))))
       (λ y q o. passes_fine n hosts old before node are.all y q o)
     where
       came : Work
@@ -385,7 +365,7 @@ module _ (n : ℕ) (hosts : List ℕ) (old : Memory) (before : List Entry) (node
       freed = forgotten came.ports
 
       are_free : AllByRecursion IsFree freed
-      are_free = free_forgotten (filter (λ (c : Creation). is_over_at came.ports c.asker) (filter_map asked_at came.ports))
+      are_free = forgotten_hold IsFree (λ asker. tt) came.ports
 
       syncs : List Deed
       syncs = flat_map (synced w.core input) w.ports

@@ -45,7 +45,7 @@ module _ (n : ℕ) (hosts : List ℕ) (old : Memory) (before : List Entry) where
   then_all f w (inr lost) later = subst Fine (sym (stays_cut f w lost.off)) (inr lost)
 
   module _ (node : IsNodeNumber n) where
-    deeds_may : (w : Work) (h : ℕ) (m : Message) → Runs w → IsOnOrder w.core.command w.core.init → IsHost h
+    pub deeds_may : (w : Work) (h : ℕ) (m : Message) → Runs w → IsOnOrder w.core.command w.core.init → IsHost h
         → MayBeDone (Some w.core.journal) w.core.command w.core.init (deeds_of w.core w.ports h m)
     deeds_may w h m r on host = by_node (cases_Bool (eqb w.core.node 0)) where
       small : w.core.node ≤ 7
@@ -58,12 +58,12 @@ module _ (n : ℕ) (hosts : List ℕ) (old : Memory) (before : List Entry) where
           rw e (map_or (MayBeDone (Some w.core.journal) w.core.command w.core.init) (λ p. host_deeds w.core p m) (port_at w.ports h) on
           (λ p. host_may w.core on r.sorted small p m))
 
-    deeds_fit : (w : Work) (h : ℕ) (m : Message) → Runs w → n ≡ 0 → AllByRecursion (IsAllowedStill w.core.tables w.ports) (deeds_of w.core w.ports h m)
+    pub deeds_fit : (w : Work) (h : ℕ) (m : Message) → Runs w → n ≡ 0 → AllByRecursion (IsAllowedStill w.core.tables w.ports) (deeds_of w.core w.ports h m)
     deeds_fit w h m r z =
         let zero_is : eqb w.core.node 0 ≡ true = eq-eqb w.core.node 0 (r.number ∙ z) in
         rw zero_is (message_allowed w.core w.ports h r.sorted (r.allowed z) m)
 
-    handles_fine : (w : Work) (h : ℕ) (m : Message) (deeds : List Deed) → Runs w → MayBeDone (Some w.core.journal) w.core.command w.core.init deeds
+    pub handles_fine : (w : Work) (h : ℕ) (m : Message) (deeds : List Deed) → Runs w → MayBeDone (Some w.core.journal) w.core.command w.core.init deeds
         → (n ≡ 0 → AllByRecursion (IsAllowedStill w.core.tables w.ports) deeds) → Fine (handles h m deeds w)
     handles_fine w h m deeds r may fit =
         let a : Work = noting (entry.Turn (end_of_node w.core h) m.0 m.1 ∷ []) w in
@@ -75,7 +75,7 @@ module _ (n : ℕ) (hosts : List ℕ) (old : Memory) (before : List Entry) where
         let q = runs_plainly n hosts old before w v r p in
         all_fine n hosts old before h deeds v (Some v.core.journal) q refl may w.ports p.none_new fit
 
-    holds_fine : (w : Work) (h : ℕ) (short : ℕ × ℕ) → Runs w → IsOnOrder w.core.command w.core.init → Fine (holds_back h short w)
+    pub holds_fine : (w : Work) (h : ℕ) (short : ℕ × ℕ) → Runs w → IsOnOrder w.core.command w.core.init → Fine (holds_back h short w)
     holds_fine w h short r on = by_desk (cases_Bool (option_map_or (λ (p : Port). p.desk.holds) (port_at w.ports h) false)) where
       by_desk : (option_map_or (λ (p : Port). p.desk.holds) (port_at w.ports h) false ≡ true) ⊎ (option_map_or (λ (p : Port). p.desk.holds)
           (port_at w.ports h) false ≡ false) → Fine (holds_back h short w)
@@ -89,7 +89,7 @@ module _ (n : ℕ) (hosts : List ℕ) (old : Memory) (before : List Entry) where
           (plainly_then a b v (plainly_desk h (λ d. record d { holds = true }) a (λ d. refl) (λ d x. x) (λ d c e. e)) (plainly_turn h (Hold true) b))) in
           rw e (inl (q, on))
 
-    lets_fine : (w : Work) (h : ℕ) → Runs w → IsOnOrder w.core.command w.core.init → Fine (lets_go h w)
+    pub lets_fine : (w : Work) (h : ℕ) → Runs w → IsOnOrder w.core.command w.core.init → Fine (lets_go h w)
     lets_fine w h r on = by_side (cases_Bool (option_map_or (λ (p : Port). is_held p.side) (port_at w.ports h) false)) where
       by_side : (option_map_or (λ (p : Port). is_held p.side) (port_at w.ports h) false ≡ true) ⊎ (option_map_or (λ (p : Port). is_held p.side)
           (port_at w.ports h) false ≡ false) → Fine (lets_go h w)

@@ -1,11 +1,11 @@
 -- What an input leaves of a port of a node, and of its core.
-use Rattle.std.proofs.Common.{◌≡◌, Bool, true, false, List, refl}
+use Rattle.std.proofs.Common.{◌≡◌, ℕ, Bool, true, false, eqb, List, [], ◌∷◌, refl, subst}
 use Rattle.std.specs.Prelude.{Option, Some, None}
-use Rattle.std.specs.List.{list_any}
+use Rattle.std.specs.List.{list_any, AllByRecursion}
 use Rattle.std.proofs.lemmas.Bool.{cond_both}
 use Rattle.link_machine.specs.Machine.{LinkInput}
 use Rattle.node_machine.specs.Parts.{Core, Port}
-use Rattle.node_machine.specs.Carrying.{changed_if}
+use Rattle.node_machine.specs.Carrying.{port_at, changed_if}
 use Rattle.node_machine.specs.Controller.{asked_at}
 use Rattle.node_machine.specs.Node.{has_come, is_over, is_forgotten, forgets, after_sessions}
 
@@ -26,3 +26,10 @@ sessions_node core ports = go (list_any is_over ports) refl
     go : (b : Bool) → list_any is_over ports ≡ b → (after_sessions core ports).node ≡ core.node
     go true q = rw q refl
     go false q = rw q refl
+
+-- what holds of all ends holds of the end with this host
+pub at_port : (P : Port → Type 0) (ports : List Port) (h : ℕ) (p : Port) → AllByRecursion P ports → port_at ports h ≡ Some p → P p
+at_port P [] h p all here = absurd (cc here)
+at_port P (q ∷ ports) h p all here =
+    cond_both (eqb q.desk.host h) (Some q) (port_at ports h) (λ o. o ≡ Some p → P p) (λ _ is. let same : q ≡ p = cc in subst P same all.0)
+    (λ _ is. at_port P ports h p all.1 is) here

@@ -1,7 +1,7 @@
 -- A notice that isn't answered stands only at an end that is up.
-use Rattle.std.proofs.Common.{◌≡◌, ℕ, ◌==◌, ◌||◌, Bool, true, false, cond, List, [], ◌∷◌, ◌++◌, length, Option, Some, None, map, refl, ap, sym, subst, ◌∙◌}
+use Rattle.std.proofs.Common.{◌≡◌, ℕ, ◌==◌, ◌||◌, Bool, true, false, List, [], ◌∷◌, length, Option, Some, None, map, refl, ap, sym, subst, ◌∙◌}
 use Rattle.std.specs.Prelude.{is_some}
-use Rattle.std.specs.List.{AllByRecursion, flat_map, filter}
+use Rattle.std.specs.List.{AllByRecursion, flat_map}
 use Rattle.std.specs.Option.{option_map, option_map_or}
 use Rattle.std.proofs.lemmas.Bool.{true≢false, eqb-true}
 use Rattle.trace_model.specs.declared.entry.Entry.TheVariants as entry
@@ -10,26 +10,24 @@ use Rattle.session_laws.specs.Sessions.{is_up}
 use Rattle.shdlc_core.specs.declared.answers.LinkState.{LinkState}
 use Rattle.shdlc_core.specs.declared.answers.LinkState.TheVariants.{Up, Waiting, Down}
 use Rattle.hci_tables.specs.declared.command.Command.{Command}
-use Rattle.hci_tables.specs.declared.command.Command.TheVariants.{Sync}
-use Rattle.gate_answers.specs.declared.response.Response.{Response}
-use Rattle.gate_answers.specs.declared.response.Response.TheVariants as response
 use Rattle.hci_tables.specs.Bodies.{body_of}
 use Rattle.hci_store.specs.Committing.{commit_writes}
-use Rattle.link_machine.specs.Machine.{Message, LinkEnd, LinkInput, Refused, Turn, turn, is_held, give_refusal, aside_refusal, ended_by, report}
+use Rattle.link_machine.specs.Machine.{Message, LinkEnd, LinkInput, Refused, Turn, turn, is_held, give_refusal, aside_refusal, ended_by}
 use Rattle.link_machine.specs.Machine.LinkInput.{Tick}
 use Rattle.link_machine.specs.Machine.Turn.{Give, Hold, FetchMessage, SetAside, Release}
 use Rattle.session_laws.proofs.Ties.{ready-phase as ready_phase}
-use Rattle.node_machine.specs.Parts.{Creation, About, Notice, Desk, Core, Port, Work, Deed}
+use Rattle.node_machine.specs.Parts.{About, Notice, Desk, Core, Port, Work, Deed}
 use Rattle.node_machine.specs.Parts.About.{Waits, Removed}
 use Rattle.node_machine.specs.Parts.Deed.{Commits, Sends, SaysOk, Asks, Releases, Tells, IsAnswered, Drops, SetsErrors, Orders, Hears, GoesOn, Ends}
 use Rattle.node_machine.specs.Carrying.{end_of_node, noting, unless_cut, port_at, changed_if, with_port, with_desk, after_turn, turn_at, notified, commit, done, all_done, needs, lack}
 use Rattle.node_machine.specs.Controller.{has_link, asked_at, controller_deeds}
 use Rattle.node_machine.specs.Turns.{deeds_of, handles, holds_back, lets_go, have_turns, goes_through_ends, passes}
-use Rattle.node_machine.specs.Node.{NodeInput, input_at, has_come, all_come, older_notice, with_older, is_late, reset_late, times_out, is_over, is_forgotten, forgets, without_notice, after_sessions, forgotten, owed, all_owed, synced, answers_and_passes, steps}
+use Rattle.node_machine.specs.Node.{NodeInput, input_at, has_come, all_come, older_notice, with_older, is_late, reset_late, times_out, is_over, is_forgotten, forgets, without_notice, after_sessions, forgotten, all_owed, synced, answers_and_passes, steps}
 use Rattle.node_machine.specs.Node.NodeInput.{AtEnd, TimePasses}
 use Rattle.node_links.specs.Notices.{Reaches, AllReach, IsComing, IsOutside, IsNoticedUp, IsBegun, OnFirst}
 use Rattle.node_links.proofs.Staying.{stays_up}
 use Rattle.node_links.proofs.Reaching.{controller_reach}
+use Rattle.node_laws.proofs.Walks.{forgotten_hold, all_owed_hold, all_synced_hold}
 use Rattle.node_laws.proofs.Ports.{come_host, forgets_host, changed_host, sessions_node}
 
 -- ## Ends
@@ -397,37 +395,6 @@ abbrev pub links_after : NodeInput → Work → ℕ → Bool
 links_after input w x =
     has_link (map without_notice (map (forgets (times_out input (all_come input w)).ports) (times_out input (all_come input w)).ports)) x
 
-releases_go : (U : ℕ → Bool) (cs : List Creation) → AllGo U (map (λ (c : Creation). Releases c.asker) cs)
-releases_go U [] = tt
-releases_go U (c ∷ cs) = (tt, releases_go U cs)
-
-go-append : (U : ℕ → Bool) (ds es : List Deed) → AllGo U ds → AllGo U es → AllGo U (ds ++ es)
-go-append U [] es a b = b
-go-append U (d ∷ ds) es a b = (a.0, go-append U ds es a.1 b)
-
-flat_go : (U : ℕ → Bool) (f : Port → List Deed) → ((x : Port) → AllGo U (f x)) → (xs : List Port) → AllGo U (flat_map f xs)
-flat_go U f one [] = tt
-flat_go U f one (x ∷ xs) = go-append U (f x) (flat_map f xs) (one x) (flat_go U f one xs)
-
-owed_go : (U : ℕ → Bool) (r : Response) (o : Option Creation) → AllGo U (owed r o)
-owed_go U r None = tt
-owed_go U r (Some c) = (tt, (tt, tt))
-
-synced_go : (U : ℕ → Bool) (core : Core) (input : NodeInput) (p : Port) → AllGo U (synced core input p)
-synced_go U core input p = go (input_at input p) refl
-  where
-    either : (b : Bool) (d : List Deed) → AllGo U d → AllGo U (cond b d [])
-    either true d x = x
-    either false d x = tt
-
-    go : (o : Option LinkInput) → input_at input p ≡ o → AllGo U (synced core input p)
-    go None q = rw q tt
-    go (Some i) q = by (report p.side i).sync refl
-      where
-        by : (o : Option ℕ) → (report p.side i).sync ≡ o → AllGo U (synced core input p)
-        by None e = rw (q, e) tt
-        by (Some id) e = rw (q, e) (either _ (Commits (Sync p.desk.host id) ∷ []) (tt, tt))
-
 pub steps_sure : (input : NodeInput) (w : Work) → IsOutside input → w.core.node ≡ 0 → ((x : ℕ) → OnFirst IsBegun (port_at w.ports x))
     → Sure (links_after input w) (steps input w)
 steps_sure input w k node a =
@@ -444,11 +411,9 @@ steps_sure input w k node a =
       links = λ x. refl;
       up = λ x. kept x;
     } in
-    rest_sure U (forgotten came.ports) (flat_map (synced w.core input) w.ports) (all_owed left) begun (releases_go U _)
-    (flat_go U (synced w.core input) (synced_go U w.core input) w.ports)
-    (go-append U _ _ (flat_go U (λ p. owed response.NotConnected (asked_at p)) (λ p. owed_go U response.NotConnected (asked_at p)) (filter (λ p. p.ended) left))
-    (flat_go U (λ p. owed response.Timeout (asked_at p)) (λ p. owed_go U response.Timeout (asked_at p)) (filter (λ p. p.late) left)))
-    sure
+    rest_sure U (forgotten came.ports) (flat_map (synced w.core input) w.ports) (all_owed left) begun
+    (forgotten_hold (Goes U) (λ asker. tt) came.ports) (all_synced_hold (Goes U) (λ host id. tt) w.core input w.ports)
+    (all_owed_hold (Goes U) (λ asker. tt) (λ to r. tt) left) sure
   where
     first_up : (ports : List Port) (x : ℕ) → OnFirst IsOk (port_at ports x) → UpAt (port_at (map without_notice ports) x)
     first_up ports x b = subst UpAt (sym (at_all ports x without_notice without_host)) (go (port_at ports x) b)

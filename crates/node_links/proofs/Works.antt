@@ -1,33 +1,31 @@
 -- What a node does in a step is what it may do to its ends.
-use Rattle.std.proofs.Common.{◌≡◌, ℕ, ◌==◌, Bool, true, false, cond, List, [], ◌∷◌, ◌++◌, length, refl, subst, arith}
+use Rattle.std.proofs.Common.{◌≡◌, ℕ, ◌==◌, Bool, true, false, List, [], ◌∷◌, ◌++◌, length, refl, subst, arith}
 use Rattle.std.specs.Prelude.{Option, Some, None, map}
-use Rattle.std.specs.List.{AllByRecursion, flat_map, filter}
+use Rattle.std.specs.List.{AllByRecursion, flat_map}
 use Rattle.std.specs.Option.{option_map_or}
 use Rattle.trace_model.specs.declared.entry.Entry.TheVariants as entry
 use Rattle.journal_laws.specs.Planned.{fails_within}
 use Rattle.hcp_packet.specs.Packets.{IsSendable, AreSendable}
 use Rattle.hci_tables.specs.declared.command.Command.{Command}
-use Rattle.hci_tables.specs.declared.command.Command.TheVariants.{Sync}
 use Rattle.hci_tables.specs.Bodies.{body_of}
 use Rattle.hci_store.specs.Committing.{commit_writes}
-use Rattle.gate_answers.specs.declared.response.Response.{Response}
-use Rattle.gate_answers.specs.declared.response.Response.TheVariants as response
-use Rattle.link_machine.specs.Machine.{Message, LinkInput, Turn, is_held, report}
+use Rattle.link_machine.specs.Machine.{Message, LinkInput, Turn, is_held}
 use Rattle.link_machine.specs.Machine.LinkInput.{Reset}
 use Rattle.link_machine.specs.Machine.Turn.{Give, Hold, FetchMessage, SetAside, Release}
 use Rattle.message_link.specs.Links.{AreSendableTurns}
-use Rattle.node_machine.specs.Parts.{Creation, About, Notice, Desk, Core, Port, Work, Deed}
+use Rattle.node_machine.specs.Parts.{About, Notice, Desk, Core, Port, Work, Deed}
 use Rattle.node_machine.specs.Parts.About.{Waits, Forgotten, Removed}
 use Rattle.node_machine.specs.Parts.Deed.{Commits, Sends, SaysOk, Asks, Releases, Tells, IsAnswered, Drops, SetsErrors, Orders, Hears, GoesOn, Ends}
 use Rattle.node_machine.specs.Carrying.{end_of_node, noting, unless_cut, port_at, changed_if, with_port, with_desk, after_turn, turn_at, notified, commit, done, all_done, needs, lack}
 use Rattle.node_machine.specs.Controller.{creation_in, asked_at}
 use Rattle.node_machine.specs.Turns.{deeds_of, handles, holds_back, lets_go, have_turns, goes_through_ends, passes}
-use Rattle.node_machine.specs.Node.{NodeInput, input_at, has_come, all_come, older_notice, with_older, is_late, reset_late, times_out, is_over, is_forgotten, forgotten, forgets, owed, all_owed, without_notice, after_sessions, synced, steps}
+use Rattle.node_machine.specs.Node.{NodeInput, input_at, has_come, all_come, older_notice, with_older, is_late, reset_late, times_out, is_over, is_forgotten, forgotten, forgets, all_owed, without_notice, after_sessions, synced, steps}
 use Rattle.node_machine.specs.Node.NodeInput.{AtEnd, TimePasses}
 use Rattle.node_links.proofs.Got.{Clean, one_clean, input_clean}
 use Rattle.node_links.proofs.Decisions.{IsSpoken}
-use Rattle.node_links.proofs.Deeds.{HasAnswer, IsTrueDesk, IsFine, AreFine, AreTrue, fine-append, low, controller_fine}
+use Rattle.node_links.proofs.Deeds.{HasAnswer, IsTrueDesk, IsFine, AreFine, AreTrue, low, controller_fine}
 use Rattle.node_links.proofs.HostDeeds.{host_fine}
+use Rattle.node_laws.proofs.Walks.{forgotten_hold, all_owed_hold, all_synced_hold}
 
 -- ## Ends
 
@@ -123,7 +121,7 @@ done_fine h Hears w f a = a
 done_fine h (GoesOn i) w f a = a
 done_fine h (Ends e) w f a = a
 
-unless_fine : (f : Work → Work) (w : Work) → ((v : Work) → IsFineWork v → IsFineWork (f v)) → IsFineWork w → IsFineWork (unless_cut f w)
+pub unless_fine : (f : Work → Work) (w : Work) → ((v : Work) → IsFineWork v → IsFineWork (f v)) → IsFineWork w → IsFineWork (unless_cut f w)
 unless_fine f w one a = go w.cut
   where
     by : Bool → Work
@@ -139,7 +137,7 @@ all_done_fine h [] w f a = a
 all_done_fine h (d ∷ deeds) w f a =
     unless_fine (all_done h deeds) (done h d w) (λ v fine. all_done_fine h deeds v f.1 fine) (done_fine h d w f.0 a)
 
-deeds_fine : (core : Core) (ports : List Port) (h : ℕ) (m : Message) → AreFinePorts ports → IsSendable m → AreFine (deeds_of core ports h m)
+pub deeds_fine : (core : Core) (ports : List Port) (h : ℕ) (m : Message) → AreFinePorts ports → IsSendable m → AreFine (deeds_of core ports h m)
 deeds_fine core ports h m a s = go (core.node == 0) (port_at ports h) refl refl
   where
     go : (b : Bool) (o : Option Port) → (core.node == 0) ≡ b → port_at ports h ≡ o → AreFine (deeds_of core ports h m)
@@ -149,14 +147,14 @@ deeds_fine core ports h m a s = go (core.node == 0) (port_at ports h) refl refl
 
 -- ## The pass over its ends
 
-handles_fine : (h : ℕ) (m : Message) (deeds : List Deed) (w : Work) → AreFine deeds → IsFineWork w → IsFineWork (handles h m deeds w)
+pub handles_fine : (h : ℕ) (m : Message) (deeds : List Deed) (w : Work) → AreFine deeds → IsFineWork w → IsFineWork (handles h m deeds w)
 handles_fine h m deeds w f a =
     let told : Work = noting (entry.Turn (end_of_node w.core h) m.0 m.1 ∷ []) w in
     let fetched : Work = turn_at h FetchMessage told in
     all_done_fine h deeds (with_desk h (λ d. record d { holds = false }) fetched) f
     (desk_fine h (λ d. record d { holds = false }) fetched (λ d fine. fine) (turn_fine h FetchMessage told tt a))
 
-holds_fine : (h : ℕ) (short : ℕ × ℕ) (w : Work) → IsFineWork w → IsFineWork (holds_back h short w)
+pub holds_fine : (h : ℕ) (short : ℕ × ℕ) (w : Work) → IsFineWork w → IsFineWork (holds_back h short w)
 holds_fine h short w a = go (option_map_or (λ (p : Port). p.desk.holds) (port_at w.ports h) false) refl
   where
     go : (b : Bool) → option_map_or (λ (p : Port). p.desk.holds) (port_at w.ports h) false ≡ b → IsFineWork (holds_back h short w)
@@ -166,7 +164,7 @@ holds_fine h short w a = go (option_map_or (λ (p : Port). p.desk.holds) (port_a
         rw q (turn_fine h (Hold true) (with_desk h (λ d. record d { holds = true }) told) tt
         (desk_fine h (λ d. record d { holds = true }) told (λ d fine. fine) a))
 
-lets_fine : (h : ℕ) (w : Work) → IsFineWork w → IsFineWork (lets_go h w)
+pub lets_fine : (h : ℕ) (w : Work) → IsFineWork w → IsFineWork (lets_go h w)
 lets_fine h w a = go (option_map_or (λ (p : Port). is_held p.side) (port_at w.ports h) false) refl
   where
     go : (b : Bool) → option_map_or (λ (p : Port). is_held p.side) (port_at w.ports h) false ≡ b → IsFineWork (lets_go h w)
@@ -188,7 +186,7 @@ turns_fine h (m ∷ messages) w s a = go (lack w.ports (needs h (deeds_of w.core
     go None later = unless_fine (have_turns h messages) (handles h m deeds w) later (handles_fine h m deeds w (deeds_fine w.core w.ports h m a s.0) a)
     go (Some short) later = holds_fine h short w a
 
-got_fine : (ports : List Port) (h : ℕ) → AreFinePorts ports → AreSendable (option_map_or (λ (p : Port). p.side.got) (port_at ports h) [])
+pub got_fine : (ports : List Port) (h : ℕ) → AreFinePorts ports → AreSendable (option_map_or (λ (p : Port). p.side.got) (port_at ports h) [])
 got_fine ports h a = go (port_at ports h) refl
   where
     go : (o : Option Port) → port_at ports h ≡ o → AreSendable (option_map_or (λ (p : Port). p.side.got) (port_at ports h) [])
@@ -233,57 +231,25 @@ time_fine : (input : NodeInput) (w : Work) → IsFineWork w → IsFineWork (time
 time_fine (AtEnd h i) w a = a
 time_fine TimePasses w a = map_fine reset_late late_fine (map with_older w.ports) (map_fine with_older older_fine w.ports a)
 
-came_fine : (input : NodeInput) (w : Work) → IsFineWork w → IsFineWork (times_out input (all_come input w))
+pub came_fine : (input : NodeInput) (w : Work) → IsFineWork w → IsFineWork (times_out input (all_come input w))
 came_fine input w a =
     time_fine input (all_come input w)
     (map_fine (λ p. has_come p (input_at input p)) (λ p fine. come_fine p (input_at input p) fine) w.ports a)
 
-without_fine : (p : Port) → IsFinePort p → IsFinePort (without_notice p)
+pub without_fine : (p : Port) → IsFinePort p → IsFinePort (without_notice p)
 without_fine p a = go (is_over p) refl
   where
     go : (b : Bool) → is_over p ≡ b → IsFinePort (without_notice p)
     go true q = rw q (record { turns = a.turns; clean = a.clean; desk = tt })
     go false q = rw q a
 
-forgets_fine : (ports : List Port) (p : Port) → IsFinePort p → IsFinePort (forgets ports p)
+pub forgets_fine : (ports : List Port) (p : Port) → IsFinePort p → IsFinePort (forgets ports p)
 forgets_fine ports p a = go (is_forgotten ports (asked_at p)) p.desk.notice refl refl
   where
     go : (b : Bool) (o : Option Notice) → is_forgotten ports (asked_at p) ≡ b → p.desk.notice ≡ o → IsFinePort (forgets ports p)
     go true None q r = rw (q, r) (record { turns = a.turns; clean = a.clean; desk = tt })
     go true (Some n) q r = rw (q, r) (record { turns = a.turns; clean = a.clean; desk = tt })
     go false o q r = rw q a
-
-releases_fine : (cs : List Creation) → AreFine (map (λ (c : Creation). Releases c.asker) cs)
-releases_fine [] = tt
-releases_fine (c ∷ cs) = (tt, releases_fine cs)
-
-owed_fine : (r : Response) (o : Option Creation) → AreFine (owed r o)
-owed_fine r None = tt
-owed_fine r (Some c) = (tt, ((low, omega arith), tt))
-
-flat_fine : {X : Type 0} (f : X → List Deed) → ((x : X) → AreFine (f x)) → (xs : List X) → AreFine (flat_map f xs)
-flat_fine f one [] = tt
-flat_fine f one (x ∷ xs) = fine-append (f x) (flat_map f xs) (one x) (flat_fine f one xs)
-
-all_owed_fine : (ports : List Port) → AreFine (all_owed ports)
-all_owed_fine ports =
-    fine-append _ _ (flat_fine (λ p. owed response.NotConnected (asked_at p)) (λ p. owed_fine response.NotConnected (asked_at p)) (filter (λ p. p.ended) ports))
-    (flat_fine (λ p. owed response.Timeout (asked_at p)) (λ p. owed_fine response.Timeout (asked_at p)) (filter (λ p. p.late) ports))
-
-either_fine : (b : Bool) (d e : List Deed) → AreFine d → AreFine e → AreFine (cond b d e)
-either_fine true d e x y = x
-either_fine false d e x y = y
-
-synced_fine : (core : Core) (input : NodeInput) (p : Port) → AreFine (synced core input p)
-synced_fine core input p = go (input_at input p) refl
-  where
-    go : (o : Option LinkInput) → input_at input p ≡ o → AreFine (synced core input p)
-    go None q = rw q tt
-    go (Some i) q = by i (report p.side i).sync refl q
-      where
-        by : (i : LinkInput) (o : Option ℕ) → (report p.side i).sync ≡ o → input_at input p ≡ Some i → AreFine (synced core input p)
-        by i None e q = rw (q, e) tt
-        by i (Some id) e q = rw (q, e) (either_fine _ (Commits (Sync p.desk.host id) ∷ []) [] (tt, tt) tt)
 
 pub steps_fine : (input : NodeInput) (w : Work) → IsFineWork w → IsFineWork (steps input w)
 steps_fine input w a =
@@ -297,7 +263,8 @@ steps_fine input w a =
     let syncs : List Deed = flat_map (synced w.core input) w.ports in
     let owing : List Deed = all_owed left in
     let one : IsFineWork (all_done 0 syncs (all_done 0 freed begun)) =
-    all_done_fine 0 syncs (all_done 0 freed begun) (flat_fine (synced w.core input) (synced_fine w.core input) w.ports)
-    (all_done_fine 0 freed begun (releases_fine _) begun_fine) in
+    all_done_fine 0 syncs (all_done 0 freed begun) (all_synced_hold IsFine (λ host id. tt) w.core input w.ports)
+    (all_done_fine 0 freed begun (forgotten_hold IsFine (λ asker. tt) came.ports) begun_fine) in
+    let owed_all : AreFine owing = all_owed_hold IsFine (λ asker. tt) (λ to r. (low, omega arith)) left in
     unless_fine passes (unless_cut (all_done 0 owing) (all_done 0 syncs (all_done 0 freed begun))) (λ v f. ends_fine _ v f)
-    (unless_fine (all_done 0 owing) (all_done 0 syncs (all_done 0 freed begun)) (λ v f. all_done_fine 0 owing v (all_owed_fine left) f) one)
+    (unless_fine (all_done 0 owing) (all_done 0 syncs (all_done 0 freed begun)) (λ v f. all_done_fine 0 owing v owed_all f) one)

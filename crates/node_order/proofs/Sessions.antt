@@ -150,7 +150,7 @@ module _ (h : ℕ) (who : Side) (host : (h == 0) ≡ false) where
   one_read x (entry.Lost f lpdu cause) = said_part h who x (Some (f, Loses lpdu)) ∙ stays_same (same_end f e) (Loses lpdu) (part who x) refl
   one_read x y = refl
 
-  all_read : (t : List Entry) (x : Standing) → part who (standing h x t) ≡ fold (after e (node_on h who)) (part who x) t
+  pub all_read : (t : List Entry) (x : Standing) → part who (standing h x t) ≡ fold (after e (node_on h who)) (part who x) t
   all_read [] x = refl
   all_read (y ∷ t) x = all_read t (stands_noted h x y) ∙ ap (λ s. fold (after e (node_on h who)) s t) (one_read x y)
 
@@ -184,7 +184,7 @@ module _ (h : ℕ) (who : Side) (host : (h == 0) ≡ false) where
   one_law x Tick = refl
   one_law x (Restarted w) = refl
 
-  all_law : (notes : List Noted) (x : Standing) → part who (standing_by_law h x notes) ≡ fold (hear who) (part who x) notes
+  pub all_law : (notes : List Noted) (x : Standing) → part who (standing_by_law h x notes) ≡ fold (hear who) (part who x) notes
   all_law [] x = refl
   all_law (n ∷ notes) x = all_law notes (law_noted h x n) ∙ ap (λ s. fold (hear who) s notes) (one_law x n)
 

@@ -103,15 +103,15 @@ timely w t x h s up found a =
 
 -- ## Turns that may be sent
 
-aged_clean : (sites : List Site) → AreFineSites sites → AreClean (map (λ (s : Site). record s { link = aged s.link }) sites)
+pub aged_clean : (sites : List Site) → AreFineSites sites → AreClean (map (λ (s : Site). record s { link = aged s.link }) sites)
 aged_clean [] a = tt
 aged_clean (s ∷ sites) a = (a.0.link.line.near, aged_clean sites a.1)
 
-some_desks : (o : Option Running) (r : Running) → o ≡ Some r → IsFineNode o → AreTrueDesks r.desks
+pub some_desks : (o : Option Running) (r : Running) → o ≡ Some r → IsFineNode o → AreTrueDesks r.desks
 some_desks None r e b = absurd (cc e)
 some_desks (Some x) r e b = let one : x ≡ r = cc in let P : Running → Type 0 = λ z. AreTrueDesks z.desks in subst P one b
 
-near_sends : (w : NodeWorld) (h : ℕ) (o : Option Running) → AreClean w.sites → IsFineNode o → AreSendableTurns (near_turns w h o)
+pub near_sends : (w : NodeWorld) (h : ℕ) (o : Option Running) → AreClean w.sites → IsFineNode o → AreSendableTurns (near_turns w h o)
 near_sends w h None clean a = tt
 near_sends w h (Some r) clean a =
     let halves : ℕ → NumberedEnd = λ j. (link_to w.sites j).controller in
@@ -275,7 +275,7 @@ hosts_none (x ∷ sites) h q = go (x.host == h) refl (hosts_none sites h)
         let fails : ((host_ticks x).0.host == h) ≡ false = same ∙ e in
         rw fails (later (rw e at q))
 
-near_none : (w : NodeWorld) (h : ℕ) → site_at w.sites h ≡ None → site_at (controller_ticks w).0.sites h ≡ None
+pub near_none : (w : NodeWorld) (h : ℕ) → site_at w.sites h ≡ None → site_at (controller_ticks w).0.sites h ≡ None
 near_none w h q = go w.controller refl
   where
     go : (o : Option Running) → w.controller ≡ o → site_at (controller_ticks w).0.sites h ≡ None

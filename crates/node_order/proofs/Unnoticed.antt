@@ -1,36 +1,24 @@
 -- A host keeps no notice of a controller: nothing that it does in a step gives it one.
-use Rattle.std.proofs.Common.{◌≡◌, ◌∙◌, ℕ, ◌==◌, ◌&&◌, Bool, true, false, cond, eqb, List, [], ◌∷◌, ◌++◌, refl, ap, length}
-use Rattle.std.specs.Prelude.{Option, Some, None, Result, Ok, Err, map, slice_get, ◌+◌}
-use Rattle.std.specs.List.{AllByRecursion, flat_map, filter, list_any}
+use Rattle.std.proofs.Common.{◌≡◌, ◌∙◌, ℕ, ◌==◌, Bool, true, false, cond, List, [], ◌∷◌, refl, ap, length}
+use Rattle.std.specs.Prelude.{Option, Some, None, map}
+use Rattle.std.specs.List.{AllByRecursion, flat_map, list_any}
 use Rattle.std.specs.Option.{option_map_or}
 use Rattle.trace_model.specs.declared.entry.Entry.TheVariants as entry
-use Rattle.hcp_packet.specs.declared.MessageKind.{MessageKind}
-use Rattle.hcp_packet.specs.declared.MessageKind.TheVariants.{Command as IsCommand, Event as IsEvent, Response as IsResponse}
-use Rattle.hcp_packet.specs.declared.MessageFault.{MessageFault}
-use Rattle.hcp_packet.specs.MessageHeader.{header_of}
-use Rattle.session_laws.specs.Sessions.{is_up}
 use Rattle.journal_laws.specs.Planned.{fails_within}
 use Rattle.hci_tables.specs.declared.command.Command.{Command}
-use Rattle.hci_tables.specs.declared.command.Command.TheVariants.{Sync, Set}
 use Rattle.hci_tables.specs.Bodies.{body_of}
 use Rattle.hci_store.specs.Committing.{commit_writes}
-use Rattle.gate_answers.specs.declared.response.Response.{Response}
-use Rattle.gate_answers.specs.declared.response.Response.TheVariants as response
-use Rattle.gate_answers.specs.Answers.{body_in}
-use Rattle.gate_loopback.specs.Loopback.{posts_back}
-use Rattle.link_machine.specs.Machine.{Message, LinkInput, Turn, is_held, report}
+use Rattle.link_machine.specs.Machine.{Message, LinkInput, Turn, is_held}
 use Rattle.link_machine.specs.Machine.Turn.{Give, Hold, FetchMessage, Release}
-use Rattle.node_machine.specs.Parts.{Init, Creation, Desk, Core, Running, Port, Work, Deed}
+use Rattle.node_machine.specs.Parts.{Desk, Core, Running, Port, Work, Deed}
 use Rattle.node_machine.specs.Parts.Deed.{Commits, Sends, SaysOk, Asks, Releases, Tells, IsAnswered, Drops, SetsErrors, Orders, Hears, GoesOn, Ends}
 use Rattle.node_machine.specs.Carrying.{end_of_node, noting, unless_cut, port_at, changed_if, with_port, with_desk, after_turn, turn_at, commit, done, all_done, needs, lack}
 use Rattle.node_machine.specs.Controller.{asked_at}
-use Rattle.node_machine.specs.HostReplies.{orders_of, is_same, learns, init_agreed, init_deeds, learned, response_deeds, is_gate, gate_of_pipe, host_deeds}
 use Rattle.node_machine.specs.Turns.{deeds_of, handles, holds_back, lets_go, have_turns, goes_through_ends, passes}
-use Rattle.node_machine.specs.Node.{NodeInput, input_at, has_come, all_come, with_older, is_late, reset_late, times_out, is_over, is_forgotten, forgotten, forgets, owed, all_owed, without_notice, after_sessions, synced, steps}
+use Rattle.node_machine.specs.Node.{NodeInput, input_at, has_come, all_come, with_older, is_late, reset_late, times_out, is_over, is_forgotten, forgotten, forgets, all_owed, without_notice, after_sessions, synced, steps}
 use Rattle.node_machine.specs.Node.NodeInput.{AtEnd, TimePasses}
 use Rattle.node_world.specs.World.{runs_on}
-use Rattle.node_readings.specs.Orders.{MayDo}
-use Rattle.node_readings.proofs.Replying.{ordered_may, learned_then}
+use Rattle.node_laws.proofs.Walks.{Plain, OfHost, all_of_host, forgotten_hold, all_owed_hold, all_synced_hold}
 use Rattle.node_links.proofs.Noticing.{came_node}
 
 -- ## Deeds
@@ -44,112 +32,11 @@ IsUnnoticed _ = Unit {0}
 abbrev pub AreUnnoticed : List Deed → Type 0
 AreUnnoticed deeds = AllByRecursion IsUnnoticed deeds
 
-unnoticed-append : (ds es : List Deed) → AreUnnoticed ds → AreUnnoticed es → AreUnnoticed (ds ++ es)
-unnoticed-append [] es a b = b
-unnoticed-append (d ∷ ds) es a b = (a.0, unnoticed-append ds es a.1 b)
+plain : Plain IsUnnoticed
+plain = record { sends = λ to x. tt; says_ok = tt; releases = λ asker. tt; is_answered = tt; drops = λ pid. tt }
 
-either : (b : Bool) (d e : List Deed) → AreUnnoticed d → AreUnnoticed e → AreUnnoticed (cond b d e)
-either true d e x y = x
-either false d e x y = y
-
--- what a host may do one after another gives it none
-may_unnoticed : (h : ℕ) (F : List ℕ → Type 0) (deeds : List Deed) → MayDo h F deeds → AreUnnoticed deeds
-may_unnoticed h F [] may = tt
-may_unnoticed h F (Commits c ∷ deeds) may = (tt, may_unnoticed h F deeds may)
-may_unnoticed h F (Sends to m ∷ deeds) may = (tt, may_unnoticed h (λ o. ⊥) deeds may.1)
-may_unnoticed h F (SaysOk ∷ deeds) may = (tt, may_unnoticed h F deeds may)
-may_unnoticed h F (Asks to message c ∷ deeds) may = absurd may
-may_unnoticed h F (Releases asker ∷ deeds) may = (tt, may_unnoticed h (λ o. ⊥) deeds may)
-may_unnoticed h F (Tells to message ∷ deeds) may = absurd may
-may_unnoticed h F (IsAnswered ∷ deeds) may = absurd may
-may_unnoticed h F (Drops pid ∷ deeds) may = (tt, may_unnoticed h F deeds may)
-may_unnoticed h F (SetsErrors errors ∷ deeds) may = (tt, may_unnoticed h (λ o. ⊥) deeds may)
-may_unnoticed h F (Orders order ∷ deeds) may = (tt, may_unnoticed h (λ o. ⊥) deeds may.2)
-may_unnoticed h F (Hears ∷ deeds) may = absurd may
-may_unnoticed h F (GoesOn i ∷ deeds) may = (tt, may_unnoticed h F deeds may.1)
-may_unnoticed h F (Ends e ∷ deeds) may = (tt, may_unnoticed h F deeds may.1)
-
-abbrev Any : List ℕ → Type 0
-Any order = Unit {0}
-
-learns_unnoticed : (core : Core) (c : Command) (behind : List Deed) → AreUnnoticed behind → AreUnnoticed (learns core c ++ behind)
-learns_unnoticed core c behind a = unnoticed-append (learns core c) behind (go _) a
-  where
-    go : (b : Bool) → AreUnnoticed (cond b (Commits c ∷ []) [])
-    go true = (tt, tt)
-    go false = tt
-
-agreed_unnoticed : (core : Core) (i : Init) (value : List ℕ) → AreUnnoticed (init_agreed core i value)
-agreed_unnoticed core i value = go (is_same core i value) (slice_get (orders_of i) (i.answered + 1)) refl refl
-  where
-    go : (b : Bool) (o : Option (List ℕ)) → is_same core i value ≡ b → slice_get (orders_of i) (i.answered + 1) ≡ o → AreUnnoticed (init_agreed core i value)
-    go true o e q = rw e (tt, tt)
-    go false None e q = rw (e, q) (learns_unnoticed core (Set core.node 0 1 (record { items = i.identity })) _ (tt, tt))
-    go false (Some order) e q = rw (e, q) (tt, (tt, tt))
-
-init_unnoticed : (core : Core) (code : ℕ) (value : List ℕ) (o : Option Init) → AreUnnoticed (init_deeds core code value o)
-init_unnoticed core code value None = tt
-init_unnoticed core code value (Some i) = either (eqb code 0) (init_agreed core i value) _ (agreed_unnoticed core i value) (tt, tt)
-
-response_unnoticed : (core : Core) (code : ℕ) (value : List ℕ) → AreUnnoticed (response_deeds core code value)
-response_unnoticed core code value = go core.command refl
-  where
-    go : (o : Option (List ℕ)) → core.command ≡ o → AreUnnoticed (response_deeds core code value)
-    go None q = rw q tt
-    go (Some order) q =
-        let learns_it : AreUnnoticed (cond (eqb code 0) (learned core order value) []) =
-        either (eqb code 0) (learned core order value) [] (first (learned core order value) (learned_then 0 Any core order value [] tt)) tt in
-        rw q (
-          tt,
-          unnoticed-append (cond (eqb code 0) (learned core order value) []) (init_deeds core code value core.init) learns_it
-              (init_unnoticed core code value core.init),
-        )
-      where
-        first : (ds : List Deed) → MayDo 0 Any (ds ++ []) → AreUnnoticed ds
-        first ds may = front ds [] (may_unnoticed 0 Any (ds ++ []) may)
-          where
-            front : (ds es : List Deed) → AreUnnoticed (ds ++ es) → AreUnnoticed ds
-            front [] es a = tt
-            front (d ∷ ds) es a = (a.0, front ds es a.1)
-
-host_unnoticed : (core : Core) (p : Port) (m : Message) → AreUnnoticed (host_deeds core p m)
-host_unnoticed core p m = go (is_up p.side.shdlc.phase) (header_of m.1) refl refl
-  where
-    go : (b : Bool) (x : Result (MessageKind × ℕ) MessageFault) → is_up p.side.shdlc.phase ≡ b → header_of m.1 ≡ x → AreUnnoticed (host_deeds core p m)
-    go false x u q = rw u (tt, tt)
-    go true (Ok (IsCommand, n)) u q = rw (u, q) (may_unnoticed 0 Any _ (ordered_may 0 Any core p.desk.errors m.0 n (body_in m.1)))
-    go true (Ok (IsEvent, n)) u q = rw (u, q) (either (is_gate 4 (gate_of_pipe core m.0) && posts_back m.1) (Sends core.node m ∷ []) [] (tt, tt) tt)
-    go true (Ok (IsResponse, n)) u q = rw (u, q) (either (eqb m.0 1) (response_deeds core n (body_in m.1)) [] (response_unnoticed core n (body_in m.1)) tt)
-    go true (Err f) u q = rw (u, q) tt
-
-releases_unnoticed : (cs : List Creation) → AreUnnoticed (map (λ (c : Creation). Releases c.asker) cs)
-releases_unnoticed [] = tt
-releases_unnoticed (c ∷ cs) = (tt, releases_unnoticed cs)
-
-owed_unnoticed : (r : Response) (o : Option Creation) → AreUnnoticed (owed r o)
-owed_unnoticed r None = tt
-owed_unnoticed r (Some c) = (tt, (tt, tt))
-
-flat_unnoticed : {X : Type 0} (f : X → List Deed) → ((x : X) → AreUnnoticed (f x)) → (xs : List X) → AreUnnoticed (flat_map f xs)
-flat_unnoticed f one [] = tt
-flat_unnoticed f one (x ∷ xs) = unnoticed-append (f x) (flat_map f xs) (one x) (flat_unnoticed f one xs)
-
-all_owed_unnoticed : (ports : List Port) → AreUnnoticed (all_owed ports)
-all_owed_unnoticed ports =
-    unnoticed-append _ _
-    (flat_unnoticed (λ p. owed response.NotConnected (asked_at p)) (λ p. owed_unnoticed response.NotConnected (asked_at p)) (filter (λ p. p.ended) ports))
-    (flat_unnoticed (λ p. owed response.Timeout (asked_at p)) (λ p. owed_unnoticed response.Timeout (asked_at p)) (filter (λ p. p.late) ports))
-
-synced_unnoticed : (core : Core) (input : NodeInput) (p : Port) → AreUnnoticed (synced core input p)
-synced_unnoticed core input p = go (input_at input p) refl
-  where
-    go : (o : Option LinkInput) → input_at input p ≡ o → AreUnnoticed (synced core input p)
-    go None q = rw q tt
-    go (Some i) q = by (report p.side i).sync refl
-      where
-        by : (o : Option ℕ) → (report p.side i).sync ≡ o → AreUnnoticed (synced core input p)
-        by None e = rw (q, e) tt
-        by (Some id) e = rw (q, e) (either _ (Commits (Sync p.desk.host id) ∷ []) [] (tt, tt) tt)
+own : (core : Core) → OfHost IsUnnoticed core
+own core = record { commits = λ c. tt; hears = tt; goes_on = λ i. tt; orders = λ i k order is. tt; same = tt; made = λ count. tt; failed = λ code. tt }
 
 -- ## Ends
 
@@ -225,7 +112,7 @@ deeds_unnoticed core ports h m off = go (port_at ports h) refl
   where
     go : (o : Option Port) → port_at ports h ≡ o → AreUnnoticed (deeds_of core ports h m)
     go None q = rw (off, q) tt
-    go (Some p) q = rw (off, q) (host_unnoticed core p m)
+    go (Some p) q = rw (off, q) (all_of_host IsUnnoticed core plain (own core) p m (λ n value command zero is. tt))
 
 handles_none : (h : ℕ) (m : Message) (deeds : List Deed) (w : Work) → AreUnnoticed deeds → IsHostWork w → IsHostWork (handles h m deeds w)
 handles_none h m deeds w u a =
@@ -330,10 +217,11 @@ steps_none input w a =
     let syncs : List Deed = flat_map (synced w.core input) w.ports in
     let owing : List Deed = all_owed left in
     let one : IsHostWork (all_done 0 syncs (all_done 0 freed begun)) =
-    all_done_none 0 syncs (all_done 0 freed begun) (flat_unnoticed (synced w.core input) (synced_unnoticed w.core input) w.ports)
-    (all_done_none 0 freed begun (releases_unnoticed _) first) in
+    all_done_none 0 syncs (all_done 0 freed begun) (all_synced_hold IsUnnoticed (λ host id. tt) w.core input w.ports)
+    (all_done_none 0 freed begun (forgotten_hold IsUnnoticed (λ asker. tt) came.ports) first) in
+    let owed_all : AreUnnoticed owing = all_owed_hold IsUnnoticed (λ asker. tt) (λ to r. tt) left in
     unless_none passes (unless_cut (all_done 0 owing) (all_done 0 syncs (all_done 0 freed begun))) (λ v b. ends_none _ v b)
-    (unless_none (all_done 0 owing) (all_done 0 syncs (all_done 0 freed begun)) (λ v b. all_done_none 0 owing v (all_owed_unnoticed left) b) one)
+    (unless_none (all_done 0 owing) (all_done 0 syncs (all_done 0 freed begun)) (λ v b. all_done_none 0 owing v owed_all b) one)
 
 -- ## Hosts
 

@@ -1,7 +1,7 @@
 -- A step of another node tells nothing of the unanswered command of a host.
 use Rattle.std.proofs.Common.{◌≡◌, ℕ, ◌&&◌, Bool, true, false, cond, eqb, List, [], ◌∷◌, ◌++◌, length, map, sym, refl, ap, ◌∙◌, subst}
 use Rattle.std.specs.Prelude.{Option, Some, None, option_to_list}
-use Rattle.std.specs.List.{AllByRecursion, flat_map, filter}
+use Rattle.std.specs.List.{AllByRecursion, flat_map}
 use Rattle.std.specs.Option.{option_map_or}
 use Rattle.std.proofs.lemmas.Bool.{cond_both}
 use Rattle.trace_model.specs.declared.entry.Entry.{Entry}
@@ -9,31 +9,29 @@ use Rattle.trace_model.specs.declared.entry.Entry.TheVariants as entry
 use Rattle.journal_laws.specs.Planned.{fails_within}
 use Rattle.swp_base.specs.declared.link_terms.Cause.{Cause}
 use Rattle.hci_tables.specs.declared.command.Command.{Command}
-use Rattle.hci_tables.specs.declared.command.Command.TheVariants.{Sync}
 use Rattle.hci_tables.specs.Bodies.{body_of}
 use Rattle.hci_store.specs.Committing.{commit_writes}
-use Rattle.gate_answers.specs.declared.response.Response.{Response}
-use Rattle.gate_answers.specs.declared.response.Response.TheVariants as response
 use Rattle.link_machine.specs.Machine.{Message, LinkInput, Refused, Turn, Report, give_refusal, report, whole_acked, after_input, is_held}
 use Rattle.link_machine.specs.Machine.LinkInput.{Reset}
 use Rattle.link_machine.specs.Machine.Turn.{Give, Hold, FetchMessage, SetAside, Release}
-use Rattle.link_entries.specs.Entries.{End as Side, Entry as Noted, if_so, told, sent_unless}
+use Rattle.link_entries.specs.Entries.{End as Side, Entry as Noted, told, sent_unless}
 use Rattle.link_entries.specs.Entries.Entry.{Up, Down, Active, GaveUp, Acked, Got, Sent, Emit, Took, Lost, Tick, Restarted, Cut}
 use Rattle.history.specs.Filters.{same_end}
 use Rattle.history.specs.Steps.{entries_for, end_of}
-use Rattle.node_machine.specs.Parts.{Creation, About, Desk, Core, Port, Work, Deed}
+use Rattle.node_machine.specs.Parts.{About, Desk, Core, Port, Work, Deed}
 use Rattle.node_machine.specs.Parts.About.{Waits, Removed}
 use Rattle.node_machine.specs.Parts.Deed.{Commits, Sends, SaysOk, Asks, Releases, Tells, IsAnswered, Drops, SetsErrors, Orders, Hears, GoesOn, Ends}
-use Rattle.node_machine.specs.Controller.{asked_at, is_command_message}
+use Rattle.node_machine.specs.Controller.{is_command_message}
 use Rattle.node_machine.specs.Carrying.{own_side, noting, unless_cut, port_at, changed_if, with_port, with_desk, after_turn, noted_of, turn_at, notified, commit, done, all_done, end_of_node, needs, lack}
 use Rattle.node_machine.specs.Turns.{deeds_of, handles, holds_back, lets_go, have_turns, goes_through_ends, passes}
-use Rattle.node_machine.specs.Node.{NodeInput, input_at, has_come, told_at, all_come, with_older, is_late, reset_late, told_late, times_out, forgotten, forgets, owed, all_owed, without_notice, after_sessions, synced, steps}
+use Rattle.node_machine.specs.Node.{NodeInput, input_at, has_come, told_at, all_come, with_older, is_late, reset_late, told_late, times_out, forgotten, forgets, all_owed, without_notice, after_sessions, synced, steps}
 use Rattle.node_machine.specs.Node.NodeInput.{AtEnd, TimePasses}
 use Rattle.node_world.specs.World.{end_h}
 use Rattle.node_world.specs.NodeFilters.{is_response}
 use Rattle.node_readings.specs.Orders.{IsSilent}
 use Rattle.node_readings.proofs.Silent.{IsQuiet, told_rest, rest_quiet}
-use Rattle.node_readings.proofs.Hushed.{IsHushed, AreHushed, hushed-append, deeds_hushed}
+use Rattle.node_laws.proofs.Walks.{forgotten_hold, all_owed_hold, all_synced_hold}
+use Rattle.node_readings.proofs.Hushed.{IsHushed, AreHushed, deeds_hushed}
 
 abbrev pub AreSilent : ℕ → List Entry → Type 0
 AreSilent k es = AllByRecursion (IsSilent k) es
@@ -328,31 +326,6 @@ module _ (k : ℕ) where
     sessions_node : (core : Core) (ports : List Port) → (after_sessions core ports).node ≡ core.node
     sessions_node core ports = cond_both _ _ core (λ (c : Core). c.node ≡ core.node) (λ _. refl) (λ _. refl)
 
-    releases_hushed : (cs : List Creation) → AreHushed k (map (λ (c : Creation). Releases c.asker) cs)
-    releases_hushed [] = tt
-    releases_hushed (c ∷ cs) = (tt, releases_hushed cs)
-
-    flat_hushed : (f : Port → List Deed) → ((p : Port) → AreHushed k (f p)) → (ports : List Port) → AreHushed k (flat_map f ports)
-    flat_hushed f one [] = tt
-    flat_hushed f one (p ∷ ports) = hushed-append k (f p) (flat_map f ports) (one p) (flat_hushed f one ports)
-
-    owed_hushed : (r : Response) (o : Option Creation) → AreHushed k (owed r o)
-    owed_hushed r None = tt
-    owed_hushed r (Some c) = (tt, (tt, tt))
-
-    synced_hushed : (core : Core) (input : NodeInput) (p : Port) → AreHushed k (synced core input p)
-    synced_hushed core input p = go (input_at input p) refl where
-      either : (b : Bool) (d : List Deed) → AreHushed k d → AreHushed k (cond b d [])
-      either true d x = x
-      either false d x = tt
-
-      go : (o : Option LinkInput) → input_at input p ≡ o → AreHushed k (synced core input p)
-      go None q = rw q tt
-      go (Some i) q = by (report p.side i).sync refl where
-        by : (o : Option ℕ) → (report p.side i).sync ≡ o → AreHushed k (synced core input p)
-        by None e = rw (q, e) tt
-        by (Some id) e = rw (q, e) (either _ (Commits (Sync p.desk.host id) ∷ []) (tt, tt))
-
     pub steps_away : (input : NodeInput) (w : Work) → IsAway w → IsAway (steps input w)
     steps_away input w a =
         let came : Work = times_out input (all_come input w) in
@@ -366,11 +339,8 @@ module _ (k : ℕ) where
         let syncs : List Deed = flat_map (synced w.core input) w.ports in
         let owing : List Deed = all_owed left in
         let one : IsAway (all_done 0 syncs (all_done 0 freed begun)) =
-        all_do 0 syncs (all_done 0 freed begun) (flat_hushed (synced w.core input) (synced_hushed w.core input) w.ports)
-        (all_do 0 freed begun (releases_hushed _) first) in
-        let owed_all : AreHushed k owing =
-        hushed-append k _ _ (flat_hushed (λ p. owed response.NotConnected (asked_at p)) (λ p. owed_hushed response.NotConnected (asked_at p))
-        (filter (λ p. p.ended) left))
-        (flat_hushed (λ p. owed response.Timeout (asked_at p)) (λ p. owed_hushed response.Timeout (asked_at p)) (filter (λ p. p.late) left)) in
+        all_do 0 syncs (all_done 0 freed begun) (all_synced_hold (IsHushed k) (λ host id. tt) w.core input w.ports)
+        (all_do 0 freed begun (forgotten_hold (IsHushed k) (λ asker. tt) came.ports) first) in
+        let owed_all : AreHushed k owing = all_owed_hold (IsHushed k) (λ asker. tt) (λ to r. tt) left in
         unless passes (unless_cut (all_done 0 owing) (all_done 0 syncs (all_done 0 freed begun))) (λ c. passes_away _ c)
         (unless (all_done 0 owing) (all_done 0 syncs (all_done 0 freed begun)) (λ c. all_do 0 owing _ owed_all c) one)

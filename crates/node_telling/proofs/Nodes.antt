@@ -121,7 +121,7 @@ module _ (w : NodeWorld) (r : Running) (k : ℕ) (comes : Comes) (h : ℕ) (s : 
           ∙ ap (λ l. of_link h (entries_for h (arrival Controller l comes))) link
       go false e = of_other k h (arrival Controller (link_to w.sites k) comes) (swapped h k e)
 
-  opened : Opening h Controller s.link (comes_to k comes h) Start
+  pub opened : Opening h Controller s.link (comes_to k comes h) Start
   opened =
       let halves : ℕ → NumberedEnd = λ j. half_in (link_to w.sites j) (comes_to k comes j) in
       let one : Stands halves r.desks h = stands halves r.desks w.sites h s node.ends found in
@@ -152,12 +152,12 @@ module _ (w : NodeWorld) (r : Running) (k : ℕ) (comes : Comes) (h : ℕ) (s : 
       f x = frames_noted Controller x.host (wires_for x.link (comes_to k comes x.host)) v
 
   -- what comes to its end of the link
-  given : (i : LinkInput) → input_of (link_to w.sites k) comes ≡ Some i → (b : Bool) → (h == k) ≡ b
+  pub given : (i : LinkInput) → input_of (link_to w.sites k) comes ≡ Some i → (b : Bool) → (h == k) ≡ b
       → input_of s.link (cond b comes NoInput) ≡ cond b (Some i) None
   given i q true e = ap (λ l. input_of l comes) (sym link ∙ ap (link_to w.sites) (eqb-true h k e)) ∙ q
   given i q false e = refl
 
-  is_so : (i : LinkInput) (b : Bool) → IsStep (cond b comes NoInput) (cond b (Some i) None)
+  pub is_so : (i : LinkInput) (b : Bool) → IsStep (cond b comes NoInput) (cond b (Some i) None)
   is_so i true = is_step comes i
   is_so i false = tt
 

@@ -234,7 +234,7 @@ module _ (h n : ℕ) (off : Standing → Standing) (powers : (x : Standing) → 
       go true = told_uncut core p (Some (Reset None))
       go false = tt
 
-  came_uncut : (input : NodeInput) (w : Work) → AreUncut w.entries → AreUncut (times_out input (all_come input w)).entries
+  pub came_uncut : (input : NodeInput) (w : Work) → AreUncut w.entries → AreUncut (times_out input (all_come input w)).entries
   came_uncut (AtEnd k i) w u =
       uncut-append w.entries _ u (uncut_flat (λ p. told_at w.core p (input_at (AtEnd k i) p)) (λ p. told_uncut w.core p (input_at (AtEnd k i) p)) w.ports)
   came_uncut TimePasses w u =
@@ -242,15 +242,15 @@ module _ (h n : ℕ) (off : Standing → Standing) (powers : (x : Standing) → 
       (uncut-append w.entries _ u (uncut_flat (λ p. told_at w.core p (input_at TimePasses p)) (λ p. told_uncut w.core p (input_at TimePasses p)) w.ports))
       (uncut_flat (told_late w.core) (late_uncut w.core) (map with_older (all_come TimePasses w).ports))
 
-  came_cut : (input : NodeInput) (w : Work) → (times_out input (all_come input w)).cut ≡ w.cut
+  pub came_cut : (input : NodeInput) (w : Work) → (times_out input (all_come input w)).cut ≡ w.cut
   came_cut (AtEnd k i) w = refl
   came_cut TimePasses w = refl
 
-  came_core : (input : NodeInput) (w : Work) → (times_out input (all_come input w)).core ≡ w.core
+  pub came_core : (input : NodeInput) (w : Work) → (times_out input (all_come input w)).core ≡ w.core
   came_core (AtEnd k i) w = refl
   came_core TimePasses w = refl
 
-  sessions_node : (core : Core) (ports : List Port) → (after_sessions core ports).node ≡ core.node
+  pub sessions_node : (core : Core) (ports : List Port) → (after_sessions core ports).node ≡ core.node
   sessions_node core ports = go (list_any is_over ports)
     where
       go : (b : Bool) → (cond b (record core { command = None; init = None }) core).node ≡ core.node

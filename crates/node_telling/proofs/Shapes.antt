@@ -45,7 +45,7 @@ clear_map : {X : Type 0} (f : X → Noted) (xs : List X) → ((x : X) → AreCle
 clear_map f [] one = tt
 clear_map f (x ∷ xs) one = ((one x).0, clear_map f xs one)
 
-clear_told : (who : Side) (n : ℕ) (r : Report) (acked : ℕ) → AreClear (told who n r acked)
+pub clear_told : (who : Side) (n : ℕ) (r : Report) (acked : ℕ) → AreClear (told who n r acked)
 clear_told who n r acked =
     clear-append (map (Down who) (option_to_list r.ended)) _ (clear_map (Down who) (option_to_list r.ended) (λ c. (tt, tt)))
     (clear-append (if_so r.began (Up who n)) _ (clear_so r.began (Up who n) (tt, tt))
@@ -65,7 +65,7 @@ clear_turn who n e FetchMessage = tt
 clear_turn who n e SetAside = tt
 clear_turn who n e Release = tt
 
-clear_turns : (who : Side) (n : ℕ) (e : LinkEnd) (ts : List Turn) → AreClear (turn_entries who n e ts)
+pub clear_turns : (who : Side) (n : ℕ) (e : LinkEnd) (ts : List Turn) → AreClear (turn_entries who n e ts)
 clear_turns who n e [] = tt
 clear_turns who n e (t ∷ ts) = clear-append (turn_entry who n e t) (turn_entries who n (turn e t) ts) (clear_turn who n e t) (clear_turns who n (turn e t) ts)
 

@@ -135,7 +135,7 @@ module _ (h : ℕ) (who : Side) (l : Link) (comes : Comes) (o : Option LinkInput
   abbrev pub Goes : Work → Type 0
   Goes w = GoesLate false w
 
-  came : (k : ℕ) (i : LinkInput) (w : Work) (a : Opening h who l comes w) → input_at (AtEnd k i) a.port ≡ o → (ports : List Port)
+  pub came : (k : ℕ) (i : LinkInput) (w : Work) (a : Opening h who l comes w) → input_at (AtEnd k i) a.port ≡ o → (ports : List Port)
       → Goes (record (all_come (AtEnd k i) w) {
         core = after_sessions w.core ports;
         ports = map without_notice (map (forgets ports) (map (λ p. has_come p (input_at (AtEnd k i) p)) w.ports));

@@ -183,7 +183,7 @@ module _ (h : ℕ) (who : Side) (l : Link) where
     begins_with_turns e t =
         sym (append-nil t) ∙ ap (λ ts. t ++ of_link h (entries_for h (turn_entries who (number_of l.controller) e ts))) (sym turns_are)
 
-    in_time : is_late (older p) ≡ false → Ticked false begun
+    pub in_time : is_late (older p) ≡ false → Ticked false begun
     in_time q =
         let same : SameEnd (older p) come = reset_same_end (older p) q in
         let e : LinkEnd = after_input l.controller.side Tick in
@@ -200,7 +200,7 @@ module _ (h : ℕ) (who : Side) (l : Link) where
           told = noted_all ∙ (ap (λ z. t ++ of_link h z) none ∙ (append-nil t ∙ begins_with_turns e t));
         }
 
-    too_late : is_late (older p) ≡ true → IfLate true l.controller.side → Ticked true begun
+    pub too_late : is_late (older p) ≡ true → IfLate true l.controller.side → Ticked true begun
     too_late q up =
         let late : IsLate p = late_parts p q in
         let side : LinkEnd = l.controller.side in

@@ -180,16 +180,16 @@ module _ (Of : Work → Type 0)
     (turns : (k : ℕ) (t : Turn) (w : Work) → Of w → Of (turn_at k t w))
     (beside : (w v : Work) → v.cut ≡ w.cut → v.core.node ≡ w.core.node → v.ports ≡ w.ports → v.entries ≡ w.entries → Of w → Of v)
     (loses : (writes : List Write) (w : Work) → Of w → Of (loses_power writes w)) where
-  plainly : (es : List Entry) (w : Work) → ArePlain es → Of w → Of (noting es w)
+  pub plainly : (es : List Entry) (w : Work) → ArePlain es → Of w → Of (noting es w)
   plainly es w p a = note es w (plain_silent es p) (plain_uncut es p) a
 
-  any : (k : ℕ) (t : Turn) (w : Work) → IsNoFetch t → Of w → Of (turn_at k t w)
+  pub any : (k : ℕ) (t : Turn) (w : Work) → IsNoFetch t → Of w → Of (turn_at k t w)
   any k t w n a = turns k t w a
 
   pub all_last : (k : ℕ) (deeds : List Deed) (w : Work) → AreMute deeds → Of w → Of (all_done k deeds w)
   all_last k deeds w i a = every_do Of plainly desk any beside loses k deeds w i a
 
-  handling : (k : ℕ) (m : Message) (deeds : List Deed) (w : Work) → AreMute deeds → Of w → Of (handles k m deeds w)
+  pub handling : (k : ℕ) (m : Message) (deeds : List Deed) (w : Work) → AreMute deeds → Of w → Of (handles k m deeds w)
   handling k m deeds w f a =
       let told : Work = noting (entry.Turn (end_of_node w.core k) m.0 m.1 ∷ []) w in
       let fetched : Work = turn_at k FetchMessage told in

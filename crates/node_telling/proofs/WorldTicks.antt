@@ -42,7 +42,7 @@ use Rattle.node_telling.proofs.Worlds.{site_is}
 use Rattle.node_telling.proofs.Events.{tells_one, site_map, orderly_map}
 use Rattle.node_telling.proofs.Ticks.{older, not_late, late_parts, IfLate, Ticked, ticked, away_tick}
 
-young_ports : (halves : ℕ → NumberedEnd) (desks : List Desk) (h : ℕ) (p : Port) → AllByRecursion (λ (d : Desk). is_due d ≡ false) desks
+pub young_ports : (halves : ℕ → NumberedEnd) (desks : List Desk) (h : ℕ) (p : Port) → AllByRecursion (λ (d : Desk). is_due d ≡ false) desks
     → port_at (ports_for halves desks) h ≡ Some p → is_due p.desk ≡ false
 young_ports halves [] h p a q = absurd (cc q)
 young_ports halves (d ∷ desks) h p a q = go (d.host == h) refl (young_ports halves desks h p a.1)
@@ -150,7 +150,7 @@ module _ (h : ℕ) where
       of-append h (host_ticks x).1 (hosts_tick sites).1
       ∙ (ap (λ t. t ++ of_link h (hosts_tick sites).1) (other_host x b.0 a.0 q.0) ∙ other_hosts sites b.1 a.1 q.1)
 
-  others_leave : (sites : List Site) → AreNumbered sites → AreNodes sites → AllByRecursion (λ n. (n == h) ≡ false) (hosts_in sites) → (y : Standing)
+  pub others_leave : (sites : List Site) → AreNumbered sites → AreNodes sites → AllByRecursion (λ n. (n == h) ≡ false) (hosts_in sites) → (y : Standing)
       → standing h y (hosts_tick sites).1 ≡ y
   others_leave [] b a q y = refl
   others_leave (x ∷ sites) b a q y =
@@ -335,7 +335,7 @@ module _ (w : NodeWorld) (h : ℕ) (s : Site) (orderly : IsOrderly w) (found : s
     abbrev k : Work
     k = near_tick w r
 
-    opened : Opening h Controller s.link NoInput Begun
+    pub opened : Opening h Controller s.link NoInput Begun
     opened =
         let ends : ℕ → NumberedEnd = λ j. (link_to w.sites j).controller in
         let one : Stands ends r.desks h = stands ends r.desks w.sites h s node.ends found in
@@ -352,7 +352,7 @@ module _ (w : NodeWorld) (h : ℕ) (s : Site) (orderly : IsOrderly w) (found : s
         }
 
     -- where its notice is late, its end is active and up
-    up_late : (b : Bool) → is_late (older opened.port) ≡ b → IfLate b s.link.controller.side
+    pub up_late : (b : Bool) → is_late (older opened.port) ≡ b → IfLate b s.link.controller.side
     up_late true q =
         due opened.port.desk (desk_found (λ j. (link_to w.sites j).controller) r.desks h opened.port opened.here) (late_parts opened.port q).due
     up_late false q = tt
@@ -515,16 +515,16 @@ module _ (w : NodeWorld) (h : ℕ) (s : Site) (orderly : IsOrderly w) (found : s
   abbrev old : NodeWorld
   old = (all_aged w).0
 
-  old_orderly : IsOrderly old
+  pub old_orderly : IsOrderly old
   old_orderly = orderly_map w w.memory w.controller older_site (λ x. refl) orderly orderly.controller (λ x a. a)
 
-  old_found : site_at old.sites h ≡ Some (older_site s)
+  pub old_found : site_at old.sites h ≡ Some (older_site s)
   old_found = site_map older_site (λ x. refl) w.sites h s found
 
   number : s.host ≡ h
   number = site_host w.sites h s found
 
-  first : Near old h (older_site s)
+  pub first : Near old h (older_site s)
   first = near old h (older_site s) old_orderly old_found timely.controller timely.up
 
   abbrev mine : Site
@@ -543,7 +543,7 @@ module _ (w : NodeWorld) (h : ℕ) (s : Site) (orderly : IsOrderly w) (found : s
   abbrev aged_notes : Site → List Noted
   aged_notes x = aged_entries Controller x.link.to_controller ++ aged_entries Host x.link.to_host
 
-  old_told : of_link h (all_aged w).1 ≡ of_link h (entries_for h (aged_notes s))
+  pub old_told : of_link h (all_aged w).1 ≡ of_link h (entries_for h (aged_notes s))
   old_told =
       only (λ (x : Site). x.host) (λ (x : Site). entries_for x.host (aged_notes x)) h (λ x e. of_other x.host h (aged_notes x) e) w.sites s orderly.different
       found
@@ -573,7 +573,7 @@ module _ (w : NodeWorld) (h : ℕ) (s : Site) (orderly : IsOrderly w) (found : s
       ∙ (ap (λ t. of_link h (entries_for h (aged_notes s)) ++ t) both
       ∙ sym (notes-append h (aged_notes s) (one ++ far_notes))))
 
-  aged_uncut : (sites : List Site) → AreUncut (flat_map (λ (x : Site). entries_for x.host (aged_notes x)) sites)
+  pub aged_uncut : (sites : List Site) → AreUncut (flat_map (λ (x : Site). entries_for x.host (aged_notes x)) sites)
   aged_uncut sites = uncut_flat (λ (x : Site). entries_for x.host (aged_notes x)) (λ x. entries_uncut x.host (aged_notes x)) sites
 
   old_stands : (x : Standing) → standing h x (all_aged w).1 ≡ standing_by_law h x (aged_notes s)

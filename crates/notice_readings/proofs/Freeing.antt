@@ -1,13 +1,9 @@
 -- A controller asks and tells only hosts that have no notice to answer.
-use Rattle.std.proofs.Common.{◌≡◌, ◌⊎◌, inl, inr, ℕ, zero, suc, ◌≤◌, Bool, true, false, cond, not, eqb, ◌&&◌, ◌||◌, List, [], ◌∷◌, map, refl, sym, ◌∙◌, arith}
-use Rattle.std.specs.Prelude.{Option, Some, None, Result, Ok, Err, nat_le, unwrap_or}
+use Rattle.std.proofs.Common.{◌≡◌, ◌⊎◌, inl, inr, ℕ, zero, suc, ◌≤◌, Bool, true, false, cond, not, eqb, ◌&&◌, ◌||◌, List, [], ◌∷◌, refl, sym, ◌∙◌, arith}
+use Rattle.std.specs.Prelude.{Option, Some, None, nat_le, unwrap_or}
 use Rattle.std.specs.List.{AllByRecursion, list_any, filter}
 use Rattle.std.specs.Option.{option_map_or, option_and_then}
 use Rattle.std.proofs.lemmas.Bool.{cond_both, cases_Bool, true≢false, leb-true}
-use Rattle.hcp_packet.specs.declared.MessageKind.{MessageKind}
-use Rattle.hcp_packet.specs.declared.MessageKind.TheVariants.{Command as IsCommand, Event as IsEvent, Response as IsResponse}
-use Rattle.hcp_packet.specs.declared.MessageFault.{MessageFault}
-use Rattle.hcp_packet.specs.MessageHeader.{header_of}
 use Rattle.pipe_table.specs.PipeRows.{lowest_free, pipe_at}
 use Rattle.pipe_table.specs.declared.row.PipeRow.{PipeRow}
 use Rattle.hci_tables.specs.Tables.{HciTables, is_opened}
@@ -22,14 +18,11 @@ use Rattle.gate_admin.specs.declared.decision.Decision.TheVariants.{Answer, Comm
 use Rattle.gate_admin.specs.View.{has, hosts_where, mask_of, is_connected, is_noticed}
 use Rattle.gate_admin.specs.Decide.{ends_of, tests_to_set_it, commits, commits_and_tells, unless_refused, far_end_of, dest_in, opening, closing, setting, getting, creation, creating, deleting, clearing, shares, carried_out, decided, created, told_of_deletion, told_of_clearing, tests_to_create, tests_to_open, tests_to_delete, tests_to_clear, tests_of_pipe}
 use Rattle.gate_admin.proofs.CreationLemmas.{AllFalse, all_false}
-use Rattle.gate_link.specs.Link.{link_served}
-use Rattle.gate_identity.specs.Identity.{identity_served}
 use Rattle.link_machine.specs.Machine.{Message}
-use Rattle.node_machine.specs.Parts.{Creation, Notice, Core, Port, Deed}
-use Rattle.node_machine.specs.Parts.Deed.{Sends, Tells, Drops}
-use Rattle.node_machine.specs.Carrying.{port_at, finds_room}
-use Rattle.node_machine.specs.Controller.{has_link, creation_in, asks_for, view_for, answers_on, commit_deeds, decision_deeds, link_deeds, gates, gate_deeds, own_gate, goes_through, served_at, agreed, creation_deeds, notice_deeds, response_at, is_command_message, relayed_to, unrelayed, event_deeds, unless_asking, if_notice, kind_deeds, own_deeds, relay_deeds, deeds_by_relay, controller_deeds}
+use Rattle.node_machine.specs.Parts.{Core, Port}
+use Rattle.node_machine.specs.Controller.{view_for, controller_deeds}
 use Rattle.node_laws.proofs.Masks.{is_in_mask}
+use Rattle.node_laws.proofs.Walks.{Plain, OfDecision, all_of_controller}
 use Rattle.node_links.proofs.Masking.{from_mask, all_in, has_small}
 use Rattle.notice_readings.specs.Notices.{has_notice, GoesToFree}
 use Rattle.notice_readings.proofs.Deciding.{alone}
@@ -177,100 +170,20 @@ no_notice t ports h y free = go (cases_Bool (has_notice ports y)) where
   go (inl e) = absurd (true≢false (sym (is_in_mask (has_notice ports) y free.1 free.2 e) ∙ free.0))
   go (inr e) = e
 
-module _ (t : HciTables) (ports : List Port) (h : ℕ) where
-  abbrev Fine : List Deed → Type 0
-  Fine deeds = AllByRecursion (GoesToFree ports) deeds
+plain : (ports : List Port) → Plain (GoesToFree ports)
+plain ports = record { sends = λ to x. tt; says_ok = tt; releases = λ asker. tt; is_answered = tt; drops = λ pid. tt }
 
-  told : (message : List ℕ) (hosts : List ℕ) → AllByRecursion (IsFree (view_for t ports h)) hosts → Fine (map (λ y. Tells y message) hosts)
-  told message [] a = tt
-  told message (y ∷ hosts) a = (no_notice t ports h y a.0, told message hosts a.1)
-
-  commit_free : (room : Bool) (pipe : ℕ) (c : Command) (answer : List ℕ) (behind : List Deed) → Fine behind → Fine (commit_deeds room h pipe c answer behind)
-  commit_free true pipe c answer behind fine = (tt, (tt, (tt, fine)))
-  commit_free false pipe c answer behind fine = (tt, tt)
-
-  agreed_free : (flag : Bool) (c : Creation) → Fine (agreed flag c)
-  agreed_free true c = (tt, (tt, (tt, (tt, (tt, tt)))))
-  agreed_free false c = (tt, (tt, (tt, tt)))
-
-  creation_free : (core : Core) (code : ℕ) (o : Option Creation) → Fine (creation_deeds core code o)
-  creation_free core code None = (tt, tt)
-  creation_free core code (Some c) = agreed_free (eqb code 0 && finds_room core c.command) c
-
-  notice_free : (core : Core) (code : ℕ) (n : Option Notice) → Fine (notice_deeds core code n)
-  notice_free core code None = (tt, tt)
-  notice_free core code (Some n) = creation_free core code (creation_in (Some n))
-
-  response_free : (core : Core) (code : ℕ) (o : Option Port) → Fine (response_at core code o)
-  response_free core code None = (tt, tt)
-  response_free core code (Some p) = notice_free core code p.desk.notice
-
-  link_free : (pipe : ℕ) (answer : List ℕ × Option ℕ) → Fine (link_deeds h pipe answer)
-  link_free pipe answer = by_value answer.0 answer.1 where
-    by_value : (message : List ℕ) (value : Option ℕ) → Fine (link_deeds h pipe (message, value))
-    by_value message None = (tt, tt)
-    by_value message (Some errors) = (tt, (tt, tt))
-
-  gate_free : (gate errors pipe instruction : ℕ) (body : List ℕ) → Fine (gate_deeds gate errors h pipe instruction body)
-  gate_free gate errors pipe instruction body =
-      cond_both (eqb gate 6) (link_deeds h pipe (link_served errors instruction body)) _ Fine
-      (λ _. link_free pipe (link_served errors instruction body))
-      (λ _. cond_both (eqb gate 5) (answers_on h pipe (identity_served gates instruction body))
-      (answers_on h pipe (answer_of response.CommandNotSupported [])) Fine
-      (λ _. (tt, tt)) (λ _. (tt, tt)))
-
-  event_free : (m : Message) → Fine (event_deeds t h m)
-  event_free m = cond_both _ (Sends h m ∷ []) (Drops m.0 ∷ []) Fine (λ _. (tt, tt)) (λ _. (tt, tt))
-
-  unrelayed_free : (up : Bool) (m : Message) → Fine (unrelayed up h m)
-  unrelayed_free up m =
-      cond_both (up && is_command_message m.1) (answers_on h m.0 (answer_of response.NotConnected [])) (Drops m.0 ∷ []) Fine (λ _. (tt, tt)) (λ _. (tt, tt))
-
-  relay_free : (m : Message) (other : ℕ) (up : Bool) → Fine (relay_deeds ports h m other up)
-  relay_free m other true = (tt, tt)
-  relay_free m other false = unrelayed_free (has_link ports h) m
-
-decision_free : (core : Core) (ports : List Port) (h pipe : ℕ) (d : Decision) → Frees (view_for core.tables ports h) d
-    → AllByRecursion (GoesToFree ports) (decision_deeds core h pipe d)
-decision_free core ports h pipe (Answer answer) a = (tt, tt)
-decision_free core ports h pipe (Commit c answer tell notice) a =
-    commit_free core.tables ports h (finds_room core c) pipe c answer.items _ (told core.tables ports h notice.items (hosts_where (has tell)) a)
-decision_free core ports h pipe (Ask asked notice c answer) a = (no_notice core.tables ports h asked a, tt)
-
-served_free : (core : Core) (ports : List Port) (h pipe instruction : ℕ) (body : List ℕ) (gate : Option ℕ)
-    → AllByRecursion (GoesToFree ports) (served_at core (view_for core.tables ports h) h pipe instruction body gate)
-served_free core ports h pipe instruction body None =
-    let v : LinkView = view_for core.tables ports h in
-    decision_free core ports h pipe (decided core.tables v h pipe instruction body) (decided_frees v core.tables h pipe instruction body)
-served_free core ports h pipe instruction body (Some gate) =
-    gate_free core.tables ports h gate (view_for core.tables ports h).errors pipe instruction body
-
-asking_free : (core : Core) (ports : List Port) (h : ℕ) (m : Message) (instruction : ℕ) (asks : Bool)
-    → AllByRecursion (GoesToFree ports) (unless_asking core ports h m instruction asks)
-asking_free core ports h m instruction true = (tt, tt)
-asking_free core ports h m instruction false =
-    served_free core ports h m.0 instruction (body_in m.1) (cond (goes_through core.tables h m.0 instruction) (own_gate core.tables h m.0) None)
-
-notices_free : (core : Core) (ports : List Port) (h : ℕ) (m : Message) (code : ℕ) (here : Bool)
-    → AllByRecursion (GoesToFree ports) (if_notice core ports h m code here)
-notices_free core ports h m code true = response_free core.tables ports h core code (port_at ports h)
-notices_free core ports h m code false = (tt, tt)
-
-kind_free : (core : Core) (ports : List Port) (h : ℕ) (m : Message) (header : Result (MessageKind × ℕ) MessageFault)
-    → AllByRecursion (GoesToFree ports) (kind_deeds core ports h m header)
-kind_free core ports h m (Ok (IsCommand, instruction)) = asking_free core ports h m instruction (eqb m.0 1 && asks_for ports h)
-kind_free core ports h m (Ok (IsEvent, instruction)) = event_free core.tables ports h m
-kind_free core ports h m (Ok (IsResponse, code)) = notices_free core ports h m code (eqb m.0 1)
-kind_free core ports h m (Err fault) = (tt, tt)
-
-own_free : (core : Core) (ports : List Port) (h : ℕ) (m : Message) (up : Bool) → AllByRecursion (GoesToFree ports) (own_deeds core ports h m up)
-own_free core ports h m true = kind_free core ports h m (header_of m.1)
-own_free core ports h m false = (tt, tt)
-
-by_relay_free : (core : Core) (ports : List Port) (h : ℕ) (m : Message) (other : Option ℕ)
-    → AllByRecursion (GoesToFree ports) (deeds_by_relay core ports h m other)
-by_relay_free core ports h m (Some other) = relay_free core.tables ports h m other (has_link ports other)
-by_relay_free core ports h m None = own_free core ports h m (has_link ports h)
+decision_free : (t : HciTables) (ports : List Port) (h : ℕ) (d : Decision) → Frees (view_for t ports h) d → OfDecision (GoesToFree ports) h d
+decision_free t ports h (Answer answer) a = tt
+decision_free t ports h (Commit c answer tell notice) a = (tt, each (hosts_where (has tell)) a) where
+  each : (hosts : List ℕ) → AllByRecursion (IsFree (view_for t ports h)) hosts → AllByRecursion (λ y. has_notice ports y ≡ false) hosts
+  each [] a = tt
+  each (y ∷ hosts) a = (no_notice t ports h y a.0, each hosts a.1)
+decision_free t ports h (Ask asked notice c answer) a = no_notice t ports h asked a
 
 pub controller_free : (core : Core) (ports : List Port) (h : ℕ) (m : Message) → AllByRecursion (GoesToFree ports) (controller_deeds core ports h m)
-controller_free core ports h m = by_relay_free core ports h m (relayed_to core.tables h m)
+controller_free core ports h m =
+    let v : LinkView = view_for core.tables ports h in
+    all_of_controller (GoesToFree ports) (plain ports) core ports h m
+    (λ n. decision_free core.tables ports h (decided core.tables v h m.0 n (body_in m.1)) (decided_frees v core.tables h m.0 n (body_in m.1)))
+    (λ p c here asked. tt) (λ errors n value command gate is. tt)

@@ -96,7 +96,7 @@ good_hosts [] a = tt
 good_hosts (s ∷ sites) a = (a.0.host, good_hosts sites a.1)
 
 -- the notices that stay at desks
-noticed_desks : (ports : List Port) (x : ℕ) → noticed ports x ≡ notice_at (map (λ (p : Port). p.desk) ports) x
+pub noticed_desks : (ports : List Port) (x : ℕ) → noticed ports x ≡ notice_at (map (λ (p : Port). p.desk) ports) x
 noticed_desks [] x = refl
 noticed_desks (p ∷ ports) x = go (cases_Bool (eqb p.desk.host x)) (noticed_desks ports x) where
   go : (eqb p.desk.host x ≡ true) ⊎ (eqb p.desk.host x ≡ false) → noticed ports x ≡ notice_at (map (λ (p : Port). p.desk) ports) x
@@ -120,7 +120,7 @@ module _ (t : List Entry) (w : NodeWorld) (r : Running) (has : HasEnds 0 (hosts_
   abbrev after_it : Work
   after_it = steps input begun
 
-  begins : (x : ℕ) → IsOn x t begun
+  pub begins : (x : ℕ) → IsOn x t begun
   begins x = record {
     on = refl;
     node = has.number;
@@ -244,7 +244,7 @@ module _ (t : List Entry) (w : NodeWorld) (orderly : IsOrderly w) (ups : Notices
 
   -- ## Time
 
-  aged_far : AreFar (all_aged w).1
+  pub aged_far : AreFar (all_aged w).1
   aged_far = far_flat (λ (s : Site). entries_for s.host (aged_entries Controller s.link.to_controller ++ aged_entries Host s.link.to_host))
       (λ s. quiet_far s.host (aged_entries Controller s.link.to_controller ++ aged_entries Host s.link.to_host)
       (wires_all IsQuiet (λ w c. tt) (λ w c. tt) (λ w c why. tt) (λ w. tt) Controller Host s.link.to_controller s.link.to_host)) w.sites
@@ -252,7 +252,7 @@ module _ (t : List Entry) (w : NodeWorld) (orderly : IsOrderly w) (ups : Notices
   aged_good : AreGood (all_aged w).0.sites
   aged_good = good_map (λ (s : Site). record s { link = aged s.link }) (λ s b. record { host = b.host; node = b.node; shut = b.shut }) w.sites a.sites
 
-  aged_side : (sites : List Site) (n : ℕ)
+  pub aged_side : (sites : List Site) (n : ℕ)
       → (link_to (map (λ (s : Site). record s { link = aged s.link }) sites) n).controller.side ≡ (link_to sites n).controller.side
   aged_side [] n = refl
   aged_side (s ∷ sites) n = go (cases_Bool (eqb s.host n)) (aged_side sites n) where

@@ -27,12 +27,12 @@ use Rattle.kept_laws.specs.Hosts.{AreDifferent}
 use Rattle.node_readings.specs.Orders.{IsFresh}
 use Rattle.notice_readings.specs.Notices.{IsKeptNotice}
 use Rattle.notice_readings.proofs.Reading.{reads, read_more}
-use Rattle.notice_readings.proofs.Telling.{AreRight, at_port}
+use Rattle.notice_readings.proofs.Telling.{AreRight}
 use Rattle.notice_readings.proofs.Doing.{AreHostEnds, all_map, controller_side, IsOn, Stands, then, turns, all_stand, read_in}
 use Rattle.notice_readings.proofs.Turning.{passes_stand, kept_none}
 use Rattle.notice_readings.proofs.Stepping.{AreCalm, calm-append, calm_flat, calm_all, calm_may, owed_calm, synced_calm, flat_reads, told_elsewhere, told_here, late_elsewhere, IsCome, IsComeAt, come_is, older_is, late_is, forgets_is, without_is}
 use Rattle.notice_readings.specs.Worlds.{IsRightNotice, IsShut}
-use Rattle.node_laws.proofs.Ports.{come_host, forgets_host, sessions_node}
+use Rattle.node_laws.proofs.Ports.{at_port, come_host, forgets_host, sessions_node}
 
 -- the hosts of ends that keep theirs
 hosts_map : (f : Port → Port) → ((p : Port) → (f p).desk.host ≡ p.desk.host) → (ports : List Port)
@@ -86,14 +86,14 @@ sessions_tables core ports = go (list_any is_over ports) refl where
 
 module _ (x : ℕ) (before : List Entry) (w : Work) (a : IsOn x before w) where
   -- the work behind what came
-  record HasCome (v : Work) : Type 0 where
+  pub record HasCome (v : Work) : Type 0 where
     core : v.core ≡ w.core
     on : v.cut ≡ false
     hosts : AreHostEnds v.ports
     right : AreRight v.ports
     at : IsComeAt (read_in x before v) (port_at v.ports x)
 
-  begun : (v : Work) → HasCome v
+  pub begun : (v : Work) → HasCome v
       → IsOn x before (record v { core = after_sessions v.core v.ports; ports = map without_notice (map (forgets v.ports) v.ports) })
   begun v c = record {
     on = c.on;
@@ -130,7 +130,7 @@ module _ (x : ℕ) (before : List Entry) (w : Work) (a : IsOn x before w) where
 
   -- ## And what it does then
 
-  frees : (cs : List Creation) (v : Work) → IsOn x before v → IsOn x before (all_done 0 (map (λ (c : Creation). Releases c.asker) cs) v)
+  pub frees : (cs : List Creation) (v : Work) → IsOn x before v → IsOn x before (all_done 0 (map (λ (c : Creation). Releases c.asker) cs) v)
   frees [] v b = b
   frees (c ∷ cs) v b =
       let u : Work = turn_at c.asker Release v in
@@ -153,7 +153,7 @@ module _ (x : ℕ) (before : List Entry) (w : Work) (a : IsOn x before w) where
       (λ d. all_stand x before 0 (λ n. ⊥) owing (all_done 0 syncs u) (λ n f. absurd f) (calm_may x (λ n. ⊥) owing o) d))
       (λ d. passes_stand x before (unless_cut (all_done 0 owing) (all_done 0 syncs u)) d)
 
-  owed_all : (left : List Port) → AreCalm (all_owed left)
+  pub owed_all : (left : List Port) → AreCalm (all_owed left)
   owed_all left =
       calm-append _ _ (calm_all (λ p. owed response.NotConnected (asked_at p)) (λ p. owed_calm response.NotConnected (asked_at p))
       (filter (λ (p : Port). p.ended) left))
@@ -207,7 +207,7 @@ module _ (x : ℕ) (before : List Entry) (w : Work) (a : IsOn x before w) where
         all_map (λ (p : Port). IsRightNotice p.desk.notice) (λ (p : Port). IsRightNotice p.desk.notice) come (λ p b. come_right p (input_at input p) b) w.ports
         a.right
 
-  came_near : (h : ℕ) (i : LinkInput) → IsComing i → AreDifferent (map (λ (p : Port). p.desk.host) w.ports) → AllByRecursion IsFresh w.ports
+  pub came_near : (h : ℕ) (i : LinkInput) → IsComing i → AreDifferent (map (λ (p : Port). p.desk.host) w.ports) → AllByRecursion IsFresh w.ports
       → AllByRecursion (λ (p : Port). IsShut p.side) w.ports → HasCome (times_out (AtEnd h i) (all_come (AtEnd h i) w))
   came_near h i comes different fresh shut = record {
     core = refl;
@@ -219,7 +219,7 @@ module _ (x : ℕ) (before : List Entry) (w : Work) (a : IsOn x before w) where
         (come_at (AtEnd h i) comes different fresh shut);
   }
 
-  came_tick : AreDifferent (map (λ (p : Port). p.desk.host) w.ports) → AllByRecursion IsFresh w.ports
+  pub came_tick : AreDifferent (map (λ (p : Port). p.desk.host) w.ports) → AllByRecursion IsFresh w.ports
       → AllByRecursion (λ (p : Port). IsShut p.side) w.ports → HasCome (times_out TimePasses (all_come TimePasses w))
   came_tick different fresh shut = record {
     core = refl;

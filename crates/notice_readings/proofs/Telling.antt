@@ -1,13 +1,9 @@
 -- Which notices a controller sends as it handles a message, and which message answers one.
 use Rattle.std.proofs.Common.{◌≡◌, ℕ, ◌≤◌, ◌&&◌, Bool, true, false, cond, eqb, not, List, [], ◌∷◌, length, map, sym, refl, ap, ◌∙◌, subst, arith}
-use Rattle.std.specs.Prelude.{Option, Some, None, Result, Ok, Err, is_some}
+use Rattle.std.specs.Prelude.{Option, Some, None, is_some}
 use Rattle.std.specs.List.{AllByRecursion, filter}
 use Rattle.std.specs.Option.{option_map_or, option_and_then}
-use Rattle.std.proofs.lemmas.Bool.{cond_both, true≢false, eqb-true, eqb-false, ne_eqb, and_parts}
-use Rattle.hcp_packet.specs.declared.MessageKind.{MessageKind}
-use Rattle.hcp_packet.specs.declared.MessageKind.TheVariants.{Command as IsCommandKind, Event as IsEvent, Response as IsResponse}
-use Rattle.hcp_packet.specs.declared.MessageFault.{MessageFault}
-use Rattle.hcp_packet.specs.MessageHeader.{header_of}
+use Rattle.std.proofs.lemmas.Bool.{true≢false, eqb-true, eqb-false, ne_eqb, and_parts}
 use Rattle.hci_tables.specs.declared.command.Command.{Command}
 use Rattle.hci_tables.specs.declared.command.Command.TheVariants.{Create}
 use Rattle.hci_tables.specs.Commands.{is_dynamic, is_host, IsCommand}
@@ -30,9 +26,11 @@ use Rattle.node_machine.specs.Parts.{Creation, About, Notice, Core, Port, Deed}
 use Rattle.node_machine.specs.Parts.About.{Waits, Forgotten, Removed}
 use Rattle.node_machine.specs.Parts.Deed.{Commits, Sends, SaysOk, Asks, Releases, Tells, IsAnswered, Drops, SetsErrors}
 use Rattle.node_machine.specs.Carrying.{port_at, finds_room}
-use Rattle.node_machine.specs.Controller.{has_link, creation_in, asks_for, view_for, answers_on, commit_deeds, decision_deeds, link_deeds, gates, gate_deeds, own_gate, goes_through, served_at, agreed, creation_deeds, notice_deeds, response_at, is_command_message, relayed_to, unrelayed, event_deeds, unless_asking, if_notice, kind_deeds, own_deeds, relay_deeds, deeds_by_relay, controller_deeds}
+use Rattle.node_machine.specs.Controller.{has_link, creation_in, asked_at, view_for, answers_on, commit_deeds, decision_deeds, link_deeds, gates, own_gate, agreed, controller_deeds}
 use Rattle.node_world.specs.NodeFilters.{is_response, is_notice}
 use Rattle.node_links.proofs.Noticing.{UpAt}
+use Rattle.node_laws.proofs.Ports.{at_port}
+use Rattle.node_laws.proofs.Walks.{AnswersNone, controller_holds}
 use Rattle.kept_laws.specs.Hosts.{AreDifferent}
 use Rattle.kept_laws.proofs.Deciding.{decided_recordable}
 use Rattle.notice_readings.specs.Notices.{IsNoticeOf}
@@ -43,17 +41,6 @@ use Rattle.notice_readings.specs.Worlds.{IsRight, IsRightAbout, IsRightNotice}
 
 abbrev pub AreRight : List Port → Type 0
 AreRight ports = AllByRecursion (λ (p : Port). IsRightNotice p.desk.notice) ports
-
-pub at_port : (P : Port → Type 0) (ports : List Port) (h : ℕ) (p : Port) → AllByRecursion P ports → port_at ports h ≡ Some p → P p
-at_port P [] h p a q = cc
-at_port P (z ∷ ports) h p a q = go (eqb z.desk.host h) refl (at_port P ports h p a.1)
-  where
-    go : (b : Bool) → eqb z.desk.host h ≡ b → (port_at ports h ≡ Some p → P p) → P p
-    go true e later =
-        let same : Some z ≡ Some p = rw e at q in
-        let is : z ≡ p = cc in
-        subst P is a.0
-    go false e later = later (rw e at q)
 
 -- the notice to this host that isn't answered
 abbrev pub noticed : List Port → ℕ → Option Notice
@@ -223,34 +210,6 @@ module _ (x : ℕ) where
       by_value message None = other_may IsShort h pipe message (off_and (eqb pipe 1) (is_notice message) e)
       by_value message (Some errors) = other_may IsShort h pipe message (off_and (eqb pipe 1) (is_notice message) e)
 
-    gate_may : (gate errors pipe instruction : ℕ) (body : List ℕ) → eqb pipe 1 ≡ false → May (gate_deeds gate errors h pipe instruction body)
-    gate_may gate errors pipe instruction body e =
-        either IsShort (eqb gate 6) (link_deeds h pipe (link_served errors instruction body)) _ (link_may pipe (link_served errors instruction body) e)
-        (either IsShort (eqb gate 5) (answers_on h pipe (identity_served gates instruction body))
-        (answers_on h pipe (answer_of response.CommandNotSupported []))
-        (other_may IsShort h pipe (identity_served gates instruction body) (off_and (eqb pipe 1) (is_notice (identity_served gates instruction body)) e))
-        (answer_may IsShort h pipe (answer_of response.CommandNotSupported []) (answer_other response.CommandNotSupported [])))
-
-    event_may : (t : HciTables) (m : Message) → IsOther m.1 → May (event_deeds t h m)
-    event_may t m other = either IsShort _ (Sends h m ∷ []) (Drops m.0 ∷ []) (no_and (eqb m.0 1) (is_notice m.1) other, tt) tt
-
-    unrelayed_may : (up : Bool) (m : Message) → May (unrelayed up h m)
-    unrelayed_may up m =
-        either IsShort (up && is_command_message m.1) (answers_on h m.0 (answer_of response.NotConnected [])) (Drops m.0 ∷ [])
-        (answer_may IsShort h m.0 (answer_of response.NotConnected []) (answer_other response.NotConnected [])) tt
-
-    relay_may : (ports : List Port) (m : Message) (other : ℕ) (up : Bool) → eqb m.0 1 ≡ false → May (relay_deeds ports h m other up)
-    relay_may ports m other true e = (off_and (eqb m.0 1) (is_notice m.1) e, tt)
-    relay_may ports m other false e = unrelayed_may (has_link ports h) m
-
-    agreed_may : (flag : Bool) (c : Creation) → IsRight c → (rest : List Deed) → agreed flag c ≡ IsAnswered ∷ rest → May rest
-    agreed_may true c right rest e =
-        let is : (Commits c.command ∷ Releases c.asker ∷ Sends c.asker (1, c.answer) ∷ SaysOk ∷ []) ≡ rest = cc in
-        subst May is (right.0, (right.1, tt))
-    agreed_may false c right rest e =
-        let is : (Releases c.asker ∷ Sends c.asker (1, answer_of response.NotOk []) ∷ []) ≡ rest = cc in
-        subst May is (answer_other response.NotOk [], tt)
-
     -- ## Of a controller
 
     -- a message of the host h answers a notice to it
@@ -262,17 +221,8 @@ module _ (x : ℕ) where
       Leaves : ((eqb h x && answers m) ≡ true → noticed ports x ≡ None) → May deeds → Outcome ports m deeds
       IsHeard : (rest : List Deed) → deeds ≡ IsAnswered ∷ rest → answers m ≡ true → May rest → Outcome ports m deeds
 
-    both : (a b : Bool) → (a && b) ≡ true → (a ≡ true) × (b ≡ true)
-    both true b e = (refl, e)
-    both false b e = absurd (true≢false (sym e))
-
-    no_response : (ports : List Port) (m : Message) → is_response m.1 ≡ false → (eqb h x && answers m) ≡ true → noticed ports x ≡ None
-    no_response ports m off e =
-        absurd (true≢false (sym (both (eqb m.0 1) (is_response m.1) (both (eqb h x) (answers m) e).1).1 ∙ off))
-
-    not_on_one : (ports : List Port) (m : Message) → eqb m.0 1 ≡ false → (eqb h x && answers m) ≡ true → noticed ports x ≡ None
-    not_on_one ports m off e =
-        absurd (true≢false (sym (both (eqb m.0 1) (is_response m.1) (both (eqb h x) (answers m) e).1).0 ∙ off))
+    no_reply : (ports : List Port) (m : Message) → answers m ≡ false → (eqb h x && answers m) ≡ true → noticed ports x ≡ None
+    no_reply ports m off e = absurd (true≢false (sym (and_parts (eqb h x) (answers m) e).1 ∙ off))
 
     module _ (core : Core) (ports : List Port) (sorted : AreTables core.tables) (two : JoinTwo core.tables.rows) (some : 1 ≤ h) (most : h ≤ 7)
         (right : AreRight ports) (up : UpAt (port_at ports x)) where
@@ -280,85 +230,27 @@ module _ (x : ℕ) where
       own_gate_one : (pipe : ℕ) → eqb pipe 1 ≡ true → own_gate core.tables h pipe ≡ None
       own_gate_one pipe e = subst (λ n. own_gate core.tables h n ≡ None) (sym (eqb-true pipe 1 e)) refl
 
-      served_may : (pipe instruction : ℕ) (body : List ℕ) (gate : Option ℕ) → (eqb pipe 1 ≡ true → gate ≡ None)
-          → May (served_at core (view_for core.tables ports h) h pipe instruction body gate)
-      served_may pipe instruction body None one =
-          let v : LinkView = view_for core.tables ports h in
-          decision_may core v pipe (decided core.tables v h pipe instruction body) (decided_says v h core.tables pipe instruction body two)
-          (decided_recordable core.tables v h pipe instruction body sorted some most) (decided_as_allowed core.tables v h pipe instruction body)
-      served_may pipe instruction body (Some gate) one = go (eqb pipe 1) refl where
-        go : (b : Bool) → eqb pipe 1 ≡ b → May (gate_deeds gate (view_for core.tables ports h).errors h pipe instruction body)
-        go true e = let z : Some gate ≡ None = one e in absurd (cc z)
-        go false e = gate_may gate (view_for core.tables ports h).errors pipe instruction body e
+      gate_off : (pipe gate : ℕ) → own_gate core.tables h pipe ≡ Some gate → eqb pipe 1 ≡ false
+      gate_off pipe gate is = go (eqb pipe 1) refl where
+        go : (b : Bool) → eqb pipe 1 ≡ b → eqb pipe 1 ≡ false
+        go true e = let z : None ≡ Some gate = sym (own_gate_one pipe e) ∙ is in absurd (cc z)
+        go false e = e
 
-      asking_may : (m : Message) (instruction : ℕ) (asks : Bool) → May (unless_asking core ports h m instruction asks)
-      asking_may m instruction true = tt
-      asking_may m instruction false =
-          served_may m.0 instruction (body_in m.1) (cond (goes_through core.tables h m.0 instruction) (own_gate core.tables h m.0) None)
-          (λ e. by (goes_through core.tables h m.0 instruction) (own_gate core.tables h m.0) (own_gate_one m.0 e)) where
-            by : (b : Bool) (o : Option ℕ) → o ≡ None → cond b o None ≡ None
-            by true o e = e
-            by false o e = refl
+      right_there : (p : Port) (c : Creation) → port_at ports h ≡ Some p → asked_at p ≡ Some c → IsRight c
+      right_there p c here waits = go p.desk.notice (at_port (λ (p : Port). IsRightNotice p.desk.notice) ports h p right here) waits where
+        go : (o : Option Notice) → IsRightNotice o → creation_in o ≡ Some c → IsRight c
+        go None r w = absurd (cc w)
+        go (Some n) r w = by_about n.about r w where
+          by_about : (a : About) → IsRightAbout a → creation_in (Some (record { about = a; age = n.age })) ≡ Some c → IsRight c
+          by_about (Waits d) r w = let same : d ≡ c = cc in subst IsRight same r
+          by_about Forgotten r w = absurd (cc w)
+          by_about Removed r w = absurd (cc w)
 
-      dropped : (m : Message) → ((eqb h x && answers m) ≡ true → noticed ports x ≡ None) → (pid : ℕ) → Outcome ports m (Drops pid ∷ [])
-      dropped m none pid = Leaves none tt
-
-      none_there : (p : Port) → noticed ports h ≡ None → eqb h x ≡ true → noticed ports x ≡ None
-      none_there p none e = subst (λ n. noticed ports n ≡ None) (eqb-true h x e) none
-
-      response_is : (m : Message) (code : ℕ) (o : Option Port) → port_at ports h ≡ o → answers m ≡ true → Outcome ports m (response_at core code o)
-      response_is m code None here e =
-          Leaves (λ q. subst (λ n. noticed ports n ≡ None) (eqb-true h x (both (eqb h x) (answers m) q).0)
-          (ap (λ o. option_and_then (λ (p : Port). p.desk.notice) o) here)) tt
-      response_is m code (Some p) here e = by_notice p.desk.notice refl where
-        by_creation : (n : Notice) → p.desk.notice ≡ Some n → (o : Option Creation) → creation_in (Some n) ≡ o → Outcome ports m (creation_deeds core code o)
-        by_creation n is None q = IsHeard [] refl e tt
-        by_creation n is (Some c) q = by_flag (eqb code 0 && finds_room core c.command) where
-          right_there : IsRight c
-          right_there = by_about n.about refl where
-            about_right : IsRightAbout n.about
-            about_right = subst IsRightNotice is (at_port (λ (p : Port). IsRightNotice p.desk.notice) ports h p right here)
-
-            by_about : (a : About) → n.about ≡ a → IsRight c
-            by_about (Waits d) r =
-                let z : Some d ≡ Some c = rw r at q in
-                let same : d ≡ c = cc in
-                subst IsRight same (subst IsRightAbout r about_right)
-            by_about Forgotten r = let z : None ≡ Some c = rw r at q in absurd (cc z)
-            by_about Removed r = let z : None ≡ Some c = rw r at q in absurd (cc z)
-
-          by_flag : (flag : Bool) → Outcome ports m (agreed flag c)
-          by_flag true =
-              IsHeard (Commits c.command ∷ Releases c.asker ∷ Sends c.asker (1, c.answer) ∷ SaysOk ∷ []) refl e (agreed_may true c right_there _ refl)
-          by_flag false =
-              IsHeard (Releases c.asker ∷ Sends c.asker (1, answer_of response.NotOk []) ∷ []) refl e (agreed_may false c right_there _ refl)
-
-        by_notice : (o : Option Notice) → p.desk.notice ≡ o → Outcome ports m (notice_deeds core code o)
-        by_notice None is =
-            Leaves (λ q. subst (λ n. noticed ports n ≡ None) (eqb-true h x (both (eqb h x) (answers m) q).0)
-            (ap (λ o. option_and_then (λ (p : Port). p.desk.notice) o) here ∙ is)) tt
-        by_notice (Some n) is = by_creation n is (creation_in (Some n)) refl
-
-      if_notice_is : (m : Message) (code : ℕ) (b : Bool) → eqb m.0 1 ≡ b → header_of m.1 ≡ Ok (IsResponse, code)
-          → Outcome ports m (if_notice core ports h m code b)
-      if_notice_is m code true e q =
-          let is : is_response m.1 ≡ true = rw q refl in
-          let yes : answers m ≡ true = rw (e, is) refl in
-          response_is m code (port_at ports h) refl yes
-      if_notice_is m code false e q = Leaves (not_on_one ports m e) tt
-
-      kind_is : (m : Message) (header : Result (MessageKind × ℕ) MessageFault) → header_of m.1 ≡ header → Outcome ports m (kind_deeds core ports h m header)
-      kind_is m (Ok (IsCommandKind, instruction)) q =
-          let off : is_response m.1 ≡ false = rw q refl in
-          Leaves (no_response ports m off) (asking_may m instruction (eqb m.0 1 && asks_for ports h))
-      kind_is m (Ok (IsEvent, instruction)) q =
-          let off : is_response m.1 ≡ false = rw q refl in
-          let other : IsOther m.1 = rw q refl in
-          Leaves (no_response ports m off) (event_may core.tables m other)
-      kind_is m (Ok (IsResponse, code)) q = if_notice_is m code (eqb m.0 1) refl q
-      kind_is m (Err fault) q =
-          let off : is_response m.1 ≡ false = rw q refl in
-          Leaves (no_response ports m off) tt
+      heard : (m : Message) (c : Creation) → answers m ≡ true → IsRight c → (flag : Bool) → Outcome ports m (agreed flag c)
+      heard m c reply is_right true =
+          IsHeard (Commits c.command ∷ Releases c.asker ∷ Sends c.asker (1, c.answer) ∷ SaysOk ∷ []) refl reply (is_right.0, (is_right.1, tt))
+      heard m c reply is_right false =
+          IsHeard (Releases c.asker ∷ Sends c.asker (1, answer_of response.NotOk []) ∷ []) refl reply (answer_other response.NotOk [], tt)
 
       -- a link that isn't up has no notice
       none_down : has_link ports h ≡ false → eqb h x ≡ true → noticed ports x ≡ None
@@ -373,24 +265,36 @@ module _ (x : ℕ) where
         go None u off = refl
         go (Some p) u off = by p p.desk.notice refl u refl off
 
-      own_is : (m : Message) (b : Bool) → has_link ports h ≡ b → Outcome ports m (own_deeds core ports h m b)
-      own_is m true e = kind_is m (header_of m.1) refl
-      own_is m false e = Leaves (λ q. none_down e (both (eqb h x) (answers m) q).0) tt
+      dropped : (m : Message) → AnswersNone core ports h m → (eqb h x && answers m) ≡ true → noticed ports x ≡ None
+      dropped m none e = go (has_link ports h) refl where
+        both : (eqb h x ≡ true) × (answers m ≡ true)
+        both = and_parts (eqb h x) (answers m) e
 
-      -- pipe 01 leads to no other host
-      relayed_off : (m : Message) (other : ℕ) → relayed_to core.tables h m ≡ Some other → eqb m.0 1 ≡ false
-      relayed_off m other q = go (eqb m.0 1) refl where
-        none : (n : ℕ) → n ≡ 1 → relayed_to core.tables h (n, m.1) ≡ None
-        none n e = subst (λ k. relayed_to core.tables h (k, m.1) ≡ None) (sym e) (cond_both _ None None (λ o. o ≡ None) (λ _. refl) (λ _. refl))
-
-        go : (b : Bool) → eqb m.0 1 ≡ b → eqb m.0 1 ≡ false
-        go true e = let z : None ≡ Some other = sym (none m.0 (eqb-true m.0 1 e)) ∙ q in absurd (cc z)
-        go false e = e
-
-      by_relay : (m : Message) (o : Option ℕ) → relayed_to core.tables h m ≡ o → Outcome ports m (deeds_by_relay core ports h m o)
-      by_relay m (Some other) q =
-          Leaves (not_on_one ports m (relayed_off m other q)) (relay_may ports m other (has_link ports other) (relayed_off m other q))
-      by_relay m None q = own_is m (has_link ports h) refl
+        go : (b : Bool) → has_link ports h ≡ b → noticed ports x ≡ None
+        go true up = subst (λ n. noticed ports n ≡ None) (eqb-true h x both.0) (none both.1 up)
+        go false down = none_down down both.0
 
       pub controller_outcome : (m : Message) → Outcome ports m (controller_deeds core ports h m)
-      controller_outcome m = by_relay m (relayed_to core.tables h m) refl
+      controller_outcome m =
+          let v : LinkView = view_for core.tables ports h in
+          controller_holds (Outcome ports m) core ports h m (record {
+            drops = λ pid none. Leaves (dropped m none) tt;
+            goes_on = λ to off. Leaves (no_reply ports m (rw off refl)) (off_and (eqb m.0 1) (is_notice m.1) off, tt);
+            goes_back =
+                λ n event. Leaves (no_reply ports m (no_and (eqb m.0 1) (is_response m.1) (rw event refl)))
+                (no_and (eqb m.0 1) (is_notice m.1) (rw event refl), tt);
+            refuses = λ r off free. Leaves (no_reply ports m off) (answer_may IsShort h m.0 (answer_of r []) (answer_other r []));
+            names =
+                λ n served gate. Leaves (no_reply ports m (no_and (eqb m.0 1) (is_response m.1) (rw served.command refl)))
+                (other_may IsShort h m.0 (identity_served gates n (body_in m.1)) (off_and (eqb m.0 1) (is_notice (identity_served gates n (body_in m.1)))
+                (gate_off m.0 5 gate)));
+            counts =
+                λ errors n served gate. Leaves (no_reply ports m (no_and (eqb m.0 1) (is_response m.1) (rw served.command refl)))
+                (link_may m.0 (link_served errors n (body_in m.1)) (gate_off m.0 6 gate));
+            decides =
+                λ n served gate. Leaves (no_reply ports m (no_and (eqb m.0 1) (is_response m.1) (rw served.command refl)))
+                (decision_may core v m.0 (decided core.tables v h m.0 n (body_in m.1)) (decided_says v h core.tables m.0 n (body_in m.1) two)
+                (decided_recordable core.tables v h m.0 n (body_in m.1) sorted some most) (decided_as_allowed core.tables v h m.0 n (body_in m.1)));
+            hears = λ p reply here none. IsHeard [] refl reply tt;
+            agrees = λ flag p c reply here waits room. heard m c reply (right_there p c here waits) flag;
+          })

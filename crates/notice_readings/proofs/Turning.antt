@@ -255,7 +255,7 @@ module _ (x : ℕ) (before : List Entry) (k : ℕ) where
   reached : (ports : List Port) (deeds rest : List Deed) → deeds ≡ IsAnswered ∷ rest → AllReach ports deeds → AllReach ports rest
   reached ports deeds rest e reach = let P : List Deed → Type 0 = λ d. AllReach ports d in let a : AllReach ports (IsAnswered ∷ rest) = subst P e reach in a.1
 
-  handled_stand : (m : Message) (w : Work) → IsHost k → On w → lack w.ports (needs k (controller_deeds w.core w.ports k m)) ≡ None
+  pub handled_stand : (m : Message) (w : Work) → IsHost k → On w → lack w.ports (needs k (controller_deeds w.core w.ports k m)) ≡ None
       → Fine (handles k m (controller_deeds w.core w.ports k m) w)
   handled_stand m w host a room =
       go (controller_outcome x k w.core w.ports a.sorted a.two host.0 host.1 a.right a.up m) where
@@ -267,7 +267,7 @@ module _ (x : ℕ) (before : List Entry) (k : ℕ) where
             (reached w.ports (controller_deeds w.core w.ports k m) rest e (controller_reach w.core w.ports k m))
             (ap (λ d. lack w.ports (needs k d)) (sym e) ∙ room))
 
-  holds_stand : (short : ℕ × ℕ) (w : Work) → On w → On (holds_back k short w)
+  pub holds_stand : (short : ℕ × ℕ) (w : Work) → On w → On (holds_back k short w)
   holds_stand short w a = go (option_map_or (λ (p : Port). p.desk.holds) (port_at w.ports k) false) where
     told : Work
     told = noting (entry.Held (end_of_node w.core k) short.0 short.1 ∷ []) w
@@ -283,7 +283,7 @@ module _ (x : ℕ) (before : List Entry) (k : ℕ) where
         (desks x before IsKeptNotice k (λ d. record d { holds = true }) told (λ d. refl) (λ d. refl)
         (hushed x before IsKeptNotice (entry.Held (end_of_node w.core k) short.0 short.1 ∷ []) w (λ r. refl) a))
 
-  lets_stand : (w : Work) → On w → On (lets_go k w)
+  pub lets_stand : (w : Work) → On w → On (lets_go k w)
   lets_stand w a = go (option_map_or (λ (p : Port). is_held p.side) (port_at w.ports k) false) where
     by : Bool → Work
     by true = turn_at k (Hold false) w

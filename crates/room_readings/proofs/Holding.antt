@@ -40,7 +40,7 @@ run_sounds events a =
     all_sounds events (first_entries new_line.controller.side.role) new_line a (start_good new_line IsLine) (start_reached new_line IsLine)
     (start_noted new_line IsLine)
 
-told_sounds : (h : ℕ) (l : Link) (t : List Entry) → IsLinkTold h l t → Sounds l
+pub told_sounds : (h : ℕ) (l : Link) (t : List Entry) → IsLinkTold h l t → Sounds l
 told_sounds h l t a = subst Sounds a.run.is (run_sounds a.events a.run.allowed)
 
 -- ## One end
@@ -55,7 +55,7 @@ module _ (t : List Entry) (e : End) (k : NumberedEnd) (reads : (n : ℕ) → IsR
   none : (k.side.shdlc.phase ≡ Up → ⊥) → k.side.sent ≡ []
   none down = sound.is.forgot down
 
-  held_is : IsHeldRead t e k
+  pub held_is : IsHeldRead t e k
   held_is = go k.side.shdlc.phase refl where
     nothing : (k.side.shdlc.phase ≡ Up → ⊥) → drop (whole_acked k.side) k.side.sent ≡ []
     nothing down = ap (λ (ms : List Message). drop (whole_among ms k.side.shdlc.session.acked) ms) (none down)
@@ -72,7 +72,7 @@ module _ (t : List Entry) (e : End) (k : NumberedEnd) (reads : (n : ℕ) → IsR
         ap (unacknowledged_in t e) is ∙ sym (nothing (λ up. let z : Down ≡ Up = sym q ∙ up in cc))
 
   -- with its session and the block that is set aside all of it is read
-  end_is : session_now t e (node_of e) ≡ own_session k → aside_in t e ≡ k.side.aside → IsEndRead t e k
+  pub end_is : session_now t e (node_of e) ≡ own_session k → aside_in t e ≡ k.side.aside → IsEndRead t e k
   end_is session aside = record { session = session; sent = λ up. (now up).sent; acked = λ up. (now up).acked; none = none; aside = aside }
 
 -- ## A link that is told

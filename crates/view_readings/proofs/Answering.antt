@@ -1,12 +1,12 @@
 -- A host has its turns, in which an init goes on or ends: what is read of it stays what the host keeps.
 use Rattle.std.proofs.Common.{◌≡◌, ◌⊎◌, inl, inr, ℕ, ◌+◌, ◌&&◌, Bool, true, false, cond, eqb, List, [], ◌∷◌, ◌++◌, length, sym, refl, ap, ◌∙◌, subst, append-nil}
-use Rattle.std.specs.Prelude.{Option, Some, None, Result, Ok, Err, is_some, slice_get}
+use Rattle.std.specs.Prelude.{Option, Some, None, Result, Ok, Err, is_some}
 use Rattle.std.specs.List.{AllByRecursion, fold}
-use Rattle.std.specs.Option.{option_map, option_map_or}
+use Rattle.std.specs.Option.{option_map}
 use Rattle.std.proofs.lemmas.Bool.{cases_Bool, cond_both, eq-eqb, true≢false}
 use Rattle.std.proofs.lemmas.List.Sums.{fold-append}
 use Rattle.trace_model.specs.declared.entry.Entry.{Entry}
-use Rattle.trace_model.specs.declared.entry.Entry.TheVariants.{InitMade, InitFailed}
+use Rattle.trace_model.specs.declared.entry.Entry.TheVariants.{InitMade}
 use Rattle.session_laws.specs.Sessions.{is_up}
 use Rattle.shdlc_core.specs.declared.answers.LinkState.{LinkState}
 use Rattle.shdlc_core.specs.declared.answers.LinkState.TheVariants.{Up, Waiting, Down}
@@ -14,15 +14,9 @@ use Rattle.hcp_packet.specs.declared.MessageKind.{MessageKind}
 use Rattle.hcp_packet.specs.declared.MessageKind.TheVariants.{Command as IsCommand, Event as IsEvent, Response as IsResponse}
 use Rattle.hcp_packet.specs.declared.MessageFault.{MessageFault}
 use Rattle.hcp_packet.specs.MessageHeader.{header_of}
-use Rattle.pipe_table.specs.declared.row.PipeRow.{PipeRow}
-use Rattle.pipe_table.specs.PipeRows.{pipe_at}
 use Rattle.hci_tables.specs.declared.command.Command.{Command}
-use Rattle.hci_tables.specs.declared.command.Command.TheVariants.{Create, Delete, Clear, Set}
-use Rattle.hci_tables.specs.Commands.{is_command, is_host}
-use Rattle.gate_answers.specs.declared.response.Response.TheVariants as response
-use Rattle.gate_answers.specs.Answers.{answer_of, instruction_in, body_in}
-use Rattle.gate_link.specs.Link.{link_served}
-use Rattle.gate_identity.specs.Identity.{identity_served}
+use Rattle.hci_tables.specs.declared.command.Command.TheVariants.{Set}
+use Rattle.gate_answers.specs.Answers.{body_in}
 use Rattle.gate_loopback.specs.Loopback.{posts_back}
 use Rattle.link_machine.specs.Machine.{Message}
 use Rattle.link_entries.specs.Entries.End.{Host}
@@ -30,11 +24,11 @@ use Rattle.history.specs.Filters.{same_end}
 use Rattle.history.specs.Steps.{end_of}
 use Rattle.node_machine.specs.Parts.{Init, Core, Port, Deed}
 use Rattle.node_machine.specs.Parts.Deed.{Commits, Sends, SaysOk, Asks, Releases, Tells, IsAnswered, Drops, SetsErrors, Orders, Hears, GoesOn, Ends}
-use Rattle.node_machine.specs.Controller.{answers_on, commit_deeds, link_deeds, gates}
-use Rattle.node_machine.specs.Carrying.{own_side, end_of_node, finds_room}
-use Rattle.node_machine.specs.HostReplies.{replies, accepts, is_welcome, pipe_named_in, pipe_created, pipe_deleted, pipes_cleared, notified_deeds, orders_of, is_same, learns, init_agreed, init_deeds, deleted_by, created_by, learned, response_deeds, is_gate, gate_of_pipe, ordered_deeds, host_deeds}
+use Rattle.node_machine.specs.Carrying.{own_side, end_of_node}
+use Rattle.node_machine.specs.HostReplies.{learns, init_deeds, learned, response_deeds, is_gate, gate_of_pipe, ordered_deeds, host_deeds}
 use Rattle.node_world.specs.World.{end_h}
 use Rattle.node_world.specs.NodeFilters.{is_response}
+use Rattle.node_laws.proofs.Walks.{Plain, all_ordered, learns_holds, learned_holds, init_holds}
 use Rattle.view_readings.specs.Inits.{with_response, init_after}
 
 -- what is read behind these entries, where this was read before
@@ -62,69 +56,17 @@ IsNeutral _ = Unit {0}
 abbrev pub AreNeutral : List Deed → Type 0
 AreNeutral deeds = AllByRecursion IsNeutral deeds
 
-neutral_if : (b : Bool) (d e : List Deed) → AreNeutral d → AreNeutral e → AreNeutral (cond b d e)
-neutral_if true d e x y = x
-neutral_if false d e x y = y
+plain : Plain IsNeutral
+plain = record { sends = λ to x. tt; says_ok = tt; releases = λ asker. tt; is_answered = tt; drops = λ pid. tt }
 
-accepts_neutral : (core : Core) (c : Command) → AreNeutral (accepts core c)
-accepts_neutral core c = by (finds_room core c) where
-  by : (b : Bool) → AreNeutral (commit_deeds b core.node 1 c (answer_of response.Ok []) [])
-  by true = (tt, (tt, (tt, tt)))
-  by false = (tt, tt)
+ordered_neutral : (core : Core) (errors pipe n : ℕ) (body : List ℕ) → AreNeutral (ordered_deeds core errors pipe n body)
+ordered_neutral core errors pipe n body = all_ordered IsNeutral core plain (λ c. tt) errors pipe n body (λ zero value is. tt)
 
-created_neutral : (core : Core) (body : List ℕ) → AreNeutral (pipe_created core body)
-created_neutral core body = by (pipe_named_in body) refl where
-  by : (o : Option PipeRow) → pipe_named_in body ≡ o → AreNeutral (pipe_created core body)
-  by None q = rw q (tt, tt)
-  by (Some row) q = rw q (neutral_if (is_welcome core.node row) (accepts core (Create row)) (replies core response.NotOk) (accepts_neutral core (Create row))
-      (tt, tt))
+learns_neutral : (core : Core) (c : Command) → AreNeutral (learns core c)
+learns_neutral core c = learns_holds AreNeutral core tt (λ c may room. (tt, tt)) c
 
-deleted_neutral : (core : Core) (body : List ℕ) → AreNeutral (pipe_deleted core body)
-deleted_neutral core [] = (tt, tt)
-deleted_neutral core (pid ∷ []) = neutral_if (is_some (pipe_at core.tables.rows pid)) (accepts core (Delete pid)) (replies core response.Ok)
-    (accepts_neutral core (Delete pid)) (tt, tt)
-deleted_neutral core (pid ∷ x ∷ body) = (tt, tt)
-
-cleared_neutral : (core : Core) (body : List ℕ) → AreNeutral (pipes_cleared core body)
-cleared_neutral core [] = (tt, tt)
-cleared_neutral core (x ∷ []) = neutral_if (is_host x) (accepts core (Clear x)) (replies core response.CommandParameterUnknown) (accepts_neutral core (Clear x))
-    (tt, tt)
-cleared_neutral core (x ∷ y ∷ body) = (tt, tt)
-
-notified_neutral : (core : Core) (instruction : ℕ) (body : List ℕ) → AreNeutral (notified_deeds core instruction body)
-notified_neutral core instruction body =
-    neutral_if (eqb instruction 18) (pipe_created core body) _ (created_neutral core body)
-    (neutral_if (eqb instruction 19) (pipe_deleted core body) _ (deleted_neutral core body)
-    (neutral_if (eqb instruction 21) (pipes_cleared core body) _ (cleared_neutral core body) (tt, tt)))
-
-link_neutral : (h pipe : ℕ) (answer : List ℕ × Option ℕ) → AreNeutral (link_deeds h pipe answer)
-link_neutral h pipe answer = by answer.0 answer.1 where
-  by : (message : List ℕ) (value : Option ℕ) → AreNeutral (link_deeds h pipe (message, value))
-  by message None = (tt, tt)
-  by message (Some errors) = (tt, (tt, tt))
-
-pub ordered_neutral : (core : Core) (errors pipe instruction : ℕ) (body : List ℕ) → AreNeutral (ordered_deeds core errors pipe instruction body)
-ordered_neutral core errors pipe instruction body =
-    neutral_if (eqb pipe 1) (notified_deeds core instruction body) _ (notified_neutral core instruction body)
-    (neutral_if (eqb pipe 0) (link_deeds core.node 0 (link_served errors instruction body)) _ (link_neutral core.node 0 (link_served errors instruction body))
-    (neutral_if (is_gate 5 (gate_of_pipe core pipe)) (answers_on core.node pipe (identity_served gates instruction body)) [] (tt, tt) tt))
-
-pub learns_neutral : (core : Core) (c : Command) → AreNeutral (learns core c)
-learns_neutral core c = cond_both (is_command c && finds_room core c) (Commits c ∷ []) [] AreNeutral (λ _. (tt, tt)) (λ _. tt)
-
-pub learned_neutral : (core : Core) (order value : List ℕ) → AreNeutral (learned core order value)
-learned_neutral core order value =
-    neutral_if (eqb (instruction_in order) 16) (created_by core value) _ (by_row (pipe_named_in value))
-    (neutral_if (eqb (instruction_in order) 17) (deleted_by core (body_in order)) _ (by_body (body_in order))
-    (neutral_if (eqb (instruction_in order) 20) (learns core (Clear core.node)) [] (learns_neutral core (Clear core.node)) tt)) where
-      by_row : (o : Option PipeRow) → AreNeutral (option_map_or (λ row. learns core (Create row)) o [])
-      by_row None = tt
-      by_row (Some row) = learns_neutral core (Create row)
-
-      by_body : (body : List ℕ) → AreNeutral (deleted_by core body)
-      by_body [] = tt
-      by_body (pid ∷ []) = learns_neutral core (Delete pid)
-      by_body (pid ∷ x ∷ body) = tt
+learned_neutral : (core : Core) (order value : List ℕ) → AreNeutral (learned core order value)
+learned_neutral core order value = learned_holds AreNeutral core tt (λ c may room. (tt, tt)) order value
 
 module _ (h : ℕ) (now : LinkState) where
   -- Deeds that may follow where y is read of the init, and the host keeps this command and this init: behind them what is read is what
@@ -173,20 +115,15 @@ module _ (h : ℕ) (now : LinkState) where
     -- a response came to a command of an init, and one more is read as answered
     init_go : (code : ℕ) (value : List ℕ) (init : Option Init) → now ≡ Up → MayGo (option_map with_response init) None init (init_deeds core code value init)
     init_go code value None up = ended None None refl
-    init_go code value (Some i) up =
-        cond_both (eqb code 0) (init_agreed core i value) (Ends (InitFailed (end_of_node core core.node) code) ∷ [])
-        (MayGo (Some (with_response i)) None (Some i))
-        (λ _. by_same (is_same core i value) refl) (λ _. ended _ None (over (Some (with_response i)))) where
-          by_order : (o : Option (List ℕ)) → slice_get (orders_of i) (i.answered + 1) ≡ o → is_same core i value ≡ false
-              → MayGo (Some (with_response i)) None (Some i) (init_agreed core i value)
-          by_order None q e = rw (e, q) (neutral_go (Some (with_response i)) None (Some i) (learns core (Set core.node 0 1 (record { items = i.identity })))
-              (Ends (InitMade (end_of_node core core.node) (length i.pipes)) ∷ []) (learns_neutral core (Set core.node 0 1 (record { items = i.identity })))
-              (ended _ None (over (Some (with_response i)))))
-          by_order (Some order) q e = rw (e, q) (refl, λ some. (refl, up))
-
-          by_same : (b : Bool) → is_same core i value ≡ b → MayGo (Some (with_response i)) None (Some i) (init_agreed core i value)
-          by_same true e = rw e (ended _ None (over (Some (with_response i))))
-          by_same false e = by_order (slice_get (orders_of i) (i.answered + 1)) refl e
+    init_go code value (Some i) up = init_holds (MayGo (Some (with_response i)) None (Some i)) core i code value (record {
+      same = ended _ None (over (Some (with_response i)));
+      failed = λ code. ended _ None (over (Some (with_response i)));
+      made =
+          neutral_go (Some (with_response i)) None (Some i) (learns core (Set core.node 0 1 (record { items = i.identity })))
+          (Ends (InitMade (end_of_node core core.node) (length i.pipes)) ∷ []) (learns_neutral core (Set core.node 0 1 (record { items = i.identity })))
+          (ended _ None (over (Some (with_response i))));
+      next = λ order is. (refl, λ some. (refl, up));
+    })
 
     none_of : (o : Option Init) → (is_some o ≡ true → ⊥) → o ≡ None
     none_of None e = refl
@@ -211,7 +148,8 @@ module _ (h : ℕ) (now : LinkState) where
       by (Some order) q = subst (MayGo (option_map with_response core.init) core.command core.init) (sym (heard_is order q))
           (neutral_go (option_map with_response core.init) None core.init (cond (eqb code 0) (learned core order value) [])
           (init_deeds core code value core.init)
-          (neutral_if (eqb code 0) (learned core order value) [] (learned_neutral core order value) tt) (init_go code value core.init up))
+          (cond_both (eqb code 0) (learned core order value) [] AreNeutral (λ _. learned_neutral core order value) (λ _. tt))
+          (init_go code value core.init up))
 
     -- what is read of the init behind the turn of a message
     abbrev pub answered_by : Message → Option Init → Option Init
@@ -267,7 +205,7 @@ module _ (h : ℕ) (now : LinkState) where
 
         by : (b : Bool) → (is_gate 4 (gate_of_pipe core m.0) && posts_back m.1) ≡ b → Fine (host_deeds core p m)
         by b e = subst Fine (sym (shown b e)) (neutral_all (answered_by m core.init) (cond b (Sends core.node m ∷ []) []) (not_answered m core.init other) waits
-            (neutral_if b (Sends core.node m ∷ []) [] (tt, tt) tt))
+            (cond_both b (Sends core.node m ∷ []) [] AreNeutral (λ _. (tt, tt)) (λ _. tt)))
       go true (Err fault) q z =
           let other : is_response m.1 ≡ false = rw z refl in
           let shown : host_deeds core p m ≡ [] = rw (q, z) refl in

@@ -7,10 +7,9 @@ use Rattle.trace_model.specs.Lines.{IsHost}
 use Rattle.trace_model.specs.declared.entry.Entry.{Entry}
 use Rattle.shdlc_core.specs.declared.answers.LinkState.{LinkState}
 use Rattle.shdlc_core.specs.declared.answers.LinkState.TheVariants.{Up}
-use Rattle.hci_tables.specs.declared.command.Command.TheVariants.{Sync}
-use Rattle.link_machine.specs.Machine.{Message, LinkInput, report}
+use Rattle.link_machine.specs.Machine.{Message, LinkInput}
 use Rattle.node_machine.specs.Parts.{Init, Core, Port, Work, Deed}
-use Rattle.node_machine.specs.Parts.Deed.{Commits, Sends, Orders}
+use Rattle.node_machine.specs.Parts.Deed.{Sends, Orders}
 use Rattle.node_machine.specs.Controller.{is_command_message}
 use Rattle.node_machine.specs.Carrying.{noting, unless_cut, all_done}
 use Rattle.node_machine.specs.Turns.{passes}
@@ -24,7 +23,8 @@ use Rattle.node_readings.specs.Orders.{IsFresh}
 use Rattle.node_readings.specs.Worlds.{init_of}
 use Rattle.node_readings.proofs.Silent.{host_side}
 use Rattle.view_readings.specs.Inits.{init_kept, KeepsInit}
-use Rattle.view_readings.proofs.Answering.{reads_init, init_append, AreNeutral, MayGo, neutral_stays}
+use Rattle.node_laws.proofs.Walks.{all_synced_hold}
+use Rattle.view_readings.proofs.Answering.{reads_init, init_append, IsNeutral, AreNeutral, MayGo, neutral_stays}
 use Rattle.view_readings.proofs.Going.{Base, Stands, then, all_go, passes_stand, told_init}
 use Rattle.node_readings.proofs.Stepping.{late_told, forgets_same, none_forgotten, none_owed}
 
@@ -41,19 +41,6 @@ without_same q e = go (q.ended || q.late) refl where
   go : (b : Bool) → (q.ended || q.late) ≡ b → without_notice q ≡ q
   go true z = rw z (ap (λ n. record q { desk = record q.desk { notice = n } }) (sym e))
   go false z = rw z refl
-
-synced_neutral : (core : Core) (input : NodeInput) (p : Port) → AreNeutral (synced core input p)
-synced_neutral core input p = go (input_at input p) refl where
-  either : (b : Bool) (d : List Deed) → AreNeutral d → AreNeutral (cond b d [])
-  either true d x = x
-  either false d x = tt
-
-  go : (o : Option LinkInput) → input_at input p ≡ o → AreNeutral (synced core input p)
-  go None q = rw q tt
-  go (Some i) q = by (report p.side i).sync refl where
-    by : (o : Option ℕ) → (report p.side i).sync ≡ o → AreNeutral (synced core input p)
-    by None e = rw (q, e) tt
-    by (Some id) e = rw (q, e) (either _ (Commits (Sync p.desk.host id) ∷ []) (tt, tt))
 
 times_same : (input : NodeInput) (w : Work) (q : Port) → w.ports ≡ q ∷ [] → q.desk.notice ≡ None → times_out input w ≡ w
 times_same (AtEnd k i) w q is quiet = refl
@@ -183,7 +170,7 @@ module _ (h : ℕ) (host : IsHost h) (i0 : Option Init) where
         syncs = flat_map (synced w.core input) (p ∷ [])
 
         neutral : AreNeutral syncs
-        neutral = subst AreNeutral (sym (append-nil (synced w.core input p))) (synced_neutral w.core input p)
+        neutral = all_synced_hold IsNeutral (λ host id. tt) w.core input (p ∷ [])
 
         came_is : times_out input (all_come input v) ≡ record w { ports = q ∷ []; entries = w.entries ++ more }
         came_is =

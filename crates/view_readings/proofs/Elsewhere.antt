@@ -1,29 +1,12 @@
 -- What other nodes note tells nothing of the init that runs at a host.
-use Rattle.std.proofs.Common.{◌≡◌, ℕ, ◌+◌, ◌&&◌, Bool, true, false, cond, eqb, List, [], ◌∷◌, ◌++◌, length, map, sym, refl, ap, ◌∙◌, subst}
-use Rattle.std.specs.Prelude.{Option, Some, None, Result, Ok, Err, slice_get}
+use Rattle.std.proofs.Common.{◌≡◌, ℕ, ◌&&◌, Bool, true, false, cond, eqb, List, [], ◌∷◌, map, sym, refl, ap, ◌∙◌, subst}
+use Rattle.std.specs.Prelude.{Option, Some, None}
 use Rattle.std.specs.List.{AllByRecursion}
 use Rattle.std.specs.Option.{option_map, option_map_or}
-use Rattle.std.proofs.lemmas.Bool.{cond_both}
 use Rattle.swp_base.specs.InMemory.{Plan}
 use Rattle.trace_model.specs.declared.entry.Entry.{Entry}
 use Rattle.trace_model.specs.declared.entry.Entry.TheVariants as entry
-use Rattle.session_laws.specs.Sessions.{is_up}
-use Rattle.hcp_packet.specs.declared.MessageKind.{MessageKind}
-use Rattle.hcp_packet.specs.declared.MessageKind.TheVariants.{Command as IsCommand, Event as IsEvent, Response as IsResponse}
-use Rattle.hcp_packet.specs.declared.MessageFault.{MessageFault}
-use Rattle.hcp_packet.specs.MessageHeader.{header_of}
-use Rattle.hci_tables.specs.declared.command.Command.{Command}
-use Rattle.hci_tables.specs.declared.command.Command.TheVariants.{Set}
-use Rattle.hci_tables.specs.Tables.{HciTables}
-use Rattle.gate_answers.specs.declared.response.Response.TheVariants as response
-use Rattle.gate_answers.specs.Answers.{answer_of, body_in}
-use Rattle.gate_admin.specs.declared.view.LinkView.{LinkView}
-use Rattle.gate_admin.specs.declared.decision.Decision.{Decision}
-use Rattle.gate_admin.specs.declared.decision.Decision.TheVariants.{Answer, Commit, Ask}
-use Rattle.gate_admin.specs.View.{has, hosts_where}
-use Rattle.gate_admin.specs.Decide.{decided}
-use Rattle.gate_link.specs.Link.{link_served}
-use Rattle.gate_identity.specs.Identity.{identity_served}
+use Rattle.gate_admin.specs.View.{has}
 use Rattle.link_machine.specs.Machine.{Message}
 use Rattle.message_link.specs.Links.{NumberedEnd}
 use Rattle.link_entries.specs.Entries.{End as Side, Entry as Noted}
@@ -31,11 +14,10 @@ use Rattle.link_entries.specs.Entries.End.{Controller, Host}
 use Rattle.link_entries.specs.Entries.Entry.{Up, Down, Active, GaveUp, Acked, Got, Sent, Emit, Took, Lost, Tick, Restarted, Cut}
 use Rattle.history.specs.Filters.{same_end}
 use Rattle.history.specs.Steps.{entries_for, entry_of, end_of}
-use Rattle.node_machine.specs.Parts.{Init, Creation, Notice, Core, Desk, Running, Port, Deed}
-use Rattle.node_machine.specs.Parts.Deed.{Commits, Sends, SaysOk, Asks, Releases, Tells, IsAnswered, Drops, SetsErrors, Orders, Hears, GoesOn, Ends}
-use Rattle.node_machine.specs.Carrying.{end_of_node, port_at, finds_room}
-use Rattle.node_machine.specs.Controller.{has_link, creation_in, asks_for, view_for, answers_on, commit_deeds, decision_deeds, link_deeds, gates, gate_deeds, own_gate, goes_through, served_at, agreed, creation_deeds, notice_deeds, response_at, is_command_message, relayed_to, unrelayed, event_deeds, unless_asking, if_notice, kind_deeds, own_deeds, relay_deeds, deeds_by_relay, controller_deeds}
-use Rattle.node_machine.specs.HostReplies.{orders_of, is_same, learns, init_agreed, init_deeds, learned, response_deeds, ordered_deeds, host_deeds}
+use Rattle.node_machine.specs.Parts.{Init, Core, Desk, Running, Port, Deed}
+use Rattle.node_machine.specs.Carrying.{end_of_node, port_at}
+use Rattle.node_machine.specs.Controller.{controller_deeds}
+use Rattle.node_machine.specs.HostReplies.{host_deeds}
 use Rattle.node_machine.specs.Turns.{deeds_of}
 use Rattle.node_machine.specs.Node.{NodeInput, steps, begins_with}
 use Rattle.node_world.specs.World.{end_h, work_of}
@@ -44,191 +26,26 @@ use Rattle.node_telling.proofs.Nodes.{ports_for}
 use Rattle.node_readings.proofs.Silent.{IsQuiet}
 use Rattle.view_readings.specs.Inits.{with_response, LeavesInit, IsNoEndOf}
 use Rattle.view_readings.proofs.Noting.{IsOwnNote, IsBeside, NotesSo, Notes, all_do, steps_note}
-use Rattle.view_readings.proofs.Answering.{AreNeutral, IsNeutral, ordered_neutral, learned_neutral, learns_neutral}
-use Rattle.registry.proofs.ValueLemmas.{AllByRecursion-append}
+use Rattle.node_laws.proofs.Walks.{Plain, OfHost, any_of_controller, all_of_host}
 
--- ## No init ends at a controller
+-- ## Deeds
 
-abbrev IsEndless : Deed → Type 0
-IsEndless (Ends y) = ⊥
-IsEndless _ = Unit {0}
+plain : (P : Entry → Type 0) → Plain (NotesSo P)
+plain P = record { sends = λ to x. tt; says_ok = tt; releases = λ asker. tt; is_answered = tt; drops = λ pid. tt }
 
-abbrev AreEndless : List Deed → Type 0
-AreEndless deeds = AllByRecursion IsEndless deeds
-
-told : (message : List ℕ) (hosts : List ℕ) → AreEndless (map (λ x. Tells x message) hosts)
-told message [] = tt
-told message (x ∷ hosts) = (tt, told message hosts)
-
-commit_endless : (room : Bool) (h pipe : ℕ) (c : Command) (answer : List ℕ) (behind : List Deed) → AreEndless behind
-    → AreEndless (commit_deeds room h pipe c answer behind)
-commit_endless true h pipe c answer behind fine = (tt, (tt, (tt, fine)))
-commit_endless false h pipe c answer behind fine = (tt, tt)
-
-agreed_endless : (flag : Bool) (c : Creation) → AreEndless (agreed flag c)
-agreed_endless true c = (tt, (tt, (tt, (tt, (tt, tt)))))
-agreed_endless false c = (tt, (tt, (tt, tt)))
-
-creation_endless : (core : Core) (code : ℕ) (o : Option Creation) → AreEndless (creation_deeds core code o)
-creation_endless core code None = (tt, tt)
-creation_endless core code (Some c) = agreed_endless (eqb code 0 && finds_room core c.command) c
-
-notice_endless : (core : Core) (code : ℕ) (n : Option Notice) → AreEndless (notice_deeds core code n)
-notice_endless core code None = (tt, tt)
-notice_endless core code (Some n) = creation_endless core code (creation_in (Some n))
-
-response_endless : (core : Core) (code : ℕ) (o : Option Port) → AreEndless (response_at core code o)
-response_endless core code None = (tt, tt)
-response_endless core code (Some p) = notice_endless core code p.desk.notice
-
-decision_endless : (core : Core) (h pipe : ℕ) (d : Decision) → AreEndless (decision_deeds core h pipe d)
-decision_endless core h pipe (Answer answer) = (tt, tt)
-decision_endless core h pipe (Commit c answer tell notice) =
-    commit_endless (finds_room core c) h pipe c answer.items _ (told notice.items (hosts_where (has tell)))
-decision_endless core h pipe (Ask asked notice c answer) = (tt, tt)
-
-event_endless : (t : HciTables) (h : ℕ) (m : Message) → AreEndless (event_deeds t h m)
-event_endless t h m = cond_both _ (Sends h m ∷ []) (Drops m.0 ∷ []) AreEndless (λ _. (tt, tt)) (λ _. (tt, tt))
-
-unrelayed_endless : (up : Bool) (h : ℕ) (m : Message) → AreEndless (unrelayed up h m)
-unrelayed_endless up h m =
-    cond_both (up && is_command_message m.1) (answers_on h m.0 (answer_of response.NotConnected [])) (Drops m.0 ∷ []) AreEndless (λ _. (tt, tt)) (λ _. (tt, tt))
-
-relay_endless : (ports : List Port) (h : ℕ) (m : Message) (other : ℕ) (up : Bool) → AreEndless (relay_deeds ports h m other up)
-relay_endless ports h m other true = (tt, tt)
-relay_endless ports h m other false = unrelayed_endless (has_link ports h) h m
-
-link_endless : (h pipe : ℕ) (answer : List ℕ × Option ℕ) → AreEndless (link_deeds h pipe answer)
-link_endless h pipe answer = by answer.0 answer.1 where
-  by : (message : List ℕ) (value : Option ℕ) → AreEndless (link_deeds h pipe (message, value))
-  by message None = (tt, tt)
-  by message (Some errors) = (tt, (tt, tt))
-
-gate_endless : (h gate errors pipe instruction : ℕ) (body : List ℕ) → AreEndless (gate_deeds gate errors h pipe instruction body)
-gate_endless h gate errors pipe instruction body = by (eqb gate 6) (eqb gate 5) where
-  by : (a b : Bool) → AreEndless (cond a (link_deeds h pipe (link_served errors instruction body)) (cond b (answers_on h pipe
-      (identity_served gates instruction body)) (answers_on h pipe (answer_of response.CommandNotSupported []))))
-  by true b = link_endless h pipe (link_served errors instruction body)
-  by false true = (tt, tt)
-  by false false = (tt, tt)
-
-served_endless : (core : Core) (v : LinkView) (h pipe instruction : ℕ) (body : List ℕ) (gate : Option ℕ)
-    → AreEndless (served_at core v h pipe instruction body gate)
-served_endless core v h pipe instruction body None = decision_endless core h pipe (decided core.tables v h pipe instruction body)
-served_endless core v h pipe instruction body (Some gate) = gate_endless h gate v.errors pipe instruction body
-
-asking_endless : (core : Core) (ports : List Port) (h : ℕ) (m : Message) (instruction : ℕ) (asks : Bool)
-    → AreEndless (unless_asking core ports h m instruction asks)
-asking_endless core ports h m instruction true = (tt, tt)
-asking_endless core ports h m instruction false =
-    served_endless core (view_for core.tables ports h) h m.0 instruction (body_in m.1) (cond (goes_through core.tables h m.0 instruction) (own_gate
-    core.tables h m.0) None)
-
-notices_endless : (core : Core) (ports : List Port) (h : ℕ) (m : Message) (code : ℕ) (here : Bool) → AreEndless (if_notice core ports h m code here)
-notices_endless core ports h m code true = response_endless core code (port_at ports h)
-notices_endless core ports h m code false = (tt, tt)
-
-kind_endless : (core : Core) (ports : List Port) (h : ℕ) (m : Message) (header : Result (MessageKind × ℕ) MessageFault)
-    → AreEndless (kind_deeds core ports h m header)
-kind_endless core ports h m (Ok (IsCommand, instruction)) = asking_endless core ports h m instruction (eqb m.0 1 && asks_for ports h)
-kind_endless core ports h m (Ok (IsEvent, instruction)) = event_endless core.tables h m
-kind_endless core ports h m (Ok (IsResponse, code)) = notices_endless core ports h m code (eqb m.0 1)
-kind_endless core ports h m (Err fault) = (tt, tt)
-
-own_endless : (core : Core) (ports : List Port) (h : ℕ) (m : Message) (up : Bool) → AreEndless (own_deeds core ports h m up)
-own_endless core ports h m true = kind_endless core ports h m (header_of m.1)
-own_endless core ports h m false = (tt, tt)
-
-controller_endless : (core : Core) (ports : List Port) (h : ℕ) (m : Message) → AreEndless (controller_deeds core ports h m)
-controller_endless core ports h m = by (relayed_to core.tables h m) where
-  by : (o : Option ℕ) → AreEndless (deeds_by_relay core ports h m o)
-  by (Some other) = relay_endless ports h m other (has_link ports other)
-  by None = own_endless core ports h m (has_link ports h)
-
-endless_notes : (P : Entry → Type 0) (deeds : List Deed) → AreEndless deeds → AllByRecursion (NotesSo P) deeds
-endless_notes P [] all = tt
-endless_notes P (d ∷ deeds) all = (one d all.0, endless_notes P deeds all.1) where
-  one : (d : Deed) → IsEndless d → NotesSo P d
-  one (Commits c) e = tt
-  one (Sends to m) e = tt
-  one SaysOk e = tt
-  one (Asks to message c) e = tt
-  one (Releases asker) e = tt
-  one (Tells to message) e = tt
-  one IsAnswered e = tt
-  one (Drops pid) e = tt
-  one (SetsErrors errors) e = tt
-  one (Orders message) e = tt
-  one Hears e = tt
-  one (GoesOn i) e = tt
-  one (Ends y) e = absurd e
-
--- ## What a host notes as its init ends
-
-neutral_notes : (P : Entry → Type 0) (deeds : List Deed) → AreNeutral deeds → AllByRecursion (NotesSo P) deeds
-neutral_notes P [] all = tt
-neutral_notes P (d ∷ deeds) all = (one d all.0, neutral_notes P deeds all.1) where
-  one : (d : Deed) → IsNeutral d → NotesSo P d
-  one (Commits c) e = tt
-  one (Sends to m) e = tt
-  one SaysOk e = tt
-  one (Asks to message c) e = absurd e
-  one (Releases asker) e = tt
-  one (Tells to message) e = absurd e
-  one IsAnswered e = tt
-  one (Drops pid) e = tt
-  one (SetsErrors errors) e = tt
-  one (Orders message) e = absurd e
-  one Hears e = absurd e
-  one (GoesOn i) e = absurd e
-  one (Ends y) e = absurd e
+-- no init ends at a controller
+controller_notes : (P : Entry → Type 0) (core : Core) (ports : List Port) (h : ℕ) (m : Message) → AllByRecursion (NotesSo P) (controller_deeds core ports h m)
+controller_notes P core ports h m =
+    any_of_controller (NotesSo P) (plain P) (λ c. tt) (λ to message. tt) (λ to message c. tt) (λ errors. tt) core ports h m
 
 module _ (P : Entry → Type 0) (core : Core) (same : P (entry.InitSame (end_of_node core core.node)))
     (made : (count : ℕ) → P (entry.InitMade (end_of_node core core.node) count))
     (failed : (code : ℕ) → P (entry.InitFailed (end_of_node core core.node) code)) where
-  init_notes : (code : ℕ) (value : List ℕ) (o : Option Init) → AllByRecursion (NotesSo P) (init_deeds core code value o)
-  init_notes code value None = tt
-  init_notes code value (Some i) =
-      cond_both (eqb code 0) (init_agreed core i value) (Ends (entry.InitFailed (end_of_node core core.node) code) ∷ []) (AllByRecursion (NotesSo P))
-      (λ _. go (is_same core i value) refl) (λ _. (failed code, tt)) where
-        by : (o : Option (List ℕ)) → slice_get (orders_of i) (i.answered + 1) ≡ o → is_same core i value ≡ false
-            → AllByRecursion (NotesSo P) (init_agreed core i value)
-        by None q e =
-            rw (e, q) (AllByRecursion-append (NotesSo P) (learns core (Set core.node 0 1 (record { items = i.identity }))) (Ends (entry.InitMade (end_of_node
-            core core.node) (length i.pipes)) ∷ []) (neutral_notes P (learns core (Set core.node 0 1 (record { items = i.identity }))) (learns_neutral core
-            (Set core.node 0 1 (record { items = i.identity })))) (made (length i.pipes), tt))
-        by (Some order) q e = rw (e, q) (tt, (tt, tt))
-
-        go : (b : Bool) → is_same core i value ≡ b → AllByRecursion (NotesSo P) (init_agreed core i value)
-        go true e = rw e (same, tt)
-        go false e = by (slice_get (orders_of i) (i.answered + 1)) refl e
-
-  response_notes : (code : ℕ) (value : List ℕ) → AllByRecursion (NotesSo P) (response_deeds core code value)
-  response_notes code value = go core.command where
-    by : Option (List ℕ) → List Deed
-    by None = []
-    by (Some order) = Hears ∷ cond (eqb code 0) (learned core order value) [] ++ init_deeds core code value core.init
-
-    go : (o : Option (List ℕ)) → AllByRecursion (NotesSo P) (by o)
-    go None = tt
-    go (Some order) = (
-      tt,
-      AllByRecursion-append (NotesSo P) (cond (eqb code 0) (learned core order value) []) (init_deeds core code value core.init)
-          (cond_both (eqb code 0) (learned core order value) [] (AllByRecursion (NotesSo P)) (λ _. neutral_notes P (learned core order value) (learned_neutral
-          core order value)) (λ _. tt)) (init_notes code value core.init),
-    )
+  of_host : OfHost (NotesSo P) core
+  of_host = record { commits = λ c. tt; hears = tt; goes_on = λ i. tt; orders = λ i k order is. tt; same = same; made = made; failed = failed }
 
   host_notes : (p : Port) (m : Message) → AllByRecursion (NotesSo P) (host_deeds core p m)
-  host_notes p m = go (is_up p.side.shdlc.phase) (header_of m.1) refl refl where
-    go : (b : Bool) (x : Result (MessageKind × ℕ) MessageFault) → is_up p.side.shdlc.phase ≡ b → header_of m.1 ≡ x
-        → AllByRecursion (NotesSo P) (host_deeds core p m)
-    go false x q r = rw q (tt, tt)
-    go true (Ok (IsCommand, n)) q r =
-        rw (q, r) (neutral_notes P (ordered_deeds core p.desk.errors m.0 n (body_in m.1)) (ordered_neutral core p.desk.errors m.0 n (body_in m.1)))
-    go true (Ok (IsEvent, n)) q r = rw (q, r) (cond_both _ (Sends core.node m ∷ []) [] (AllByRecursion (NotesSo P)) (λ _. (tt, tt)) (λ _. tt))
-    go true (Ok (IsResponse, n)) q r =
-        rw (q, r) (cond_both (eqb m.0 1) (response_deeds core n (body_in m.1)) [] (AllByRecursion (NotesSo P)) (λ _. response_notes n (body_in m.1)) (λ _. tt))
-    go true (Err fault) q r = rw (q, r) tt
+  host_notes p m = all_of_host (NotesSo P) core (plain P) of_host p m (λ n value command zero is. tt)
 
 -- ## Entries
 
@@ -303,7 +120,7 @@ module _ (h n : ℕ) (other : eqb n h ≡ false) (who : Side) (is_side : cond (e
         (λ code y. off_cond (same_end (end_of_node core core.node) (end_h h)) None y (own_off q)) p m
 
     go : (b : Bool) → eqb core.node 0 ≡ b → AllByRecursion (NotesSo (LeavesInit h)) (by b)
-    go true q = endless_notes (LeavesInit h) (controller_deeds core ports k m) (controller_endless core ports k m)
+    go true q = controller_notes (LeavesInit h) core ports k m
     go false q = one q (port_at ports k)
 
   ends_off : (halves : ℕ → NumberedEnd) (desks : List Desk) → AllByRecursion IsOff (map (λ (d : Desk). d.host) desks)

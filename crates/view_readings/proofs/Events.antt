@@ -46,7 +46,7 @@ module _ (e : End) (real : e.at_host ≡ true → eqb e.link 0 ≡ false) where
 
   -- ## A tick
 
-  aged_entries_still : (w : NodeWorld) → AllByRecursion (IsStill e) (all_aged w).1
+  pub aged_entries_still : (w : NodeWorld) → AllByRecursion (IsStill e) (all_aged w).1
   aged_entries_still w = all_flat (IsStill e) (λ (s : Site). entries_for s.host (aged_entries Controller s.link.to_controller
       ++ aged_entries Host s.link.to_host)) (λ s. aged_still e s.host s.link) w.sites
 

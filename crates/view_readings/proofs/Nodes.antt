@@ -140,7 +140,7 @@ module _ (e : End) (real : e.at_host ≡ true → eqb e.link 0 ≡ false) (hosts
   desks_has n m is (p ∷ ports) all = ((λ here. all.0 here ∙ sym is), desks_has n m is ports all.1)
 
   -- a step begins
-  begun_right : (x : ErrorCount) (r : Running) (plan : Option Plan) (halves : ℕ → NumberedEnd) (es : List Entry) → HasEnds (node_of e) hosts r
+  pub begun_right : (x : ErrorCount) (r : Running) (plan : Option Plan) (halves : ℕ → NumberedEnd) (es : List Entry) → HasEnds (node_of e) hosts r
       → AllByRecursion (IsStill e) es → (e.at_host ≡ false → r.core.tables ≡ x.book.tables) → KeepsErrors e r x → Right e hosts x (work_of r plan halves es)
   begun_right x r plan halves es has still known k =
       let read = still_all e es x x.errors still (record { sets = k.sets; is = refl }) in

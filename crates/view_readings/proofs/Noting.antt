@@ -2,7 +2,7 @@
 -- notes beside them, and of what its deeds note.
 use Rattle.std.proofs.Common.{◌≡◌, ℕ, Bool, true, false, cond, eqb, List, [], ◌∷◌, ◌++◌, length, map, sym, refl, ap, ◌∙◌, subst}
 use Rattle.std.specs.Prelude.{Option, Some, None, option_to_list, nat_lt}
-use Rattle.std.specs.List.{AllByRecursion, flat_map, filter}
+use Rattle.std.specs.List.{AllByRecursion, flat_map}
 use Rattle.std.specs.Option.{option_map_or}
 use Rattle.std.proofs.lemmas.Bool.{cond_both}
 use Rattle.trace_model.specs.declared.entry.Entry.{Entry}
@@ -11,11 +11,8 @@ use Rattle.journal_laws.specs.Planned.{fails_within}
 use Rattle.journal_laws.specs.Journal.{count_of}
 use Rattle.swp_base.specs.declared.link_terms.Cause.{Cause}
 use Rattle.hci_tables.specs.declared.command.Command.{Command}
-use Rattle.hci_tables.specs.declared.command.Command.TheVariants.{Sync}
 use Rattle.hci_tables.specs.Bodies.{body_of}
 use Rattle.hci_store.specs.Committing.{commit_writes}
-use Rattle.gate_answers.specs.declared.response.Response.{Response}
-use Rattle.gate_answers.specs.declared.response.Response.TheVariants as response
 use Rattle.link_machine.specs.Machine.{Message, LinkInput, Refused, Turn, Report, give_refusal, report, whole_acked, after_input, is_held}
 use Rattle.link_machine.specs.Machine.LinkInput.{Reset}
 use Rattle.link_machine.specs.Machine.Turn.{Give, Hold, FetchMessage, SetAside, Release}
@@ -23,15 +20,15 @@ use Rattle.link_entries.specs.Entries.{End as Side, Entry as Noted, if_so, told,
 use Rattle.link_entries.specs.Entries.End.{Controller, Host}
 use Rattle.link_entries.specs.Entries.Entry.{Up, Down, Active, GaveUp, Acked, Got, Sent}
 use Rattle.history.specs.Steps.{entries_for, entry_of, end_of}
-use Rattle.node_machine.specs.Parts.{Creation, About, Desk, Core, Port, Work, Deed}
+use Rattle.node_machine.specs.Parts.{About, Desk, Core, Port, Work, Deed}
 use Rattle.node_machine.specs.Parts.About.{Waits, Removed}
 use Rattle.node_machine.specs.Parts.Deed.{Commits, Sends, SaysOk, Asks, Releases, Tells, IsAnswered, Drops, SetsErrors, Orders, Hears, GoesOn, Ends}
-use Rattle.node_machine.specs.Controller.{asked_at}
 use Rattle.node_machine.specs.Carrying.{own_side, noting, unless_cut, port_at, changed_if, with_port, with_desk, after_turn, noted_of, turn_at, notified, commit, done, all_done, end_of_node, needs, lack}
 use Rattle.node_machine.specs.Turns.{deeds_of, handles, holds_back, lets_go, have_turns, goes_through_ends, passes}
-use Rattle.node_machine.specs.Node.{NodeInput, input_at, has_come, told_at, all_come, with_older, is_late, reset_late, told_late, times_out, forgotten, forgets, owed, all_owed, without_notice, after_sessions, synced, steps}
+use Rattle.node_machine.specs.Node.{NodeInput, input_at, has_come, told_at, all_come, with_older, is_late, reset_late, told_late, times_out, forgotten, forgets, all_owed, without_notice, after_sessions, synced, steps}
 use Rattle.node_machine.specs.Node.NodeInput.{AtEnd, TimePasses}
 use Rattle.registry.proofs.ValueLemmas.{AllByRecursion-append}
+use Rattle.node_laws.proofs.Walks.{forgotten_hold, all_owed_hold, all_synced_hold}
 
 -- this is noted of an end of this side
 abbrev pub IsOwnNote : Side → Noted → Type 0
@@ -332,27 +329,6 @@ module _ (P : Entry → Type 0) (n : ℕ) (who : Side) (At : ℕ → Type 0)
   sessions_node : (core : Core) (ports : List Port) → (after_sessions core ports).node ≡ core.node
   sessions_node core ports = cond_both _ _ core (λ (c : Core). c.node ≡ core.node) (λ _. refl) (λ _. refl)
 
-  releases_so : (cs : List Creation) → AllByRecursion (NotesSo P) (map (λ (c : Creation). Releases c.asker) cs)
-  releases_so [] = tt
-  releases_so (c ∷ cs) = (tt, releases_so cs)
-
-  owed_so : (r : Response) (o : Option Creation) → AllByRecursion (NotesSo P) (owed r o)
-  owed_so r None = tt
-  owed_so r (Some c) = (tt, (tt, tt))
-
-  synced_so : (core : Core) (input : NodeInput) (p : Port) → AllByRecursion (NotesSo P) (synced core input p)
-  synced_so core input p = go (input_at input p) refl where
-    either : (b : Bool) (d : List Deed) → AllByRecursion (NotesSo P) d → AllByRecursion (NotesSo P) (cond b d [])
-    either true d x = x
-    either false d x = tt
-
-    go : (o : Option LinkInput) → input_at input p ≡ o → AllByRecursion (NotesSo P) (synced core input p)
-    go None q = rw q tt
-    go (Some i) q = by (report p.side i).sync refl where
-      by : (o : Option ℕ) → (report p.side i).sync ≡ o → AllByRecursion (NotesSo P) (synced core input p)
-      by None e = rw (q, e) tt
-      by (Some id) e = rw (q, e) (either _ (Commits (Sync p.desk.host id) ∷ []) (tt, tt))
-
   pub steps_note : (input : NodeInput) (w : Work) → Notes w → Notes (steps input w)
   steps_note input w a =
       let came : Work = times_out input (all_come input w) in
@@ -366,12 +342,8 @@ module _ (P : Entry → Type 0) (n : ℕ) (who : Side) (At : ℕ → Type 0)
       let syncs : List Deed = flat_map (synced w.core input) w.ports in
       let owing : List Deed = all_owed left in
       let one : Notes (all_done 0 syncs (all_done 0 freed begun)) =
-      all_do 0 syncs (all_done 0 freed begun) (all_flat (NotesSo P) (synced w.core input) (synced_so w.core input) w.ports)
-      (all_do 0 freed begun (releases_so _) first) in
-      let owed_all : AllByRecursion (NotesSo P) owing =
-      AllByRecursion-append (NotesSo P) _ _
-      (all_flat (NotesSo P) (λ p. owed response.NotConnected (asked_at p)) (λ p. owed_so response.NotConnected (asked_at p))
-      (filter (λ p. p.ended) left))
-      (all_flat (NotesSo P) (λ p. owed response.Timeout (asked_at p)) (λ p. owed_so response.Timeout (asked_at p)) (filter (λ p. p.late) left)) in
+      all_do 0 syncs (all_done 0 freed begun) (all_synced_hold (NotesSo P) (λ host id. tt) w.core input w.ports)
+      (all_do 0 freed begun (forgotten_hold (NotesSo P) (λ asker. tt) came.ports) first) in
+      let owed_all : AllByRecursion (NotesSo P) owing = all_owed_hold (NotesSo P) (λ asker. tt) (λ to r. tt) left in
       unless passes (unless_cut (all_done 0 owing) (all_done 0 syncs (all_done 0 freed begun))) (λ c. passes_all _ c)
       (unless (all_done 0 owing) (all_done 0 syncs (all_done 0 freed begun)) (λ c. all_do 0 owing _ owed_all c) one)

@@ -1,7 +1,7 @@
 -- Which deeds of a message set REC_ERROR: those of a command that sets it, at its turn on a pipe to the link management gate, which
 -- is answered by ANY_OK next. Where such a command isn't carried out, it is answered otherwise, or dropped.
-use Rattle.std.proofs.Common.{◌≡◌, ℕ, ◌&&◌, ◌||◌, Bool, true, false, not, cond, eqb, List, [], ◌∷◌, ◌++◌, map, sym, refl, ap, ◌∙◌, subst}
-use Rattle.std.specs.Prelude.{Option, Some, None, Result, Ok, Err, is_some, slice_get, length, ◌+◌}
+use Rattle.std.proofs.Common.{◌≡◌, ℕ, ◌&&◌, ◌||◌, Bool, true, false, not, cond, eqb, List, [], ◌∷◌, sym, refl, ap, ◌∙◌, subst}
+use Rattle.std.specs.Prelude.{Option, Some, None, Result, Ok, Err}
 use Rattle.std.specs.List.{AllByRecursion}
 use Rattle.std.specs.Option.{option_map_or}
 use Rattle.std.proofs.lemmas.Bool.{cond_both, eqb-true, true≢false}
@@ -14,28 +14,23 @@ use Rattle.hcp_packet.specs.declared.MessageKind.{MessageKind}
 use Rattle.hcp_packet.specs.declared.MessageKind.TheVariants.{Command as IsCommand, Event as IsEvent, Response as IsResponse}
 use Rattle.hcp_packet.specs.declared.MessageFault.{MessageFault}
 use Rattle.hcp_packet.specs.MessageHeader.{header_of}
-use Rattle.pipe_table.specs.declared.row.PipeRow.{PipeRow}
-use Rattle.pipe_table.specs.PipeRows.{pipe_at}
-use Rattle.hci_tables.specs.declared.command.Command.{Command}
-use Rattle.hci_tables.specs.declared.command.Command.TheVariants.{Create, Delete, Clear, Set}
-use Rattle.hci_tables.specs.Commands.{is_host}
 use Rattle.hci_tables.specs.Tables.{HciTables, is_opened}
 use Rattle.gate_answers.specs.declared.response.Response.{Response}
 use Rattle.gate_answers.specs.declared.response.Response.TheVariants as response
-use Rattle.gate_answers.specs.Answers.{answer_of, first_of, tests_to_get, value_in, instruction_in, body_in}
+use Rattle.gate_answers.specs.Answers.{answer_of, first_of, tests_to_get, value_in, body_in}
 use Rattle.gate_admin.specs.declared.view.LinkView.{LinkView}
 use Rattle.gate_admin.specs.declared.decision.Decision.{Decision}
 use Rattle.gate_admin.specs.declared.decision.Decision.TheVariants.{Answer, Commit, Ask}
 use Rattle.gate_admin.specs.View.{has, hosts_where}
 use Rattle.gate_admin.specs.Decide.{decided, far_end, answers}
 use Rattle.gate_link.specs.Link.{link_served, tests_to_set_errors, link_unless_refused, count_in, count_bytes}
-use Rattle.gate_identity.specs.Identity.{identity_served}
 use Rattle.link_machine.specs.Machine.{Message}
-use Rattle.node_machine.specs.Parts.{Init, Creation, Notice, Core, Port, Deed}
-use Rattle.node_machine.specs.Parts.Deed.{Commits, Sends, Tells, Drops, SetsErrors, Hears, Ends}
-use Rattle.node_machine.specs.Carrying.{end_of_node, port_at, finds_room}
-use Rattle.node_machine.specs.Controller.{has_link, creation_in, asks_for, view_for, answers_on, commit_deeds, decision_deeds, link_deeds, gates, gate_deeds, own_gate, goes_through, served_at, agreed, creation_deeds, notice_deeds, response_at, is_command_message, relayed_to, unrelayed, event_deeds, unless_asking, if_notice, kind_deeds, own_deeds, relay_deeds, deeds_by_relay, command_deeds, controller_deeds}
-use Rattle.node_machine.specs.HostReplies.{replies, accepts, is_welcome, pipe_named_in, pipe_created, pipe_deleted, pipes_cleared, notified_deeds, orders_of, is_same, learns, init_agreed, init_deeds, deleted_by, created_by, learned, response_deeds, is_gate, gate_of_pipe, ordered_deeds, host_deeds}
+use Rattle.node_machine.specs.Parts.{Core, Port, Deed}
+use Rattle.node_machine.specs.Parts.Deed.{Sends, Tells, Drops, SetsErrors, Ends}
+use Rattle.node_machine.specs.Carrying.{port_at}
+use Rattle.node_machine.specs.Controller.{has_link, asks_for, view_for, decision_deeds, link_deeds, own_gate, goes_through, served_at, relayed_to, unless_asking, kind_deeds, own_deeds, deeds_by_relay, command_deeds, controller_deeds}
+use Rattle.node_machine.specs.HostReplies.{ordered_deeds, host_deeds}
+use Rattle.node_laws.proofs.Walks.{Plain, OfDecision, OfHost, anyone, all_of_controller, all_of_host}
 use Rattle.view_readings.specs.Errors.{errors_set_by}
 
 -- an init ends so
@@ -53,14 +48,6 @@ IsUnset _ = Unit {0}
 
 abbrev pub AreUnset : List Deed → Type 0
 AreUnset deeds = AllByRecursion IsUnset deeds
-
-unset-append : (ds es : List Deed) → AreUnset ds → AreUnset es → AreUnset (ds ++ es)
-unset-append [] es a b = b
-unset-append (d ∷ ds) es a b = (a.0, unset-append ds es a.1 b)
-
-either : (b : Bool) (d e : List Deed) → AreUnset d → AreUnset e → AreUnset (cond b d e)
-either true d e x y = x
-either false d e x y = y
 
 -- ## The link management gate
 
@@ -95,101 +82,6 @@ set_is errors instruction body v sets = by (eqb instruction 1) (eqb instruction 
     tests (Some r) z = let none : None ≡ Some v = rw (p, q, z) at s in absurd (cc none)
   by false false p q s = let none : None ≡ Some v = rw (p, q) at s in absurd (cc none)
 
-link_unset : (h pipe errors instruction : ℕ) (body : List ℕ) → (link_served 0 instruction body).1 ≡ None
-    → AreUnset (link_deeds h pipe (link_served errors instruction body))
-link_unset h pipe errors instruction body none =
-    by (link_served errors instruction body).0 (link_served errors instruction body).1 (set_same errors instruction body ∙ none) where
-      by : (answer : List ℕ) (o : Option ℕ) → o ≡ None → AreUnset (link_deeds h pipe (answer, o))
-      by answer None e = (tt, tt)
-      by answer (Some v) e = absurd (cc e)
-
--- ## The controller
-
-told : (message : List ℕ) (hosts : List ℕ) → AreUnset (map (λ x. Tells x message) hosts)
-told message [] = tt
-told message (x ∷ hosts) = (tt, told message hosts)
-
-commit_unset : (room : Bool) (h pipe : ℕ) (c : Command) (answer : List ℕ) (behind : List Deed) → AreUnset behind
-    → AreUnset (commit_deeds room h pipe c answer behind)
-commit_unset true h pipe c answer behind fine = (tt, (tt, (tt, fine)))
-commit_unset false h pipe c answer behind fine = (tt, tt)
-
-agreed_unset : (flag : Bool) (c : Creation) → AreUnset (agreed flag c)
-agreed_unset true c = (tt, (tt, (tt, (tt, (tt, tt)))))
-agreed_unset false c = (tt, (tt, (tt, tt)))
-
-creation_unset : (core : Core) (code : ℕ) (o : Option Creation) → AreUnset (creation_deeds core code o)
-creation_unset core code None = (tt, tt)
-creation_unset core code (Some c) = agreed_unset (eqb code 0 && finds_room core c.command) c
-
-notice_unset : (core : Core) (code : ℕ) (n : Option Notice) → AreUnset (notice_deeds core code n)
-notice_unset core code None = (tt, tt)
-notice_unset core code (Some n) = creation_unset core code (creation_in (Some n))
-
-response_unset : (core : Core) (code : ℕ) (o : Option Port) → AreUnset (response_at core code o)
-response_unset core code None = (tt, tt)
-response_unset core code (Some p) = notice_unset core code p.desk.notice
-
-decision_unset : (core : Core) (h pipe : ℕ) (d : Decision) → AreUnset (decision_deeds core h pipe d)
-decision_unset core h pipe (Answer answer) = (tt, tt)
-decision_unset core h pipe (Commit c answer tell notice) =
-    commit_unset (finds_room core c) h pipe c answer.items _ (told notice.items (hosts_where (has tell)))
-decision_unset core h pipe (Ask asked notice c answer) = (tt, tt)
-
-event_unset : (t : HciTables) (h : ℕ) (m : Message) → AreUnset (event_deeds t h m)
-event_unset t h m = cond_both _ (Sends h m ∷ []) (Drops m.0 ∷ []) AreUnset (λ _. (tt, tt)) (λ _. (tt, tt))
-
-unrelayed_unset : (up : Bool) (h : ℕ) (m : Message) → AreUnset (unrelayed up h m)
-unrelayed_unset up h m =
-    cond_both (up && is_command_message m.1) (answers_on h m.0 (answer_of response.NotConnected [])) (Drops m.0 ∷ []) AreUnset (λ _. (tt, tt)) (λ _. (tt, tt))
-
-relay_unset : (ports : List Port) (h : ℕ) (m : Message) (other : ℕ) (up : Bool) → AreUnset (relay_deeds ports h m other up)
-relay_unset ports h m other true = (tt, tt)
-relay_unset ports h m other false = unrelayed_unset (has_link ports h) h m
-
--- the pipe leads to the link management gate
-abbrev pub is_link_gate : Option ℕ → Bool
-is_link_gate gate = option_map_or (λ g. eqb g 6) gate false
-
--- the command sets nothing, or its pipe leads elsewhere
-abbrev pub SetsNone : Bool → Option ℕ → Type 0
-SetsNone here sets = cond here sets None ≡ None
-
-gate_unset : (h gate errors pipe instruction : ℕ) (body : List ℕ) → SetsNone (eqb gate 6) (link_served 0 instruction body).1
-    → AreUnset (gate_deeds gate errors h pipe instruction body)
-gate_unset h gate errors pipe instruction body none = by (eqb gate 6) none where
-  answered : List Deed
-  answered = answers_on h pipe (identity_served gates instruction body)
-
-  neither : List Deed
-  neither = answers_on h pipe (answer_of response.CommandNotSupported [])
-
-  by : (b : Bool) → SetsNone b (link_served 0 instruction body).1
-      → AreUnset (cond b (link_deeds h pipe (link_served errors instruction body)) (cond (eqb gate 5) answered neither))
-  by true none = link_unset h pipe errors instruction body none
-  by false none = either (eqb gate 5) answered neither (tt, tt) (tt, tt)
-
-served_unset : (core : Core) (v : LinkView) (h pipe instruction : ℕ) (body : List ℕ) (gate : Option ℕ)
-    → SetsNone (is_link_gate gate) (link_served 0 instruction body).1
-    → AreUnset (served_at core v h pipe instruction body gate)
-served_unset core v h pipe instruction body None none = decision_unset core h pipe (decided core.tables v h pipe instruction body)
-served_unset core v h pipe instruction body (Some gate) none = gate_unset h gate v.errors pipe instruction body none
-
-asking_unset : (core : Core) (ports : List Port) (h : ℕ) (m : Message) (instruction : ℕ) (asks : Bool)
-    → SetsNone (is_link_gate (own_gate core.tables h m.0)) (link_served 0 instruction (body_in m.1)).1
-    → AreUnset (unless_asking core ports h m instruction asks)
-asking_unset core ports h m instruction true none = (tt, tt)
-asking_unset core ports h m instruction false none =
-    served_unset core (view_for core.tables ports h) h m.0 instruction (body_in m.1) (cond (goes_through core.tables h m.0 instruction) (own_gate
-    core.tables h m.0) None) (by (goes_through core.tables h m.0 instruction)) where
-      by : (b : Bool) → SetsNone (is_link_gate (cond b (own_gate core.tables h m.0) None)) (link_served 0 instruction (body_in m.1)).1
-      by true = none
-      by false = refl
-
-notices_unset : (core : Core) (ports : List Port) (h : ℕ) (m : Message) (code : ℕ) (here : Bool) → AreUnset (if_notice core ports h m code here)
-notices_unset core ports h m code true = response_unset core code (port_at ports h)
-notices_unset core ports h m code false = (tt, tt)
-
 -- what a message sets by its header
 abbrev set_by_header : List ℕ → Result (MessageKind × ℕ) MessageFault → Option ℕ
 set_by_header message (Ok (IsCommand, instruction)) = (link_served 0 instruction (body_in message)).1
@@ -203,128 +95,47 @@ set_by_is message = by (header_of message) refl where
   by (Ok (IsResponse, code)) q = rw q refl
   by (Err fault) q = rw q refl
 
-kind_unset : (core : Core) (ports : List Port) (h : ℕ) (m : Message) (header : Result (MessageKind × ℕ) MessageFault)
-    → SetsNone (is_link_gate (own_gate core.tables h m.0)) (set_by_header m.1 header) → AreUnset (kind_deeds core ports h m header)
-kind_unset core ports h m (Ok (IsCommand, instruction)) none = asking_unset core ports h m instruction (eqb m.0 1 && asks_for ports h) none
-kind_unset core ports h m (Ok (IsEvent, instruction)) none = event_unset core.tables h m
-kind_unset core ports h m (Ok (IsResponse, code)) none = notices_unset core ports h m code (eqb m.0 1)
-kind_unset core ports h m (Err fault) none = (tt, tt)
+-- the pipe leads to the link management gate
+abbrev pub is_link_gate : Option ℕ → Bool
+is_link_gate gate = option_map_or (λ g. eqb g 6) gate false
 
-own_unset : (core : Core) (ports : List Port) (h : ℕ) (m : Message) (up : Bool)
-    → SetsNone (is_link_gate (own_gate core.tables h m.0)) (errors_set_by m.1) → AreUnset (own_deeds core ports h m up)
-own_unset core ports h m true none =
-    kind_unset core ports h m (header_of m.1) (ap (λ o. cond (is_link_gate (own_gate core.tables h m.0)) o None) (sym (set_by_is m.1)) ∙ none)
-own_unset core ports h m false none = (tt, tt)
+-- the command sets nothing, or its pipe leads elsewhere
+abbrev pub SetsNone : Bool → Option ℕ → Type 0
+SetsNone here sets = cond here sets None ≡ None
+
+-- a command that sets nothing doesn't set this value
+sets_nothing : (errors n value : ℕ) (m : Message) → header_of m.1 ≡ Ok (IsCommand, n) → errors_set_by m.1 ≡ None
+    → (link_served errors n (body_in m.1)).1 ≡ Some value → ⊥
+sets_nothing errors n value m command none is =
+    let none_here : (link_served 0 n (body_in m.1)).1 ≡ None = sym (set_by_is m.1 ∙ ap (set_by_header m.1) command) ∙ none in
+    let both : Some value ≡ None = sym is ∙ (set_same errors n (body_in m.1) ∙ none_here) in
+    cc both
+
+-- ## Other messages
+
+plain : Plain IsUnset
+plain = record { sends = λ to x. tt; says_ok = tt; releases = λ asker. tt; is_answered = tt; drops = λ pid. tt }
+
+own : (core : Core) → OfHost IsUnset core
+own core = record { commits = λ c. tt; hears = tt; goes_on = λ i. tt; orders = λ i k order is. tt; same = tt; made = λ count. tt; failed = λ code. tt }
+
+decision_unset : (h : ℕ) (d : Decision) → OfDecision IsUnset h d
+decision_unset h (Answer answer) = tt
+decision_unset h (Commit c answer tell notice) = (tt, anyone (λ y. IsUnset (Tells y notice.items)) (λ y. tt) (hosts_where (has tell)))
+decision_unset h (Ask asked notice c answer) = tt
 
 pub controller_unset : (core : Core) (ports : List Port) (h : ℕ) (m : Message)
     → SetsNone (is_link_gate (own_gate core.tables h m.0)) (errors_set_by m.1) → AreUnset (controller_deeds core ports h m)
-controller_unset core ports h m none = by (relayed_to core.tables h m) where
-  by : (o : Option ℕ) → AreUnset (deeds_by_relay core ports h m o)
-  by (Some other) = relay_unset ports h m other (has_link ports other)
-  by None = own_unset core ports h m (has_link ports h) none
-
--- ## Hosts
-
-replies_unset : (core : Core) (r : Response) → AreUnset (replies core r)
-replies_unset core r = (tt, tt)
-
-accepts_unset : (core : Core) (c : Command) → AreUnset (accepts core c)
-accepts_unset core c = commit_unset (finds_room core c) core.node 1 c (answer_of response.Ok []) [] tt
-
-created_unset : (core : Core) (body : List ℕ) → AreUnset (pipe_created core body)
-created_unset core body = by (pipe_named_in body) refl where
-  by : (o : Option PipeRow) → pipe_named_in body ≡ o → AreUnset (pipe_created core body)
-  by None q = rw q (tt, tt)
-  by (Some row) q = rw q (either (is_welcome core.node row) (accepts core (Create row)) (replies core response.NotOk) (accepts_unset core (Create row))
-      (replies_unset core response.NotOk))
-
-deleted_unset : (core : Core) (body : List ℕ) → AreUnset (pipe_deleted core body)
-deleted_unset core [] = (tt, tt)
-deleted_unset core (pid ∷ []) = either (is_some (pipe_at core.tables.rows pid)) (accepts core (Delete pid)) (replies core response.Ok)
-    (accepts_unset core (Delete pid)) (replies_unset core response.Ok)
-deleted_unset core (pid ∷ x ∷ body) = (tt, tt)
-
-cleared_unset : (core : Core) (body : List ℕ) → AreUnset (pipes_cleared core body)
-cleared_unset core [] = (tt, tt)
-cleared_unset core (x ∷ []) = either (is_host x) (accepts core (Clear x)) (replies core response.CommandParameterUnknown) (accepts_unset core (Clear x))
-    (replies_unset core response.CommandParameterUnknown)
-cleared_unset core (x ∷ y ∷ body) = (tt, tt)
-
-notified_unset : (core : Core) (instruction : ℕ) (body : List ℕ) → AreUnset (notified_deeds core instruction body)
-notified_unset core instruction body =
-    either (eqb instruction 18) (pipe_created core body) _ (created_unset core body)
-    (either (eqb instruction 19) (pipe_deleted core body) _ (deleted_unset core body)
-    (either (eqb instruction 21) (pipes_cleared core body) _ (cleared_unset core body) (tt, tt)))
-
-learns_unset : (core : Core) (c : Command) → AreUnset (learns core c)
-learns_unset core c = cond_both _ (Commits c ∷ []) [] AreUnset (λ _. (tt, tt)) (λ _. tt)
-
-init_unset : (core : Core) (code : ℕ) (value : List ℕ) (o : Option Init) → AreUnset (init_deeds core code value o)
-init_unset core code value None = tt
-init_unset core code value (Some i) =
-    cond_both (eqb code 0) (init_agreed core i value) (Ends (InitFailed (end_of_node core core.node) code) ∷ []) AreUnset (λ _. go
-    (is_same core i value) refl)
-    (λ _. (tt, tt)) where
-      by : (o : Option (List ℕ)) → slice_get (orders_of i) (i.answered + 1) ≡ o → is_same core i value ≡ false → AreUnset (init_agreed core i value)
-      by None q e = rw (e, q) (unset-append (learns core (Set core.node 0 1 (record { items = i.identity }))) (Ends (InitMade (end_of_node core core.node)
-          (length i.pipes)) ∷ []) (learns_unset core (Set core.node 0 1 (record { items = i.identity }))) (tt, tt))
-      by (Some order) q e = rw (e, q) (tt, (tt, tt))
-
-      go : (b : Bool) → is_same core i value ≡ b → AreUnset (init_agreed core i value)
-      go true e = rw e (tt, tt)
-      go false e = by (slice_get (orders_of i) (i.answered + 1)) refl e
-
-learned_unset : (core : Core) (order value : List ℕ) → AreUnset (learned core order value)
-learned_unset core order value =
-    either (eqb (instruction_in order) 16) (created_by core value) _ (by_row (pipe_named_in value))
-    (either (eqb (instruction_in order) 17) (deleted_by core (body_in order)) _ (by_body (body_in order))
-    (either (eqb (instruction_in order) 20) (learns core (Clear core.node)) [] (learns_unset core (Clear core.node)) tt)) where
-      by_row : (o : Option PipeRow) → AreUnset (option_map_or (λ row. learns core (Create row)) o [])
-      by_row None = tt
-      by_row (Some row) = learns_unset core (Create row)
-
-      by_body : (body : List ℕ) → AreUnset (deleted_by core body)
-      by_body [] = tt
-      by_body (pid ∷ []) = learns_unset core (Delete pid)
-      by_body (pid ∷ x ∷ body) = tt
-
-responses_unset : (core : Core) (code : ℕ) (value : List ℕ) → AreUnset (response_deeds core code value)
-responses_unset core code value = go core.command where
-  by : Option (List ℕ) → List Deed
-  by None = []
-  by (Some order) = Hears ∷ cond (eqb code 0) (learned core order value) [] ++ init_deeds core code value core.init
-
-  go : (o : Option (List ℕ)) → AreUnset (by o)
-  go None = tt
-  go (Some order) = (
-    tt,
-    unset-append (cond (eqb code 0) (learned core order value) []) (init_deeds core code value core.init)
-        (either (eqb code 0) (learned core order value) [] (learned_unset core order value) tt) (init_unset core code value core.init),
-  )
-
-ordered_unset : (core : Core) (errors pipe instruction : ℕ) (body : List ℕ) → SetsNone (eqb pipe 0) (link_served 0 instruction body).1
-    → AreUnset (ordered_deeds core errors pipe instruction body)
-ordered_unset core errors pipe instruction body none =
-    either (eqb pipe 1) (notified_deeds core instruction body) _ (notified_unset core instruction body) (by (eqb pipe 0) none) where
-      by : (b : Bool) → SetsNone b (link_served 0 instruction body).1
-          → AreUnset
-          (cond b (link_deeds core.node 0 (link_served errors instruction body)) (cond (is_gate 5 (gate_of_pipe core pipe)) (answers_on core.node pipe
-          (identity_served gates instruction body)) []))
-      by true none = link_unset core.node 0 errors instruction body none
-      by false none = either (is_gate 5 (gate_of_pipe core pipe)) (answers_on core.node pipe (identity_served gates instruction body)) [] (tt, tt) tt
+controller_unset core ports h m none =
+    all_of_controller IsUnset plain core ports h m
+    (λ n. decision_unset h (decided core.tables (view_for core.tables ports h) h m.0 n (body_in m.1))) (λ p c here asked. tt)
+    (λ errors n value command gate is.
+    sets_nothing errors n value m command (subst (λ b. SetsNone b (errors_set_by m.1)) (ap is_link_gate gate) none) is)
 
 pub host_unset : (core : Core) (p : Port) (m : Message) → SetsNone (eqb m.0 0) (errors_set_by m.1) → AreUnset (host_deeds core p m)
-host_unset core p m none = go (is_up p.side.shdlc.phase) (header_of m.1) refl refl where
-  go : (b : Bool) (x : Result (MessageKind × ℕ) MessageFault) → is_up p.side.shdlc.phase ≡ b → header_of m.1 ≡ x → AreUnset (host_deeds core p m)
-  go false x q r = rw q (tt, tt)
-  go true (Ok (IsCommand, n)) q r =
-      let here : SetsNone (eqb m.0 0) (link_served 0 n (body_in m.1)).1 = ap (λ o. cond (eqb m.0 0) o None) (sym (set_by_is m.1 ∙ ap (set_by_header m.1) r))
-      ∙ none in
-      rw (q, r) (ordered_unset core p.desk.errors m.0 n (body_in m.1) here)
-  go true (Ok (IsEvent, n)) q r = rw (q, r) (cond_both _ (Sends core.node m ∷ []) [] AreUnset (λ _. (tt, tt)) (λ _. tt))
-  go true (Ok (IsResponse, n)) q r =
-      rw (q, r) (cond_both (eqb m.0 1) (response_deeds core n (body_in m.1)) [] AreUnset (λ _. responses_unset core n (body_in m.1)) (λ _. tt))
-  go true (Err fault) q r = rw (q, r) tt
+host_unset core p m none =
+    all_of_host IsUnset core plain (own core) p m
+    (λ n value command zero is. sets_nothing p.desk.errors n value m command (subst (λ b. SetsNone b (errors_set_by m.1)) zero none) is)
 
 -- ## Commands that set it
 

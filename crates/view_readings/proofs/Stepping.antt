@@ -1,22 +1,17 @@
 -- A step of a node: what is read of REC_ERROR of its end stays what it keeps.
-use Rattle.std.proofs.Common.{◌≡◌, ℕ, Bool, true, false, cond, List, [], ◌∷◌, map, refl}
+use Rattle.std.proofs.Common.{◌≡◌, ℕ, true, List, [], ◌∷◌, map, refl}
 use Rattle.std.specs.Prelude.{Option, Some, None}
-use Rattle.std.specs.List.{AllByRecursion, flat_map, filter}
+use Rattle.std.specs.List.{AllByRecursion, flat_map}
 use Rattle.std.proofs.lemmas.Bool.{cond_both}
 use Rattle.trace_model.specs.declared.line.End.{End}
-use Rattle.hci_tables.specs.declared.command.Command.TheVariants.{Sync}
-use Rattle.gate_answers.specs.declared.response.Response.{Response}
-use Rattle.gate_answers.specs.declared.response.Response.TheVariants as response
 use Rattle.link_machine.specs.Machine.{LinkInput, report, whole_acked, after_input}
 use Rattle.link_machine.specs.Machine.LinkInput.{Reset}
 use Rattle.link_entries.specs.Entries.{End as Side, Entry as Noted, told}
 use Rattle.link_entries.specs.Entries.Entry.{Up, Down, Active, GaveUp, Acked, Got, Sent}
-use Rattle.node_machine.specs.Parts.{Creation, Core, Port, Work, Deed}
-use Rattle.node_machine.specs.Parts.Deed.{Commits, Releases}
-use Rattle.node_machine.specs.Controller.{asked_at}
+use Rattle.node_machine.specs.Parts.{Core, Port, Work, Deed}
 use Rattle.node_machine.specs.Carrying.{own_side, unless_cut, all_done}
 use Rattle.node_machine.specs.Turns.{passes}
-use Rattle.node_machine.specs.Node.{NodeInput, input_at, has_come, told_at, all_come, with_older, is_late, reset_late, told_late, times_out, forgotten, forgets, owed, all_owed, without_notice, after_sessions, synced, steps}
+use Rattle.node_machine.specs.Node.{NodeInput, input_at, has_come, told_at, all_come, with_older, is_late, reset_late, told_late, times_out, forgotten, forgets, all_owed, without_notice, after_sessions, synced, steps}
 use Rattle.node_machine.specs.Node.NodeInput.{AtEnd, TimePasses}
 use Rattle.view_readings.specs.Errors.{ErrorCount}
 use Rattle.view_readings.proofs.Noting.{IsOwnNote, all_notes, all_flat}
@@ -24,8 +19,8 @@ use Rattle.view_readings.proofs.Calm.{IsStill, notes_still, IsUndamaged}
 use Rattle.view_readings.proofs.Setting.{IsUnset, AreUnset}
 use Rattle.view_readings.proofs.Doing.{Right, note, maps, with_core, unless, unset_fine, all_do}
 use Rattle.view_readings.proofs.Turning.{passes_right}
-use Rattle.registry.proofs.ValueLemmas.{AllByRecursion-append}
 use Rattle.notice_readings.proofs.Steps.{sessions_tables}
+use Rattle.node_laws.proofs.Walks.{forgotten_hold, all_owed_hold, all_synced_hold}
 use Rattle.node_laws.proofs.Ports.{come_host, forgets_host, sessions_node}
 
 own_undamaged : (who : Side) (x : Noted) → IsOwnNote who x → IsUndamaged x
@@ -55,27 +50,6 @@ late_still e core p = cond_both (is_late p) (told_at core p (Some (Reset None)))
 
 -- ## What is owed
 
-releases_unset : (cs : List Creation) → AreUnset (map (λ (c : Creation). Releases c.asker) cs)
-releases_unset [] = tt
-releases_unset (c ∷ cs) = (tt, releases_unset cs)
-
-owed_unset : (r : Response) (o : Option Creation) → AreUnset (owed r o)
-owed_unset r None = tt
-owed_unset r (Some c) = (tt, (tt, tt))
-
-synced_unset : (core : Core) (input : NodeInput) (p : Port) → AreUnset (synced core input p)
-synced_unset core input p = go (input_at input p) refl where
-  either : (b : Bool) (d : List Deed) → AreUnset d → AreUnset (cond b d [])
-  either true d x = x
-  either false d x = tt
-
-  go : (o : Option LinkInput) → input_at input p ≡ o → AreUnset (synced core input p)
-  go None q = rw q tt
-  go (Some i) q = by (report p.side i).sync refl where
-    by : (o : Option ℕ) → (report p.side i).sync ≡ o → AreUnset (synced core input p)
-    by None e = rw (q, e) tt
-    by (Some id) e = rw (q, e) (either _ (Commits (Sync p.desk.host id) ∷ []) (tt, tt))
-
 -- ## Steps
 
 come_errors : (p : Port) (o : Option LinkInput) → (has_come p o).desk.errors ≡ p.desk.errors
@@ -90,26 +64,26 @@ late_errors : (p : Port) → (reset_late p).desk.errors ≡ p.desk.errors
 late_errors p = cond_both (is_late p) (record p { side = after_input p.side (Reset None); late = true }) p (λ q. q.desk.errors ≡ p.desk.errors)
     (λ _. refl) (λ _. refl)
 
-forgets_errors : (ports : List Port) (p : Port) → (forgets ports p).desk.errors ≡ p.desk.errors
+pub forgets_errors : (ports : List Port) (p : Port) → (forgets ports p).desk.errors ≡ p.desk.errors
 forgets_errors ports p = cond_both _ _ p (λ (q : Port). q.desk.errors ≡ p.desk.errors) (λ _. refl) (λ _. refl)
 
 without_host : (p : Port) → (without_notice p).desk.host ≡ p.desk.host
 without_host p = cond_both _ _ p (λ (q : Port). q.desk.host ≡ p.desk.host) (λ _. refl) (λ _. refl)
 
-without_errors : (p : Port) → (without_notice p).desk.errors ≡ p.desk.errors
+pub without_errors : (p : Port) → (without_notice p).desk.errors ≡ p.desk.errors
 without_errors p = cond_both _ _ p (λ (q : Port). q.desk.errors ≡ p.desk.errors) (λ _. refl) (λ _. refl)
 
 module _ (e : End) (hosts : List ℕ) (x0 : ErrorCount) (single : e.at_host ≡ true → hosts ≡ e.link ∷ []) where
   abbrev So : Work → Type 0
   So w = Right e hosts x0 w
 
-  came_right : (input : NodeInput) (w : Work) → So w → So (all_come input w)
+  pub came_right : (input : NodeInput) (w : Work) → So w → So (all_come input w)
   came_right input w r =
       note e hosts x0 (flat_map (λ p. told_at w.core p (input_at input p)) w.ports) (record w { ports = map (λ p. has_come p (input_at input p)) w.ports })
       (all_flat (IsStill e) (λ p. told_at w.core p (input_at input p)) (λ p. come_still e w.core p (input_at input p)) w.ports)
       (maps e hosts x0 (λ p. has_come p (input_at input p)) w (λ p. come_host p (input_at input p)) (λ p. come_errors p (input_at input p)) r)
 
-  timed_right : (input : NodeInput) (w : Work) → So w → So (times_out input w)
+  pub timed_right : (input : NodeInput) (w : Work) → So w → So (times_out input w)
   timed_right (AtEnd h i) w r = r
   timed_right TimePasses w r =
       let v : Work = record w { ports = map with_older w.ports } in
@@ -132,12 +106,9 @@ module _ (e : End) (hosts : List ℕ) (x0 : ErrorCount) (single : e.at_host ≡ 
       let syncs : List Deed = flat_map (synced w.core input) w.ports in
       let owing : List Deed = all_owed left in
       let one : So (all_done 0 syncs (all_done 0 freed begun)) =
-      all_do e hosts x0 0 syncs (all_done 0 freed begun) (unset_fine e hosts x0 0 syncs (all_flat IsUnset (synced w.core input) (synced_unset w.core input)
-      w.ports)) (all_do e hosts x0 0 freed begun (unset_fine e hosts x0 0 freed (releases_unset _)) first) in
-      let owed_all : AreUnset owing =
-      AllByRecursion-append IsUnset _ _ (all_flat IsUnset (λ p. owed response.NotConnected (asked_at p)) (λ p. owed_unset response.NotConnected (asked_at p))
-      (filter (λ p. p.ended) left))
-      (all_flat IsUnset (λ p. owed response.Timeout (asked_at p)) (λ p. owed_unset response.Timeout (asked_at p)) (filter (λ p. p.late) left)) in
+      all_do e hosts x0 0 syncs (all_done 0 freed begun) (unset_fine e hosts x0 0 syncs (all_synced_hold IsUnset (λ host id. tt) w.core input w.ports))
+      (all_do e hosts x0 0 freed begun (unset_fine e hosts x0 0 freed (forgotten_hold IsUnset (λ asker. tt) came.ports)) first) in
+      let owed_all : AreUnset owing = all_owed_hold IsUnset (λ asker. tt) (λ to r. tt) left in
       unless e hosts x0 passes (unless_cut (all_done 0 owing) (all_done 0 syncs (all_done 0 freed begun)))
       (λ on z. passes_right e hosts x0 single (unless_cut (all_done 0 owing) (all_done 0 syncs (all_done 0 freed begun))) on z)
       (unless e hosts x0 (all_done 0 owing) (all_done 0 syncs (all_done 0 freed begun)) (λ on z. all_do e hosts x0 0 owing (all_done 0 syncs

@@ -1,6 +1,6 @@
 -- What a controller knows is what is read.
 use Rattle.std.proofs.Common.{◌≡◌, ℕ, ◌&&◌, ◌||◌, Bool, true, false, cond, eqb, List, [], ◌∷◌, map, sym, refl, ap, ap₂, ◌∙◌, subst}
-use Rattle.std.specs.Prelude.{Option, Some, None, is_none, is_some, not, slice_index}
+use Rattle.std.specs.Prelude.{Option, Some, None, is_some, slice_index}
 use Rattle.std.specs.List.{filter, find, list_any, range_with_len}
 use Rattle.std.specs.Option.{option_map, option_map_or, option_and_then}
 use Rattle.std.proofs.lemmas.Bool.{cond_both, eqb-true, true≢false}
@@ -10,7 +10,7 @@ use Rattle.session_laws.specs.Sessions.{is_up}
 use Rattle.shdlc_core.specs.declared.answers.LinkState.{LinkState}
 use Rattle.shdlc_core.specs.declared.answers.LinkState.TheVariants.{Up, Waiting, Down}
 use Rattle.hci_tables.specs.Tables.{HciTables, is_opened}
-use Rattle.pipe_table.specs.PipeRows.{pipe_at, is_free, lowest_free}
+use Rattle.pipe_table.specs.PipeRows.{lowest_free}
 use Rattle.gate_admin.specs.declared.view.LinkView.{LinkView}
 use Rattle.gate_admin.specs.Decide.{decided}
 use Rattle.gate_admin.specs.View.{hosts_where, mask_of}
@@ -29,7 +29,7 @@ use Rattle.view_readings.specs.Errors.{ErrorsAreRead, errors_in, errors_of}
 use Rattle.cut_laws.specs.Histories.{is_one_of}
 use Rattle.view_readings.specs.Views.{view_at, IsSameView}
 use Rattle.creation_readings.specs.Creations.{is_asked_pipe, asked_pipes}
-use Rattle.creation_readings.proofs.Knowing.{find_same, given_same}
+use Rattle.creation_readings.proofs.Knowing.{given_same}
 use Rattle.node_telling.proofs.Nodes.{link_is}
 
 -- ## Lists
@@ -38,7 +38,7 @@ filter_same : (p q : ℕ → Bool) → ((h : ℕ) → p h ≡ q h) → (hosts : 
 filter_same p q same [] = refl
 filter_same p q same (h ∷ hosts) = ap₂ (λ b l. cond b (h ∷ l) l) (same h) (filter_same p q same hosts)
 
-where_same : (p q : ℕ → Bool) → ((h : ℕ) → p h ≡ q h) → mask_of (hosts_where p) ≡ mask_of (hosts_where q)
+pub where_same : (p q : ℕ → Bool) → ((h : ℕ) → p h ≡ q h) → mask_of (hosts_where p) ≡ mask_of (hosts_where q)
 unfolding hosts_where
 where_same p q same = ap mask_of (filter_same p q same (range_with_len 1 7))
 
@@ -111,7 +111,7 @@ SessionsAreRead t w = (h : ℕ) (s : Site) → site_at w.sites h ≡ Some s → 
 abbrev pub PipesAreRead : List ℕ → List Entry → List Port → Type 0
 PipesAreRead hosts t ports = (pid : ℕ) → list_any (λ p. eqb p pid) (waiting_pipes ports) ≡ list_any (is_asked_pipe t pid) hosts
 
-pipes_same : (t : List Entry) (pid : ℕ) (hosts : List ℕ) → list_any (is_asked_pipe t pid) hosts ≡ list_any (λ p. eqb p pid) (asked_pipes t hosts)
+pub pipes_same : (t : List Entry) (pid : ℕ) (hosts : List ℕ) → list_any (is_asked_pipe t pid) hosts ≡ list_any (λ p. eqb p pid) (asked_pipes t hosts)
 pipes_same t pid [] = refl
 pipes_same t pid (h ∷ hosts) = by (asking_in t h) refl (pipes_same t pid hosts) where
   Same : List ℕ → Type 0
@@ -208,9 +208,6 @@ module _ (t : List Entry) (w : NodeWorld) (r : Running) (runs : w.controller ≡
   }
 
 -- ## What is decided
-
-unfolding lowest_free
-given_same rows a b same = find_same (is_free rows a) (is_free rows b) (λ pid. ap (λ x. is_none (pipe_at rows pid) && not x) (same pid)) (range_with_len 2 110)
 
 pub decided_same : (t : HciTables) (v u : LinkView) (h pipe instruction : ℕ) (body : List ℕ) → IsSameView v u
     → decided t v h pipe instruction body ≡ decided t u h pipe instruction body
