@@ -1,0 +1,11 @@
+pub mod Notes
+pub mod Ends
+pub mod Turnless
+pub mod Walking
+pub mod Passing
+pub mod Behind
+pub mod Replying
+pub mod Roomy
+pub mod Before
+pub mod Counts
+pub mod Waiting

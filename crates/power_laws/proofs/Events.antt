@@ -1,0 +1,362 @@
+-- In each event nothing of a node stands behind its cut.
+use Rattle.std.proofs.Common.{◌≡◌, ℕ, ◌==◌, Bool, true, false, cond, List, [], ◌∷◌, ◌++◌, Option, Some, None, map, refl, ap, sym, subst, ◌∙◌, append-nil, length}
+use Rattle.std.specs.Prelude.{◌&&◌}
+use Rattle.std.specs.List.{AllByRecursion, flat_map}
+use Rattle.std.proofs.lemmas.Bool.{eqb-true, true≢false}
+use Rattle.registry.proofs.ValueLemmas.{AllByRecursion-append as all_append}
+use Rattle.swp_base.specs.InMemory.{Plan}
+use Rattle.trace_model.specs.declared.entry.Entry.{Entry}
+use Rattle.trace_model.specs.declared.line.End.{End}
+use Rattle.journal_laws.specs.Planned.{fails_within, after_planned}
+use Rattle.link_machine.specs.Machine.{Message, LinkInput}
+use Rattle.link_machine.specs.Machine.LinkInput.{Start}
+use Rattle.message_link.specs.Links.{NumberedEnd, Link, Comes, Loss, exchanged, aged, ticks_at_controller}
+use Rattle.message_link.specs.Links.Ending.{GoesOut}
+use Rattle.message_link.specs.Links.Comes.{NextFrame, AsksReset, Starts, NoInput}
+use Rattle.link_entries.specs.Entries.{first_lost, aged_entries}
+use Rattle.link_entries.specs.Entries.End.{Controller, Host}
+use Rattle.history.specs.Follows.{seen_from}
+use Rattle.history.specs.Steps.{entries_for}
+use Rattle.node_machine.specs.Parts.{Running, Port, Work, Deed}
+use Rattle.node_machine.specs.Parts.Deed.{Sends, Orders}
+use Rattle.node_machine.specs.Controller.{is_command_message}
+use Rattle.node_machine.specs.Node.{steps, begins_with, boot_writes}
+use Rattle.node_machine.specs.Node.NodeInput.{AtEnd, TimePasses}
+use Rattle.node_world.specs.World.{Site, NodeWorld, Happening, site_at, link_to, half_in, arrival, wires_for, work_of, frames_noted, comes_to, controller_work, after_controller, controller_does, host_work, after_host, host_does, memory_at, boots, frame_lost, all_aged, ticked_so, is_late_at, turns_at, ending_of, runs_on, controller_ticks, host_ticks, hosts_tick, world_ticks, sending, beginning, input_of, comes_at, end_c, end_h, world_step, node_of}
+use Rattle.node_world.specs.World.Happening.{Boots, IsCut, Gives, Inits, Takes, Loses, Ticks, Resets, Activates, Arms}
+use Rattle.kept_laws.specs.Books.{hosts_of_ends}
+use Rattle.kept_laws.specs.Hosts.{AreDifferent}
+use Rattle.node_telling.specs.Telling.{HasEnds, IfItRuns, hosts_in, IsOrderly}
+use Rattle.node_telling.proofs.Walks.{IsUncut, AreUncut}
+use Rattle.node_telling.proofs.Nodes.{site_host, ports_for, hosts_same}
+use Rattle.node_telling.proofs.Worlds.{site_is}
+use Rattle.node_telling.proofs.Events.{orderly_map, comes_goes}
+use Rattle.power_laws.specs.Powers.{AreNotOf}
+use Rattle.power_laws.proofs.Parts.{IsOwn, AreOwn, AreOver, IsPart, own_not, over_front, over_part, part_own, nothing_part, part_over}
+use Rattle.power_laws.proofs.Links.{links_uncut, links_own, arrival_of_side}
+use Rattle.power_laws.proofs.Doing.{IsEndOf, AreEnds, Runs, Fine, IsMine, deeds_fine}
+use Rattle.power_laws.proofs.Steps.{steps_fine, work_part, frames_none, frames_uncut, frames_own}
+
+-- ## Nodes as a step begins
+
+-- all ends of a controller are its own
+near_ends : (ports : List Port) → AreEnds 0 ports
+near_ends [] = tt
+near_ends (p ∷ ports) = (refl, near_ends ports)
+
+far_end : (h : ℕ) → (h == 0) ≡ false → IsEndOf h h
+far_end h other = rw other refl
+
+near_runs : (r : Running) (plan : Option Plan) (halves : ℕ → NumberedEnd) (es : List Entry) → r.core.node ≡ 0 → AreOwn 0 es → AreUncut es
+    → Runs 0 (work_of r plan halves es)
+near_runs r plan halves es number own uncut = record {
+  on = refl;
+  number = number;
+  ends = near_ends (ports_for halves r.desks);
+  own = own;
+  uncut = uncut;
+}
+
+-- a host's end is its own
+one_end : (h : ℕ) (ports : List Port) → (h == 0) ≡ false → hosts_of_ends ports ≡ h ∷ [] → AreEnds h ports
+one_end h [] other e = absurd (cc e)
+one_end h (p ∷ []) other e = let is : p.desk.host ≡ h = cc in (subst (IsEndOf h) (sym is) (far_end h other), tt)
+one_end h (p ∷ q ∷ ports) other e = let none : q.desk.host ∷ hosts_of_ends ports ≡ [] = cc in absurd (cc none)
+
+far_runs : (h : ℕ) (r : Running) (plan : Option Plan) (halves : ℕ → NumberedEnd) (es : List Entry) → (h == 0) ≡ false → HasEnds h (h ∷ []) r
+    → AreOwn h es → AreUncut es → Runs h (work_of r plan halves es)
+far_runs h r plan halves es other has own uncut = record {
+  on = refl;
+  number = has.number;
+  ends = one_end h (ports_for halves r.desks) other (hosts_same halves r.desks ∙ has.ends);
+  own = own;
+  uncut = uncut;
+}
+
+-- ## Steps
+
+flat_frames_none : (f : Site → List Entry) → ((s : Site) → f s ≡ []) → (sites : List Site) → flat_map f sites ≡ []
+flat_frames_none f none [] = refl
+flat_frames_none f none (s ∷ sites) = ap (λ es. es ++ flat_map f sites) (none s) ∙ flat_frames_none f none sites
+
+flat_all : (P : Entry → Type 0) (f : Site → List Entry) → ((s : Site) → AllByRecursion P (f s)) → (sites : List Site) → AllByRecursion P (flat_map f sites)
+flat_all P f one [] = tt
+flat_all P f one (s ∷ sites) = all_append P (f s) (flat_map f sites) (one s) (flat_all P f one sites)
+
+-- the controller with the frames that go out on these links
+near_part : (v : Work) (wires : Site → Link) (sites : List Site) → Fine 0 v
+    → IsPart 0 (v.entries ++ flat_map (λ (s : Site). frames_noted Controller s.host (wires s) v) sites)
+near_part v wires sites fine =
+    work_part 0 v (flat_map (λ (s : Site). frames_noted Controller s.host (wires s) v) sites) fine
+    (λ off. flat_frames_none (λ (s : Site). frames_noted Controller s.host (wires s) v) (λ s. frames_none Controller s.host (wires s) v off) sites)
+    (flat_all (IsOwn 0) (λ (s : Site). frames_noted Controller s.host (wires s) v) (λ s. frames_own 0 Controller s.host (wires s) v refl) sites)
+    (flat_all IsUncut (λ (s : Site). frames_noted Controller s.host (wires s) v) (λ s. frames_uncut Controller s.host (wires s) v) sites)
+
+far_part : (h : ℕ) (v : Work) (l : Link) → Fine h v → IsPart h (v.entries ++ frames_noted Host h l v)
+far_part h v l fine =
+    work_part h v (frames_noted Host h l v) fine (frames_none Host h l v) (frames_own h Host h l v refl) (frames_uncut Host h l v)
+
+controller_part : (w : NodeWorld) (k : ℕ) (comes : Comes) (f : Work → Work) → ((v : Work) → Runs 0 v → Fine 0 (f v)) → IsOrderly w
+    → IsPart 0 (controller_does w k comes f).1
+controller_part w k comes f does a = go w.controller a.controller
+  where
+    by : Option Running → NodeWorld × List Entry
+    by None = (w, [])
+    by (Some r) = after_controller w k comes (controller_work w r k comes f)
+
+    go : (o : Option Running) → IfItRuns 0 (hosts_in w.sites) o → IsPart 0 (by o).1
+    go None n = nothing_part 0
+    go (Some r) n =
+        let l : Link = link_to w.sites k in
+        let es : List Entry = entries_for k (arrival Controller l comes) in
+        let begun : Work = work_of r w.memory.plan (λ j. half_in (link_to w.sites j) (comes_to k comes j)) es in
+        near_part (f begun) (λ s. wires_for s.link (comes_to k comes s.host)) w.sites
+        (does begun (near_runs r w.memory.plan (λ j. half_in (link_to w.sites j) (comes_to k comes j)) es n.number
+        (links_own 0 k Controller refl (arrival Controller l comes) (arrival_of_side Controller l comes)) (links_uncut k (arrival Controller l comes))))
+
+host_part : (w : NodeWorld) (h : ℕ) (comes : Comes) (f : Work → Work) → ((v : Work) → Runs h v → Fine h (f v)) → IsOrderly w
+    → IsPart h (host_does w h comes f).1
+host_part w h comes f does a = go (site_at w.sites h) refl
+  where
+    by_node : Site → Option Running → NodeWorld × List Entry
+    by_node s None = (w, [])
+    by_node s (Some r) = (
+      record w { sites = map (λ (x : Site). cond (x.host == h) (after_host comes (host_work s r comes f) x) x) w.sites },
+      (host_work s r comes f).entries ++ frames_noted Host h (wires_for (exchanged s.link) comes) (host_work s r comes f),
+    )
+
+    runs : (s : Site) → site_at w.sites h ≡ Some s → (o : Option Running) → IfItRuns s.host (s.host ∷ []) o → IsPart h (by_node s o).1
+    runs s found None n = nothing_part h
+    runs s found (Some r) n =
+        let is : s.host ≡ h = site_host w.sites h s found in
+        let other : (s.host == 0) ≡ false = site_is (λ (x : Site). (x.host == 0) ≡ false) w.sites h s a.hosts found in
+        let off : (h == 0) ≡ false = subst (λ j. (j == 0) ≡ false) is other in
+        let P : ℕ → Type 0 = λ j. HasEnds j (j ∷ []) r in
+        let l : Link = exchanged s.link in
+        let es : List Entry = entries_for s.host (arrival Host l comes) in
+        let Q : ℕ → Type 0 = λ j. AreOwn h (entries_for j (arrival Host l comes)) in
+        far_part h (host_work s r comes f) (wires_for l comes)
+        (does (work_of r s.memory.plan (λ j. half_in l comes) es)
+        (far_runs h r s.memory.plan (λ j. half_in l comes) es off (subst P is n)
+        (subst Q (sym is) (links_own h h Host refl (arrival Host l comes) (arrival_of_side Host l comes))) (links_uncut s.host (arrival Host l comes))))
+
+    go : (o : Option Site) → site_at w.sites h ≡ o → IsPart h (host_does w h comes f).1
+    go None q = rw q (nothing_part h)
+    go (Some s) q = node s.node refl
+      where
+        node : (o : Option Running) → s.node ≡ o → IsPart h (host_does w h comes f).1
+        node None e = rw (q, e) (nothing_part h)
+        node (Some r) e =
+            let n : IfItRuns s.host (s.host ∷ []) s.node = site_is (λ (x : Site). IfItRuns x.host (x.host ∷ []) x.node) w.sites h s a.nodes q in
+            rw (q, e) (runs s q (Some r) (subst (IfItRuns s.host (s.host ∷ [])) e n))
+
+comes_part : (w : NodeWorld) (e : End) (comes : Comes) → IsOrderly w → IsPart (node_of e) (comes_at w e comes).1
+comes_part w e comes a = go (input_of (seen_from e (link_to w.sites e.link)) comes) e.at_host refl
+  where
+    by : Option LinkInput → Bool → NodeWorld × List Entry
+    by None at_host = (w, [])
+    by (Some i) true = host_does w e.link comes (steps (AtEnd e.link i))
+    by (Some i) false = controller_does w e.link comes (steps (AtEnd e.link i))
+
+    go : (o : Option LinkInput) (b : Bool) → e.at_host ≡ b → IsPart (cond e.at_host e.link 0) (by o b).1
+    go None b q = nothing_part _
+    go (Some i) true q =
+        rw q (host_part w e.link comes (steps (AtEnd e.link i)) (λ v r. steps_fine e.link (AtEnd e.link i) v r) a)
+    go (Some i) false q =
+        rw q (controller_part w e.link comes (steps (AtEnd e.link i)) (λ v r. steps_fine 0 (AtEnd e.link i) v r) a)
+
+begins_part : (w : NodeWorld) (h : ℕ) (deeds : List Deed) → AllByRecursion (IsMine h h) deeds → IsOrderly w
+    → IsPart h (host_does w h NoInput (begins_with h deeds)).1
+begins_part w h deeds mine a = host_part w h NoInput (begins_with h deeds) (λ v r. deeds_fine h h deeds v mine r) a
+
+sending_mine : (h : ℕ) (m : Message) → AllByRecursion (IsMine h h) (sending h m)
+sending_mine h m = go (m.0 == 1 && is_command_message m.1)
+  where
+    go : (b : Bool) → AllByRecursion (IsMine h h) (cond b (Orders m.1 ∷ []) (Sends h m ∷ []))
+    go true = (tt, tt)
+    go false = (tt, tt)
+
+-- ## Ticks
+
+near_tick : (w : NodeWorld) → IsOrderly w → IsPart 0 (controller_ticks w).1
+near_tick w a = go w.controller a.controller
+  where
+    after_work : Work → NodeWorld × List Entry
+    after_work v = (
+      record {
+        memory = after_planned v.writes w.memory;
+        controller = runs_on v;
+        sites = map (λ (s : Site). record s { link = ticked_so s.link (is_late_at v s.host) (turns_at v s.host) (ending_of v) }) w.sites;
+      },
+      v.entries ++ flat_map (λ (s : Site). frames_noted Controller s.host s.link v) w.sites,
+    )
+
+    by : Option Running → NodeWorld × List Entry
+    by None = (record w { sites = map (λ (s : Site). record s { link = ticks_at_controller s.link [] GoesOut }) w.sites }, [])
+    by (Some r) = after_work (steps TimePasses (work_of r w.memory.plan (λ h. (link_to w.sites h).controller) []))
+
+    go : (o : Option Running) → IfItRuns 0 (hosts_in w.sites) o → IsPart 0 (by o).1
+    go None n = nothing_part 0
+    go (Some r) n =
+        let begun : Work = work_of r w.memory.plan (λ h. (link_to w.sites h).controller) [] in
+        near_part (steps TimePasses begun) (λ s. s.link) w.sites
+        (steps_fine 0 TimePasses begun (near_runs r w.memory.plan (λ h. (link_to w.sites h).controller) [] n.number tt tt))
+
+far_tick : (s : Site) → (s.host == 0) ≡ false → IfItRuns s.host (s.host ∷ []) s.node → IsPart s.host (host_ticks s).1
+far_tick s other runs = go s.node refl runs
+  where
+    go : (o : Option Running) → s.node ≡ o → IfItRuns s.host (s.host ∷ []) o → IsPart s.host (host_ticks s).1
+    go None q n = rw q (nothing_part s.host)
+    go (Some r) q n =
+        let begun : Work = work_of r s.memory.plan (λ h. s.link.host) [] in
+        rw q (far_part s.host (steps TimePasses begun) (exchanged s.link)
+        (steps_fine s.host TimePasses begun (far_runs s.host r s.memory.plan (λ h. s.link.host) [] other n tt tt)))
+
+abbrev AreNodes : List Site → Type 0
+AreNodes sites = AllByRecursion (λ (s : Site). ((s.host == 0) ≡ false) × IfItRuns s.host (s.host ∷ []) s.node) sites
+
+both_nodes : (sites : List Site) → AllByRecursion (λ (s : Site). (s.host == 0) ≡ false) sites
+    → AllByRecursion (λ (s : Site). IfItRuns s.host (s.host ∷ []) s.node) sites → AreNodes sites
+both_nodes [] a b = tt
+both_nodes (s ∷ sites) a b = ((a.0, b.0), both_nodes sites a.1 b.1)
+
+-- hosts with other numbers note nothing of a node
+others_tick : (n : ℕ) (sites : List Site) → AllByRecursion (λ h. (h == n) ≡ false) (hosts_in sites) → AreNodes sites → AreNotOf n (hosts_tick sites).1
+others_tick n [] off a = tt
+others_tick n (s ∷ sites) off a =
+    all_append _ (host_ticks s).1 (hosts_tick sites).1
+    (own_not s.host n (host_ticks s).1 off.0 (part_own s.host (host_ticks s).1 (far_tick s a.0.0 a.0.1)))
+    (others_tick n sites off.1 a.1)
+
+hosts_over : (sites : List Site) → AreDifferent (hosts_in sites) → AreNodes sites → AreOver (hosts_tick sites).1
+hosts_over [] d a = tt
+hosts_over (s ∷ sites) d a =
+    over_part s.host (host_ticks s).1 (hosts_tick sites).1 (far_tick s a.0.0 a.0.1) (others_tick s.host sites d.0 a.1) (hosts_over sites d.1 a.1)
+
+none_zero : (sites : List Site) → AllByRecursion (λ (s : Site). (s.host == 0) ≡ false) sites → AllByRecursion (λ h. (h == 0) ≡ false) (hosts_in sites)
+none_zero [] a = tt
+none_zero (s ∷ sites) a = (a.0, none_zero sites a.1)
+
+-- the sites behind the tick of the controller
+ticked_orderly : (w : NodeWorld) → IsOrderly w → (P : List Site → Type 0)
+    → ((f : Site → Site) → ((s : Site) → (f s).host ≡ s.host) → ((s : Site) → (f s).node ≡ s.node) → P (map f w.sites))
+    → P (controller_ticks w).0.sites
+ticked_orderly w a P one = go w.controller
+  where
+    after_work : Work → NodeWorld × List Entry
+    after_work v = (
+      record {
+        memory = after_planned v.writes w.memory;
+        controller = runs_on v;
+        sites = map (λ (s : Site). record s { link = ticked_so s.link (is_late_at v s.host) (turns_at v s.host) (ending_of v) }) w.sites;
+      },
+      v.entries ++ flat_map (λ (s : Site). frames_noted Controller s.host s.link v) w.sites,
+    )
+
+    by : Option Running → NodeWorld × List Entry
+    by None = (record w { sites = map (λ (s : Site). record s { link = ticks_at_controller s.link [] GoesOut }) w.sites }, [])
+    by (Some r) = after_work (steps TimePasses (work_of r w.memory.plan (λ h. (link_to w.sites h).controller) []))
+
+    go : (o : Option Running) → P (by o).0.sites
+    go None = one (λ (s : Site). record s { link = ticks_at_controller s.link [] GoesOut }) (λ s. refl) (λ s. refl)
+    go (Some r) =
+        let v : Work = steps TimePasses (work_of r w.memory.plan (λ h. (link_to w.sites h).controller) []) in
+        one (λ (s : Site). record s { link = ticked_so s.link (is_late_at v s.host) (turns_at v s.host) (ending_of v) }) (λ s. refl) (λ s. refl)
+
+aged_uncut : (sites : List Site)
+    → AreUncut (flat_map (λ (s : Site). entries_for s.host (aged_entries Controller s.link.to_controller ++ aged_entries Host s.link.to_host)) sites)
+aged_uncut sites =
+    flat_all IsUncut (λ (s : Site). entries_for s.host (aged_entries Controller s.link.to_controller ++ aged_entries Host s.link.to_host))
+    (λ s. links_uncut s.host (aged_entries Controller s.link.to_controller ++ aged_entries Host s.link.to_host)) sites
+
+ticks_over : (w : NodeWorld) → IsOrderly w → AreOver (world_ticks w).1
+ticks_over w a =
+    over_front (all_aged w).1 ((controller_ticks old).1 ++ (hosts_tick near).1) (aged_uncut w.sites)
+    (over_part 0 (controller_ticks old).1 (hosts_tick near).1 (near_tick old b) facts.0 facts.1)
+  where
+    old : NodeWorld
+    old = (all_aged w).0
+
+    b : IsOrderly old
+    b = orderly_map w w.memory w.controller (λ (x : Site). record x { link = aged x.link }) (λ x. refl) a a.controller (λ x n. n)
+
+    near : List Site
+    near = (controller_ticks old).0.sites
+
+    facts : AreNotOf 0 (hosts_tick near).1 × AreOver (hosts_tick near).1
+    facts = ticked_orderly old b (λ sites. AreNotOf 0 (hosts_tick sites).1 × AreOver (hosts_tick sites).1) (λ f host node.
+        let c : IsOrderly (record old { controller = None; sites = map f old.sites }) =
+        orderly_map old old.memory None f host b tt (λ s n. subst (IfItRuns s.host (s.host ∷ [])) (sym (node s)) n) in
+        let nodes : AreNodes (map f old.sites) = both_nodes (map f old.sites) c.hosts c.nodes in
+        (others_tick 0 (map f old.sites) (none_zero (map f old.sites) c.hosts) nodes, hosts_over (map f old.sites) c.different nodes))
+
+-- ## Events
+
+boots_over : (w : NodeWorld) (n : ℕ) → AreOver (boots w n).1
+boots_over w n = go (fails_within (length (boot_writes (memory_at w n).content)) (memory_at w n).plan) refl
+  where
+    go : (b : Bool) → fails_within (length (boot_writes (memory_at w n).content)) (memory_at w n).plan ≡ b → AreOver (boots w n).1
+    go true q = rw q (tt, tt)
+    go false q = rw q (tt, tt)
+
+uncut_over : (es : List Entry) → AreUncut es → AreOver es
+uncut_over es u = subst AreOver (append-nil es) (over_front es [] u tt)
+
+lost_over : (w : NodeWorld) (e : End) (why : Loss) → AreOver (frame_lost w e why).1
+lost_over w e why = go e.at_host refl
+  where
+    go : (b : Bool) → e.at_host ≡ b → AreOver (frame_lost w e why).1
+    go true q = rw q (uncut_over (entries_for e.link (first_lost Host why (link_to w.sites e.link).to_host))
+        (links_uncut e.link (first_lost Host why (link_to w.sites e.link).to_host)))
+    go false q = rw q (uncut_over (entries_for e.link (first_lost Controller why (link_to w.sites e.link).to_controller))
+        (links_uncut e.link (first_lost Controller why (link_to w.sites e.link).to_controller)))
+
+-- no host has the number of the controller
+no_site : (sites : List Site) (h : ℕ) → (h == 0) ≡ true → AllByRecursion (λ (s : Site). (s.host == 0) ≡ false) sites → site_at sites h ≡ None
+no_site [] h zero a = refl
+no_site (s ∷ sites) h zero a = go (s.host == h) refl (no_site sites h zero a.1)
+  where
+    go : (b : Bool) → (s.host == h) ≡ b → site_at sites h ≡ None → site_at (s ∷ sites) h ≡ None
+    go true e later = absurd (true≢false (sym (ap (λ n. n == 0) (eqb-true s.host h e) ∙ zero) ∙ a.0))
+    go false e later = rw e later
+
+host_none : (w : NodeWorld) (h : ℕ) (comes : Comes) (f : Work → Work) → site_at w.sites h ≡ None → (host_does w h comes f).1 ≡ []
+host_none w h comes f q = rw q refl
+
+activates_over : (w : NodeWorld) (h sync power : ℕ) → IsOrderly w → AreOver (world_step w (Activates h sync power)).1
+activates_over w h sync power a =
+    over_part 0 near.1 far.1 (comes_part w (end_c h) (Starts power) a) (others (h == 0) refl) (part_over h far.1 last)
+  where
+    near : NodeWorld × List Entry
+    near = comes_at w (end_c h) (Starts power)
+
+    far : NodeWorld × List Entry
+    far = comes_at near.0 (end_h h) (Starts sync)
+
+    b : IsOrderly near.0
+    b = (comes_goes w (end_c h) (Starts power) a).orderly
+
+    last : IsPart h far.1
+    last = comes_part near.0 (end_h h) (Starts sync) b
+
+    others : (c : Bool) → (h == 0) ≡ c → AreNotOf 0 far.1
+    others false q = own_not h 0 far.1 q (part_own h far.1 last)
+    others true q =
+        let none : far.1 ≡ [] =
+        host_none near.0 h (Starts sync) (steps (AtEnd h (Start sync))) (no_site near.0.sites h q b.hosts) in
+        subst (AreNotOf 0) (sym none) tt
+
+pub step_over : (w : NodeWorld) (c : Happening) → IsOrderly w → AreOver (world_step w c).1
+step_over w (Boots n) a = boots_over w n
+step_over w (IsCut n) a = (tt, tt)
+step_over w (Gives e m) a =
+    part_over e.link (host_does w e.link NoInput (begins_with e.link (sending e.link m))).1 (begins_part w e.link (sending e.link m) (sending_mine e.link m) a)
+step_over w (Inits e identity pipes) a =
+    part_over e.link (host_does w e.link NoInput (begins_with e.link (beginning identity pipes))).1
+    (begins_part w e.link (beginning identity pipes) (tt, (tt, tt)) a)
+step_over w (Takes e) a = part_over (node_of e) (comes_at w e NextFrame).1 (comes_part w e NextFrame a)
+step_over w (Loses e why) a = lost_over w e why
+step_over w Ticks a = ticks_over w a
+step_over w (Resets e window) a = part_over (node_of e) (comes_at w e (AsksReset window)).1 (comes_part w e (AsksReset window) a)
+step_over w (Activates h sync power) a = activates_over w h sync power a
+step_over w (Arms n plan) a = tt
