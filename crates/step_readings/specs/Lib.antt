@@ -1,0 +1,4 @@
+pub mod Names
+pub mod Works
+pub mod Worlds
+pub mod Alike
