@@ -18,26 +18,26 @@ use Rattle.world.proofs.Noting.{more_noted}
 use Rattle.world.proofs.Bare.{IsBare, is_bare}
 
 -- an end that has sent all its frames has room
-pub bare_here : (near far : Side) (resets : ℕ) (l : Link) → LinkStandsFor near far resets l → IsBare l.controller.side
-bare_here near far resets l h = is_bare l.controller.side h.here.has.node.has.reached
+pub bare_here : {near far : Side} {resets : ℕ} {l : Link} → LinkStandsFor near far resets l → IsBare l.controller.side
+bare_here {l} h = is_bare l.controller.side h.here.has.node.has.reached
 
-pub room_here : (near far : Side) (resets : ℕ) (l : Link) → LinkStandsFor near far resets l → HasFewDue l.controller.side
-room_here near far resets l h =
-    let a = ap (λ (xs : List ActDue). length xs) (bare_here near far resets l h).1 in
+pub room_here : {near far : Side} {resets : ℕ} {l : Link} → LinkStandsFor near far resets l → HasFewDue l.controller.side
+room_here h =
+    let a = ap (λ (xs : List ActDue). length xs) (bare_here h).1 in
     let d = ap (λ (xs : List Due). length xs) h.here.idle in
     omega (arith, a, d)
 
 -- the end of the near side has become e
-pub midway : (near far : Side) (resets : ℕ) (l : Link) (new : Node) (e : LinkEnd) (b : Bool) → LinkStandsFor near far resets l
+pub midway : {near far : Side} {resets : ℕ} {l : Link} {new : Node} {e : LinkEnd} (b : Bool) → LinkStandsFor near far resets l
     → NodeStandsFor new e → length e.shdlc.due ≤ 1 → IsMidway (record near { node = new }) far resets (with_ended l b) e
-midway near far resets l new e false h node few =
+midway false h node few =
     record {
       here = record { node = node; put_is = h.here.has.put_is; took_is = h.here.has.took_is; wire_is = h.here.has.wire_is };
       few = omega (arith, few);
       there = h.there;
       count = h.count;
     }
-midway near far resets l new e true h node few =
+midway true h node few =
     record {
       here = record { node = node; put_is = h.here.has.put_is; took_is = h.here.has.took_is; wire_is = h.here.has.wire_is };
       few = omega (arith, few);
@@ -46,28 +46,28 @@ midway near far resets l new e true h node few =
     }
 
 -- the number of the session of the near end
-pub session_is : (near far : Side) (resets : ℕ) (l : Link) → LinkStandsFor near far resets l → max near.emitted near.took ≡ number_of l.controller
-session_is near far resets l h = ap (λ n. max n near.took) h.here.has.put_is ∙ ap (λ n. max l.controller.emitted n) h.here.has.took_is
+pub session_is : {near far : Side} {resets : ℕ} {l : Link} → LinkStandsFor near far resets l → max near.emitted near.took ≡ number_of l.controller
+session_is {near} {l} h = ap (λ n. max n near.took) h.here.has.put_is ∙ ap (λ n. max l.controller.emitted n) h.here.has.took_is
 
 -- what is noted of an input, in its place
-told_here : (near far : Side) (resets : ℕ) (l : Link) (at : End) (place : Place) (i : LinkInput) (before mid : List Entry)
+told_here : {near far : Side} {resets : ℕ} {l : Link} {at : End} {place : Place} {mid : List Entry} (i : LinkInput) (before : List Entry)
     → LinkStandsFor near far resets l → place ≡ record { at = at; session = max near.emitted near.took }
     → AreNoted place.at before mid (told (side_of place.at) place.session (report l.controller.side i) (whole_acked (after_input l.controller.side i)))
     → AreNoted at before mid (told_of (side_of at) l.controller i)
-told_here near far resets l at place i before mid h is noted =
+told_here {l} {at} {mid} i before h is noted =
     let k : ℕ = whole_acked (after_input l.controller.side i) in
     let P : Place → Type 0 = λ p. AreNoted p.at before mid (told (side_of p.at) p.session (report l.controller.side i) k) in
     let Q : ℕ → Type 0 = λ n. AreNoted at before mid (told (side_of at) n (report l.controller.side i) k) in
-    subst Q (session_is near far resets l h) (subst P is noted)
+    subst Q (session_is h) (subst P is noted)
 
 -- and then of the frames that went out
-pub input_noted : (near far : Side) (resets : ℕ) (l : Link) (at : End) (place : Place) (i : LinkInput) (before mid now : List Entry)
+pub input_noted : {near far : Side} {resets : ℕ} {l : Link} {at : End} {place : Place} {mid now : List Entry} (i : LinkInput) (before : List Entry)
     → LinkStandsFor near far resets l → place ≡ record { at = at; session = max near.emitted near.took }
     → AreNoted place.at before mid (told (side_of place.at) place.session (report l.controller.side i) (whole_acked (after_input l.controller.side i)))
     → AreNoted at mid now
     (puts_entries (side_of at) (with_ended l (is_some (ended_by l.controller.side i))) (frames_out (after_input l.controller.side i)))
     → AreNoted at before now (input_entries (side_of at) l i [] GoesOut)
-input_noted near far resets l at place i before mid now h is noted put =
+input_noted {l} {at} {mid} {now} i before h is noted put =
     more_noted at before mid now (told_of (side_of at) l.controller i)
     (puts_entries (side_of at) (with_ended l (is_some (ended_by l.controller.side i))) (frames_out (after_input l.controller.side i)))
-    (told_here near far resets l at place i before mid h is noted) put
+    (told_here i before h is noted) put

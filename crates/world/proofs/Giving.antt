@@ -24,9 +24,9 @@ use Rattle.world.proofs.Noting.{end_is, more_noted}
 -- ## A step that is refused
 
 -- the end of the near side stands for the same state
-pub still : (near far : Side) (resets : ℕ) (l : Link) (new : Node) → LinkStandsFor near far resets l → NodeStandsFor new l.controller.side
+pub still : {near far : Side} {resets : ℕ} {l : Link} {new : Node} → LinkStandsFor near far resets l → NodeStandsFor new l.controller.side
     → LinkStandsFor (record near { node = new }) far resets l
-still near far resets l new h node =
+still h node =
     record {
       here = record {
         has = record { node = node; put_is = h.here.has.put_is; took_is = h.here.has.took_is; wire_is = h.here.has.wire_is };
@@ -46,18 +46,18 @@ none_of None q = refl
 none_of (Some x) q = absurd (let z : true ≡ false = q in cc)
 
 -- a refused message changes nothing
-pub refused_give : (near far : Side) (resets : ℕ) (l : Link) (new : Node) (x : Message) (o : Option NoCause) (entries : List Entry)
+pub refused_give : {near far : Side} {resets : ℕ} {l : Link} {new : Node} (x : Message) (o : Option NoCause) (entries : List Entry)
     → LinkStandsFor near far resets l → o ≡ as_noted (give_refusal l.controller.side x) → NodeStandsFor new (turn l.controller.side (Give x))
     → IfSome o (λ why. LinkStandsFor (record near { node = new }) far resets l × (entries ≡ entries))
-refused_give near far resets l new x None entries h is node = tt
-refused_give near far resets l new x (Some why) entries h is node = by (give_refusal l.controller.side x) refl
+refused_give x None entries h is node = tt
+refused_give {near} {far} {resets} {l} {new} x (Some why) entries h is node = by (give_refusal l.controller.side x) refl
   where
     by : (r : Option Refused) → give_refusal l.controller.side x ≡ r → LinkStandsFor (record near { node = new }) far resets l × (entries ≡ entries)
     by None q = absurd (let z : Some why ≡ None = is ∙ ap as_noted q in cc)
     by (Some because) q =
         let N : LinkEnd → Type 0 = λ e. NodeStandsFor new e in
         let same : turn l.controller.side (Give x) ≡ l.controller.side = rw q refl in
-        (still near far resets l new h (subst N same node), refl)
+        (still h (subst N same node), refl)
 
 -- ## A message that is given
 
@@ -65,13 +65,13 @@ pub accepted : (o : Option NoCause) (r : Option Refused) → o ≡ as_noted r �
 accepted o None is none = refl
 accepted o (Some why) is none = absurd (let z : true ≡ false = sym (ap is_some is) ∙ none in cc)
 
-pub gives : (near far : Side) (resets : ℕ) (l : Link) (at : End) (session : ℕ) (x : Message) (message : List ℕ) (before mid now : List Entry)
+pub gives : {near far : Side} {resets : ℕ} {l : Link} {at : End} {session : ℕ} {x : Message} {message : List ℕ} {before mid now : List Entry}
     → session ≡ number_of l.controller → give_refusal l.controller.side x ≡ None → message ≡ x.1
     → mid ≡ before ++ entry.Sent at session x.0 message ∷ []
     → LinkStandsFor near far resets (becomes l (turn l.controller.side (Give x)))
     × AreNoted at mid now (puts_entries (side_of at) l (frames_out (turn l.controller.side (Give x))))
     → HasHappened near far resets l (Step NoInput (Give x ∷ []) GoesOut) at before now
-gives near far resets l at session x message before mid now number taken is push sent =
+gives {l} {at} {session} {x} {before} {mid} {now} number taken is push sent =
     let puts : List Noted = puts_entries (side_of at) l (frames_out (turn l.controller.side (Give x))) in
     let first : List Noted = Sent (side_of at) (number_of l.controller) x ∷ [] in
     let notes : here_entries (side_of at) l (Step NoInput (Give x ∷ []) GoesOut) ≡ first ++ puts =

@@ -1,7 +1,7 @@
 -- The node of a bare end, from input to input.
 use Rattle.std.proofs.Common.{◌≡◌, ℕ, ◌-◌, ◌<◌, ◌^◌, List, [], ◌∷◌, ◌++◌, length, drop, map, refl, ap, sym, subst, ◌∙◌, append_assoc, arith}
 use Rattle.std.proofs.lemmas.List.{append-nil}
-use Rattle.std.specs.Prelude.{Bool, true, false, is_some, ◌==◌, Option, Some, None, Result, Ok, Err}
+use Rattle.std.specs.Prelude.{Bool, true, false, is_some, ◌==◌, Option, Some, None, option_map, Result, Ok, Err}
 use Rattle.link_machine.specs.Machine.{LinkEnd, LinkInput, after_input, after_inputs, turn, whole_acked, new_link_end}
 use Rattle.link_machine.specs.Machine.Role.{Bare}
 use Rattle.link_machine.specs.Machine.LinkInput.{Take, TakeUnknown, TakeBroken, Tick, Reset, Start, Stop, FromNode, Fetch}
@@ -37,6 +37,7 @@ use Rattle.link_entries.specs.Entries.{told}
 use Rattle.link_entries.specs.Entries.Entry.{Got}
 use Rattle.history.specs.Steps.{entries_for}
 use Rattle.world.specs.declared.node.Node.{Node}
+use Rattle.world.specs.declared.node.Place.{Place}
 use Rattle.world.specs.Noting.{side_of, acked_on, reported}
 use Rattle.world.specs.Nodes.{Reached, CanFetch, HasInput, NodeStandsFor}
 use Rattle.world.specs.Sides.{AreNoted}
@@ -88,53 +89,72 @@ ticked_got m = by (is_open m.role) refl
     by true q = rw q (moved_got m (is_some (tick_answer m.shdlc).ended) (ticked m.shdlc))
     by false q = rw q (activated_got m ActTick)
 
+-- ## What a call leaves
+
+-- what a call left of the end and of its pool stands for this state, and what lies elsewhere in the pool is as it was
+pub record IsLeft (n : Node) (k : Link) (pool : PoolState) (m : LinkEnd) : Type 0 where
+  pub stands : EndStandsFor k.link pool m
+  pub elsewhere : EndLeavesOthers n.pool pool n.«end».link k.link
+
+account_left : {n : Node} {k : Link} {pool : PoolState} {m m2 : LinkEnd} → HasInput n m → IsLeft n k pool m2 → Accounts k.link pool None
+account_left {n} {k} {pool} {m} h left = account_kept n.pool pool n.«end».link k.link m None h.stands left.elsewhere h.accounts
+
 -- ## An input with its report
 
--- what is noted of an input, but for the messages that came, is what its report tells
-pub record IsReported (n : Node) (m : LinkEnd) (i : LinkInput) (at : End) (session : ℕ) (before now : List Entry) : Type 0 where
-  pub has : HasInput n (after_input m i)
-  pub noted : now ≡ before ++ reported at session (told_of (report m i)) (whole_acked (after_input m i))
+-- the end took an input, and this is what it told of it
+pub record HasTakenInput (n : Node) (k : Link) (pool : PoolState) (m : LinkEnd) (i : LinkInput) (r : LinkReport) : Type 0 where
+  pub has : HasInput n m
+  pub left : IsLeft n k pool (after_input m i)
+  pub told : r ≡ told_of (report m i)
+  pub reports : Reports m i
+  pub sendable : AreSendableInputs (i ∷ [])
+  pub few : length m.sent < 2 ^ 32
 
-pub input_done : (n : Node) (k : Link) (pool : PoolState) (m : LinkEnd) (i : LinkInput) (r : LinkReport) (new : Node) (at : End) (session : ℕ)
-    (before now : List Entry) → HasInput n m → EndStandsFor k.link pool (after_input m i) → EndLeavesOthers n.pool pool n.«end».link k.link
-    → r ≡ told_of (report m i) → Reports m i → AreSendableInputs (i ∷ []) → length m.sent < 2 ^ 32
-    → new ≡ record { «end» = k; pool = pool; acked = acked_on n.acked r }
-    → now ≡ before ++ reported at session r new.acked
-    → IsReported new m i at session before now
-input_done n k pool m i r new at session before now h stands leaves told reports sendable few is noted =
+-- what is noted of an input, but for the messages that came, is what its report tells
+pub record IsReported (n : Node) (m : LinkEnd) (i : LinkInput) (place : Place) (before now : List Entry) : Type 0 where
+  pub has : HasInput n (after_input m i)
+  pub noted : now ≡ before ++ reported place.at place.session (told_of (report m i)) (whole_acked (after_input m i))
+
+pub input_done : {n : Node} {k : Link} {pool : PoolState} {m : LinkEnd} {i : LinkInput} {r : LinkReport} {new : Node} {place : Place}
+    {before now : List Entry} → HasTakenInput n k pool m i r → new ≡ record { «end» = k; pool = pool; acked = acked_on n.acked r }
+    → now ≡ before ++ reported place.at place.session r new.acked → IsReported new m i place before now
+input_done {n} {k} {pool} {m} {i} {r} {new} {place} {before} d is noted =
     let count : new.acked ≡ whole_acked (after_input m i) =
-    ap (λ (x : Node). x.acked) is ∙ (ap (acked_on n.acked) told ∙ acked_told m i n.acked h.acked few (is_sound m h.reached) reports) in
+    ap (λ (x : Node). x.acked) is
+    ∙ (ap (acked_on n.acked) d.told ∙ acked_told m i n.acked d.has.acked d.few (is_sound m d.has.reached) d.reports) in
     let P : Node → Type 0 = λ x. EndStandsFor x.«end».link x.pool (after_input m i) in
     let Q : Node → Type 0 = λ x. Accounts x.«end».link x.pool None in
     record {
       has = record {
-        stands = subst P (sym is) stands;
-        accounts = subst Q (sym is) (account_kept n.pool pool n.«end».link k.link m None h.stands leaves h.accounts);
-        reached = reached_on m i sendable h.reached;
+        stands = subst P (sym is) d.left.stands;
+        accounts = subst Q (sym is) (account_left d.has d.left);
+        reached = reached_on m i d.sendable d.has.reached;
         acked = count;
       };
-      noted = noted ∙ ap (λ (x : LinkReport). before ++ reported at session x new.acked) told
-          ∙ ap (λ x. before ++ reported at session (told_of (report m i)) x) count;
+      noted = noted ∙ ap (λ (x : LinkReport). before ++ reported place.at place.session x new.acked) d.told
+          ∙ ap (λ x. before ++ reported place.at place.session (told_of (report m i)) x) count;
     }
 
 -- where no message came, that is all
-pub without_message : (n : Node) (m : LinkEnd) (i : LinkInput) (at : End) (session : ℕ) (before now : List Entry) → m.got ≡ []
-    → (after_input m i).got ≡ m.got → (report m i).got ≡ [] → IsReported n m i at session before now
-    → NodeStandsFor n (after_input m i) × AreNoted at before now (told (side_of at) session (report m i) (whole_acked (after_input m i)))
-without_message n m i at session before now none kept silent d =
+pub without_message : {n : Node} {m : LinkEnd} {i : LinkInput} {place : Place} {before now : List Entry} → IsReported n m i place before now
+    → m.got ≡ [] → (after_input m i).got ≡ m.got → (report m i).got ≡ []
+    → NodeStandsFor n (after_input m i)
+    × AreNoted place.at before now (told (side_of place.at) place.session (report m i) (whole_acked (after_input m i)))
+without_message {m} {i} {place} {before} d none kept silent =
     let k : ℕ = whole_acked (after_input m i) in
-    let all : entries_for at.link (told (side_of at) session (report m i) k) ≡ reported at session (told_of (report m i)) k =
-    told_at at session k (report m i)
-    ∙ (ap (λ ms. reported at session (told_of (report m i)) k ++ entries_for at.link (map (Got (side_of at) session) ms)) silent
-    ∙ append-nil (reported at session (told_of (report m i)) k)) in
+    let head : List Entry = reported place.at place.session (told_of (report m i)) k in
+    let all : entries_for place.at.link (told (side_of place.at) place.session (report m i) k) ≡ head =
+    told_at place.at place.session k (report m i)
+    ∙ (ap (λ ms. head ++ entries_for place.at.link (map (Got (side_of place.at) place.session) ms)) silent ∙ append-nil head) in
     (record { has = d.has; fetched = kept ∙ none }, d.noted ∙ ap (λ es. before ++ es) (sym all))
 
 -- ## What the node does to its end
 
 -- where the end, its pool and the number of acknowledged messages are such, the node stands for this state
-pub kept_as : (n : Node) (k : Link) (pool : PoolState) (m m2 : LinkEnd) → NodeStandsFor n m → EndStandsFor k.link pool m2 → Accounts k.link pool None
-    → Reached m2 → m2.got ≡ m.got → whole_acked m2 ≡ whole_acked m → NodeStandsFor (record { «end» = k; pool = pool; acked = n.acked }) m2
-kept_as n k pool m m2 h stands accounts reached got acked =
+pub kept_as : {n : Node} {k : Link} {pool : PoolState} {m m2 : LinkEnd} → NodeStandsFor n m → EndStandsFor k.link pool m2
+    → Accounts k.link pool None → Reached m2 → m2.got ≡ m.got → whole_acked m2 ≡ whole_acked m
+    → NodeStandsFor (record { «end» = k; pool = pool; acked = n.acked }) m2
+kept_as h stands accounts reached got acked =
     record {
       has = record { stands = stands; accounts = accounts; reached = reached; acked = h.has.acked ∙ sym acked };
       fetched = got ∙ h.fetched;
@@ -164,11 +184,11 @@ given_got m x = by (give_refusal m x) refl
     by None q = rw q refl
     by (Some why) q = rw q refl
 
-pub gives : (n : Node) (k : Link) (pool : PoolState) (m : LinkEnd) (x : Message) → NodeStandsFor n m → EndStandsFor k.link pool (turn m (Give x))
-    → EndLeavesOthers n.pool pool n.«end».link k.link → IsSendable x → NodeStandsFor (record { «end» = k; pool = pool; acked = n.acked }) (turn m (Give x))
-gives n k pool m x h stands leaves sendable =
-    kept_as n k pool m (turn m (Give x)) h stands (account_kept n.pool pool n.«end».link k.link m None h.has.stands leaves h.has.accounts)
-    (reached_on m (FromNode (Give x)) (sendable, tt) h.has.reached) (given_got m x) (given_acked m x sendable (is_sound m h.has.reached))
+pub gives : {n : Node} {k : Link} {pool : PoolState} {m : LinkEnd} (x : Message) → NodeStandsFor n m → IsLeft n k pool (turn m (Give x))
+    → IsSendable x → NodeStandsFor (record { «end» = k; pool = pool; acked = n.acked }) (turn m (Give x))
+gives {m} x h left sendable =
+    kept_as h left.stands (account_left h.has left) (reached_on m (FromNode (Give x)) (sendable, tt) h.has.reached) (given_got m x)
+    (given_acked m x sendable (is_sound m h.has.reached))
 
 held_acked : (m : LinkEnd) (held : Bool) → whole_acked (turn m (Hold held)) ≡ whole_acked m
 held_acked m held = go m.shdlc.ready held m.shdlc.session.answered_rnr refl refl refl
@@ -181,10 +201,10 @@ held_acked m held = go m.shdlc.ready held m.shdlc.session.answered_rnr refl refl
     go false false true p q n = rw (p, q, n) refl
     go false false false p q n = rw (p, q, n) refl
 
-pub holds : (n : Node) (k : Link) (m : LinkEnd) (held : Bool) → NodeStandsFor n m → EndStandsFor k.link n.pool (turn m (Hold held))
+pub holds : {n : Node} {k : Link} {m : LinkEnd} (held : Bool) → NodeStandsFor n m → EndStandsFor k.link n.pool (turn m (Hold held))
     → k.link.inbox ≡ n.«end».link.inbox → NodeStandsFor (record { «end» = k; pool = n.pool; acked = n.acked }) (turn m (Hold held))
-holds n k m held h stands inbox =
-    kept_as n k n.pool m (turn m (Hold held)) h stands (account_moved n.pool n.«end».link k.link None inbox h.has.accounts)
+holds {n} {k} {m} held h stands inbox =
+    kept_as h stands (account_moved n.pool n.«end».link k.link None inbox h.has.accounts)
     (reached_on m (FromNode (Hold held)) tt h.has.reached) refl (held_acked m held)
 
 fetched_same : (m : LinkEnd) → ((frame_fetched m).got ≡ m.got) × (whole_acked (frame_fetched m) ≡ whole_acked m)
@@ -201,11 +221,11 @@ fetched_same m = go m.acts refl
         by true q = rw (p, q) (refl, refl)
         by false q = rw (p, q) (refl, at)
 
-pub fetches_frame : (n : Node) (k : Link) (m : LinkEnd) → NodeStandsFor n m → EndStandsFor k.link n.pool (frame_fetched m)
+pub fetches_frame : {n : Node} {k : Link} {m : LinkEnd} → NodeStandsFor n m → EndStandsFor k.link n.pool (frame_fetched m)
     → k.link.inbox ≡ n.«end».link.inbox → NodeStandsFor (record { «end» = k; pool = n.pool; acked = n.acked }) (frame_fetched m)
-fetches_frame n k m h stands inbox =
-    kept_as n k n.pool m (frame_fetched m) h stands (account_moved n.pool n.«end».link k.link None inbox h.has.accounts)
-    (reached_on m Fetch tt h.has.reached) (fetched_same m).0 (fetched_same m).1
+fetches_frame {n} {k} {m} h stands inbox =
+    kept_as h stands (account_moved n.pool n.«end».link k.link None inbox h.has.accounts) (reached_on m Fetch tt h.has.reached)
+    (fetched_same m).0 (fetched_same m).1
 
 -- ## Refused resets
 
@@ -248,13 +268,11 @@ answered_reset m window r h told = by (reset_refusal m) refl
         let z : Ok (record nothing_told { ended = if_up m.shdlc Asked }) ≡ Ok r = rw q at told in
         sym (ap (ok_or r) z) ∙ reset_report m window h q
 
-pub reset_so_kept : (n : Node) (k : Link) (pool : PoolState) (m : LinkEnd) (window : Option ℕ) → NodeStandsFor n m
-    → EndStandsFor k.link pool (after_input m (Reset window)) → EndLeavesOthers n.pool pool n.«end».link k.link → after_input m (Reset window) ≡ m
+pub reset_so_kept : {n : Node} {k : Link} {pool : PoolState} {m after : LinkEnd} → NodeStandsFor n m → IsLeft n k pool after → after ≡ m
     → NodeStandsFor (record { «end» = k; pool = pool; acked = n.acked }) m
-reset_so_kept n k pool m window h stands leaves same =
+reset_so_kept {k} {pool} h left same =
     let P : LinkEnd → Type 0 = λ e. EndStandsFor k.link pool e in
-    kept_as n k pool m m h (subst P same stands) (account_kept n.pool pool n.«end».link k.link m None h.has.stands leaves h.has.accounts)
-    h.has.reached refl refl
+    kept_as h (subst P same left.stands) (account_left h.has left) h.has.reached refl refl
 
 -- ## Messages that come
 
@@ -274,40 +292,51 @@ only_oldest (y ∷ ms) x p q = (let z : y ≡ x = ap (or_else_this y) p in rw (z
 fetched_none : (k : Kept) (pool : PoolState) (m : LinkEnd) → EndStandsFor k pool m → k.inbox.got ≡ None → m.got ≡ []
 fetched_none k pool m h none = sym h.half.got ∙ ap (λ g. messages_of pool (got_chains g)) none
 
+-- the oldest message that came was fetched from the end, where one had come, and lies in these blocks
+pub record HasFetched (n : Node) (k : Link) (m : LinkEnd) (fetched : Option (ℕ × Chain)) : Type 0 where
+  pub has : HasInput n m
+  pub stands : EndStandsFor k.link n.pool (turn m FetchMessage)
+  pub accounts : Accounts k.link n.pool (option_map (λ (x : ℕ × Chain). x.1) fetched)
+  pub oldest_is : option_map (λ (x : ℕ × Chain). (x.0, chain_bytes n.pool x.1)) fetched ≡ oldest m.got
+  pub none_left : k.link.inbox.got ≡ None
+
 -- nothing came
-pub fetches_none : (n : Node) (k : Link) (m : LinkEnd) (at : End) (session : ℕ) (entries : List Entry) → HasInput n m
-    → EndStandsFor k.link n.pool (turn m FetchMessage) → Accounts k.link n.pool None → oldest m.got ≡ None
+pub fetches_none : {n : Node} {k : Link} {m : LinkEnd} {fetched : Option (ℕ × Chain)} (place : Place) (entries : List Entry)
+    → HasFetched n k m fetched → fetched ≡ None
     → NodeStandsFor (record { «end» = k; pool = n.pool; acked = n.acked }) (turn m FetchMessage)
-    × AreNoted at entries entries (map (Got (side_of at) session) m.got)
-fetches_none n k m at session entries h stands accounts none =
-    let got = nothing_oldest m.got none in (
+    × AreNoted place.at entries entries (map (Got (side_of place.at) place.session) m.got)
+fetches_none {n} {k} {m} place entries h none =
+    let P : Option (ℕ × Chain) → Type 0 = λ o. Accounts k.link n.pool (option_map (λ (x : ℕ × Chain). x.1) o) in
+    let got = nothing_oldest m.got (sym h.oldest_is ∙ ap (option_map (λ (x : ℕ × Chain). (x.0, chain_bytes n.pool x.1))) none) in
+    let reached = reached_on m (FromNode FetchMessage) tt h.has.reached in (
       record {
-        has = record { stands = stands; accounts = accounts; reached = reached_on m (FromNode FetchMessage) tt h.reached; acked = h.acked };
+        has = record { stands = h.stands; accounts = subst P none h.accounts; reached = reached; acked = h.has.acked };
         fetched = ap (drop 1) got;
       },
-      sym (ap (λ ms. entries ++ entries_for at.link (map (Got (side_of at) session) ms)) got ∙ append-nil entries),
+      sym (ap (λ ms. entries ++ entries_for place.at.link (map (Got (side_of place.at) place.session) ms)) got ∙ append-nil entries),
     )
 
 -- a message came, and its blocks were given back
-pub fetches_one : (n : Node) (k : Link) (pool : PoolState) (m : LinkEnd) (at : End) (session pid : ℕ) (chain : Chain) (message : List ℕ)
-    (before now : List Entry) → HasInput n m
-    → EndStandsFor k.link n.pool (turn m FetchMessage) → Accounts k.link n.pool (Some chain) → k.link.inbox.got ≡ None
-    → Some (pid, chain_bytes n.pool chain) ≡ oldest m.got → Gives n.pool pool chain → KeepsOthers n.pool pool chain chain
-    → message ≡ chain_bytes n.pool chain → now ≡ before ++ entry.Got at session pid message ∷ []
+pub fetches_one : {n : Node} {k : Link} {m : LinkEnd} {fetched : Option (ℕ × Chain)} {pid : ℕ} {chain : Chain} {pool : PoolState} {message : List ℕ}
+    {now : List Entry} (place : Place) (before : List Entry) → HasFetched n k m fetched → fetched ≡ Some (pid, chain) → Gives n.pool pool chain
+    → KeepsOthers n.pool pool chain chain → message ≡ chain_bytes n.pool chain
+    → now ≡ before ++ entry.Got place.at place.session pid message ∷ []
     → NodeStandsFor (record { «end» = k; pool = pool; acked = n.acked }) (turn m FetchMessage)
-    × AreNoted at before now (map (Got (side_of at) session) m.got)
-fetches_one n k pool m at session pid chain message before now h stands accounts none first gives keeps is noted =
-    let left = fetched_none k.link n.pool (turn m FetchMessage) stands none in
-    let x : Message = (pid, chain_bytes n.pool chain) in
-    let got = only_oldest m.got x (sym first) left in
-    let given = given_own n.pool pool k.link (turn m FetchMessage) chain stands accounts gives keeps in (
+    × AreNoted place.at before now (map (Got (side_of place.at) place.session) m.got)
+fetches_one {n} {k} {m} {pid} {chain} {pool} place before h one gives keeps is noted =
+    let P : Option (ℕ × Chain) → Type 0 = λ o. Accounts k.link n.pool (option_map (λ (x : ℕ × Chain). x.1) o) in
+    let first = sym h.oldest_is ∙ ap (option_map (λ (x : ℕ × Chain). (x.0, chain_bytes n.pool x.1))) one in
+    let left = fetched_none k.link n.pool (turn m FetchMessage) h.stands h.none_left in
+    let got = only_oldest m.got (pid, chain_bytes n.pool chain) first left in
+    let given = given_own n.pool pool k.link (turn m FetchMessage) chain h.stands (subst P one h.accounts) gives keeps in
+    let reached = reached_on m (FromNode FetchMessage) tt h.has.reached in (
       record {
-        has = record { stands = given.0; accounts = given.1; reached = reached_on m (FromNode FetchMessage) tt h.reached; acked = h.acked };
+        has = record { stands = given.0; accounts = given.1; reached = reached; acked = h.has.acked };
         fetched = left;
       },
-      noted ∙ ap (λ (bytes : List ℕ). before ++ entry.Got at session pid bytes ∷ []) is
-          ∙ ap (λ (z : End). before ++ entry.Got z session pid (chain_bytes n.pool chain) ∷ []) (sym (end_is at))
-          ∙ sym (ap (λ ms. before ++ entries_for at.link (map (Got (side_of at) session) ms)) got),
+      noted ∙ ap (λ (bytes : List ℕ). before ++ entry.Got place.at place.session pid bytes ∷ []) is
+          ∙ ap (λ (z : End). before ++ entry.Got z place.session pid (chain_bytes n.pool chain) ∷ []) (sym (end_is place.at))
+          ∙ sym (ap (λ ms. before ++ entries_for place.at.link (map (Got (side_of place.at) place.session) ms)) got),
     )
 
 -- a message that was fetched is live
@@ -315,30 +344,30 @@ pub fetched_live : (k : Kept) (pool : PoolState) (chain : Chain) → Accounts k 
 fetched_live k pool chain a = a.fetched.live
 
 -- a message came with a frame, or none did, and it was fetched
-pub with_message : (n fetched : Node) (m : LinkEnd) (c : Control) (at : End) (session : ℕ) (before mid now : List Entry) → m.got ≡ []
-    → IsReported n m (Take c) at session before mid
+pub with_message : {n fetched : Node} {m : LinkEnd} {c : Control} {place : Place} {before mid now : List Entry}
+    → IsReported n m (Take c) place before mid → m.got ≡ []
     → NodeStandsFor fetched (turn (after_input m (Take c)) FetchMessage)
-    × AreNoted at mid now (map (Got (side_of at) session) (after_input m (Take c)).got)
+    × AreNoted place.at mid now (map (Got (side_of place.at) place.session) (after_input m (Take c)).got)
     → NodeStandsFor fetched (turn (after_input m (Take c)) FetchMessage)
-    × AreNoted at before now (told (side_of at) session (report m (Take c)) (whole_acked (after_input m (Take c))))
-with_message n fetched m c at session before mid now none d f =
+    × AreNoted place.at before now (told (side_of place.at) place.session (report m (Take c)) (whole_acked (after_input m (Take c))))
+with_message {m} {c} {place} {before} d none f =
     let k : ℕ = whole_acked (after_input m (Take c)) in
     let got : (after_input m (Take c)).got ≡ brought m c = took_got m c ∙ ap (λ ms. ms ++ brought m c) none in
-    let head : List Entry = reported at session (told_of (report m (Take c))) k in (
+    let head : List Entry = reported place.at place.session (told_of (report m (Take c))) k in
+    let came : List Message → List Entry = λ ms. entries_for place.at.link (map (Got (side_of place.at) place.session) ms) in (
       f.0,
-      f.1 ∙ ap (λ es. es ++ entries_for at.link (map (Got (side_of at) session) (after_input m (Take c)).got)) d.noted
-          ∙ append_assoc before head (entries_for at.link (map (Got (side_of at) session) (after_input m (Take c)).got))
-          ∙ ap (λ ms. before ++ (head ++ entries_for at.link (map (Got (side_of at) session) ms))) got
-          ∙ ap (λ es. before ++ es) (sym (told_at at session k (report m (Take c)))),
+      f.1 ∙ ap (λ es. es ++ came (after_input m (Take c)).got) d.noted
+          ∙ append_assoc before head (came (after_input m (Take c)).got)
+          ∙ ap (λ ms. before ++ (head ++ came ms)) got
+          ∙ ap (λ es. before ++ es) (sym (told_at place.at place.session k (report m (Take c)))),
     )
 
 pub taken_input : (bytes : List ℕ) (c : Control) → control_of bytes ≡ Ok c → lpdu_input bytes ≡ Take c
 taken_input bytes c q = rw q refl
 
 -- what a call leaves of what may be fetched
-pub can_fetch : (n : Node) (k : Link) (pool : PoolState) (m m2 : LinkEnd) (acked : ℕ) (new : Node) → NodeStandsFor n m → EndStandsFor k.link pool m2
-    → EndLeavesOthers n.pool pool n.«end».link k.link → new ≡ record { «end» = k; pool = pool; acked = acked } → CanFetch new m2
-can_fetch n k pool m m2 acked new h stands leaves is =
+pub can_fetch : {n : Node} {k : Link} {pool : PoolState} {m m2 : LinkEnd} {acked : ℕ} {new : Node} → NodeStandsFor n m → IsLeft n k pool m2
+    → new ≡ record { «end» = k; pool = pool; acked = acked } → CanFetch new m2
+can_fetch {m2} h left is =
     let P : Node → Type 0 = λ x. CanFetch x m2 in
-    subst P (sym is)
-    (record { stands = stands; accounts = account_kept n.pool pool n.«end».link k.link m None h.has.stands leaves h.has.accounts })
+    subst P (sym is) (record { stands = left.stands; accounts = account_left h.has left })

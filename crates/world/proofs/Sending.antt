@@ -73,9 +73,9 @@ pub record Sending (at : End) (near far : Side) (resets : ℕ) (l : Link) (m : L
   pub notes_are : puts_entries (side_of at) l (frames_out m) ≡ notes ++ puts_entries (side_of at) link (frames_of left e.shdlc)
   pub noted : AreNoted at before now notes
 
-pub sending_starts : (at : End) (near far : Side) (resets : ℕ) (l : Link) (m : LinkEnd) (entries : List Entry) → IsMidway near far resets l m
+pub sending_starts : {at : End} {near far : Side} {resets : ℕ} {l : Link} {m : LinkEnd} {entries : List Entry} → IsMidway near far resets l m
     → Sending at near far resets l m entries entries 12
-sending_starts at near far resets l m entries h =
+sending_starts {at} {l} {m} {entries} h =
     let none : m.acts ≡ [] = (is_bare m h.here.node.has.reached).1 in
     record {
       link = l;
@@ -100,20 +100,25 @@ abbrev or_these : List ℕ → Option (List ℕ) → List ℕ
 or_these a None = a
 or_these a (Some b) = b
 
-pub sending_goes_on : (at : End) (near far near2 far2 : Side) (new : Node) (resets resets2 : ℕ) (l : Link) (m : LinkEnd)
-    (before mid now : List Entry) (left : ℕ) (lpdu : List ℕ) (result : Option (List ℕ)) (s : Sending at near far resets l m before mid (suc left))
-    → NodeStandsFor new (after_input s.e Fetch) → result ≡ option_map lpdu_of (next_frame s.e)
-    → IfSome (next_frame s.e) (λ c. control_of (lpdu_of c) ≡ Ok c) → result ≡ Some lpdu
-    → Puts at (record near { node = new }) far resets near2 far2 resets2 lpdu mid now → Sending at near2 far2 resets2 l m before now left
-sending_goes_on at near far near2 far2 new resets resets2 l m before mid now left lpdu result s node answer read is puts = go (next_frame s.e) refl
+-- an end in this state is about to send: its node fetched the LPDU of the frame that is to be sent now, where there is one
+pub record IsAboutToSend (new : Node) (e : LinkEnd) (fetched : Option (List ℕ)) : Type 0 where
+  pub node : NodeStandsFor new (after_input e Fetch)
+  pub fetched_is : fetched ≡ option_map lpdu_of (next_frame e)
+  pub read : IfSome (next_frame e) (λ c. control_of (lpdu_of c) ≡ Ok c)
+
+pub sending_goes_on : {at : End} {near far near2 far2 : Side} {new : Node} {resets resets2 : ℕ} {l : Link} {m : LinkEnd} {before mid now : List Entry}
+    {left : ℕ} {lpdu : List ℕ} {fetched : Option (List ℕ)} (s : Sending at near far resets l m before mid (suc left)) → IsAboutToSend new s.e fetched
+    → fetched ≡ Some lpdu → Puts at (record near { node = new }) far resets near2 far2 resets2 lpdu mid now
+    → Sending at near2 far2 resets2 l m before now left
+sending_goes_on {at} {near} {far} {near2} {far2} {new} {resets} {resets2} {l} {m} {before} {mid} {now} {left} {lpdu} s a is puts = go (next_frame s.e) refl
   where
     go : (o : Option Control) → next_frame s.e ≡ o → Sending at near2 far2 resets2 l m before now left
-    go None q = absurd (let z : None ≡ Some lpdu = sym (ap (option_map lpdu_of) q) ∙ (sym answer ∙ is) in cc)
+    go None q = absurd (let z : None ≡ Some lpdu = sym (ap (option_map lpdu_of) q) ∙ (sym a.fetched_is ∙ is) in cc)
     go (Some c) q =
         let bytes : lpdu ≡ lpdu_of c =
-        ap (or_these lpdu) (sym is ∙ (answer ∙ ap (option_map lpdu_of) q)) in
+        ap (or_these lpdu) (sym is ∙ (a.fetched_is ∙ ap (option_map lpdu_of) q)) in
         let R : Option Control → Type 0 = λ o. IfSome o (λ c. control_of (lpdu_of c) ≡ Ok c) in
-        let read_is : control_of (lpdu_of c) ≡ Ok c = subst R q read in
+        let read_is : control_of (lpdu_of c) ≡ Ok c = subst R q a.read in
         let due : frame_due s.e.shdlc ≡ Some c = sym (plain_next s.e s.no_acts) ∙ q in
         let frames : frames_of (suc left) s.e.shdlc ≡ c ∷ frames_of left (fetched s.e.shdlc) = first_frame s.e.shdlc c left due in
         let f : LinkEnd = record s.e { shdlc = fetched s.e.shdlc } in
@@ -122,7 +127,7 @@ sending_goes_on at near far near2 far2 new resets resets2 l m before mid now lef
         let halfway : IsMidway (record near { node = new }) far resets s.link f =
         record {
           here = record {
-            node = subst N (plain_fetched s.e s.no_acts) node;
+            node = subst N (plain_fetched s.e s.no_acts) a.node;
             put_is = s.midway.here.put_is;
             took_is = s.midway.here.took_is;
             wire_is = s.midway.here.wire_is;
@@ -147,11 +152,11 @@ sending_goes_on at near far near2 far2 new resets resets2 l m before mid now lef
         }
 
 -- all were sent
-sent : (at : End) (near far : Side) (new : Node) (resets : ℕ) (l : Link) (m : LinkEnd) (before now : List Entry) (left : ℕ)
+sent : {at : End} {near far : Side} {new : Node} {resets : ℕ} {l : Link} {m : LinkEnd} {before now : List Entry} {left : ℕ}
     (s : Sending at near far resets l m before now left) → NodeStandsFor new s.e → s.e.shdlc.due ≡ [] → frames_of left s.e.shdlc ≡ []
     → after_frames left s.e.shdlc ≡ s.e.shdlc
     → LinkStandsFor (record near { node = new }) far resets (becomes l m) × AreNoted at before now (puts_entries (side_of at) l (frames_out m))
-sent at near far new resets l m before now left s node idle none after =
+sent {at} {near} {far} {new} {resets} {l} {m} {before} s node idle none after =
     let link : s.link ≡ put_all l (frames_out m) = sym (ap (put_all s.link) none) ∙ s.link_is in
     let last : s.e ≡ sent_all m = sym (ap (λ x. record s.e { shdlc = x }) after) ∙ s.end_is in
     let stands : LinkStandsFor (record near { node = new }) far resets (with_controller s.link s.e) =
@@ -171,29 +176,26 @@ sent at near far new resets l m before now left s node idle none after =
     )
 
 -- nothing is to be sent any more
-pub sending_stops : (at : End) (near far : Side) (new : Node) (resets : ℕ) (l : Link) (m : LinkEnd) (before now : List Entry) (left : ℕ)
-    (result : Option (List ℕ)) (s : Sending at near far resets l m before now left) → NodeStandsFor new (after_input s.e Fetch)
-    → result ≡ option_map lpdu_of (next_frame s.e) → result ≡ None
+pub sending_stops : {at : End} {near far : Side} {new : Node} {resets : ℕ} {l : Link} {m : LinkEnd} {before now : List Entry} {left : ℕ}
+    {fetched : Option (List ℕ)} (s : Sending at near far resets l m before now left) → IsAboutToSend new s.e fetched → fetched ≡ None
     → LinkStandsFor (record near { node = new }) far resets (becomes l m) × AreNoted at before now (puts_entries (side_of at) l (frames_out m))
-sending_stops at near far new resets l m before now left result s node answer is = go (next_frame s.e) refl
+sending_stops {at} {near} {far} {new} {resets} {l} {m} {before} {now} {left} s a is = go (next_frame s.e) refl
   where
     go : (o : Option Control) → next_frame s.e ≡ o
         → LinkStandsFor (record near { node = new }) far resets (becomes l m) × AreNoted at before now (puts_entries (side_of at) l (frames_out m))
-    go (Some c) q = absurd (let z : Some (lpdu_of c) ≡ None = sym (ap (option_map lpdu_of) q) ∙ (sym answer ∙ is) in cc)
+    go (Some c) q = absurd (let z : Some (lpdu_of c) ≡ None = sym (ap (option_map lpdu_of) q) ∙ (sym a.fetched_is ∙ is) in cc)
     go None q =
         let none : frame_due s.e.shdlc ≡ None = sym (plain_next s.e s.no_acts) ∙ q in
         let N : LinkEnd → Type 0 = λ z. NodeStandsFor new z in
         let same : after_input s.e Fetch ≡ s.e =
         plain_fetched s.e s.no_acts ∙ ap (λ x. record s.e { shdlc = x }) (none_fetched s.e.shdlc none) in
-        sent at near far new resets l m before now left s (subst N same node) (none_due s.e.shdlc none) (nothing_sent left s.e.shdlc none)
-        (after_frames_idle left s.e.shdlc none)
+        sent s (subst N same a.node) (none_due s.e.shdlc none) (nothing_sent left s.e.shdlc none) (after_frames_idle left s.e.shdlc none)
 
 -- the most frames were sent
-pub sending_ends : (at : End) (near far : Side) (resets : ℕ) (l : Link) (m : LinkEnd) (before now : List Entry)
+pub sending_ends : {at : End} {near far : Side} {resets : ℕ} {l : Link} {m : LinkEnd} {before now : List Entry}
     → Sending at near far resets l m before now 0
     → LinkStandsFor near far resets (becomes l m) × AreNoted at before now (puts_entries (side_of at) l (frames_out m))
-sending_ends at near far resets l m before now s =
-    sent at near far near.node resets l m before now 0 s s.midway.here.node (empty s.e.shdlc.due s.few) refl refl
+sending_ends s = sent s s.midway.here.node (empty s.e.shdlc.due s.few) refl refl
   where
     empty : (ds : List Due) → length ds ≤ 0 → ds ≡ []
     empty [] i = refl

@@ -1,7 +1,7 @@
 -- What happens at one end of a link.
 use Rattle.std.proofs.Common.{◌≡◌, ℕ, ◌+◌, Bool, true, false, cond, List, [], ◌∷◌, ◌++◌, drop, refl, ap, sym, subst, ◌∙◌}
-use Rattle.std.specs.Prelude.{Ok, Option, Some, None, slice_get}
-use Rattle.circular_buffer.specs.Buffer.{Buffer, buffer}
+use Rattle.std.specs.Prelude.{Ok, Some}
+use Rattle.circular_buffer.specs.Buffer.{Buffer}
 use Rattle.swp_base.specs.declared.control_frames.Control.{Control}
 use Rattle.swp_lpdu.specs.Controls.{lpdu_of, control_of}
 use Rattle.trace_model.specs.declared.entry.Entry.{Entry}
@@ -22,7 +22,7 @@ use Rattle.world.specs.Noting.{side_of}
 use Rattle.world.specs.Wires.{WireStandsFor, IsMade, kept_of}
 use Rattle.world.specs.Sides.{LinkStandsFor, IsMidway, AreNoted, HasHappened}
 use Rattle.world.proofs.Noting.{end_is, more_noted}
-use Rattle.world.proofs.Wires.{first_is, taken_off}
+use Rattle.world.proofs.Wires.{IsTakenOff, first_is, there_is_none, taken_off}
 
 other_side : (at : End) → side_of (other_end at) ≡ far_side (side_of at)
 other_side at = by at.at_host refl
@@ -35,17 +35,22 @@ emit_noted : (at : End) (before mid : List Entry) (c : Control) → mid ≡ befo
     → AreNoted at before mid (NotedEmit (side_of at) c ∷ [])
 emit_noted at before mid c q = q ∙ ap (λ z. before ++ entry.Emit z (lpdu_of c) ∷ []) (sym (end_is at))
 
-pub put_is : (near far : Side) (resets : ℕ) (l : Link) (m : LinkEnd) (c : Control) (e n k : ℕ) (wire : Buffer Flying) (at : End)
-    (before mid now : List Entry) → IsMidway near far resets l m
-    → k ≡ cond (is_rset c) (resets + 1) 0 → n ≡ cond (is_rset c) (resets + 1) resets → e ≡ cond (is_rset c) (resets + 1) near.emitted
+-- a frame that its end puts on the link has this number, and then these are the greatest number of the end and that of the link
+pub record IsNumbered (c : Control) (emitted resets number now_emitted now_resets : ℕ) : Type 0 where
+  pub number_is : number ≡ cond (is_rset c) (resets + 1) 0
+  pub resets_is : now_resets ≡ cond (is_rset c) (resets + 1) resets
+  pub emitted_is : now_emitted ≡ cond (is_rset c) (resets + 1) emitted
+
+pub put_is : {near far : Side} {resets : ℕ} {l : Link} {m : LinkEnd} {c : Control} {e n k : ℕ} {wire : Buffer Flying} {mid now : List Entry}
+    (at : End) (before : List Entry) → IsMidway near far resets l m → IsNumbered c near.emitted resets k e n
     → mid ≡ before ++ entry.Emit at (lpdu_of c) ∷ []
     → WireStandsFor wire (fits (l.to_host ++ record { frame = c; age = 0; number = k } ∷ []))
     × AreNoted (other_end at) mid now (pushed_out (side_of (other_end at)) (l.to_host ++ record { frame = c; age = 0; number = k } ∷ []))
     → IsMidway (record near { emitted = e }) (record far { wire = wire }) n (put l c) m × AreNoted at before now (put_entries (side_of at) l c)
-put_is near far resets l m c e n k wire at before mid now h k_is n_is e_is noted put_last = (by (is_rset c) refl, all)
+put_is {near} {far} {resets} {l} {m} {c} {e} {n} {k} {wire} {mid} {now} at before h numbered noted put_last = (by (is_rset c) refl, all)
   where
     number : k ≡ cond (is_rset c) (l.resets + 1) 0
-    number = k_is ∙ ap (λ r. cond (is_rset c) (r + 1) 0) h.count
+    number = numbered.number_is ∙ ap (λ r. cond (is_rset c) (r + 1) 0) h.count
 
     all_wire : l.to_host ++ record { frame = c; age = 0; number = k } ∷ [] ≡ wire_with l c
     all_wire = ap (λ x. l.to_host ++ record { frame = c; age = 0; number = x } ∷ []) number
@@ -64,8 +69,8 @@ put_is near far resets l m c e n k wire at before mid now h k_is n_is e_is noted
     by : (b : Bool) → is_rset c ≡ b → IsMidway (record near { emitted = e }) (record far { wire = wire }) n (put l c) m
     by true q =
         let w : WireStandsFor wire (fits (l.to_host ++ record { frame = c; age = 0; number = l.resets + 1 } ∷ [])) = rw q at wire_is in
-        let count : n ≡ l.resets + 1 = (let z : n ≡ resets + 1 = rw q at n_is in z ∙ ap (λ r. r + 1) h.count) in
-        let emitted : e ≡ l.resets + 1 = (let z : e ≡ resets + 1 = rw q at e_is in z ∙ ap (λ r. r + 1) h.count) in
+        let count : n ≡ l.resets + 1 = (let z : n ≡ resets + 1 = rw q at numbered.resets_is in z ∙ ap (λ r. r + 1) h.count) in
+        let emitted : e ≡ l.resets + 1 = (let z : e ≡ resets + 1 = rw q at numbered.emitted_is in z ∙ ap (λ r. r + 1) h.count) in
         rw q
         (record {
           here = record { node = h.here.node; put_is = emitted; took_is = h.here.took_is; wire_is = h.here.wire_is };
@@ -78,8 +83,8 @@ put_is near far resets l m c e n k wire at before mid now h k_is n_is e_is noted
         })
     by false q =
         let w : WireStandsFor wire (fits (l.to_host ++ record { frame = c; age = 0; number = 0 } ∷ [])) = rw q at wire_is in
-        let count : n ≡ l.resets = (let z : n ≡ resets = rw q at n_is in z ∙ h.count) in
-        let emitted : e ≡ l.controller.emitted = (let z : e ≡ near.emitted = rw q at e_is in z ∙ h.here.put_is) in
+        let count : n ≡ l.resets = (let z : n ≡ resets = rw q at numbered.resets_is in z ∙ h.count) in
+        let emitted : e ≡ l.controller.emitted = (let z : e ≡ near.emitted = rw q at numbered.emitted_is in z ∙ h.here.put_is) in
         rw q
         (record {
           here = record { node = h.here.node; put_is = emitted; took_is = h.here.took_is; wire_is = h.here.wire_is };
@@ -102,23 +107,21 @@ made_is lpdu c k n is read number = (ap control_of (sym is) ∙ read, λ q. numb
 
 -- ## The first frame is lost
 
-pub lost_first : (near far : Side) (resets : ℕ) (l : Link) (why : Loss) (cause : LostCause) (at : End) (wire : Buffer Flying) (flying : Flying)
-    (result : Option Flying) (before now : List Entry) → LinkStandsFor near far resets l → cause ≡ lost_as why
-    → result ≡ slice_get near.wire.items 0 → result ≡ Some flying → wire ≡ buffer (drop 1 near.wire.items) near.wire.capacity
+pub lost_first : {near far : Side} {resets : ℕ} {l : Link} {why : Loss} {cause : LostCause} {at : End} {wire : Buffer Flying} {flying : Flying}
+    {before now : List Entry} → LinkStandsFor near far resets l → cause ≡ lost_as why → IsTakenOff near.wire wire (Some flying)
     → now ≡ before ++ entry.Lost at flying.lpdu cause ∷ [] → HasHappened (record near { wire = wire }) far resets l (Lose why) at before now
-lost_first near far resets l why cause at wire flying result before now h so value is made noted = go l.to_controller refl
+lost_first {near} {far} {resets} {l} {why} {cause} {at} {wire} {flying} {before} {now} h so off noted = go l.to_controller refl
   where
+    P : List OnWire → Type 0
+    P w = WireStandsFor near.wire w
+
     go : (w : List OnWire) → l.to_controller ≡ w → HasHappened (record near { wire = wire }) far resets l (Lose why) at before now
-    go [] q =
-        let P : List OnWire → Type 0 = λ w. WireStandsFor near.wire w in
-        let kept = subst P q h.here.has.wire_is in
-        absurd (let z : None ≡ Some flying = sym (ap (λ fs. slice_get fs 0) kept.frames) ∙ (sym value ∙ is) in cc)
+    go [] q = absurd (there_is_none (subst P q h.here.has.wire_is) off)
     go (x ∷ xs) q =
-        let P : List OnWire → Type 0 = λ w. WireStandsFor near.wire w in
         let Q : List OnWire → Type 0 = λ w. WireStandsFor wire w in
         let kept = subst P q h.here.has.wire_is in
-        let first : flying ≡ kept_of x = first_is near.wire flying x xs result kept value is in
-        let left : WireStandsFor wire (drop 1 l.to_controller) = subst Q (sym (ap (drop 1) q)) (taken_off near.wire wire x xs kept made) in
+        let first : flying ≡ kept_of x = first_is kept off in
+        let left : WireStandsFor wire (drop 1 l.to_controller) = subst Q (sym (ap (drop 1) q)) (taken_off kept off) in
         let notes : here_entries (side_of at) l (Lose why) ≡ NotedLost (side_of at) x.frame why ∷ [] = ap (first_lost (side_of at) why) q in
         record {
           stands = record {

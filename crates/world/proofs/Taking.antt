@@ -1,8 +1,8 @@
 -- An end takes the first frame on the wire to it.
 use Rattle.std.proofs.Common.{◌≡◌, ℕ, ◌≤◌, Bool, true, false, List, [], ◌∷◌, ◌++◌, length, drop, max, refl, ap, sym, subst, ◌∙◌, arith}
 use Rattle.std.proofs.lemmas.List.{append-nil}
-use Rattle.std.specs.Prelude.{Ok, Option, Some, None, slice_get, is_some}
-use Rattle.circular_buffer.specs.Buffer.{Buffer, buffer}
+use Rattle.std.specs.Prelude.{Ok, Some, None, is_some}
+use Rattle.circular_buffer.specs.Buffer.{Buffer}
 use Rattle.swp_lpdu.specs.Controls.{lpdu_of, control_of}
 use Rattle.trace_model.specs.declared.entry.Entry.{Entry}
 use Rattle.trace_model.specs.declared.entry.Entry.TheVariants as entry
@@ -27,7 +27,7 @@ use Rattle.world.specs.Nodes.{NodeStandsFor}
 use Rattle.world.specs.Wires.{WireStandsFor, IsMade, kept_of}
 use Rattle.world.specs.Sides.{LinkStandsFor, IsMidway, AreNoted, HasHappened}
 use Rattle.world.proofs.Noting.{end_is, more_noted}
-use Rattle.world.proofs.Wires.{first_is, taken_off}
+use Rattle.world.proofs.Wires.{IsTakenOff, first_is, there_is_one, there_is_none, taken_off}
 
 -- ## The first frame
 
@@ -40,35 +40,31 @@ pub record TakesFirst (l : Link) (wire : Buffer Flying) (flying : Flying) : Type
   pub made : IsMade x
   pub left : WireStandsFor wire xs
 
-pub takes_first : (near far : Side) (resets : ℕ) (l : Link) (wire : Buffer Flying) (flying : Flying) (result : Option Flying)
-    → LinkStandsFor near far resets l → result ≡ slice_get near.wire.items 0 → result ≡ Some flying
-    → wire ≡ buffer (drop 1 near.wire.items) near.wire.capacity → TakesFirst l wire flying
-takes_first near far resets l wire flying result h value is made = go l.to_controller refl
+pub takes_first : {near far : Side} {resets : ℕ} {l : Link} {wire : Buffer Flying} {flying : Flying} → LinkStandsFor near far resets l
+    → IsTakenOff near.wire wire (Some flying) → TakesFirst l wire flying
+takes_first {near} {l} {wire} {flying} h off = go l.to_controller refl
   where
     P : List OnWire → Type 0
     P w = WireStandsFor near.wire w
 
     go : (w : List OnWire) → l.to_controller ≡ w → TakesFirst l wire flying
-    go [] q =
-        let kept = subst P q h.here.has.wire_is in
-        absurd (let z : None ≡ Some flying = sym (ap (λ fs. slice_get fs 0) kept.frames) ∙ (sym value ∙ is) in cc)
+    go [] q = absurd (there_is_none (subst P q h.here.has.wire_is) off)
     go (x ∷ xs) q =
         let kept = subst P q h.here.has.wire_is in
         record {
           x = x;
           xs = xs;
           wire_is = q;
-          first = first_is near.wire flying x xs result kept value is;
+          first = first_is kept off;
           made = kept.made.0;
-          left = taken_off near.wire wire x xs kept made;
+          left = taken_off kept off;
         }
 
 -- there is none
-pub takes_none : (near far : Side) (resets : ℕ) (l : Link) (turns : List Turn) (at : End) (wire : Buffer Flying) (result : Option Flying)
-    (entries : List Entry) → LinkStandsFor near far resets l → result ≡ slice_get near.wire.items 0 → result ≡ None
-    → wire ≡ buffer (drop 1 near.wire.items) near.wire.capacity
+pub takes_none : {near far : Side} {resets : ℕ} {l : Link} {turns : List Turn} {at : End} {wire : Buffer Flying} {entries : List Entry}
+    → LinkStandsFor near far resets l → IsTakenOff near.wire wire None
     → HasHappened (record near { wire = wire }) far resets l (Step NextFrame turns GoesOut) at entries entries
-takes_none near far resets l turns at wire result entries h value is made = go l.to_controller refl
+takes_none {near} {far} {resets} {l} {turns} {at} {wire} {entries} h off = go l.to_controller refl
   where
     P : List OnWire → Type 0
     P w = WireStandsFor near.wire w
@@ -77,15 +73,13 @@ takes_none near far resets l turns at wire result entries h value is made = go l
     Q w = WireStandsFor wire w
 
     go : (w : List OnWire) → l.to_controller ≡ w → HasHappened (record near { wire = wire }) far resets l (Step NextFrame turns GoesOut) at entries entries
-    go (x ∷ xs) q =
-        let kept = subst P q h.here.has.wire_is in
-        absurd (let z : Some (kept_of x) ≡ None = sym (ap (λ fs. slice_get fs 0) kept.frames) ∙ (sym value ∙ is) in cc)
+    go (x ∷ xs) q = absurd (there_is_one (subst P q h.here.has.wire_is) off)
     go [] q =
         let kept = subst P q h.here.has.wire_is in
         let empty : WireStandsFor wire [] =
         record {
-          frames = ap (λ (b : Buffer Flying). b.items) made ∙ ap (drop 1) kept.frames;
-          capacity = ap (λ (b : Buffer Flying). b.capacity) made ∙ kept.capacity;
+          frames = ap (λ (b : Buffer Flying). b.items) off.new_is ∙ ap (drop 1) kept.frames;
+          capacity = ap (λ (b : Buffer Flying). b.capacity) off.new_is ∙ kept.capacity;
           few = omega arith;
           made = tt;
         } in
@@ -108,9 +102,9 @@ takes_none near far resets l turns at wire result entries h value is made = go l
 -- ## It is taken
 
 -- the greatest number taken
-pub took_is : (near far : Side) (resets : ℕ) (l : Link) (flying : Flying) (x : OnWire) → LinkStandsFor near far resets l → flying ≡ kept_of x
+took_is : {near far : Side} {resets : ℕ} {l : Link} {flying : Flying} (x : OnWire) → LinkStandsFor near far resets l → flying ≡ kept_of x
     → IsMade x → max near.took flying.number ≡ took_with l.controller.took x
-took_is near far resets l flying x h first made =
+took_is {l} {flying} x h first made =
     ap (λ n. max n flying.number) h.here.has.took_is ∙ ap (λ (f : Flying). max l.controller.took f.number) first ∙ by (is_rset x.frame) refl
   where
     by : (b : Bool) → is_rset x.frame ≡ b → max l.controller.took x.number ≡ took_with l.controller.took x
@@ -126,18 +120,18 @@ left_with l x xs b =
     let m : Link = with_ended (record l { to_controller = xs }) b in
     record m { controller = record m.controller { took = took_with l.controller.took x } }
 
-taken_with : (near far : Side) (resets : ℕ) (l : Link) (x : OnWire) (xs : List OnWire) (new : Node) (wire : Buffer Flying) (took : ℕ)
-    (e : LinkEnd) (b : Bool) → LinkStandsFor near far resets l → NodeStandsFor new e → length e.shdlc.due ≤ 1 → WireStandsFor wire xs
+taken_with : {near far : Side} {resets : ℕ} {l : Link} {xs : List OnWire} {new : Node} {wire : Buffer Flying} {took : ℕ} {e : LinkEnd}
+    (x : OnWire) (b : Bool) → LinkStandsFor near far resets l → NodeStandsFor new e → length e.shdlc.due ≤ 1 → WireStandsFor wire xs
     → took ≡ took_with l.controller.took x
     → IsMidway (record near { node = new; wire = wire; took = took }) far resets (left_with l x xs b) e
-taken_with near far resets l x xs new wire took e false h node few left is =
+taken_with x false h node few left is =
     record {
       here = record { node = node; put_is = h.here.has.put_is; took_is = is; wire_is = left };
       few = omega (arith, few);
       there = h.there;
       count = h.count;
     }
-taken_with near far resets l x xs new wire took e true h node few left is =
+taken_with x true h node few left is =
     record {
       here = record { node = node; put_is = h.here.has.put_is; took_is = is; wire_is = left };
       few = omega (arith, few);
@@ -145,38 +139,37 @@ taken_with near far resets l x xs new wire took e true h node few left is =
       count = h.count;
     }
 
-pub taken_midway : (near far : Side) (resets : ℕ) (l : Link) (new : Node) (wire : Buffer Flying) (flying : Flying) (took : ℕ) (e : LinkEnd)
+pub taken_midway : {near far : Side} {resets : ℕ} {l : Link} {new : Node} {wire : Buffer Flying} {flying : Flying} {took : ℕ} {e : LinkEnd}
     (f : TakesFirst l wire flying) → LinkStandsFor near far resets l → NodeStandsFor new e → length e.shdlc.due ≤ 1
     → took ≡ max near.took flying.number
     → IsMidway (record near { node = new; wire = wire; took = took }) far resets (left_after l f.x f.xs) e
-taken_midway near far resets l new wire flying took e f h node few is =
-    taken_with near far resets l f.x f.xs new wire took e (is_some (ended_by l.controller.side (Take f.x.frame))) h node few f.left
-    (is ∙ took_is near far resets l flying f.x h f.first f.made)
+taken_midway {l} f h node few is =
+    taken_with f.x (is_some (ended_by l.controller.side (Take f.x.frame))) h node few f.left (is ∙ took_is f.x h f.first f.made)
 
 -- its LPDU is read as this frame
-pub reads_first : (l : Link) (wire : Buffer Flying) (flying : Flying) (f : TakesFirst l wire flying) → control_of flying.lpdu ≡ Ok f.x.frame
-reads_first l wire flying f = ap (λ (z : Flying). control_of z.lpdu) f.first ∙ f.made.0
+pub reads_first : {l : Link} {wire : Buffer Flying} {flying : Flying} (f : TakesFirst l wire flying) → control_of flying.lpdu ≡ Ok f.x.frame
+reads_first f = ap (λ (z : Flying). control_of z.lpdu) f.first ∙ f.made.0
 
 -- what is noted of it, in its place
-told_taken : (near far : Side) (resets : ℕ) (l : Link) (at : End) (place : Place) (x : OnWire) (took : ℕ) (before mid : List Entry)
+told_taken : {near far : Side} {resets : ℕ} {l : Link} {at : End} {place : Place} {took : ℕ} {mid : List Entry} (x : OnWire) (before : List Entry)
     → LinkStandsFor near far resets l → took ≡ took_with l.controller.took x → place ≡ record { at = at; session = max near.emitted took }
     → AreNoted place.at before mid
     (told (side_of place.at) place.session (report l.controller.side (Take x.frame)) (whole_acked (after_input l.controller.side (Take x.frame))))
     → AreNoted at before mid (told_of (side_of at) (record l.controller { took = took_with l.controller.took x }) (Take x.frame))
-told_taken near far resets l at place x took before mid h is so noted =
+told_taken {l} {at} {took} {mid} x before h is so noted =
     let k : ℕ = whole_acked (after_input l.controller.side (Take x.frame)) in
     let P : Place → Type 0 = λ p. AreNoted p.at before mid (told (side_of p.at) p.session (report l.controller.side (Take x.frame)) k) in
     let Q : ℕ → Type 0 = λ n. AreNoted at before mid (told (side_of at) n (report l.controller.side (Take x.frame)) k) in
     subst Q (ap (λ n. max n took) h.here.has.put_is ∙ ap (λ n. max l.controller.emitted n) is) (subst P so noted)
 
-took_noted : (at : End) (flying : Flying) (x : OnWire) (before mid : List Entry) → flying ≡ kept_of x
+took_noted : {flying : Flying} {mid : List Entry} (at : End) (x : OnWire) (before : List Entry) → flying ≡ kept_of x
     → mid ≡ before ++ entry.Took at flying.lpdu ∷ [] → AreNoted at before mid (Took (side_of at) x.frame ∷ [])
-took_noted at flying x before mid first is =
+took_noted at x before first is =
     is ∙ ap (λ (f : Flying). before ++ entry.Took at f.lpdu ∷ []) first
     ∙ ap (λ z. before ++ entry.Took z (lpdu_of x.frame) ∷ []) (sym (end_is at))
 
-pub taken : (near far near2 far2 : Side) (resets resets2 : ℕ) (l : Link) (at : End) (place : Place) (wire : Buffer Flying) (flying : Flying)
-    (took : ℕ) (before mid then now : List Entry) (f : TakesFirst l wire flying) → LinkStandsFor near far resets l
+pub taken : {near far near2 far2 : Side} {resets resets2 : ℕ} {l : Link} {at : End} {place : Place} {wire : Buffer Flying} {flying : Flying}
+    {took : ℕ} {before mid then now : List Entry} (f : TakesFirst l wire flying) → LinkStandsFor near far resets l
     → took ≡ max near.took flying.number → place ≡ record { at = at; session = max near.emitted took }
     → mid ≡ before ++ entry.Took at flying.lpdu ∷ []
     → AreNoted place.at mid then
@@ -185,9 +178,9 @@ pub taken : (near far near2 far2 : Side) (resets resets2 : ℕ) (l : Link) (at :
     LinkStandsFor near2 far2 resets2 (becomes (left_after l f.x f.xs) e)
     × AreNoted at then now (puts_entries (side_of at) (left_after l f.x f.xs) (frames_out e)))
     → HasHappened near2 far2 resets2 l (Step NextFrame (FetchMessage ∷ []) GoesOut) at before now
-taken near far near2 far2 resets resets2 l at place wire flying took before mid then now f h is so push told sent =
+taken {near2} {far2} {resets2} {l} {at} {before} {mid} {then} {now} f h is so push told sent =
     let e : LinkEnd = turn (after_input l.controller.side (Take f.x.frame)) FetchMessage in
-    let number = is ∙ took_is near far resets l flying f.x h f.first f.made in
+    let number = is ∙ took_is f.x h f.first f.made in
     let a : List Noted = Took (side_of at) f.x.frame ∷ [] in
     let b : List Noted = told_of (side_of at) (record l.controller { took = took_with l.controller.took f.x }) (Take f.x.frame) in
     let d : List Noted = puts_entries (side_of at) (left_after l f.x f.xs) (frames_out e) in
@@ -200,6 +193,6 @@ taken near far near2 far2 resets resets2 l at place wire flying took before mid 
     record {
       stands = subst R (sym link) sent.0;
       noted = subst T (sym notes)
-          (more_noted at before mid now a (b ++ d) (took_noted at flying f.x before mid f.first push)
-          (more_noted at mid then now b d (told_taken near far resets l at place f.x took mid then h number so told) sent.1));
+          (more_noted at before mid now a (b ++ d) (took_noted at f.x before f.first push)
+          (more_noted at mid then now b d (told_taken f.x mid h number so told) sent.1));
     }

@@ -52,12 +52,48 @@ lost_entry to x = ap (λ z. entry.Lost z (lpdu_of x.frame) Full ∷ []) (end_is 
 old_entry : (to : End) (x : OnWire) → entries_for to.link (Lost (side_of to) x.frame TooOld ∷ []) ≡ entry.Lost to (lpdu_of x.frame) Age ∷ []
 old_entry to x = ap (λ z. entry.Lost z (lpdu_of x.frame) Age ∷ []) (end_is to)
 
+lengths : (wire : Buffer Flying) (frames : List OnWire) → WireStandsFor wire frames → length wire.items ≡ length frames
+lengths wire frames w = ap length w.frames ∙ length-map frames
+
+some_first : (l : List Flying) (f : Flying) → slice_get (l ++ f ∷ []) 0 ≡ None → ⊥
+some_first [] f p = cc
+some_first (x ∷ l) f p = cc
+
+-- a frame was put last on a wire, and this one was pushed out, where one was
+pub record IsPutLast (wire new : Buffer Flying) (flying : Flying) (out : Option Flying) : Type 0 where
+  pub out_is : out ≡ cond (nat_lt (length wire.items) wire.capacity) None (slice_get (wire.items ++ flying ∷ []) 0)
+  pub new_is : new ≡ buffer (keep_last wire.capacity (wire.items ++ flying ∷ [])) wire.capacity
+
+was_lost : {wire new : Buffer Flying} {flying lost : Flying} {frames : List OnWire} → WireStandsFor wire frames → IsPutLast wire new flying (Some lost)
+    → (length frames ≡ 64) × (Some lost ≡ slice_get (wire.items ++ flying ∷ []) 0)
+was_lost {wire} {flying} {lost} {frames} w put = by (nat_lt (length wire.items) wire.capacity) refl
+  where
+    by : (b : Bool) → nat_lt (length wire.items) wire.capacity ≡ b → (length frames ≡ 64) × (Some lost ≡ slice_get (wire.items ++ flying ∷ []) 0)
+    by true q = absurd (let z : Some lost ≡ None = rw q at put.out_is in cc)
+    by false q =
+        let z : Some lost ≡ slice_get (wire.items ++ flying ∷ []) 0 = rw q at put.out_is in
+        let i = ltb-false (length wire.items) wire.capacity q in
+        let l = lengths wire frames w in
+        let f = w.few in let k = w.capacity in (omega (arith, i, l, f, k), z)
+
+pub not_full : {wire new : Buffer Flying} {flying : Flying} {frames : List OnWire} → WireStandsFor wire frames → IsPutLast wire new flying None
+    → length frames < 64
+not_full {wire} {flying} {frames} w put = by (nat_lt (length wire.items) wire.capacity) refl
+  where
+    by : (b : Bool) → nat_lt (length wire.items) wire.capacity ≡ b → length frames < 64
+    by true q =
+        let i = ltb-true (length wire.items) wire.capacity q in
+        let l = lengths wire frames w in let k = w.capacity in omega (arith, i, l, k)
+    by false q =
+        let z : None ≡ slice_get (wire.items ++ flying ∷ []) 0 = rw q at put.out_is in
+        absurd (some_first wire.items flying (sym z))
+
 -- there was room
-pub has_room : (wire new : Buffer Flying) (flying : Flying) (frames : List OnWire) (x : OnWire) (to : End) (entries : List Entry)
+pub has_room : {wire new : Buffer Flying} {flying : Flying} {frames : List OnWire} (x : OnWire) (to : End) (entries : List Entry)
     → WireStandsFor wire frames → flying ≡ kept_of x → IsMade x → new ≡ buffer (keep_last wire.capacity (wire.items ++ flying ∷ [])) wire.capacity
     → length frames < 64
     → WireStandsFor new (fits (frames ++ x ∷ [])) × AreNoted to entries entries (pushed_out (side_of to) (frames ++ x ∷ []))
-has_room wire new flying frames x to entries w is read made few =
+has_room {wire} {new} {flying} {frames} x to entries w is read made few =
     let all : List OnWire = frames ++ x ∷ [] in
     let len : length all ≡ length frames + 1 = length-append frames (x ∷ []) in
     let small : nat_lt 64 (length all) ≡ false = le-ltb 64 (length all) (omega (arith, len, few)) in
@@ -79,13 +115,14 @@ has_room wire new flying frames x to entries w is read made few =
       (let z : pushed_out (side_of to) all ≡ [] = rw small refl in sym (ap (λ n. entries ++ entries_for to.link n) z ∙ append-nil entries)),
     )
 
--- the wire was full
-pub was_full : (wire new : Buffer Flying) (flying lost : Flying) (frames : List OnWire) (x : OnWire) (to : End) (before now : List Entry)
-    → WireStandsFor wire frames → flying ≡ kept_of x → IsMade x → new ≡ buffer (keep_last wire.capacity (wire.items ++ flying ∷ [])) wire.capacity
-    → length frames ≡ 64 → Some lost ≡ slice_get (wire.items ++ flying ∷ []) 0 → now ≡ before ++ entry.Lost to lost.lpdu Full ∷ []
+-- the wire was full, so that its first frame was lost
+pub was_full : {wire new : Buffer Flying} {flying lost : Flying} {now : List Entry} (frames : List OnWire) (x : OnWire) (to : End)
+    (before : List Entry) → WireStandsFor wire frames → flying ≡ kept_of x → IsMade x → IsPutLast wire new flying (Some lost)
+    → now ≡ before ++ entry.Lost to lost.lpdu Full ∷ []
     → WireStandsFor new (fits (frames ++ x ∷ [])) × AreNoted to before now (pushed_out (side_of to) (frames ++ x ∷ []))
-was_full wire new flying lost [] x to before now w is read made full first noted = absurd (omega (arith, full))
-was_full wire new flying lost (y ∷ frames) x to before now w is read made full first noted =
+was_full [] x to before w is read put noted = absurd (let full = (was_lost w put).0 in omega (arith, full))
+was_full {wire} {new} {flying} {lost} (y ∷ frames) x to before w is read put noted =
+    let full = (was_lost w put).0 in
     let all : List OnWire = frames ++ x ∷ [] in
     let len : length all ≡ length frames + 1 = length-append frames (x ∷ []) in
     let big : nat_lt 64 (suc (length all)) ≡ true = lt-ltb 64 (suc (length all)) (omega (arith, len, full)) in
@@ -95,9 +132,9 @@ was_full wire new flying lost (y ∷ frames) x to before now w is read made full
     let kept : keep_last 64 (kept_of y ∷ map kept_of all) ≡ map kept_of all =
     keep_but_one 64 (kept_of y) (map kept_of all) (let z = length-map all in omega (arith, z, len, full)) in
     let new_is : new ≡ buffer (map kept_of all) 64 =
-    made ∙ ap (λ n. buffer (keep_last n (wire.items ++ flying ∷ [])) n) w.capacity ∙ ap (λ l. buffer (keep_last 64 l) 64) items
+    put.new_is ∙ ap (λ n. buffer (keep_last n (wire.items ++ flying ∷ [])) n) w.capacity ∙ ap (λ l. buffer (keep_last 64 l) 64) items
     ∙ ap (λ l. buffer l 64) kept in
-    let gone : lost ≡ kept_of y = some_is lost (kept_of y) (first ∙ ap (λ l. slice_get l 0) items) in
+    let gone : lost ≡ kept_of y = some_is lost (kept_of y) ((was_lost w put).1 ∙ ap (λ l. slice_get l 0) items) in
     let P : List OnWire → Type 0 = λ l. WireStandsFor new l in
     let stays : fits (y ∷ all) ≡ all = rw big refl in (
       subst P (sym stays)
@@ -112,95 +149,65 @@ was_full wire new flying lost (y ∷ frames) x to before now w is read made full
           ∙ ap (λ es. before ++ es) (sym (lost_entry to y)) ∙ ap (λ n. before ++ entries_for to.link n) (sym z)),
     )
 
-lengths : (wire : Buffer Flying) (frames : List OnWire) → WireStandsFor wire frames → length wire.items ≡ length frames
-lengths wire frames w = ap length w.frames ∙ length-map frames
-
-some_first : (l : List Flying) (f : Flying) → slice_get (l ++ f ∷ []) 0 ≡ None → ⊥
-some_first [] f p = cc
-some_first (x ∷ l) f p = cc
-
-pub was_lost : (wire : Buffer Flying) (flying : Flying) (frames : List OnWire) (lost : Flying) (result : Option Flying) → WireStandsFor wire frames
-    → result ≡ cond (nat_lt (length wire.items) wire.capacity) None (slice_get (wire.items ++ flying ∷ []) 0) → result ≡ Some lost
-    → (length frames ≡ 64) × (Some lost ≡ slice_get (wire.items ++ flying ∷ []) 0)
-was_lost wire flying frames lost result w value is = by (nat_lt (length wire.items) wire.capacity) refl
-  where
-    by : (b : Bool) → nat_lt (length wire.items) wire.capacity ≡ b → (length frames ≡ 64) × (Some lost ≡ slice_get (wire.items ++ flying ∷ []) 0)
-    by true q = absurd (let z : result ≡ None = rw q at value in let y : None ≡ Some lost = sym z ∙ is in cc)
-    by false q =
-        let z : result ≡ slice_get (wire.items ++ flying ∷ []) 0 = rw q at value in
-        let i = ltb-false (length wire.items) wire.capacity q in
-        let l = lengths wire frames w in
-        let f = w.few in let k = w.capacity in (omega (arith, i, l, f, k), sym is ∙ z)
-
-pub not_full : (wire : Buffer Flying) (flying : Flying) (frames : List OnWire) (result : Option Flying) → WireStandsFor wire frames
-    → result ≡ cond (nat_lt (length wire.items) wire.capacity) None (slice_get (wire.items ++ flying ∷ []) 0) → result ≡ None → length frames < 64
-not_full wire flying frames result w value is = by (nat_lt (length wire.items) wire.capacity) refl
-  where
-    by : (b : Bool) → nat_lt (length wire.items) wire.capacity ≡ b → length frames < 64
-    by true q =
-        let i = ltb-true (length wire.items) wire.capacity q in
-        let l = lengths wire frames w in let k = w.capacity in omega (arith, i, l, k)
-    by false q =
-        let z : result ≡ slice_get (wire.items ++ flying ∷ []) 0 = rw q at value in
-        absurd (some_first wire.items flying (sym z ∙ is))
-
 -- ## All frames grow older
 
-pub first_is : (wire : Buffer Flying) (flying : Flying) (x : OnWire) (frames : List OnWire) (result : Option Flying) → WireStandsFor wire (x ∷ frames)
-    → result ≡ slice_get wire.items 0 → result ≡ Some flying → flying ≡ kept_of x
-first_is wire flying x frames result w value is = some_is flying (kept_of x) (sym is ∙ (value ∙ ap (λ l. slice_get l 0) w.frames))
+-- the first frame was taken off a wire, where there was one
+pub record IsTakenOff (wire new : Buffer Flying) (first : Option Flying) : Type 0 where
+  pub first_is : first ≡ slice_get wire.items 0
+  pub new_is : new ≡ buffer (drop 1 wire.items) wire.capacity
 
-pub there_is_one : (wire : Buffer Flying) (x : OnWire) (frames : List OnWire) (result : Option Flying) → WireStandsFor wire (x ∷ frames)
-    → result ≡ slice_get wire.items 0 → result ≡ None → ⊥
-there_is_one wire x frames result w value none =
-    let z : None ≡ Some (kept_of x) = sym none ∙ (value ∙ ap (λ l. slice_get l 0) w.frames) in cc
+pub first_is : {wire new : Buffer Flying} {flying : Flying} {x : OnWire} {frames : List OnWire} → WireStandsFor wire (x ∷ frames)
+    → IsTakenOff wire new (Some flying) → flying ≡ kept_of x
+first_is {flying} {x} w off = some_is flying (kept_of x) (off.first_is ∙ ap (λ l. slice_get l 0) w.frames)
+
+pub there_is_one : {wire new : Buffer Flying} {x : OnWire} {frames : List OnWire} → WireStandsFor wire (x ∷ frames) → IsTakenOff wire new None → ⊥
+there_is_one {x} w off = let z : None ≡ Some (kept_of x) = off.first_is ∙ ap (λ l. slice_get l 0) w.frames in cc
+
+pub there_is_none : {wire new : Buffer Flying} {flying : Flying} → WireStandsFor wire [] → IsTakenOff wire new (Some flying) → ⊥
+there_is_none {flying} w off = let z : Some flying ≡ None = off.first_is ∙ ap (λ l. slice_get l 0) w.frames in cc
 
 -- the wire without its first frame
-rest_is : (wire new : Buffer Flying) (x : OnWire) (frames : List OnWire) → WireStandsFor wire (x ∷ frames)
-    → new ≡ buffer (drop 1 wire.items) wire.capacity → WireStandsFor new frames
-rest_is wire new x frames w is =
+pub taken_off : {wire new : Buffer Flying} {first : Option Flying} {x : OnWire} {frames : List OnWire} → WireStandsFor wire (x ∷ frames)
+    → IsTakenOff wire new first → WireStandsFor new frames
+taken_off w off =
     record {
-      frames = ap (λ (b : Buffer Flying). b.items) is ∙ ap (drop 1) w.frames;
-      capacity = ap (λ (b : Buffer Flying). b.capacity) is ∙ w.capacity;
+      frames = ap (λ (b : Buffer Flying). b.items) off.new_is ∙ ap (drop 1) w.frames;
+      capacity = ap (λ (b : Buffer Flying). b.capacity) off.new_is ∙ w.capacity;
       few = omega (arith, w.few);
       made = w.made.1;
     }
 
-pub taken_off : (wire new : Buffer Flying) (x : OnWire) (frames : List OnWire) → WireStandsFor wire (x ∷ frames)
-    → new ≡ buffer (drop 1 wire.items) wire.capacity → WireStandsFor new frames
-taken_off wire new x frames w is = rest_is wire new x frames w is
-
-pub too_old : (wire new : Buffer Flying) (flying : Flying) (x : OnWire) (frames : List OnWire) (to : End) (before now : List Entry)
-    → WireStandsFor wire (x ∷ frames) → new ≡ buffer (drop 1 wire.items) wire.capacity → flying ≡ kept_of x → 4 ≤ flying.age
-    → now ≡ before ++ entry.Lost to flying.lpdu Age ∷ []
+pub too_old : {wire new : Buffer Flying} {flying : Flying} {x : OnWire} {frames : List OnWire} {now : List Entry} (to : End) (before : List Entry)
+    → WireStandsFor wire (x ∷ frames) → IsTakenOff wire new (Some flying) → 4 ≤ flying.age → now ≡ before ++ entry.Lost to flying.lpdu Age ∷ []
     → WireStandsFor new (frames ++ aged_wire (x ∷ [])) × AreNoted to before now (aged_entries (side_of to) (x ∷ []))
-too_old wire new flying x frames to before now w is first old noted =
+too_old {new} {flying} {x} {frames} to before w off old noted =
+    let first : flying ≡ kept_of x = first_is w off in
     let age : 4 ≤ x.age = let z = ap (λ (f : Flying). f.age) first in omega (arith, z, old) in
     let q : nat_lt x.age 4 ≡ false = le-ltb x.age 4 age in
     let none : frames ++ aged_wire (x ∷ []) ≡ frames = rw q (append-nil frames) in
     let told : aged_entries (side_of to) (x ∷ []) ≡ Lost (side_of to) x.frame TooOld ∷ [] = rw q refl in
     let P : List OnWire → Type 0 = λ l. WireStandsFor new l in (
-      subst P (sym none) (rest_is wire new x frames w is),
+      subst P (sym none) (taken_off w off),
       noted ∙ ap (λ (f : Flying). before ++ entry.Lost to f.lpdu Age ∷ []) first
           ∙ ap (λ es. before ++ es) (sym (old_entry to x)) ∙ ap (λ n. before ++ entries_for to.link n) (sym told),
     )
 
-pub grows_older : (wire mid new : Buffer Flying) (flying : Flying) (x : OnWire) (frames : List OnWire) (to : End) (entries : List Entry)
-    → WireStandsFor wire (x ∷ frames) → mid ≡ buffer (drop 1 wire.items) wire.capacity → flying ≡ kept_of x → flying.age < 4
+pub grows_older : {wire mid new : Buffer Flying} {flying : Flying} {x : OnWire} {frames : List OnWire} (to : End) (entries : List Entry)
+    → WireStandsFor wire (x ∷ frames) → IsTakenOff wire mid (Some flying) → flying.age < 4
     → new ≡ buffer (keep_last mid.capacity (mid.items ++ record { lpdu = flying.lpdu; age = flying.age + 1; number = flying.number } ∷ [])) mid.capacity
     → WireStandsFor new (frames ++ aged_wire (x ∷ [])) × AreNoted to entries entries (aged_entries (side_of to) (x ∷ []))
-grows_older wire mid new flying x frames to entries w is first young made =
+grows_older {new} {flying} {x} {frames} to entries w off young made =
+    let first : flying ≡ kept_of x = first_is w off in
     let age : x.age < 4 = let z = ap (λ (f : Flying). f.age) first in omega (arith, z, young) in
     let q : nat_lt x.age 4 ≡ true = lt-ltb x.age 4 age in
     let older : OnWire = record x { age = x.age + 1 } in
     let one : aged_wire (x ∷ []) ≡ older ∷ [] = rw q refl in
     let told : aged_entries (side_of to) (x ∷ []) ≡ [] = rw q refl in
-    let rest = rest_is wire mid x frames w is in
     let few : length frames < 64 = let z = w.few in omega (arith, z) in
     let len : length (frames ++ older ∷ []) ≡ length frames + 1 = length-append frames (older ∷ []) in
     let small : nat_lt 64 (length (frames ++ older ∷ [])) ≡ false = le-ltb 64 (length (frames ++ older ∷ [])) (omega (arith, len, few)) in
     let fit : fits (frames ++ older ∷ []) ≡ frames ++ older ∷ [] = rw small refl in
-    let put = has_room mid new (record { lpdu = flying.lpdu; age = flying.age + 1; number = flying.number }) frames older to entries rest
+    let put = has_room older to entries (taken_off w off)
     (ap (λ (f : Flying). record { lpdu = f.lpdu; age = f.age + 1; number = f.number }) first) w.made.0 made few in
     let P : List OnWire → Type 0 = λ l. WireStandsFor new l in (
       subst P (fit ∙ ap (λ l. frames ++ l) (sym one)) put.0,

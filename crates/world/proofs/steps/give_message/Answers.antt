@@ -15,7 +15,7 @@ returns-then-is_some-clause-unchanged c l h =
     let m : LinkEnd = l.controller.side in
     let P : List ℕ → Type 0 = λ b. g.result ≡ as_noted (give_refusal m (c.args.pid, b)) in
     let Q : List ℕ → Type 0 = λ b. NodeStandsFor g.new.self (turn m (Give (c.args.pid, b))) in
-    refused_give c.args.near.now c.args.far.now c.args.resets.now l g.new.self (c.args.pid, c.args.message.now) g.result c.args.entries.now.items h
+    refused_give (c.args.pid, c.args.message.now) g.result c.args.entries.now.items h
     (subst P c.as_slice.ensures (g.ensures.refused m h.here.has.node)) (subst Q c.as_slice.ensures (g.ensures.stands m h.here.has.node))
 
 pub send_all-requires-clause-state : goal.send_all-requires-clause-state
@@ -26,8 +26,7 @@ send_all-requires-clause-state c =
     let x : Message = (c.args.pid, c.args.message.now) in (
       s.0,
       turn m (Give x),
-      midway c.args.near.now c.args.far.now c.args.resets.now s.0 c.give-refused.new.self (turn m (Give x)) false s.1
-          (subst Q c.as_slice.ensures (c.give-refused.ensures.stands m s.1.here.has.node)) (give_most m x s.1.here.idle),
+      midway false s.1 (subst Q c.as_slice.ensures (c.give-refused.ensures.stands m s.1.here.has.node)) (give_most m x s.1.here.idle),
     )
 
 pub returns-clause-stands : goal.returns-clause-stands
@@ -38,11 +37,8 @@ returns-clause-stands c l h none =
     let P : List ℕ → Type 0 = λ b. g.result ≡ as_noted (give_refusal m (c.args.pid, b)) in
     let Q : List ℕ → Type 0 = λ b. NodeStandsFor g.new.self (turn m (Give (c.args.pid, b))) in
     let r = c.in_ok-send_all.ensures.stands l (turn m (Give x))
-    (midway c.args.near.now c.args.far.now c.args.resets.now l g.new.self (turn m (Give x)) false h
-    (subst Q c.as_slice.ensures (g.ensures.stands m h.here.has.node)) (give_most m x h.here.idle)) in
-    gives c.send_all.new.near c.send_all.new.far c.send_all.new.resets l c.args.at c.place-place.result.session x c.in_ok-clone.field-0
-    c.args.entries.now.items c.push.new.self.items c.send_all.new.entries.items
-    (ap (λ (p : Place). p.session) c.place-place.ensures ∙ session_is c.args.near.now c.args.far.now c.args.resets.now l h)
+    (midway false h (subst Q c.as_slice.ensures (g.ensures.stands m h.here.has.node)) (give_most m x h.here.idle)) in
+    gives (ap (λ (p : Place). p.session) c.place-place.ensures ∙ session_is h)
     (accepted g.result (give_refusal m x) (subst P c.as_slice.ensures (g.ensures.refused m h.here.has.node))
     (sym c.if-is_some.ensures)) c.in_ok-clone.ensures.cases
     c.in_ok-push.ensures.items r

@@ -1,3 +1,6 @@
+use Rattle.std.proofs.Common.{sym, ◌∙◌}
+use Rattle.std.specs.Prelude.{Some}
+use Rattle.world.proofs.Wires.{IsTakenOff}
 use Rattle.world.proofs.Stepping.{lost_first}
 use Rattle.world.proofs.steps.lose_frame.Goals as goal
 
@@ -6,6 +9,7 @@ returns-in_ok-push c =
     record {
       stands = λ l why h is.
           (let p = c.pop_front in
-          lost_first c.args.near.now c.args.far.now c.args.resets l why c.args.cause c.args.at p.new.self c.in-Some.flying p.result
-          c.args.entries.now.items c.push.new.self.items h is p.ensures.value c.in-Some.is p.ensures.items c.in_ok-push.ensures.items);
+          let off : IsTakenOff c.args.near.now.wire p.new.self (Some c.in-Some.flying) =
+          record { first_is = sym c.in-Some.is ∙ p.ensures.value; new_is = p.ensures.items } in
+          lost_first h is off c.in_ok-push.ensures.items);
     }

@@ -19,8 +19,11 @@ returns-clause-stands c l m frame h is read =
     on_ok c.put_last.result
     (c.put_last.ensures l.to_host (record { frame = frame; age = 0; number = k.result }) h.there.has.wire_is (flying_is c.args.lpdu frame k.result is)
     (made_is c.args.lpdu frame k.result (c.args.resets.now + 1) is read (k.ensures.number frame read)))
-    (λ put. put_is c.args.near.now c.args.far.now c.args.resets.now l m frame k.new.emitted k.new.resets k.result c.put_last.new.wire c.args.at
-    c.args.entries.now.items c.push.new.self.items c.put_last.new.entries.items h (k.ensures.number frame read) (k.ensures.resets frame read)
-    (k.ensures.emitted frame read)
+    (λ put. put_is c.args.at c.args.entries.now.items h
+    (record {
+      number_is = k.ensures.number frame read;
+      resets_is = k.ensures.resets frame read;
+      emitted_is = k.ensures.emitted frame read;
+    })
     (c.in_ok-push.ensures.items ∙ ap (λ (b : List ℕ). c.args.entries.now.items ++ entry.Emit c.args.at b ∷ []) (c.copied.ensures ∙ is))
     (subst P c.other.ensures put))

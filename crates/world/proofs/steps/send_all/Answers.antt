@@ -1,10 +1,10 @@
 use Rattle.std.proofs.Common.{◌≡◌, ℕ, suc, ◌+◌, ◌-◌, subst, arith}
-use Rattle.world.proofs.Sending.{Sending, sending_starts, sending_goes_on, sending_stops, sending_ends}
+use Rattle.world.proofs.Sending.{Sending, IsAboutToSend, sending_starts, sending_goes_on, sending_stops, sending_ends}
 use Rattle.world.proofs.steps.send_all.Goals as goal
 
 pub loop-init : goal.loop-init
 loop-init c =
-    (λ l m h. sending_starts c.args.at c.args.near.now c.args.far.now c.args.resets.now l m c.args.entries.now.items h, omega arith)
+    (λ l m h. sending_starts h, omega arith)
 
 pub next_out-requires : goal.next_out-requires
 next_out-requires c =
@@ -15,8 +15,10 @@ pub returns-in_default-clause-stands : goal.returns-in_default-clause-stands
 returns-in_default-clause-stands c l m h =
     let n = c.next_out in
     let s = c.loop.invariant.0 l m h in
-    sending_stops c.args.at c.loop.near c.loop.far n.new.self c.loop.resets l m c.args.entries.now.items c.loop.entries.items (12 - c.loop.counter)
-    n.result s (n.ensures.stands s.e s.midway.here.node) (n.ensures.answer s.e s.midway.here.node) c.in_default.is
+    let node = s.midway.here.node in
+    let about : IsAboutToSend n.new.self s.e n.result =
+    record { node = n.ensures.stands s.e node; fetched_is = n.ensures.answer s.e node; read = n.ensures.read s.e node } in
+    sending_stops s about c.in_default.is
 
 pub returns-in_default-clause-grows : goal.returns-in_default-clause-grows
 returns-in_default-clause-grows c = let i = c.loop.invariant.1 in omega (arith, i, c.loop-test.true)
@@ -35,10 +37,10 @@ loop-preserved c =
           (let left : 12 - c.loop.counter ≡ suc (12 - (c.loop.counter + 1)) = omega (arith, c.loop-test.true) in
           let P : ℕ → Type 0 = λ k. Sending c.args.at c.loop.near c.loop.far c.loop.resets l m c.args.entries.now.items c.loop.entries.items k in
           let s = subst P left (c.loop.invariant.0 l m h) in
-          sending_goes_on c.args.at c.loop.near c.loop.far c.put.new.near c.put.new.far n.new.self c.loop.resets c.put.new.resets l m
-          c.args.entries.now.items c.loop.entries.items c.put.new.entries.items (12 - (c.loop.counter + 1)) c.in-Some.lpdu n.result s
-          (n.ensures.stands s.e s.midway.here.node) (n.ensures.answer s.e s.midway.here.node) (n.ensures.read s.e s.midway.here.node)
-          c.in-Some.is (λ k e f. c.in_ok-put.ensures.stands k e f)),
+          let node = s.midway.here.node in
+          let about : IsAboutToSend n.new.self s.e n.result =
+          record { node = n.ensures.stands s.e node; fetched_is = n.ensures.answer s.e node; read = n.ensures.read s.e node } in
+          sending_goes_on s about c.in-Some.is (λ k e f. c.in_ok-put.ensures.stands k e f)),
       (let i = c.loop.invariant.1 in let g = c.put.ensures.grows in omega (arith, i, g)),
     )
 
@@ -46,8 +48,7 @@ pub returns-clause-stands : goal.returns-clause-stands
 returns-clause-stands c l m h =
     let none : 12 - c.loop.counter ≡ 0 = omega (arith, c.loop-test.false) in
     let P : ℕ → Type 0 = λ k. Sending c.args.at c.loop.near c.loop.far c.loop.resets l m c.args.entries.now.items c.loop.entries.items k in
-    sending_ends c.args.at c.loop.near c.loop.far c.loop.resets l m c.args.entries.now.items c.loop.entries.items
-    (subst P none (c.loop.invariant.0 l m h))
+    sending_ends (subst P none (c.loop.invariant.0 l m h))
 
 pub returns-clause-grows : goal.returns-clause-grows
 returns-clause-grows c = let i = c.loop.invariant.1 in let e = c.loop.auto.counter-end in omega (arith, i, e)

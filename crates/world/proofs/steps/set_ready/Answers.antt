@@ -9,27 +9,25 @@ use Rattle.world.proofs.steps.set_ready.Goals as goal
 pub hold-requires : goal.hold-requires
 hold-requires c =
     let s = c.requires.state in
-    (s.0.controller.side, s.1.here.has.node, room_here c.args.near.now c.args.far.now c.args.resets.now s.0 s.1)
+    (s.0.controller.side, s.1.here.has.node, room_here s.1)
 
 pub send_all-requires-clause-state : goal.send_all-requires-clause-state
 send_all-requires-clause-state c =
     let s = c.requires.state in
     let m : LinkEnd = s.0.controller.side in
-    let room = room_here c.args.near.now c.args.far.now c.args.resets.now s.0 s.1 in
+    let room = room_here s.1 in
     let e : LinkEnd = turn m (Hold (not c.args.ready)) in (
       s.0,
       e,
-      midway c.args.near.now c.args.far.now c.args.resets.now s.0 c.hold.new.self e false s.1 (c.hold.ensures m s.1.here.has.node room)
-          (hold_most m (not c.args.ready) s.1.here.idle),
+      midway false s.1 (c.hold.ensures m s.1.here.has.node room) (hold_most m (not c.args.ready) s.1.here.idle),
     )
 
 pub returns-clause-stands : goal.returns-clause-stands
 returns-clause-stands c l h =
     let m : LinkEnd = l.controller.side in
-    let room = room_here c.args.near.now c.args.far.now c.args.resets.now l h in
+    let room = room_here h in
     let e : LinkEnd = turn m (Hold (not c.args.ready)) in
     on_ok c.send_all.result
     (c.send_all.ensures.stands l e
-    (midway c.args.near.now c.args.far.now c.args.resets.now l c.hold.new.self e false h (c.hold.ensures m h.here.has.node room)
-    (hold_most m (not c.args.ready) h.here.idle)))
+    (midway false h (c.hold.ensures m h.here.has.node room) (hold_most m (not c.args.ready) h.here.idle)))
     (λ r. record { stands = r.0; noted = r.1 })

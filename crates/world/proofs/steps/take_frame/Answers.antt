@@ -1,4 +1,5 @@
-use Rattle.std.proofs.Common.{◌∷◌, [], ◌∙◌}
+use Rattle.std.proofs.Common.{sym, ◌∙◌}
+use Rattle.std.specs.Prelude.{Some}
 use Rattle.link_machine.specs.Machine.{LinkEnd, after_input, turn}
 use Rattle.link_machine.specs.Machine.LinkInput.{Take}
 use Rattle.link_machine.specs.Machine.Turn.{FetchMessage}
@@ -6,19 +7,19 @@ use Rattle.link_entries.specs.Entries.{left_after}
 use Rattle.world.proofs.Results.{on_ok}
 use Rattle.world.proofs.Bare.{took_most}
 use Rattle.world.proofs.Acting.{bare_here, room_here}
+use Rattle.world.proofs.Wires.{IsTakenOff}
 use Rattle.world.proofs.Taking.{takes_first, takes_none, taken_midway, reads_first, taken}
 use Rattle.world.proofs.steps.take_frame.Goals as goal
 
 pub returns-in_default-clause-stands : goal.returns-in_default-clause-stands
 returns-in_default-clause-stands c l h short =
     let p = c.pop_front in
-    takes_none c.args.near.now c.args.far.now c.args.resets.now l (FetchMessage ∷ []) c.args.at p.new.self p.result c.args.entries.now.items h
-    p.ensures.value c.in_default.is p.ensures.items
+    takes_none h (record { first_is = sym c.in_default.is ∙ p.ensures.value; new_is = p.ensures.items })
 
 pub take-requires-clause-stands : goal.take-requires-clause-stands
 take-requires-clause-stands c =
     let s = c.requires.state in
-    (s.0.controller.side, s.1.here.has.node, room_here c.args.near.now c.args.far.now c.args.resets.now s.0 s.1)
+    (s.0.controller.side, s.1.here.has.node, room_here s.1)
 
 pub take-requires-clause-read : goal.take-requires-clause-read
 take-requires-clause-read c = (c.in-Some.flying.lpdu, c.read_lpdu-read.ensures.says)
@@ -28,33 +29,30 @@ send_all-requires-clause-state c =
     let s = c.requires.state in
     let p = c.pop_front in
     let m : LinkEnd = s.0.controller.side in
-    let room = room_here c.args.near.now c.args.far.now c.args.resets.now s.0 s.1 in
-    let bare = bare_here c.args.near.now c.args.far.now c.args.resets.now s.0 s.1 in
-    let f = takes_first c.args.near.now c.args.far.now c.args.resets.now s.0 p.new.self c.in-Some.flying p.result s.1 p.ensures.value c.in-Some.is
-    p.ensures.items in
+    let room = room_here s.1 in
+    let bare = bare_here s.1 in
+    let off : IsTakenOff c.args.near.now.wire p.new.self (Some c.in-Some.flying) =
+    record { first_is = sym c.in-Some.is ∙ p.ensures.value; new_is = p.ensures.items } in
+    let f = takes_first s.1 off in
     let e : LinkEnd = turn (after_input m (Take f.x.frame)) FetchMessage in
-    let t = c.in_ok-take.ensures m f.x.frame s.1.here.has.node room (c.read_lpdu-read.ensures.says ∙ reads_first s.0 p.new.self c.in-Some.flying f) s.2 in (
+    let t = c.in_ok-take.ensures m f.x.frame s.1.here.has.node room (c.read_lpdu-read.ensures.says ∙ reads_first f) s.2 in (
       left_after s.0 f.x f.xs,
       e,
-      taken_midway c.args.near.now c.args.far.now c.args.resets.now s.0 c.take.new.self p.new.self c.in-Some.flying c.max-near.result e f s.1 t.0
-          (took_most m f.x.frame bare s.1.here.idle) c.max-near.ensures,
+      taken_midway f s.1 t.0 (took_most m f.x.frame bare s.1.here.idle) c.max-near.ensures,
     )
 
 pub returns-clause-stands : goal.returns-clause-stands
 returns-clause-stands c l h short =
     let p = c.pop_front in
     let m : LinkEnd = l.controller.side in
-    let room = room_here c.args.near.now c.args.far.now c.args.resets.now l h in
-    let bare = bare_here c.args.near.now c.args.far.now c.args.resets.now l h in
-    let f = takes_first c.args.near.now c.args.far.now c.args.resets.now l p.new.self c.in-Some.flying p.result h p.ensures.value c.in-Some.is
-    p.ensures.items in
+    let room = room_here h in
+    let bare = bare_here h in
+    let off : IsTakenOff c.args.near.now.wire p.new.self (Some c.in-Some.flying) =
+    record { first_is = sym c.in-Some.is ∙ p.ensures.value; new_is = p.ensures.items } in
+    let f = takes_first h off in
     let e : LinkEnd = turn (after_input m (Take f.x.frame)) FetchMessage in
-    let t = c.in_ok-take.ensures m f.x.frame h.here.has.node room (c.read_lpdu-read.ensures.says ∙ reads_first l p.new.self c.in-Some.flying f) short in
+    let t = c.in_ok-take.ensures m f.x.frame h.here.has.node room (c.read_lpdu-read.ensures.says ∙ reads_first f) short in
     on_ok c.send_all.result
     (c.send_all.ensures.stands (left_after l f.x f.xs) e
-    (taken_midway c.args.near.now c.args.far.now c.args.resets.now l c.take.new.self p.new.self c.in-Some.flying c.max-near.result e f h t.0
-    (took_most m f.x.frame bare h.here.idle) c.max-near.ensures))
-    (λ r. taken c.args.near.now c.args.far.now c.send_all.new.near c.send_all.new.far c.args.resets.now c.send_all.new.resets l c.args.at
-    c.place-place.result p.new.self c.in-Some.flying c.max-near.result c.args.entries.now.items c.push.new.self.items c.take.new.entries.items
-    c.send_all.new.entries.items f h c.max-near.ensures c.place-place.ensures
-    c.in_ok-push.ensures.items t.1 r)
+    (taken_midway f h t.0 (took_most m f.x.frame bare h.here.idle) c.max-near.ensures))
+    (λ r. taken f h c.max-near.ensures c.place-place.ensures c.in_ok-push.ensures.items t.1 r)

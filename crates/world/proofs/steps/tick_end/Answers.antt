@@ -10,33 +10,27 @@ use Rattle.world.proofs.steps.tick_end.Goals as goal
 pub tick-requires : goal.tick-requires
 tick-requires c =
     let s = c.requires.state in
-    (s.0.controller.side, s.1.here.has.node, room_here c.args.near.now c.args.far.now c.args.resets.now s.0 s.1)
+    (s.0.controller.side, s.1.here.has.node, room_here s.1)
 
 pub send_all-requires-clause-state : goal.send_all-requires-clause-state
 send_all-requires-clause-state c =
     let s = c.requires.state in
     let m : LinkEnd = s.0.controller.side in
-    let room = room_here c.args.near.now c.args.far.now c.args.resets.now s.0 s.1 in
-    let bare = bare_here c.args.near.now c.args.far.now c.args.resets.now s.0 s.1 in
+    let room = room_here s.1 in
+    let bare = bare_here s.1 in
     let t = c.in_ok-tick.ensures m s.1.here.has.node room s.2 in (
       with_ended s.0 (is_some (ended_by m Tick)),
       after_input m Tick,
-      midway c.args.near.now c.args.far.now c.args.resets.now s.0 c.tick.new.self (after_input m Tick) (is_some (ended_by m Tick)) s.1 t.0
-          (tick_most m bare s.1.here.idle),
+      midway (is_some (ended_by m Tick)) s.1 t.0 (tick_most m bare s.1.here.idle),
     )
 
 pub returns-clause-stands : goal.returns-clause-stands
 returns-clause-stands c l h short =
     let m : LinkEnd = l.controller.side in
-    let room = room_here c.args.near.now c.args.far.now c.args.resets.now l h in
-    let bare = bare_here c.args.near.now c.args.far.now c.args.resets.now l h in
+    let room = room_here h in
+    let bare = bare_here h in
     let t = c.in_ok-tick.ensures m h.here.has.node room short in
     on_ok c.send_all.result
     (c.send_all.ensures.stands (with_ended l (is_some (ended_by m Tick))) (after_input m Tick)
-    (midway c.args.near.now c.args.far.now c.args.resets.now l c.tick.new.self (after_input m Tick) (is_some (ended_by m Tick)) h t.0
-    (tick_most m bare h.here.idle)))
-    (λ r. (
-      r.0,
-      input_noted c.args.near.now c.args.far.now c.args.resets.now l c.args.at c.place-place.result Tick c.args.entries.now.items
-          c.tick.new.entries.items c.send_all.new.entries.items h c.place-place.ensures t.1 r.1,
-    ))
+    (midway (is_some (ended_by m Tick)) h t.0 (tick_most m bare h.here.idle)))
+    (λ r. (r.0, input_noted Tick c.args.entries.now.items h c.place-place.ensures t.1 r.1))

@@ -3,4 +3,4 @@ use Rattle.world.proofs.node.Node.hold.Goals as goal
 
 pub returns : goal.returns
 returns c m h room =
-    holds c.args.self.now c.hold.new.self m c.args.held h (c.hold.ensures.stands c.args.self.now.pool m h.has.stands) c.hold.ensures.boxes.1
+    holds c.args.held h (c.hold.ensures.stands c.args.self.now.pool m h.has.stands) c.hold.ensures.boxes.1

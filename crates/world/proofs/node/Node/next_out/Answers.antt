@@ -3,4 +3,4 @@ use Rattle.world.proofs.node.Node.next_out.Goals as goal
 
 pub returns-clause-stands : goal.returns-clause-stands
 returns-clause-stands c m h =
-    fetches_frame c.args.self.now c.next_out.new.self m h (c.next_out.ensures.stands m h.has.stands) c.next_out.ensures.boxes.1
+    fetches_frame h (c.next_out.ensures.stands m h.has.stands) c.next_out.ensures.boxes.1

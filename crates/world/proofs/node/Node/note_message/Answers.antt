@@ -1,21 +1,24 @@
-use Rattle.std.proofs.Common.{sym, ap, ◌∙◌, subst}
+use Rattle.std.proofs.Common.{ap, subst}
 use Rattle.std.specs.Prelude.{option_map, Option}
 use Rattle.block_pool.specs.declared.chain.Chain.{Chain}
-use Rattle.block_pool.specs.Pool.{chain_bytes}
 use Rattle.link_end.specs.Ends.{Accounts}
 use Rattle.world.proofs.Results.{none_is}
-use Rattle.world.proofs.Nodes.{fetches_none, fetches_one, fetched_live}
+use Rattle.world.proofs.Nodes.{HasFetched, fetches_none, fetches_one, fetched_live}
 use Rattle.world.proofs.node.Node.note_message.Goals as goal
 
 pub returns-in_default : goal.returns-in_default
 returns-in_default c m h =
     let f = c.next_message in
-    let none = none_is f.result c.in_default.not-Some in
     let pool = c.args.self.now.pool in
-    let P : Option Chain → Type 0 = λ o. Accounts f.new.self.link pool o in
-    fetches_none c.args.self.now f.new.self m c.args.place.at c.args.place.session c.args.entries.now.items h (f.ensures.stands pool m h.stands)
-    (subst P (ap (option_map (λ x. x.1)) none) (f.ensures.accounts pool m h.stands h.accounts))
-    (sym (f.ensures.answer pool m h.stands) ∙ ap (option_map (λ x. (x.0, chain_bytes pool x.1))) none)
+    let fetched : HasFetched c.args.self.now f.new.self m f.result =
+    record {
+      has = h;
+      stands = f.ensures.stands pool m h.stands;
+      accounts = f.ensures.accounts pool m h.stands h.accounts;
+      oldest_is = f.ensures.answer pool m h.stands;
+      none_left = f.ensures.fetched;
+    } in
+    fetches_none c.args.place c.args.entries.now.items fetched (none_is f.result c.in_default.not-Some)
 
 pub copied-requires : goal.copied-requires
 copied-requires c =
@@ -39,9 +42,13 @@ pub returns : goal.returns
 returns c m h =
     let f = c.next_message in
     let pool = c.args.self.now.pool in
-    let P : Option Chain → Type 0 = λ o. Accounts f.new.self.link pool o in
-    fetches_one c.args.self.now f.new.self c.give.new.self m c.args.place.at c.args.place.session c.in-Some.pid c.in-Some.chain
-    c.in_ok-message.message c.args.entries.now.items c.push.new.self.items h (f.ensures.stands pool m h.stands)
-    (subst P (ap (option_map (λ x. x.1)) c.in-Some.is) (f.ensures.accounts pool m h.stands h.accounts)) f.ensures.fetched
-    (ap (option_map (λ x. (x.0, chain_bytes pool x.1))) (sym c.in-Some.is) ∙ f.ensures.answer pool m h.stands)
-    c.give.ensures.given c.give.ensures.others c.in_ok-message.ensures c.in_ok-push.ensures.items
+    let fetched : HasFetched c.args.self.now f.new.self m f.result =
+    record {
+      has = h;
+      stands = f.ensures.stands pool m h.stands;
+      accounts = f.ensures.accounts pool m h.stands h.accounts;
+      oldest_is = f.ensures.answer pool m h.stands;
+      none_left = f.ensures.fetched;
+    } in
+    fetches_one c.args.place c.args.entries.now.items fetched c.in-Some.is c.give.ensures.given c.give.ensures.others c.in_ok-message.ensures
+    c.in_ok-push.ensures.items

@@ -1,7 +1,7 @@
 use Rattle.std.proofs.Common.{refl, sym, ◌∙◌}
 use Rattle.link_machine.specs.Machine.LinkInput.{Reset}
 use Rattle.link_machine.proofs.Reports.{reset_so}
-use Rattle.world.proofs.Nodes.{is_sound, input_done, without_message, refused_reset, answered_reset, reset_so_kept}
+use Rattle.world.proofs.Nodes.{HasTakenInput, IsReported, is_sound, input_done, without_message, refused_reset, answered_reset, reset_so_kept}
 use Rattle.world.proofs.node.Node.reset.Goals as goal
 use Rattle.link_machine.proofs.Kept.{reset_got}
 
@@ -9,22 +9,29 @@ pub returns-in_ok-note-in-Ok-clause-stands : goal.returns-in_ok-note-in-Ok-claus
 returns-in_ok-note-in-Ok-clause-stands c m h room few _ =
     let w = c.args.window in
     let told = answered_reset m w c.in-Ok.report (is_sound m h.has.reached) (sym (c.reset.ensures.answer m h.has.stands) ∙ c.in-Ok.is) in
-    without_message c.note.new.self m (Reset w) c.args.place.at c.args.place.session c.args.entries.now.items c.note.new.entries.items h.fetched
-    (reset_got m w) refl
-    (input_done c.args.self.now c.reset.new.self c.reset.new.pool m (Reset w) c.in-Ok.report c.note.new.self c.args.place.at c.args.place.session
-    c.args.entries.now.items c.note.new.entries.items h.has (c.reset.ensures.stands m h.has.stands) c.reset.ensures.elsewhere told
-    (reset_so m w (is_sound m h.has.reached)) tt few c.note.ensures.counted c.in_ok-note-in-Ok.ensures.noted)
+    let taken : HasTakenInput c.args.self.now c.reset.new.self c.reset.new.pool m (Reset w) c.in-Ok.report =
+    record {
+      has = h.has;
+      left = record { stands = c.reset.ensures.stands m h.has.stands; elsewhere = c.reset.ensures.elsewhere };
+      told = told;
+      reports = reset_so m w (is_sound m h.has.reached);
+      sendable = tt;
+      few = few;
+    } in
+    let done : IsReported c.note.new.self m (Reset w) c.args.place c.args.entries.now.items c.note.new.entries.items =
+    input_done taken c.note.ensures.counted c.in_ok-note-in-Ok.ensures.noted in
+    without_message done h.fetched (reset_got m w) refl
 
 pub returns-in-Err-Inactive-clause-unchanged : goal.returns-in-Err-Inactive-clause-unchanged
 returns-in-Err-Inactive-clause-unchanged c m h room = (
-  reset_so_kept c.args.self.now c.reset.new.self c.reset.new.pool m c.args.window h (c.reset.ensures.stands m h.has.stands) c.reset.ensures.elsewhere
+  reset_so_kept h (record { stands = c.reset.ensures.stands m h.has.stands; elsewhere = c.reset.ensures.elsewhere })
       (refused_reset m c.args.window c.in-Err-Inactive.field-0 (sym (c.reset.ensures.answer m h.has.stands) ∙ c.in-Err-Inactive.is)),
   refl,
 )
 
 pub returns-in-Err-Waiting-clause-unchanged : goal.returns-in-Err-Waiting-clause-unchanged
 returns-in-Err-Waiting-clause-unchanged c m h room = (
-  reset_so_kept c.args.self.now c.reset.new.self c.reset.new.pool m c.args.window h (c.reset.ensures.stands m h.has.stands) c.reset.ensures.elsewhere
+  reset_so_kept h (record { stands = c.reset.ensures.stands m h.has.stands; elsewhere = c.reset.ensures.elsewhere })
       (refused_reset m c.args.window c.in-Err-Waiting.field-0 (sym (c.reset.ensures.answer m h.has.stands) ∙ c.in-Err-Waiting.is)),
   refl,
 )

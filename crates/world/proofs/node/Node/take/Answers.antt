@@ -5,9 +5,8 @@ use Rattle.link_machine.proofs.Reports.{take_so}
 use Rattle.link_end.specs.Ends.{EndStandsFor}
 use Rattle.link_end.specs.Reports.{report_told as told_of}
 use Rattle.link_end.proofs.AccountLemmas.{rests, rests_may_take}
-use Rattle.world.specs.Noting.{acked_on}
 use Rattle.world.proofs.Results.{on_ok}
-use Rattle.world.proofs.Nodes.{is_sound, input_done, with_message, taken_input, can_fetch}
+use Rattle.world.proofs.Nodes.{IsLeft, HasTakenInput, IsReported, is_sound, input_done, with_message, taken_input, can_fetch}
 use Rattle.world.proofs.node.Node.take.Goals as goal
 
 pub take_read-report-requires-clause-ready : goal.take_read-report-requires-clause-ready
@@ -20,12 +19,11 @@ pub note_message-requires : goal.note_message-requires
 note_message-requires c =
     let t = c.take_read-report in
     let m = c.requires.stands.0 in
-    let has = c.requires.stands.1.has in
-    let read = c.requires.read in (
-      after_input m (lpdu_input read.0),
-      can_fetch c.args.self.now t.new.self t.new.pool m (after_input m (lpdu_input read.0)) (acked_on c.args.self.now.acked t.result)
-          c.note.new.self c.requires.stands.1 (t.ensures.stands m read.0 has.stands read.1) t.ensures.elsewhere c.note.ensures.counted,
-    )
+    let h = c.requires.stands.1 in
+    let read = c.requires.read in
+    let left : IsLeft c.args.self.now t.new.self t.new.pool (after_input m (lpdu_input read.0)) =
+    record { stands = t.ensures.stands m read.0 h.has.stands read.1; elsewhere = t.ensures.elsewhere } in
+    (after_input m (lpdu_input read.0), can_fetch h left c.note.ensures.counted)
 
 pub returns : goal.returns
 returns c m frame h room is few =
@@ -33,10 +31,15 @@ returns c m frame h room is few =
     let read = c.requires.read in
     let input = taken_input read.0 frame (sym read.1 ∙ is) in
     let P : LinkInput → Type 0 = λ i. EndStandsFor t.new.self.link t.new.pool (after_input m i) in
-    let done = input_done c.args.self.now t.new.self t.new.pool m (Take frame) t.result c.note.new.self c.args.place.at c.args.place.session
-    c.args.entries.now.items c.note.new.entries.items h.has (subst P input (t.ensures.stands m read.0 h.has.stands read.1)) t.ensures.elsewhere
-    (t.ensures.answer m read.0 h.has.stands read.1 ∙ ap (λ i. told_of (report m i)) input)
-    (take_so m frame (is_sound m h.has.reached)) tt few c.note.ensures.counted c.in_ok-note.ensures.noted in
-    on_ok c.note_message.result (c.note_message.ensures (after_input m (Take frame)) done.has) (λ f.
-    with_message c.note.new.self c.note_message.new.self m frame c.args.place.at c.args.place.session c.args.entries.now.items
-    c.note.new.entries.items c.note_message.new.entries.items h.fetched done f)
+    let taken : HasTakenInput c.args.self.now t.new.self t.new.pool m (Take frame) t.result =
+    record {
+      has = h.has;
+      left = record { stands = subst P input (t.ensures.stands m read.0 h.has.stands read.1); elsewhere = t.ensures.elsewhere };
+      told = t.ensures.answer m read.0 h.has.stands read.1 ∙ ap (λ i. told_of (report m i)) input;
+      reports = take_so m frame (is_sound m h.has.reached);
+      sendable = tt;
+      few = few;
+    } in
+    let done : IsReported c.note.new.self m (Take frame) c.args.place c.args.entries.now.items c.note.new.entries.items =
+    input_done taken c.note.ensures.counted c.in_ok-note.ensures.noted in
+    on_ok c.note_message.result (c.note_message.ensures (after_input m (Take frame)) done.has) (λ f. with_message done h.fetched f)
