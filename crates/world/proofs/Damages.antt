@@ -56,13 +56,13 @@ flipped_at_place zero (b ∷ bits) d h = refl
 flipped_at_place (suc place) (b ∷ bits) d h = ap (λ bs. b ∷ bs) (flipped_at_place place bits d (omega arith))
 
 -- one bit more is read, and this was answered
-pub read_one : (lpdu : List ℕ) (refused now : Option LostCause) (seen : List Symbol) (bits : List Bool) (k : ℕ) (d : Bool) (fed : Fed)
+pub read_one : {fed : Fed} (lpdu : List ℕ) (refused now : Option LostCause) (seen : List Symbol) (bits : List Bool) (k : ℕ) (d : Bool)
     → k < length bits → fed ≡ verdict (symbol_of (get_or bits k d) ∷ seen)
     → told_in lpdu refused (fed ∷ answers_after (symbol_of (get_or bits k d) ∷ seen) (map symbol_of (drop (k + 1) bits)))
     ≡ told_in lpdu now (answers_after (symbol_of (get_or bits k d) ∷ seen) (map symbol_of (drop (k + 1) bits)))
     → told_in lpdu refused (answers_after seen (map symbol_of (drop k bits)))
     ≡ told_in lpdu now (answers_after (symbol_of (get_or bits k d) ∷ seen) (map symbol_of (drop (k + 1) bits)))
-read_one lpdu refused now seen bits k d fed h is step =
+read_one lpdu refused now seen bits k d h is step =
     ap (λ bs. told_in lpdu refused (answers_after seen (map symbol_of bs))) (drop_more bits k d h)
     ∙ ap (λ f. told_in lpdu refused (f ∷ answers_after (symbol_of (get_or bits k d) ∷ seen) (map symbol_of (drop (k + 1) bits)))) (sym is)
     ∙ step

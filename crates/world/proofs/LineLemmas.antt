@@ -14,7 +14,7 @@ use Rattle.message_link.specs.Links.{Link, EndEvent, happens, happens_at_control
 use Rattle.link_entries.specs.Entries.{event_entries, here_entries}
 use Rattle.history.specs.Histories.{Cause, Outcome, noted}
 use Rattle.history.specs.Histories.Outcome.{Refused, Caused}
-use Rattle.history.specs.Steps.{at as happens_at, event_of, event_at, events_at, entries_for}
+use Rattle.history.specs.Steps.{at as happens_at, event_of, events_at, entries_for}
 use Rattle.history.specs.Follows.{seen_from, refusal, causes_in, outcome_of, link_after_line, if_empty}
 use Rattle.world.specs.declared.wire.Flying.{Flying}
 use Rattle.world.specs.declared.side.Side.{Side}
@@ -42,27 +42,27 @@ seen_noted at l event = by at.at_host refl
     by false q = rw q refl
 
 -- the sides of a link, seen from the host's end
-pub seen_at_host : (near far : Side) (resets : ℕ) (at : End) (l : Link) → at.at_host ≡ true → LinkStandsFor far near resets l
+pub seen_at_host : {near far : Side} {resets : ℕ} {l : Link} (at : End) → at.at_host ≡ true → LinkStandsFor far near resets l
     → SidesStandFor near far resets at l
-seen_at_host near far resets at l q h =
+seen_at_host {near} {far} {resets} {l} at q h =
     let P : Bool → Type 0 = λ b. SidesStandFor near far resets (record { link = at.link; at_host = b }) l in
     subst P (sym q) (record { here = h.there; there = h.here; count = h.count })
 
-pub seen_back : (near far : Side) (resets : ℕ) (at : End) (l : Link) → at.at_host ≡ true → SidesStandFor near far resets at l
+pub seen_back : {near far : Side} {resets : ℕ} {l : Link} (at : End) → at.at_host ≡ true → SidesStandFor near far resets at l
     → LinkStandsFor far near resets l
-seen_back near far resets at l q h =
+seen_back {near} {far} {resets} {l} at q h =
     let P : Bool → Type 0 = λ b. SidesStandFor near far resets (record { link = at.link; at_host = b }) l in
     let z : LinkStandsFor near far resets (exchanged l) = subst P q h in record { here = z.there; there = z.here; count = z.count }
 
 -- and from the controller's
-pub seen_at_controller : (near far : Side) (resets : ℕ) (at : End) (l : Link) → at.at_host ≡ false → LinkStandsFor near far resets l
+pub seen_at_controller : {near far : Side} {resets : ℕ} {l : Link} (at : End) → at.at_host ≡ false → LinkStandsFor near far resets l
     → SidesStandFor near far resets at l
-seen_at_controller near far resets at l q h =
+seen_at_controller {near} {far} {resets} {l} at q h =
     let P : Bool → Type 0 = λ b. SidesStandFor near far resets (record { link = at.link; at_host = b }) l in subst P (sym q) h
 
-pub seen_here : (near far : Side) (resets : ℕ) (at : End) (l : Link) → at.at_host ≡ false → SidesStandFor near far resets at l
+pub seen_here : {near far : Side} {resets : ℕ} {l : Link} (at : End) → at.at_host ≡ false → SidesStandFor near far resets at l
     → LinkStandsFor near far resets l
-seen_here near far resets at l q h =
+seen_here {near} {far} {resets} {l} at q h =
     let P : Bool → Type 0 = λ b. SidesStandFor near far resets (record { link = at.link; at_host = b }) l in subst P q h
 
 -- ## What becomes of a line
@@ -78,34 +78,39 @@ pub record Becomes (near far : Side) (resets : ℕ) (at : End) (l : Link) (outco
   pub stands : SidesStandFor near far resets at (link_after_line l outcome)
   pub noted_are : now ≡ noted outcome
 
-pub does : (near far : Side) (resets : ℕ) (at : End) (l : Link) (line : Line) (now : List Entry) (outcome : Outcome)
+pub does : {near far : Side} {resets : ℕ} {at : End} {l : Link} {line : Line} {now : List Entry} {outcome : Outcome}
     → outcome_of at.link l line ≡ outcome → Becomes near far resets at l outcome now → Does near far resets at l line now
-does near far resets at l line now outcome q b =
+does {near} {far} {resets} {at} {l} {line} {now} q b =
     let P : Outcome → Type 0 = λ o. Becomes near far resets at l o now in
     let z : Becomes near far resets at l (outcome_of at.link l line) now = subst P (sym q) b in
     record { stands = z.stands; noted_are = z.noted_are }
 
 -- a line that is refused does nothing
-pub refused_does : (near far : Side) (resets : ℕ) (at : End) (l : Link) (line : Line) (now : List Entry) (why : NoCause)
+pub refused_does : {near far : Side} {resets : ℕ} {at : End} {l : Link} {line : Line} {now : List Entry} {why : NoCause}
     → refusal l line ≡ Some why → SidesStandFor near far resets at l → now ≡ No why ∷ [] → Does near far resets at l line now
-refused_does near far resets at l line now why q stands is =
-    does near far resets at l line now (Refused why) (refused at.link l line why q) (record { stands = stands; noted_are = is })
+refused_does {at} {l} {line} {why} q stands is = does (refused at.link l line why q) (record { stands = stands; noted_are = is })
 
--- a line has this one cause at its end, and that has happened
-pub happened_does : (near far : Side) (resets : ℕ) (at : End) (l : Link) (line : Line) (before now : List Entry) (cause : Cause) (event : EndEvent)
-    → refusal l line ≡ None → causes_in l line ≡ cause ∷ [] → event_of cause ≡ happens_at at event → before ≡ []
-    → HasHappened near far resets (seen_from at l) event at before now → Does near far resets at l line now
-happened_does near far resets at l line before now cause event none causes is nothing has =
-    does near far resets at l line now (Caused (event_at at.link l cause ∷ []))
-    (caused at.link l line none ∙ ap (λ cs. Caused (events_at at.link l cs)) causes)
+-- a line isn't refused, and its one cause is that this happens at its end
+pub record HasOneCause (at : End) (l : Link) (line : Line) (event : EndEvent) : Type 0 where
+  pub cause : Cause
+  pub none : refusal l line ≡ None
+  pub causes : causes_in l line ≡ cause ∷ []
+  pub is : event_of cause ≡ happens_at at event
+
+-- that has happened
+pub happened_does : {near far : Side} {resets : ℕ} {at : End} {l : Link} {line : Line} {before now : List Entry} {event : EndEvent}
+    → HasHappened near far resets (seen_from at l) event at before now → before ≡ [] → HasOneCause at l line event
+    → Does near far resets at l line now
+happened_does {near} {far} {resets} {at} {l} {line} {event} has nothing one =
+    does (caused at.link l line one.none ∙ ap (λ cs. Caused (events_at at.link l cs)) one.causes)
     (record {
       stands = (
           let P : Link → Type 0 = λ m. LinkStandsFor near far resets m in
-          subst P (sym (ap (λ e. seen_from at (happens l e)) is ∙ seen_happens at l event)) has.stands);
+          subst P (sym (ap (λ e. seen_from at (happens l e)) one.is ∙ seen_happens at l event)) has.stands);
       noted_are =
           has.noted ∙ ap (λ es. es ++ entries_for at.link (here_entries (side_of at) (seen_from at l) event)) nothing
-          ∙ ap (entries_for at.link) (sym (ap (event_entries l) is ∙ seen_noted at l event))
-          ∙ sym (append-nil (entries_for at.link (event_entries l (event_of cause))));
+          ∙ ap (entries_for at.link) (sym (ap (event_entries l) one.is ∙ seen_noted at l event))
+          ∙ sym (append-nil (entries_for at.link (event_entries l (event_of one.cause))));
     })
 
 -- ## Frames on a wire

@@ -28,10 +28,10 @@ use Rattle.world.proofs.Given.{causes_of-events}
 use Rattle.world.proofs.Noting.{more_noted}
 
 -- what happened at an end is what its cause does
-pub happened_caused : (near far : Side) (resets : ℕ) (at : End) (l : Link) (cause : Cause) (event : EndEvent) (before now : List Entry)
-    → event_of cause ≡ happens_at at event → HasHappened near far resets (seen_from at l) event at before now
+pub happened_caused : {near far : Side} {resets : ℕ} {at : End} {l : Link} {cause : Cause} {event : EndEvent} {before now : List Entry}
+    → HasHappened near far resets (seen_from at l) event at before now → event_of cause ≡ happens_at at event
     → HasCaused near far resets at l cause before now
-happened_caused near far resets at l cause event before now is has =
+happened_caused {near} {far} {resets} {at} {l} {event} {before} has is =
     record {
       stands = (
           let P : Link → Type 0 = λ m. LinkStandsFor near far resets m in
@@ -61,15 +61,11 @@ pub record HasRepeated (near far : Side) (resets : ℕ) (at : End) (l : Link) (c
   pub stands : SidesStandFor near far resets at (link_after_all l (replicate k cause))
   pub noted_are : now ≡ entries_of (events_at at.link l (replicate k cause))
 
-pub repeats_none : (near far : Side) (resets : ℕ) (at : End) (l : Link) (cause : Cause) (now : List Entry) → now ≡ []
-    → SidesStandFor near far resets at l → HasRepeated near far resets at l cause 0 now
-repeats_none near far resets at l cause now is h = record { stands = h; noted_are = is }
-
-pub repeats_more : (near far nears fars : Side) (resets now_resets : ℕ) (at : End) (l : Link) (cause : Cause) (k : ℕ) (before now : List Entry)
+pub repeats_more : {near far nears fars : Side} {resets now_resets : ℕ} {at : End} {l : Link} {cause : Cause} {k : ℕ} {before now : List Entry}
     → HasRepeated near far resets at l cause k before
     → HasCaused nears fars now_resets at (link_after_all l (replicate k cause)) cause before now
     → HasRepeated nears fars now_resets at l cause (suc k) now
-repeats_more near far nears fars resets now_resets at l cause k before now h more =
+repeats_more {nears} {fars} {now_resets} {at} {l} {cause} {k} h more =
     let P : Link → Type 0 = λ m. SidesStandFor nears fars now_resets at m in
     record {
       stands = subst P (sym (after_more l cause k)) more.stands;
@@ -79,12 +75,12 @@ repeats_more near far nears fars resets now_resets at l cause k before now h mor
     }
 
 -- a line that causes the same so many times
-pub repeats_does : (near far : Side) (resets : ℕ) (at : End) (l : Link) (line : Line) (cause : Cause) (k : ℕ) (now : List Entry)
-    → refusal l line ≡ None → causes_in l line ≡ replicate k cause → HasRepeated near far resets at l cause k now
+pub repeats_does : {near far : Side} {resets : ℕ} {at : End} {l : Link} {line : Line} {cause : Cause} {k : ℕ} {now : List Entry}
+    → HasRepeated near far resets at l cause k now → refusal l line ≡ None → causes_in l line ≡ replicate k cause
     → Does near far resets at l line now
-repeats_does near far resets at l line cause k now none causes h =
+repeats_does {near} {far} {resets} {at} {l} {line} {cause} {k} h none causes =
     let P : Link → Type 0 = λ m. SidesStandFor near far resets at m in
-    does near far resets at l line now (Caused (events_at at.link l (replicate k cause)))
+    does
     (caused at.link l line none ∙ ap (λ cs. Caused (events_at at.link l cs)) causes)
     (record {
       stands = subst P (sym (ap (link_after_all l) (causes_of-events at.link l (replicate k cause)))) h.stands;
@@ -94,13 +90,13 @@ repeats_does near far resets at l line cause k now none causes h =
 -- ## A tick
 
 -- what is noted of a tick, seen from the controller's end
-pub tick_noted : (at : End) (l : Link) (a b c d e : List Entry) → at.at_host ≡ false
+pub tick_noted : {b c d e : List Entry} (at : End) (l : Link) (a : List Entry) → at.at_host ≡ false
     → AreNoted at a b (aged_entries (side_of at) l.to_controller)
     → AreNoted (other_end at) b c (aged_entries (side_of (other_end at)) l.to_host)
     → AreNoted at c d (tick_entries (side_of at) (aged l) idle)
     → AreNoted (other_end at) d e (tick_entries (side_of (other_end at)) (exchanged (ticks_at_controller (aged l) [] GoesOut)) idle)
     → e ≡ a ++ (event_at at.link l Ticked).entries
-tick_noted at l a b c d e q one two three four =
+tick_noted {b} {c} {d} {e} at l a q one two three four =
     let near : Link = ticks_at_controller (aged l) [] GoesOut in
     let here : side_of at ≡ Controller = ap (λ x. if x then Host else Controller) q in
     let there : side_of (other_end at) ≡ Host = ap (λ x. if not x then Host else Controller) q in
@@ -114,8 +110,8 @@ tick_noted at l a b c d e q one two three four =
     (more_noted at c d e (tick_entries Controller (aged l) idle) (tick_entries Host (exchanged near) idle) (subst R here three) (subst S there four)))
 
 -- the sides the other way round
-pub turned_round : (near far : Side) (resets : ℕ) (l : Link) → LinkStandsFor near far resets l → LinkStandsFor far near resets (exchanged l)
-turned_round near far resets l h = record { here = h.there; there = h.here; count = h.count }
+pub turned_round : {near far : Side} {resets : ℕ} {l : Link} → LinkStandsFor near far resets l → LinkStandsFor far near resets (exchanged l)
+turned_round h = record { here = h.there; there = h.here; count = h.count }
 
 -- ## Bounds
 

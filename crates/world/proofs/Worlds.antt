@@ -24,7 +24,7 @@ use Rattle.world.specs.declared.damage_line.Misread.{Misread}
 use Rattle.world.specs.declared.world_steps.World.{World}
 use Rattle.world.specs.Sides.{SideStandsFor, LinkStandsFor}
 use Rattle.world.specs.Lines.{SidesStandFor, Does, HaveSent, IsMisread, damaged_by, end_for}
-use Rattle.world.specs.Worlds.{WorldStandsFor, HasRoomForLine}
+use Rattle.world.specs.Worlds.{WorldStandsFor, HasRoomForLine, world_entries}
 use Rattle.world.proofs.Given.{sent_line}
 use Rattle.world.proofs.LineLemmas.{seen_back, seen_here}
 
@@ -145,18 +145,27 @@ link_is header (Init e identity pipes) h is = absurd is
 link_is header (Tables node) h is = absurd is
 
 -- what a line adds to what the world stands for
-pub record Grows (w now : World) (header : Header) (lines : List Line) (t : History) (line : Line) (entries : List Entry) : Type 0 where
+pub record Grows (now : World) (header : Header) (lines : List Line) (t : History) (line : Line) : Type 0 where
   pub stands : WorldStandsFor now header (lines ++ line ∷ []) (with_step t line)
-  pub entries_are : entries ≡ noted (outcome_of (host_of header) (link_at t) line)
+  pub entries_are : world_entries now ≡ noted (outcome_of (host_of header) (link_at t) line)
+
+-- a world that stood for a history was stepped by a line, which is read as it is
+pub record WasStepped (w now : World) (header : Header) (lines : List Line) (t : History) (line : Line) : Type 0 where
+  pub before : WorldStandsFor w header lines t
+  pub is_line : IsLineOf header line
+  pub header_is : now.header ≡ w.header
+  pub none_misread : misread (link_at t) line ≡ None
+  pub resets : now.resets ≤ w.resets + 2400
+  pub counted : now.stepped ≡ w.stepped + 1
 
 -- both sides stand for the link after the line
-step_stands : Law → (w now : World) (header : Header) (lines : List Line) (t : History) (line : Line) → WorldStandsFor w header lines t → IsLineOf header line
-    → now.header ≡ w.header → misread (link_at t) line ≡ None
+step_stands : {w now : World} {header : Header} {lines : List Line} {t : History} {line : Line} → Law → WasStepped w now header lines t line
     → LinkStandsFor now.controller now.host now.resets (link_after_line (link_at t) (outcome_of (host_of header) (link_at t) line))
-    → now.resets ≤ w.resets + 2400 → now.stepped ≡ w.stepped + 1 → WorldStandsFor now header (lines ++ line ∷ []) (with_step t line)
-step_stands law w now header lines t line h is header_is none link few next =
-    let follows = follows_grow header lines t line h.follows none in
-    let are = all_append (IsLineOf header) lines line h.lines_are is in
+    → WorldStandsFor now header (lines ++ line ∷ []) (with_step t line)
+step_stands {now} {header} {lines} {t} {line} law s link =
+    let h = s.before in
+    let follows = follows_grow header lines t line h.follows s.none_misread in
+    let are = all_append (IsLineOf header) lines line h.lines_are s.is_line in
     let more : length (lines ++ line ∷ []) ≡ length lines + 1 = length-append lines (line ∷ []) in
     let o : Header → Outcome = λ x. outcome_of (host_of x) (link_at t) line in
     let last : link_at (with_step t line) ≡ link_after_line (link_at t) (o header) =
@@ -166,10 +175,11 @@ step_stands law w now header lines t line h is header_is none link few next =
     let sent : HaveSent (link_at (with_step t line)) (length lines + 1) =
     subst Q (sym last) (sent_line (length lines) (host_of header) (link_at t) line h.sent) in
     let before = h.resets in
+    let few = s.resets in
     let a = sent.here in
     let b = sent.there in
     record {
-      header_is = header_is ∙ h.header_is;
+      header_is = s.header_is ∙ h.header_is;
       is_header = h.is_header;
       lines_are = are;
       follows = follows;
@@ -177,16 +187,16 @@ step_stands law w now header lines t line h is header_is none link few next =
       link = subst P (sym last) link;
       sent = record { here = omega (arith, a, more); there = omega (arith, b, more) };
       resets = omega (arith, few, before, more);
-      stepped = next ∙ ap (λ n. n + 1) h.stepped ∙ sym more;
+      stepped = s.counted ∙ ap (λ n. n + 1) h.stepped ∙ sym more;
     }
 
 -- ## Seen from either end
 
 -- what a line did, on the link of this host
-on_link : (near far : Side) (resets h : ℕ) (at : End) (l : Link) (line : Line) (now : List Entry) → at.link ≡ h
+on_link : {near far : Side} {resets : ℕ} {at : End} {line : Line} {now : List Entry} (h : ℕ) (l : Link) → at.link ≡ h
     → Does near far resets at l line now
     → SidesStandFor near far resets at (link_after_line l (outcome_of h l line)) × (now ≡ noted (outcome_of h l line))
-on_link near far resets h at l line now q does =
+on_link {near} {far} {resets} {at} {line} {now} h l q does =
     let P : ℕ → Type 0 = λ x.
     SidesStandFor near far resets at (link_after_line l (outcome_of x l line)) × (now ≡ noted (outcome_of x l line)) in
     subst P q (does.stands, does.noted_are)
@@ -195,31 +205,19 @@ at_link : (header : Header) (line : Line) (at : End) → IsHeader header → IsL
     → at.link ≡ host_of header
 at_link header line at h is q = ap (λ (e : End). e.link) q ∙ link_is header line h is
 
-pub host_grows : Law → (w now : World) (header : Header) (lines : List Line) (t : History) (line : Line) (entries : List Entry) (at : End)
-    → WorldStandsFor w header lines t → IsLineOf header line → now.header ≡ w.header → at ≡ end_for (controller_of header) line → at.at_host ≡ true
-    → misread (link_at t) line ≡ None → Does now.host now.controller now.resets at (link_at t) line entries → now.resets ≤ w.resets + 2400
-    → now.stepped ≡ w.stepped + 1 → Grows w now header lines t line entries
-host_grows law w now header lines t line entries at h is header_is seen q none does few next =
-    let z = on_link now.host now.controller now.resets (host_of header) at (link_at t) line entries (at_link header line at h.is_header is seen) does in
-    let after : Link = link_after_line (link_at t) (outcome_of (host_of header) (link_at t) line) in
-    record {
-      stands = step_stands law w now header lines t line h is header_is none
-          (seen_back now.host now.controller now.resets at after q z.0) few next;
-      entries_are = z.1;
-    }
+pub host_grows : {w now : World} {header : Header} {lines : List Line} {t : History} {line : Line} {at : End} → Law
+    → WasStepped w now header lines t line → at ≡ end_for (controller_of header) line → at.at_host ≡ true
+    → Does now.host now.controller now.resets at (link_at t) line (world_entries now) → Grows now header lines t line
+host_grows {header} {t} {line} {at} law s seen q does =
+    let z = on_link (host_of header) (link_at t) (at_link header line at s.before.is_header s.is_line seen) does in
+    record { stands = step_stands law s (seen_back at q z.0); entries_are = z.1 }
 
-pub controller_grows : Law → (w now : World) (header : Header) (lines : List Line) (t : History) (line : Line) (entries : List Entry) (at : End)
-    → WorldStandsFor w header lines t → IsLineOf header line → now.header ≡ w.header → at ≡ end_for (controller_of header) line → at.at_host ≡ false
-    → misread (link_at t) line ≡ None → Does now.controller now.host now.resets at (link_at t) line entries → now.resets ≤ w.resets + 2400
-    → now.stepped ≡ w.stepped + 1 → Grows w now header lines t line entries
-controller_grows law w now header lines t line entries at h is header_is seen q none does few next =
-    let z = on_link now.controller now.host now.resets (host_of header) at (link_at t) line entries (at_link header line at h.is_header is seen) does in
-    let after : Link = link_after_line (link_at t) (outcome_of (host_of header) (link_at t) line) in
-    record {
-      stands = step_stands law w now header lines t line h is header_is none
-          (seen_here now.controller now.host now.resets at after q z.0) few next;
-      entries_are = z.1;
-    }
+pub controller_grows : {w now : World} {header : Header} {lines : List Line} {t : History} {line : Line} {at : End} → Law
+    → WasStepped w now header lines t line → at ≡ end_for (controller_of header) line → at.at_host ≡ false
+    → Does now.controller now.host now.resets at (link_at t) line (world_entries now) → Grows now header lines t line
+controller_grows {header} {t} {line} {at} law s seen q does =
+    let z = on_link (host_of header) (link_at t) (at_link header line at s.before.is_header s.is_line seen) does in
+    record { stands = step_stands law s (seen_here at q z.0); entries_are = z.1 }
 
 -- a world that can be stepped was stepped by few lines, and its ends were given few messages
 pub few_sent : (w : World) (lines : List Line) (t : History) → HasRoomForLine w → WorldStandsFor w w.header lines t → HaveSent (link_at t) 20000

@@ -27,6 +27,6 @@ loop-bit-preserved c =
       symbol_of bit ∷ seen,
       c.feed.ensures.stands seen c.loop-bit.invariant.1,
       λ lpdu. c.loop-bit.invariant.2 lpdu
-          ∙ read_one lpdu c.loop-bit.refused c.match-feed.refused seen c.args.bits.now k false c.feed.result c.loop-bit-test.true
+          ∙ read_one lpdu c.loop-bit.refused c.match-feed.refused seen c.args.bits.now k false c.loop-bit-test.true
           (c.feed.ensures.answer seen c.loop-bit.invariant.1) (step lpdu),
     )

@@ -1,12 +1,7 @@
 use Rattle.std.proofs.Common.{List, [], ◌∷◌, ◌++◌, refl, sym, ap, ◌∙◌}
 use Rattle.trace_model.specs.declared.entry.Entry.TheVariants.{No}
-use Rattle.trace_model.specs.declared.line.Line.TheVariants as line
 use Rattle.session_laws.specs.Sessions.{OnWire}
-use Rattle.link_machine.specs.Machine.Turn.{FetchMessage}
 use Rattle.message_link.specs.Links.{Loss}
-use Rattle.message_link.specs.Links.Ending.{GoesOut}
-use Rattle.message_link.specs.Links.Comes.{NextFrame}
-use Rattle.message_link.specs.Links.EndEvent.{Step, Lose}
 use Rattle.history.specs.Histories.Cause.{Taken, WasLost}
 use Rattle.history.specs.Follows.{seen_from, frames_to, damage_causes, if_out_of_reach, first_verdict}
 use Rattle.world.proofs.LineLemmas.{refused_does, happened_does}
@@ -16,8 +11,7 @@ pub returns-in_ok-push-in-Refused-clause-stands : goal.returns-in_ok-push-in-Ref
 returns-in_ok-push-in-Refused-clause-stands c l h few none =
     let wire : List OnWire = frames_to l c.args.at in
     let found = c.in-Refused.ensures wire h.here.has.wire_is in
-    refused_does c.args.near.now c.args.far.now c.args.resets.now c.args.at l (line.Damage c.args.at c.args.places.now) c.push.new.self.items
-    c.in-Refused.cause (ap (λ ps. if_out_of_reach wire ps) (sym c.as_slice.ensures.value) ∙ found) h
+    refused_does (ap (λ ps. if_out_of_reach wire ps) (sym c.as_slice.ensures.value) ∙ found) h
     (c.in_ok-push-in-Refused.ensures.items ∙ ap (λ es. es ++ No c.in-Refused.cause ∷ []) c.requires.nothing)
 
 pub returns-in_ok-take_frame-in-Same-clause-stands : goal.returns-in_ok-take_frame-in-Same-clause-stands
@@ -25,11 +19,13 @@ returns-in_ok-take_frame-in-Same-clause-stands c l h few none =
     let wire : List OnWire = frames_to l c.args.at in
     let found = c.in-Same.ensures wire h.here.has.wire_is in
     let value = sym c.as_slice.ensures.value in
-    happened_does c.take_frame.new.near c.take_frame.new.far c.take_frame.new.resets c.args.at l (line.Damage c.args.at c.args.places.now)
-    c.args.entries.now.items c.take_frame.new.entries.items (Taken c.args.at) (Step NextFrame (FetchMessage ∷ []) GoesOut)
-    (ap (λ ps. if_out_of_reach wire ps) value ∙ found.0)
-    (ap (λ ps. damage_causes c.args.at (first_verdict wire ps)) value ∙ ap (λ v. damage_causes c.args.at v) found.1) refl c.requires.nothing
-    (c.in_ok-take_frame-in-Same.ensures.stands (seen_from c.args.at l) h few)
+    happened_does (c.in_ok-take_frame-in-Same.ensures.stands (seen_from c.args.at l) h few) c.requires.nothing
+    (record {
+      cause = Taken c.args.at;
+      none = ap (λ ps. if_out_of_reach wire ps) value ∙ found.0;
+      causes = ap (λ ps. damage_causes c.args.at (first_verdict wire ps)) value ∙ ap (λ v. damage_causes c.args.at v) found.1;
+      is = refl;
+    })
 
 pub returns-in_ok-lose_frame-in-Lost-clause-stands : goal.returns-in_ok-lose_frame-in-Lost-clause-stands
 returns-in_ok-lose_frame-in-Lost-clause-stands c l h few none =
@@ -37,8 +33,10 @@ returns-in_ok-lose_frame-in-Lost-clause-stands c l h few none =
     let found = c.in-Lost.ensures wire h.here.has.wire_is in
     let why : Loss = found.1.0 in
     let value = sym c.as_slice.ensures.value in
-    happened_does c.lose_frame.new.near c.args.far.now c.args.resets.now c.args.at l (line.Damage c.args.at c.args.places.now)
-    c.args.entries.now.items c.lose_frame.new.entries.items (WasLost c.args.at why) (Lose why)
-    (ap (λ ps. if_out_of_reach wire ps) value ∙ found.0)
-    (ap (λ ps. damage_causes c.args.at (first_verdict wire ps)) value ∙ ap (λ v. damage_causes c.args.at v) found.1.1) refl c.requires.nothing
-    (c.in_ok-lose_frame-in-Lost.ensures.stands (seen_from c.args.at l) why h found.1.2)
+    happened_does (c.in_ok-lose_frame-in-Lost.ensures.stands (seen_from c.args.at l) why h found.1.2) c.requires.nothing
+    (record {
+      cause = WasLost c.args.at why;
+      none = ap (λ ps. if_out_of_reach wire ps) value ∙ found.0;
+      causes = ap (λ ps. damage_causes c.args.at (first_verdict wire ps)) value ∙ ap (λ v. damage_causes c.args.at v) found.1.1;
+      is = refl;
+    })

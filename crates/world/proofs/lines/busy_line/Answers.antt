@@ -1,10 +1,5 @@
-use Rattle.std.proofs.Common.{[], ◌∷◌, refl}
-use Rattle.std.specs.Prelude.{false, not}
-use Rattle.trace_model.specs.declared.line.Line.TheVariants as line
-use Rattle.link_machine.specs.Machine.Turn.{Hold}
-use Rattle.message_link.specs.Links.Ending.{GoesOut}
-use Rattle.message_link.specs.Links.Comes.{NoInput}
-use Rattle.message_link.specs.Links.EndEvent.{Step}
+use Rattle.std.proofs.Common.{refl}
+use Rattle.std.specs.Prelude.{false}
 use Rattle.history.specs.Histories.Cause.{Readied}
 use Rattle.history.specs.Follows.{seen_from}
 use Rattle.world.proofs.Results.{on_ok}
@@ -14,5 +9,4 @@ use Rattle.world.proofs.lines.busy_line.Goals as goal
 pub returns-clause-stands : goal.returns-clause-stands
 returns-clause-stands c l h =
     on_ok c.set_ready.result (c.set_ready.ensures.stands (seen_from c.args.at l) h)
-    (λ has. happened_does c.set_ready.new.near c.set_ready.new.far c.set_ready.new.resets c.args.at l (line.Busy c.args.at) c.args.entries.now.items
-    c.set_ready.new.entries.items (Readied c.args.at false) (Step NoInput (Hold (not false) ∷ []) GoesOut) refl refl refl c.requires.nothing has)
+    (λ has. happened_does has c.requires.nothing (record { cause = Readied c.args.at false; none = refl; causes = refl; is = refl }))

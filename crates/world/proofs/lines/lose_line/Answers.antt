@@ -1,8 +1,6 @@
 use Rattle.std.proofs.Common.{[], ◌∷◌, ◌++◌, refl, ap, ◌∙◌}
 use Rattle.trace_model.specs.declared.entry.Entry.TheVariants.{No}
 use Rattle.trace_model.specs.declared.entry.NoCause.TheVariants.{Empty}
-use Rattle.trace_model.specs.declared.line.Line.TheVariants as line
-use Rattle.message_link.specs.Links.EndEvent.{Lose}
 use Rattle.message_link.specs.Links.Loss.{OnDemand}
 use Rattle.history.specs.Histories.Cause.{WasLost}
 use Rattle.history.specs.Follows.{seen_from, frames_to}
@@ -13,8 +11,7 @@ use Rattle.world.proofs.lines.lose_line.Goals as goal
 pub returns-then-is_empty : goal.returns-then-is_empty
 returns-then-is_empty c = record {
   stands = λ l h.
-      refused_does c.args.near.now c.args.far.now c.args.resets c.args.at l (line.Lose c.args.at) c.push.new.self.items Empty
-      (none_there c.args.near.now.wire (frames_to l c.args.at) h.here.has.wire_is c.if-is_empty.ensures) h
+      refused_does (none_there c.args.near.now.wire (frames_to l c.args.at) h.here.has.wire_is c.if-is_empty.ensures) h
       (c.in_ok-push.ensures.items ∙ ap (λ es. es ++ No Empty ∷ []) c.requires.nothing);
 }
 
@@ -22,7 +19,11 @@ pub returns : goal.returns
 returns c = record {
   stands = λ l h.
       on_ok c.lose_frame.result (c.lose_frame.ensures.stands (seen_from c.args.at l) OnDemand h refl)
-      (λ has. happened_does c.lose_frame.new.near c.args.far.now c.args.resets c.args.at l (line.Lose c.args.at) c.args.entries.now.items
-      c.lose_frame.new.entries.items (WasLost c.args.at OnDemand) (Lose OnDemand)
-      (some_there c.args.near.now.wire (frames_to l c.args.at) h.here.has.wire_is c.if-is_empty.ensures) refl refl c.requires.nothing has);
+      (λ has. happened_does has c.requires.nothing
+      (record {
+        cause = WasLost c.args.at OnDemand;
+        none = some_there c.args.near.now.wire (frames_to l c.args.at) h.here.has.wire_is c.if-is_empty.ensures;
+        causes = refl;
+        is = refl;
+      }));
 }

@@ -1,9 +1,5 @@
 use Rattle.std.proofs.Common.{[], ◌∷◌, ◌++◌, refl, sym, ap, ◌∙◌}
 use Rattle.trace_model.specs.declared.entry.Entry.TheVariants.{No}
-use Rattle.trace_model.specs.declared.line.Line.TheVariants as line
-use Rattle.message_link.specs.Links.Ending.{GoesOut}
-use Rattle.message_link.specs.Links.Comes.{AsksReset}
-use Rattle.message_link.specs.Links.EndEvent.{Step}
 use Rattle.history.specs.Histories.Cause.{WasReset}
 use Rattle.history.specs.Follows.{seen_from}
 use Rattle.world.proofs.LineLemmas.{refused_does, happened_does, some_holds}
@@ -16,16 +12,12 @@ pub returns-in_ok-push-clause-stands : goal.returns-in_ok-push-clause-stands
 returns-in_ok-push-clause-stands c l h sent =
     let k = c.in_ok-cause.ensures in
     let none = some_holds c.in_ok-cause.field-0 c.in-Some.cause c.in-Some.is (k.unchanged (seen_from c.args.at l) h) in
-    refused_does c.reset_end.new.near c.reset_end.new.far c.reset_end.new.resets c.args.at l (line.Reset c.args.at c.args.window)
-    c.push.new.self.items c.in-Some.cause
-    (sym (k.refused (seen_from c.args.at l) h) ∙ c.in-Some.is) none.0
+    refused_does (sym (k.refused (seen_from c.args.at l) h) ∙ c.in-Some.is) none.0
     (c.in_ok-push.ensures.items ∙ ap (λ es. es ++ No c.in-Some.cause ∷ []) (none.1 ∙ c.requires.nothing))
 
 pub returns-in_default-clause-stands : goal.returns-in_default-clause-stands
 returns-in_default-clause-stands c l h sent =
     let k = c.in_ok-cause.ensures in
-    happened_does c.reset_end.new.near c.reset_end.new.far c.reset_end.new.resets c.args.at l (line.Reset c.args.at c.args.window)
-    c.args.entries.now.items c.reset_end.new.entries.items
-    (WasReset c.args.at c.args.window) (Step (AsksReset c.args.window) [] GoesOut) (sym (k.refused (seen_from c.args.at l) h) ∙
-    c.in_default.is) refl refl c.requires.nothing
-    (k.stands (seen_from c.args.at l) h sent c.in_default.is)
+    let none = sym (k.refused (seen_from c.args.at l) h) ∙ c.in_default.is in
+    happened_does (k.stands (seen_from c.args.at l) h sent c.in_default.is) c.requires.nothing
+    (record { cause = WasReset c.args.at c.args.window; none = none; causes = refl; is = refl })

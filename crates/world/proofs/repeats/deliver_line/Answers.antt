@@ -1,12 +1,7 @@
 use Rattle.std.proofs.Common.{◌≡◌, ℕ, suc, ◌+◌, [], ◌∷◌, ◌++◌, length, replicate, refl, sym, ap, subst, ◌∙◌, arith}
 use Rattle.trace_model.specs.declared.entry.Entry.TheVariants.{No}
 use Rattle.trace_model.specs.declared.entry.NoCause.TheVariants.{Empty}
-use Rattle.trace_model.specs.declared.line.Line.TheVariants as line
-use Rattle.link_machine.specs.Machine.Turn.{FetchMessage}
 use Rattle.message_link.specs.Links.{Link}
-use Rattle.message_link.specs.Links.Ending.{GoesOut}
-use Rattle.message_link.specs.Links.Comes.{NextFrame}
-use Rattle.message_link.specs.Links.EndEvent.{Step}
 use Rattle.history.specs.Histories.Cause.{Taken}
 use Rattle.history.specs.Steps.{link_after_all}
 use Rattle.history.specs.Follows.{seen_from, frames_to, taken_of}
@@ -17,8 +12,7 @@ use Rattle.world.proofs.repeats.deliver_line.Goals as goal
 
 pub returns-then-is_empty-clause-stands : goal.returns-then-is_empty-clause-stands
 returns-then-is_empty-clause-stands c l h sent =
-    refused_does c.args.near.now c.args.far.now c.args.resets.now c.args.at l (line.Deliver c.args.at c.args.count) c.push.new.self.items Empty
-    (none_there c.args.near.now.wire (frames_to l c.args.at) h.here.has.wire_is c.if-is_empty.ensures) h
+    refused_does (none_there c.args.near.now.wire (frames_to l c.args.at) h.here.has.wire_is c.if-is_empty.ensures) h
     (c.in_ok-push.ensures.items ∙ ap (λ es. es ++ No Empty ∷ []) c.requires.nothing)
 
 pub take_frame-requires-clause-state : goal.take_frame-requires-clause-state
@@ -58,11 +52,7 @@ loop-preserved c =
           HasRepeated c.take_frame.new.near c.take_frame.new.far c.take_frame.new.resets c.args.at l (Taken c.args.at) n
           c.take_frame.new.entries.items in
           subst P more
-          (repeats_more c.loop.near c.loop.far c.take_frame.new.near c.take_frame.new.far c.loop.resets c.take_frame.new.resets c.args.at l
-          (Taken c.args.at) k c.loop.entries.items c.take_frame.new.entries.items r
-          (happened_caused c.take_frame.new.near c.take_frame.new.far c.take_frame.new.resets c.args.at m (Taken c.args.at)
-          (Step NextFrame (FetchMessage ∷ []) GoesOut) c.loop.entries.items c.take_frame.new.entries.items refl
-          (c.in_ok-take_frame.ensures.stands (seen_from c.args.at m) r.stands few)))),
+          (repeats_more r (happened_caused (c.in_ok-take_frame.ensures.stands (seen_from c.args.at m) r.stands few) refl))),
       omega (arith, g, i),
     )
 
@@ -95,6 +85,5 @@ returns-clause-stands c l h sent =
     let last : c.loop.counter ≡ c.taken-end.result = omega (arith, c.loop-test.false, c.loop.auto.counter-end) in
     let same : c.loop.counter ≡ taken_of c.args.count (frames_to l c.args.at) =
     last ∙ c.taken-end.ensures (frames_to l c.args.at) (omega (arith, len)) in
-    repeats_does c.loop.near c.loop.far c.loop.resets c.args.at l (line.Deliver c.args.at c.args.count) (Taken c.args.at) c.loop.counter
-    c.loop.entries.items (some_there c.args.near.now.wire (frames_to l c.args.at) w c.if-is_empty.ensures)
-    (ap (λ n. replicate n (Taken c.args.at)) (sym same)) (c.loop.invariant.0 l h sent)
+    repeats_does (c.loop.invariant.0 l h sent) (some_there c.args.near.now.wire (frames_to l c.args.at) w c.if-is_empty.ensures)
+    (ap (λ n. replicate n (Taken c.args.at)) (sym same))

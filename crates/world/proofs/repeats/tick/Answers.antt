@@ -4,8 +4,7 @@ use Rattle.link_entries.specs.Entries.{aged_entries, tick_entries}
 use Rattle.session_laws.specs.Sessions.{aged_wire}
 use Rattle.message_link.specs.Links.{Link, aged, exchanged, ticks_at_controller}
 use Rattle.message_link.specs.Links.Ending.{GoesOut}
-use Rattle.history.specs.Histories.Cause.{Ticked}
-use Rattle.history.specs.Steps.{idle, link_after}
+use Rattle.history.specs.Steps.{idle}
 use Rattle.world.specs.Noting.{side_of}
 use Rattle.world.specs.Sides.{AreNoted}
 use Rattle.world.specs.Lines.{HaveSent}
@@ -19,12 +18,12 @@ pub tick_end-requires-clause-state : goal.tick_end-requires-clause-state
 tick_end-requires-clause-state c =
     let l : Link = c.requires.state.0 in
     let m : Link = record l { to_controller = aged_wire l.to_controller } in
-    let h = seen_here c.args.near.now c.args.far.now c.args.resets.now c.args.at l c.requires.controller c.requires.state.1 in
+    let h = seen_here c.args.at c.requires.controller c.requires.state.1 in
     let a = c.in_ok-age_frames.ensures.stands l h in
-    let b = c.in_ok-age_frames-2.ensures.stands (exchanged m) (turned_round c.age_frames.new.near c.args.far.now c.args.resets.now m a.0) in
+    let b = c.in_ok-age_frames-2.ensures.stands (exchanged m) (turned_round a.0) in
     let sent = c.requires.state.2.here in (
       aged l,
-      turned_round c.age_frames-2.new.near c.age_frames.new.near c.args.resets.now (exchanged (aged l)) b.0,
+      turned_round b.0,
       few_short (length l.controller.side.sent) sent,
     )
 
@@ -32,30 +31,30 @@ pub tick_end-requires-2-clause-state : goal.tick_end-requires-2-clause-state
 tick_end-requires-2-clause-state c =
     let l : Link = c.requires.state.0 in
     let m : Link = record l { to_controller = aged_wire l.to_controller } in
-    let h = seen_here c.args.near.now c.args.far.now c.args.resets.now c.args.at l c.requires.controller c.requires.state.1 in
+    let h = seen_here c.args.at c.requires.controller c.requires.state.1 in
     let a = c.in_ok-age_frames.ensures.stands l h in
-    let b = c.in_ok-age_frames-2.ensures.stands (exchanged m) (turned_round c.age_frames.new.near c.args.far.now c.args.resets.now m a.0) in
-    let both = turned_round c.age_frames-2.new.near c.age_frames.new.near c.args.resets.now (exchanged (aged l)) b.0 in
+    let b = c.in_ok-age_frames-2.ensures.stands (exchanged m) (turned_round a.0) in
+    let both = turned_round b.0 in
     let t = c.in_ok-tick_end.ensures.stands (aged l) both (few_short (length l.controller.side.sent) c.requires.state.2.here) in
     let near : Link = ticks_at_controller (aged l) [] GoesOut in
     let sent : HaveSent near 20000 = sent_ticked 20000 (aged l) (record { here = c.requires.state.2.here; there = c.requires.state.2.there }) in (
       exchanged near,
-      turned_round c.tick_end.new.near c.tick_end.new.far c.tick_end.new.resets near t.0,
+      turned_round t.0,
       few_short (length near.host.side.sent) sent.there,
     )
 
 pub returns-clause-stands : goal.returns-clause-stands
 returns-clause-stands c l stands few =
     let m : Link = record l { to_controller = aged_wire l.to_controller } in
-    let h = seen_here c.args.near.now c.args.far.now c.args.resets.now c.args.at l c.requires.controller stands in
+    let h = seen_here c.args.at c.requires.controller stands in
     let a = c.in_ok-age_frames.ensures.stands l h in
-    let b = c.in_ok-age_frames-2.ensures.stands (exchanged m) (turned_round c.age_frames.new.near c.args.far.now c.args.resets.now m a.0) in
-    let both = turned_round c.age_frames-2.new.near c.age_frames.new.near c.args.resets.now (exchanged (aged l)) b.0 in
+    let b = c.in_ok-age_frames-2.ensures.stands (exchanged m) (turned_round a.0) in
+    let both = turned_round b.0 in
     let t = c.in_ok-tick_end.ensures.stands (aged l) both (few_short (length l.controller.side.sent) few.here) in
     let near : Link = ticks_at_controller (aged l) [] GoesOut in
     let sent : HaveSent near 20000 = sent_ticked 20000 (aged l) (record { here = few.here; there = few.there }) in
     on_ok c.tick_end-2.result
-    (c.tick_end-2.ensures.stands (exchanged near) (turned_round c.tick_end.new.near c.tick_end.new.far c.tick_end.new.resets near t.0)
+    (c.tick_end-2.ensures.stands (exchanged near) (turned_round t.0)
     (few_short (length near.host.side.sent) sent.there))
     (λ last.
     let P : End → Type 0 = λ e.
@@ -63,10 +62,7 @@ returns-clause-stands c l stands few =
     let Q : End → Type 0 = λ e.
     AreNoted e c.tick_end.new.entries.items c.tick_end-2.new.entries.items (tick_entries (side_of e) (exchanged near) idle) in
     record {
-      stands = seen_at_controller c.tick_end-2.new.far c.tick_end-2.new.near c.tick_end-2.new.resets c.args.at (link_after l Ticked)
-          c.requires.controller
-          (turned_round c.tick_end-2.new.near c.tick_end-2.new.far c.tick_end-2.new.resets (ticks_at_controller (exchanged near) [] GoesOut) last.0);
-      noted_are = tick_noted c.args.at l c.args.entries.now.items c.age_frames.new.entries.items c.age_frames-2.new.entries.items
-          c.tick_end.new.entries.items c.tick_end-2.new.entries.items c.requires.controller a.1 (subst P c.other.ensures b.1) t.1
+      stands = seen_at_controller c.args.at c.requires.controller (turned_round last.0);
+      noted_are = tick_noted c.args.at l c.args.entries.now.items c.requires.controller a.1 (subst P c.other.ensures b.1) t.1
           (subst Q c.other-2.ensures last.1);
     })

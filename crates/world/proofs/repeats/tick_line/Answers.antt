@@ -1,6 +1,5 @@
 use Rattle.std.proofs.Common.{◌≡◌, ℕ, suc, ◌+◌, replicate, refl, sym, ap, subst, ◌∙◌, arith}
 use Rattle.std.specs.Prelude.{unwrap_or}
-use Rattle.trace_model.specs.declared.line.Line.TheVariants as line
 use Rattle.history.specs.Histories.Cause.{Ticked}
 use Rattle.history.specs.Steps.{link_after_all}
 use Rattle.world.proofs.Given.{sent_repeated}
@@ -27,8 +26,7 @@ loop-preserved c =
           let P : ℕ → Type 0 = λ n.
           HasRepeated c.tick.new.near c.tick.new.far c.tick.new.resets c.args.at l Ticked n c.tick.new.entries.items in
           subst P more
-          (repeats_more c.loop.near c.loop.far c.tick.new.near c.tick.new.far c.loop.resets c.tick.new.resets c.args.at l Ticked k
-          c.loop.entries.items c.tick.new.entries.items r
+          (repeats_more r
           (c.in_ok-tick.ensures.stands (link_after_all l (replicate k Ticked)) r.stands (sent_repeated 20000 k l Ticked tt sent)))),
       omega (arith, g, i),
     )
@@ -37,5 +35,4 @@ pub returns-clause-stands : goal.returns-clause-stands
 returns-clause-stands c l h sent =
     let last : c.loop.counter ≡ c.unwrap_or-end.result = omega (arith, c.loop-test.false, c.loop.auto.counter-end) in
     let same : c.loop.counter ≡ unwrap_or c.args.times 1 = last ∙ c.unwrap_or-end.ensures in
-    repeats_does c.loop.near c.loop.far c.loop.resets c.args.at l (line.Tick c.args.times) Ticked c.loop.counter c.loop.entries.items refl
-    (ap (λ n. replicate n Ticked) (sym same)) (c.loop.invariant.0 l h sent)
+    repeats_does (c.loop.invariant.0 l h sent) refl (ap (λ n. replicate n Ticked) (sym same))
