@@ -68,6 +68,6 @@ pub input_noted : {near far : Side} {resets : ℕ} {l : Link} {at : End} {place 
     (puts_entries (side_of at) (with_ended l (is_some (ended_by l.controller.side i))) (frames_out (after_input l.controller.side i)))
     → AreNoted at before now (input_entries (side_of at) l i [] GoesOut)
 input_noted {l} {at} {mid} {now} i before h is noted put =
-    more_noted at before mid now (told_of (side_of at) l.controller i)
+    more_noted at before (told_of (side_of at) l.controller i)
     (puts_entries (side_of at) (with_ended l (is_some (ended_by l.controller.side i))) (frames_out (after_input l.controller.side i)))
     (told_here i before h is noted) put

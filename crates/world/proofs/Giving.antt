@@ -81,4 +81,4 @@ gives {l} {at} {session} {x} {before} {mid} {now} number taken is push sent =
     push ∙ ap (λ (b : List ℕ). before ++ entry.Sent at session x.0 b ∷ []) is
     ∙ ap (λ n. before ++ entry.Sent at n x.0 x.1 ∷ []) number
     ∙ ap (λ z. before ++ entry.Sent z (number_of l.controller) x.0 x.1 ∷ []) (sym (end_is at)) in
-    record { stands = sent.0; noted = subst T (sym notes) (more_noted at before mid now first puts noted sent.1) }
+    record { stands = sent.0; noted = subst T (sym notes) (more_noted at before first puts noted sent.1) }

@@ -85,6 +85,11 @@ does {near} {far} {resets} {at} {l} {line} {now} q b =
     let z : Becomes near far resets at l (outcome_of at.link l line) now = subst P (sym q) b in
     record { stands = z.stands; noted_are = z.noted_are }
 
+-- the same line does the same
+pub same_does : {near far : Side} {resets : ℕ} {at : End} {l : Link} {line other : Line} {now : List Entry} → line ≡ other
+    → Does near far resets at l other now → Does near far resets at l line now
+same_does {near} {far} {resets} {at} {l} {now} is d = let P : Line → Type 0 = λ x. Does near far resets at l x now in subst P (sym is) d
+
 -- a line that is refused does nothing
 pub refused_does : {near far : Side} {resets : ℕ} {at : End} {l : Link} {line : Line} {now : List Entry} {why : NoCause}
     → refusal l line ≡ Some why → SidesStandFor near far resets at l → now ≡ No why ∷ [] → Does near far resets at l line now
@@ -97,7 +102,7 @@ pub record HasOneCause (at : End) (l : Link) (line : Line) (event : EndEvent) : 
   pub causes : causes_in l line ≡ cause ∷ []
   pub is : event_of cause ≡ happens_at at event
 
--- that has happened
+-- a line whose one cause has happened
 pub happened_does : {near far : Side} {resets : ℕ} {at : End} {l : Link} {line : Line} {before now : List Entry} {event : EndEvent}
     → HasHappened near far resets (seen_from at l) event at before now → before ≡ [] → HasOneCause at l line event
     → Does near far resets at l line now
@@ -124,10 +129,10 @@ pub some_holds : {X P : Type 0} (o : Option X) (x : X) → o ≡ Some x → IfSo
 some_holds None x is p = cc
 some_holds (Some y) x is p = p
 
-pub none_there : (kept : Buffer Flying) (wire : List OnWire) → WireStandsFor kept wire → true ≡ eqb (length kept.items) 0 → if_empty wire ≡ Some Empty
-none_there kept [] w h = refl
-none_there kept (x ∷ xs) w h = absurd (omega (arith, eqb→eq (length kept.items) 0 (subst T h tt), ap length w.frames))
+pub none_there : {kept : Buffer Flying} {wire : List OnWire} → WireStandsFor kept wire → true ≡ eqb (length kept.items) 0 → if_empty wire ≡ Some Empty
+none_there {wire = []} w h = refl
+none_there {kept} {wire = x ∷ xs} w h = absurd (omega (arith, eqb→eq (length kept.items) 0 (subst T h tt), ap length w.frames))
 
-pub some_there : (kept : Buffer Flying) (wire : List OnWire) → WireStandsFor kept wire → false ≡ eqb (length kept.items) 0 → if_empty wire ≡ None
-some_there kept [] w h = absurd (omega (arith, is_some (length kept.items) h, ap length w.frames))
-some_there kept (x ∷ xs) w h = refl
+pub some_there : {kept : Buffer Flying} {wire : List OnWire} → WireStandsFor kept wire → false ≡ eqb (length kept.items) 0 → if_empty wire ≡ None
+some_there {kept} {wire = []} w h = absurd (omega (arith, is_some (length kept.items) h, ap length w.frames))
+some_there {wire = x ∷ xs} w h = refl

@@ -32,9 +32,9 @@ pub entries-append : (h : ℕ) (a b : List Noted) → entries_for h (a ++ b) ≡
 entries-append h a b = flat_map-append (entry_of h) a b
 
 -- what is noted behind what was noted
-pub more_noted : (at : End) (before mid now : List Entry) (a b : List Noted) → AreNoted at before mid a → AreNoted at mid now b
+pub more_noted : {mid now : List Entry} (at : End) (before : List Entry) (a b : List Noted) → AreNoted at before mid a → AreNoted at mid now b
     → AreNoted at before now (a ++ b)
-more_noted at before mid now a b p q =
+more_noted at before a b p q =
     q ∙ (ap (λ es. es ++ entries_for at.link b) p ∙ (append_assoc before (entries_for at.link a) (entries_for at.link b)
     ∙ ap (λ es. before ++ es) (sym (entries-append at.link a b))))
 

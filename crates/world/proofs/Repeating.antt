@@ -105,9 +105,9 @@ tick_noted {b} {c} {d} {e} at l a q one two three four =
     let R : Which → Type 0 = λ w. AreNoted at c d (tick_entries w (aged l) idle) in
     let S : Which → Type 0 = λ w. AreNoted at d e (tick_entries w (exchanged near) idle) in
     let last : List Noted = tick_entries Controller (aged l) idle ++ tick_entries Host (exchanged near) idle in
-    more_noted at a b e (aged_entries Controller l.to_controller) (aged_entries Host l.to_host ++ last) (subst P here one)
-    (more_noted at b c e (aged_entries Host l.to_host) last (subst Q there two)
-    (more_noted at c d e (tick_entries Controller (aged l) idle) (tick_entries Host (exchanged near) idle) (subst R here three) (subst S there four)))
+    more_noted at a (aged_entries Controller l.to_controller) (aged_entries Host l.to_host ++ last) (subst P here one)
+    (more_noted at b (aged_entries Host l.to_host) last (subst Q there two)
+    (more_noted at c (tick_entries Controller (aged l) idle) (tick_entries Host (exchanged near) idle) (subst R here three) (subst S there four)))
 
 -- the sides the other way round
 pub turned_round : {near far : Side} {resets : ℕ} {l : Link} → LinkStandsFor near far resets l → LinkStandsFor far near resets (exchanged l)
@@ -116,21 +116,26 @@ turned_round h = record { here = h.there; there = h.here; count = h.count }
 -- ## Bounds
 
 -- the end from which a link is seen was given few messages
-pub few_here : (n : ℕ) (at : End) (l : Link) → HaveSent l n → length (seen_from at l).controller.side.sent ≤ n
-few_here n at l h = go at.at_host
+pub few_here : {n : ℕ} {l : Link} (at : End) → HaveSent l n → length (seen_from at l).controller.side.sent ≤ n
+few_here {n} {l} at h = go at.at_host
   where
     go : (b : Bool) → length (seen_from (record { link = at.link; at_host = b }) l).controller.side.sent ≤ n
     go true = h.there
     go false = h.here
 
 -- a line takes no more frames than there are
-pub taken_within : (count : Option ℕ) (wire : List OnWire) → taken_of count wire ≤ length wire
+taken_within : (count : Option ℕ) (wire : List OnWire) → taken_of count wire ≤ length wire
 taken_within None wire = omega arith
 taken_within (Some n) wire = omega arith
 
 -- as many frames are kept as stand on the wire
-pub kept_len : (kept : Buffer Flying) (wire : List OnWire) → WireStandsFor kept wire → length wire ≡ length kept.items
-kept_len kept wire h = sym (ap (λ (xs : List Flying). length xs) h.frames ∙ length-map wire kept_of)
+pub kept_len : {kept : Buffer Flying} {wire : List OnWire} → WireStandsFor kept wire → length wire ≡ length kept.items
+kept_len {wire} h = sym (ap (λ (xs : List Flying). length xs) h.frames ∙ length-map wire kept_of)
+
+-- so a line takes at most 64
+pub taken_few : {kept : Buffer Flying} {wire : List OnWire} {n : ℕ} (count : Option ℕ) → WireStandsFor kept wire → n ≡ taken_of count wire → n ≤ 64
+taken_few {wire} count h is =
+    let within = taken_within count wire in let few = h.few in omega (arith, is, within, few)
 
 -- 20,000 is short of what a count of messages holds
 pub few_short : (n : ℕ) → n ≤ 20000 → n < 2 ^ 32

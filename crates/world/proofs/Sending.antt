@@ -148,7 +148,7 @@ sending_goes_on {at} {near} {far} {near2} {far2} {new} {resets} {resets2} {l} {m
           end_is = s.end_is;
           notes_are = s.notes_are ∙ (ap (λ cs. s.notes ++ puts_entries (side_of at) s.link cs) frames
               ∙ sym (append_assoc s.notes (put_entries (side_of at) s.link c) (puts_entries (side_of at) (put s.link c) (frames_of left (fetched s.e.shdlc)))));
-          noted = more_noted at before mid now s.notes (put_entries (side_of at) s.link c) s.noted r.1;
+          noted = more_noted at before s.notes (put_entries (side_of at) s.link c) s.noted r.1;
         }
 
 -- all were sent

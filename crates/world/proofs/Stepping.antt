@@ -60,7 +60,7 @@ put_is {near} {far} {resets} {l} {m} {c} {e} {n} {k} {wire} {mid} {now} at befor
         let P : List OnWire → Type 0 = λ w. AreNoted at mid now (pushed_out (far_side (side_of at)) w) in
         let Q : Which → Type 0 =
         λ z. AreNoted at mid now (pushed_out z (l.to_host ++ record { frame = c; age = 0; number = k } ∷ [])) in
-        more_noted at before mid now (NotedEmit (side_of at) c ∷ []) (pushed_out (far_side (side_of at)) (wire_with l c))
+        more_noted at before (NotedEmit (side_of at) c ∷ []) (pushed_out (far_side (side_of at)) (wire_with l c))
         (emit_noted at before mid c noted) (subst P all_wire (subst Q (other_side at) put_last.1))
 
     wire_is : WireStandsFor wire (fits (wire_with l c))

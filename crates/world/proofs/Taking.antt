@@ -193,6 +193,6 @@ taken {near2} {far2} {resets2} {l} {at} {before} {mid} {then} {now} f h is so pu
     record {
       stands = subst R (sym link) sent.0;
       noted = subst T (sym notes)
-          (more_noted at before mid now a (b ++ d) (took_noted at f.x before f.first push)
-          (more_noted at mid then now b d (told_taken f.x mid h number so told) sent.1));
+          (more_noted at before a (b ++ d) (took_noted at f.x before f.first push)
+          (more_noted at mid b d (told_taken f.x mid h number so told) sent.1));
     }

@@ -225,9 +225,9 @@ pub record Aging (to : End) (frames : List OnWire) (wire : Buffer Flying) (befor
   pub notes_are : aged_entries (side_of to) frames ≡ notes ++ aged_entries (side_of to) rest
   pub noted : AreNoted to before now notes
 
-pub aging_starts : (to : End) (frames : List OnWire) (wire : Buffer Flying) (entries : List Entry) (n : ℕ) → WireStandsFor wire frames
+pub aging_starts : {to : End} {frames : List OnWire} {wire : Buffer Flying} {entries : List Entry} {n : ℕ} → WireStandsFor wire frames
     → n ≡ length wire.items → Aging to frames wire entries entries n
-aging_starts to frames wire entries n w q =
+aging_starts {frames} {wire} {entries} w q =
     let P : List OnWire → Type 0 = λ l. WireStandsFor wire l in
     record {
       rest = frames;
@@ -260,9 +260,9 @@ Ages to wire new before now =
     (x : OnWire) (frames : List OnWire) → WireStandsFor wire (x ∷ frames)
     → WireStandsFor new (frames ++ aged_wire (x ∷ [])) × AreNoted to before now (aged_entries (side_of to) (x ∷ []))
 
-pub aging_goes_on : (to : End) (frames : List OnWire) (wire new : Buffer Flying) (before mid now : List Entry) (left : ℕ)
+pub aging_goes_on : {to : End} {frames : List OnWire} {wire new : Buffer Flying} {before mid now : List Entry} {left : ℕ}
     → Aging to frames wire before mid (suc left) → Ages to wire new mid now → Aging to frames new before now left
-aging_goes_on to frames wire new before mid now left a ages = go a.rest refl
+aging_goes_on {to} {frames} {wire} {new} {before} {now} {left} a ages = go a.rest refl
   where
     go : (rest : List OnWire) → a.rest ≡ rest → Aging to frames new before now left
     go [] q = absurd (let z = ap length q in let l = a.left_is in omega (arith, z, l))
@@ -280,12 +280,12 @@ aging_goes_on to frames wire new before mid now left a ages = go a.rest refl
               ∙ sym (append_assoc a.done (aged_wire (x ∷ [])) (aged_wire xs))));
           notes_are = a.notes_are ∙ (ap (λ l. a.notes ++ aged_entries (side_of to) l) q ∙ (ap (λ l. a.notes ++ l) (one_note to x xs)
               ∙ sym (append_assoc a.notes (aged_entries (side_of to) (x ∷ [])) (aged_entries (side_of to) xs))));
-          noted = more_noted to before mid now a.notes (aged_entries (side_of to) (x ∷ [])) a.noted r.1;
+          noted = more_noted to before a.notes (aged_entries (side_of to) (x ∷ [])) a.noted r.1;
         }
 
-pub aging_ends : (to : End) (frames : List OnWire) (wire : Buffer Flying) (before now : List Entry) → Aging to frames wire before now 0
+pub aging_ends : {to : End} {frames : List OnWire} {wire : Buffer Flying} {before now : List Entry} → Aging to frames wire before now 0
     → WireStandsFor wire (aged_wire frames) × AreNoted to before now (aged_entries (side_of to) frames)
-aging_ends to frames wire before now a = go a.rest refl
+aging_ends {to} {frames} {wire} {before} {now} a = go a.rest refl
   where
     go : (rest : List OnWire) → a.rest ≡ rest → WireStandsFor wire (aged_wire frames) × AreNoted to before now (aged_entries (side_of to) frames)
     go (x ∷ xs) q = absurd (let z = ap length q in let l = a.left_is in omega (arith, z, l))

@@ -149,7 +149,7 @@ pub record Grows (now : World) (header : Header) (lines : List Line) (t : Histor
   pub stands : WorldStandsFor now header (lines ++ line ∷ []) (with_step t line)
   pub entries_are : world_entries now ≡ noted (outcome_of (host_of header) (link_at t) line)
 
--- a world that stood for a history was stepped by a line, which is read as it is
+-- a world that stood for a history was stepped by a line, by which no frame is misread
 pub record WasStepped (w now : World) (header : Header) (lines : List Line) (t : History) (line : Line) : Type 0 where
   pub before : WorldStandsFor w header lines t
   pub is_line : IsLineOf header line
@@ -220,8 +220,8 @@ controller_grows {header} {t} {line} {at} law s seen q does =
     record { stands = step_stands law s (seen_here at q z.0); entries_are = z.1 }
 
 -- a world that can be stepped was stepped by few lines, and its ends were given few messages
-pub few_sent : (w : World) (lines : List Line) (t : History) → HasRoomForLine w → WorldStandsFor w w.header lines t → HaveSent (link_at t) 20000
-few_sent w lines t room h =
+pub few_sent : {w : World} {lines : List Line} {t : History} → HasRoomForLine w → WorldStandsFor w w.header lines t → HaveSent (link_at t) 20000
+few_sent room h =
     let a = h.sent.here in
     let b = h.sent.there in
     let n = h.stepped in

@@ -4,7 +4,8 @@ use Rattle.trace_model.specs.declared.line.Line.{Line}
 use Rattle.trace_model.specs.declared.line.Line.TheVariants as line
 use Rattle.trace_model.specs.Lines.{IsLineOf}
 use Rattle.history.specs.Follows.{machine_of}
-use Rattle.world.specs.Lines.{Does, end_for}
+use Rattle.world.specs.Lines.{end_for}
+use Rattle.world.proofs.LineLemmas.{same_does}
 use Rattle.world.proofs.Repeating.{few_here, few_short}
 use Rattle.world.proofs.line_steps.play_line.Goals as goal
 
@@ -12,55 +13,47 @@ pub returns-in_ok-send_line-in-Send-clause-stands : goal.returns-in_ok-send_line
 returns-in_ok-send_line-in-Send-clause-stands c l h sent none =
     let i = c.in-Send in
     let at : c.args.at ≡ i.at = c.requires.seen.2 ∙ ap (end_for c.requires.seen.0) i.is in
-    let P : Line → Type 0 = λ x. Does c.send_line.new.near c.send_line.new.far c.send_line.new.resets c.args.at l x c.send_line.new.entries.items in
-    subst P (sym (i.is ∙ ap (λ (e : End). line.Send e i.pid i.message) (sym at)))
+    same_does (i.is ∙ ap (λ (e : End). line.Send e i.pid i.message) (sym at))
     (c.in_ok-send_line-in-Send.ensures.stands l h)
 
 pub returns-in_ok-deliver_line-in-Deliver-clause-stands : goal.returns-in_ok-deliver_line-in-Deliver-clause-stands
 returns-in_ok-deliver_line-in-Deliver-clause-stands c l h sent none =
     let i = c.in-Deliver in
     let at : c.args.at ≡ i.at = c.requires.seen.2 ∙ ap (end_for c.requires.seen.0) i.is in
-    let P : Line → Type 0 = λ x. Does c.deliver_line.new.near c.deliver_line.new.far c.deliver_line.new.resets c.args.at l x c.deliver_line.new.entries.items in
-    subst P (sym (i.is ∙ ap (λ (e : End). line.Deliver e i.count) (sym at)))
+    same_does (i.is ∙ ap (λ (e : End). line.Deliver e i.count) (sym at))
     (c.in_ok-deliver_line-in-Deliver.ensures.stands l h sent)
 
 pub returns-in_ok-lose_line-in-Lose-clause-stands : goal.returns-in_ok-lose_line-in-Lose-clause-stands
 returns-in_ok-lose_line-in-Lose-clause-stands c l h sent none =
     let i = c.in-Lose in
     let at : c.args.at ≡ i.at = c.requires.seen.2 ∙ ap (end_for c.requires.seen.0) i.is in
-    let P : Line → Type 0 = λ x. Does c.lose_line.new.near c.args.far.now c.args.resets.now c.args.at l x c.lose_line.new.entries.items in
-    subst P (sym (i.is ∙ ap (λ (e : End). line.Lose e) (sym at)))
+    same_does (i.is ∙ ap (λ (e : End). line.Lose e) (sym at))
     (c.in_ok-lose_line-in-Lose.ensures.stands l h)
 
 pub returns-in_ok-tick_line-in-Tick-clause-stands : goal.returns-in_ok-tick_line-in-Tick-clause-stands
 returns-in_ok-tick_line-in-Tick-clause-stands c l h sent none =
     let i = c.in-Tick in
-    let P : Line → Type 0 = λ x. Does c.tick_line.new.near c.tick_line.new.far c.tick_line.new.resets c.args.at l x c.tick_line.new.entries.items in
-    subst P (sym (i.is))
-    (c.in_ok-tick_line-in-Tick.ensures.stands l h sent)
+    same_does i.is (c.in_ok-tick_line-in-Tick.ensures.stands l h sent)
 
 pub returns-in_ok-reset_line-in-Reset-clause-stands : goal.returns-in_ok-reset_line-in-Reset-clause-stands
 returns-in_ok-reset_line-in-Reset-clause-stands c l h sent none =
     let i = c.in-Reset in
     let at : c.args.at ≡ i.at = c.requires.seen.2 ∙ ap (end_for c.requires.seen.0) i.is in
-    let P : Line → Type 0 = λ x. Does c.reset_line.new.near c.reset_line.new.far c.reset_line.new.resets c.args.at l x c.reset_line.new.entries.items in
-    subst P (sym (i.is ∙ ap (λ (e : End). line.Reset e i.window) (sym at)))
-    (c.in_ok-reset_line-in-Reset.ensures.stands l h (few_short (length (machine_of l c.args.at).sent) (few_here 20000 c.args.at l sent)))
+    same_does (i.is ∙ ap (λ (e : End). line.Reset e i.window) (sym at))
+    (c.in_ok-reset_line-in-Reset.ensures.stands l h (few_short (length (machine_of l c.args.at).sent) (few_here c.args.at sent)))
 
 pub returns-in_ok-busy_line-in-Busy-clause-stands : goal.returns-in_ok-busy_line-in-Busy-clause-stands
 returns-in_ok-busy_line-in-Busy-clause-stands c l h sent none =
     let i = c.in-Busy in
     let at : c.args.at ≡ i.at = c.requires.seen.2 ∙ ap (end_for c.requires.seen.0) i.is in
-    let P : Line → Type 0 = λ x. Does c.busy_line.new.near c.busy_line.new.far c.busy_line.new.resets c.args.at l x c.busy_line.new.entries.items in
-    subst P (sym (i.is ∙ ap (λ (e : End). line.Busy e) (sym at)))
+    same_does (i.is ∙ ap (λ (e : End). line.Busy e) (sym at))
     (c.in_ok-busy_line-in-Busy.ensures.stands l h)
 
 pub returns-in_ok-ready_line-in-Ready-clause-stands : goal.returns-in_ok-ready_line-in-Ready-clause-stands
 returns-in_ok-ready_line-in-Ready-clause-stands c l h sent none =
     let i = c.in-Ready in
     let at : c.args.at ≡ i.at = c.requires.seen.2 ∙ ap (end_for c.requires.seen.0) i.is in
-    let P : Line → Type 0 = λ x. Does c.ready_line.new.near c.ready_line.new.far c.ready_line.new.resets c.args.at l x c.ready_line.new.entries.items in
-    subst P (sym (i.is ∙ ap (λ (e : End). line.Ready e) (sym at)))
+    same_does (i.is ∙ ap (λ (e : End). line.Ready e) (sym at))
     (c.in_ok-ready_line-in-Ready.ensures.stands l h)
 
 pub returns-in-Boot : goal.returns-in-Boot

@@ -3,7 +3,7 @@ use Rattle.trace_model.specs.declared.entry.Entry.TheVariants.{No}
 use Rattle.trace_model.specs.declared.entry.NoCause.TheVariants.{Empty}
 use Rattle.message_link.specs.Links.Loss.{OnDemand}
 use Rattle.history.specs.Histories.Cause.{WasLost}
-use Rattle.history.specs.Follows.{seen_from, frames_to}
+use Rattle.history.specs.Follows.{seen_from}
 use Rattle.world.proofs.Results.{on_ok}
 use Rattle.world.proofs.LineLemmas.{refused_does, happened_does, none_there, some_there}
 use Rattle.world.proofs.lines.lose_line.Goals as goal
@@ -11,7 +11,7 @@ use Rattle.world.proofs.lines.lose_line.Goals as goal
 pub returns-then-is_empty : goal.returns-then-is_empty
 returns-then-is_empty c = record {
   stands = λ l h.
-      refused_does (none_there c.args.near.now.wire (frames_to l c.args.at) h.here.has.wire_is c.if-is_empty.ensures) h
+      refused_does (none_there h.here.has.wire_is c.if-is_empty.ensures) h
       (c.in_ok-push.ensures.items ∙ ap (λ es. es ++ No Empty ∷ []) c.requires.nothing);
 }
 
@@ -22,7 +22,7 @@ returns c = record {
       (λ has. happened_does has c.requires.nothing
       (record {
         cause = WasLost c.args.at OnDemand;
-        none = some_there c.args.near.now.wire (frames_to l c.args.at) h.here.has.wire_is c.if-is_empty.ensures;
+        none = some_there h.here.has.wire_is c.if-is_empty.ensures;
         causes = refl;
         is = refl;
       }));

@@ -49,7 +49,7 @@ grown c lines t h =
           } in
           let P : World → Type 0 = λ x. Grows x old.header lines t c.args.line.now in
           subst P (sym w.self-is)
-          (host_grows law stepped seen side (w.in_ok-play_line.ensures.stands l stands (few_sent old lines t c.requires.room h) none)))
+          (host_grows law stepped seen side (w.in_ok-play_line.ensures.stands l stands (few_sent c.requires.room h) none)))
       | else-at+in_ok-play_line-2 w ↦
           (let l : Link = link_at t in
           let old : World = c.args.self.now in
@@ -77,7 +77,7 @@ grown c lines t h =
           } in
           let P : World → Type 0 = λ x. Grows x old.header lines t c.args.line.now in
           subst P (sym w.self-is)
-          (controller_grows law stepped seen side (w.in_ok-play_line-2.ensures.stands l stands (few_sent old lines t c.requires.room h) none)))
+          (controller_grows law stepped seen side (w.in_ok-play_line-2.ensures.stands l stands (few_sent c.requires.room h) none)))
     ]
 
 pub returns-in-None-clause-stands : goal.returns-in-None-clause-stands
