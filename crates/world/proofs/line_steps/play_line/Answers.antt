@@ -1,9 +1,8 @@
-use Rattle.std.proofs.Common.{◌≡◌, length, sym, ap, subst, ◌∙◌}
+use Rattle.std.proofs.Common.{◌≡◌, sym, ap, subst, ◌∙◌}
 use Rattle.trace_model.specs.declared.line.End.{End}
 use Rattle.trace_model.specs.declared.line.Line.{Line}
 use Rattle.trace_model.specs.declared.line.Line.TheVariants as line
 use Rattle.trace_model.specs.Lines.{IsLineOf}
-use Rattle.history.specs.Follows.{machine_of}
 use Rattle.world.specs.Lines.{end_for}
 use Rattle.world.proofs.LineLemmas.{same_does}
 use Rattle.world.proofs.Repeating.{few_here, few_short}
@@ -40,7 +39,7 @@ returns-in_ok-reset_line-in-Reset-clause-stands c l h sent none =
     let i = c.in-Reset in
     let at : c.args.at ≡ i.at = c.requires.seen.2 ∙ ap (end_for c.requires.seen.0) i.is in
     same_does (i.is ∙ ap (λ (e : End). line.Reset e i.window) (sym at))
-    (c.in_ok-reset_line-in-Reset.ensures.stands l h (few_short (length (machine_of l c.args.at).sent) (few_here c.args.at sent)))
+    (c.in_ok-reset_line-in-Reset.ensures.stands l h (few_short (few_here c.args.at sent)))
 
 pub returns-in_ok-busy_line-in-Busy-clause-stands : goal.returns-in_ok-busy_line-in-Busy-clause-stands
 returns-in_ok-busy_line-in-Busy-clause-stands c l h sent none =

@@ -1,4 +1,4 @@
-use Rattle.std.proofs.Common.{◌≡◌, ℕ, suc, ◌+◌, [], ◌∷◌, ◌++◌, length, replicate, refl, sym, ap, subst, ◌∙◌, arith}
+use Rattle.std.proofs.Common.{◌≡◌, ℕ, suc, ◌+◌, [], ◌∷◌, ◌++◌, replicate, refl, sym, ap, subst, ◌∙◌, arith}
 use Rattle.trace_model.specs.declared.entry.Entry.TheVariants.{No}
 use Rattle.trace_model.specs.declared.entry.NoCause.TheVariants.{Empty}
 use Rattle.message_link.specs.Links.{Link}
@@ -23,7 +23,7 @@ take_frame-requires-clause-state c =
     let sent = sent_repeated 20000 c.loop.counter s.0 (Taken c.args.at) tt s.2 in (
       seen_from c.args.at l,
       r.stands,
-      few_short (length (seen_from c.args.at l).controller.side.sent) (few_here c.args.at sent),
+      few_short (few_here c.args.at sent),
     )
 
 pub take_frame-requires-clause-room : goal.take_frame-requires-clause-room
@@ -42,8 +42,7 @@ loop-preserved c =
           (let k : ℕ = c.loop.counter in
           let m : Link = link_after_all l (replicate k (Taken c.args.at)) in
           let r = c.loop.invariant.0 l h sent in
-          let few = few_short (length (seen_from c.args.at m).controller.side.sent)
-          (few_here c.args.at (sent_repeated 20000 k l (Taken c.args.at) tt sent)) in
+          let few = few_short (few_here c.args.at (sent_repeated 20000 k l (Taken c.args.at) tt sent)) in
           let more : suc k ≡ k + 1 = omega arith in
           let P : ℕ → Type 0 = λ n.
           HasRepeated c.take_frame.new.near c.take_frame.new.far c.take_frame.new.resets c.args.at l (Taken c.args.at) n

@@ -1,4 +1,4 @@
-use Rattle.std.proofs.Common.{[], length, subst}
+use Rattle.std.proofs.Common.{[], subst}
 use Rattle.trace_model.specs.declared.line.End.{End}
 use Rattle.link_entries.specs.Entries.{aged_entries, tick_entries}
 use Rattle.session_laws.specs.Sessions.{aged_wire}
@@ -24,7 +24,7 @@ tick_end-requires-clause-state c =
     let sent = c.requires.state.2.here in (
       aged l,
       turned_round b.0,
-      few_short (length l.controller.side.sent) sent,
+      few_short sent,
     )
 
 pub tick_end-requires-2-clause-state : goal.tick_end-requires-2-clause-state
@@ -35,12 +35,12 @@ tick_end-requires-2-clause-state c =
     let a = c.in_ok-age_frames.ensures.stands l h in
     let b = c.in_ok-age_frames-2.ensures.stands (exchanged m) (turned_round a.0) in
     let both = turned_round b.0 in
-    let t = c.in_ok-tick_end.ensures.stands (aged l) both (few_short (length l.controller.side.sent) c.requires.state.2.here) in
+    let t = c.in_ok-tick_end.ensures.stands (aged l) both (few_short c.requires.state.2.here) in
     let near : Link = ticks_at_controller (aged l) [] GoesOut in
     let sent : HaveSent near 20000 = sent_ticked 20000 (aged l) (record { here = c.requires.state.2.here; there = c.requires.state.2.there }) in (
       exchanged near,
       turned_round t.0,
-      few_short (length near.host.side.sent) sent.there,
+      few_short sent.there,
     )
 
 pub returns-clause-stands : goal.returns-clause-stands
@@ -50,12 +50,12 @@ returns-clause-stands c l stands few =
     let a = c.in_ok-age_frames.ensures.stands l h in
     let b = c.in_ok-age_frames-2.ensures.stands (exchanged m) (turned_round a.0) in
     let both = turned_round b.0 in
-    let t = c.in_ok-tick_end.ensures.stands (aged l) both (few_short (length l.controller.side.sent) few.here) in
+    let t = c.in_ok-tick_end.ensures.stands (aged l) both (few_short few.here) in
     let near : Link = ticks_at_controller (aged l) [] GoesOut in
     let sent : HaveSent near 20000 = sent_ticked 20000 (aged l) (record { here = few.here; there = few.there }) in
     on_ok c.tick_end-2.result
     (c.tick_end-2.ensures.stands (exchanged near) (turned_round t.0)
-    (few_short (length near.host.side.sent) sent.there))
+    (few_short sent.there))
     (λ last.
     let P : End → Type 0 = λ e.
     AreNoted e c.age_frames.new.entries.items c.age_frames-2.new.entries.items (aged_entries (side_of e) l.to_host) in

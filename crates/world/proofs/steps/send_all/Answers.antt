@@ -3,8 +3,7 @@ use Rattle.world.proofs.Sending.{Sending, IsAboutToSend, sending_starts, sending
 use Rattle.world.proofs.steps.send_all.Goals as goal
 
 pub loop-init : goal.loop-init
-loop-init c =
-    (λ l m h. sending_starts h, omega arith)
+loop-init c = (λ l m h. sending_starts h, omega arith)
 
 pub next_out-requires : goal.next_out-requires
 next_out-requires c =
