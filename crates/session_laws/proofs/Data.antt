@@ -133,18 +133,22 @@ pub base_begins : (r : Session) (w : ℕ) → w ≤ 4 → Base no_session r → 
 base_begins r w i b =
     record { from = b.from; sent = b.sent; offered = b.offered; within = omega arith; most = i; front = b.front; fits = b.fits; acked = b.acked }
 
-pub base_begins_there : (s : Session) (w : ℕ) → Base s no_session → Base s (new_session w)
-base_begins_there s w b =
+-- an end in whose session the other accepted the same
+base_there : {r s t : Session} → t.acc ≡ s.acc → Base r s → Base r t
+base_there a b =
     record {
       from = b.from;
       sent = b.sent;
       offered = b.offered;
       within = b.within;
       most = b.most;
-      front = b.front;
-      fits = b.fits;
-      acked = b.acked;
+      front = rw a b.front;
+      fits = rw a b.fits;
+      acked = rw a b.acked;
     }
+
+pub base_begins_there : (s : Session) (w : ℕ) → Base s no_session → Base s (new_session w)
+base_begins_there s w b = base_there refl b
 
 -- ## The near end is Up: its session, the other end's of the same number, and the two parts of the wires
 
@@ -159,44 +163,60 @@ pub record Pair (s r : Session) (here : List OnWire) (there : Option (List OnWir
   pub comes : Active here s r
   pub goes : OnLive there r s
 
--- a session with the same fragments and places
-pub pair_same : (s t r : Session) (here : List OnWire) (there : Option (List OnWire))
-    → t.out ≡ s.out → t.acc ≡ s.acc → t.acked ≡ s.acked → t.next ≡ s.next → t.reached ≡ s.reached → t.window ≡ s.window
-    → Pair s r here there → Pair t r here there
-pair_same s t r here there a b c d e f h =
+-- a session without what its end notes of itself and of the other end
+abbrev pub sans_notes : Session → Session
+sans_notes s = record s { peer_busy = false; probe = false; gap_open = false; answered_rnr = false }
+
+-- a number that comes, n, is a length accepted, from what is acknowledged to what was sent, and the marks behind it tell no less
+record TellsAccepted (s r : Session) (n : ℕ) (ms : List Control) : Type 0 where
+  from : s.acked ≤ n
+  reached : n ≤ s.reached
+  accepted : n ≤ length r.acc
+  counts : Counts n (length r.acc) ms
+
+-- the near end goes on in a session t with the same fragments, of which n are acknowledged, from the place `next`
+pair_of : {s t r : Session} {n next : ℕ} {ms : List Control} {before here : List OnWire} {there : Option (List OnWire)} → Pair s r before there
+    → TellsAccepted s r n ms → n ≤ next → next ≤ s.reached → sans_notes t ≡ sans_notes (record s { acked = n; next = next })
+    → ShowsAct here ms → Places r.out (length s.acc) r.reached ms → Pair t r here there
+pair_of {s} {t} {r} {n} {next} {ms} {there = there} h tells from sent same shows places =
+    let out : t.out ≡ s.out = ap (λ (x : Session). x.out) same in
+    let acc : t.acc ≡ s.acc = ap (λ (x : Session). x.acc) same in
+    let acked : t.acked ≡ n = ap (λ (x : Session). x.acked) same in
+    let at : t.next ≡ next = ap (λ (x : Session). x.next) same in
+    let reached : t.reached ≡ s.reached = ap (λ (x : Session). x.reached) same in
+    let window : t.window ≡ s.window = ap (λ (x : Session). x.window) same in
     record {
       mine = record {
-        from = omega (arith, h.mine.from);
-        sent = omega (arith, h.mine.sent);
-        offered = rw (a, e) h.mine.offered;
-        within = omega (arith, h.mine.within);
+        from = omega arith;
+        sent = omega arith;
+        offered = rw (out, reached) h.mine.offered;
+        within = omega (arith, h.mine.within, tells.from);
         most = omega (arith, h.mine.most);
-        front = rw a h.mine.front;
-        fits = rw e h.mine.fits;
-        acked = rw c h.mine.acked;
+        front = rw out h.mine.front;
+        fits = rw reached h.mine.fits;
+        acked = rw acked tells.accepted;
       };
-      theirs = record {
-        from = h.theirs.from;
-        sent = h.theirs.sent;
-        offered = h.theirs.offered;
-        within = h.theirs.within;
-        most = h.theirs.most;
-        front = rw b h.theirs.front;
-        fits = rw b h.theirs.fits;
-        acked = rw b h.theirs.acked;
-      };
-      comes = record { marks = h.comes.marks; shows = h.comes.shows; places = rw b h.comes.places; counts = rw c h.comes.counts };
-      goes = go there h.goes;
+      theirs = base_there acc h.theirs;
+      comes = record { marks = ms; shows = shows; places = rw acc places; counts = rw acked tells.counts };
+      goes = go out acc reached there h.goes;
     }
   where
-    go : (o : Option (List OnWire)) → OnLive o r s → OnLive o r t
-    go None g = tt
-    go (Some w) g = record { marks = g.marks; shows = g.shows; places = rw (a, e) g.places; counts = rw b g.counts }
+    go : t.out ≡ s.out → t.acc ≡ s.acc → t.reached ≡ s.reached → (o : Option (List OnWire)) → OnLive o r s → OnLive o r t
+    go out acc reached None g = tt
+    go out acc reached (Some w) g = record { marks = g.marks; shows = g.shows; places = rw (out, reached) g.places; counts = rw acc g.counts }
+
+-- it goes on from another place, and nothing came
+pub pair_next : {s t r : Session} {next : ℕ} {here : List OnWire} {there : Option (List OnWire)} → s.acked ≤ next → next ≤ s.reached
+    → sans_notes t ≡ sans_notes (record s { next = next }) → Pair s r here there → Pair t r here there
+pair_next {s} from sent same h =
+    pair_of h
+    (record { from = omega arith; reached = omega (arith, h.mine.from, h.mine.sent); accepted = h.mine.acked; counts = h.comes.counts })
+    from sent same h.comes.shows h.comes.places
 
 -- more is offered
-pub pair_put : (s r : Session) (more : List Fragment) (here : List OnWire) (there : Option (List OnWire))
+pub pair_put : {s r : Session} {here : List OnWire} {there : Option (List OnWire)} (more : List Fragment)
     → Pair s r here there → Pair (record s { out = s.out ++ more }) r here there
-pair_put s r more here there h =
+pair_put {s} {r} {there = there} more h =
     record {
       mine = record {
         from = h.mine.from;
@@ -208,16 +228,7 @@ pair_put s r more here there h =
         fits = h.mine.fits;
         acked = h.mine.acked;
       };
-      theirs = record {
-        from = h.theirs.from;
-        sent = h.theirs.sent;
-        offered = h.theirs.offered;
-        within = h.theirs.within;
-        most = h.theirs.most;
-        front = h.theirs.front;
-        fits = h.theirs.fits;
-        acked = h.theirs.acked;
-      };
+      theirs = base_there refl h.theirs;
       comes = record { marks = h.comes.marks; shows = h.comes.shows; places = h.comes.places; counts = h.comes.counts };
       goes = go there h.goes;
     }
@@ -225,42 +236,6 @@ pair_put s r more here there h =
     go : (o : Option (List OnWire)) → OnLive o r s → OnLive o r (record s { out = s.out ++ more })
     go None g = tt
     go (Some w) g = record { marks = g.marks; shows = g.shows; places = places_grow s.out more (length r.acc) s.reached g.marks g.places; counts = g.counts }
-
--- all that isn't acknowledged is to be sent again
-pub pair_again : (s t r : Session) (here : List OnWire) (there : Option (List OnWire))
-    → t.out ≡ s.out → t.acc ≡ s.acc → t.acked ≡ s.acked → t.next ≡ s.acked → t.reached ≡ s.reached → t.window ≡ s.window
-    → Pair s r here there → Pair t r here there
-pair_again s t r here there a b c d e f h =
-    let u : Session = record s { next = s.acked } in
-    pair_same u t r here there a b c d e f
-    (record {
-      mine = record {
-        from = omega arith;
-        sent = omega (arith, h.mine.from, h.mine.sent);
-        offered = h.mine.offered;
-        within = h.mine.within;
-        most = h.mine.most;
-        front = h.mine.front;
-        fits = h.mine.fits;
-        acked = h.mine.acked;
-      };
-      theirs = record {
-        from = h.theirs.from;
-        sent = h.theirs.sent;
-        offered = h.theirs.offered;
-        within = h.theirs.within;
-        most = h.theirs.most;
-        front = h.theirs.front;
-        fits = h.theirs.fits;
-        acked = h.theirs.acked;
-      };
-      comes = record { marks = h.comes.marks; shows = h.comes.shows; places = h.comes.places; counts = h.comes.counts };
-      goes = go there h.goes;
-    })
-  where
-    go : (o : Option (List OnWire)) → OnLive o r s → OnLive o r (record s { next = s.acked })
-    go None g = tt
-    go (Some w) g = record { marks = g.marks; shows = g.shows; places = g.places; counts = g.counts }
 
 -- the marks of a part of a wire without an RSET go on
 pub shows_push : (w : List OnWire) (ms : List Control) (x : OnWire) (m : Control) → x.frame ≡ reduced m → rsets w ≡ [] → ShowsAct w ms
@@ -310,10 +285,10 @@ Plain None = Unit {0}
 Plain (Some w) = rsets w ≡ []
 
 -- the next fragment is sent
-pub pair_send : (s r : Session) (x : OnWire) (info : Fragment) (here : List OnWire) (there : Option (List OnWire))
+pub pair_send : {s r : Session} {info : Fragment} {here : List OnWire} {there : Option (List OnWire)} (x : OnWire)
     → s.next < s.acked + s.window → slice_get s.out s.next ≡ Some info → x.frame ≡ I (s.next % 8) (length s.acc % 8) info → Plain there
     → Pair s r here there → Pair (sent_next s) r here (pushed there x)
-pair_send s r x info here there inside is frame plain h =
+pair_send {s} {r} {info} {there = there} x inside is frame plain h =
     record {
       mine = record {
         from = omega (arith, h.mine.from);
@@ -325,16 +300,7 @@ pair_send s r x info here there inside is frame plain h =
         fits = omega (arith, h.mine.fits);
         acked = h.mine.acked;
       };
-      theirs = record {
-        from = h.theirs.from;
-        sent = h.theirs.sent;
-        offered = h.theirs.offered;
-        within = h.theirs.within;
-        most = h.theirs.most;
-        front = h.theirs.front;
-        fits = h.theirs.fits;
-        acked = h.theirs.acked;
-      };
+      theirs = base_there refl h.theirs;
       comes = record { marks = h.comes.marks; shows = h.comes.shows; places = h.comes.places; counts = h.comes.counts };
       goes = go there plain h.goes;
     }
@@ -358,9 +324,9 @@ pair_send s r x info here there inside is frame plain h =
         }
 
 -- an answer is sent
-pub pair_send_S : (s r : Session) (x : OnWire) (k : Kind) (here : List OnWire) (there : Option (List OnWire)) → x.frame ≡ S k (length s.acc % 8) → Plain there
+pub pair_send_S : {s r : Session} {k : Kind} {here : List OnWire} {there : Option (List OnWire)} (x : OnWire) → x.frame ≡ S k (length s.acc % 8) → Plain there
     → Pair s r here there → Pair s r here (pushed there x)
-pair_send_S s r x k here there frame plain h =
+pair_send_S {s} {r} {k} {there = there} x frame plain h =
     record { mine = h.mine; theirs = h.theirs; comes = h.comes; goes = go there plain h.goes }
   where
     go : (o : Option (List OnWire)) → Plain o → OnLive o r s → OnLive (pushed o x) r s
@@ -390,62 +356,21 @@ pub record TakenUp (e f : EndState) (r : Session) (here : List OnWire) (there : 
   pub own : f.own_window ≡ e.own_window
   pub peer : f.peer_window ≡ e.peer_window
 
--- a number that comes is a length accepted, from what is acknowledged to what was sent
+-- what a number that comes tells
 number_of_mark : (s r : Session) (c : Control) (n : ℕ) (ms : List Control) → Base s r → Carries c n → Counts s.acked (length r.acc) (c ∷ ms)
-    → (s.acked ≤ n) × (n ≤ s.reached) × (n ≤ length r.acc) × Counts n (length r.acc) ms
+    → TellsAccepted s r n ms
 number_of_mark s r (I p k info) n ms b e c =
     let fits : k ≤ length r.acc = counts_le k (length r.acc) ms c.1 in
-    (omega (arith, c.0), omega (arith, b.fits), omega arith, counts_lower k n (length r.acc) ms (omega arith) c.1)
+    record { from = omega (arith, c.0); reached = omega (arith, b.fits); accepted = omega arith; counts = counts_lower k n (length r.acc) ms (omega arith) c.1 }
 number_of_mark s r (S kind k) n ms b e c =
     let fits : k ≤ length r.acc = counts_le k (length r.acc) ms c.1 in
-    (omega (arith, c.0), omega (arith, b.fits), omega arith, counts_lower k n (length r.acc) ms (omega arith) c.1)
+    record { from = omega (arith, c.0); reached = omega (arith, b.fits); accepted = omega arith; counts = counts_lower k n (length r.acc) ms (omega arith) c.1 }
 number_of_mark s r (_) n ms b e c = absurd e
 
-base_acked : (s r : Session) (n next : ℕ) → Base s r → s.acked ≤ n → n ≤ length r.acc → n ≤ next → next ≤ s.reached
-    → Base (record s { acked = n; next = next }) r
-base_acked s r n next b i j k l =
-    record {
-      from = k;
-      sent = l;
-      offered = b.offered;
-      within = omega (arith, b.within);
-      most = b.most;
-      front = b.front;
-      fits = b.fits;
-      acked = j;
-    }
-
--- the near end's new session f, whose places, window and accepted fragments are these
-pair_of : (s r f : Session) (n next : ℕ) (here : List OnWire) (there : Option (List OnWire)) (ms : List Control) → Base s r → Base r s
-    → s.acked ≤ n → n ≤ length r.acc → n ≤ next → next ≤ s.reached
-    → f.out ≡ s.out → f.acc ≡ s.acc → f.acked ≡ n → f.next ≡ next → f.reached ≡ s.reached → f.window ≡ s.window
-    → ShowsAct here ms → Places r.out (length s.acc) r.reached ms → Counts n (length r.acc) ms → OnLive there r s → Pair f r here there
-pair_of s r f n next here there ms b t i j k l out acc acked nx reached window shows places counts goes =
-    pair_same (record s { acked = n; next = next }) f r here there out acc acked nx reached window
-    (record {
-      mine = base_acked s r n next b i j k l;
-      theirs = record {
-        from = t.from;
-        sent = t.sent;
-        offered = t.offered;
-        within = t.within;
-        most = t.most;
-        front = t.front;
-        fits = t.fits;
-        acked = t.acked;
-      };
-      comes = record { marks = ms; shows = shows; places = places; counts = counts };
-      goes = go there goes;
-    })
-  where
-    go : (o : Option (List OnWire)) → OnLive o r s → OnLive o r (record s { acked = n; next = next })
-    go None g = tt
-    go (Some w) g = record { marks = g.marks; shows = g.shows; places = g.places; counts = g.counts }
-
-pub taken_up : (e : EndState) (r : Session) (x : OnWire) (here : List OnWire) (there : Option (List OnWire)) → e.phase ≡ Up → IsData x.frame
+pub taken_up : (e : EndState) {r : Session} {x : OnWire} {here : List OnWire} {there : Option (List OnWire)} → e.phase ≡ Up → IsData x.frame
     → Pair e.session r (x ∷ here) there
     → TakenUp e (taken e x.frame) r here there × ((take_answer e x.frame).ended ≡ None)
-taken_up e r x here there up data' h = go h.comes.marks h.comes.shows h.comes.places h.comes.counts
+taken_up e {r} {x} {here} {there} up data' h = go h.comes.marks h.comes.shows h.comes.places h.comes.counts
   where
     s : Session
     s = e.session
@@ -455,19 +380,16 @@ taken_up e r x here there up data' h = go h.comes.marks h.comes.shows h.comes.pl
     go [] shows places counts = absurd (let d : IsData (Rset shows.0.0 shows.0.1) = rw shows.0.2 at data' in d)
     go (I p n info ∷ ms) shows places counts =
         let number = number_of_mark s r (I p n info) n ms h.mine refl counts in
-        let place : place_of s (n % 8) ≡ Some n = place_found s n number.0 number.1 (omega (arith, h.mine.within, h.mine.most)) in
+        let place : place_of s (n % 8) ≡ Some n = place_found s n number.from number.reached (omega (arith, h.mine.within, h.mine.most)) in
         let f : EndState = acknowledged e n in
         let high : p ≤ length s.acc + 3 = omega (arith, places.1, h.theirs.within, h.theirs.most, h.theirs.acked) in
-        let upper : max s.next n ≤ s.reached = omega (arith, h.mine.sent, number.1) in
+        let upper : max s.next n ≤ s.reached = omega (arith, h.mine.sent, number.reached) in
         let same : (g : EndState) → g.phase ≡ e.phase → g.own_window ≡ e.own_window → g.peer_window ≡ e.peer_window
-        → g.session.out ≡ s.out → g.session.acc ≡ s.acc → g.session.acked ≡ n → g.session.next ≡ max s.next n
-        → g.session.reached ≡ s.reached → g.session.window ≡ s.window
+        → sans_notes g.session ≡ sans_notes (record s { acked = n; next = max s.next n })
         → (g.due ≡ e.due) ⊎ ((d : Due) × IsAnswer d × (g.due ≡ e.due ++ d ∷ [])) → TakenUp e g r here there =
-        λ g ph own peer a b c d k l due. record {
+        λ g ph own peer same due. record {
           up = ph ∙ up;
-          pair =
-              pair_of s r g.session n (max s.next n) here there ms h.mine h.theirs number.0 number.2 (omega arith) upper a b c d k l shows.1 places.4
-              number.3 h.goes;
+          pair = pair_of h number (omega arith) upper same shows.1 places.4;
           due = due;
           own = own;
           peer = peer;
@@ -475,16 +397,16 @@ taken_up e r x here there up data' h = go h.comes.marks h.comes.shows h.comes.pl
           rw shows.0 (taken_I (λ g. TakenUp e g r here there) e (p % 8) (n % 8) n info up place
               (received_cases (λ g. TakenUp e g r here there) f (p % 8) info
               (λ z. accept p n info ms shows.1 places number (ahead_other f.session p places.0 high z))
-              (λ z g. same f refl refl refl refl refl refl refl refl refl (inl refl))
-              (λ z g. same (record f { due = f.due ++ Rej_due ∷ []; session = record f.session { gap_open = true } }) refl refl refl refl refl refl
-              refl refl refl (inr (Rej_due, tt, refl)))
-              (λ z g. same (repeated f) refl refl refl refl refl refl refl refl refl (inr (Rr_due, tt, refl)))
-              (same (discarded f) refl refl refl refl refl refl refl refl refl (inr (Rnr_due, tt, refl))))),
+              (λ z g. same f refl refl refl refl (inl refl))
+              (λ z g. same (record f { due = f.due ++ Rej_due ∷ []; session = record f.session { gap_open = true } }) refl refl refl refl
+              (inr (Rej_due, tt, refl)))
+              (λ z g. same (repeated f) refl refl refl refl (inr (Rr_due, tt, refl)))
+              (same (discarded f) refl refl refl refl (inr (Rnr_due, tt, refl))))),
           rw shows.0 (answer_I e (p % 8) (n % 8) info up),
         )
       where
         accept : (p n : ℕ) (info : Fragment) (ms : List Control) → ShowsAct here ms → Places r.out (length s.acc) r.reached (I p n info ∷ ms)
-            → (s.acked ≤ n) × (n ≤ s.reached) × (n ≤ length r.acc) × Counts n (length r.acc) ms → p ≡ length s.acc
+            → TellsAccepted s r n ms → p ≡ length s.acc
             → TakenUp e (accepted (acknowledged e n) info) r here there
         accept p n info ms shows places number at =
             let one : length (s.acc ++ info ∷ []) ≡ length s.acc + 1 = length-append s.acc (info ∷ []) in
@@ -495,13 +417,13 @@ taken_up e r x here there up data' h = go h.comes.marks h.comes.shows h.comes.pl
               pair = record {
                 mine = record {
                   from = omega arith;
-                  sent = omega (arith, h.mine.sent, number.1);
+                  sent = omega (arith, h.mine.sent, number.reached);
                   offered = h.mine.offered;
-                  within = omega (arith, h.mine.within, number.0);
+                  within = omega (arith, h.mine.within, number.from);
                   most = h.mine.most;
                   front = h.mine.front;
                   fits = h.mine.fits;
-                  acked = number.2;
+                  acked = number.accepted;
                 };
                 theirs = record {
                   from = h.theirs.from;
@@ -517,7 +439,7 @@ taken_up e r x here there up data' h = go h.comes.marks h.comes.shows h.comes.pl
                   marks = ms;
                   shows = shows;
                   places = rw one (places_accepted r.out (length s.acc) r.reached ms below places.4);
-                  counts = number.3;
+                  counts = number.counts;
                 };
                 goes = goes there h.goes one;
               };
@@ -540,29 +462,28 @@ taken_up e r x here there up data' h = go h.comes.marks h.comes.shows h.comes.pl
                 }
     go (S k n ∷ ms) shows places counts =
         let number = number_of_mark s r (S k n) n ms h.mine refl counts in
-        let place : place_of s (n % 8) ≡ Some n = place_found s n number.0 number.1 (omega (arith, h.mine.within, h.mine.most)) in
-        let upper : max s.next n ≤ s.reached = omega (arith, h.mine.sent, number.1) in
+        let place : place_of s (n % 8) ≡ Some n = place_found s n number.from number.reached (omega (arith, h.mine.within, h.mine.most)) in
+        let upper : max s.next n ≤ s.reached = omega (arith, h.mine.sent, number.reached) in
         let at : (g : EndState) (next : ℕ) → n ≤ next → next ≤ s.reached → g.phase ≡ e.phase → g.own_window ≡ e.own_window → g.peer_window ≡ e.peer_window
-        → g.session.out ≡ s.out → g.session.acc ≡ s.acc → g.session.acked ≡ n → g.session.next ≡ next → g.session.reached ≡ s.reached
-        → g.session.window ≡ s.window
+        → sans_notes g.session ≡ sans_notes (record s { acked = n; next = next })
         → g.due ≡ e.due → TakenUp e g r here there =
-        λ g next i j ph own peer a b c d k l due. record {
+        λ g next i j ph own peer same due. record {
           up = ph ∙ up;
-          pair = pair_of s r g.session n next here there ms h.mine h.theirs number.0 number.2 i j a b c d k l shows.1 places number.3 h.goes;
+          pair = pair_of h number i j same shows.1 places;
           due = inl due;
           own = own;
           peer = peer;
         } in (
           rw shows.0 (taken_S (λ g. TakenUp e g r here there) e k (n % 8) n up place
-              (λ is. at (ready_again e n) (max s.next n) (omega arith) upper refl refl refl refl refl refl refl refl refl refl)
-              (λ is. at (rejected e n) n (omega arith) number.1 refl refl refl refl refl refl refl refl refl refl)
-              (λ is. at (made_busy e n) n (omega arith) number.1 refl refl refl refl refl refl refl refl refl refl)
+              (λ is. at (ready_again e n) (max s.next n) (omega arith) upper refl refl refl refl refl)
+              (λ is. at (rejected e n) n (omega arith) number.reached refl refl refl refl refl)
+              (λ is. at (made_busy e n) n (omega arith) number.reached refl refl refl refl refl)
               (λ is. record {
                 up = up;
                 pair = record {
                   mine = h.mine;
                   theirs = h.theirs;
-                  comes = record { marks = ms; shows = shows.1; places = places; counts = counts_lower n s.acked (length r.acc) ms number.0 number.3 };
+                  comes = record { marks = ms; shows = shows.1; places = places; counts = counts_lower n s.acked (length r.acc) ms number.from number.counts };
                   goes = h.goes;
                 };
                 due = inl refl;

@@ -14,16 +14,16 @@ use Rattle.link_laws.specs.Order.{FragmentsDelivered}
 use Rattle.link_laws.proofs.Delivered.{delivered}
 use Rattle.link_laws.proofs.Whole.{AnswersOnly}
 use Rattle.link_laws.proofs.Joined.{Joined, joined_ticked, joined_taken, tick_cases}
-use Rattle.session_laws.specs.Sessions.{OnWire, NumberedShdlc, ShdlcLink, fits, start_down, IsShdlcStart, shdlc_exchanged, shdlc_number_of, shdlc_session_of, shdlc_put, shdlc_put_all, shdlc_becomes, with_shdlc_controller, with_shdlc_ended, shdlc_silent, took_with, is_up, act_frame, shdlc_happens_at_controller, shdlc_ticks_at_controller, shdlc_aged, ShdlcEndEvent, IsTurn, AreTurns, shdlc_all_at_controller, ticks_or_cut, ticks_if_waiting, ShdlcLinkEvent, AllShdlcAllowed, shdlc_happens, shdlc_after, ShdlcTurn, shdlc_turn, shdlc_turned}
+use Rattle.session_laws.specs.Sessions.{OnWire, NumberedShdlc, ShdlcLink, fits, start_down, IsShdlcStart, shdlc_exchanged, shdlc_number_of, shdlc_put, shdlc_put_all, shdlc_becomes, with_shdlc_controller, with_shdlc_ended, shdlc_silent, took_with, is_up, act_frame, shdlc_happens_at_controller, shdlc_ticks_at_controller, shdlc_aged, ShdlcEndEvent, IsTurn, AreTurns, shdlc_all_at_controller, ticks_or_cut, ticks_if_waiting, ShdlcLinkEvent, AllShdlcAllowed, shdlc_happens, shdlc_after, ShdlcTurn, shdlc_turn, shdlc_turned}
 use Rattle.session_laws.specs.Sessions.ShdlcTurn.{Offer, SetReady}
 use Rattle.session_laws.specs.Sessions.ShdlcEndEvent.{Turns, Deliver, Ignore, Acts, Lose, Reset, Cut, Stop}
 use Rattle.session_laws.specs.Sessions.ShdlcLinkEvent.{AtController, AtHost, Tick, TickWithout}
 use Rattle.session_laws.specs.Sessions.IsShdlcStart.{BothUp, BothDown}
 use Rattle.session_laws.specs.Losses.{is_act, sans, Losses, no_losses, counts_first, overflows, noted_loss, noted_all, noted_out, is_up_with, came_up, noted_here, noted_turns, noted_tick, noted_if_waiting, loses_aged, noted_aged, noted_event, losses_after, IsShdlcQuiet}
 use Rattle.session_laws.proofs.Wire.{IsData, rsets, uas, behind_ua, live, behind_none, data_behind, AfterRset, after_rset_empty}
-use Rattle.session_laws.proofs.Hand.{peer_of, none_out, one_ua, rset_tells, nothing_out}
+use Rattle.session_laws.proofs.Hand.{NothingIsOut, IsRset, idle_out, one_ua, rset_told, nothing_out}
 use Rattle.session_laws.proofs.Data.{IsAnswer, taken_up}
-use Rattle.session_laws.proofs.Safe.{Safe, agreed, pair_from, frame_cases, up_end, safe_swap, safe_lose}
+use Rattle.session_laws.proofs.Safe.{Safe, agreed, pair_from, Idle, frame_cases, up_end, safe_swap, safe_lose}
 use Rattle.session_laws.proofs.Sending.{SafeLink, sans-push_act, fits_keeps, no_rset_out, room, ready_by, at_most_one}
 use Rattle.session_laws.proofs.Steps.{passes, passes_act, took, took_other, not_rset, fresh, aged-fresh, sans-aged, safe_fresh, safe_aged, safe_turn, safe_turns, safe_exchanged, tick_or_cut, tick_if_waiting, safe_event, safe_start}
 use Rattle.session_laws.proofs.Ties.{as_up, to_up, Meets, Tied, IsWhole, TiedLink, tied_swap, meets_like, none_due, IsNew, waiting_new, tied_new, new_meets, behind_fits, Rests, drains, sends_nothing, sends_ua, tied_none, tied_older, turned-phase}
@@ -63,48 +63,42 @@ takes_by P l x xs h session passed new waits confirmed = go (frame_cases x) e.ph
 
     in_session : IsData x.frame → e.phase ≡ Up → P
     in_session d up =
-        let pair = pair_from 0 0 l.controller l.host (x ∷ xs) l.to_host l.resets up h in
-        let k = (taken_up e (shdlc_session_of l.host (shdlc_number_of l.controller)) x xs (live l.host.side.phase l.to_host) up d pair).0 in
+        let k = (taken_up e up d (pair_from h up)).0 in
         let due = one_answer (taken e x.frame).due e.due h.n_due k.due in
         session d up k.up due.0 due.1
 
     passes_by : IsData x.frame → (e.phase ≡ Up → ⊥) → P
     passes_by d no_up = passed d no_up (passes e x.frame d no_up).0
 
-    tells : (v c : ℕ) → x.frame ≡ Rset v c → Tells l xs v
-    tells v c is =
-        let t = rset_tells 0 (peer_of l.controller) (peer_of l.host) x v c xs l.to_host l.resets is h.hand in
-        record { wide = t.5; waiting = t.2; uas = t.1; behind = t.6 }
+    tells : (is : IsRset x) → Tells l xs is.window
+    tells is = let t = rset_told h.hand is in record { wide = t.wide; waiting = t.waiting; uas = t.out.no_ua; behind = t.behind }
 
-    zero : (v c : ℕ) → x.frame ≡ Rset v c → (v == 0) ≡ false
-    zero v c is = let t = tells v c is in ne_eqb v 0 (λ z. omega (arith, t.wide))
+    zero : (is : IsRset x) → (is.window == 0) ≡ false
+    zero is = let t = tells is in ne_eqb is.window 0 (λ z. omega (arith, t.wide))
 
-    anew : (v c : ℕ) → x.frame ≡ Rset v c → (e.phase ≡ Waiting → ⊥)
-        → taken e x.frame ≡ up_with (record e { due = Ua_due ∷ [] }) (min e.own_window (min v 4)) → P
-    anew v c is no_wait to =
-        let b : uas (x ∷ xs) ≡ uas xs = rw is refl in
-        let out = none_out 0 e.phase e.timer (rsets l.to_host) (uas (x ∷ xs)) no_wait h.hand.n_out in
-        new v (tells v c is) (after_rset_empty xs (sym b ∙ out.1) (tells v c is).behind) to
+    anew : (is : IsRset x) → (e.phase ≡ Waiting → ⊥) → taken e x.frame ≡ up_with (record e { due = Ua_due ∷ [] }) (min e.own_window (min is.window 4)) → P
+    anew is no_wait to =
+        let b : uas (x ∷ xs) ≡ uas xs = rw is.frame refl in
+        new is.window (tells is) (after_rset_empty xs (sym b ∙ (idle_out h.hand no_wait).no_ua) (tells is).behind) to
 
     no_ua : x.frame ≡ Ua → (e.phase ≡ Waiting → ⊥) → P
     no_ua is n =
         let b : uas (x ∷ xs) ≡ x.age ∷ uas xs = rw is refl in
-        let out = none_out 0 e.phase e.timer (rsets l.to_host) (uas (x ∷ xs)) n h.hand.n_out in
-        absurd (let z : x.age ∷ uas xs ≡ [] = sym b ∙ out.1 in cc)
+        absurd (let z : x.age ∷ uas xs ≡ [] = sym b ∙ (idle_out h.hand n).no_ua in cc)
 
     comes_up : x.frame ≡ Ua → e.phase ≡ Waiting → P
     comes_up is p =
         let b : uas (x ∷ xs) ≡ x.age ∷ uas xs = rw is refl in
         confirmed is p (one_ua 0 e.phase e.timer x.age (rsets l.to_host) (uas xs) (rw b at h.hand.n_out)).0
 
-    go : IsData x.frame ⊎ (((w : ℕ) × (c : ℕ) × (x.frame ≡ Rset w c)) ⊎ (x.frame ≡ Ua)) → (p : LinkState) → e.phase ≡ p → P
+    go : IsData x.frame ⊎ (IsRset x ⊎ (x.frame ≡ Ua)) → (p : LinkState) → e.phase ≡ p → P
     go (inl d) Up p = in_session d p
     go (inl d) Waiting p = passes_by d (λ u. let g = sym p ∙ u in cc)
     go (inl d) Down p = passes_by d (λ u. let g = sym p ∙ u in cc)
-    go (inr (inl q)) Up p = anew q.0 q.1 q.2 (λ w. let g = sym p ∙ w in cc) (rw (q.2, p, zero q.0 q.1 q.2) refl)
-    go (inr (inl q)) Down p = anew q.0 q.1 q.2 (λ w. let g = sym p ∙ w in cc) (rw (q.2, p, zero q.0 q.1 q.2, h.n_due) refl)
+    go (inr (inl q)) Up p = anew q (λ w. let g = sym p ∙ w in cc) (rw (q.frame, p, zero q) refl)
+    go (inr (inl q)) Down p = anew q (λ w. let g = sym p ∙ w in cc) (rw (q.frame, p, zero q, h.n_due) refl)
     go (inr (inl q)) Waiting p =
-        waits q.0 (tells q.0 q.1 q.2) p (h.n_none (λ u. let g = sym p ∙ u in cc)) (rw (q.2, p, zero q.0 q.1 q.2, h.n_due) refl)
+        waits q.window (tells q) p (h.n_none (λ u. let g = sym p ∙ u in cc)) (rw (q.frame, p, zero q, h.n_due) refl)
     go (inr (inr q)) Up p = no_ua q (λ w. let g = sym p ∙ w in cc)
     go (inr (inr q)) Down p = no_ua q (λ w. let g = sym p ∙ w in cc)
     go (inr (inr q)) Waiting p = comes_up q p
@@ -144,13 +138,6 @@ pub idle_end : (e : EndState) → e.due ≡ [] → e.session ≡ no_session → 
 idle_end e due none = rw (due, none) refl
 
 -- its turns change nothing but its readiness
-pub record Idle (e f : EndState) : Type 0 where
-  pub phase : f.phase ≡ e.phase
-  pub due : f.due ≡ e.due
-  pub session : f.session ≡ no_session
-  pub own : f.own_window ≡ e.own_window
-  pub peer : f.peer_window ≡ e.peer_window
-
 turn_idle : (e : EndState) (t : ShdlcTurn) → (e.phase ≡ Up → ⊥) → e.session ≡ no_session → Idle e (shdlc_turn e t)
 turn_idle e (Offer fragments) no_up none = go e.phase refl
   where
@@ -166,18 +153,21 @@ turn_idle e (SetReady r) no_up none =
     (record { phase = refl; due = refl; session = ap (λ (s : Session). record s { answered_rnr = false }) none; own = refl; peer = refl })
     (λ up. absurd (no_up up))
 
+idle_then : {d e f : EndState} → Idle d e → Idle e f → Idle d f
+idle_then a b = record { phase = b.phase ∙ a.phase; due = b.due ∙ a.due; session = b.session; own = b.own ∙ a.own; peer = b.peer ∙ a.peer }
+
 pub turned_idle : (ts : List ShdlcTurn) (e : EndState) → (e.phase ≡ Up → ⊥) → e.session ≡ no_session → Idle e (shdlc_turned e ts)
 turned_idle [] e no_up none = record { phase = refl; due = refl; session = none; own = refl; peer = refl }
 turned_idle (t ∷ ts) e no_up none =
     let a = turn_idle e t no_up none in
     let b = turned_idle ts (shdlc_turn e t) (λ u. no_up (sym a.phase ∙ u)) a.session in
-    record { phase = b.phase ∙ a.phase; due = b.due ∙ a.due; session = b.session; own = b.own ∙ a.own; peer = b.peer ∙ a.peer }
+    idle_then a b
 
 -- it waits, and waits on
-waits_on : (n : Losses) (l : ShdlcLink) (e : EndState)
-    → l.controller.side.phase ≡ Waiting → e.phase ≡ Waiting → e.own_window ≡ l.controller.side.own_window → e.peer_window ≡ l.controller.side.peer_window
+waits_on : (n : Losses) (l : ShdlcLink) {e : EndState} → l.controller.side.phase ≡ Waiting → Idle l.controller.side e
     → TiedLink n l → TiedLink n (with_shdlc_controller l e)
-waits_on n l e waiting ewait own peer t w a b p q =
+waits_on n l {e} waiting on t w a b p q =
+    let ewait : e.phase ≡ Waiting = on.phase ∙ waiting in
     let f : EndState = as_up l.host.side.phase l.host.side in
     let P : LinkState → Type 0 = λ s. Meets (as_up s l.controller.side) f a b in
     let back : live l.controller.side.phase (sans l.to_controller) ≡ Some a = rw waiting (rw ewait at p) in
@@ -189,7 +179,7 @@ waits_on n l e waiting ewait own peer t w a b p q =
     subst Q (sym ewait) g
   where
     windows : min e.own_window e.peer_window ≡ min l.controller.side.own_window l.controller.side.peer_window
-    windows = rw (own, peer) refl
+    windows = rw (on.own, on.peer) refl
 
     before : (((e.phase ≡ Waiting) × (l.host.side.phase ≡ Waiting)) ⊎ IsWhole n)
         → ((l.controller.side.phase ≡ Waiting) × (l.host.side.phase ≡ Waiting)) ⊎ IsWhole n
@@ -197,12 +187,11 @@ waits_on n l e waiting ewait own peer t w a b p q =
     before (inr u) = inr u
 
 waits_turned : (n : Losses) (ts : List ShdlcTurn) (l : ShdlcLink) (e : EndState)
-    → l.controller.side.phase ≡ Waiting → e.phase ≡ Waiting → e.own_window ≡ l.controller.side.own_window → e.peer_window ≡ l.controller.side.peer_window
-    → e.due ≡ [] → e.session ≡ no_session → TiedLink n l → Goes n l ts e
-waits_turned n ts l e waiting ewait own peer due none t =
-    let g = turned_idle ts e (λ u. let z = sym ewait ∙ u in let y : Waiting ≡ Up = z in cc) none in
-    sends_nothing 12 n l (shdlc_turned e ts) (idle_end (shdlc_turned e ts) (g.due ∙ due) g.session)
-    (waits_on n l (shdlc_turned e ts) waiting (g.phase ∙ ewait) (g.own ∙ own) (g.peer ∙ peer) t)
+    → l.controller.side.phase ≡ Waiting → Idle l.controller.side e → l.controller.side.due ≡ [] → TiedLink n l → Goes n l ts e
+waits_turned n ts l e waiting on due t =
+    let no_up : e.phase ≡ Up → ⊥ = λ u. let z = sym (on.phase ∙ waiting) ∙ u in let y : Waiting ≡ Up = z in cc in
+    let turned : Idle l.controller.side (shdlc_turned e ts) = idle_then on (turned_idle ts e no_up on.session) in
+    sends_nothing 12 n l (shdlc_turned e ts) (idle_end (shdlc_turned e ts) (turned.due ∙ due) turned.session) (waits_on n l waiting turned t)
 
 -- it has turns, and nothing else
 stays : (n : Losses) (ts : List ShdlcTurn) (l : ShdlcLink) → l.controller.side.due ≡ []
@@ -215,7 +204,8 @@ stays n ts l due none t = go e.phase refl
 
     go : (p : LinkState) → e.phase ≡ p → Goes n l ts e
     go Up q = up_becomes n ts l e q q (rw due tt) (rw due (omega arith)) (λ f w j. j) t
-    go Waiting q = waits_turned n ts l e q q refl refl due (none (λ u. let g = sym q ∙ u in cc)) t
+    go Waiting q =
+        waits_turned n ts l e q (record { phase = refl; due = refl; session = none (λ u. let g = sym q ∙ u in cc); own = refl; peer = refl }) due t
     go Down q = tied_none 12 n l (shdlc_turned e ts) (rw (turned-phase ts e ∙ q) refl)
 
 -- it has sent an RSET and waits
@@ -239,7 +229,7 @@ resets kf n ts l w h t = go l.controller.side.phase refl
         subst (λ c. P c (reset_with l.controller.side w)) (sym up) (subst (P b) (sym is) a)
 
     none : (l.controller.side.phase ≡ Waiting → ⊥) → uas (sans l.to_controller) ≡ []
-    none wait = (none_out 0 e.phase e.timer (rsets (sans l.to_host)) (uas (sans l.to_controller)) wait h.hand.n_out).1
+    none wait = (idle_out h.hand wait).no_ua
 
     go : (p : LinkState) → l.controller.side.phase ≡ p → TiedLink (noted_here n l (Reset w ts)) (shdlc_happens_at_controller l (Reset w ts))
     go Waiting q = by_parts false l.controller.side (rw q refl) (rw q refl) (stays n ts l h.n_due h.n_none t)
@@ -278,10 +268,8 @@ ticks kf n ts l h t = go e.phase (runs_timer e.session) (nat_lt (e.timer + 1) 10
         (tick_cases (λ f. length f.due ≤ 1) e p quit (rw h.n_due (omega arith)) (rw h.n_due (omega arith)) (rw h.n_due (omega arith)))
         (λ f w j. joined_ticked (Unit {0}) e f (sans l.to_controller) w quit j) t)
 
-    late : nat_lt (e.timer + 1) 10 ≡ false → (rsets (sans l.to_host) ≡ []) × (uas (sans l.to_controller) ≡ [])
-    late r =
-        nothing_out 1 kf (peer_of l.controller) (peer_of l.host) (sans l.to_controller) (sans l.to_host) l.resets
-        (let g = ltb-false (e.timer + 1) 10 r in omega arith) h.hand
+    late : nat_lt (e.timer + 1) 10 ≡ false → NothingIsOut (sans l.to_controller) (sans l.to_host)
+    late r = nothing_out h.hand (let g = ltb-false (e.timer + 1) 10 r in omega arith)
 
     go : (p : LinkState) (a b c : Bool) → e.phase ≡ p → runs_timer e.session ≡ a → nat_lt (e.timer + 1) 10 ≡ b → nat_lt e.tries 5 ≡ c → Q
     go Down a b c p q r s = by_parts false e (rw p refl) (rw p refl) (tied_none 12 n l (shdlc_turned e ts) (rw (turned-phase ts e ∙ p) refl))
@@ -290,11 +278,12 @@ ticks kf n ts l h t = go e.phase (runs_timer e.session) (nat_lt (e.timer + 1) 10
     go Up true false true p q r s = on p (rw (p, q, r, s) refl)
     go Up true false false p q r s =
         by_parts true (waiting_from e) (rw (p, q, r, s) refl) (rw (p, q, r, s) refl)
-        (asks n ts l (waiting_from e) true refl (no_rset_out 1 l.controller l.host (sans l.to_controller) (sans l.to_host) l.resets kf p h).1)
+        (asks n ts l (waiting_from e) true refl (no_rset_out h p).no_ua)
     go Waiting a true c p q r s =
         by_parts false (record e { timer = e.timer + 1 }) (rw (p, r) refl) (rw (p, r) refl)
-        (waits_turned n ts l (record e { timer = e.timer + 1 }) p p refl refl h.n_due (h.n_none (λ u. let g = sym p ∙ u in cc)) t)
-    go Waiting a false true p q r s = by_parts false (asked_again e) (rw (p, r, s) refl) (rw (p, r, s) refl) (asks n ts l (asked_again e) false p (late r).1)
+        (waits_turned n ts l (record e { timer = e.timer + 1 }) p
+        (record { phase = refl; due = refl; session = h.n_none (λ u. let g = sym p ∙ u in cc); own = refl; peer = refl }) h.n_due t)
+    go Waiting a false true p q r s = by_parts false (asked_again e) (rw (p, r, s) refl) (rw (p, r, s) refl) (asks n ts l (asked_again e) false p (late r).no_ua)
     go Waiting a false false p q r s =
         by_parts false (given_up e) (rw (p, r, s) refl) (rw (p, r, s) refl)
         (tied_none 12 n l (shdlc_turned (given_up e) ts) (rw (turned-phase ts (given_up e)) refl))
@@ -523,16 +512,16 @@ tied_weaker : (W V : Type 0) (n f : EndState) (to_n to_f : List OnWire) → (V �
 tied_weaker W V n f to_n to_f weak t (inl u) = t (inl u)
 tied_weaker W V n f to_n to_f weak t (inr v) = t (inr (weak v))
 
-tied_lose : (kn : ℕ) (W V : Type 0) (n f : NumberedShdlc) (x : OnWire) (to_n to_f : List OnWire) (r : ℕ) → (V → ⊥) → Safe kn 0 n f (x ∷ to_n) to_f r
+tied_lose : {kn : ℕ} (W V : Type 0) {n f : NumberedShdlc} {x : OnWire} {to_n to_f : List OnWire} {r : ℕ} → (V → ⊥) → Safe kn 0 n f (x ∷ to_n) to_f r
     → Tied W n.side f.side (x ∷ to_n) to_f → Tied V n.side f.side to_n to_f
-tied_lose kn W V n f x to_n to_f r lossy h t (inr v) a b p q = absurd (lossy v)
-tied_lose kn W V n f x to_n to_f r lossy h t (inl u) a b p q = go (frame_cases x)
+tied_lose W V lossy h t (inr v) a b p q = absurd (lossy v)
+tied_lose {kn} W V {n} {f} {x} {to_n} {to_f} lossy h t (inl u) a b p q = go (frame_cases x)
   where
-    go : IsData x.frame ⊎ (((w : ℕ) × (c : ℕ) × (x.frame ≡ Rset w c)) ⊎ (x.frame ≡ Ua)) → Meets (as_up n.side.phase n.side) (as_up f.side.phase f.side) a b
+    go : IsData x.frame ⊎ (IsRset x ⊎ (x.frame ≡ Ua)) → Meets (as_up n.side.phase n.side) (as_up f.side.phase f.side) a b
     go (inl d) = t (inl u) a b (let s : behind_ua to_n ≡ Some a = rw u.0 at p in rw u.0 (data_behind x.frame to_n (behind_ua to_n) d ∙ s)) q
     go (inr (inl s)) =
-        let k = rset_tells kn (peer_of n) (peer_of f) x s.0 s.1 to_n to_f r s.2 h.hand in
-        absurd (let z : behind_ua to_f ≡ Some b = rw u.1 at q in let y : None ≡ Some b = sym (behind_none to_f k.1) ∙ z in cc)
+        let k = rset_told h.hand s in
+        absurd (let z : behind_ua to_f ≡ Some b = rw u.1 at q in let y : None ≡ Some b = sym (behind_none to_f k.out.no_ua) ∙ z in cc)
     go (inr (inr s)) =
         let e : uas (x ∷ to_n) ≡ x.age ∷ uas to_n = rw s refl in
         let out = one_ua kn n.side.phase n.side.timer x.age (rsets to_f) (uas to_n) (rw e at h.hand.n_out) in
@@ -559,13 +548,13 @@ loses n l h t = go l.to_controller h t
         first true q =
             tied_weaker (IsWhole n) V l.controller.side f (sans xs) (sans l.to_host) (λ v. ((or_parts n.lost (counts_first (x ∷ xs)) v.0).0, v.1)) (rw q at t)
         first false q =
-            tied_lose 0 (IsWhole n) V l.controller l.host x (sans xs) (sans l.to_host) l.resets
+            tied_lose (IsWhole n) V
             (λ v. let z : true ≡ false = rw q at ((or_parts n.lost (counts_first (x ∷ xs)) v.0).1) in true≢false z) (rw q at g) (rw q at t)
 
 -- a wire that is full loses its first frame
-fits_tied : (kf : ℕ) (W V : Type 0) (n f : NumberedShdlc) (to_n w : List OnWire) (r : ℕ) → (V → W) → (V → overflows w ≡ false) → Safe 0 kf n f to_n (sans w) r
-    → Tied W n.side f.side to_n (sans w) → Tied V n.side f.side to_n (sans (fits w))
-fits_tied kf W V n f to_n w r weak over h t = go (nat_lt 64 (length w)) w over h t
+fits_tied : {kf : ℕ} (W V : Type 0) {n f : NumberedShdlc} {to_n : List OnWire} (w : List OnWire) {r : ℕ} → (V → W) → (V → overflows w ≡ false)
+    → Safe 0 kf n f to_n (sans w) r → Tied W n.side f.side to_n (sans w) → Tied V n.side f.side to_n (sans (fits w))
+fits_tied {kf} W V {n} {f} {to_n} w {r} weak over h t = go (nat_lt 64 (length w)) w over h t
   where
     first : (x : OnWire) (xs : List OnWire) (b : Bool) → is_act x.frame ≡ b → (V → counts_first (x ∷ xs) ≡ false) → Safe 0 kf n f to_n (sans (x ∷ xs)) r
         → Tied W n.side f.side to_n (sans (x ∷ xs)) → Tied V n.side f.side to_n (sans xs)
@@ -574,7 +563,7 @@ fits_tied kf W V n f to_n w r weak over h t = go (nat_lt 64 (length w)) w over h
         let k : Safe 0 kf n f to_n (x ∷ sans xs) r = rw q at g in
         let u : Tied W n.side f.side to_n (x ∷ sans xs) = rw q at t in
         tied_swap V f.side n.side (sans xs) to_n
-        (tied_lose kf W V f n x (sans xs) to_n r (λ v. let z : true ≡ false = rw q at (over v) in true≢false z) (safe_swap 0 kf n f to_n (x ∷ sans xs) r k)
+        (tied_lose W V (λ v. let z : true ≡ false = rw q at (over v) in true≢false z) (safe_swap k)
         (tied_swap W n.side f.side to_n (x ∷ sans xs) u))
 
     go : (b : Bool) (v : List OnWire) → (V → (b && counts_first v) ≡ false) → Safe 0 kf n f to_n (sans v) r → Tied W n.side f.side to_n (sans v)
@@ -595,9 +584,9 @@ acts_then kf ts (a ∷ acts) n l h t =
     let g : Safe 0 kf l.controller l.host (sans l.to_controller) (sans w) l.resets = subst P same h in
     let Q : List OnWire → Type 0 = λ v. Tied (IsWhole n) l.controller.side l.host.side (sans l.to_controller) v in
     let u : TiedLink (noted_loss n l (act_frame a)) (shdlc_put l (act_frame a)) =
-    fits_tied kf (IsWhole n) (IsWhole (noted_loss n l (act_frame a))) l.controller l.host (sans l.to_controller) w l.resets
+    fits_tied (IsWhole n) (IsWhole (noted_loss n l (act_frame a))) w
     (λ v. ((or_parts n.lost (overflows w) v.0).0, (or_parts n.rnr false v.1).0)) (λ v. (or_parts n.lost (overflows w) v.0).1) g (subst Q same t) in
-    acts_then kf ts acts (noted_loss n l (act_frame a)) (shdlc_put l (act_frame a)) (fits_keeps kf l.controller l.host (sans l.to_controller) w l.resets g) u
+    acts_then kf ts acts (noted_loss n l (act_frame a)) (shdlc_put l (act_frame a)) (fits_keeps w g) u
 
 ignores : (n : Losses) (ts : List ShdlcTurn) (l : ShdlcLink) → TiedLink n l → TiedLink (noted_here n l (Ignore ts)) (shdlc_happens_at_controller l (Ignore ts))
 ignores n ts l t = go l.controller.side.phase refl l.to_controller refl
@@ -616,10 +605,10 @@ ignores n ts l t = go l.controller.side.phase refl l.to_controller refl
         by_parts (noted_out n m (shdlc_turned l.controller.side ts)) (shdlc_becomes m (shdlc_turned l.controller.side ts)) (rw (q, w) refl) (rw (q, w) refl)
         (tied_none 12 n m (shdlc_turned l.controller.side ts) (rw (turned-phase ts l.controller.side ∙ q) refl))
 
-tied_fresh : (W V : Type 0) (n f : NumberedShdlc) (to_n to_f : List OnWire) (r : ℕ) → (V → W) → (V → loses_aged to_n ≡ false) → Safe 0 0 n f to_n to_f r
-    → Tied W n.side f.side to_n to_f → Tied V n.side f.side (fresh to_n) to_f
-tied_fresh W V n f [] to_f r weak fit h t = tied_weaker W V n.side f.side [] to_f weak t
-tied_fresh W V n f (x ∷ xs) to_f r weak fit h t = go (nat_lt x.age 4) refl (tied_fresh V V n f xs to_f r (λ v. v))
+tied_fresh : (W V : Type 0) {n f : NumberedShdlc} (to_n : List OnWire) {to_f : List OnWire} {r : ℕ} → (V → W) → (V → loses_aged to_n ≡ false)
+    → Safe 0 0 n f to_n to_f r → Tied W n.side f.side to_n to_f → Tied V n.side f.side (fresh to_n) to_f
+tied_fresh W V {n} {f} [] {to_f} weak fit h t = tied_weaker W V n.side f.side [] to_f weak t
+tied_fresh W V {n} {f} (x ∷ xs) {to_f} {r} weak fit h t = go (nat_lt x.age 4) refl (tied_fresh V V xs (λ v. v))
   where
     go : (b : Bool) → nat_lt x.age 4 ≡ b
         → ((V → loses_aged xs ≡ false) → Safe 0 0 n f xs to_f r → Tied V n.side f.side xs to_f → Tied V n.side f.side (fresh xs) to_f)
@@ -627,7 +616,7 @@ tied_fresh W V n f (x ∷ xs) to_f r weak fit h t = go (nat_lt x.age 4) refl (ti
     go true q later = rw q (tied_weaker W V n.side f.side (x ∷ xs) to_f weak t)
     go false q later =
         let lossy : V → ⊥ = λ v. true≢false (rw q at (fit v)) in
-        rw q (later (λ v. absurd (lossy v)) (safe_lose 0 n f x xs to_f r h) (tied_lose 0 W V n f x xs to_f r lossy h t))
+        rw q (later (λ v. absurd (lossy v)) (safe_lose h) (tied_lose W V lossy h t))
 
 ages : (n : Losses) (l : ShdlcLink) → SafeLink 0 0 l → TiedLink n l → TiedLink (noted_aged n l) (shdlc_aged l)
 ages i l h t =
@@ -639,12 +628,11 @@ ages i l h t =
     let a : Bool = loses_aged tc in
     let b : Bool = loses_aged th in
     let one : Tied V n.side f.side (fresh tc) th =
-    tied_fresh (IsWhole i) V n f tc th l.resets
+    tied_fresh (IsWhole i) V tc
     (λ v. ((or_parts i.lost a (or_parts (i.lost || a) b v.0).0).0, v.1)) (λ v. (or_parts i.lost a (or_parts (i.lost || a) b v.0).0).1) h t in
-    let safe : Safe 0 0 f n th (fresh tc) l.resets =
-    safe_swap 0 0 n f (fresh tc) th l.resets (safe_fresh n f tc th l.resets h) in
+    let safe : Safe 0 0 f n th (fresh tc) l.resets = safe_swap (safe_fresh tc h) in
     let two : Tied V f.side n.side (fresh th) (fresh tc) =
-    tied_fresh V V f n th (fresh tc) l.resets (λ v. v) (λ v. (or_parts (i.lost || a) b v.0).1) safe
+    tied_fresh V V th (λ v. v) (λ v. (or_parts (i.lost || a) b v.0).1) safe
     (tied_swap V n.side f.side (fresh tc) th one) in
     let near = aged-fresh tc h.hand.n_young in
     let far = aged-fresh th h.hand.f_young in

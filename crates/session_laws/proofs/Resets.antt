@@ -21,7 +21,7 @@ use Rattle.session_laws.specs.Sessions.ShdlcLinkEvent.{AtController, AtHost, Tic
 use Rattle.session_laws.specs.Losses.{is_act, sans, counts_first, overflows, loses_aged}
 use Rattle.session_laws.specs.Settled.{sure_put, sure_all, sure_out, sure_here, sure_turns, sure_tick, sure_if_waiting, sure_aged, sure_event, sure_after, IsShdlcSettled, AreShdlcUpTogether}
 use Rattle.session_laws.proofs.Wire.{IsData, data_not_rset, data_not_ua, not_rset_adds, not_ua_adds, rsets, uas, rsets-append, uas-append, plus_one, rsets-older, uas-older}
-use Rattle.session_laws.proofs.Hand.{peer_of, nothing_out}
+use Rattle.session_laws.proofs.Hand.{NothingIsOut, nothing_out}
 use Rattle.session_laws.proofs.Safe.{Safe, up_end}
 use Rattle.session_laws.proofs.Sending.{SafeLink, sans-push, sans-push_act}
 use Rattle.session_laws.proofs.Steps.{passes_act, took, not_rset, sans-aged, agree, safe_aged, safe_turn, safe_turns, safe_exchanged, tick_or_cut, tick_if_waiting, safe_event, safe_start}
@@ -44,42 +44,56 @@ SureLink s l = SureAt s l l.controller.side
 
 -- ## Wires
 
--- what stands on the wires still does
-states_more : (p q : LinkState) (to_n to_f to_n' to_f' : List OnWire) → (rsets to_n' ≡ [] → rsets to_n ≡ []) → (rsets to_f' ≡ [] → rsets to_f ≡ [])
-    → (uas to_n' ≡ [] → uas to_n ≡ []) → (uas to_f' ≡ [] → uas to_f ≡ []) → States p q to_n to_f → States p q to_n' to_f'
-states_more p q to_n to_f to_n' to_f' a b c d (inl (w, v, inl r)) = inl (w, v, inl (λ e. r (b e)))
-states_more p q to_n to_f to_n' to_f' a b c d (inl (w, v, inr u)) = inl (w, v, inr (u.0, λ e. u.1 (c e)))
-states_more p q to_n to_f to_n' to_f' a b c d (inr (inl (w, v, inl r))) = inr (inl (w, v, inl (λ e. r (a e))))
-states_more p q to_n to_f to_n' to_f' a b c d (inr (inl (w, v, inr u))) = inr (inl (w, v, inr (u.0, λ e. u.1 (d e))))
-states_more p q to_n to_f to_n' to_f' a b c d (inr (inr u)) = inr (inr u)
-
 front_empty : (xs ys : List ℕ) → xs ++ ys ≡ [] → xs ≡ []
 front_empty [] ys e = refl
 front_empty (x ∷ xs) ys e = cc
-
-states_push : (p q : LinkState) (to_n to_f : List OnWire) (x : OnWire) → States p q to_n to_f → States p q to_n (to_f ++ x ∷ [])
-states_push p q to_n to_f x =
-    states_more p q to_n to_f to_n (to_f ++ x ∷ []) (λ e. e) (λ e. front_empty (rsets to_f) (rsets (x ∷ [])) (sym (rsets-append to_f x) ∙ e)) (λ e. e)
-    (λ e. front_empty (uas to_f) (uas (x ∷ [])) (sym (uas-append to_f x) ∙ e))
-
-states_past : (p q : LinkState) (x : OnWire) (to_n to_f : List OnWire) → IsData x.frame → States p q (x ∷ to_n) to_f → States p q to_n to_f
-states_past p q x to_n to_f d =
-    states_more p q (x ∷ to_n) to_f to_n to_f (λ e. not_rset_adds x.frame x.age (rsets to_n) (data_not_rset x.frame d) ∙ e) (λ e. e)
-    (λ e. not_ua_adds x.frame x.age (uas to_n) (data_not_ua x.frame d) ∙ e) (λ e. e)
 
 plus_empty : (xs : List ℕ) → plus_one xs ≡ [] → xs ≡ []
 plus_empty [] e = refl
 plus_empty (x ∷ xs) e = cc
 
-states_older : (p q : LinkState) (to_n to_f : List OnWire) → States p q to_n to_f → States p q (older to_n) (older to_f)
-states_older p q to_n to_f =
-    states_more p q to_n to_f (older to_n) (older to_f) (rset to_n) (rset to_f) (ua to_n) (ua to_f)
-  where
-    rset : (w : List OnWire) → rsets (older w) ≡ [] → rsets w ≡ []
-    rset w e = plus_empty (rsets w) (sym (rsets-older w) ∙ e)
+-- an RSET or a UA that stands on a wire still does
+record StillHolds (w v : List OnWire) : Type 0 where
+  rset : rsets v ≡ [] → rsets w ≡ []
+  ua : uas v ≡ [] → uas w ≡ []
 
-    ua : (w : List OnWire) → uas (older w) ≡ [] → uas w ≡ []
-    ua w e = plus_empty (uas w) (sym (uas-older w) ∙ e)
+holds : (w : List OnWire) → StillHolds w w
+holds w = record { rset = λ e. e; ua = λ e. e }
+
+holds_push : (w : List OnWire) (x : OnWire) → StillHolds w (w ++ x ∷ [])
+holds_push w x =
+    record {
+      rset = λ e. front_empty (rsets w) (rsets (x ∷ [])) (sym (rsets-append w x) ∙ e);
+      ua = λ e. front_empty (uas w) (uas (x ∷ [])) (sym (uas-append w x) ∙ e);
+    }
+
+holds_past : (x : OnWire) (w : List OnWire) → IsData x.frame → StillHolds (x ∷ w) w
+holds_past x w d =
+    record {
+      rset = λ e. not_rset_adds x.frame x.age (rsets w) (data_not_rset x.frame d) ∙ e;
+      ua = λ e. not_ua_adds x.frame x.age (uas w) (data_not_ua x.frame d) ∙ e;
+    }
+
+holds_older : (w : List OnWire) → StillHolds w (older w)
+holds_older w = record { rset = λ e. plus_empty (rsets w) (sym (rsets-older w) ∙ e); ua = λ e. plus_empty (uas w) (sym (uas-older w) ∙ e) }
+
+-- what stands on the wires still does
+states_more : (p q : LinkState) {to_n to_f to_n' to_f' : List OnWire} → StillHolds to_n to_n' → StillHolds to_f to_f'
+    → States p q to_n to_f → States p q to_n' to_f'
+states_more p q n f (inl (w, v, inl r)) = inl (w, v, inl (λ e. r (f.rset e)))
+states_more p q n f (inl (w, v, inr u)) = inl (w, v, inr (u.0, λ e. u.1 (n.ua e)))
+states_more p q n f (inr (inl (w, v, inl r))) = inr (inl (w, v, inl (λ e. r (n.rset e))))
+states_more p q n f (inr (inl (w, v, inr u))) = inr (inl (w, v, inr (u.0, λ e. u.1 (f.ua e))))
+states_more p q n f (inr (inr u)) = inr (inr u)
+
+states_push : (p q : LinkState) (to_n to_f : List OnWire) (x : OnWire) → States p q to_n to_f → States p q to_n (to_f ++ x ∷ [])
+states_push p q to_n to_f x = states_more p q (holds to_n) (holds_push to_f x)
+
+states_past : (p q : LinkState) (x : OnWire) (to_n to_f : List OnWire) → IsData x.frame → States p q (x ∷ to_n) to_f → States p q to_n to_f
+states_past p q x to_n to_f d = states_more p q (holds_past x to_n d) (holds to_f)
+
+states_older : (p q : LinkState) (to_n to_f : List OnWire) → States p q to_n to_f → States p q (older to_n) (older to_f)
+states_older p q to_n to_f = states_more p q (holds_older to_n) (holds_older to_f)
 
 back_empty : (xs ys : List ℕ) → xs ++ ys ≡ [] → ys ≡ []
 back_empty [] ys e = e
@@ -283,10 +297,8 @@ ticks kf s ts l h t = go e.phase (runs_timer e.session) (nat_lt (e.timer + 1) 10
         (sure_drains 12 s ts (ticked e) l (tick_cases (λ f. AnswersOnly f.due) e p quit (rw h.n_due tt) (rw h.n_due tt) (rw h.n_due tt))
         (λ n. let same : (ticked e).phase ≡ e.phase = tick_cases (λ f. f.phase ≡ e.phase) e p quit refl refl refl in rw same (t n)))
 
-    late : nat_lt (e.timer + 1) 10 ≡ false → (rsets (sans l.to_host) ≡ []) × (uas (sans l.to_controller) ≡ [])
-    late r =
-        nothing_out 1 kf (peer_of l.controller) (peer_of l.host) (sans l.to_controller) (sans l.to_host) l.resets
-        (let g = ltb-false (e.timer + 1) 10 r in omega arith) h.hand
+    late : nat_lt (e.timer + 1) 10 ≡ false → NothingIsOut (sans l.to_controller) (sans l.to_host)
+    late r = nothing_out h.hand (let g = ltb-false (e.timer + 1) 10 r in omega arith)
 
     go : (p : LinkState) (a b c : Bool) → e.phase ≡ p → runs_timer e.session ≡ a → nat_lt (e.timer + 1) 10 ≡ b → nat_lt e.tries 5 ≡ c → Q
     go Down a b c p q r o = by_parts false e (rw p refl) (rw p refl) (stays s ts l h.n_due t)
@@ -307,7 +319,7 @@ ticks kf s ts l h t = go e.phase (runs_timer e.session) (nat_lt (e.timer + 1) 10
         (sure_drains 12 s ts (given_up e) l (rw h.n_due tt)
         (λ n. let out = late r in
         no_asks l.host.side.phase (sans l.to_controller) (sans l.to_host) (States Down l.host.side.phase (sans l.to_controller) (sans l.to_host))
-        out.0 out.1 (rw p at (t n))))
+        out.no_rset out.no_ua (rw p at (t n))))
 
 -- ## It takes a frame
 

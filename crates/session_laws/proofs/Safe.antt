@@ -8,7 +8,7 @@ use Rattle.shdlc_core.specs.Machine.{EndState, Session, new_session, no_session}
 use Rattle.std.proofs.lemmas.Bool.{eqb-true}
 use Rattle.session_laws.specs.Sessions.{OnWire, NumberedShdlc, older, shdlc_number_of, shdlc_session_of, ended_session}
 use Rattle.session_laws.proofs.Wire.{IsData, rsets, uas, AfterRset, behind_ua, live, Young, behind_none, behind_push, behind_push_none, behind_new, behind_rsets, data_behind, after_rset_empty, live-older, older_part}
-use Rattle.session_laws.proofs.Hand.{peer_of, Hand, Agrees, hand_swap, hand_empty, none_out, one_ua, rset_tells, hand_past, hand_ask, hand_down, hand_up_ua, hand_up_rset, hand_wait_rset, hand_lose_rset, hand_lose_ua, hand_ignore, hand_older}
+use Rattle.session_laws.proofs.Hand.{peer_of, Hand, Agrees, NothingIsOut, IsRset, IsNextRset, IsNewUa, hand_swap, hand_empty, idle_out, one_ua, rset_told, hand_past, hand_ask, hand_down, hand_up_ua, hand_up_rset, hand_wait_rset, hand_lose_rset, hand_lose_ua, hand_ignore, hand_older}
 use Rattle.session_laws.proofs.Data.{Base, Active, OnLive, active_empty, active_lost, Below, below_more, none_ended, bound, of_up, of_update, of_none, base_begins, base_begins_there, Pair, shows_push_rset, shows_older}
 
 -- the windows that an end may ask for
@@ -30,24 +30,6 @@ pub record Safe (kn kf : ℕ) (n f : NumberedShdlc) (to_n to_f : List OnWire) (r
   pub f_due : f.side.due ≡ []
   pub n_windows : HasWindows n.side
   pub f_windows : HasWindows f.side
-
-pub safe_swap : (kn kf : ℕ) (n f : NumberedShdlc) (to_n to_f : List OnWire) (r : ℕ) → Safe kn kf n f to_n to_f r → Safe kf kn f n to_f to_n r
-safe_swap kn kf n f to_n to_f r h =
-    record {
-      hand = hand_swap kn kf (peer_of n) (peer_of f) to_n to_f r h.hand;
-      n_base = h.f_base;
-      f_base = h.n_base;
-      n_live = h.f_live;
-      f_live = h.n_live;
-      n_past = h.f_past;
-      f_past = h.n_past;
-      n_none = h.f_none;
-      f_none = h.n_none;
-      n_due = h.f_due;
-      f_due = h.n_due;
-      n_windows = h.f_windows;
-      f_windows = h.n_windows;
-    }
 
 -- a part of a wire of an end in the same state, and equal sessions
 live_to : (p q : LinkState) (w : List OnWire) (mine theirs : Session) → p ≡ q → OnLive (live p w) mine theirs → OnLive (live q w) mine theirs
@@ -71,112 +53,133 @@ not_up p a b = let e = sym a ∙ b in cc
 down_not_up : (p : LinkState) → p ≡ Down → p ≡ Up → ⊥
 down_not_up p a b = let e = sym a ∙ b in cc
 
-up_not_waiting : (p : LinkState) → p ≡ Up → p ≡ Waiting → ⊥
-up_not_waiting p a b = let e = sym a ∙ b in cc
-
 -- ## The near end is Up
 
-pub pair_from : (kn kf : ℕ) (n f : NumberedShdlc) (to_n to_f : List OnWire) (r : ℕ) → n.side.phase ≡ Up → Safe kn kf n f to_n to_f r
-    → Pair n.side.session (shdlc_session_of f (shdlc_number_of n)) to_n (live f.side.phase to_f)
-pair_from kn kf n f to_n to_f r up h =
-    record {
-      mine = rw (of_up n up) at (h.n_base (shdlc_number_of n));
-      theirs = rw (of_up n up) at (h.f_base (shdlc_number_of n));
-      comes =
-          let a : OnLive (live Up to_n) (shdlc_session_of n (shdlc_number_of n)) (shdlc_session_of f (shdlc_number_of n)) =
-          live_to n.side.phase Up to_n (shdlc_session_of n (shdlc_number_of n)) (shdlc_session_of f (shdlc_number_of n)) up h.n_live in
-          on_live_same (Some to_n) (shdlc_session_of n (shdlc_number_of n)) n.side.session (shdlc_session_of f (shdlc_number_of n))
-          (shdlc_session_of f (shdlc_number_of n))
-          (sym (of_up n up)) refl a;
-      goes = goes (live f.side.phase to_f) refl h.f_live;
-    }
-  where
-    moved : (k m : ℕ) (w : List OnWire) → k ≡ m → OnLive (Some w) (shdlc_session_of f k) (shdlc_session_of n k)
-        → OnLive (Some w) (shdlc_session_of f m) (shdlc_session_of n m)
-    moved k m w e g = let P : ℕ → Type 0 = λ j. OnLive (Some w) (shdlc_session_of f j) (shdlc_session_of n j) in subst P e g
+-- an end that is up goes on in its session as q, with no control frame due
+pub record GoesOn (e q : EndState) : Type 0 where
+  pub was_up : e.phase ≡ Up
+  pub up : q.phase ≡ Up
+  pub due : q.due ≡ []
+  pub own : q.own_window ≡ e.own_window
+  pub peer : q.peer_window ≡ e.peer_window
 
-    goes : (o : Option (List OnWire)) → live f.side.phase to_f ≡ o → OnLive o (shdlc_session_of f (shdlc_number_of f)) (shdlc_session_of n (shdlc_number_of f))
-        → OnLive o (shdlc_session_of f (shdlc_number_of n)) n.side.session
-    goes None e g = tt
-    goes (Some w) e g =
-        let lives : live n.side.phase to_n ≡ Some to_n = rw up refl in
-        let same : shdlc_number_of n ≡ shdlc_number_of f =
-        agreed (live n.side.phase to_n) (live f.side.phase to_f) to_n w (shdlc_number_of n ≡ shdlc_number_of f) lives e
-        h.hand.agree in
-        let b : OnLive (Some w) (shdlc_session_of f (shdlc_number_of n)) (shdlc_session_of n (shdlc_number_of n)) =
-        moved (shdlc_number_of f) (shdlc_number_of n) w (sym same) g in
-        on_live_same (Some w) (shdlc_session_of f (shdlc_number_of n)) (shdlc_session_of f (shdlc_number_of n))
-        (shdlc_session_of n (shdlc_number_of n)) n.side.session refl (sym (of_up n up)) b
+module _ {kn kf : ℕ} {n f : NumberedShdlc} {to_n to_f : List OnWire} {r : ℕ} (h : Safe kn kf n f to_n to_f r) where
+  pub safe_swap : Safe kf kn f n to_f to_n r
+  safe_swap =
+      record {
+        hand = hand_swap h.hand;
+        n_base = h.f_base;
+        f_base = h.n_base;
+        n_live = h.f_live;
+        f_live = h.n_live;
+        n_past = h.f_past;
+        f_past = h.n_past;
+        n_none = h.f_none;
+        f_none = h.n_none;
+        n_due = h.f_due;
+        f_due = h.n_due;
+        n_windows = h.f_windows;
+        f_windows = h.n_windows;
+      }
 
--- the near end goes on in its session
-pub safe_up : (kn kn' kf : ℕ) (n f : NumberedShdlc) (q : EndState) (to_n to_f to_n' to_f' : List OnWire) (r : ℕ) → n.side.phase ≡ Up → q.phase ≡ Up → q.due ≡ []
-    → q.own_window ≡ n.side.own_window → q.peer_window ≡ n.side.peer_window
-    → Hand kn' kf (peer_of (record n { side = q })) (peer_of f) to_n' to_f' r
-    → Pair q.session (shdlc_session_of f (shdlc_number_of n)) to_n' (live f.side.phase to_f')
-    → Safe kn kf n f to_n to_f r → Safe kn' kf (record n { side = q }) f to_n' to_f' r
-safe_up kn kn' kf n f q to_n to_f to_n' to_f' r up qup due own peer hand pair h =
-    let g : NumberedShdlc = record n { side = q } in
-    record {
-      hand = hand;
-      n_base = of_update (λ k t. Base t (shdlc_session_of f k)) n g up qup refl refl h.n_base pair.mine;
-      f_base = of_update (λ k t. Base (shdlc_session_of f k) t) n g up qup refl refl h.f_base pair.theirs;
-      n_live = n_live;
-      f_live = f_live (live f.side.phase to_f') refl pair.goes;
-      n_past = past;
-      f_past = h.f_past;
-      n_none = λ no. absurd (no qup);
-      f_none = h.f_none;
-      n_due = due;
-      f_due = h.f_due;
-      n_windows = record { own = rw own h.n_windows.own; peer = rw peer h.n_windows.peer };
-      f_windows = h.f_windows;
-    }
-  where
-    n_live : OnLive (live q.phase to_n') (shdlc_session_of (record n { side = q }) (shdlc_number_of n)) (shdlc_session_of f (shdlc_number_of n))
-    n_live =
-        let is : shdlc_session_of (record n { side = q }) (shdlc_number_of n) ≡ q.session = of_up (record n { side = q }) qup in
-        let a : OnLive (live Up to_n') (shdlc_session_of (record n { side = q }) (shdlc_number_of n)) (shdlc_session_of f (shdlc_number_of n)) =
-        on_live_same (Some to_n') q.session (shdlc_session_of (record n { side = q }) (shdlc_number_of n)) (shdlc_session_of f (shdlc_number_of n))
-        (shdlc_session_of f (shdlc_number_of n)) is refl pair.comes in
-        live_to Up q.phase to_n' (shdlc_session_of (record n { side = q }) (shdlc_number_of n)) (shdlc_session_of f (shdlc_number_of n)) (sym qup) a
+  pub pair_from : n.side.phase ≡ Up → Pair n.side.session (shdlc_session_of f (shdlc_number_of n)) to_n (live f.side.phase to_f)
+  pair_from up =
+      record {
+        mine = rw (of_up n up) at (h.n_base (shdlc_number_of n));
+        theirs = rw (of_up n up) at (h.f_base (shdlc_number_of n));
+        comes =
+            let a : OnLive (live Up to_n) (shdlc_session_of n (shdlc_number_of n)) (shdlc_session_of f (shdlc_number_of n)) =
+            live_to n.side.phase Up to_n (shdlc_session_of n (shdlc_number_of n)) (shdlc_session_of f (shdlc_number_of n)) up h.n_live in
+            on_live_same (Some to_n) (shdlc_session_of n (shdlc_number_of n)) n.side.session (shdlc_session_of f (shdlc_number_of n))
+            (shdlc_session_of f (shdlc_number_of n))
+            (sym (of_up n up)) refl a;
+        goes = goes (live f.side.phase to_f) refl h.f_live;
+      }
+    where
+      moved : (k m : ℕ) (w : List OnWire) → k ≡ m → OnLive (Some w) (shdlc_session_of f k) (shdlc_session_of n k)
+          → OnLive (Some w) (shdlc_session_of f m) (shdlc_session_of n m)
+      moved k m w e g = let P : ℕ → Type 0 = λ j. OnLive (Some w) (shdlc_session_of f j) (shdlc_session_of n j) in subst P e g
 
-    past : Below (bound (record n { side = q })) n.past
-    past = let a : Below (shdlc_number_of n) n.past = rw up at h.n_past in rw qup a
+      goes : (o : Option (List OnWire)) → live f.side.phase to_f ≡ o → OnLive o (shdlc_session_of f (shdlc_number_of f)) (shdlc_session_of n (shdlc_number_of f))
+          → OnLive o (shdlc_session_of f (shdlc_number_of n)) n.side.session
+      goes None e g = tt
+      goes (Some w) e g =
+          let lives : live n.side.phase to_n ≡ Some to_n = rw up refl in
+          let same : shdlc_number_of n ≡ shdlc_number_of f =
+          agreed (live n.side.phase to_n) (live f.side.phase to_f) to_n w (shdlc_number_of n ≡ shdlc_number_of f) lives e
+          h.hand.agree in
+          let b : OnLive (Some w) (shdlc_session_of f (shdlc_number_of n)) (shdlc_session_of n (shdlc_number_of n)) =
+          moved (shdlc_number_of f) (shdlc_number_of n) w (sym same) g in
+          on_live_same (Some w) (shdlc_session_of f (shdlc_number_of n)) (shdlc_session_of f (shdlc_number_of n))
+          (shdlc_session_of n (shdlc_number_of n)) n.side.session refl (sym (of_up n up)) b
 
-    moved : (k m : ℕ) (w : List OnWire) → k ≡ m → OnLive (Some w) (shdlc_session_of f k) (shdlc_session_of (record n { side = q }) k)
-        → OnLive (Some w) (shdlc_session_of f m) (shdlc_session_of (record n { side = q }) m)
-    moved k m w e g = let P : ℕ → Type 0 = λ j. OnLive (Some w) (shdlc_session_of f j) (shdlc_session_of (record n { side = q }) j) in subst P e g
+  -- the near end goes on in its session
+  pub safe_up : {kn' : ℕ} {q : EndState} {to_n' to_f' : List OnWire} → GoesOn n.side q
+      → Hand kn' kf (peer_of (record n { side = q })) (peer_of f) to_n' to_f' r
+      → Pair q.session (shdlc_session_of f (shdlc_number_of n)) to_n' (live f.side.phase to_f') → Safe kn' kf (record n { side = q }) f to_n' to_f' r
+  safe_up {q = q} {to_n'} {to_f'} on hand pair =
+      let g : NumberedShdlc = record n { side = q } in
+      record {
+        hand = hand;
+        n_base = of_update (λ k t. Base t (shdlc_session_of f k)) n g on.was_up on.up refl refl h.n_base pair.mine;
+        f_base = of_update (λ k t. Base (shdlc_session_of f k) t) n g on.was_up on.up refl refl h.f_base pair.theirs;
+        n_live = n_live;
+        f_live = f_live (live f.side.phase to_f') refl pair.goes;
+        n_past = past;
+        f_past = h.f_past;
+        n_none = λ no. absurd (no on.up);
+        f_none = h.f_none;
+        n_due = on.due;
+        f_due = h.f_due;
+        n_windows = record { own = rw on.own h.n_windows.own; peer = rw on.peer h.n_windows.peer };
+        f_windows = h.f_windows;
+      }
+    where
+      n_live : OnLive (live q.phase to_n') (shdlc_session_of (record n { side = q }) (shdlc_number_of n)) (shdlc_session_of f (shdlc_number_of n))
+      n_live =
+          let is : shdlc_session_of (record n { side = q }) (shdlc_number_of n) ≡ q.session = of_up (record n { side = q }) on.up in
+          let a : OnLive (live Up to_n') (shdlc_session_of (record n { side = q }) (shdlc_number_of n)) (shdlc_session_of f (shdlc_number_of n)) =
+          on_live_same (Some to_n') q.session (shdlc_session_of (record n { side = q }) (shdlc_number_of n)) (shdlc_session_of f (shdlc_number_of n))
+          (shdlc_session_of f (shdlc_number_of n)) is refl pair.comes in
+          live_to Up q.phase to_n' (shdlc_session_of (record n { side = q }) (shdlc_number_of n)) (shdlc_session_of f (shdlc_number_of n)) (sym on.up) a
 
-    f_live : (o : Option (List OnWire)) → live f.side.phase to_f' ≡ o → OnLive o (shdlc_session_of f (shdlc_number_of n)) q.session
-        → OnLive o (shdlc_session_of f (shdlc_number_of f)) (shdlc_session_of (record n { side = q }) (shdlc_number_of f))
-    f_live None e g = tt
-    f_live (Some w) e g =
-        let lives : live q.phase to_n' ≡ Some to_n' = rw qup refl in
-        let same : shdlc_number_of n ≡ shdlc_number_of f =
-        agreed (live q.phase to_n') (live f.side.phase to_f') to_n' w (shdlc_number_of n ≡ shdlc_number_of f) lives e hand.agree in
-        let is : shdlc_session_of (record n { side = q }) (shdlc_number_of n) ≡ q.session = of_up (record n { side = q }) qup in
-        let a : OnLive (Some w) (shdlc_session_of f (shdlc_number_of n)) (shdlc_session_of (record n { side = q }) (shdlc_number_of n)) =
-        on_live_same (Some w) (shdlc_session_of f (shdlc_number_of n)) (shdlc_session_of f (shdlc_number_of n)) q.session
-        (shdlc_session_of (record n { side = q }) (shdlc_number_of n))
-        refl is g in
-        moved (shdlc_number_of n) (shdlc_number_of f) w same a
+      past : Below (bound (record n { side = q })) n.past
+      past = let a : Below (shdlc_number_of n) n.past = rw on.was_up at h.n_past in rw on.up a
+
+      moved : (k m : ℕ) (w : List OnWire) → k ≡ m → OnLive (Some w) (shdlc_session_of f k) (shdlc_session_of (record n { side = q }) k)
+          → OnLive (Some w) (shdlc_session_of f m) (shdlc_session_of (record n { side = q }) m)
+      moved k m w e g = let P : ℕ → Type 0 = λ j. OnLive (Some w) (shdlc_session_of f j) (shdlc_session_of (record n { side = q }) j) in subst P e g
+
+      f_live : (o : Option (List OnWire)) → live f.side.phase to_f' ≡ o → OnLive o (shdlc_session_of f (shdlc_number_of n)) q.session
+          → OnLive o (shdlc_session_of f (shdlc_number_of f)) (shdlc_session_of (record n { side = q }) (shdlc_number_of f))
+      f_live None e g = tt
+      f_live (Some w) e g =
+          let lives : live q.phase to_n' ≡ Some to_n' = rw on.up refl in
+          let same : shdlc_number_of n ≡ shdlc_number_of f =
+          agreed (live q.phase to_n') (live f.side.phase to_f') to_n' w (shdlc_number_of n ≡ shdlc_number_of f) lives e hand.agree in
+          let is : shdlc_session_of (record n { side = q }) (shdlc_number_of n) ≡ q.session = of_up (record n { side = q }) on.up in
+          let a : OnLive (Some w) (shdlc_session_of f (shdlc_number_of n)) (shdlc_session_of (record n { side = q }) (shdlc_number_of n)) =
+          on_live_same (Some w) (shdlc_session_of f (shdlc_number_of n)) (shdlc_session_of f (shdlc_number_of n)) q.session
+          (shdlc_session_of (record n { side = q }) (shdlc_number_of n))
+          refl is g in
+          moved (shdlc_number_of n) (shdlc_number_of f) w same a
 
 -- ## Parts of wires with one frame more or less
 
-live_push_rset : (p : LinkState) (w : List OnWire) (x : OnWire) (v c : ℕ) (mine theirs : Session) → x.frame ≡ Rset v c → rsets w ≡ []
+live_push_rset : (p : LinkState) (w : List OnWire) (x : OnWire) (mine theirs : Session) → IsRset x → rsets w ≡ []
     → OnLive (live p w) mine theirs → OnLive (live p (w ++ x ∷ [])) mine theirs
-live_push_rset Down w x v c mine theirs e none h = tt
-live_push_rset Up w x v c mine theirs e none h =
-    record { marks = h.marks; shows = shows_push_rset w h.marks x v c e none h.shows; places = h.places; counts = h.counts }
-live_push_rset Waiting w x v c mine theirs e none h = go (behind_ua w) refl h
+live_push_rset Down w x mine theirs is none h = tt
+live_push_rset Up w x mine theirs is none h =
+    record { marks = h.marks; shows = shows_push_rset w h.marks x is.window is.caps is.frame none h.shows; places = h.places; counts = h.counts }
+live_push_rset Waiting w x mine theirs is none h = go (behind_ua w) refl h
   where
     go : (o : Option (List OnWire)) → behind_ua w ≡ o → OnLive o mine theirs → OnLive (behind_ua (w ++ x ∷ [])) mine theirs
-    go None q g = rw (behind_push_none w x (rw e tt) q) tt
+    go None q g = rw (behind_push_none w x (rw is.frame tt) q) tt
     go (Some ys) q g =
         let a : Active (ys ++ x ∷ []) mine theirs =
         record {
           marks = g.marks;
-          shows = shows_push_rset ys g.marks x v c e (sym (behind_rsets w ys q).0 ∙ none) g.shows;
+          shows = shows_push_rset ys g.marks x is.window is.caps is.frame (sym (behind_rsets w ys q).0 ∙ none) g.shows;
           places = g.places;
           counts = g.counts;
         } in
@@ -197,6 +200,11 @@ live_after_rset Waiting [] mine theirs no_up a b = tt
 live_after_rset Waiting (z ∷ []) mine theirs no_up a b = let e : behind_ua (z ∷ []) ≡ Some [] = rw a refl in rw e (active_empty mine theirs b)
 live_after_rset Waiting (z ∷ v ∷ w) mine theirs no_up a b = absurd a
 
+pub live_empty : (p : LinkState) (mine theirs : Session) → Base mine theirs → OnLive (live p []) mine theirs
+live_empty Up mine theirs b = active_empty mine theirs b
+live_empty Waiting mine theirs b = tt
+live_empty Down mine theirs b = tt
+
 -- what is said of one session by its number
 at_number : (Q : Session → Type 0) (m : ℕ) (g h : NumberedShdlc)
     → (((P : ℕ → Session → Type 0) → ((k : ℕ) → P k (shdlc_session_of h k)) → (k : ℕ) → P k (shdlc_session_of g k)))
@@ -205,36 +213,13 @@ at_number Q m g h move given = move (λ k t. k ≡ m → Q t) (λ k e. rw e give
 
 -- ## The near end isn't Up
 
--- it goes on as it is, and a frame of a session on its way to it is passed over
-pub safe_idle : (kn kn' kf : ℕ) (n f : NumberedShdlc) (q : EndState) (to_n to_f to_n' : List OnWire) (r : ℕ) → (n.side.phase ≡ Up → ⊥)
-    → q.phase ≡ n.side.phase → q.due ≡ []
-    → q.own_window ≡ n.side.own_window → q.peer_window ≡ n.side.peer_window → q.session ≡ no_session
-    → live n.side.phase to_n' ≡ live n.side.phase to_n
-    → Hand kn' kf (peer_of (record n { side = q })) (peer_of f) to_n' to_f r
-    → Safe kn kf n f to_n to_f r → Safe kn' kf (record n { side = q }) f to_n' to_f r
-safe_idle kn kn' kf n f q to_n to_f to_n' r no_up same due own peer none lives hand h =
-    let g : NumberedShdlc = record n { side = q } in
-    let no_up' : q.phase ≡ Up → ⊥ = λ e. no_up (sym same ∙ e) in
-    let m : (P : ℕ → Session → Type 0) → ((k : ℕ) → P k (shdlc_session_of n k)) → (k : ℕ)
-    → P k (shdlc_session_of g k) = λ P all k. of_none P n g no_up no_up' refl all k in
-    record {
-      hand = hand;
-      n_base = m (λ k t. Base t (shdlc_session_of f k)) h.n_base;
-      f_base = m (λ k t. Base (shdlc_session_of f k) t) h.f_base;
-      n_live = live_to n.side.phase q.phase to_n' (shdlc_session_of g (shdlc_number_of n)) (shdlc_session_of f (shdlc_number_of n)) (sym same)
-          (on_live_part (live n.side.phase to_n) (live n.side.phase to_n') (shdlc_session_of g (shdlc_number_of n))
-          (shdlc_session_of f (shdlc_number_of n)) lives
-          (at_number (λ t. OnLive (live n.side.phase to_n) t (shdlc_session_of f (shdlc_number_of n))) (shdlc_number_of n) g n m h.n_live));
-      f_live = at_number (λ t. OnLive (live f.side.phase to_f) (shdlc_session_of f (shdlc_number_of f)) t) (shdlc_number_of f) g n m h.f_live;
-      n_past = rw same h.n_past;
-      f_past = h.f_past;
-      n_none = λ _. none;
-      f_none = h.f_none;
-      n_due = due;
-      f_due = h.f_due;
-      n_windows = record { own = rw own h.n_windows.own; peer = rw peer h.n_windows.peer };
-      f_windows = h.f_windows;
-    }
+-- an end without a session goes on as q, and changes nothing but its timer and its readiness
+pub record Idle (e q : EndState) : Type 0 where
+  pub phase : q.phase ≡ e.phase
+  pub due : q.due ≡ e.due
+  pub session : q.session ≡ no_session
+  pub own : q.own_window ≡ e.own_window
+  pub peer : q.peer_window ≡ e.peer_window
 
 -- an end that waits, with nothing of a session
 abbrev pub waiting_end : EndState → EndState
@@ -256,70 +241,137 @@ moves_none n no_up P all k = go n.side.phase refl (all k)
     go Waiting e a = rw e at a
     go Down e a = rw e at a
 
-pub safe_asks : (kn kf : ℕ) (n f : NumberedShdlc) (e : EndState) (x : OnWire) (w c : ℕ) (past : List (ℕ × Session)) (to_n to_f : List OnWire) (r : ℕ)
-    → rsets to_f ≡ [] → uas to_n ≡ [] → x.frame ≡ Rset w c → 0 < w → x.age ≡ 0 → x.number ≡ r + 1 → HasWindows e → Moves n past → Below (r + 1) past
-    → Safe kn kf n f to_n to_f r
-    → Safe 0 kf (record { side = waiting_end e; emitted = r + 1; took = n.took; past = past }) f to_n (to_f ++ x ∷ []) (r + 1)
-safe_asks kn kf n f e x w c past to_n to_f r none empty frame wide age num windows move below h =
-    let g : NumberedShdlc = record { side = waiting_end e; emitted = r + 1; took = n.took; past = past } in
-    let l : List OnWire = to_f ++ x ∷ [] in
-    record {
-      hand = hand_ask kn kf (peer_of n) (peer_of f) x w c to_n to_f r none empty frame wide age num h.hand;
-      n_base = move (λ k t. Base t (shdlc_session_of f k)) h.n_base;
-      f_base = move (λ k t. Base (shdlc_session_of f k) t) h.f_base;
-      n_live = on_live_part None (behind_ua to_n) (shdlc_session_of g (shdlc_number_of g)) (shdlc_session_of f (shdlc_number_of g)) (behind_none to_n empty) tt;
-      f_live = move (λ k t. k ≡ shdlc_number_of f → OnLive (live f.side.phase l) (shdlc_session_of f (shdlc_number_of f)) t)
-          (λ k q. at k q
-          (live_push_rset f.side.phase to_f x w c (shdlc_session_of f (shdlc_number_of f)) (shdlc_session_of n (shdlc_number_of f)) frame none h.f_live))
-          (shdlc_number_of f) refl;
-      n_past = below;
-      f_past = h.f_past;
-      n_none = λ _. refl;
-      f_none = h.f_none;
-      n_due = refl;
-      f_due = h.f_due;
-      n_windows = record { own = windows.own; peer = windows.peer };
-      f_windows = h.f_windows;
-    }
-  where
-    at : (k : ℕ) → k ≡ shdlc_number_of f
-        → OnLive (live f.side.phase (to_f ++ x ∷ [])) (shdlc_session_of f (shdlc_number_of f)) (shdlc_session_of n (shdlc_number_of f))
-        → OnLive (live f.side.phase (to_f ++ x ∷ [])) (shdlc_session_of f (shdlc_number_of f)) (shdlc_session_of n k)
-    at k q a = let P : ℕ
-        → Type 0 = λ j. OnLive (live f.side.phase (to_f ++ x ∷ [])) (shdlc_session_of f (shdlc_number_of f)) (shdlc_session_of n j) in subst P (sym q) a
+-- all sessions of an end have ended, and are kept with numbers below b
+pub record HaveEnded (n : NumberedShdlc) (past : List (ℕ × Session)) (b : ℕ) : Type 1 where
+  pub moves : Moves n past
+  pub below : Below b past
 
--- it waited, and gives up
-pub safe_down : (kn kf : ℕ) (n f : NumberedShdlc) (e : EndState) (to_n to_f : List OnWire) (r : ℕ)
-    → n.side.phase ≡ Waiting → rsets to_f ≡ [] → uas to_n ≡ [] → 4 < n.side.timer + kn
-    → HasWindows e → Safe kn kf n f to_n to_f r
-    → Safe 0 kf (record n { side = record e { phase = Down; due = []; timer = 0; session = no_session } }) f to_n to_f r
-safe_down kn kf n f e to_n to_f r waiting none empty late windows h =
-    let move : Moves n n.past = moves_none n (not_up n.side.phase waiting) in
-    record {
-      hand = hand_down kn kf (peer_of n) (peer_of f) to_n to_f r none empty late h.hand;
-      n_base = move (λ k t. Base t (shdlc_session_of f k)) h.n_base;
-      f_base = move (λ k t. Base (shdlc_session_of f k) t) h.f_base;
-      n_live = tt;
-      f_live = move (λ k t. k ≡ shdlc_number_of f → OnLive (live f.side.phase to_f) (shdlc_session_of f (shdlc_number_of f)) t) (λ k q. at k q h.f_live)
-          (shdlc_number_of f) refl;
-      n_past = let a : Below n.emitted n.past = rw waiting at h.n_past in below_more n.emitted (shdlc_number_of n + 1) n.past (omega arith) a;
-      f_past = h.f_past;
-      n_none = λ _. refl;
-      f_none = h.f_none;
-      n_due = refl;
-      f_due = h.f_due;
-      n_windows = record { own = windows.own; peer = windows.peer };
-      f_windows = h.f_windows;
-    }
-  where
-    at : (k : ℕ) → k ≡ shdlc_number_of f → OnLive (live f.side.phase to_f) (shdlc_session_of f (shdlc_number_of f)) (shdlc_session_of n (shdlc_number_of f))
-        → OnLive (live f.side.phase to_f) (shdlc_session_of f (shdlc_number_of f)) (shdlc_session_of n k)
-    at k q a = let P : ℕ → Type 0 = λ j. OnLive (live f.side.phase to_f) (shdlc_session_of f (shdlc_number_of f)) (shdlc_session_of n j) in subst P (sym q) a
+agrees_down : (p : LinkState) (P : Type 0) → Agrees None (live p []) P
+agrees_down Up P = tt
+agrees_down Waiting P = tt
+agrees_down Down P = tt
+
+module _ {kn kf : ℕ} {n f : NumberedShdlc} {to_n to_f : List OnWire} {r : ℕ} (h : Safe kn kf n f to_n to_f r) where
+  -- it goes on as it is, and a frame of a session on its way to it is passed over
+  pub safe_idle : {kn' : ℕ} {q : EndState} {to_n' : List OnWire} → (n.side.phase ≡ Up → ⊥) → Idle n.side q → live n.side.phase to_n' ≡ live n.side.phase to_n
+      → Hand kn' kf (peer_of (record n { side = q })) (peer_of f) to_n' to_f r → Safe kn' kf (record n { side = q }) f to_n' to_f r
+  safe_idle {q = q} {to_n'} no_up on lives hand =
+      let g : NumberedShdlc = record n { side = q } in
+      let no_up' : q.phase ≡ Up → ⊥ = λ e. no_up (sym on.phase ∙ e) in
+      let m : (P : ℕ → Session → Type 0) → ((k : ℕ) → P k (shdlc_session_of n k)) → (k : ℕ)
+      → P k (shdlc_session_of g k) = λ P all k. of_none P n g no_up no_up' refl all k in
+      record {
+        hand = hand;
+        n_base = m (λ k t. Base t (shdlc_session_of f k)) h.n_base;
+        f_base = m (λ k t. Base (shdlc_session_of f k) t) h.f_base;
+        n_live = live_to n.side.phase q.phase to_n' (shdlc_session_of g (shdlc_number_of n)) (shdlc_session_of f (shdlc_number_of n)) (sym on.phase)
+            (on_live_part (live n.side.phase to_n) (live n.side.phase to_n') (shdlc_session_of g (shdlc_number_of n))
+            (shdlc_session_of f (shdlc_number_of n)) lives
+            (at_number (λ t. OnLive (live n.side.phase to_n) t (shdlc_session_of f (shdlc_number_of n))) (shdlc_number_of n) g n m h.n_live));
+        f_live = at_number (λ t. OnLive (live f.side.phase to_f) (shdlc_session_of f (shdlc_number_of f)) t) (shdlc_number_of f) g n m h.f_live;
+        n_past = rw on.phase h.n_past;
+        f_past = h.f_past;
+        n_none = λ _. on.session;
+        f_none = h.f_none;
+        n_due = on.due ∙ h.n_due;
+        f_due = h.f_due;
+        n_windows = record { own = rw on.own h.n_windows.own; peer = rw on.peer h.n_windows.peer };
+        f_windows = h.f_windows;
+      }
+
+  -- it sends an RSET and waits
+  pub safe_asks : {e : EndState} {x : OnWire} {past : List (ℕ × Session)} → NothingIsOut to_n to_f → IsNextRset r x → HasWindows e → HaveEnded n past (r + 1)
+      → Safe 0 kf (record { side = waiting_end e; emitted = r + 1; took = n.took; past = past }) f to_n (to_f ++ x ∷ []) (r + 1)
+  safe_asks {e} {x} {past} out new windows ended =
+      let g : NumberedShdlc = record { side = waiting_end e; emitted = r + 1; took = n.took; past = past } in
+      let l : List OnWire = to_f ++ x ∷ [] in
+      record {
+        hand = hand_ask h.hand x out new;
+        n_base = ended.moves (λ k t. Base t (shdlc_session_of f k)) h.n_base;
+        f_base = ended.moves (λ k t. Base (shdlc_session_of f k) t) h.f_base;
+        n_live = on_live_part None (behind_ua to_n) (shdlc_session_of g (shdlc_number_of g)) (shdlc_session_of f (shdlc_number_of g)) (behind_none to_n out.no_ua) tt;
+        f_live = ended.moves (λ k t. k ≡ shdlc_number_of f → OnLive (live f.side.phase l) (shdlc_session_of f (shdlc_number_of f)) t)
+            (λ k q. at k q
+            (live_push_rset f.side.phase to_f x (shdlc_session_of f (shdlc_number_of f)) (shdlc_session_of n (shdlc_number_of f)) new.is out.no_rset h.f_live))
+            (shdlc_number_of f) refl;
+        n_past = ended.below;
+        f_past = h.f_past;
+        n_none = λ _. refl;
+        f_none = h.f_none;
+        n_due = refl;
+        f_due = h.f_due;
+        n_windows = record { own = windows.own; peer = windows.peer };
+        f_windows = h.f_windows;
+      }
+    where
+      at : (k : ℕ) → k ≡ shdlc_number_of f
+          → OnLive (live f.side.phase (to_f ++ x ∷ [])) (shdlc_session_of f (shdlc_number_of f)) (shdlc_session_of n (shdlc_number_of f))
+          → OnLive (live f.side.phase (to_f ++ x ∷ [])) (shdlc_session_of f (shdlc_number_of f)) (shdlc_session_of n k)
+      at k q a =
+          let P : ℕ → Type 0 = λ j. OnLive (live f.side.phase (to_f ++ x ∷ [])) (shdlc_session_of f (shdlc_number_of f)) (shdlc_session_of n j) in subst P (sym q) a
+
+  -- it waited, and gives up
+  pub safe_down : {e : EndState} → n.side.phase ≡ Waiting → NothingIsOut to_n to_f → 4 < n.side.timer + kn → HasWindows e
+      → Safe 0 kf (record n { side = record e { phase = Down; due = []; timer = 0; session = no_session } }) f to_n to_f r
+  safe_down waiting out late windows =
+      let move : Moves n n.past = moves_none n (not_up n.side.phase waiting) in
+      record {
+        hand = hand_down h.hand out late;
+        n_base = move (λ k t. Base t (shdlc_session_of f k)) h.n_base;
+        f_base = move (λ k t. Base (shdlc_session_of f k) t) h.f_base;
+        n_live = tt;
+        f_live = move (λ k t. k ≡ shdlc_number_of f → OnLive (live f.side.phase to_f) (shdlc_session_of f (shdlc_number_of f)) t) (λ k q. at k q h.f_live)
+            (shdlc_number_of f) refl;
+        n_past = let a : Below n.emitted n.past = rw waiting at h.n_past in below_more n.emitted (shdlc_number_of n + 1) n.past (omega arith) a;
+        f_past = h.f_past;
+        n_none = λ _. refl;
+        f_none = h.f_none;
+        n_due = refl;
+        f_due = h.f_due;
+        n_windows = record { own = windows.own; peer = windows.peer };
+        f_windows = h.f_windows;
+      }
+    where
+      at : (k : ℕ) → k ≡ shdlc_number_of f → OnLive (live f.side.phase to_f) (shdlc_session_of f (shdlc_number_of f)) (shdlc_session_of n (shdlc_number_of f))
+          → OnLive (live f.side.phase to_f) (shdlc_session_of f (shdlc_number_of f)) (shdlc_session_of n k)
+      at k q a = let P : ℕ → Type 0 = λ j. OnLive (live f.side.phase to_f) (shdlc_session_of f (shdlc_number_of f)) (shdlc_session_of n j) in subst P (sym q) a
+
+  -- it is Down, and nothing stands on either wire
+  pub safe_silent : {kn' : ℕ} {q : EndState} {past : List (ℕ × Session)} → q.due ≡ [] → HasWindows q → HaveEnded n past (shdlc_number_of n + 1)
+      → Safe kn' kf (record { side = record q { phase = Down; session = no_session }; emitted = n.emitted; took = n.took; past = past }) f [] [] r
+  safe_silent {kn'} {q} {past} due windows ended =
+      let g : NumberedShdlc = record { side = record q { phase = Down; session = no_session }; emitted = n.emitted; took = n.took; past = past } in
+      let base : (k : ℕ) → Base (shdlc_session_of f k) (shdlc_session_of g k) = ended.moves (λ k t. Base (shdlc_session_of f k) t) h.f_base in
+      record {
+        hand =
+            hand_empty kn' kf (peer_of g) (peer_of f) r h.hand.n_took h.hand.f_took h.hand.n_bound h.hand.f_bound
+            (agrees_down f.side.phase (shdlc_number_of g ≡ shdlc_number_of f));
+        n_base = ended.moves (λ k t. Base t (shdlc_session_of f k)) h.n_base;
+        f_base = base;
+        n_live = tt;
+        f_live = live_empty f.side.phase (shdlc_session_of f (shdlc_number_of f)) (shdlc_session_of g (shdlc_number_of f)) (base (shdlc_number_of f));
+        n_past = ended.below;
+        f_past = h.f_past;
+        n_none = λ _. refl;
+        f_none = h.f_none;
+        n_due = due;
+        f_due = h.f_due;
+        n_windows = record { own = windows.own; peer = windows.peer };
+        f_windows = h.f_windows;
+      }
 
 -- ## A session begins at the near end
 
 abbrev pub up_end : EndState → ℕ → EndState
 up_end e w = record e { phase = Up; due = []; timer = 0; tries = 0; session = new_session w }
+
+-- an end that is up in a new session with this window
+pub record IsNewlyUp (g : NumberedShdlc) (w : ℕ) : Type 0 where
+  pub up : g.side.phase ≡ Up
+  pub session : g.side.session ≡ new_session w
+  pub due : g.side.due ≡ []
+  pub windows : HasWindows g.side
+  pub fits : w ≤ 4
 
 on_live_begins : (o : Option (List OnWire)) (m : Session) (w : ℕ) → OnLive o m no_session → OnLive o m (new_session w)
 on_live_begins None m w h = tt
@@ -333,51 +385,49 @@ begins_at P g up all new k = go (k == shdlc_number_of g) refl
     go true q = rw (up, q) (rw (← eqb-true k (shdlc_number_of g) q) at new)
     go false q = rw (up, q) (all k)
 
-pub safe_begins : (kn kf : ℕ) (f g : NumberedShdlc) (w : ℕ) (to_n to_f : List OnWire) (r : ℕ)
-    → g.side.phase ≡ Up → g.side.session ≡ new_session w → g.side.due ≡ [] → HasWindows g.side → w ≤ 4
-    → Hand kn kf (peer_of g) (peer_of f) to_n to_f r
-    → ((k : ℕ) → Base (ended_session g.past k) (shdlc_session_of f k)) → ((k : ℕ) → Base (shdlc_session_of f k) (ended_session g.past k))
-    → Below (shdlc_number_of g) g.past → Below (bound f) f.past → ((f.side.phase ≡ Up → ⊥) → f.side.session ≡ no_session) → f.side.due ≡ [] → HasWindows f.side
-    → Active to_n no_session (shdlc_session_of f (shdlc_number_of g))
-    → OnLive (live f.side.phase to_f) (shdlc_session_of f (shdlc_number_of f)) (ended_session g.past (shdlc_number_of f))
-    → Safe kn kf g f to_n to_f r
-safe_begins kn kf f g w to_n to_f r up new due windows fits hand n_base f_base below f_past f_none f_due f_windows active there =
-    let gone : ended_session g.past (shdlc_number_of g) ≡ no_session = none_ended (shdlc_number_of g) (shdlc_number_of g) g.past (omega arith) below in
-    let mine : Base (new_session w) (shdlc_session_of f (shdlc_number_of g)) =
-    base_begins (shdlc_session_of f (shdlc_number_of g)) w fits (rw gone at (n_base (shdlc_number_of g))) in
-    let theirs : Base (shdlc_session_of f (shdlc_number_of g)) (new_session w) =
-    base_begins_there (shdlc_session_of f (shdlc_number_of g)) w (rw gone at (f_base (shdlc_number_of g))) in
-    record {
-      hand = hand;
-      n_base = begins_at (λ k t. Base t (shdlc_session_of f k)) g up n_base (rw new mine);
-      f_base = begins_at (λ k t. Base (shdlc_session_of f k) t) g up f_base (rw new theirs);
-      n_live = live_to Up g.side.phase to_n (shdlc_session_of g (shdlc_number_of g)) (shdlc_session_of f (shdlc_number_of g)) (sym up)
-          (on_live_same (Some to_n) (new_session w) (shdlc_session_of g (shdlc_number_of g)) (shdlc_session_of f (shdlc_number_of g))
-          (shdlc_session_of f (shdlc_number_of g))
-          (of_up g up ∙ new) refl
-          (record { marks = active.marks; shows = active.shows; places = active.places; counts = active.counts }));
-      f_live = begins_at (λ k t. k ≡ shdlc_number_of f → OnLive (live f.side.phase to_f) (shdlc_session_of f (shdlc_number_of f)) t) g up (λ k q. at k q there)
-          (λ q. rw new (on_live_begins (live f.side.phase to_f) (shdlc_session_of f (shdlc_number_of f)) w
-          (rw (sym (ap (ended_session g.past) q) ∙ gone) at there))) (shdlc_number_of f) refl;
-      n_past = rw up below;
-      f_past = f_past;
-      n_none = λ no. absurd (no up);
-      f_none = f_none;
-      n_due = due;
-      f_due = f_due;
-      n_windows = windows;
-      f_windows = f_windows;
-    }
-  where
-    at : (k : ℕ) → k ≡ shdlc_number_of f → OnLive (live f.side.phase to_f) (shdlc_session_of f (shdlc_number_of f)) (ended_session g.past (shdlc_number_of f))
-        → OnLive (live f.side.phase to_f) (shdlc_session_of f (shdlc_number_of f)) (ended_session g.past k)
-    at k q a = let P : ℕ → Type 0 = λ j. OnLive (live f.side.phase to_f) (shdlc_session_of f (shdlc_number_of f)) (ended_session g.past j) in subst P (sym q) a
+module _ {kn kf : ℕ} {n f : NumberedShdlc} {to_n to_f : List OnWire} {r : ℕ} (h : Safe kn kf n f to_n to_f r) where
+  pub safe_begins : {kn' kf' : ℕ} {g : NumberedShdlc} {w : ℕ} {to_n' to_f' : List OnWire} {r' : ℕ} → IsNewlyUp g w → HaveEnded n g.past (shdlc_number_of g)
+      → Hand kn' kf' (peer_of g) (peer_of f) to_n' to_f' r' → Active to_n' no_session (shdlc_session_of f (shdlc_number_of g))
+      → OnLive (live f.side.phase to_f') (shdlc_session_of f (shdlc_number_of f)) (ended_session g.past (shdlc_number_of f))
+      → Safe kn' kf' g f to_n' to_f' r'
+  safe_begins {g = g} {w} {to_n'} {to_f'} new ended hand active there =
+      let gone : ended_session g.past (shdlc_number_of g) ≡ no_session = none_ended (shdlc_number_of g) (shdlc_number_of g) g.past (omega arith) ended.below in
+      let n_base : (k : ℕ) → Base (ended_session g.past k) (shdlc_session_of f k) = ended.moves (λ k s. Base s (shdlc_session_of f k)) h.n_base in
+      let f_base : (k : ℕ) → Base (shdlc_session_of f k) (ended_session g.past k) = ended.moves (λ k s. Base (shdlc_session_of f k) s) h.f_base in
+      let mine : Base (new_session w) (shdlc_session_of f (shdlc_number_of g)) =
+      base_begins (shdlc_session_of f (shdlc_number_of g)) w new.fits (rw gone at (n_base (shdlc_number_of g))) in
+      let theirs : Base (shdlc_session_of f (shdlc_number_of g)) (new_session w) =
+      base_begins_there (shdlc_session_of f (shdlc_number_of g)) w (rw gone at (f_base (shdlc_number_of g))) in
+      record {
+        hand = hand;
+        n_base = begins_at (λ k t. Base t (shdlc_session_of f k)) g new.up n_base (rw new.session mine);
+        f_base = begins_at (λ k t. Base (shdlc_session_of f k) t) g new.up f_base (rw new.session theirs);
+        n_live = live_to Up g.side.phase to_n' (shdlc_session_of g (shdlc_number_of g)) (shdlc_session_of f (shdlc_number_of g)) (sym new.up)
+            (on_live_same (Some to_n') (new_session w) (shdlc_session_of g (shdlc_number_of g)) (shdlc_session_of f (shdlc_number_of g))
+            (shdlc_session_of f (shdlc_number_of g))
+            (of_up g new.up ∙ new.session) refl
+            (record { marks = active.marks; shows = active.shows; places = active.places; counts = active.counts }));
+        f_live = begins_at (λ k t. k ≡ shdlc_number_of f → OnLive (live f.side.phase to_f') (shdlc_session_of f (shdlc_number_of f)) t) g new.up (λ k q. at k q there)
+            (λ q. rw new.session (on_live_begins (live f.side.phase to_f') (shdlc_session_of f (shdlc_number_of f)) w
+            (rw (sym (ap (ended_session g.past) q) ∙ gone) at there))) (shdlc_number_of f) refl;
+        n_past = rw new.up ended.below;
+        f_past = h.f_past;
+        n_none = λ no. absurd (no new.up);
+        f_none = h.f_none;
+        n_due = new.due;
+        f_due = h.f_due;
+        n_windows = new.windows;
+        f_windows = h.f_windows;
+      }
+    where
+      at : (k : ℕ) → k ≡ shdlc_number_of f → OnLive (live f.side.phase to_f') (shdlc_session_of f (shdlc_number_of f)) (ended_session g.past (shdlc_number_of f))
+          → OnLive (live f.side.phase to_f') (shdlc_session_of f (shdlc_number_of f)) (ended_session g.past k)
+      at k q a = let P : ℕ → Type 0 = λ j. OnLive (live f.side.phase to_f') (shdlc_session_of f (shdlc_number_of f)) (ended_session g.past j) in subst P (sym q) a
 
 -- by the UA that it waited for
-pub safe_up_ua : (kn kf : ℕ) (n f : NumberedShdlc) (w : ℕ) (x : OnWire) (to_n to_f : List OnWire) (r : ℕ) → x.frame ≡ Ua → n.side.phase ≡ Waiting → w ≤ 4
-    → Safe kn kf n f (x ∷ to_n) to_f r → Safe kn kf (record n { side = up_end n.side w }) f to_n to_f r
-safe_up_ua kn kf n f w x to_n to_f r frame waiting fits h =
-    let g : NumberedShdlc = record n { side = up_end n.side w } in
+pub safe_up_ua : {kn kf : ℕ} {n f : NumberedShdlc} {x : OnWire} {to_n to_f : List OnWire} {r : ℕ} → Safe kn kf n f (x ∷ to_n) to_f r → (w : ℕ)
+    → x.frame ≡ Ua → n.side.phase ≡ Waiting → w ≤ 4 → Safe kn kf (record n { side = up_end n.side w }) f to_n to_f r
+safe_up_ua {n = n} {f} {x} {to_n} {to_f} h w frame waiting fits =
     let move : Moves n n.past = moves_none n (not_up n.side.phase waiting) in
     let early : Below n.emitted n.past = rw waiting at h.n_past in
     let below : Below (shdlc_number_of n) n.past = below_more n.emitted (shdlc_number_of n) n.past (omega arith) early in
@@ -389,9 +439,8 @@ safe_up_ua kn kf n f w x to_n to_f r frame waiting fits h =
     on_live_part (behind_ua (x ∷ to_n)) (Some to_n) (shdlc_session_of n (shdlc_number_of n)) (shdlc_session_of f (shdlc_number_of n)) (sym c) a in
     let d : OnLive (Some to_n) (ended_session n.past (shdlc_number_of n)) (shdlc_session_of f (shdlc_number_of n)) =
     move (λ k t. k ≡ shdlc_number_of n → OnLive (Some to_n) t (shdlc_session_of f (shdlc_number_of n))) (λ k q. at k q b) (shdlc_number_of n) refl in
-    safe_begins kn kf f g w to_n to_f r refl refl refl (record { own = h.n_windows.own; peer = h.n_windows.peer }) fits
-    (hand_up_ua kn kf (peer_of n) (peer_of f) x to_n to_f r frame h.hand)
-    (move (λ k t. Base t (shdlc_session_of f k)) h.n_base) (move (λ k t. Base (shdlc_session_of f k) t) h.f_base) below h.f_past h.f_none h.f_due h.f_windows
+    safe_begins h (record { up = refl; session = refl; due = refl; windows = record { own = h.n_windows.own; peer = h.n_windows.peer }; fits = fits })
+    (record { moves = move; below = below }) (hand_up_ua h.hand frame)
     (on_live_same (Some to_n) (ended_session n.past (shdlc_number_of n)) no_session (shdlc_session_of f (shdlc_number_of n))
     (shdlc_session_of f (shdlc_number_of n)) (sym gone) refl d)
     (move (λ k t. k ≡ shdlc_number_of f → OnLive (live f.side.phase to_f) (shdlc_session_of f (shdlc_number_of f)) t) (λ k q. there k q h.f_live)
@@ -405,79 +454,83 @@ safe_up_ua kn kf n f w x to_n to_f r frame waiting fits h =
         → OnLive (live f.side.phase to_f) (shdlc_session_of f (shdlc_number_of f)) (shdlc_session_of n k)
     there k q a = let P : ℕ → Type 0 = λ j. OnLive (live f.side.phase to_f) (shdlc_session_of f (shdlc_number_of f)) (shdlc_session_of n j) in subst P (sym q) a
 
--- by an RSET, which it answers by UA; where a session went on it has ended and is kept
-pub safe_up_rset : (n f : NumberedShdlc) (w v c : ℕ) (x y : OnWire) (past : List (ℕ × Session)) (to_n to_f : List OnWire) (r : ℕ) → x.frame ≡ Rset v c
-    → (n.side.phase ≡ Waiting → ⊥)
-    → y.frame ≡ Ua → y.age ≡ 0 → w ≤ 4 → Moves n past → Below f.emitted past
-    → Safe 0 0 n f (x ∷ to_n) to_f r
-    → Safe 0 0 (record { side = up_end n.side w; emitted = n.emitted; took = f.emitted; past = past }) f to_n (to_f ++ y ∷ []) r
-safe_up_rset n f w v c x y past to_n to_f r frame no_wait ua age fits move below h =
-    let g : NumberedShdlc = record { side = up_end n.side w; emitted = n.emitted; took = f.emitted; past = past } in
-    let t = rset_tells 0 (peer_of n) (peer_of f) x v c to_n to_f r frame h.hand in
-    let b : uas (x ∷ to_n) ≡ uas to_n = rw frame refl in
-    let mine = none_out 0 n.side.phase n.side.timer (rsets to_f) (uas (x ∷ to_n)) no_wait h.hand.n_out in
-    let gone : to_n ≡ [] = after_rset_empty to_n (sym b ∙ mine.1) t.6 in
-    let n_base : (k : ℕ) → Base (ended_session past k) (shdlc_session_of f k) = move (λ k s. Base s (shdlc_session_of f k)) h.n_base in
-    let f_base : (k : ℕ) → Base (shdlc_session_of f k) (ended_session past k) = move (λ k s. Base (shdlc_session_of f k) s) h.f_base in
-    let low : Below (shdlc_number_of g) past = below_more f.emitted (shdlc_number_of g) past (omega arith) below in
-    let none : ended_session past (shdlc_number_of g) ≡ no_session = none_ended (shdlc_number_of g) (shdlc_number_of g) past (omega arith) low in
-    let first : Base no_session (shdlc_session_of f (shdlc_number_of g)) = rw none at (n_base (shdlc_number_of g)) in
-    let act : Active to_n no_session (shdlc_session_of f (shdlc_number_of g)) =
-    rw gone (active_empty no_session (shdlc_session_of f (shdlc_number_of g)) first) in
-    safe_begins 0 0 f g w to_n (to_f ++ y ∷ []) r refl refl refl (record { own = h.n_windows.own; peer = h.n_windows.peer }) fits
-    (hand_up_rset (peer_of n) (peer_of f) x y v c to_n to_f r frame no_wait ua age h.hand)
-    n_base f_base low h.f_past h.f_none h.f_due h.f_windows act
-    (live_push_ua f.side.phase to_f y (shdlc_session_of f (shdlc_number_of f)) (ended_session past (shdlc_number_of f)) ua t.1 t.2 (f_base (shdlc_number_of f)))
+-- an end that waits goes on waiting as q, with no control frame due
+pub record WaitsOn (e q : EndState) : Type 0 where
+  pub was_waiting : e.phase ≡ Waiting
+  pub waiting : q.phase ≡ Waiting
+  pub timer : q.timer ≡ e.timer
+  pub session : q.session ≡ no_session
+  pub due : q.due ≡ []
+  pub windows : HasWindows q
 
--- an end that waits answers an RSET by UA, and goes on waiting
-pub safe_wait_rset : (n f : NumberedShdlc) (e : EndState) (v c : ℕ) (x y : OnWire) (to_n to_f : List OnWire) (r : ℕ) → x.frame ≡ Rset v c
-    → n.side.phase ≡ Waiting
-    → y.frame ≡ Ua → y.age ≡ 0 → e.phase ≡ Waiting → e.timer ≡ n.side.timer → e.session ≡ no_session → e.due ≡ [] → HasWindows e
-    → Safe 0 0 n f (x ∷ to_n) to_f r
-    → Safe 0 0 (record { side = e; emitted = n.emitted; took = f.emitted; past = n.past }) f to_n (to_f ++ y ∷ []) r
-safe_wait_rset n f e v c x y to_n to_f r frame waiting ua age ewait timer none due windows h =
-    let g : NumberedShdlc = record { side = e; emitted = n.emitted; took = f.emitted; past = n.past } in
-    let t = rset_tells 0 (peer_of n) (peer_of f) x v c to_n to_f r frame h.hand in
-    let no_up : e.phase ≡ Up → ⊥ = not_up e.phase ewait in
-    let m : (P : ℕ → Session → Type 0) → ((k : ℕ) → P k (shdlc_session_of n k)) → (k : ℕ) → P k (shdlc_session_of g k) =
-    λ P all k. of_none P n g (not_up n.side.phase waiting) no_up refl all k in
-    let n_base : (k : ℕ) → Base (shdlc_session_of g k) (shdlc_session_of f k) = m (λ k s. Base s (shdlc_session_of f k)) h.n_base in
-    let f_base : (k : ℕ) → Base (shdlc_session_of f k) (shdlc_session_of g k) = m (λ k s. Base (shdlc_session_of f k) s) h.f_base in
-    record {
-      hand = rw (ewait, timer) (hand_wait_rset (peer_of n) (peer_of f) x y v c to_n to_f r frame waiting ua age h.hand);
-      n_base = n_base;
-      f_base = f_base;
-      n_live =
-          live_after_rset e.phase to_n (shdlc_session_of g (shdlc_number_of g)) (shdlc_session_of f (shdlc_number_of g)) no_up t.6 (n_base (shdlc_number_of g));
-      f_live = live_push_ua f.side.phase to_f y (shdlc_session_of f (shdlc_number_of f)) (shdlc_session_of g (shdlc_number_of f)) ua t.1 t.2
-          (f_base (shdlc_number_of f));
-      n_past = let a : Below n.emitted n.past = rw waiting at h.n_past in rw ewait a;
-      f_past = h.f_past;
-      n_none = λ _. none;
-      f_none = h.f_none;
-      n_due = due;
-      f_due = h.f_due;
-      n_windows = windows;
-      f_windows = h.f_windows;
-    }
+-- the near end takes an RSET
+module _ {n f : NumberedShdlc} {x : OnWire} {to_n to_f : List OnWire} {r : ℕ} (is : IsRset x) (h : Safe 0 0 n f (x ∷ to_n) to_f r) where
+  -- by an RSET, which it answers by UA; where a session went on it has ended and is kept
+  pub safe_up_rset : {y : OnWire} {past : List (ℕ × Session)} (w : ℕ) → (n.side.phase ≡ Waiting → ⊥) → IsNewUa y → w ≤ 4 → HaveEnded n past f.emitted
+      → Safe 0 0 (record { side = up_end n.side w; emitted = n.emitted; took = f.emitted; past = past }) f to_n (to_f ++ y ∷ []) r
+  safe_up_rset {y} {past} w no_wait new fits ended =
+      let g : NumberedShdlc = record { side = up_end n.side w; emitted = n.emitted; took = f.emitted; past = past } in
+      let t = rset_told h.hand is in
+      let b : uas (x ∷ to_n) ≡ uas to_n = rw is.frame refl in
+      let mine = idle_out h.hand no_wait in
+      let gone : to_n ≡ [] = after_rset_empty to_n (sym b ∙ mine.no_ua) t.behind in
+      let n_base : (k : ℕ) → Base (ended_session past k) (shdlc_session_of f k) = ended.moves (λ k s. Base s (shdlc_session_of f k)) h.n_base in
+      let f_base : (k : ℕ) → Base (shdlc_session_of f k) (ended_session past k) = ended.moves (λ k s. Base (shdlc_session_of f k) s) h.f_base in
+      let low : Below (shdlc_number_of g) past = below_more f.emitted (shdlc_number_of g) past (omega arith) ended.below in
+      let none : ended_session past (shdlc_number_of g) ≡ no_session = none_ended (shdlc_number_of g) (shdlc_number_of g) past (omega arith) low in
+      let first : Base no_session (shdlc_session_of f (shdlc_number_of g)) = rw none at (n_base (shdlc_number_of g)) in
+      let act : Active to_n no_session (shdlc_session_of f (shdlc_number_of g)) =
+      rw gone (active_empty no_session (shdlc_session_of f (shdlc_number_of g)) first) in
+      safe_begins h (record { up = refl; session = refl; due = refl; windows = record { own = h.n_windows.own; peer = h.n_windows.peer }; fits = fits })
+      (record { moves = ended.moves; below = low }) (hand_up_rset is no_wait new h.hand) act
+      (live_push_ua f.side.phase to_f y (shdlc_session_of f (shdlc_number_of f)) (ended_session past (shdlc_number_of f)) new.frame t.out.no_ua t.waiting (f_base (shdlc_number_of f)))
+
+  -- an end that waits answers an RSET by UA, and goes on waiting
+  pub safe_wait_rset : {y : OnWire} {q : EndState} → WaitsOn n.side q → IsNewUa y
+      → Safe 0 0 (record { side = q; emitted = n.emitted; took = f.emitted; past = n.past }) f to_n (to_f ++ y ∷ []) r
+  safe_wait_rset {y} {q} on new =
+      let g : NumberedShdlc = record { side = q; emitted = n.emitted; took = f.emitted; past = n.past } in
+      let t = rset_told h.hand is in
+      let no_up : q.phase ≡ Up → ⊥ = not_up q.phase on.waiting in
+      let m : (P : ℕ → Session → Type 0) → ((k : ℕ) → P k (shdlc_session_of n k)) → (k : ℕ) → P k (shdlc_session_of g k) =
+      λ P all k. of_none P n g (not_up n.side.phase on.was_waiting) no_up refl all k in
+      let n_base : (k : ℕ) → Base (shdlc_session_of g k) (shdlc_session_of f k) = m (λ k s. Base s (shdlc_session_of f k)) h.n_base in
+      let f_base : (k : ℕ) → Base (shdlc_session_of f k) (shdlc_session_of g k) = m (λ k s. Base (shdlc_session_of f k) s) h.f_base in
+      record {
+        hand = rw (on.waiting, on.timer) (hand_wait_rset is on.was_waiting new h.hand);
+        n_base = n_base;
+        f_base = f_base;
+        n_live =
+            live_after_rset q.phase to_n (shdlc_session_of g (shdlc_number_of g)) (shdlc_session_of f (shdlc_number_of g)) no_up t.behind (n_base (shdlc_number_of g));
+        f_live = live_push_ua f.side.phase to_f y (shdlc_session_of f (shdlc_number_of f)) (shdlc_session_of g (shdlc_number_of f)) new.frame t.out.no_ua t.waiting
+            (f_base (shdlc_number_of f));
+        n_past = let a : Below n.emitted n.past = rw on.was_waiting at h.n_past in rw on.waiting a;
+        f_past = h.f_past;
+        n_none = λ _. on.session;
+        f_none = h.f_none;
+        n_due = on.due;
+        f_due = h.f_due;
+        n_windows = on.windows;
+        f_windows = h.f_windows;
+      }
 
 -- ## A frame is lost
 
 -- which frame it is
-pub frame_cases : (x : OnWire) → IsData x.frame ⊎ (((w : ℕ) × (c : ℕ) × (x.frame ≡ Rset w c)) ⊎ (x.frame ≡ Ua))
+pub frame_cases : (x : OnWire) → IsData x.frame ⊎ (IsRset x ⊎ (x.frame ≡ Ua))
 frame_cases x = go x.frame refl
   where
-    go : (c : Control) → x.frame ≡ c → IsData x.frame ⊎ (((w : ℕ) × (c : ℕ) × (x.frame ≡ Rset w c)) ⊎ (x.frame ≡ Ua))
+    go : (c : Control) → x.frame ≡ c → IsData x.frame ⊎ (IsRset x ⊎ (x.frame ≡ Ua))
     go (I _ _ _) e = inl (rw e tt)
     go (S _ _) e = inl (rw e tt)
-    go (Rset w c) e = inr (inl (w, c, e))
+    go (Rset w c) e = inr (inl (record { window = w; caps = c; frame = e }))
     go Ua e = inr (inr e)
     go (Act _ _) e = inl (rw e tt)
     go Clt e = inl (rw e tt)
 
 -- the first frame on its way to the near end
-pub safe_lose : (kn : ℕ) (n f : NumberedShdlc) (x : OnWire) (to_n to_f : List OnWire) (r : ℕ) → Safe kn 0 n f (x ∷ to_n) to_f r → Safe kn 0 n f to_n to_f r
-safe_lose kn n f x to_n to_f r h = go (frame_cases x)
+pub safe_lose : {kn : ℕ} {n f : NumberedShdlc} {x : OnWire} {to_n to_f : List OnWire} {r : ℕ} → Safe kn 0 n f (x ∷ to_n) to_f r → Safe kn 0 n f to_n to_f r
+safe_lose {kn} {n} {f} {x} {to_n} {to_f} {r} h = go (frame_cases x)
   where
     with : Hand kn 0 (peer_of n) (peer_of f) to_n to_f r
         → OnLive (live n.side.phase to_n) (shdlc_session_of n (shdlc_number_of n)) (shdlc_session_of f (shdlc_number_of n))
@@ -518,35 +571,35 @@ safe_lose kn n f x to_n to_f r h = go (frame_cases x)
         live_to Waiting n.side.phase to_n s t (sym e)
         (on_live_part (behind_ua (x ∷ to_n)) (behind_ua to_n) s t (sym (data_behind x.frame to_n (behind_ua to_n) d)) a)
 
-    rset_live : (w c : ℕ) → x.frame ≡ Rset w c → (p : LinkState) → n.side.phase ≡ p → OnLive (live n.side.phase to_n) s t
-    rset_live w c q Up e = up e
-    rset_live w c q Down e = live_to Down n.side.phase to_n s t (sym e) tt
-    rset_live w c q Waiting e =
-        live_after_rset n.side.phase to_n s t (not_up n.side.phase e) (rset_tells kn (peer_of n) (peer_of f) x w c to_n to_f r q h.hand).6
+    rset_live : IsRset x → (p : LinkState) → n.side.phase ≡ p → OnLive (live n.side.phase to_n) s t
+    rset_live is Up e = up e
+    rset_live is Down e = live_to Down n.side.phase to_n s t (sym e) tt
+    rset_live is Waiting e =
+        live_after_rset n.side.phase to_n s t (not_up n.side.phase e) (rset_told h.hand is).behind
         (h.n_base (shdlc_number_of n))
 
-    go : IsData x.frame ⊎ (((w : ℕ) × (c : ℕ) × (x.frame ≡ Rset w c)) ⊎ (x.frame ≡ Ua)) → Safe kn 0 n f to_n to_f r
-    go (inl d) = with (hand_past kn 0 (peer_of n) (peer_of f) x to_n to_f r d h.hand) (data_live d n.side.phase refl)
-    go (inr (inl q)) = with (hand_lose_rset kn (peer_of n) (peer_of f) x q.0 q.1 to_n to_f r q.2 h.hand) (rset_live q.0 q.1 q.2 n.side.phase refl)
+    go : IsData x.frame ⊎ (IsRset x ⊎ (x.frame ≡ Ua)) → Safe kn 0 n f to_n to_f r
+    go (inl d) = with (hand_past h.hand d) (data_live d n.side.phase refl)
+    go (inr (inl q)) = with (hand_lose_rset q h.hand) (rset_live q n.side.phase refl)
     go (inr (inr q)) =
         let b : uas (x ∷ to_n) ≡ x.age ∷ uas to_n = rw q refl in
         let out = one_ua kn n.side.phase n.side.timer x.age (rsets to_f) (uas to_n) (rw b at h.hand.n_out) in
-        with (hand_lose_ua kn 0 (peer_of n) (peer_of f) x to_n to_f r q h.hand)
+        with (hand_lose_ua h.hand q)
         (live_to Waiting n.side.phase to_n s t (sym out.2) (on_live_part None (behind_ua to_n) s t (behind_none to_n out.1) tt))
 
 -- an end that is Down takes an RSET, and stays as it is
-pub safe_ignore : (n f : NumberedShdlc) (x : OnWire) (v c : ℕ) (to_n to_f : List OnWire) (r : ℕ) → x.frame ≡ Rset v c → n.side.phase ≡ Down
-    → Safe 0 0 n f (x ∷ to_n) to_f r → Safe 0 0 (record n { took = f.emitted }) f to_n to_f r
-safe_ignore n f x v c to_n to_f r frame down h =
+pub safe_ignore : {n f : NumberedShdlc} {x : OnWire} {to_n to_f : List OnWire} {r : ℕ} → IsRset x → n.side.phase ≡ Down → Safe 0 0 n f (x ∷ to_n) to_f r
+    → Safe 0 0 (record n { took = f.emitted }) f to_n to_f r
+safe_ignore {n} {f} {x} {to_n} {to_f} {r} is down h =
     let g : NumberedShdlc = record n { took = f.emitted } in
-    let t = rset_tells 0 (peer_of n) (peer_of f) x v c to_n to_f r frame h.hand in
-    let s : Safe 0 0 n f to_n to_f r = safe_lose 0 n f x to_n to_f r h in
+    let t = rset_told h.hand is in
+    let s : Safe 0 0 n f to_n to_f r = safe_lose h in
     let no_up : n.side.phase ≡ Up → ⊥ = down_not_up n.side.phase down in
     let m : (P : ℕ → Session → Type 0) → ((k : ℕ) → P k (shdlc_session_of n k)) → (k : ℕ)
     → P k (shdlc_session_of g k) = λ P all k. of_none P n g no_up no_up refl all k in
     let early : Below (shdlc_number_of n + 1) n.past = rw down at s.n_past in
     record {
-      hand = hand_ignore 0 0 (peer_of n) (peer_of f) to_n to_f r down t.0 t.1 s.hand;
+      hand = hand_ignore s.hand down t.out;
       n_base = m (λ k t. Base t (shdlc_session_of f k)) s.n_base;
       f_base = m (λ k t. Base (shdlc_session_of f k) t) s.f_base;
       n_live = live_to Down n.side.phase to_n (shdlc_session_of g (shdlc_number_of g)) (shdlc_session_of f (shdlc_number_of g)) (sym down) tt;
@@ -562,11 +615,11 @@ safe_ignore n f x v c to_n to_f r frame down h =
     }
 
 -- all frames grow older
-pub safe_older : (n f : NumberedShdlc) (to_n to_f : List OnWire) (r : ℕ) → Young 4 (older to_n) → Young 4 (older to_f)
+pub safe_older : {n f : NumberedShdlc} {to_n to_f : List OnWire} {r : ℕ} → Young 4 (older to_n) → Young 4 (older to_f)
     → Safe 0 0 n f to_n to_f r → Safe 1 1 n f (older to_n) (older to_f) r
-safe_older n f to_n to_f r yn yf h =
+safe_older {n} {f} {to_n} {to_f} yn yf h =
     record {
-      hand = hand_older (peer_of n) (peer_of f) to_n to_f r yn yf h.hand;
+      hand = hand_older yn yf h.hand;
       n_base = h.n_base;
       f_base = h.f_base;
       n_live = part n.side.phase to_n (shdlc_session_of n (shdlc_number_of n)) (shdlc_session_of f (shdlc_number_of n)) h.n_live;
@@ -587,39 +640,3 @@ safe_older n f to_n to_f r yn yf h =
 
     part : (p : LinkState) (w : List OnWire) (s t : Session) → OnLive (live p w) s t → OnLive (live p (older w)) s t
     part p w s t g = on_live_part (older_part (live p w)) (live p (older w)) s t (live-older p w) (grown (live p w) s t g)
-
--- ## The near end is Down, and nothing stands on either wire
-
-pub live_empty : (p : LinkState) (mine theirs : Session) → Base mine theirs → OnLive (live p []) mine theirs
-live_empty Up mine theirs b = active_empty mine theirs b
-live_empty Waiting mine theirs b = tt
-live_empty Down mine theirs b = tt
-
-agrees_down : (p : LinkState) (P : Type 0) → Agrees None (live p []) P
-agrees_down Up P = tt
-agrees_down Waiting P = tt
-agrees_down Down P = tt
-
-pub safe_silent : (kn kn' kf : ℕ) (n f : NumberedShdlc) (q : EndState) (past : List (ℕ × Session)) (to_n to_f : List OnWire) (r : ℕ)
-    → q.due ≡ [] → HasWindows q → Moves n past → Below (shdlc_number_of n + 1) past → Safe kn kf n f to_n to_f r
-    → Safe kn' kf (record { side = record q { phase = Down; session = no_session }; emitted = n.emitted; took = n.took; past = past }) f [] [] r
-safe_silent kn kn' kf n f q past to_n to_f r due windows move below h =
-    let g : NumberedShdlc = record { side = record q { phase = Down; session = no_session }; emitted = n.emitted; took = n.took; past = past } in
-    let base : (k : ℕ) → Base (shdlc_session_of f k) (shdlc_session_of g k) = move (λ k t. Base (shdlc_session_of f k) t) h.f_base in
-    record {
-      hand =
-          hand_empty kn' kf (peer_of g) (peer_of f) r h.hand.n_took h.hand.f_took h.hand.n_bound h.hand.f_bound
-          (agrees_down f.side.phase (shdlc_number_of g ≡ shdlc_number_of f));
-      n_base = move (λ k t. Base t (shdlc_session_of f k)) h.n_base;
-      f_base = base;
-      n_live = tt;
-      f_live = live_empty f.side.phase (shdlc_session_of f (shdlc_number_of f)) (shdlc_session_of g (shdlc_number_of f)) (base (shdlc_number_of f));
-      n_past = below;
-      f_past = h.f_past;
-      n_none = λ _. refl;
-      f_none = h.f_none;
-      n_due = due;
-      f_due = h.f_due;
-      n_windows = record { own = windows.own; peer = windows.peer };
-      f_windows = h.f_windows;
-    }

@@ -17,10 +17,10 @@ use Rattle.link_laws.proofs.Joined.{fetch_cases, fragment_due_tells, changed}
 use Rattle.session_laws.specs.Sessions.{OnWire, NumberedShdlc, ShdlcLink, shdlc_number_of, shdlc_session_of, fits, shdlc_put, shdlc_put_all, with_shdlc_controller, shdlc_becomes, ShdlcTurn, shdlc_turn, shdlc_turned}
 use Rattle.session_laws.specs.Losses.{is_act, sans}
 use Rattle.session_laws.specs.Sessions.ShdlcTurn.{Offer, SetReady}
-use Rattle.session_laws.proofs.Wire.{IsData, rsets, uas, behind_ua, live, behind_push, behind_push_none, behind_rsets, data_not_ua}
-use Rattle.session_laws.proofs.Hand.{peer_of, none_out, hand_send, hand_timer}
-use Rattle.session_laws.proofs.Data.{Pair, pair_same, pair_put, Plain, pushed, pair_send, pair_send_S, IsAnswer}
-use Rattle.session_laws.proofs.Safe.{Safe, safe_swap, pair_from, safe_up, safe_idle, safe_lose}
+use Rattle.session_laws.proofs.Wire.{IsData, rsets, behind_ua, live, behind_push, behind_push_none, behind_rsets, data_not_ua}
+use Rattle.session_laws.proofs.Hand.{NothingIsOut, idle_out, hand_send, hand_timer}
+use Rattle.session_laws.proofs.Data.{Pair, pair_next, pair_put, Plain, pushed, pair_send, pair_send_S, IsAnswer}
+use Rattle.session_laws.proofs.Safe.{Safe, safe_swap, GoesOn, pair_from, safe_up, safe_idle, safe_lose}
 
 abbrev pub SafeAt : ℕ → ℕ → ShdlcLink → EndState → Type 0
 SafeAt kn kf l q = Safe kn kf (record l.controller { side = q }) l.host (sans l.to_controller) (sans l.to_host) l.resets
@@ -47,14 +47,14 @@ sans-push_act (y ∷ w) x q = go (is_act y.frame) refl (sans-push_act w x q)
     go false p more = rw p (ap (λ v. y ∷ v) more)
 
 -- a wire that is full loses its first frame
-pub fits_keeps : (kf : ℕ) (n f : NumberedShdlc) (to_n w : List OnWire) (r : ℕ) → Safe 0 kf n f to_n (sans w) r → Safe 0 kf n f to_n (sans (fits w)) r
-fits_keeps kf n f to_n w r h = go (nat_lt 64 (length w)) w h
+pub fits_keeps : {kf : ℕ} {n f : NumberedShdlc} {to_n : List OnWire} {r : ℕ} (w : List OnWire) → Safe 0 kf n f to_n (sans w) r → Safe 0 kf n f to_n (sans (fits w)) r
+fits_keeps {kf} {n} {f} {to_n} {r} w h = go (nat_lt 64 (length w)) w h
   where
     first : (x : OnWire) (xs : List OnWire) (b : Bool) → is_act x.frame ≡ b → Safe 0 kf n f to_n (sans (x ∷ xs)) r → Safe 0 kf n f to_n (sans xs) r
     first x xs true q g = rw q at g
     first x xs false q g =
         let k : Safe 0 kf n f to_n (x ∷ sans xs) r = rw q at g in
-        safe_swap kf 0 f n (sans xs) to_n r (safe_lose kf f n x (sans xs) to_n r (safe_swap 0 kf n f to_n (x ∷ sans xs) r k))
+        safe_swap (safe_lose (safe_swap k))
 
     go : (b : Bool) (v : List OnWire) → Safe 0 kf n f to_n (sans v) r → Safe 0 kf n f to_n (sans (cond b (drop 1 v) v)) r
     go false v g = g
@@ -62,10 +62,10 @@ fits_keeps kf n f to_n w r h = go (nat_lt 64 (length w)) w h
     go true (x ∷ xs) g = first x xs (is_act x.frame) refl g
 
 -- one frame more
-pub safe_fits : (kf : ℕ) (n f : NumberedShdlc) (to_n w : List OnWire) (x : OnWire) (r : ℕ) → is_act x.frame ≡ false → Safe 0 kf n f to_n (sans w ++ x ∷ []) r
-    → Safe 0 kf n f to_n (sans (fits (w ++ x ∷ []))) r
-safe_fits kf n f to_n w x r q h =
-    fits_keeps kf n f to_n (w ++ x ∷ []) r (let P : List OnWire → Type 0 = λ v. Safe 0 kf n f to_n v r in subst P (sym (sans-push w x q)) h)
+pub safe_fits : {kf : ℕ} {n f : NumberedShdlc} {to_n : List OnWire} {r : ℕ} (w : List OnWire) (x : OnWire) → is_act x.frame ≡ false
+    → Safe 0 kf n f to_n (sans w ++ x ∷ []) r → Safe 0 kf n f to_n (sans (fits (w ++ x ∷ []))) r
+safe_fits {kf} {n} {f} {to_n} {r} w x q h =
+    fits_keeps (w ++ x ∷ []) (let P : List OnWire → Type 0 = λ v. Safe 0 kf n f to_n v r in subst P (sym (sans-push w x q)) h)
 
 pub live-push : (p : LinkState) (w : List OnWire) (x : OnWire) → IsData x.frame → live p (w ++ x ∷ []) ≡ pushed (live p w) x
 live-push Up w x d = refl
@@ -85,45 +85,32 @@ plain_live Waiting w e = go (behind_ua w) refl
     go None q = rw q tt
     go (Some ys) q = rw q (sym (behind_rsets w ys q).0 ∙ e)
 
-pub no_rset_out : (k : ℕ) (n f : NumberedShdlc) (to_n to_f : List OnWire) (r kf : ℕ) → n.side.phase ≡ Up → Safe k kf n f to_n to_f r
-    → (rsets to_f ≡ []) × (uas to_n ≡ [])
-no_rset_out k n f to_n to_f r kf up h = none_out k n.side.phase n.side.timer (rsets to_f) (uas to_n) (λ w. let e = sym up ∙ w in cc) h.hand.n_out
+pub no_rset_out : {kn kf : ℕ} {n f : NumberedShdlc} {to_n to_f : List OnWire} {r : ℕ} → Safe kn kf n f to_n to_f r → n.side.phase ≡ Up → NothingIsOut to_n to_f
+no_rset_out h up = idle_out h.hand (λ w. let e = sym up ∙ w in cc)
 
-pub pair_part : (s t : Session) (here : List OnWire) (o p : Option (List OnWire)) → p ≡ o → Pair s t here o → Pair s t here p
-pair_part s t here o p e h = rw e h
+pub pair_part : {s t : Session} {here : List OnWire} {o p : Option (List OnWire)} → p ≡ o → Pair s t here o → Pair s t here p
+pair_part e h = rw e h
 
 -- an answer of an end that is Up
-pub safe_answer : (kf : ℕ) (n f : NumberedShdlc) (k : Kind) (to_n to_f : List OnWire) (r : ℕ) → n.side.phase ≡ Up → Safe 0 kf n f to_n to_f r
+pub safe_answer : {kf : ℕ} {n f : NumberedShdlc} {to_n to_f : List OnWire} {r : ℕ} (k : Kind) → n.side.phase ≡ Up → Safe 0 kf n f to_n to_f r
     → Safe 0 kf n f to_n (to_f ++ record { frame = S k (expected n.side.session); age = 0; number = 0 } ∷ []) r
-safe_answer kf n f k to_n to_f r up h =
+safe_answer {n = n} {f} {to_f = to_f} k up h =
     let x : OnWire = record { frame = S k (expected n.side.session); age = 0; number = 0 } in
-    let none = (no_rset_out 0 n f to_n to_f r kf up h).0 in
-    safe_up 0 0 kf n f n.side to_n to_f to_n (to_f ++ x ∷ []) r up up h.n_due refl refl
-    (hand_send 0 kf (peer_of n) (peer_of f) x to_n to_f r up tt refl h.hand)
-    (pair_part n.side.session (shdlc_session_of f (shdlc_number_of n)) to_n (pushed (live f.side.phase to_f) x) (live f.side.phase (to_f ++ x ∷ []))
-    (live-push f.side.phase to_f x tt)
-    (pair_send_S n.side.session (shdlc_session_of f (shdlc_number_of n)) x k to_n (live f.side.phase to_f) refl (plain_live f.side.phase to_f none)
-    (pair_from 0 kf n f to_n to_f r up h)))
-    h
+    safe_up h (record { was_up = up; up = up; due = h.n_due; own = refl; peer = refl }) (hand_send h.hand x up tt refl)
+    (pair_part (live-push f.side.phase to_f x tt) (pair_send_S x refl (plain_live f.side.phase to_f (no_rset_out h up).no_rset) (pair_from h up)))
 
 -- a fragment of an end that is Up
-pub safe_fragment : (kf : ℕ) (n f : NumberedShdlc) (info : Fragment) (to_n to_f : List OnWire) (r : ℕ) → n.side.phase ≡ Up
-    → fragment_due n.side.session ≡ Some info
+pub safe_fragment : {kf : ℕ} {n f : NumberedShdlc} {to_n to_f : List OnWire} {r : ℕ} {info : Fragment} → n.side.phase ≡ Up → fragment_due n.side.session ≡ Some info
     → Safe 0 kf n f to_n to_f r
     → Safe 0 kf (record n { side = record n.side { session = sent_next n.side.session } }) f to_n
     (to_f ++ record { frame = I (n.side.session.next % 8) (expected n.side.session) info; age = 0; number = 0 } ∷ []) r
-safe_fragment kf n f info to_n to_f r up is h =
+safe_fragment {n = n} {f} {to_f = to_f} {info = info} up is h =
     let s = n.side.session in
     let x : OnWire = record { frame = I (s.next % 8) (expected s) info; age = 0; number = 0 } in
-    let none = (no_rset_out 0 n f to_n to_f r kf up h).0 in
     let tells = fragment_due_tells s info is in
-    safe_up 0 0 kf n f (record n.side { session = sent_next s }) to_n to_f to_n (to_f ++ x ∷ []) r up up h.n_due refl refl
-    (hand_send 0 kf (peer_of n) (peer_of f) x to_n to_f r up tt refl h.hand)
-    (pair_part (sent_next s) (shdlc_session_of f (shdlc_number_of n)) to_n (pushed (live f.side.phase to_f) x) (live f.side.phase (to_f ++ x ∷ []))
-    (live-push f.side.phase to_f x tt)
-    (pair_send s (shdlc_session_of f (shdlc_number_of n)) x info to_n (live f.side.phase to_f) tells.0 tells.1 refl (plain_live f.side.phase to_f none)
-    (pair_from 0 kf n f to_n to_f r up h)))
-    h
+    safe_up h (record { was_up = up; up = up; due = h.n_due; own = refl; peer = refl }) (hand_send h.hand x up tt refl)
+    (pair_part (live-push f.side.phase to_f x tt)
+    (pair_send x tells.0 tells.1 refl (plain_live f.side.phase to_f (no_rset_out h up).no_rset) (pair_from h up)))
 
 -- what each frame that is due keeps, as the end sends it, all of them keep
 pub sends_keeps : (P : EndState → ShdlcLink → Type 0)
@@ -162,28 +149,23 @@ safe_drains kf m q l h = sends_keeps (λ e v. SafeAt 0 kf v e) each m q l h
         let frame : Control = I (e.session.next % 8) (expected e.session) info in
         let same : frame ≡ c = cc in
         let a : SafeAt 0 kf (shdlc_put v frame) (record e { session = sent_next e.session }) =
-        safe_fits kf (record v.controller { side = record e { session = sent_next e.session } }) v.host (sans v.to_controller)
-        v.to_host (record { frame = frame; age = 0; number = 0 }) v.resets refl
-        (safe_fragment kf (record v.controller { side = e }) v.host info (sans v.to_controller) (sans v.to_host) v.resets (is_up e info g.n_none q) q g) in
+        safe_fits v.to_host (record { frame = frame; age = 0; number = 0 }) refl (safe_fragment (is_up e info g.n_none q) q g) in
         let P : Control → Type 0 = λ k. SafeAt 0 kf (shdlc_put v k) (record e { session = sent_next e.session }) in
         subst P same a)
         is
 
-pub up_step : (kn kf : ℕ) (l : ShdlcLink) (q : EndState) → l.controller.side.phase ≡ Up → q.phase ≡ Up → q.due ≡ []
-    → q.own_window ≡ l.controller.side.own_window
-    → q.peer_window ≡ l.controller.side.peer_window
+pub up_step : {kn kf : ℕ} (l : ShdlcLink) {q : EndState} → GoesOn l.controller.side q
     → Pair q.session (shdlc_session_of l.host (shdlc_number_of l.controller)) (sans l.to_controller) (live l.host.side.phase (sans l.to_host))
     → SafeLink kn kf l → SafeAt 0 kf l q
-up_step kn kf l q up qup due own peer pair h =
-    safe_up kn 0 kf l.controller l.host q (sans l.to_controller) (sans l.to_host) (sans l.to_controller) (sans l.to_host) l.resets up qup due own peer
-    (hand_timer kn 0 kf (peer_of l.controller) (peer_of (record l.controller { side = q })) (peer_of l.host) (sans l.to_controller) (sans l.to_host)
-    l.resets (qup ∙ sym up) refl refl
-    (λ w. absurd (let e = sym up ∙ w in let f : Up ≡ Waiting = e in cc)) h.hand)
-    pair h
-
-pub pair_now : (kn kf : ℕ) (l : ShdlcLink) → l.controller.side.phase ≡ Up → SafeLink kn kf l
-    → Pair l.controller.side.session (shdlc_session_of l.host (shdlc_number_of l.controller)) (sans l.to_controller) (live l.host.side.phase (sans l.to_host))
-pair_now kn kf l up h = pair_from kn kf l.controller l.host (sans l.to_controller) (sans l.to_host) l.resets up h
+up_step l on pair h =
+    safe_up h on
+    (hand_timer h.hand (record {
+      phase = on.up ∙ sym on.was_up;
+      emitted = refl;
+      took = refl;
+      timer = λ w. absurd (let e = sym on.was_up ∙ w in let f : Up ≡ Waiting = e in cc);
+    }))
+    pair
 
 -- it becomes ready or not ready
 pub ready_by : (P : EndState → Type 0) (e : EndState) (r : Bool) → (e.phase ≡ Up → ⊥) ⊎ (e.phase ≡ Up) → ((e.phase ≡ Up → ⊥) → e.session ≡ no_session)
@@ -212,10 +194,7 @@ phase_known Down = inl (λ e. cc)
 
 -- an answer goes out
 pub put_answer : (kf : ℕ) (l : ShdlcLink) (e : EndState) (k : Kind) → e.phase ≡ Up → SafeAt 0 kf l e → SafeAt 0 kf (shdlc_put l (S k (expected e.session))) e
-put_answer kf l e k up h =
-    safe_fits kf (record l.controller { side = e }) l.host (sans l.to_controller) l.to_host
-    (record { frame = S k (expected e.session); age = 0; number = 0 }) l.resets refl
-    (safe_answer kf (record l.controller { side = e }) l.host k (sans l.to_controller) (sans l.to_host) l.resets up h)
+put_answer kf l e k up h = safe_fits l.to_host (record { frame = S k (expected e.session); age = 0; number = 0 }) refl (safe_answer k up h)
 
 -- ## Turns, and then all that is due goes out
 
@@ -250,9 +229,7 @@ put_all-append l (c ∷ cs) ds = put_all-append (shdlc_put l c) cs ds
 pub offer_at : (kf : ℕ) (l : ShdlcLink) (fragments : List Fragment) → l.controller.side.phase ≡ Up → SafeLink 0 kf l
     → SafeAt 0 kf l (put_out l.controller.side fragments)
 offer_at kf l fragments q h =
-    up_step 0 kf l (put_out l.controller.side fragments) q q h.n_due refl refl
-    (pair_put l.controller.side.session (shdlc_session_of l.host (shdlc_number_of l.controller)) fragments (sans l.to_controller)
-    (live l.host.side.phase (sans l.to_host)) (pair_now 0 kf l q h)) h
+    up_step l (record { was_up = q; up = q; due = h.n_due; own = refl; peer = refl }) (pair_put fragments (pair_from h q)) h
 
 pub ready_at : (kf : ℕ) (l : ShdlcLink) (r : Bool) → SafeLink 0 kf l → SafeAt 0 kf l (changed l.controller.side r l.controller.side.due)
 ready_at kf l r h = other (phase_known e.phase)
@@ -262,14 +239,11 @@ ready_at kf l r h = other (phase_known e.phase)
 
     other : (e.phase ≡ Up → ⊥) ⊎ (e.phase ≡ Up) → SafeAt 0 kf l (changed e r e.due)
     other (inr up) =
-        up_step 0 kf l (changed e r e.due) up up h.n_due refl refl
-        (pair_same e.session (changed e r e.due).session (shdlc_session_of l.host (shdlc_number_of l.controller)) (sans l.to_controller)
-        (live l.host.side.phase (sans l.to_host))
-        refl refl refl refl refl refl (pair_now 0 kf l up h)) h
+        let p = pair_from h up in
+        up_step l (record { was_up = up; up = up; due = h.n_due; own = refl; peer = refl }) (pair_next p.mine.from p.mine.sent refl p) h
     other (inl no_up) =
-        safe_idle 0 0 kf l.controller l.host (changed e r e.due) (sans l.to_controller) (sans l.to_host) (sans l.to_controller) l.resets no_up refl
-        h.n_due refl refl
-        (ap (λ (s : Session). record s { answered_rnr = false }) (h.n_none no_up)) refl h.hand h
+        let none = ap (λ (s : Session). record s { answered_rnr = false }) (h.n_none no_up) in
+        safe_idle h no_up (record { phase = refl; due = refl; session = none; own = refl; peer = refl }) refl h.hand
 
 pub turn_pending : (kf : ℕ) (l : ShdlcLink) (e : EndState) (t : ShdlcTurn) → Pending kf l e → Pending kf l (shdlc_turn e t)
 turn_pending kf l e (Offer fragments) h = go e.phase refl

@@ -17,51 +17,60 @@ use Rattle.swp_base.specs.declared.control_frames.Act.{Act as Activation}
 use Rattle.session_laws.specs.Sessions.ShdlcEndEvent.{Turns, Deliver, Ignore, Acts, Lose, Reset, Cut, Stop}
 use Rattle.session_laws.specs.Sessions.ShdlcLinkEvent.{AtController, AtHost, Tick, TickWithout}
 use Rattle.session_laws.proofs.Wire.{IsData, rsets, uas, behind_ua, live, Young, data_behind, young_later, young_older}
-use Rattle.session_laws.proofs.Hand.{peer_of, hand_empty, agrees_from, none_out, rset_tells, ahead_not_waiting, hand_past, hand_timer, nothing_out}
-use Rattle.session_laws.proofs.Data.{Base, Below, below_more, none_ended, bound, OnLive, Pair, pair_again, IsAnswer, taken_up}
-use Rattle.session_laws.proofs.Safe.{HasWindows, Safe, agreed, safe_swap, pair_from, safe_up, safe_idle, Moves, moves_end, moves_none, waiting_end, safe_asks, safe_down, up_end, safe_up_ua, safe_up_rset, safe_wait_rset, frame_cases, safe_lose, safe_ignore, safe_older, live_empty, safe_silent}
-use Rattle.session_laws.proofs.Sending.{SafeAt, SafeLink, sans-push_act, fits_keeps, safe_fits, no_rset_out, up_step, pair_now, becomes_none, becomes_one, becomes_taken}
+use Rattle.session_laws.proofs.Hand.{peer_of, NothingIsOut, IsRset, IsNextRset, hand_empty, agrees_from, idle_out, rset_told, ahead_not_waiting, hand_past, hand_timer, nothing_out}
+use Rattle.session_laws.proofs.Data.{Base, Below, below_more, none_ended, bound, OnLive, Pair, pair_next, IsAnswer, taken_up}
+use Rattle.session_laws.proofs.Safe.{HasWindows, Safe, agreed, safe_swap, pair_from, safe_up, safe_idle, Idle, HaveEnded, moves_end, moves_none, waiting_end, safe_asks, safe_down, up_end, safe_up_ua, safe_up_rset, WaitsOn, safe_wait_rset, frame_cases, safe_lose, safe_ignore, safe_older, live_empty, safe_silent}
+use Rattle.session_laws.proofs.Sending.{SafeAt, SafeLink, sans-push_act, fits_keeps, safe_fits, no_rset_out, up_step, becomes_none, becomes_one, becomes_taken}
 
 -- ## It sends an RSET and waits
 
 -- the link after the RSET of an end that has become e
-put_rset : (kn kf : ℕ) (l : ShdlcLink) (e : EndState) (past : List (ℕ × Session)) → rsets (sans l.to_host) ≡ [] → uas (sans l.to_controller) ≡ [] → HasWindows e
-    → Moves l.controller past → Below (l.resets + 1) past → SafeLink kn kf l
+put_rset : {kn kf : ℕ} (l : ShdlcLink) {e : EndState} {past : List (ℕ × Session)} → NothingIsOut (sans l.to_controller) (sans l.to_host) → HasWindows e
+    → HaveEnded l.controller past (l.resets + 1) → SafeLink kn kf l
     → SafeAt 0 kf (shdlc_put (record l { controller = record l.controller { past = past } }) (Rset e.own_window 0)) (waiting_end e)
-put_rset kn kf l e past none empty windows move below h =
+put_rset l {e} out windows ended h =
     let x : OnWire = record { frame = Rset e.own_window 0; age = 0; number = l.resets + 1 } in
-    safe_fits kf (record { side = waiting_end e; emitted = l.resets + 1; took = l.controller.took; past = past }) l.host (sans l.to_controller)
-    l.to_host x (l.resets + 1) refl
-    (safe_asks kn kf l.controller l.host e x e.own_window 0 past (sans l.to_controller) (sans l.to_host) l.resets none empty refl windows.own.0 refl
-    refl windows move below h)
+    let new : IsNextRset l.resets x =
+    record { is = record { window = e.own_window; caps = 0; frame = refl }; wide = windows.own.0; age = refl; number = refl } in
+    safe_fits l.to_host x refl (safe_asks h out new windows ended)
 
--- a session that goes on has a number below that of the next RSET
-ended_below : (kn kf : ℕ) (l : ShdlcLink) → l.controller.side.phase ≡ Up → SafeLink kn kf l
-    → Below (l.resets + 1) ((shdlc_number_of l.controller, l.controller.side.session) ∷ l.controller.past)
-ended_below kn kf l up h =
+-- a session that goes on ends with a number below that of the next RSET
+ended_below : {kn kf : ℕ} (l : ShdlcLink) → l.controller.side.phase ≡ Up → SafeLink kn kf l
+    → HaveEnded l.controller ((shdlc_number_of l.controller, l.controller.side.session) ∷ l.controller.past) (l.resets + 1)
+ended_below l up h =
     let a : Below (shdlc_number_of l.controller) l.controller.past = rw up at h.n_past in
     let low : shdlc_number_of l.controller ≤ l.resets = omega (arith, h.hand.n_bound, h.hand.n_took, h.hand.f_bound) in
-    (omega arith, below_more (shdlc_number_of l.controller) (l.resets + 1) l.controller.past (omega arith) a)
+    record {
+      moves = moves_end l.controller up;
+      below = (omega arith, below_more (shdlc_number_of l.controller) (l.resets + 1) l.controller.past (omega arith) a);
+    }
 
-up_asks : (kn kf : ℕ) (ts : List ShdlcTurn) (l : ShdlcLink) (e : EndState)
+up_asks : {kn kf : ℕ} (ts : List ShdlcTurn) (l : ShdlcLink) (e : EndState)
     → l.controller.side.phase ≡ Up → e.phase ≡ Up → e.due ≡ [] → HasWindows (waiting_from e) → SafeLink kn kf l
     → SafeLink 0 kf (shdlc_becomes (with_shdlc_ended l true) (shdlc_turned (waiting_from e) ts))
-up_asks kn kf ts l e up eup due windows h =
-    let out = no_rset_out kn l.controller l.host (sans l.to_controller) (sans l.to_host) l.resets kf up h in
+up_asks {kf = kf} ts l e up eup due windows h =
     let is : (waiting_from e).due ≡ Rset_due ∷ [] = rw eup refl in
     becomes_one kf ts (with_shdlc_ended l true) (waiting_from e) Rset_due is
-    (put_rset kn kf l (waiting_from e) ((shdlc_number_of l.controller, l.controller.side.session) ∷ l.controller.past) out.0 out.1 windows
-    (moves_end l.controller up) (ended_below kn kf l up h) h)
+    (put_rset l (no_rset_out h up) windows (ended_below l up h) h)
 
-past_below : (l : ShdlcLink) → l.controller.side.phase ≡ Waiting → (kn kf : ℕ) → SafeLink kn kf l → Below (l.resets + 1) l.controller.past
-past_below l waiting kn kf h =
+past_below : {kn kf : ℕ} (l : ShdlcLink) → l.controller.side.phase ≡ Waiting → SafeLink kn kf l
+    → HaveEnded l.controller l.controller.past (l.resets + 1)
+past_below l waiting h =
     let a : Below l.controller.emitted l.controller.past = rw waiting at h.n_past in
-    below_more l.controller.emitted (l.resets + 1) l.controller.past (omega (arith, h.hand.n_bound)) a
+    record {
+      moves = moves_none l.controller (λ u. let g = sym waiting ∙ u in cc);
+      below = below_more l.controller.emitted (l.resets + 1) l.controller.past (omega (arith, h.hand.n_bound)) a;
+    }
 
-past_below_down : (l : ShdlcLink) → l.controller.side.phase ≡ Down → (kn kf : ℕ) → SafeLink kn kf l → Below (l.resets + 1) l.controller.past
-past_below_down l down kn kf h =
+past_below_down : {kn kf : ℕ} (l : ShdlcLink) → l.controller.side.phase ≡ Down → SafeLink kn kf l
+    → HaveEnded l.controller l.controller.past (l.resets + 1)
+past_below_down l down h =
     let a : Below (shdlc_number_of l.controller + 1) l.controller.past = rw down at h.n_past in
-    below_more (shdlc_number_of l.controller + 1) (l.resets + 1) l.controller.past (omega (arith, h.hand.n_bound, h.hand.n_took, h.hand.f_bound)) a
+    let low : shdlc_number_of l.controller ≤ l.resets = omega (arith, h.hand.n_bound, h.hand.n_took, h.hand.f_bound) in
+    record {
+      moves = moves_none l.controller (λ u. let g = sym down ∙ u in cc);
+      below = below_more (shdlc_number_of l.controller + 1) (l.resets + 1) l.controller.past (omega arith) a;
+    }
 
 resets : (kf : ℕ) (ts : List ShdlcTurn) (l : ShdlcLink) (w : ℕ) → (0 < w) × (w ≤ 4) → SafeLink 0 kf l
     → SafeLink 0 kf (shdlc_happens_at_controller l (Reset w ts))
@@ -82,15 +91,12 @@ resets kf ts l w ok h = go l.controller.side.phase refl
 
     go : (p : LinkState) → l.controller.side.phase ≡ p → SafeLink 0 kf (shdlc_happens_at_controller l (Reset w ts))
     go Waiting q = by_parts false l.controller.side (rw q refl) (rw q refl) (becomes_none kf ts l l.controller.side h)
-    go Up q = by_parts true (waiting_from e) (rw q refl) (rw q refl) (up_asks 0 kf ts l e q q h.n_due windows h)
+    go Up q = by_parts true (waiting_from e) (rw q refl) (rw q refl) (up_asks ts l e q q h.n_due windows h)
     go Down q =
-        let out = none_out 0 l.controller.side.phase l.controller.side.timer (rsets (sans l.to_host)) (uas (sans l.to_controller))
-        (λ v. let g = sym q ∙ v in cc) h.hand.n_out in
+        let out = idle_out h.hand (λ v. let g = sym q ∙ v in cc) in
         let due : (waiting_from e).due ≡ Rset_due ∷ [] = rw (q, h.n_due) refl in
         by_parts false (waiting_from e) (rw q refl) (rw q refl)
-        (becomes_one kf ts l (waiting_from e) Rset_due due
-        (put_rset 0 kf l (waiting_from e) l.controller.past out.0 out.1 windows (moves_none l.controller (λ v. let g = sym q ∙ v in cc))
-        (past_below_down l q 0 kf h) h))
+        (becomes_one kf ts l (waiting_from e) Rset_due due (put_rset l out windows (past_below_down l q h) h))
 
 -- ## It is Down, and nothing stands on either wire
 
@@ -101,28 +107,25 @@ silences kn kf l q down none due windows h = go l.controller.side.phase refl
     is : record q { phase = Down; session = no_session } ≡ q
     is = rw (← down, ← none) refl
 
-    made : (past : List (ℕ × Session)) → Moves l.controller past → Below (shdlc_number_of l.controller + 1) past
+    made : {past : List (ℕ × Session)} → HaveEnded l.controller past (shdlc_number_of l.controller + 1)
         → Safe 0 kf (record { side = q; emitted = l.controller.emitted; took = l.controller.took; past = past }) l.host [] [] l.resets
-    made past move below =
+    made {past} ended =
         let P : EndState → Type 0 = λ v. Safe 0 kf (record { side = v; emitted = l.controller.emitted; took = l.controller.took; past = past }) l.host
         [] [] l.resets in
-        subst P is (safe_silent kn 0 kf l.controller l.host q past (sans l.to_controller) (sans l.to_host) l.resets due windows move below h)
+        subst P is (safe_silent h due windows ended)
 
     go : (p : LinkState) → l.controller.side.phase ≡ p → SafeLink 0 kf (shdlc_silent l q)
     go Up e =
         let a : Below (shdlc_number_of l.controller) l.controller.past = rw e at h.n_past in
-        let s = made ((shdlc_number_of l.controller, l.controller.side.session) ∷ l.controller.past) (moves_end l.controller e)
-        (omega arith, below_more (shdlc_number_of l.controller) (shdlc_number_of l.controller + 1) l.controller.past (omega arith) a) in
-        rw e s
+        let below = below_more (shdlc_number_of l.controller) (shdlc_number_of l.controller + 1) l.controller.past (omega arith) a in
+        rw e (made (record { moves = moves_end l.controller e; below = (omega arith, below) }))
     go Waiting e =
         let a : Below l.controller.emitted l.controller.past = rw e at h.n_past in
-        let s = made l.controller.past (moves_none l.controller (λ u. let g = sym e ∙ u in cc))
-        (below_more l.controller.emitted (shdlc_number_of l.controller + 1) l.controller.past (omega arith) a) in
-        rw e s
+        let below = below_more l.controller.emitted (shdlc_number_of l.controller + 1) l.controller.past (omega arith) a in
+        rw e (made (record { moves = moves_none l.controller (λ u. let g = sym e ∙ u in cc); below = below }))
     go Down e =
         let a : Below (shdlc_number_of l.controller + 1) l.controller.past = rw e at h.n_past in
-        let s = made l.controller.past (moves_none l.controller (λ u. let g = sym e ∙ u in cc)) a in
-        rw e s
+        rw e (made (record { moves = moves_none l.controller (λ u. let g = sym e ∙ u in cc); below = a }))
 
 cuts : (kn kf : ℕ) (l : ShdlcLink) → SafeLink kn kf l → SafeLink 0 kf (shdlc_silent l (new_end 4))
 cuts kn kf l h =
@@ -148,74 +151,66 @@ ticks kf ts l h = go e.phase (runs_timer e.session) (nat_lt (e.timer + 1) 10) (n
     up : (q : EndState) → e.phase ≡ Up → q.phase ≡ Up → q.due ≡ e.due → q.own_window ≡ e.own_window → q.peer_window ≡ e.peer_window
         → Pair q.session (shdlc_session_of l.host (shdlc_number_of l.controller)) (sans l.to_controller) (live l.host.side.phase (sans l.to_host))
         → SafeLink 0 kf (shdlc_becomes l (shdlc_turned q ts))
-    up q p qup due own peer pair = becomes_none kf ts l q (up_step 1 kf l q p qup (due ∙ h.n_due) own peer pair h)
+    up q p qup due own peer pair =
+        becomes_none kf ts l q (up_step l (record { was_up = p; up = qup; due = due ∙ h.n_due; own = own; peer = peer }) pair h)
 
-    late : nat_lt (e.timer + 1) 10 ≡ false → (rsets (sans l.to_host) ≡ []) × (uas (sans l.to_controller) ≡ [])
-    late r =
-        nothing_out 1 kf (peer_of l.controller) (peer_of l.host) (sans l.to_controller) (sans l.to_host) l.resets
-        (let g = ltb-false (e.timer + 1) 10 r in omega arith) h.hand
+    -- it is in no session, and only its timer moves
+    idles : (n : ℕ) → (e.phase ≡ Up → ⊥) → (e.phase ≡ Waiting → n + 0 ≡ e.timer + 1)
+        → SafeLink 0 kf (shdlc_becomes l (shdlc_turned (record e { timer = n }) ts))
+    idles n no_up counts =
+        becomes_none kf ts l (record e { timer = n })
+        (safe_idle h no_up (record { phase = refl; due = refl; session = h.n_none no_up; own = refl; peer = refl }) refl
+        (hand_timer h.hand (record { phase = refl; emitted = refl; took = refl; timer = counts })))
+
+    late : nat_lt (e.timer + 1) 10 ≡ false → NothingIsOut (sans l.to_controller) (sans l.to_host)
+    late r = nothing_out h.hand (let g = ltb-false (e.timer + 1) 10 r in omega arith)
 
     go : (p : LinkState) (a b c : Bool) → e.phase ≡ p → runs_timer e.session ≡ a → nat_lt (e.timer + 1) 10 ≡ b → nat_lt e.tries 5
         ≡ c → SafeLink 0 kf (shdlc_ticks_at_controller l ts)
     go Down a b c p q r t =
         plain e (rw p refl) (rw p refl)
-        (becomes_none kf ts l e (safe_idle 1 0 kf l.controller l.host e (sans l.to_controller) (sans l.to_host) (sans l.to_controller) l.resets
-        (λ u. let g = sym p ∙ u in cc) refl h.n_due refl refl
-        (h.n_none (λ u. let g = sym p ∙ u in cc)) refl
-        (hand_timer 1 0 kf (peer_of l.controller) (peer_of l.controller) (peer_of l.host) (sans l.to_controller) (sans l.to_host) l.resets refl refl
-        refl (λ w. absurd (let g = sym p ∙ w in let f : Down ≡ Waiting = g in cc)) h.hand) h))
-    go Up false b c p q r t = plain e (rw (p, q) refl) (rw (p, q) refl) (up e p p refl refl refl (pair_now 1 kf l p h))
+        (idles e.timer (λ u. let g = sym p ∙ u in cc) (λ w. absurd (let g = sym p ∙ w in let f : Down ≡ Waiting = g in cc)))
+    go Up false b c p q r t = plain e (rw (p, q) refl) (rw (p, q) refl) (up e p p refl refl refl (pair_from h p))
     go Up true true c p q r t =
         plain (record e { timer = e.timer + 1 }) (rw (p, q, r) refl) (rw (p, q, r) refl)
-        (up (record e { timer = e.timer + 1 }) p p refl refl refl (pair_now 1 kf l p h))
+        (up (record e { timer = e.timer + 1 }) p p refl refl refl (pair_from h p))
     go Up true false true p q r t =
+        let pair = pair_from h p in
         plain (sent_again e) (rw (p, q, r, t) refl) (rw (p, q, r, t) refl)
         (up (sent_again e) p p refl refl refl
-        (pair_again e.session (sent_again e).session (shdlc_session_of l.host (shdlc_number_of l.controller)) (sans l.to_controller)
-        (live l.host.side.phase (sans l.to_host))
-        refl refl refl refl refl refl (pair_now 1 kf l p h)))
+        (pair_next {next = e.session.acked} (omega arith) (omega (arith, pair.mine.from, pair.mine.sent)) refl pair))
     go Up true false false p q r t =
         let is : ticked e ≡ waiting_from e = rw (p, q, r, t) refl in
         let ends : is_some (tick_answer e).ended ≡ true = rw (p, q, r, t) refl in
-        rw (ends, is) (up_asks 1 kf ts l e p p h.n_due (record { own = h.n_windows.own; peer = (omega arith, omega arith) }) h)
+        rw (ends, is) (up_asks ts l e p p h.n_due (record { own = h.n_windows.own; peer = (omega arith, omega arith) }) h)
     go Waiting a true c p q r t =
         plain (record e { timer = e.timer + 1 }) (rw (p, r) refl) (rw (p, r) refl)
-        (becomes_none kf ts l (record e { timer = e.timer + 1 })
-        (safe_idle 1 0 kf l.controller l.host (record e { timer = e.timer + 1 }) (sans l.to_controller) (sans l.to_host) (sans l.to_controller)
-        l.resets (λ u. let g = sym p ∙ u in cc) refl h.n_due refl refl
-        (h.n_none (λ u. let g = sym p ∙ u in cc)) refl
-        (hand_timer 1 0 kf (peer_of l.controller) (peer_of (record l.controller { side = record e { timer = e.timer + 1 } })) (peer_of l.host)
-        (sans l.to_controller) (sans l.to_host) l.resets refl refl refl
-        (λ w. omega arith) h.hand) h))
+        (idles (e.timer + 1) (λ u. let g = sym p ∙ u in cc) (λ w. omega arith))
     go Waiting a false true p q r t =
-        let out = late r in
         let f : EndState = record e { tries = e.tries + 1 } in
         let none : e.session ≡ no_session = h.n_none (λ u. let g = sym p ∙ u in cc) in
         let due : (asked_again e).due ≡ Rset_due ∷ [] = rw h.n_due refl in
         let same : waiting_end f ≡ record (asked_again e) { due = [] } = rw (← p, ← none) refl in
         let s : SafeAt 0 kf (shdlc_put l (Rset e.own_window 0)) (waiting_end f) =
-        put_rset 1 kf l f l.controller.past out.0 out.1 (record { own = h.n_windows.own; peer = h.n_windows.peer })
-        (moves_none l.controller (λ u. let g = sym p ∙ u in cc)) (past_below l p 1 kf h) h in
+        put_rset l {e = f} (late r) (record { own = h.n_windows.own; peer = h.n_windows.peer }) (past_below l p h) h in
         plain (asked_again e) (rw (p, r, t) refl) (rw (p, r, t) refl)
         (becomes_one kf ts l (asked_again e) Rset_due due
         (let P : EndState → Type 0 = λ v. SafeAt 0 kf (shdlc_put l (Rset e.own_window 0)) v in subst P same s))
     go Waiting a false false p q r t =
-        let out = late r in
         let f : EndState = record e { tries = 0 } in
         let none : e.session ≡ no_session = h.n_none (λ u. let g = sym p ∙ u in cc) in
         let same : record f { phase = Down; due = []; timer = 0; session = no_session } ≡ given_up e = rw (← none, ← h.n_due) refl in
         let s : SafeAt 0 kf l (record f { phase = Down; due = []; timer = 0; session = no_session }) =
-        safe_down 1 kf l.controller l.host f (sans l.to_controller) (sans l.to_host) l.resets p out.0 out.1 (let g = ltb-false (e.timer + 1) 10 r in
-        omega arith)
-        (record { own = h.n_windows.own; peer = h.n_windows.peer }) h in
+        safe_down h {e = f} p (late r) (let g = ltb-false (e.timer + 1) 10 r in omega arith)
+        (record { own = h.n_windows.own; peer = h.n_windows.peer }) in
         plain (given_up e) (rw (p, r, t) refl) (rw (p, r, t) refl)
         (becomes_none kf ts l (given_up e) (let P : EndState → Type 0 = λ v. SafeAt 0 kf l v in subst P same s))
 
 -- ## The controller's end takes a frame
 
 -- an RSET counts, whatever the end does with it
-took_rset : (l : ShdlcLink) (x : OnWire) (w c m : ℕ) → x.frame ≡ Rset w c → x.number ≡ m → l.controller.took ≤ m → took_with l.controller.took x ≡ m
-took_rset l x w c m e n i = rw (e, n) (let a : max l.controller.took m ≡ m = omega arith in a)
+took_rset : (l : ShdlcLink) {x : OnWire} {m : ℕ} → IsRset x → x.number ≡ m → l.controller.took ≤ m → took_with l.controller.took x ≡ m
+took_rset l {m = m} is n i = rw (is.frame, n) (let a : max l.controller.took m ≡ m = omega arith in a)
 
 pub took_other : (t : ℕ) (x : OnWire) → is_rset x.frame ≡ false → took_with t x ≡ t
 took_other t x e = rw e refl
@@ -254,13 +249,17 @@ took l ts x xs =
     let m : ShdlcLink = with_shdlc_ended (record l { to_controller = xs }) (is_some (take_answer l.controller.side x.frame).ended) in
     shdlc_becomes (record m { controller = record m.controller { took = took_with l.controller.took x } }) (shdlc_turned (taken l.controller.side x.frame) ts)
 
--- it, where these are what came of it
-took_is : (ts : List ShdlcTurn) (l : ShdlcLink) (x : OnWire) (xs : List OnWire) (ends : Bool) (number : ℕ) (q : EndState)
-    → is_some (take_answer l.controller.side x.frame).ended ≡ ends → took_with l.controller.took x ≡ number → taken l.controller.side x.frame ≡ q
+-- what comes of x at the controller's end: whether a session ended there, the number that it has taken, and the end
+record TakesSo (l : ShdlcLink) (x : OnWire) (ends : Bool) (number : ℕ) (q : EndState) : Type 0 where
+  ended : is_some (take_answer l.controller.side x.frame).ended ≡ ends
+  took : took_with l.controller.took x ≡ number
+  end : taken l.controller.side x.frame ≡ q
+
+took_is : (ts : List ShdlcTurn) {l : ShdlcLink} {x : OnWire} (xs : List OnWire) {ends : Bool} {number : ℕ} {q : EndState} → TakesSo l x ends number q
     → SafeLink 0 0 (let m : ShdlcLink = with_shdlc_ended (record l { to_controller = xs }) ends in
     shdlc_becomes (record m { controller = record m.controller { took = number } }) (shdlc_turned q ts))
     → SafeLink 0 0 (took l ts x xs)
-took_is ts l x xs ends number q a b c h = rw (a, b, c) h
+took_is ts xs so h = rw (so.ended, so.took, so.end) h
 
 takes : (ts : List ShdlcTurn) (l : ShdlcLink) (x : OnWire) (xs : List OnWire) → Safe 0 0 l.controller l.host (x ∷ sans xs) (sans l.to_host) l.resets
     → SafeLink 0 0 (took l ts x xs)
@@ -275,26 +274,26 @@ takes ts l x xs h = go (frame_cases x) e.phase refl
     no_ua : x.frame ≡ Ua → (e.phase ≡ Waiting → ⊥) → ⊥
     no_ua q n =
         let b : uas (x ∷ sans xs) ≡ x.age ∷ uas (sans xs) = rw q refl in
-        let out = none_out 0 e.phase e.timer (rsets (sans l.to_host)) (uas (x ∷ sans xs)) n h.hand.n_out in
-        let z : x.age ∷ uas (sans xs) ≡ [] = sym b ∙ out.1 in
+        let z : x.age ∷ uas (sans xs) ≡ [] = sym b ∙ (idle_out h.hand n).no_ua in
         cc
 
     -- an end in a session
     in_session : e.phase ≡ Up → IsData x.frame → SafeLink 0 0 (took l ts x xs)
     in_session up d =
-        let pair = pair_from 0 0 l.controller l.host (x ∷ sans xs) (sans l.to_host) l.resets up h in
-        let t = taken_up e (shdlc_session_of l.host (shdlc_number_of l.controller)) x (sans xs) (live l.host.side.phase (sans l.to_host)) up d pair in
+        let t = taken_up e up d (pair_from h up) in
         let q : EndState = taken e x.frame in
         let s : SafeAt 0 0 next (record q { due = [] }) =
-        safe_up 0 0 0 l.controller l.host (record q { due = [] }) (x ∷ sans xs) (sans l.to_host) (sans xs) (sans l.to_host) l.resets up t.0.up refl
-        t.0.own t.0.peer
-        (hand_timer 0 0 0 (peer_of l.controller) (peer_of (record l.controller { side = record q { due = [] } })) (peer_of l.host) (sans xs)
-        (sans l.to_host) l.resets (t.0.up ∙ sym up) refl refl
-        (λ w. absurd (let g = sym up ∙ w in let f : Up ≡ Waiting = g in cc))
-        (hand_past 0 0 (peer_of l.controller) (peer_of l.host) x (sans xs) (sans l.to_host) l.resets d h.hand))
-        t.0.pair h in
-        took_is ts l x xs false l.controller.took q (rw t.1 refl) (took_other l.controller.took x (not_rset x.frame (inl d))) refl
-        (becomes_taken 0 ts next q t.0.up (due q t.0.due) s)
+        safe_up h (record { was_up = up; up = t.0.up; due = refl; own = t.0.own; peer = t.0.peer })
+        (hand_timer (hand_past h.hand d) (record {
+          phase = t.0.up ∙ sym up;
+          emitted = refl;
+          took = refl;
+          timer = λ w. absurd (let g = sym up ∙ w in let f : Up ≡ Waiting = g in cc);
+        }))
+        t.0.pair in
+        let so : TakesSo l x false l.controller.took q =
+        record { ended = rw t.1 refl; took = took_other l.controller.took x (not_rset x.frame (inl d)); end = refl } in
+        took_is ts xs so (becomes_taken 0 ts next q t.0.up (due q t.0.due) s)
       where
         due : (q : EndState) → (q.due ≡ e.due) ⊎ ((d : Due) × IsAnswer d × (q.due ≡ e.due ++ d ∷ []))
             → (q.due ≡ []) ⊎ ((d : Due) × IsAnswer d × (q.due ≡ d ∷ []))
@@ -305,90 +304,87 @@ takes ts l x xs h = go (frame_cases x) e.phase refl
     passed : IsData x.frame → (e.phase ≡ Up → ⊥) → live e.phase (sans xs) ≡ live e.phase (x ∷ sans xs) → SafeLink 0 0 (took l ts x xs)
     passed d no_up lives =
         let t = passes e x.frame d no_up in
-        took_is ts l x xs false l.controller.took e t.1 (took_other l.controller.took x (not_rset x.frame (inl d))) t.0
-        (becomes_none 0 ts next e (safe_idle 0 0 0 l.controller l.host e (x ∷ sans xs) (sans l.to_host) (sans xs) l.resets no_up refl h.n_due refl
-        refl (h.n_none no_up) lives
-        (hand_past 0 0 (peer_of l.controller) (peer_of l.host) x (sans xs) (sans l.to_host) l.resets d h.hand) h))
+        let so : TakesSo l x false l.controller.took e =
+        record { ended = t.1; took = took_other l.controller.took x (not_rset x.frame (inl d)); end = t.0 } in
+        let idle : Idle e e = record { phase = refl; due = refl; session = h.n_none no_up; own = refl; peer = refl } in
+        took_is ts xs so (becomes_none 0 ts next e (safe_idle h no_up idle lives (hand_past h.hand d)))
 
-    zero : (v c : ℕ) → x.frame ≡ Rset v c → (v == 0) ≡ false
-    zero v c q =
-        let t = rset_tells 0 (peer_of l.controller) (peer_of l.host) x v c (sans xs) (sans l.to_host) l.resets q h.hand in
-        ne_eqb v 0 (λ z. omega (arith, t.5))
+    zero : (is : IsRset x) → (is.window == 0) ≡ false
+    zero is = let t = rset_told h.hand is in ne_eqb is.window 0 (λ z. omega (arith, t.wide))
 
-    ahead : (v c : ℕ) → x.frame ≡ Rset v c → (e.phase ≡ Waiting → ⊥) → (l.controller.took < l.host.emitted) × (l.controller.emitted < l.host.emitted)
-    ahead v c q n =
-        let a : rsets (x ∷ sans xs) ≡ x.age ∷ rsets (sans xs) = rw q refl in
+    ahead : IsRset x → (e.phase ≡ Waiting → ⊥) → (l.controller.took < l.host.emitted) × (l.controller.emitted < l.host.emitted)
+    ahead is n =
+        let a : rsets (x ∷ sans xs) ≡ x.age ∷ rsets (sans xs) = rw is.frame refl in
         ahead_not_waiting 0 (peer_of l.controller) l.host.emitted x.age (rsets (sans xs)) n (rw a at h.hand.n_ahead)
 
     -- an end that doesn't wait begins a new session
-    anew : (v c : ℕ) → x.frame ≡ Rset v c → (past : List (ℕ × Session)) (ends : Bool) → (e.phase ≡ Waiting → ⊥) → Moves l.controller past
-        → taken e x.frame ≡ up_with (record e { due = Ua_due ∷ [] }) (min e.own_window (min v 4)) → is_some (take_answer e x.frame).ended ≡ ends
-        → Below l.host.emitted past
+    anew : (is : IsRset x) {past : List (ℕ × Session)} (ends : Bool) → (e.phase ≡ Waiting → ⊥) → HaveEnded l.controller past l.host.emitted
+        → taken e x.frame ≡ up_with (record e { due = Ua_due ∷ [] }) (min e.own_window (min is.window 4)) → is_some (take_answer e x.frame).ended ≡ ends
         → (SafeLink 0 0 (shdlc_becomes (record l { to_controller = xs; controller = record l.controller { took = l.host.emitted; past = past } })
-        (shdlc_turned (up_with (record e { due = Ua_due ∷ [] }) (min e.own_window (min v 4))) ts))
+        (shdlc_turned (up_with (record e { due = Ua_due ∷ [] }) (min e.own_window (min is.window 4))) ts))
         → SafeLink 0 0 (let m : ShdlcLink = with_shdlc_ended (record l { to_controller = xs }) ends in
         shdlc_becomes (record m { controller = record m.controller { took = l.host.emitted } })
-        (shdlc_turned (up_with (record e { due = Ua_due ∷ [] }) (min e.own_window (min v 4))) ts)))
+        (shdlc_turned (up_with (record e { due = Ua_due ∷ [] }) (min e.own_window (min is.window 4))) ts)))
         → SafeLink 0 0 (took l ts x xs)
-    anew v c q past ends n move is ended below kept =
-        let t = rset_tells 0 (peer_of l.controller) (peer_of l.host) x v c (sans xs) (sans l.to_host) l.resets q h.hand in
-        let w : ℕ = min e.own_window (min v 4) in
+    anew is {past} ends n ended to quits kept =
+        let w : ℕ = min e.own_window (min is.window 4) in
         let b : EndState = up_with (record e { due = Ua_due ∷ [] }) w in
         let y : OnWire = record { frame = Ua; age = 0; number = 0 } in
         let m : ShdlcLink = record l { to_controller = xs; controller = record l.controller { took = l.host.emitted; past = past } } in
-        took_is ts l x xs ends l.host.emitted b ended (took_rset l x v c l.host.emitted q t.4 h.hand.n_took) is
+        let so : TakesSo l x ends l.host.emitted b = record { ended = quits; took = took_rset l is (rset_told h.hand is).number h.hand.n_took; end = to } in
+        took_is ts xs so
         (kept (becomes_one 0 ts m b Ua_due refl
-        (safe_fits 0 (record { side = up_end e w; emitted = l.controller.emitted; took = l.host.emitted; past = past }) l.host (sans xs) l.to_host y
-        l.resets refl
-        (safe_up_rset l.controller l.host w v c x y past (sans xs) (sans l.to_host) l.resets q n refl refl (omega arith) move below h))))
+        (safe_fits l.to_host y refl (safe_up_rset is h w n (record { frame = refl; age = refl }) (omega arith) ended))))
 
-    waits : (v c : ℕ) → x.frame ≡ Rset v c → e.phase ≡ Waiting → taken e x.frame ≡ record e { due = Ua_due ∷ []; peer_window = min v 4 }
-    waits v c q p = rw (q, p, zero v c q, h.n_due) refl
+    waits : (is : IsRset x) → e.phase ≡ Waiting → taken e x.frame ≡ record e { due = Ua_due ∷ []; peer_window = min is.window 4 }
+    waits is p = rw (is.frame, p, zero is, h.n_due) refl
 
     confirmed : x.frame ≡ Ua → e.phase ≡ Waiting → taken e x.frame ≡ up_with e (min e.own_window e.peer_window)
     confirmed q p = rw (q, p) refl
 
-    go : IsData x.frame ⊎ (((w : ℕ) × (c : ℕ) × (x.frame ≡ Rset w c)) ⊎ (x.frame ≡ Ua)) → (p : LinkState) → e.phase ≡ p → SafeLink 0 0 (took l ts x xs)
+    go : IsData x.frame ⊎ (IsRset x ⊎ (x.frame ≡ Ua)) → (p : LinkState) → e.phase ≡ p → SafeLink 0 0 (took l ts x xs)
     go (inl d) Up p = in_session p d
     go (inl d) Waiting p = passed d (λ u. let g = sym p ∙ u in cc) (rw p (sym (data_behind x.frame (sans xs) (behind_ua (sans xs)) d)))
     go (inl d) Down p = passed d (λ u. let g = sym p ∙ u in cc) (rw p refl)
     go (inr (inl q)) Up p =
-        anew q.0 q.1 q.2 ((shdlc_number_of l.controller, e.session) ∷ l.controller.past) true (λ w. let g = sym p ∙ w in cc) (moves_end l.controller p)
-        (rw (q.2, p, zero q.0 q.1 q.2) refl) (rw (q.2, p, zero q.0 q.1 q.2) refl)
-        (let a : Below (shdlc_number_of l.controller) l.controller.past = rw p at h.n_past in
-        let g = ahead q.0 q.1 q.2 (λ w. let g = sym p ∙ w in cc) in
-        (omega arith, below_more (shdlc_number_of l.controller) l.host.emitted l.controller.past (omega arith) a))
-        (λ s. s)
+        let a : Below (shdlc_number_of l.controller) l.controller.past = rw p at h.n_past in
+        let g = ahead q (λ w. let g = sym p ∙ w in cc) in
+        let below = below_more (shdlc_number_of l.controller) l.host.emitted l.controller.past (omega arith) a in
+        anew q true (λ w. let g = sym p ∙ w in cc) (record { moves = moves_end l.controller p; below = (omega arith, below) })
+        (rw (q.frame, p, zero q) refl) (rw (q.frame, p, zero q) refl) (λ s. s)
     go (inr (inl q)) Down p =
-        anew q.0 q.1 q.2 l.controller.past false (λ w. let g = sym p ∙ w in cc) (moves_none l.controller (λ w. let g = sym p ∙ w in cc))
-        (rw (q.2, p, zero q.0 q.1 q.2, h.n_due) refl) (rw (q.2, p, zero q.0 q.1 q.2) refl)
-        (let a : Below (shdlc_number_of l.controller + 1) l.controller.past = rw p at h.n_past in
-        let g = ahead q.0 q.1 q.2 (λ w. let g = sym p ∙ w in cc) in
-        below_more (shdlc_number_of l.controller + 1) l.host.emitted l.controller.past (omega arith) a)
-        (λ s. s)
+        let a : Below (shdlc_number_of l.controller + 1) l.controller.past = rw p at h.n_past in
+        let g = ahead q (λ w. let g = sym p ∙ w in cc) in
+        let below = below_more (shdlc_number_of l.controller + 1) l.host.emitted l.controller.past (omega arith) a in
+        anew q false (λ w. let g = sym p ∙ w in cc) (record { moves = moves_none l.controller (λ w. let g = sym p ∙ w in cc); below = below })
+        (rw (q.frame, p, zero q, h.n_due) refl) (rw (q.frame, p, zero q) refl) (λ s. s)
     go (inr (inl q)) Waiting p =
-        let t = rset_tells 0 (peer_of l.controller) (peer_of l.host) x q.0 q.1 (sans xs) (sans l.to_host) l.resets q.2 h.hand in
-        let b : EndState = record e { due = Ua_due ∷ []; peer_window = min q.0 4 } in
-        let f : EndState = record e { due = []; peer_window = min q.0 4 } in
+        let t = rset_told h.hand q in
+        let b : EndState = record e { due = Ua_due ∷ []; peer_window = min q.window 4 } in
+        let f : EndState = record e { due = []; peer_window = min q.window 4 } in
         let y : OnWire = record { frame = Ua; age = 0; number = 0 } in
         let m : ShdlcLink = record l { to_controller = xs; controller = record l.controller { took = l.host.emitted } } in
-        let none : e.session ≡ no_session = h.n_none (λ u. let g = sym p ∙ u in cc) in
-        took_is ts l x xs false l.host.emitted b (rw (q.2, p) refl) (took_rset l x q.0 q.1 l.host.emitted q.2 t.4 h.hand.n_took)
-        (waits q.0 q.1 q.2 p)
-        (becomes_one 0 ts m b Ua_due refl
-        (safe_fits 0 (record { side = f; emitted = l.controller.emitted; took = l.host.emitted; past = l.controller.past }) l.host (sans xs) l.to_host
-        y l.resets refl
-        (safe_wait_rset l.controller l.host f q.0 q.1 x y (sans xs) (sans l.to_host) l.resets q.2 p refl refl p refl none refl
-        (record { own = h.n_windows.own; peer = (omega (arith, t.5), omega arith) }) h)))
+        let so : TakesSo l x false l.host.emitted b =
+        record { ended = rw (q.frame, p) refl; took = took_rset l q t.number h.hand.n_took; end = waits q p } in
+        let on : WaitsOn e f =
+        record {
+          was_waiting = p;
+          waiting = p;
+          timer = refl;
+          session = h.n_none (λ u. let g = sym p ∙ u in cc);
+          due = refl;
+          windows = record { own = h.n_windows.own; peer = (omega (arith, t.wide), omega arith) };
+        } in
+        took_is ts xs so (becomes_one 0 ts m b Ua_due refl (safe_fits l.to_host y refl (safe_wait_rset q h on (record { frame = refl; age = refl }))))
     go (inr (inr q)) Up p = absurd (no_ua q (λ w. let g = sym p ∙ w in cc))
     go (inr (inr q)) Down p = absurd (no_ua q (λ w. let g = sym p ∙ w in cc))
     go (inr (inr q)) Waiting p =
         let w : ℕ = min e.own_window e.peer_window in
-        let s : SafeAt 0 0 next (up_end e w) = safe_up_ua 0 0 l.controller l.host w x (sans xs) (sans l.to_host) l.resets q p
-        (omega (arith, h.n_windows.own.1)) h in
+        let s : SafeAt 0 0 next (up_end e w) = safe_up_ua h w q p (omega (arith, h.n_windows.own.1)) in
         let same : up_end e w ≡ up_with e w = rw h.n_due refl in
-        took_is ts l x xs false l.controller.took (up_with e w) (rw (q, p) refl) (took_other l.controller.took x (not_rset x.frame (inr q))) (confirmed q p)
-        (becomes_none 0 ts next (up_with e w) (let P : EndState → Type 0 = λ v. SafeAt 0 0 next v in subst P same s))
+        let so : TakesSo l x false l.controller.took (up_with e w) =
+        record { ended = rw (q, p) refl; took = took_other l.controller.took x (not_rset x.frame (inr q)); end = confirmed q p } in
+        took_is ts xs so (becomes_none 0 ts next (up_with e w) (let P : EndState → Type 0 = λ v. SafeAt 0 0 next v in subst P same s))
 
 -- ## Whole events
 
@@ -423,8 +419,9 @@ delivers ts l h = go l.to_controller h
     first x xs true q g =
         let m : ShdlcLink = record l { to_controller = x ∷ xs } in
         let t = passes_act l.controller.side x.frame q in
-        took_is ts m x xs false l.controller.took l.controller.side t.1 (took_other l.controller.took x (act_not_rset x.frame q)) t.0
-        (becomes_none 0 ts (record l { to_controller = xs }) l.controller.side (rw q at g))
+        let so : TakesSo m x false l.controller.took l.controller.side =
+        record { ended = t.1; took = took_other l.controller.took x (act_not_rset x.frame q); end = t.0 } in
+        took_is ts xs so (becomes_none 0 ts (record l { to_controller = xs }) l.controller.side (rw q at g))
 
     go : (wire : List OnWire) → Safe 0 0 l.controller l.host (sans wire) (sans l.to_host) l.resets
         → SafeLink 0 0 (shdlc_happens_at_controller (record l { to_controller = wire }) (Deliver ts))
@@ -437,7 +434,7 @@ loses l h = go l.to_controller h
     first : (x : OnWire) (xs : List OnWire) (b : Bool) → is_act x.frame ≡ b → Safe 0 0 l.controller l.host (sans (x ∷ xs)) (sans l.to_host) l.resets
         → SafeLink 0 0 (record l { to_controller = xs })
     first x xs true q g = rw q at g
-    first x xs false q g = safe_lose 0 l.controller l.host x (sans xs) (sans l.to_host) l.resets (rw q at g)
+    first x xs false q g = safe_lose (rw q at g)
 
     go : (wire : List OnWire) → Safe 0 0 l.controller l.host (sans wire) (sans l.to_host) l.resets
         → SafeLink 0 0 (shdlc_happens_at_controller (record l { to_controller = wire }) Lose)
@@ -451,15 +448,12 @@ pub counts : (l : ShdlcLink) (x : OnWire) (xs : List OnWire)
 counts l x xs down g = first (is_act x.frame) refl
   where
     frame : Safe 0 0 l.controller l.host (x ∷ sans xs) (sans l.to_host) l.resets
-        → IsData x.frame ⊎ (((w : ℕ) × (c : ℕ) × (x.frame ≡ Rset w c)) ⊎ (x.frame ≡ Ua))
+        → IsData x.frame ⊎ (IsRset x ⊎ (x.frame ≡ Ua))
         → Safe 0 0 (record l.controller { took = took_with l.controller.took x }) l.host (sans xs) (sans l.to_host) l.resets
-    frame k (inl d) = rw (took_other l.controller.took x (not_rset x.frame (inl d))) (safe_lose 0 l.controller l.host x (sans xs) (sans l.to_host) l.resets k)
-    frame k (inr (inr u)) =
-        rw (took_other l.controller.took x (not_rset x.frame (inr u))) (safe_lose 0 l.controller l.host x (sans xs) (sans l.to_host) l.resets k)
+    frame k (inl d) = rw (took_other l.controller.took x (not_rset x.frame (inl d))) (safe_lose k)
+    frame k (inr (inr u)) = rw (took_other l.controller.took x (not_rset x.frame (inr u))) (safe_lose k)
     frame k (inr (inl s)) =
-        let t = rset_tells 0 (peer_of l.controller) (peer_of l.host) x s.0 s.1 (sans xs) (sans l.to_host) l.resets s.2 k.hand in
-        rw (took_rset l x s.0 s.1 l.host.emitted s.2 t.4 k.hand.n_took)
-        (safe_ignore l.controller l.host x s.0 s.1 (sans xs) (sans l.to_host) l.resets s.2 down k)
+        rw (took_rset l s (rset_told k.hand s).number k.hand.n_took) (safe_ignore s down k)
 
     first : (b : Bool) → is_act x.frame ≡ b → Safe 0 0 (record l.controller { took = took_with l.controller.took x }) l.host (sans xs) (sans l.to_host) l.resets
     first true q = rw (took_other l.controller.took x (act_not_rset x.frame q)) (rw q at g)
@@ -488,7 +482,7 @@ acts_keep kf (a ∷ acts) l h =
     let x : OnWire = record { frame = act_frame a; age = 0; number = 0 } in
     let P : List OnWire → Type 0 = λ v. Safe 0 kf l.controller l.host (sans l.to_controller) v l.resets in
     acts_keep kf acts (shdlc_put l (act_frame a))
-    (fits_keeps kf l.controller l.host (sans l.to_controller) (l.to_host ++ x ∷ []) l.resets (subst P (sym (sans-push_act l.to_host x refl)) h))
+    (fits_keeps (l.to_host ++ x ∷ []) (subst P (sym (sans-push_act l.to_host x refl)) h))
 
 pub safe_here : (l : ShdlcLink) (e : ShdlcEndEvent) → IsShdlcAllowed e → SafeLink 0 0 l → SafeLink 0 0 (shdlc_happens_at_controller l e)
 safe_here l (Turns ts) a h = becomes_none 0 ts l l.controller.side h
@@ -516,7 +510,7 @@ safe_turns kf [] l a h = h
 safe_turns kf (e ∷ es) l a h = safe_turns kf es (shdlc_happens_at_controller l e) a.1 (safe_turn kf l e a.0 h)
 
 pub safe_exchanged : (kn kf : ℕ) (l : ShdlcLink) → SafeLink kn kf l → SafeLink kf kn (shdlc_exchanged l)
-safe_exchanged kn kf l h = safe_swap kn kf l.controller l.host (sans l.to_controller) (sans l.to_host) l.resets h
+safe_exchanged kn kf l h = safe_swap h
 
 -- what is left of a wire once the frames that are too old are lost
 abbrev pub fresh : List OnWire → List OnWire
@@ -553,9 +547,9 @@ sans-aged (x ∷ xs) = go (nat_lt x.age 4) (is_act x.frame) refl refl (sans-aged
     go false true p q later = rw (p, q) later
     go false false p q later = rw (p, q, p) later
 
-pub safe_fresh : (n f : NumberedShdlc) (to_n to_f : List OnWire) (r : ℕ) → Safe 0 0 n f to_n to_f r → Safe 0 0 n f (fresh to_n) to_f r
-safe_fresh n f [] to_f r h = h
-safe_fresh n f (x ∷ xs) to_f r h = go (nat_lt x.age 4) refl (safe_fresh n f xs to_f r (safe_lose 0 n f x xs to_f r h))
+pub safe_fresh : {n f : NumberedShdlc} (to_n : List OnWire) {to_f : List OnWire} {r : ℕ} → Safe 0 0 n f to_n to_f r → Safe 0 0 n f (fresh to_n) to_f r
+safe_fresh [] h = h
+safe_fresh {n} {f} (x ∷ xs) {to_f} {r} h = go (nat_lt x.age 4) refl (safe_fresh xs (safe_lose h))
   where
     go : (b : Bool) → nat_lt x.age 4 ≡ b → Safe 0 0 n f (fresh xs) to_f r → Safe 0 0 n f (fresh (x ∷ xs)) to_f r
     go true q later = rw q h
@@ -565,14 +559,13 @@ pub safe_aged : (l : ShdlcLink) → SafeLink 0 0 l → SafeLink 1 1 (shdlc_aged 
 safe_aged l h =
     let n = l.controller in
     let f = l.host in
-    let one : Safe 0 0 n f (fresh (sans l.to_controller)) (sans l.to_host) l.resets = safe_fresh n f (sans l.to_controller) (sans l.to_host) l.resets h in
+    let one : Safe 0 0 n f (fresh (sans l.to_controller)) (sans l.to_host) l.resets = safe_fresh (sans l.to_controller) h in
     let two : Safe 0 0 f n (fresh (sans l.to_host)) (fresh (sans l.to_controller)) l.resets =
-    safe_fresh f n (sans l.to_host) (fresh (sans l.to_controller)) l.resets (safe_swap 0 0 n f (fresh (sans l.to_controller)) (sans l.to_host) l.resets one) in
+    safe_fresh (sans l.to_host) (safe_swap one) in
     let near = aged-fresh (sans l.to_controller) h.hand.n_young in
     let far = aged-fresh (sans l.to_host) h.hand.f_young in
     rw (sans-aged l.to_controller ∙ near.0, sans-aged l.to_host ∙ far.0)
-    (safe_older n f (fresh (sans l.to_controller)) (fresh (sans l.to_host)) l.resets near.1 far.1
-    (safe_swap 0 0 f n (fresh (sans l.to_host)) (fresh (sans l.to_controller)) l.resets two))
+    (safe_older near.1 far.1 (safe_swap two))
 
 pub tick_or_cut : (kf : ℕ) (b : Option (List ShdlcTurn)) (l : ShdlcLink) → SafeLink 1 kf l → SafeLink 0 kf (ticks_or_cut b l)
 tick_or_cut kf (Some ts) l h = ticks kf ts l h
@@ -582,8 +575,7 @@ tick_or_cut kf None l h = cuts 1 kf l h
 not_ticked : (kf : ℕ) (l : ShdlcLink) → is_waiting l.controller.side ≡ false → SafeLink 1 kf l → SafeLink 0 kf l
 not_ticked kf l q h =
     record {
-      hand = hand_timer 1 0 kf (peer_of l.controller) (peer_of l.controller) (peer_of l.host) (sans l.to_controller) (sans l.to_host) l.resets refl refl
-          refl (λ w. absurd (waits w)) h.hand;
+      hand = hand_timer h.hand (record { phase = refl; emitted = refl; took = refl; timer = λ w. absurd (waits w) });
       n_base = h.n_base;
       f_base = h.f_base;
       n_live = h.n_live;

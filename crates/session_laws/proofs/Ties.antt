@@ -230,17 +230,23 @@ pub fetched_answers : (e : EndState) → AnswersOnly e.due → AnswersOnly (fetc
 fetched_answers e a =
     fetch_cases (λ f o. AnswersOnly f.due) e (λ d ds p. answers_rest d ds (rw p at a)) (λ p q. a) (λ info p q. a)
 
-rests_put : (G W V : Type 0) (e f : EndState) (c : Control) (to_n w : List OnWire) → frame_due e ≡ Some c → IsData c → is_act c ≡ false
-    → (V → W) → (V → overflows (with_frame w c) ≡ false) → (V → is_rnr c ≡ false)
+-- V says what W says, and that the frame c, put on the wire w, makes it lose no frame that counts and is no RNR
+record SaysMore (W V : Type 0) (w : List OnWire) (c : Control) : Type 0 where
+  weaker : V → W
+  fits : V → overflows (with_frame w c) ≡ false
+  no_rnr : V → is_rnr c ≡ false
+
+rests_put : (G : Type 0) {W V : Type 0} (e f : EndState) {c : Control} (to_n : List OnWire) {w : List OnWire} → frame_due e ≡ Some c
+    → IsData c × (is_act c ≡ false) → SaysMore W V w c
     → Rests G W e f to_n (sans w) → Rests G V (fetched e) f to_n (sans (fits (with_frame w c)))
-rests_put G W V e f c to_n w is d no_act weak over rnr h v b p =
-    go (live f.phase (sans w)) refl (sym (live-push f.phase (sans w) x d) ∙ whole)
+rests_put G {W} {V} e f {c} to_n {w} is d more h v b p =
+    go (live f.phase (sans w)) refl (sym (live-push f.phase (sans w) x d.0) ∙ whole)
   where
     x : OnWire
     x = record { frame = c; age = 0; number = 0 }
 
     kept : sans (fits (with_frame w c)) ≡ sans w ++ x ∷ []
-    kept = fits_sans (with_frame w c) (over v) ∙ sans-push w x no_act
+    kept = fits_sans (with_frame w c) (more.fits v) ∙ sans-push w x d.1
 
     whole : live f.phase (sans w ++ x ∷ []) ≡ Some b
     whole = ap (live f.phase) (sym kept) ∙ p
@@ -251,9 +257,9 @@ rests_put G W V e f c to_n w is d no_act weak over rnr h v b p =
     go (Some u) q r =
         let z : pushed (Some u) x ≡ Some b = rw q at r in
         let same : u ++ x ∷ [] ≡ b = cc in
-        let g = h (weak v) u q in
+        let g = h (more.weaker v) u q in
         let one : Joined (Unit {0}) (fetched e) (as_up f.phase f) to_n (with_frame u c) =
-        rw is at (joined_fetched (Unit {0}) (Unit {0}) (λ u. u) e (as_up f.phase f) to_n u (λ u. rw is (rnr v)) g.0) in
+        rw is at (joined_fetched (Unit {0}) (Unit {0}) (λ u. u) e (as_up f.phase f) to_n u (λ u. rw is (more.no_rnr v)) g.0) in
         (subst (Joined (Unit {0}) (fetched e) (as_up f.phase f) to_n) same one, g.1, g.2)
 
 -- what the near end keeps as it sends
@@ -266,10 +272,14 @@ keeps_each G n e v c is k =
     let d = data_due e c k.1 is in
     let over : Bool = overflows (with_frame v.to_host c) in
     let V : Type 0 = ((n.lost || over) ≡ false) × ((n.rnr || is_rnr c) ≡ false) in
+    let more : SaysMore (IsWhole n) V v.to_host c =
+    record {
+      weaker = λ w. ((or_parts n.lost over w.0).0, (or_parts n.rnr (is_rnr c) w.1).0);
+      fits = λ w. (or_parts n.lost over w.0).1;
+      no_rnr = λ w. (or_parts n.rnr (is_rnr c) w.1).1;
+    } in
     let r : Rests G V (fetched e) v.host.side (sans v.to_controller) (sans (fits (with_frame v.to_host c))) =
-    rests_put G (IsWhole n) V e v.host.side c (sans v.to_controller) v.to_host is d.0 d.1
-    (λ w. ((or_parts n.lost over w.0).0, (or_parts n.rnr (is_rnr c) w.1).0))
-    (λ w. (or_parts n.lost over w.0).1) (λ w. (or_parts n.rnr (is_rnr c) w.1).1) k.2 in
+    rests_put G e v.host.side (sans v.to_controller) is d more k.2 in
     (fetched-phase e ∙ k.0, fetched_answers e k.1, rw (not_rset c (inl d.0)) r)
 
 -- what each frame that is due keeps, as the end sends it, all of them keep
