@@ -49,9 +49,9 @@ delivered_by s acc sends whole none =
     let all : length s.out ≤ s.next = all_sent s whole.free inside none in
     (whole_front acc s.out sends.front (omega (arith, sends.next_reach)), omega (arith, sends.next_reach, sends.reach_out))
 
-pub delivered : (W : Type 0) (near far : EndState) (to_near to_far : List OnWire) → Joined W near far to_near to_far
-    → W → frame_due near ≡ None → frame_due far ≡ None → to_near ≡ [] → to_far ≡ [] → FragmentsDelivered near.session far.session
-delivered W near far to_near to_far h w near_idle far_idle near_empty far_empty =
+pub delivered : {W : Type 0} {near far : EndState} {to_near to_far : List OnWire} → Joined W near far to_near to_far → W
+    → frame_due near ≡ None → frame_due far ≡ None → to_near ≡ [] → to_far ≡ [] → FragmentsDelivered near.session far.session
+delivered {near = near} {far} {to_near} {to_far} h w near_idle far_idle near_empty far_empty =
     let a : h.near_marks ≡ [] = no_marks to_near h.near_marks near_empty h.near_shows in
     let b : h.far_marks ≡ [] = no_marks to_far h.far_marks far_empty h.far_shows in
     let d : far.due ≡ [] = no_due far far_idle in

@@ -7,7 +7,7 @@ use Rattle.swp_base.specs.declared.control_frames.Kind.{Kind}
 use Rattle.swp_base.specs.declared.control_frames.Control.{Control}
 use Rattle.swp_base.specs.declared.control_frames.Control.TheVariants.{I, S}
 use Rattle.shdlc_core.specs.Machine.{Fragment}
-use Rattle.link_laws.proofs.Marks.{Carries, Counts, NoneBelow, Places, counts_le, counts_lower, counts_higher, counts_push, counts_lost, places_grow, places_reach, places_accepted, places_lost, places_push, places_push_S}
+use Rattle.link_laws.proofs.Marks.{Carries, Counts, NoneBelow, Places, MayFollow, counts_le, counts_lower, counts_higher, counts_push, counts_lost, places_grow, places_reach, places_accepted, places_lost, places_push, places_push_S}
 
 -- out, the window w, the places a, s and m are the sender's; acc is the receiver's; there are marks on the wire from the
 -- sender and on the wire back
@@ -39,94 +39,91 @@ flows_new w wide most =
       places = tt;
     }
 
--- more is offered
-pub flows_put : (out more : List Fragment) (w a s m : ℕ) (acc : List Fragment) (there back : List Control)
-    → Flows out w a s m acc there back → Flows (out ++ more) w a s m acc there back
-flows_put out more w a s m acc there back h =
-    record {
-      window = h.window;
-      wide = h.wide;
-      acked_next = h.acked_next;
-      next_reach = h.next_reach;
-      reach_out = omega (arith, length-append out more);
-      reach_window = h.reach_window;
-      front = (h.front.0 ++ more, sym (append_assoc acc h.front.0 more) ∙ ap (λ l. l ++ more) h.front.1);
-      sent = h.sent;
-      counts = h.counts;
-      places = places_grow out more (length acc) m there h.places;
-    }
+module _ {out : List Fragment} {w a s m : ℕ} {acc : List Fragment} {there back : List Control} (h : Flows out w a s m acc there back) where
+  -- more is offered
+  pub flows_put : (more : List Fragment) → Flows (out ++ more) w a s m acc there back
+  flows_put more =
+      record {
+        window = h.window;
+        wide = h.wide;
+        acked_next = h.acked_next;
+        next_reach = h.next_reach;
+        reach_out = omega (arith, length-append out more);
+        reach_window = h.reach_window;
+        front = (h.front.0 ++ more, sym (append_assoc acc h.front.0 more) ∙ ap (λ l. l ++ more) h.front.1);
+        sent = h.sent;
+        counts = h.counts;
+        places = places_grow out more (length acc) m there h.places;
+      }
 
--- the next fragment is sent
-pub flows_send : (out : List Fragment) (w a s m : ℕ) (acc : List Fragment) (there back : List Control) (n : ℕ) (info : Fragment)
-    → s < a + w → slice_get out s ≡ Some info
-    → Flows out w a s m acc there back → Flows out w a (s + 1) (max m (s + 1)) acc (there ++ I s n info ∷ []) back
-flows_send out w a s m acc there back n info inside is h =
-    let within : s < length out = slice_get_within out s info is in
-    let more : m ≤ max m (s + 1) = omega arith in
-    record {
-      window = h.window;
-      wide = h.wide;
-      acked_next = omega arith;
-      next_reach = omega arith;
-      reach_out = omega arith;
-      reach_window = omega arith;
-      front = h.front;
-      sent = omega arith;
-      counts = h.counts;
-      places = places_push out (length acc) (max m (s + 1)) s n info there (omega arith) (omega arith) (omega arith) is
-          (places_reach out (length acc) m (max m (s + 1)) there more h.places);
-    }
+  -- the next fragment is sent
+  pub flows_send : (n : ℕ) {info : Fragment} → s < a + w → slice_get out s ≡ Some info
+      → Flows out w a (s + 1) (max m (s + 1)) acc (there ++ I s n info ∷ []) back
+  flows_send n {info} inside is =
+      let within : s < length out = slice_get_within out s info is in
+      let more : m ≤ max m (s + 1) = omega arith in
+      let follows : MayFollow out (length acc) (max m (s + 1)) s info =
+      record { is = is; sent = omega arith; reach = omega arith; accepted = omega arith } in
+      record {
+        window = h.window;
+        wide = h.wide;
+        acked_next = omega arith;
+        next_reach = omega arith;
+        reach_out = omega arith;
+        reach_window = omega arith;
+        front = h.front;
+        sent = omega arith;
+        counts = h.counts;
+        places = places_push n there follows (places_reach out (length acc) m (max m (s + 1)) there more h.places);
+      }
 
--- the sender answers as a receiver
-pub flows_send_S : (out : List Fragment) (w a s m : ℕ) (acc : List Fragment) (there back : List Control) (n : ℕ) (k : Kind)
-    → Flows out w a s m acc there back → Flows out w a s m acc (there ++ S k n ∷ []) back
-flows_send_S out w a s m acc there back n k h =
-    record {
-      window = h.window;
-      wide = h.wide;
-      acked_next = h.acked_next;
-      next_reach = h.next_reach;
-      reach_out = h.reach_out;
-      reach_window = h.reach_window;
-      front = h.front;
-      sent = h.sent;
-      counts = h.counts;
-      places = places_push_S out (length acc) m n k there h.places;
-    }
+  -- the sender answers as a receiver
+  pub flows_send_S : (n : ℕ) (k : Kind) → Flows out w a s m acc (there ++ S k n ∷ []) back
+  flows_send_S n k =
+      record {
+        window = h.window;
+        wide = h.wide;
+        acked_next = h.acked_next;
+        next_reach = h.next_reach;
+        reach_out = h.reach_out;
+        reach_window = h.reach_window;
+        front = h.front;
+        sent = h.sent;
+        counts = h.counts;
+        places = places_push_S out (length acc) m n k there h.places;
+      }
 
--- the receiver makes a frame, with the number that it accepted
-pub flows_answer : (out : List Fragment) (w a s m : ℕ) (acc : List Fragment) (there back : List Control) (c : Control)
-    → Carries c (length acc) → Flows out w a s m acc there back → Flows out w a s m acc there (back ++ c ∷ [])
-flows_answer out w a s m acc there back c e h =
-    record {
-      window = h.window;
-      wide = h.wide;
-      acked_next = h.acked_next;
-      next_reach = h.next_reach;
-      reach_out = h.reach_out;
-      reach_window = h.reach_window;
-      front = h.front;
-      sent = h.sent;
-      counts = counts_push a (length acc) back c e h.counts;
-      places = h.places;
-    }
+  -- the receiver makes a frame, with the number that it accepted
+  pub flows_answer : (c : Control) → Carries c (length acc) → Flows out w a s m acc there (back ++ c ∷ [])
+  flows_answer c e =
+      record {
+        window = h.window;
+        wide = h.wide;
+        acked_next = h.acked_next;
+        next_reach = h.next_reach;
+        reach_out = h.reach_out;
+        reach_window = h.reach_window;
+        front = h.front;
+        sent = h.sent;
+        counts = counts_push a (length acc) back c e h.counts;
+        places = h.places;
+      }
 
--- the sender is to go on from another place
-pub flows_move : (out : List Fragment) (w a s m s' : ℕ) (acc : List Fragment) (there back : List Control)
-    → a ≤ s' → s' ≤ m → Flows out w a s m acc there back → Flows out w a s' m acc there back
-flows_move out w a s m s' acc there back i j h =
-    record {
-      window = h.window;
-      wide = h.wide;
-      acked_next = i;
-      next_reach = j;
-      reach_out = h.reach_out;
-      reach_window = h.reach_window;
-      front = h.front;
-      sent = h.sent;
-      counts = h.counts;
-      places = h.places;
-    }
+  -- the sender is to go on from another place
+  pub flows_move : {s' : ℕ} → a ≤ s' → s' ≤ m → Flows out w a s' m acc there back
+  flows_move i j =
+      record {
+        window = h.window;
+        wide = h.wide;
+        acked_next = i;
+        next_reach = j;
+        reach_out = h.reach_out;
+        reach_window = h.reach_window;
+        front = h.front;
+        sent = h.sent;
+        counts = h.counts;
+        places = h.places;
+      }
 
 -- a number that comes back is one from the first unacknowledged place to one past the last that was sent
 pub flows_number : (out : List Fragment) (w a s m : ℕ) (acc : List Fragment) (there back : List Control) (c : Control) (n : ℕ)
@@ -140,9 +137,9 @@ flows_number out w a s m acc there back (S kind k) n e h =
 flows_number out w a s m acc there back (_) n e h = absurd e
 
 -- the sender takes it
-pub flows_acked : (out : List Fragment) (w a s m s' : ℕ) (acc : List Fragment) (there back : List Control) (c : Control) (n : ℕ)
-    → Carries c n → n ≤ s' → s' ≤ m → Flows out w a s m acc there (c ∷ back) → Flows out w n s' m acc there back
-flows_acked out w a s m s' acc there back c n e i j h =
+pub flows_acked : {out : List Fragment} {w a s m : ℕ} {acc : List Fragment} {there back : List Control} {c : Control} → Flows out w a s m acc there (c ∷ back)
+    → {n s' : ℕ} → Carries c n → n ≤ s' → s' ≤ m → Flows out w n s' m acc there back
+flows_acked {out} {w} {a} {s} {m} {acc} {there} {back} {c} h {n} e i j =
     let number = flows_number out w a s m acc there back c n e h in
     record {
       window = h.window;
@@ -169,9 +166,9 @@ front_accept acc out info h p =
     subst P p.1 (front_more acc p.0 info) h
 
 -- the receiver accepts the fragment that is first on the wire
-pub flows_accept : (out : List Fragment) (w a s m : ℕ) (acc : List Fragment) (there back : List Control) (p n : ℕ) (info : Fragment)
-    → p ≡ length acc → Flows out w a s m acc (I p n info ∷ there) back → Flows out w a s m (acc ++ info ∷ []) there back
-flows_accept out w a s m acc there back p n info e h =
+pub flows_accept : {out : List Fragment} {w a s m : ℕ} {acc : List Fragment} {there back : List Control} {p n : ℕ} {info : Fragment}
+    → Flows out w a s m acc (I p n info ∷ there) back → p ≡ length acc → Flows out w a s m (acc ++ info ∷ []) there back
+flows_accept {out} {a = a} {m = m} {acc} {there} {back} {info = info} h e =
     let one : length (acc ++ info ∷ []) ≡ length acc + 1 = length-append acc (info ∷ []) in
     let more : length acc ≤ length acc + 1 = omega arith in
     let below : NoneBelow (length acc) there = rw (← e) h.places.3 in
@@ -190,9 +187,9 @@ flows_accept out w a s m acc there back p n info e h =
     }
 
 -- a frame is taken or lost
-pub flows_past : (out : List Fragment) (w a s m : ℕ) (acc : List Fragment) (there back : List Control) (c : Control)
-    → Flows out w a s m acc (c ∷ there) back → Flows out w a s m acc there back
-flows_past out w a s m acc there back c h =
+pub flows_past : {out : List Fragment} {w a s m : ℕ} {acc : List Fragment} {there back : List Control} {c : Control} → Flows out w a s m acc (c ∷ there) back
+    → Flows out w a s m acc there back
+flows_past {out} {m = m} {acc} {there} {c = c} h =
     record {
       window = h.window;
       wide = h.wide;
@@ -206,9 +203,9 @@ flows_past out w a s m acc there back c h =
       places = places_lost out (length acc) m c there h.places;
     }
 
-pub flows_lost_back : (out : List Fragment) (w a s m : ℕ) (acc : List Fragment) (there back : List Control) (c : Control)
-    → Flows out w a s m acc there (c ∷ back) → Flows out w a s m acc there back
-flows_lost_back out w a s m acc there back c h =
+pub flows_lost_back : {out : List Fragment} {w a s m : ℕ} {acc : List Fragment} {there back : List Control} {c : Control} → Flows out w a s m acc there (c ∷ back)
+    → Flows out w a s m acc there back
+flows_lost_back {a = a} {acc = acc} {back = back} {c = c} h =
     record {
       window = h.window;
       wide = h.wide;

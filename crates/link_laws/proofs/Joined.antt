@@ -160,6 +160,14 @@ pub record Joined (W : Type 0) (near far : EndState) (to_near to_far : List OnWi
   pub near_whole : W → NoRnr far.due → Whole near.session far.session.acc far.due far_marks near_marks
   pub far_whole : W → NoRnr near.due → Whole far.session near.session.acc near.due near_marks far_marks
 
+-- to the other end near' is what near is: it changed its timer and what it notes of itself, and may have more answers to send
+record SameToOther (near near' : EndState) : Type 0 where
+  up : near'.phase ≡ Up
+  answers : AnswersOnly near'.due
+  no_rnr : NoRnr near'.due → NoRnr near.due
+  none_due : near'.due ≡ [] → near.due ≡ []
+  session : record near'.session { answered_rnr = false } ≡ record near.session { answered_rnr = false }
+
 module _ (W : Type 0) where
   -- the two ends are alike
   pub joined_exchanged : (near far : EndState) (to_near to_far : List OnWire) → Joined W near far to_near to_far → Joined W far near to_far to_near
@@ -212,36 +220,36 @@ module _ (W : Type 0) where
         far_marks = h.far_marks;
         near_shows = h.near_shows;
         far_shows = h.far_shows;
-        near_sends = flows_put s.out more s.window s.acked s.next s.reached far.session.acc h.far_marks h.near_marks h.near_sends;
+        near_sends = flows_put h.near_sends more;
         far_sends = h.far_sends;
         near_whole = λ w n. let x = h.near_whole w n in record { caught = x.caught; told = x.told; free = x.free; acks = x.acks };
         far_whole = h.far_whole;
       }
 
   -- an end that changed its timer and what it notes of itself, and that has perhaps one more answer to send
-  joined_same : (near near' far : EndState) (to_near to_far : List OnWire) → near'.phase ≡ Up → AnswersOnly near'.due
-      → (NoRnr near'.due → NoRnr near.due) → (near'.due ≡ [] → near.due ≡ [])
-      → Sends near'.session ≡ Sends near.session → near'.session.acc ≡ near.session.acc
-      → near'.session.acked ≡ near.session.acked → near'.session.reached ≡ near.session.reached → near'.session.peer_busy ≡ near.session.peer_busy
+  joined_same : {near near' far : EndState} {to_near to_far : List OnWire} → SameToOther near near'
       → Joined W near far to_near to_far → Joined W near' far to_near to_far
-  joined_same near near' far to_near to_far up due rnr empty same acc acked reached busy h =
+  joined_same {near} {near'} same h =
+      let acc : near'.session.acc ≡ near.session.acc = ap (λ (s : Session). s.acc) same.session in
+      let acked : near'.session.acked ≡ near.session.acked = ap (λ (s : Session). s.acked) same.session in
+      let reached : near'.session.reached ≡ near.session.reached = ap (λ (s : Session). s.reached) same.session in
       record {
-        near_up = up;
+        near_up = same.up;
         far_up = h.far_up;
-        near_due = due;
+        near_due = same.answers;
         far_due = h.far_due;
         near_marks = h.near_marks;
         far_marks = h.far_marks;
         near_shows = h.near_shows;
         far_shows = h.far_shows;
-        near_sends = rw same h.near_sends;
+        near_sends = rw (ap (λ (s : Session). Sends s) same.session) h.near_sends;
         far_sends = rw acc h.far_sends;
         near_whole = λ w n.
             let x = h.near_whole w n in
-            record { caught = rw reached x.caught; told = rw acked x.told; free = busy ∙ x.free; acks = x.acks };
+            record { caught = rw reached x.caught; told = rw acked x.told; free = ap (λ (s : Session). s.peer_busy) same.session ∙ x.free; acks = x.acks };
         far_whole = λ w n.
-            let x = h.far_whole w (rnr n) in
-            record { caught = rw acc x.caught; told = λ e. x.told (empty e) ∙ ap length (sym acc); free = x.free; acks = x.acks };
+            let x = h.far_whole w (same.no_rnr n) in
+            record { caught = rw acc x.caught; told = λ e. x.told (same.none_due e) ∙ ap length (sym acc); free = x.free; acks = x.acks };
       }
 
   -- the end becomes ready or not ready
@@ -249,9 +257,14 @@ module _ (W : Type 0) where
       → Joined W near far to_near to_far → Joined W (with_ready near r) far to_near to_far
   joined_ready near far to_near to_far r h =
       ready_cases (λ e. Joined W e far to_near to_far) near r h
-      (joined_same near (changed near r near.due) far to_near to_far h.near_up h.near_due (λ n. n) (λ n. n) refl refl refl refl refl h)
-      (joined_same near (changed near r (near.due ++ Rr_due ∷ [])) far to_near to_far h.near_up (answers_push near.due Rr_due tt h.near_due)
-      (no_rnr_push near.due Rr_due) (λ n. absurd (push_not_empty near.due Rr_due n)) refl refl refl refl refl h)
+      (joined_same (record { up = h.near_up; answers = h.near_due; no_rnr = λ n. n; none_due = λ n. n; session = refl }) h)
+      (joined_same (record {
+        up = h.near_up;
+        answers = answers_push near.due Rr_due tt h.near_due;
+        no_rnr = no_rnr_push near.due Rr_due;
+        none_due = λ n. absurd (push_not_empty near.due Rr_due n);
+        session = refl;
+      }) h)
 
   -- a tick that doesn't end the session
   pub joined_ticked : (near far : EndState) (to_near to_far : List OnWire) → (tick_answer near).ended ≡ None
@@ -259,7 +272,7 @@ module _ (W : Type 0) where
   joined_ticked near far to_near to_far answer h =
       let s = near.session in
       tick_cases (λ e. Joined W e far to_near to_far) near h.near_up answer h
-      (joined_same near (record near { timer = near.timer + 1 }) far to_near to_far h.near_up h.near_due (λ n. n) (λ n. n) refl refl refl refl refl h)
+      (joined_same (record { up = h.near_up; answers = h.near_due; no_rnr = λ n. n; none_due = λ n. n; session = refl }) h)
       (record {
         near_up = h.near_up;
         far_up = h.far_up;
@@ -269,8 +282,7 @@ module _ (W : Type 0) where
         far_marks = h.far_marks;
         near_shows = h.near_shows;
         far_shows = h.far_shows;
-        near_sends = flows_move s.out s.window s.acked s.next s.reached s.acked far.session.acc h.far_marks h.near_marks (omega arith)
-            (omega (arith, h.near_sends.acked_next, h.near_sends.next_reach)) h.near_sends;
+        near_sends = flows_move h.near_sends (omega arith) (omega (arith, h.near_sends.acked_next, h.near_sends.next_reach));
         far_sends = h.far_sends;
         near_whole = λ w n. let x = h.near_whole w n in record { caught = x.caught; told = x.told; free = x.free; acks = x.acks };
         far_whole = h.far_whole;
@@ -296,8 +308,8 @@ module _ (W : Type 0) where
             far_marks = h.far_marks;
             near_shows = shows.1;
             far_shows = h.far_shows;
-            near_sends = flows_lost_back s.out s.window s.acked s.next s.reached t.acc h.far_marks ms m near_sends;
-            far_sends = flows_past t.out t.window t.acked t.next t.reached s.acc ms h.far_marks m far_sends;
+            near_sends = flows_lost_back near_sends;
+            far_sends = flows_past far_sends;
             near_whole = λ v. absurd (lossy v);
             far_whole = λ v. absurd (lossy v);
           }
@@ -345,9 +357,8 @@ module _ (W : Type 0) where
           let place : place_of s (n % 8) ≡ Some n = place_found s n number.0 number.1 reach in
           let e : EndState = acknowledged near n in
           let sends : Sends e.session t.acc h.far_marks ms =
-          flows_acked s.out s.window s.acked s.next s.reached (max s.next n) t.acc h.far_marks ms (I p n info) n refl (omega arith)
-          (omega (arith, near_sends.next_reach, number.1)) near_sends in
-          let receives : Sends t s.acc ms h.far_marks = flows_past t.out t.window t.acked t.next t.reached s.acc ms h.far_marks (I p n info) far_sends in
+          flows_acked near_sends refl (omega arith) (omega (arith, near_sends.next_reach, number.1)) in
+          let receives : Sends t s.acc ms h.far_marks = flows_past far_sends in
           let low : t.acked ≤ length s.acc = counts_le t.acked (length s.acc) h.far_marks far_sends.counts in
           let high : p ≤ length s.acc + 3 = omega (arith, far_sends.places.1, far_sends.reach_window, far_sends.window, low) in
           let whole : W → NoRnr far.due → Whole e.session t.acc far.due h.far_marks ms =
@@ -384,7 +395,7 @@ module _ (W : Type 0) where
                   near_shows = shows.1;
                   far_shows = h.far_shows;
                   near_sends = sends;
-                  far_sends = flows_accept t.out t.window t.acked t.next t.reached s.acc ms h.far_marks p n info at far_sends;
+                  far_sends = flows_accept far_sends at;
                   near_whole = λ w q. let y = whole w q in record { caught = y.caught; told = y.told; free = y.free; acks = y.acks };
                   far_whole = λ w q.
                       let y = far_whole w (no_rnr_push near.due Rr_due q) in
@@ -417,7 +428,7 @@ module _ (W : Type 0) where
           let number = flows_number s.out s.window s.acked s.next s.reached t.acc h.far_marks ms (S k n) n refl near_sends in
           let reach : s.reached ≤ s.acked + 4 = omega (arith, near_sends.window, near_sends.reach_window) in
           let place : place_of s (n % 8) ≡ Some n = place_found s n number.0 number.1 reach in
-          let receives : Sends t s.acc ms h.far_marks = flows_past t.out t.window t.acked t.next t.reached s.acc ms h.far_marks (S k n) far_sends in
+          let receives : Sends t s.acc ms h.far_marks = flows_past far_sends in
           let from : (f : EndState) → f.phase ≡ Up → f.due ≡ near.due → Sends f.session t.acc h.far_marks ms → f.session.acc ≡ s.acc
           → (W → NoRnr far.due → Whole f.session t.acc far.due h.far_marks ms) → Joined W f far to_near to_far =
           λ f up due sends acc whole. record {
@@ -437,7 +448,7 @@ module _ (W : Type 0) where
                 record { caught = rw acc y.caught; told = λ z. y.told (sym due ∙ z) ∙ ap length (sym acc); free = y.free; acks = y.acks };
           } in
           let acked : (s' : ℕ) → n ≤ s' → s' ≤ s.reached → Flows s.out s.window n s' s.reached t.acc h.far_marks ms =
-          λ s' i j. flows_acked s.out s.window s.acked s.next s.reached s' t.acc h.far_marks ms (S k n) n refl i j near_sends in
+          λ s' i j. flows_acked near_sends refl i j in
           let upper : max s.next n ≤ s.reached = omega (arith, near_sends.next_reach, number.1) in (
             rw shows.0 (taken_S (λ f. Joined W f far to_near to_far) near k (n % 8) n h.near_up place
                 (λ is. from (ready_again near n) h.near_up refl (acked (max s.next n) (omega arith) upper) refl
@@ -446,7 +457,7 @@ module _ (W : Type 0) where
                 (freed k n ms near_whole (rejected near n).session refl refl refl))
                 (λ is. from (made_busy near n) h.near_up refl (acked n (omega arith) number.1) refl
                 (stopped_by k n ms (inl is) near_whole (made_busy near n).session))
-                (λ is. from near h.near_up refl (flows_lost_back s.out s.window s.acked s.next s.reached t.acc h.far_marks ms (S k n) near_sends) refl
+                (λ is. from near h.near_up refl (flows_lost_back near_sends) refl
                 (stopped_by k n ms (inr is) near_whole s))),
             rw shows.0 (answer_S near k (n % 8) h.near_up),
           )
@@ -469,10 +480,10 @@ module _ (W : Type 0) where
 
   -- ## A frame is made. V says that nothing was lost and no RNR was made, this frame among them.
 
-  joined_answered : (V : Type 0) → (V → W) → (near far : EndState) (to_near to_far : List OnWire) (k : Kind) (ds : List Due) → AnswersOnly ds
+  joined_answered : {V : Type 0} → (V → W) → {near far : EndState} {to_near to_far : List OnWire} (k : Kind) {ds : List Due} → AnswersOnly ds
       → (V → AcksOnly (S k (length near.session.acc) ∷ [])) → (V → NoRnr ds → NoRnr near.due)
       → Joined W near far to_near to_far → Joined V (record near { due = ds }) far to_near (with_frame to_far (S k (expected near.session)))
-  joined_answered V weak near far to_near to_far k ds due acks rnr h =
+  joined_answered weak {near} {far} {to_far = to_far} k due acks rnr h =
       let s = near.session in
       let t = far.session in
       record {
@@ -484,16 +495,16 @@ module _ (W : Type 0) where
         far_marks = h.far_marks ++ S k (length s.acc) ∷ [];
         near_shows = h.near_shows;
         far_shows = shows_push to_far h.far_marks (S k (expected s)) (S k (length s.acc)) refl h.far_shows;
-        near_sends = flows_send_S s.out s.window s.acked s.next s.reached t.acc h.far_marks h.near_marks (length s.acc) k h.near_sends;
-        far_sends = flows_answer t.out t.window t.acked t.next t.reached s.acc h.near_marks h.far_marks (S k (length s.acc)) refl h.far_sends;
-        near_whole = λ v q. whole_send_S s t.acc far.due h.far_marks h.near_marks (length s.acc) k (h.near_whole (weak v) q);
-        far_whole = λ v q. whole_answer_S t s.acc near.due ds h.near_marks h.far_marks k (acks v) (h.far_whole (weak v) (rnr v q));
+        near_sends = flows_send_S h.near_sends (length s.acc) k;
+        far_sends = flows_answer h.far_sends (S k (length s.acc)) refl;
+        near_whole = λ v q. whole_send_S (length s.acc) k (h.near_whole (weak v) q);
+        far_whole = λ v q. whole_answer_S k (acks v) (h.far_whole (weak v) (rnr v q));
       }
 
-  joined_sent : (V : Type 0) → (V → W) → (near far : EndState) (to_near to_far : List OnWire) (info : Fragment) → fragment_due near.session ≡ Some info
+  joined_sent : {V : Type 0} → (V → W) → {near far : EndState} {to_near to_far : List OnWire} {info : Fragment} → fragment_due near.session ≡ Some info
       → Joined W near far to_near to_far
       → Joined V (record near { session = sent_next near.session }) far to_near (with_frame to_far (I (near.session.next % 8) (expected near.session) info))
-  joined_sent V weak near far to_near to_far info is h =
+  joined_sent weak {near} {far} {to_far = to_far} {info} is h =
       let s = near.session in
       let t = far.session in
       let tells = fragment_due_tells s info is in
@@ -506,12 +517,10 @@ module _ (W : Type 0) where
         far_marks = h.far_marks ++ I s.next (length s.acc) info ∷ [];
         near_shows = h.near_shows;
         far_shows = shows_push to_far h.far_marks (I (s.next % 8) (expected s) info) (I s.next (length s.acc) info) refl h.far_shows;
-        near_sends = flows_send s.out s.window s.acked s.next s.reached t.acc h.far_marks h.near_marks (length s.acc) info tells.0 tells.1 h.near_sends;
-        far_sends = flows_answer t.out t.window t.acked t.next t.reached s.acc h.near_marks h.far_marks (I s.next (length s.acc) info) refl h.far_sends;
-        near_whole = λ v q.
-            whole_send s (sent_next s) t.acc far.due h.far_marks h.near_marks (length s.acc) info h.near_sends.next_reach refl refl refl
-            (h.near_whole (weak v) q);
-        far_whole = λ v q. whole_answer_I t s.acc near.due near.due h.near_marks h.far_marks s.next info (h.far_whole (weak v) q);
+        near_sends = flows_send h.near_sends (length s.acc) tells.0 tells.1;
+        far_sends = flows_answer h.far_sends (I s.next (length s.acc) info) refl;
+        near_whole = λ v q. whole_send (length s.acc) info h.near_sends.next_reach refl refl refl (h.near_whole (weak v) q);
+        far_whole = λ v q. whole_answer_I s.next info (h.far_whole (weak v) q);
       }
 
   -- the near end sends its next frame, where one is due
@@ -522,13 +531,13 @@ module _ (W : Type 0) where
       fetch_cases (λ e c. (V → rnr_next c ≡ false) → Joined V e far to_near (with_next to_far c)) near
       (λ d ds p r. control d ds p (rw p at h.near_due) r)
       (λ p q r. joined_weaker V weak near far to_near to_far h)
-      (λ info p q r. joined_sent V weak near far to_near to_far info q h)
+      (λ info p q r. joined_sent weak q h)
       rnr
     where
       control : (d : Due) (ds : List Due) → near.due ≡ d ∷ ds → AnswersOnly (d ∷ ds) → (V → rnr_next (Some (control_due near d)) ≡ false)
           → Joined V (record near { due = ds }) far to_near (with_frame to_far (control_due near d))
-      control Rr_due ds p a r = joined_answered V weak near far to_near to_far Rr ds a (λ v. tt) (λ v n. rw p n) h
-      control Rej_due ds p a r = joined_answered V weak near far to_near to_far Rej ds a (λ v. tt) (λ v n. rw p n) h
-      control Rnr_due ds p a r = joined_answered V weak near far to_near to_far Rnr ds a (λ v. absurd (true≢false (r v))) (λ v n. absurd (true≢false (r v))) h
+      control Rr_due ds p a r = joined_answered weak Rr a (λ v. tt) (λ v n. rw p n) h
+      control Rej_due ds p a r = joined_answered weak Rej a (λ v. tt) (λ v n. rw p n) h
+      control Rnr_due ds p a r = joined_answered weak Rnr a (λ v. absurd (true≢false (r v))) (λ v n. absurd (true≢false (r v))) h
       control Rset_due ds p a r = absurd a
       control Ua_due ds p a r = absurd a

@@ -119,13 +119,18 @@ none_below_push p q n info [] i h = (i, tt)
 none_below_push p q n info (I _ _ _ ∷ ms) i h = (h.0, none_below_push p q n info ms i h.1)
 none_below_push p q n info (_ ∷ ms) i h = none_below_push p q n info ms i h
 
--- the fragment at place p is sent, where all that were sent are below p + 4
-pub places_push : (out : List Fragment) (r m p n : ℕ) (info : Fragment) (ms : List Control)
-    → m ≤ p + 4 → p < m → r ≤ p + 4 → slice_get out p ≡ Some info → Places out r m ms → Places out r m (ms ++ I p n info ∷ [])
-places_push out r m p n info [] i j k e h = (k, j, e, tt, tt)
-places_push out r m p n info (I q _ _ ∷ ms) i j k e h =
-    (h.0, h.1, h.2, none_below_push q p n info ms (omega (arith, h.1)) h.3, places_push out r m p n info ms i j k e h.4)
-places_push out r m p n info (_ ∷ ms) i j k e h = places_push out r m p n info ms i j k e h
+-- the fragment at place p may stand on the wire behind all that were sent, which are below p + 4
+pub record MayFollow (out : List Fragment) (r m p : ℕ) (info : Fragment) : Type 0 where
+  pub is : slice_get out p ≡ Some info
+  pub sent : p < m
+  pub reach : m ≤ p + 4
+  pub accepted : r ≤ p + 4
+
+pub places_push : {out : List Fragment} {r m p : ℕ} {info : Fragment} (n : ℕ) (ms : List Control) → MayFollow out r m p info → Places out r m ms
+    → Places out r m (ms ++ I p n info ∷ [])
+places_push n [] f h = (f.accepted, f.sent, f.is, tt, tt)
+places_push {p = p} {info} n (I q _ _ ∷ ms) f h = (h.0, h.1, h.2, none_below_push q p n info ms (omega (arith, h.1)) h.3, places_push n ms f h.4)
+places_push n (_ ∷ ms) f h = places_push n ms f h
 
 none_below_push_S : (p n : ℕ) (k : Kind) (ms : List Control) → NoneBelow p ms → NoneBelow p (ms ++ S k n ∷ [])
 none_below_push_S p n k [] h = tt

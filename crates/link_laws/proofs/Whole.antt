@@ -58,10 +58,10 @@ pub record Whole (s : Session) (acc : List Fragment) (due : List Due) (there bac
   pub acks : AcksOnly back
 
 -- the sender sends the fragment at the place s
-pub whole_send : (s s' : Session) (acc : List Fragment) (due : List Due) (there back : List Control) (n : ℕ) (info : Fragment)
+pub whole_send : {s s' : Session} {acc : List Fragment} {due : List Due} {there back : List Control} (n : ℕ) (info : Fragment)
     → s.next ≤ s.reached → s'.reached ≡ max s.reached (s.next + 1) → s'.acked ≡ s.acked → s'.peer_busy ≡ s.peer_busy
     → Whole s acc due there back → Whole s' acc due (there ++ I s.next n info ∷ []) back
-whole_send s s' acc due there back n info i reach acked busy h =
+whole_send {s} {acc = acc} {there = there} n info i reach acked busy h =
     record {
       caught = rw reach (caught_push (length acc) s.reached s.next n info there i h.caught);
       told = rw acked h.told;
@@ -70,15 +70,15 @@ whole_send s s' acc due there back n info i reach acked busy h =
     }
 
 -- it answers as a receiver
-pub whole_send_S : (s : Session) (acc : List Fragment) (due : List Due) (there back : List Control) (n : ℕ) (k : Kind)
+pub whole_send_S : {s : Session} {acc : List Fragment} {due : List Due} {there back : List Control} (n : ℕ) (k : Kind)
     → Whole s acc due there back → Whole s acc due (there ++ S k n ∷ []) back
-whole_send_S s acc due there back n k h =
+whole_send_S {s} {acc} {there = there} n k h =
     record { caught = caught_push_S (length acc) s.reached n k there h.caught; told = h.told; free = h.free; acks = h.acks }
 
 -- the receiver sends a frame, with the length that it accepted
-pub whole_answer_I : (s : Session) (acc : List Fragment) (due due' : List Due) (there back : List Control) (p : ℕ) (info : Fragment)
+pub whole_answer_I : {s : Session} {acc : List Fragment} {due due' : List Due} {there back : List Control} (p : ℕ) (info : Fragment)
     → Whole s acc due there back → Whole s acc due' there (back ++ I p (length acc) info ∷ [])
-whole_answer_I s acc due due' there back p info h =
+whole_answer_I {s} {acc} {back = back} p info h =
     record {
       caught = h.caught;
       told = λ e. last_count_push_I s.acked p (length acc) info back;
@@ -86,9 +86,9 @@ whole_answer_I s acc due due' there back p info h =
       acks = acks_push back (I p (length acc) info) tt h.acks;
     }
 
-pub whole_answer_S : (s : Session) (acc : List Fragment) (due due' : List Due) (there back : List Control) (k : Kind)
+pub whole_answer_S : {s : Session} {acc : List Fragment} {due due' : List Due} {there back : List Control} (k : Kind)
     → AcksOnly (S k (length acc) ∷ []) → Whole s acc due there back → Whole s acc due' there (back ++ S k (length acc) ∷ [])
-whole_answer_S s acc due due' there back k e h =
+whole_answer_S {s} {acc} {back = back} k e h =
     record {
       caught = h.caught;
       told = λ e. last_count_push_S s.acked (length acc) k back;

@@ -15,7 +15,7 @@ use Rattle.shdlc_core.specs.Machine.{EndState, Session, Fragment, new_session, n
 use Rattle.link_laws.proofs.Numbers.{place_found, ahead_other}
 use Rattle.link_laws.proofs.Flows.{front_accept}
 use Rattle.link_laws.proofs.Joined.{received_cases, taken_I, taken_S, answer_I, answer_S}
-use Rattle.link_laws.proofs.Marks.{reduced, Carries, Counts, NoneBelow, Places, counts_le, counts_lower, counts_higher, counts_push, counts_lost, places_grow, places_reach, places_accepted, places_lost, places_push, places_push_S}
+use Rattle.link_laws.proofs.Marks.{reduced, Carries, Counts, NoneBelow, Places, MayFollow, counts_le, counts_lower, counts_higher, counts_push, counts_lost, places_grow, places_reach, places_accepted, places_lost, places_push, places_push_S}
 use Rattle.session_laws.specs.Sessions.{OnWire, NumberedShdlc, older, shdlc_number_of, shdlc_session_of, ended_session}
 use Rattle.session_laws.proofs.Wire.{IsData, add_rset, no_rset_step, rsets}
 
@@ -311,15 +311,22 @@ pair_send {s} {r} {info} {there = there} x inside is frame plain h =
     m : ℕ
     m = max s.reached (s.next + 1)
 
+    follows : MayFollow s.out (length r.acc) m s.next info
+    follows =
+        record {
+          is = is;
+          sent = omega arith;
+          reach = omega (arith, h.mine.within, h.mine.most, h.mine.from);
+          accepted = omega (arith, h.mine.fits, h.mine.within, h.mine.most, h.mine.from);
+        }
+
     go : (o : Option (List OnWire)) → Plain o → OnLive o r s → OnLive (pushed o x) r (sent_next s)
     go None p g = tt
     go (Some w) p g =
         record {
           marks = g.marks ++ I s.next (length s.acc) info ∷ [];
           shows = shows_push w g.marks x (I s.next (length s.acc) info) frame p g.shows;
-          places = places_push s.out (length r.acc) m s.next (length s.acc) info g.marks
-              (omega (arith, h.mine.within, h.mine.most, h.mine.from)) (omega arith) (omega (arith, h.mine.fits, h.mine.within, h.mine.most, h.mine.from)) is
-              (places_reach s.out (length r.acc) s.reached m g.marks (omega arith) g.places);
+          places = places_push (length s.acc) g.marks follows (places_reach s.out (length r.acc) s.reached m g.marks (omega arith) g.places);
           counts = counts_push r.acked (length s.acc) g.marks (I s.next (length s.acc) info) refl g.counts;
         }
 

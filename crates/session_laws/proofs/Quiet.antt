@@ -730,8 +730,7 @@ all_delivered : (n : Losses) (l : ShdlcLink) → TiedLink n l → IsShdlcQuiet l
 all_delivered n l t q =
     let m = meets_up n l q.controller t (q.lost, q.rnr) (sans l.to_host) (rw q.host refl) in
     let k = to_up (λ e. Meets l.controller.side e (sans l.to_controller) (sans l.to_host)) l.host.side q.host m in
-    delivered (Unit {0}) l.controller.side l.host.side (sans l.to_controller) (sans l.to_host) k.joined tt k.near k.far
-    q.to_controller q.to_host
+    delivered k.joined tt k.near k.far q.to_controller q.to_host
 
 pub delivered_here : (l : ShdlcLink) → IsShdlcStart l → (events : List ShdlcLinkEvent) → AllShdlcAllowed events
     → IsShdlcQuiet (shdlc_after l events) (losses_after no_losses l events)
