@@ -187,8 +187,8 @@ flows_accept {out} {a = a} {m = m} {acc} {there} {back} {info = info} h e =
     }
 
 -- a frame is taken or lost
-pub flows_past : {out : List Fragment} {w a s m : ℕ} {acc : List Fragment} {there back : List Control} {c : Control} → Flows out w a s m acc (c ∷ there) back
-    → Flows out w a s m acc there back
+pub flows_past : {out : List Fragment} {w a s m : ℕ} {acc : List Fragment} {there back : List Control} {c : Control}
+    → Flows out w a s m acc (c ∷ there) back → Flows out w a s m acc there back
 flows_past {out} {m = m} {acc} {there} {c = c} h =
     record {
       window = h.window;
@@ -203,8 +203,8 @@ flows_past {out} {m = m} {acc} {there} {c = c} h =
       places = places_lost out (length acc) m c there h.places;
     }
 
-pub flows_lost_back : {out : List Fragment} {w a s m : ℕ} {acc : List Fragment} {there back : List Control} {c : Control} → Flows out w a s m acc there (c ∷ back)
-    → Flows out w a s m acc there back
+pub flows_lost_back : {out : List Fragment} {w a s m : ℕ} {acc : List Fragment} {there back : List Control} {c : Control}
+    → Flows out w a s m acc there (c ∷ back) → Flows out w a s m acc there back
 flows_lost_back {a = a} {acc = acc} {back = back} {c = c} h =
     record {
       window = h.window;

@@ -262,7 +262,7 @@ module _ {kn kf : ℕ} {n f : Peer} {to_n to_f : List OnWire} {r : ℕ} (h : Han
 
   -- nothing is out of an end that doesn't wait
   pub idle_out : (n.phase ≡ Waiting → ⊥) → NothingIsOut to_n to_f
-  idle_out busy = let o = none_out kn n.phase n.timer (rsets to_f) (uas to_n) busy h.n_out in record { no_rset = o.0; no_ua = o.1 }
+  idle_out no_wait = let o = none_out kn n.phase n.timer (rsets to_f) (uas to_n) no_wait h.n_out in record { no_rset = o.0; no_ua = o.1 }
 
   -- an end that waited longer than a frame lives has nothing out
   pub nothing_out : 8 < n.timer + kn → NothingIsOut to_n to_f
@@ -604,15 +604,15 @@ module _ {n f : Peer} {x : OnWire} {to_n to_f : List OnWire} {r : ℕ} (is : IsR
   -- the near end, which doesn't wait, takes an RSET: a new session with its number, and UA is sent
   pub hand_up_rset : {y : OnWire} → (n.phase ≡ Waiting → ⊥) → IsNewUa y → Hand 0 0 n f (x ∷ to_n) to_f r
       → Hand 0 0 (record { phase = Up; timer = 0; emitted = n.emitted; took = f.emitted }) f to_n (to_f ++ y ∷ []) r
-  hand_up_rset {y} busy new h =
+  hand_up_rset {y} no_wait new h =
       let p : Peer = record { phase = Up; timer = 0; emitted = n.emitted; took = f.emitted } in
       let t = rset_told h is in
       let a : rsets (x ∷ to_n) ≡ x.age ∷ rsets to_n = rw is.frame refl in
       let b : uas (x ∷ to_n) ≡ uas to_n = rw is.frame refl in
-      let mine = idle_out h busy in
+      let mine = idle_out h no_wait in
       let empty : uas to_n ≡ [] = sym b ∙ mine.no_ua in
       let gone : to_n ≡ [] = after_rset_empty to_n empty t.behind in
-      let less = ahead_not_waiting 0 n f.emitted x.age (rsets to_n) busy (rw a at h.n_ahead) in
+      let less = ahead_not_waiting 0 n f.emitted x.age (rsets to_n) no_wait (rw a at h.n_ahead) in
       let one = ua_of y new.frame in
       let d : rsets (to_f ++ y ∷ []) ≡ [] = rsets-append to_f y ∙ ap (λ l. l ++ rsets (y ∷ [])) mine.no_rset ∙ one.0 in
       record {

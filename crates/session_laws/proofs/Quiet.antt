@@ -283,7 +283,8 @@ ticks kf n ts l h t = go e.phase (runs_timer e.session) (nat_lt (e.timer + 1) 10
         by_parts false (record e { timer = e.timer + 1 }) (rw (p, r) refl) (rw (p, r) refl)
         (waits_turned n ts l (record e { timer = e.timer + 1 }) p
         (record { phase = refl; due = refl; session = h.n_none (λ u. let g = sym p ∙ u in cc); own = refl; peer = refl }) h.n_due t)
-    go Waiting a false true p q r s = by_parts false (asked_again e) (rw (p, r, s) refl) (rw (p, r, s) refl) (asks n ts l (asked_again e) false p (late r).no_ua)
+    go Waiting a false true p q r s =
+        by_parts false (asked_again e) (rw (p, r, s) refl) (rw (p, r, s) refl) (asks n ts l (asked_again e) false p (late r).no_ua)
     go Waiting a false false p q r s =
         by_parts false (given_up e) (rw (p, r, s) refl) (rw (p, r, s) refl)
         (tied_none 12 n l (shdlc_turned (given_up e) ts) (rw (turned-phase ts (given_up e)) refl))

@@ -31,6 +31,10 @@ pub record Safe (kn kf : ℕ) (n f : NumberedShdlc) (to_n to_f : List OnWire) (r
   pub n_windows : HasWindows n.side
   pub f_windows : HasWindows f.side
 
+-- the session of an end that has the number of another
+abbrev pub session_with : NumberedShdlc → NumberedShdlc → Session
+session_with h g = shdlc_session_of h (shdlc_number_of g)
+
 -- a part of a wire of an end in the same state, and equal sessions
 live_to : (p q : LinkState) (w : List OnWire) (mine theirs : Session) → p ≡ q → OnLive (live p w) mine theirs → OnLive (live q w) mine theirs
 live_to p q w mine theirs e h = rw e at h
@@ -82,17 +86,15 @@ module _ {kn kf : ℕ} {n f : NumberedShdlc} {to_n to_f : List OnWire} {r : ℕ}
         f_windows = h.n_windows;
       }
 
-  pub pair_from : n.side.phase ≡ Up → Pair n.side.session (shdlc_session_of f (shdlc_number_of n)) to_n (live f.side.phase to_f)
+  pub pair_from : n.side.phase ≡ Up → Pair n.side.session (session_with f n) to_n (live f.side.phase to_f)
   pair_from up =
       record {
         mine = rw (of_up n up) at (h.n_base (shdlc_number_of n));
         theirs = rw (of_up n up) at (h.f_base (shdlc_number_of n));
         comes =
-            let a : OnLive (live Up to_n) (shdlc_session_of n (shdlc_number_of n)) (shdlc_session_of f (shdlc_number_of n)) =
-            live_to n.side.phase Up to_n (shdlc_session_of n (shdlc_number_of n)) (shdlc_session_of f (shdlc_number_of n)) up h.n_live in
-            on_live_same (Some to_n) (shdlc_session_of n (shdlc_number_of n)) n.side.session (shdlc_session_of f (shdlc_number_of n))
-            (shdlc_session_of f (shdlc_number_of n))
-            (sym (of_up n up)) refl a;
+            let a : OnLive (live Up to_n) (session_with n n) (session_with f n) =
+            live_to n.side.phase Up to_n (session_with n n) (session_with f n) up h.n_live in
+            on_live_same (Some to_n) (session_with n n) n.side.session (session_with f n) (session_with f n) (sym (of_up n up)) refl a;
         goes = goes (live f.side.phase to_f) refl h.f_live;
       }
     where
@@ -100,25 +102,21 @@ module _ {kn kf : ℕ} {n f : NumberedShdlc} {to_n to_f : List OnWire} {r : ℕ}
           → OnLive (Some w) (shdlc_session_of f m) (shdlc_session_of n m)
       moved k m w e g = let P : ℕ → Type 0 = λ j. OnLive (Some w) (shdlc_session_of f j) (shdlc_session_of n j) in subst P e g
 
-      goes : (o : Option (List OnWire)) → live f.side.phase to_f ≡ o → OnLive o (shdlc_session_of f (shdlc_number_of f)) (shdlc_session_of n (shdlc_number_of f))
-          → OnLive o (shdlc_session_of f (shdlc_number_of n)) n.side.session
+      goes : (o : Option (List OnWire)) → live f.side.phase to_f ≡ o → OnLive o (session_with f f) (session_with n f)
+          → OnLive o (session_with f n) n.side.session
       goes None e g = tt
       goes (Some w) e g =
           let lives : live n.side.phase to_n ≡ Some to_n = rw up refl in
           let same : shdlc_number_of n ≡ shdlc_number_of f =
-          agreed (live n.side.phase to_n) (live f.side.phase to_f) to_n w (shdlc_number_of n ≡ shdlc_number_of f) lives e
-          h.hand.agree in
-          let b : OnLive (Some w) (shdlc_session_of f (shdlc_number_of n)) (shdlc_session_of n (shdlc_number_of n)) =
-          moved (shdlc_number_of f) (shdlc_number_of n) w (sym same) g in
-          on_live_same (Some w) (shdlc_session_of f (shdlc_number_of n)) (shdlc_session_of f (shdlc_number_of n))
-          (shdlc_session_of n (shdlc_number_of n)) n.side.session refl (sym (of_up n up)) b
+          agreed (live n.side.phase to_n) (live f.side.phase to_f) to_n w (shdlc_number_of n ≡ shdlc_number_of f) lives e h.hand.agree in
+          let b : OnLive (Some w) (session_with f n) (session_with n n) = moved (shdlc_number_of f) (shdlc_number_of n) w (sym same) g in
+          on_live_same (Some w) (session_with f n) (session_with f n) (session_with n n) n.side.session refl (sym (of_up n up)) b
 
   -- the near end goes on in its session
   pub safe_up : {kn' : ℕ} {q : EndState} {to_n' to_f' : List OnWire} → GoesOn n.side q
       → Hand kn' kf (peer_of (record n { side = q })) (peer_of f) to_n' to_f' r
-      → Pair q.session (shdlc_session_of f (shdlc_number_of n)) to_n' (live f.side.phase to_f') → Safe kn' kf (record n { side = q }) f to_n' to_f' r
+      → Pair q.session (session_with f n) to_n' (live f.side.phase to_f') → Safe kn' kf (record n { side = q }) f to_n' to_f' r
   safe_up {q = q} {to_n'} {to_f'} on hand pair =
-      let g : NumberedShdlc = record n { side = q } in
       record {
         hand = hand;
         n_base = of_update (λ k t. Base t (shdlc_session_of f k)) n g on.was_up on.up refl refl h.n_base pair.mine;
@@ -135,33 +133,33 @@ module _ {kn kf : ℕ} {n f : NumberedShdlc} {to_n to_f : List OnWire} {r : ℕ}
         f_windows = h.f_windows;
       }
     where
-      n_live : OnLive (live q.phase to_n') (shdlc_session_of (record n { side = q }) (shdlc_number_of n)) (shdlc_session_of f (shdlc_number_of n))
-      n_live =
-          let is : shdlc_session_of (record n { side = q }) (shdlc_number_of n) ≡ q.session = of_up (record n { side = q }) on.up in
-          let a : OnLive (live Up to_n') (shdlc_session_of (record n { side = q }) (shdlc_number_of n)) (shdlc_session_of f (shdlc_number_of n)) =
-          on_live_same (Some to_n') q.session (shdlc_session_of (record n { side = q }) (shdlc_number_of n)) (shdlc_session_of f (shdlc_number_of n))
-          (shdlc_session_of f (shdlc_number_of n)) is refl pair.comes in
-          live_to Up q.phase to_n' (shdlc_session_of (record n { side = q }) (shdlc_number_of n)) (shdlc_session_of f (shdlc_number_of n)) (sym on.up) a
+      g : NumberedShdlc
+      g = record n { side = q }
 
-      past : Below (bound (record n { side = q })) n.past
+      n_live : OnLive (live q.phase to_n') (session_with g n) (session_with f n)
+      n_live =
+          let is : session_with g n ≡ q.session = of_up g on.up in
+          let a : OnLive (live Up to_n') (session_with g n) (session_with f n) =
+          on_live_same (Some to_n') q.session (session_with g n) (session_with f n) (session_with f n) is refl pair.comes in
+          live_to Up q.phase to_n' (session_with g n) (session_with f n) (sym on.up) a
+
+      past : Below (bound g) n.past
       past = let a : Below (shdlc_number_of n) n.past = rw on.was_up at h.n_past in rw on.up a
 
-      moved : (k m : ℕ) (w : List OnWire) → k ≡ m → OnLive (Some w) (shdlc_session_of f k) (shdlc_session_of (record n { side = q }) k)
-          → OnLive (Some w) (shdlc_session_of f m) (shdlc_session_of (record n { side = q }) m)
-      moved k m w e g = let P : ℕ → Type 0 = λ j. OnLive (Some w) (shdlc_session_of f j) (shdlc_session_of (record n { side = q }) j) in subst P e g
+      moved : (k m : ℕ) (w : List OnWire) → k ≡ m → OnLive (Some w) (shdlc_session_of f k) (shdlc_session_of g k)
+          → OnLive (Some w) (shdlc_session_of f m) (shdlc_session_of g m)
+      moved k m w e a = let P : ℕ → Type 0 = λ j. OnLive (Some w) (shdlc_session_of f j) (shdlc_session_of g j) in subst P e a
 
-      f_live : (o : Option (List OnWire)) → live f.side.phase to_f' ≡ o → OnLive o (shdlc_session_of f (shdlc_number_of n)) q.session
-          → OnLive o (shdlc_session_of f (shdlc_number_of f)) (shdlc_session_of (record n { side = q }) (shdlc_number_of f))
-      f_live None e g = tt
-      f_live (Some w) e g =
-          let lives : live q.phase to_n' ≡ Some to_n' = rw on.up refl in
+      f_live : (o : Option (List OnWire)) → live f.side.phase to_f' ≡ o → OnLive o (session_with f n) q.session
+          → OnLive o (session_with f f) (session_with g f)
+      f_live None e lives = tt
+      f_live (Some w) e lives =
+          let near : live q.phase to_n' ≡ Some to_n' = rw on.up refl in
           let same : shdlc_number_of n ≡ shdlc_number_of f =
-          agreed (live q.phase to_n') (live f.side.phase to_f') to_n' w (shdlc_number_of n ≡ shdlc_number_of f) lives e hand.agree in
-          let is : shdlc_session_of (record n { side = q }) (shdlc_number_of n) ≡ q.session = of_up (record n { side = q }) on.up in
-          let a : OnLive (Some w) (shdlc_session_of f (shdlc_number_of n)) (shdlc_session_of (record n { side = q }) (shdlc_number_of n)) =
-          on_live_same (Some w) (shdlc_session_of f (shdlc_number_of n)) (shdlc_session_of f (shdlc_number_of n)) q.session
-          (shdlc_session_of (record n { side = q }) (shdlc_number_of n))
-          refl is g in
+          agreed (live q.phase to_n') (live f.side.phase to_f') to_n' w (shdlc_number_of n ≡ shdlc_number_of f) near e hand.agree in
+          let is : session_with g n ≡ q.session = of_up g on.up in
+          let a : OnLive (Some w) (session_with f n) (session_with g n) =
+          on_live_same (Some w) (session_with f n) (session_with f n) q.session (session_with g n) refl is lives in
           moved (shdlc_number_of n) (shdlc_number_of f) w same a
 
 -- ## Parts of wires with one frame more or less
@@ -205,11 +203,13 @@ live_empty Up mine theirs b = active_empty mine theirs b
 live_empty Waiting mine theirs b = tt
 live_empty Down mine theirs b = tt
 
--- what is said of one session by its number
-at_number : (Q : Session → Type 0) (m : ℕ) (g h : NumberedShdlc)
-    → (((P : ℕ → Session → Type 0) → ((k : ℕ) → P k (shdlc_session_of h k)) → (k : ℕ) → P k (shdlc_session_of g k)))
-    → Q (shdlc_session_of h m) → Q (shdlc_session_of g m)
-at_number Q m g h move given = move (λ k t. k ≡ m → Q t) (λ k e. rw e given) m refl
+-- what is true of each session, by its number, is true of what it has become
+abbrev pub AllStay : (ℕ → Session) → (ℕ → Session) → Type 1
+AllStay before now = (P : ℕ → Session → Type 0) → ((k : ℕ) → P k (before k)) → (k : ℕ) → P k (now k)
+
+-- so is what is true of one of them
+at_number : (Q : Session → Type 0) (m : ℕ) {before now : ℕ → Session} → AllStay before now → Q (before m) → Q (now m)
+at_number Q m stay given = stay (λ k t. k ≡ m → Q t) (λ k e. rw e given) m refl
 
 -- ## The near end isn't Up
 
@@ -226,7 +226,7 @@ abbrev pub waiting_end : EndState → EndState
 waiting_end e = record e { phase = Waiting; due = []; timer = 0; session = no_session }
 
 abbrev pub Moves : NumberedShdlc → List (ℕ × Session) → Type 1
-Moves n past = (P : ℕ → Session → Type 0) → ((k : ℕ) → P k (shdlc_session_of n k)) → (k : ℕ) → P k (ended_session past k)
+Moves n past = AllStay (shdlc_session_of n) (ended_session past)
 
 -- the session that goes on ends and is kept
 pub moves_end : (n : NumberedShdlc) → n.side.phase ≡ Up → Moves n ((shdlc_number_of n, n.side.session) ∷ n.past)
@@ -258,17 +258,15 @@ module _ {kn kf : ℕ} {n f : NumberedShdlc} {to_n to_f : List OnWire} {r : ℕ}
   safe_idle {q = q} {to_n'} no_up on lives hand =
       let g : NumberedShdlc = record n { side = q } in
       let no_up' : q.phase ≡ Up → ⊥ = λ e. no_up (sym on.phase ∙ e) in
-      let m : (P : ℕ → Session → Type 0) → ((k : ℕ) → P k (shdlc_session_of n k)) → (k : ℕ)
-      → P k (shdlc_session_of g k) = λ P all k. of_none P n g no_up no_up' refl all k in
+      let m : AllStay (shdlc_session_of n) (shdlc_session_of g) = λ P all k. of_none P n g no_up no_up' refl all k in
       record {
         hand = hand;
         n_base = m (λ k t. Base t (shdlc_session_of f k)) h.n_base;
         f_base = m (λ k t. Base (shdlc_session_of f k) t) h.f_base;
-        n_live = live_to n.side.phase q.phase to_n' (shdlc_session_of g (shdlc_number_of n)) (shdlc_session_of f (shdlc_number_of n)) (sym on.phase)
-            (on_live_part (live n.side.phase to_n) (live n.side.phase to_n') (shdlc_session_of g (shdlc_number_of n))
-            (shdlc_session_of f (shdlc_number_of n)) lives
-            (at_number (λ t. OnLive (live n.side.phase to_n) t (shdlc_session_of f (shdlc_number_of n))) (shdlc_number_of n) g n m h.n_live));
-        f_live = at_number (λ t. OnLive (live f.side.phase to_f) (shdlc_session_of f (shdlc_number_of f)) t) (shdlc_number_of f) g n m h.f_live;
+        n_live = live_to n.side.phase q.phase to_n' (session_with g n) (session_with f n) (sym on.phase)
+            (on_live_part (live n.side.phase to_n) (live n.side.phase to_n') (session_with g n) (session_with f n) lives
+            (at_number (λ t. OnLive (live n.side.phase to_n) t (session_with f n)) (shdlc_number_of n) m h.n_live));
+        f_live = at_number (λ t. OnLive (live f.side.phase to_f) (session_with f f) t) (shdlc_number_of f) m h.f_live;
         n_past = rw on.phase h.n_past;
         f_past = h.f_past;
         n_none = λ _. on.session;
@@ -284,16 +282,13 @@ module _ {kn kf : ℕ} {n f : NumberedShdlc} {to_n to_f : List OnWire} {r : ℕ}
       → Safe 0 kf (record { side = waiting_end e; emitted = r + 1; took = n.took; past = past }) f to_n (to_f ++ x ∷ []) (r + 1)
   safe_asks {e} {x} {past} out new windows ended =
       let g : NumberedShdlc = record { side = waiting_end e; emitted = r + 1; took = n.took; past = past } in
-      let l : List OnWire = to_f ++ x ∷ [] in
       record {
         hand = hand_ask h.hand x out new;
         n_base = ended.moves (λ k t. Base t (shdlc_session_of f k)) h.n_base;
         f_base = ended.moves (λ k t. Base (shdlc_session_of f k) t) h.f_base;
-        n_live = on_live_part None (behind_ua to_n) (shdlc_session_of g (shdlc_number_of g)) (shdlc_session_of f (shdlc_number_of g)) (behind_none to_n out.no_ua) tt;
-        f_live = ended.moves (λ k t. k ≡ shdlc_number_of f → OnLive (live f.side.phase l) (shdlc_session_of f (shdlc_number_of f)) t)
-            (λ k q. at k q
-            (live_push_rset f.side.phase to_f x (shdlc_session_of f (shdlc_number_of f)) (shdlc_session_of n (shdlc_number_of f)) new.is out.no_rset h.f_live))
-            (shdlc_number_of f) refl;
+        n_live = on_live_part None (behind_ua to_n) (session_with g g) (session_with f g) (behind_none to_n out.no_ua) tt;
+        f_live = at_number (λ t. OnLive (live f.side.phase (to_f ++ x ∷ [])) (session_with f f) t) (shdlc_number_of f) ended.moves
+            (live_push_rset f.side.phase to_f x (session_with f f) (session_with n f) new.is out.no_rset h.f_live);
         n_past = ended.below;
         f_past = h.f_past;
         n_none = λ _. refl;
@@ -303,12 +298,6 @@ module _ {kn kf : ℕ} {n f : NumberedShdlc} {to_n to_f : List OnWire} {r : ℕ}
         n_windows = record { own = windows.own; peer = windows.peer };
         f_windows = h.f_windows;
       }
-    where
-      at : (k : ℕ) → k ≡ shdlc_number_of f
-          → OnLive (live f.side.phase (to_f ++ x ∷ [])) (shdlc_session_of f (shdlc_number_of f)) (shdlc_session_of n (shdlc_number_of f))
-          → OnLive (live f.side.phase (to_f ++ x ∷ [])) (shdlc_session_of f (shdlc_number_of f)) (shdlc_session_of n k)
-      at k q a =
-          let P : ℕ → Type 0 = λ j. OnLive (live f.side.phase (to_f ++ x ∷ [])) (shdlc_session_of f (shdlc_number_of f)) (shdlc_session_of n j) in subst P (sym q) a
 
   -- it waited, and gives up
   pub safe_down : {e : EndState} → n.side.phase ≡ Waiting → NothingIsOut to_n to_f → 4 < n.side.timer + kn → HasWindows e
@@ -320,8 +309,7 @@ module _ {kn kf : ℕ} {n f : NumberedShdlc} {to_n to_f : List OnWire} {r : ℕ}
         n_base = move (λ k t. Base t (shdlc_session_of f k)) h.n_base;
         f_base = move (λ k t. Base (shdlc_session_of f k) t) h.f_base;
         n_live = tt;
-        f_live = move (λ k t. k ≡ shdlc_number_of f → OnLive (live f.side.phase to_f) (shdlc_session_of f (shdlc_number_of f)) t) (λ k q. at k q h.f_live)
-            (shdlc_number_of f) refl;
+        f_live = at_number (λ t. OnLive (live f.side.phase to_f) (session_with f f) t) (shdlc_number_of f) move h.f_live;
         n_past = let a : Below n.emitted n.past = rw waiting at h.n_past in below_more n.emitted (shdlc_number_of n + 1) n.past (omega arith) a;
         f_past = h.f_past;
         n_none = λ _. refl;
@@ -331,10 +319,6 @@ module _ {kn kf : ℕ} {n f : NumberedShdlc} {to_n to_f : List OnWire} {r : ℕ}
         n_windows = record { own = windows.own; peer = windows.peer };
         f_windows = h.f_windows;
       }
-    where
-      at : (k : ℕ) → k ≡ shdlc_number_of f → OnLive (live f.side.phase to_f) (shdlc_session_of f (shdlc_number_of f)) (shdlc_session_of n (shdlc_number_of f))
-          → OnLive (live f.side.phase to_f) (shdlc_session_of f (shdlc_number_of f)) (shdlc_session_of n k)
-      at k q a = let P : ℕ → Type 0 = λ j. OnLive (live f.side.phase to_f) (shdlc_session_of f (shdlc_number_of f)) (shdlc_session_of n j) in subst P (sym q) a
 
   -- it is Down, and nothing stands on either wire
   pub safe_silent : {kn' : ℕ} {q : EndState} {past : List (ℕ × Session)} → q.due ≡ [] → HasWindows q → HaveEnded n past (shdlc_number_of n + 1)
@@ -349,7 +333,7 @@ module _ {kn kf : ℕ} {n f : NumberedShdlc} {to_n to_f : List OnWire} {r : ℕ}
         n_base = ended.moves (λ k t. Base t (shdlc_session_of f k)) h.n_base;
         f_base = base;
         n_live = tt;
-        f_live = live_empty f.side.phase (shdlc_session_of f (shdlc_number_of f)) (shdlc_session_of g (shdlc_number_of f)) (base (shdlc_number_of f));
+        f_live = live_empty f.side.phase (session_with f f) (session_with g f) (base (shdlc_number_of f));
         n_past = ended.below;
         f_past = h.f_past;
         n_none = λ _. refl;
@@ -387,28 +371,24 @@ begins_at P g up all new k = go (k == shdlc_number_of g) refl
 
 module _ {kn kf : ℕ} {n f : NumberedShdlc} {to_n to_f : List OnWire} {r : ℕ} (h : Safe kn kf n f to_n to_f r) where
   pub safe_begins : {kn' kf' : ℕ} {g : NumberedShdlc} {w : ℕ} {to_n' to_f' : List OnWire} {r' : ℕ} → IsNewlyUp g w → HaveEnded n g.past (shdlc_number_of g)
-      → Hand kn' kf' (peer_of g) (peer_of f) to_n' to_f' r' → Active to_n' no_session (shdlc_session_of f (shdlc_number_of g))
-      → OnLive (live f.side.phase to_f') (shdlc_session_of f (shdlc_number_of f)) (ended_session g.past (shdlc_number_of f))
+      → Hand kn' kf' (peer_of g) (peer_of f) to_n' to_f' r' → Active to_n' no_session (session_with f g)
+      → OnLive (live f.side.phase to_f') (session_with f f) (ended_session g.past (shdlc_number_of f))
       → Safe kn' kf' g f to_n' to_f' r'
   safe_begins {g = g} {w} {to_n'} {to_f'} new ended hand active there =
       let gone : ended_session g.past (shdlc_number_of g) ≡ no_session = none_ended (shdlc_number_of g) (shdlc_number_of g) g.past (omega arith) ended.below in
       let n_base : (k : ℕ) → Base (ended_session g.past k) (shdlc_session_of f k) = ended.moves (λ k s. Base s (shdlc_session_of f k)) h.n_base in
       let f_base : (k : ℕ) → Base (shdlc_session_of f k) (ended_session g.past k) = ended.moves (λ k s. Base (shdlc_session_of f k) s) h.f_base in
-      let mine : Base (new_session w) (shdlc_session_of f (shdlc_number_of g)) =
-      base_begins (shdlc_session_of f (shdlc_number_of g)) w new.fits (rw gone at (n_base (shdlc_number_of g))) in
-      let theirs : Base (shdlc_session_of f (shdlc_number_of g)) (new_session w) =
-      base_begins_there (shdlc_session_of f (shdlc_number_of g)) w (rw gone at (f_base (shdlc_number_of g))) in
+      let mine : Base (new_session w) (session_with f g) = base_begins (session_with f g) w new.fits (rw gone at (n_base (shdlc_number_of g))) in
+      let theirs : Base (session_with f g) (new_session w) = base_begins_there (session_with f g) w (rw gone at (f_base (shdlc_number_of g))) in
       record {
         hand = hand;
         n_base = begins_at (λ k t. Base t (shdlc_session_of f k)) g new.up n_base (rw new.session mine);
         f_base = begins_at (λ k t. Base (shdlc_session_of f k) t) g new.up f_base (rw new.session theirs);
-        n_live = live_to Up g.side.phase to_n' (shdlc_session_of g (shdlc_number_of g)) (shdlc_session_of f (shdlc_number_of g)) (sym new.up)
-            (on_live_same (Some to_n') (new_session w) (shdlc_session_of g (shdlc_number_of g)) (shdlc_session_of f (shdlc_number_of g))
-            (shdlc_session_of f (shdlc_number_of g))
-            (of_up g new.up ∙ new.session) refl
+        n_live = live_to Up g.side.phase to_n' (session_with g g) (session_with f g) (sym new.up)
+            (on_live_same (Some to_n') (new_session w) (session_with g g) (session_with f g) (session_with f g) (of_up g new.up ∙ new.session) refl
             (record { marks = active.marks; shows = active.shows; places = active.places; counts = active.counts }));
-        f_live = begins_at (λ k t. k ≡ shdlc_number_of f → OnLive (live f.side.phase to_f') (shdlc_session_of f (shdlc_number_of f)) t) g new.up (λ k q. at k q there)
-            (λ q. rw new.session (on_live_begins (live f.side.phase to_f') (shdlc_session_of f (shdlc_number_of f)) w
+        f_live = begins_at (λ k t. k ≡ shdlc_number_of f → OnLive (live f.side.phase to_f') (session_with f f) t) g new.up (λ k q. rw q there)
+            (λ q. rw new.session (on_live_begins (live f.side.phase to_f') (session_with f f) w
             (rw (sym (ap (ended_session g.past) q) ∙ gone) at there))) (shdlc_number_of f) refl;
         n_past = rw new.up ended.below;
         f_past = h.f_past;
@@ -419,10 +399,6 @@ module _ {kn kf : ℕ} {n f : NumberedShdlc} {to_n to_f : List OnWire} {r : ℕ}
         n_windows = new.windows;
         f_windows = h.f_windows;
       }
-    where
-      at : (k : ℕ) → k ≡ shdlc_number_of f → OnLive (live f.side.phase to_f') (shdlc_session_of f (shdlc_number_of f)) (ended_session g.past (shdlc_number_of f))
-          → OnLive (live f.side.phase to_f') (shdlc_session_of f (shdlc_number_of f)) (ended_session g.past k)
-      at k q a = let P : ℕ → Type 0 = λ j. OnLive (live f.side.phase to_f') (shdlc_session_of f (shdlc_number_of f)) (ended_session g.past j) in subst P (sym q) a
 
 -- by the UA that it waited for
 pub safe_up_ua : {kn kf : ℕ} {n f : NumberedShdlc} {x : OnWire} {to_n to_f : List OnWire} {r : ℕ} → Safe kn kf n f (x ∷ to_n) to_f r → (w : ℕ)
@@ -433,26 +409,16 @@ safe_up_ua {n = n} {f} {x} {to_n} {to_f} h w frame waiting fits =
     let below : Below (shdlc_number_of n) n.past = below_more n.emitted (shdlc_number_of n) n.past (omega arith) early in
     let gone : ended_session n.past (shdlc_number_of n) ≡ no_session = none_ended (shdlc_number_of n) (shdlc_number_of n) n.past (omega arith) below in
     let c : behind_ua (x ∷ to_n) ≡ Some to_n = rw frame refl in
-    let a : OnLive (behind_ua (x ∷ to_n)) (shdlc_session_of n (shdlc_number_of n)) (shdlc_session_of f (shdlc_number_of n)) =
-    live_to n.side.phase Waiting (x ∷ to_n) (shdlc_session_of n (shdlc_number_of n)) (shdlc_session_of f (shdlc_number_of n)) waiting h.n_live in
-    let b : OnLive (Some to_n) (shdlc_session_of n (shdlc_number_of n)) (shdlc_session_of f (shdlc_number_of n)) =
-    on_live_part (behind_ua (x ∷ to_n)) (Some to_n) (shdlc_session_of n (shdlc_number_of n)) (shdlc_session_of f (shdlc_number_of n)) (sym c) a in
-    let d : OnLive (Some to_n) (ended_session n.past (shdlc_number_of n)) (shdlc_session_of f (shdlc_number_of n)) =
-    move (λ k t. k ≡ shdlc_number_of n → OnLive (Some to_n) t (shdlc_session_of f (shdlc_number_of n))) (λ k q. at k q b) (shdlc_number_of n) refl in
+    let a : OnLive (behind_ua (x ∷ to_n)) (session_with n n) (session_with f n) =
+    live_to n.side.phase Waiting (x ∷ to_n) (session_with n n) (session_with f n) waiting h.n_live in
+    let b : OnLive (Some to_n) (session_with n n) (session_with f n) =
+    on_live_part (behind_ua (x ∷ to_n)) (Some to_n) (session_with n n) (session_with f n) (sym c) a in
+    let d : OnLive (Some to_n) (ended_session n.past (shdlc_number_of n)) (session_with f n) =
+    at_number (λ t. OnLive (Some to_n) t (session_with f n)) (shdlc_number_of n) move b in
     safe_begins h (record { up = refl; session = refl; due = refl; windows = record { own = h.n_windows.own; peer = h.n_windows.peer }; fits = fits })
     (record { moves = move; below = below }) (hand_up_ua h.hand frame)
-    (on_live_same (Some to_n) (ended_session n.past (shdlc_number_of n)) no_session (shdlc_session_of f (shdlc_number_of n))
-    (shdlc_session_of f (shdlc_number_of n)) (sym gone) refl d)
-    (move (λ k t. k ≡ shdlc_number_of f → OnLive (live f.side.phase to_f) (shdlc_session_of f (shdlc_number_of f)) t) (λ k q. there k q h.f_live)
-    (shdlc_number_of f) refl)
-  where
-    at : (k : ℕ) → k ≡ shdlc_number_of n → OnLive (Some to_n) (shdlc_session_of n (shdlc_number_of n)) (shdlc_session_of f (shdlc_number_of n))
-        → OnLive (Some to_n) (shdlc_session_of n k) (shdlc_session_of f (shdlc_number_of n))
-    at k q a = let P : ℕ → Type 0 = λ j. OnLive (Some to_n) (shdlc_session_of n j) (shdlc_session_of f (shdlc_number_of n)) in subst P (sym q) a
-
-    there : (k : ℕ) → k ≡ shdlc_number_of f → OnLive (live f.side.phase to_f) (shdlc_session_of f (shdlc_number_of f)) (shdlc_session_of n (shdlc_number_of f))
-        → OnLive (live f.side.phase to_f) (shdlc_session_of f (shdlc_number_of f)) (shdlc_session_of n k)
-    there k q a = let P : ℕ → Type 0 = λ j. OnLive (live f.side.phase to_f) (shdlc_session_of f (shdlc_number_of f)) (shdlc_session_of n j) in subst P (sym q) a
+    (on_live_same (Some to_n) (ended_session n.past (shdlc_number_of n)) no_session (session_with f n) (session_with f n) (sym gone) refl d)
+    (at_number (λ t. OnLive (live f.side.phase to_f) (session_with f f) t) (shdlc_number_of f) move h.f_live)
 
 -- an end that waits goes on waiting as q, with no control frame due
 pub record WaitsOn (e q : EndState) : Type 0 where
@@ -463,7 +429,6 @@ pub record WaitsOn (e q : EndState) : Type 0 where
   pub due : q.due ≡ []
   pub windows : HasWindows q
 
--- the near end takes an RSET
 module _ {n f : NumberedShdlc} {x : OnWire} {to_n to_f : List OnWire} {r : ℕ} (is : IsRset x) (h : Safe 0 0 n f (x ∷ to_n) to_f r) where
   -- by an RSET, which it answers by UA; where a session went on it has ended and is kept
   pub safe_up_rset : {y : OnWire} {past : List (ℕ × Session)} (w : ℕ) → (n.side.phase ≡ Waiting → ⊥) → IsNewUa y → w ≤ 4 → HaveEnded n past f.emitted
@@ -478,12 +443,12 @@ module _ {n f : NumberedShdlc} {x : OnWire} {to_n to_f : List OnWire} {r : ℕ} 
       let f_base : (k : ℕ) → Base (shdlc_session_of f k) (ended_session past k) = ended.moves (λ k s. Base (shdlc_session_of f k) s) h.f_base in
       let low : Below (shdlc_number_of g) past = below_more f.emitted (shdlc_number_of g) past (omega arith) ended.below in
       let none : ended_session past (shdlc_number_of g) ≡ no_session = none_ended (shdlc_number_of g) (shdlc_number_of g) past (omega arith) low in
-      let first : Base no_session (shdlc_session_of f (shdlc_number_of g)) = rw none at (n_base (shdlc_number_of g)) in
-      let act : Active to_n no_session (shdlc_session_of f (shdlc_number_of g)) =
-      rw gone (active_empty no_session (shdlc_session_of f (shdlc_number_of g)) first) in
+      let first : Base no_session (session_with f g) = rw none at (n_base (shdlc_number_of g)) in
+      let act : Active to_n no_session (session_with f g) = rw gone (active_empty no_session (session_with f g) first) in
       safe_begins h (record { up = refl; session = refl; due = refl; windows = record { own = h.n_windows.own; peer = h.n_windows.peer }; fits = fits })
       (record { moves = ended.moves; below = low }) (hand_up_rset is no_wait new h.hand) act
-      (live_push_ua f.side.phase to_f y (shdlc_session_of f (shdlc_number_of f)) (ended_session past (shdlc_number_of f)) new.frame t.out.no_ua t.waiting (f_base (shdlc_number_of f)))
+      (live_push_ua f.side.phase to_f y (session_with f f) (ended_session past (shdlc_number_of f)) new.frame t.out.no_ua t.waiting
+      (f_base (shdlc_number_of f)))
 
   -- an end that waits answers an RSET by UA, and goes on waiting
   pub safe_wait_rset : {y : OnWire} {q : EndState} → WaitsOn n.side q → IsNewUa y
@@ -492,18 +457,15 @@ module _ {n f : NumberedShdlc} {x : OnWire} {to_n to_f : List OnWire} {r : ℕ} 
       let g : NumberedShdlc = record { side = q; emitted = n.emitted; took = f.emitted; past = n.past } in
       let t = rset_told h.hand is in
       let no_up : q.phase ≡ Up → ⊥ = not_up q.phase on.waiting in
-      let m : (P : ℕ → Session → Type 0) → ((k : ℕ) → P k (shdlc_session_of n k)) → (k : ℕ) → P k (shdlc_session_of g k) =
-      λ P all k. of_none P n g (not_up n.side.phase on.was_waiting) no_up refl all k in
+      let m : AllStay (shdlc_session_of n) (shdlc_session_of g) = λ P all k. of_none P n g (not_up n.side.phase on.was_waiting) no_up refl all k in
       let n_base : (k : ℕ) → Base (shdlc_session_of g k) (shdlc_session_of f k) = m (λ k s. Base s (shdlc_session_of f k)) h.n_base in
       let f_base : (k : ℕ) → Base (shdlc_session_of f k) (shdlc_session_of g k) = m (λ k s. Base (shdlc_session_of f k) s) h.f_base in
       record {
         hand = rw (on.waiting, on.timer) (hand_wait_rset is on.was_waiting new h.hand);
         n_base = n_base;
         f_base = f_base;
-        n_live =
-            live_after_rset q.phase to_n (shdlc_session_of g (shdlc_number_of g)) (shdlc_session_of f (shdlc_number_of g)) no_up t.behind (n_base (shdlc_number_of g));
-        f_live = live_push_ua f.side.phase to_f y (shdlc_session_of f (shdlc_number_of f)) (shdlc_session_of g (shdlc_number_of f)) new.frame t.out.no_ua t.waiting
-            (f_base (shdlc_number_of f));
+        n_live = live_after_rset q.phase to_n (session_with g g) (session_with f g) no_up t.behind (n_base (shdlc_number_of g));
+        f_live = live_push_ua f.side.phase to_f y (session_with f f) (session_with g f) new.frame t.out.no_ua t.waiting (f_base (shdlc_number_of f));
         n_past = let a : Below n.emitted n.past = rw on.was_waiting at h.n_past in rw on.waiting a;
         f_past = h.f_past;
         n_none = λ _. on.session;
@@ -532,9 +494,7 @@ frame_cases x = go x.frame refl
 pub safe_lose : {kn : ℕ} {n f : NumberedShdlc} {x : OnWire} {to_n to_f : List OnWire} {r : ℕ} → Safe kn 0 n f (x ∷ to_n) to_f r → Safe kn 0 n f to_n to_f r
 safe_lose {kn} {n} {f} {x} {to_n} {to_f} {r} h = go (frame_cases x)
   where
-    with : Hand kn 0 (peer_of n) (peer_of f) to_n to_f r
-        → OnLive (live n.side.phase to_n) (shdlc_session_of n (shdlc_number_of n)) (shdlc_session_of f (shdlc_number_of n))
-        → Safe kn 0 n f to_n to_f r
+    with : Hand kn 0 (peer_of n) (peer_of f) to_n to_f r → OnLive (live n.side.phase to_n) (session_with n n) (session_with f n) → Safe kn 0 n f to_n to_f r
     with hand lives =
         record {
           hand = hand;
@@ -553,10 +513,10 @@ safe_lose {kn} {n} {f} {x} {to_n} {to_f} {r} h = go (frame_cases x)
         }
 
     s : Session
-    s = shdlc_session_of n (shdlc_number_of n)
+    s = session_with n n
 
     t : Session
-    t = shdlc_session_of f (shdlc_number_of n)
+    t = session_with f n
 
     up : n.side.phase ≡ Up → OnLive (live n.side.phase to_n) s t
     up e =
@@ -595,15 +555,14 @@ safe_ignore {n} {f} {x} {to_n} {to_f} {r} is down h =
     let t = rset_told h.hand is in
     let s : Safe 0 0 n f to_n to_f r = safe_lose h in
     let no_up : n.side.phase ≡ Up → ⊥ = down_not_up n.side.phase down in
-    let m : (P : ℕ → Session → Type 0) → ((k : ℕ) → P k (shdlc_session_of n k)) → (k : ℕ)
-    → P k (shdlc_session_of g k) = λ P all k. of_none P n g no_up no_up refl all k in
+    let m : AllStay (shdlc_session_of n) (shdlc_session_of g) = λ P all k. of_none P n g no_up no_up refl all k in
     let early : Below (shdlc_number_of n + 1) n.past = rw down at s.n_past in
     record {
       hand = hand_ignore s.hand down t.out;
       n_base = m (λ k t. Base t (shdlc_session_of f k)) s.n_base;
       f_base = m (λ k t. Base (shdlc_session_of f k) t) s.f_base;
-      n_live = live_to Down n.side.phase to_n (shdlc_session_of g (shdlc_number_of g)) (shdlc_session_of f (shdlc_number_of g)) (sym down) tt;
-      f_live = at_number (λ t. OnLive (live f.side.phase to_f) (shdlc_session_of f (shdlc_number_of f)) t) (shdlc_number_of f) g n m s.f_live;
+      n_live = live_to Down n.side.phase to_n (session_with g g) (session_with f g) (sym down) tt;
+      f_live = at_number (λ t. OnLive (live f.side.phase to_f) (session_with f f) t) (shdlc_number_of f) m s.f_live;
       n_past = rw down (below_more (shdlc_number_of n + 1) (shdlc_number_of g + 1) n.past (omega (arith, h.hand.n_took)) early);
       f_past = s.f_past;
       n_none = s.n_none;
@@ -622,8 +581,8 @@ safe_older {n} {f} {to_n} {to_f} yn yf h =
       hand = hand_older yn yf h.hand;
       n_base = h.n_base;
       f_base = h.f_base;
-      n_live = part n.side.phase to_n (shdlc_session_of n (shdlc_number_of n)) (shdlc_session_of f (shdlc_number_of n)) h.n_live;
-      f_live = part f.side.phase to_f (shdlc_session_of f (shdlc_number_of f)) (shdlc_session_of n (shdlc_number_of f)) h.f_live;
+      n_live = part n.side.phase to_n (session_with n n) (session_with f n) h.n_live;
+      f_live = part f.side.phase to_f (session_with f f) (session_with n f) h.f_live;
       n_past = h.n_past;
       f_past = h.f_past;
       n_none = h.n_none;

@@ -14,13 +14,13 @@ use Rattle.shdlc_core.specs.declared.answers.Due.TheVariants.{Rr as Rr_due, Rej 
 use Rattle.shdlc_core.specs.Machine.{EndState, Session, Fragment, no_session, sent_next, fetched, frame_due, fragment_due, control_due, expected, frames_of, after_frames, put_out, with_ready}
 use Rattle.link_laws.proofs.Idle.{fetched_idle, after_frames_idle}
 use Rattle.link_laws.proofs.Joined.{fetch_cases, fragment_due_tells, changed}
-use Rattle.session_laws.specs.Sessions.{OnWire, NumberedShdlc, ShdlcLink, shdlc_number_of, shdlc_session_of, fits, shdlc_put, shdlc_put_all, with_shdlc_controller, shdlc_becomes, ShdlcTurn, shdlc_turn, shdlc_turned}
+use Rattle.session_laws.specs.Sessions.{OnWire, NumberedShdlc, ShdlcLink, fits, shdlc_put, shdlc_put_all, with_shdlc_controller, shdlc_becomes, ShdlcTurn, shdlc_turn, shdlc_turned}
 use Rattle.session_laws.specs.Losses.{is_act, sans}
 use Rattle.session_laws.specs.Sessions.ShdlcTurn.{Offer, SetReady}
 use Rattle.session_laws.proofs.Wire.{IsData, rsets, behind_ua, live, behind_push, behind_push_none, behind_rsets, data_not_ua}
 use Rattle.session_laws.proofs.Hand.{NothingIsOut, idle_out, hand_send, hand_timer}
 use Rattle.session_laws.proofs.Data.{Pair, pair_next, pair_put, Plain, pushed, pair_send, pair_send_S, IsAnswer}
-use Rattle.session_laws.proofs.Safe.{Safe, safe_swap, GoesOn, pair_from, safe_up, safe_idle, safe_lose}
+use Rattle.session_laws.proofs.Safe.{Safe, session_with, safe_swap, GoesOn, pair_from, safe_up, safe_idle, safe_lose}
 
 abbrev pub SafeAt : ℕ → ℕ → ShdlcLink → EndState → Type 0
 SafeAt kn kf l q = Safe kn kf (record l.controller { side = q }) l.host (sans l.to_controller) (sans l.to_host) l.resets
@@ -47,7 +47,8 @@ sans-push_act (y ∷ w) x q = go (is_act y.frame) refl (sans-push_act w x q)
     go false p more = rw p (ap (λ v. y ∷ v) more)
 
 -- a wire that is full loses its first frame
-pub fits_keeps : {kf : ℕ} {n f : NumberedShdlc} {to_n : List OnWire} {r : ℕ} (w : List OnWire) → Safe 0 kf n f to_n (sans w) r → Safe 0 kf n f to_n (sans (fits w)) r
+pub fits_keeps : {kf : ℕ} {n f : NumberedShdlc} {to_n : List OnWire} {r : ℕ} (w : List OnWire) → Safe 0 kf n f to_n (sans w) r
+    → Safe 0 kf n f to_n (sans (fits w)) r
 fits_keeps {kf} {n} {f} {to_n} {r} w h = go (nat_lt 64 (length w)) w h
   where
     first : (x : OnWire) (xs : List OnWire) (b : Bool) → is_act x.frame ≡ b → Safe 0 kf n f to_n (sans (x ∷ xs)) r → Safe 0 kf n f to_n (sans xs) r
@@ -100,8 +101,8 @@ safe_answer {n = n} {f} {to_f = to_f} k up h =
     (pair_part (live-push f.side.phase to_f x tt) (pair_send_S x refl (plain_live f.side.phase to_f (no_rset_out h up).no_rset) (pair_from h up)))
 
 -- a fragment of an end that is Up
-pub safe_fragment : {kf : ℕ} {n f : NumberedShdlc} {to_n to_f : List OnWire} {r : ℕ} {info : Fragment} → n.side.phase ≡ Up → fragment_due n.side.session ≡ Some info
-    → Safe 0 kf n f to_n to_f r
+pub safe_fragment : {kf : ℕ} {n f : NumberedShdlc} {to_n to_f : List OnWire} {r : ℕ} {info : Fragment} → n.side.phase ≡ Up
+    → fragment_due n.side.session ≡ Some info → Safe 0 kf n f to_n to_f r
     → Safe 0 kf (record n { side = record n.side { session = sent_next n.side.session } }) f to_n
     (to_f ++ record { frame = I (n.side.session.next % 8) (expected n.side.session) info; age = 0; number = 0 } ∷ []) r
 safe_fragment {n = n} {f} {to_f = to_f} {info = info} up is h =
@@ -155,7 +156,7 @@ safe_drains kf m q l h = sends_keeps (λ e v. SafeAt 0 kf v e) each m q l h
         is
 
 pub up_step : {kn kf : ℕ} (l : ShdlcLink) {q : EndState} → GoesOn l.controller.side q
-    → Pair q.session (shdlc_session_of l.host (shdlc_number_of l.controller)) (sans l.to_controller) (live l.host.side.phase (sans l.to_host))
+    → Pair q.session (session_with l.host l.controller) (sans l.to_controller) (live l.host.side.phase (sans l.to_host))
     → SafeLink kn kf l → SafeAt 0 kf l q
 up_step l on pair h =
     safe_up h on

@@ -19,7 +19,7 @@ use Rattle.session_laws.specs.Sessions.ShdlcLinkEvent.{AtController, AtHost, Tic
 use Rattle.session_laws.proofs.Wire.{IsData, rsets, uas, behind_ua, live, Young, data_behind, young_later, young_older}
 use Rattle.session_laws.proofs.Hand.{peer_of, NothingIsOut, IsRset, IsNextRset, hand_empty, agrees_from, idle_out, rset_told, ahead_not_waiting, hand_past, hand_timer, nothing_out}
 use Rattle.session_laws.proofs.Data.{Base, Below, below_more, none_ended, bound, OnLive, Pair, pair_next, IsAnswer, taken_up}
-use Rattle.session_laws.proofs.Safe.{HasWindows, Safe, agreed, safe_swap, pair_from, safe_up, safe_idle, Idle, HaveEnded, moves_end, moves_none, waiting_end, safe_asks, safe_down, up_end, safe_up_ua, safe_up_rset, WaitsOn, safe_wait_rset, frame_cases, safe_lose, safe_ignore, safe_older, live_empty, safe_silent}
+use Rattle.session_laws.proofs.Safe.{HasWindows, Safe, session_with, agreed, safe_swap, pair_from, safe_up, safe_idle, Idle, HaveEnded, moves_end, moves_none, waiting_end, safe_asks, safe_down, up_end, safe_up_ua, safe_up_rset, WaitsOn, safe_wait_rset, frame_cases, safe_lose, safe_ignore, safe_older, live_empty, safe_silent}
 use Rattle.session_laws.proofs.Sending.{SafeAt, SafeLink, sans-push_act, fits_keeps, safe_fits, no_rset_out, up_step, becomes_none, becomes_one, becomes_taken}
 
 -- ## It sends an RSET and waits
@@ -149,7 +149,7 @@ ticks kf ts l h = go e.phase (runs_timer e.session) (nat_lt (e.timer + 1) 10) (n
     plain q a b s = rw (b, a) s
 
     up : (q : EndState) → e.phase ≡ Up → q.phase ≡ Up → q.due ≡ e.due → q.own_window ≡ e.own_window → q.peer_window ≡ e.peer_window
-        → Pair q.session (shdlc_session_of l.host (shdlc_number_of l.controller)) (sans l.to_controller) (live l.host.side.phase (sans l.to_host))
+        → Pair q.session (session_with l.host l.controller) (sans l.to_controller) (live l.host.side.phase (sans l.to_host))
         → SafeLink 0 kf (shdlc_becomes l (shdlc_turned q ts))
     up q p qup due own peer pair =
         becomes_none kf ts l q (up_step l (record { was_up = p; up = qup; due = due ∙ h.n_due; own = own; peer = peer }) pair h)
