@@ -136,7 +136,7 @@ one_rset k p t a [] [] h = (refl, refl, h.0, h.1)
 one_rset k p t a (b ∷ r) u h = absurd h
 one_rset k p t a [] (b ∷ u) h = absurd h
 
-pub one_ua : (k : ℕ) (p : LinkState) (t a : ℕ) (r u : List ℕ) → OneOut k p t r (a ∷ u) → (r ≡ []) × (u ≡ []) × (p ≡ Waiting) × (a ≤ t + k) × (t + k ≤ a + 4)
+one_ua : (k : ℕ) (p : LinkState) (t a : ℕ) (r u : List ℕ) → OneOut k p t r (a ∷ u) → (r ≡ []) × (u ≡ []) × (p ≡ Waiting) × (a ≤ t + k) × (t + k ≤ a + 4)
 one_ua k p t a [] [] h = (refl, refl, h.0, h.1, h.2)
 one_ua k p t a [] (b ∷ u) h = absurd h
 one_ua k p t a (b ∷ []) u h = absurd h
@@ -502,18 +502,24 @@ module _ {kn kf : ℕ} {n f : Peer} {x : OnWire} {to_n to_f : List OnWire} {r : 
       alike Waiting e = rw e (same (behind_ua to_n))
       alike Down e = NoneAlike
 
+  -- what a UA in front tells: the near end waits for it, and nothing else of it is out
+  pub ua_told : x.frame ≡ Ua → NothingIsOut to_n to_f × (n.phase ≡ Waiting)
+  ua_told frame =
+      let b : uas (x ∷ to_n) ≡ x.age ∷ uas to_n = rw frame refl in
+      let out = one_ua kn n.phase n.timer x.age (rsets to_f) (uas to_n) (rw b at h.n_out) in
+      (record { no_rset = out.0; no_ua = out.1 }, out.2)
+
   -- the near end takes the UA that it waited for
   pub hand_up_ua : x.frame ≡ Ua → Hand kn kf (record { phase = Up; timer = 0; emitted = n.emitted; took = n.took }) f to_n to_f r
   hand_up_ua frame =
       let p : Peer = record { phase = Up; timer = 0; emitted = n.emitted; took = n.took } in
       let a : rsets (x ∷ to_n) ≡ rsets to_n = rw frame refl in
-      let b : uas (x ∷ to_n) ≡ x.age ∷ uas to_n = rw frame refl in
       let c : behind_ua (x ∷ to_n) ≡ Some to_n = rw frame refl in
-      let out = one_ua kn n.phase n.timer x.age (rsets to_f) (uas to_n) (rw b at h.n_out) in
+      let t = ua_told frame in
       let s : Sure (rsets to_n) (n.emitted < f.emitted) = rw c at h.n_behind in
-      let lives : live n.phase (x ∷ to_n) ≡ Some to_n = rw (out.2, c) refl in
+      let lives : live n.phase (x ∷ to_n) ≡ Some to_n = rw (t.1, c) refl in
       record {
-        n_out = out_none kn Up 0 (rsets to_f) (uas to_n) out.0 out.1;
+        n_out = out_none kn Up 0 (rsets to_f) (uas to_n) t.0.no_rset t.0.no_ua;
         f_out = rw a at h.f_out;
         n_numbered = h.n_numbered;
         f_numbered = h.f_numbered.1;
@@ -521,9 +527,9 @@ module _ {kn kf : ℕ} {n f : Peer} {x : OnWire} {to_n to_f : List OnWire} {r : 
         f_ahead = h.f_ahead;
         n_took = h.n_took;
         f_took = h.f_took;
-        n_sure = sure_none (uas to_n) (f.took ≡ n.emitted) out.1;
+        n_sure = sure_none (uas to_n) (f.took ≡ n.emitted) t.0.no_ua;
         f_sure = h.f_sure;
-        n_behind = behind_none_fact (behind_ua to_n) (n.emitted < f.emitted) (behind_none to_n out.1);
+        n_behind = behind_none_fact (behind_ua to_n) (n.emitted < f.emitted) (behind_none to_n t.0.no_ua);
         f_behind = h.f_behind;
         n_tail = rw frame at h.n_tail;
         f_tail = h.f_tail;
@@ -543,11 +549,10 @@ module _ {kn kf : ℕ} {n f : Peer} {x : OnWire} {to_n to_f : List OnWire} {r : 
   pub hand_lose_ua : x.frame ≡ Ua → Hand kn kf n f to_n to_f r
   hand_lose_ua frame =
       let a : rsets (x ∷ to_n) ≡ rsets to_n = rw frame refl in
-      let b : uas (x ∷ to_n) ≡ x.age ∷ uas to_n = rw frame refl in
-      let out = one_ua kn n.phase n.timer x.age (rsets to_f) (uas to_n) (rw b at h.n_out) in
-      let still : live n.phase to_n ≡ None = rw out.2 (behind_none to_n out.1) in
+      let t = ua_told frame in
+      let still : live n.phase to_n ≡ None = rw t.1 (behind_none to_n t.0.no_ua) in
       record {
-        n_out = out_none kn n.phase n.timer (rsets to_f) (uas to_n) out.0 out.1;
+        n_out = out_none kn n.phase n.timer (rsets to_f) (uas to_n) t.0.no_rset t.0.no_ua;
         f_out = rw a at h.f_out;
         n_numbered = h.n_numbered;
         f_numbered = h.f_numbered.1;
@@ -555,9 +560,9 @@ module _ {kn kf : ℕ} {n f : Peer} {x : OnWire} {to_n to_f : List OnWire} {r : 
         f_ahead = h.f_ahead;
         n_took = h.n_took;
         f_took = h.f_took;
-        n_sure = sure_none (uas to_n) (f.took ≡ n.emitted) out.1;
+        n_sure = sure_none (uas to_n) (f.took ≡ n.emitted) t.0.no_ua;
         f_sure = h.f_sure;
-        n_behind = behind_none_fact (behind_ua to_n) (n.emitted < f.emitted) (behind_none to_n out.1);
+        n_behind = behind_none_fact (behind_ua to_n) (n.emitted < f.emitted) (behind_none to_n t.0.no_ua);
         f_behind = h.f_behind;
         n_tail = rw frame at h.n_tail;
         f_tail = h.f_tail;

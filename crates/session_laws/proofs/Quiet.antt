@@ -21,7 +21,7 @@ use Rattle.session_laws.specs.Sessions.ShdlcLinkEvent.{AtController, AtHost, Tic
 use Rattle.session_laws.specs.Sessions.IsShdlcStart.{BothUp, BothDown}
 use Rattle.session_laws.specs.Losses.{is_act, sans, Losses, no_losses, counts_first, overflows, noted_loss, noted_all, noted_out, is_up_with, came_up, noted_here, noted_turns, noted_tick, noted_if_waiting, loses_aged, noted_aged, noted_event, losses_after, IsShdlcQuiet}
 use Rattle.session_laws.proofs.Wire.{IsData, rsets, uas, behind_ua, live, behind_none, data_behind, AfterRset, after_rset_empty}
-use Rattle.session_laws.proofs.Hand.{NothingIsOut, IsRset, idle_out, one_ua, rset_told, nothing_out}
+use Rattle.session_laws.proofs.Hand.{NothingIsOut, IsRset, idle_out, ua_told, rset_told, nothing_out}
 use Rattle.session_laws.proofs.Data.{IsAnswer, taken_up}
 use Rattle.session_laws.proofs.Safe.{Safe, agreed, pair_from, Idle, frame_cases, up_end, safe_swap, safe_lose}
 use Rattle.session_laws.proofs.Sending.{SafeLink, sans-push_act, fits_keeps, no_rset_out, room, ready_by, at_most_one}
@@ -82,14 +82,10 @@ takes_by P l x xs h session passed new waits confirmed = go (frame_cases x) e.ph
         new is.window (tells is) (after_rset_empty xs (sym b ∙ (idle_out h.hand no_wait).no_ua) (tells is).behind) to
 
     no_ua : x.frame ≡ Ua → (e.phase ≡ Waiting → ⊥) → P
-    no_ua is n =
-        let b : uas (x ∷ xs) ≡ x.age ∷ uas xs = rw is refl in
-        absurd (let z : x.age ∷ uas xs ≡ [] = sym b ∙ (idle_out h.hand n).no_ua in cc)
+    no_ua is n = absurd (n (ua_told h.hand is).1)
 
     comes_up : x.frame ≡ Ua → e.phase ≡ Waiting → P
-    comes_up is p =
-        let b : uas (x ∷ xs) ≡ x.age ∷ uas xs = rw is refl in
-        confirmed is p (one_ua 0 e.phase e.timer x.age (rsets l.to_host) (uas xs) (rw b at h.hand.n_out)).0
+    comes_up is p = confirmed is p (ua_told h.hand is).0.no_rset
 
     go : IsData x.frame ⊎ (IsRset x ⊎ (x.frame ≡ Ua)) → (p : LinkState) → e.phase ≡ p → P
     go (inl d) Up p = in_session d p
@@ -516,7 +512,7 @@ tied_weaker W V n f to_n to_f weak t (inr v) = t (inr (weak v))
 tied_lose : {kn : ℕ} (W V : Type 0) {n f : NumberedShdlc} {x : OnWire} {to_n to_f : List OnWire} {r : ℕ} → (V → ⊥) → Safe kn 0 n f (x ∷ to_n) to_f r
     → Tied W n.side f.side (x ∷ to_n) to_f → Tied V n.side f.side to_n to_f
 tied_lose W V lossy h t (inr v) a b p q = absurd (lossy v)
-tied_lose {kn} W V {n} {f} {x} {to_n} {to_f} lossy h t (inl u) a b p q = go (frame_cases x)
+tied_lose W V {n} {f} {x} {to_n} {to_f} lossy h t (inl u) a b p q = go (frame_cases x)
   where
     go : IsData x.frame ⊎ (IsRset x ⊎ (x.frame ≡ Ua)) → Meets (as_up n.side.phase n.side) (as_up f.side.phase f.side) a b
     go (inl d) = t (inl u) a b (let s : behind_ua to_n ≡ Some a = rw u.0 at p in rw u.0 (data_behind x.frame to_n (behind_ua to_n) d ∙ s)) q
@@ -524,9 +520,8 @@ tied_lose {kn} W V {n} {f} {x} {to_n} {to_f} lossy h t (inl u) a b p q = go (fra
         let k = rset_told h.hand s in
         absurd (let z : behind_ua to_f ≡ Some b = rw u.1 at q in let y : None ≡ Some b = sym (behind_none to_f k.out.no_ua) ∙ z in cc)
     go (inr (inr s)) =
-        let e : uas (x ∷ to_n) ≡ x.age ∷ uas to_n = rw s refl in
-        let out = one_ua kn n.side.phase n.side.timer x.age (rsets to_f) (uas to_n) (rw e at h.hand.n_out) in
-        absurd (let z : behind_ua to_n ≡ Some a = rw u.0 at p in let y : None ≡ Some a = sym (behind_none to_n out.1) ∙ z in cc)
+        let k = ua_told h.hand s in
+        absurd (let z : behind_ua to_n ≡ Some a = rw u.0 at p in let y : None ≡ Some a = sym (behind_none to_n k.0.no_ua) ∙ z in cc)
 
 loses : (n : Losses) (l : ShdlcLink) → SafeLink 0 0 l → TiedLink n l → TiedLink (noted_here n l Lose) (shdlc_happens_at_controller l Lose)
 loses n l h t = go l.to_controller h t

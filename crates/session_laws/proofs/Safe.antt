@@ -8,7 +8,7 @@ use Rattle.shdlc_core.specs.Machine.{EndState, Session, new_session, no_session}
 use Rattle.std.proofs.lemmas.Bool.{eqb-true}
 use Rattle.session_laws.specs.Sessions.{OnWire, NumberedShdlc, older, shdlc_number_of, shdlc_session_of, ended_session}
 use Rattle.session_laws.proofs.Wire.{IsData, rsets, uas, AfterRset, behind_ua, live, Young, behind_none, behind_push, behind_push_none, behind_new, behind_rsets, data_behind, after_rset_empty, live-older, older_part}
-use Rattle.session_laws.proofs.Hand.{peer_of, Hand, Agrees, NothingIsOut, IsRset, IsNextRset, IsNewUa, hand_swap, hand_empty, idle_out, one_ua, rset_told, hand_past, hand_ask, hand_down, hand_up_ua, hand_up_rset, hand_wait_rset, hand_lose_rset, hand_lose_ua, hand_ignore, hand_older}
+use Rattle.session_laws.proofs.Hand.{peer_of, Hand, Agrees, NothingIsOut, IsRset, IsNextRset, IsNewUa, hand_swap, hand_empty, idle_out, ua_told, rset_told, hand_past, hand_ask, hand_down, hand_up_ua, hand_up_rset, hand_wait_rset, hand_lose_rset, hand_lose_ua, hand_ignore, hand_older}
 use Rattle.session_laws.proofs.Data.{Base, Active, OnLive, active_empty, active_lost, Below, below_more, none_ended, bound, of_up, of_update, of_none, base_begins, base_begins_there, Pair, shows_push_rset, shows_older}
 
 -- the windows that an end may ask for
@@ -542,10 +542,9 @@ safe_lose {kn} {n} {f} {x} {to_n} {to_f} {r} h = go (frame_cases x)
     go (inl d) = with (hand_past h.hand d) (data_live d n.side.phase refl)
     go (inr (inl q)) = with (hand_lose_rset q h.hand) (rset_live q n.side.phase refl)
     go (inr (inr q)) =
-        let b : uas (x ∷ to_n) ≡ x.age ∷ uas to_n = rw q refl in
-        let out = one_ua kn n.side.phase n.side.timer x.age (rsets to_f) (uas to_n) (rw b at h.hand.n_out) in
+        let told = ua_told h.hand q in
         with (hand_lose_ua h.hand q)
-        (live_to Waiting n.side.phase to_n s t (sym out.2) (on_live_part None (behind_ua to_n) s t (behind_none to_n out.1) tt))
+        (live_to Waiting n.side.phase to_n s t (sym told.1) (on_live_part None (behind_ua to_n) s t (behind_none to_n told.0.no_ua) tt))
 
 -- an end that is Down takes an RSET, and stays as it is
 pub safe_ignore : {n f : NumberedShdlc} {x : OnWire} {to_n to_f : List OnWire} {r : ℕ} → IsRset x → n.side.phase ≡ Down → Safe 0 0 n f (x ∷ to_n) to_f r

@@ -16,8 +16,8 @@ use Rattle.session_laws.specs.Sessions.IsShdlcStart.{BothUp, BothDown}
 use Rattle.swp_base.specs.declared.control_frames.Act.{Act as Activation}
 use Rattle.session_laws.specs.Sessions.ShdlcEndEvent.{Turns, Deliver, Ignore, Acts, Lose, Reset, Cut, Stop}
 use Rattle.session_laws.specs.Sessions.ShdlcLinkEvent.{AtController, AtHost, Tick, TickWithout}
-use Rattle.session_laws.proofs.Wire.{IsData, rsets, uas, behind_ua, live, Young, data_behind, young_later, young_older}
-use Rattle.session_laws.proofs.Hand.{peer_of, NothingIsOut, IsRset, IsNextRset, hand_empty, agrees_from, idle_out, rset_told, ahead_not_waiting, hand_past, hand_timer, nothing_out}
+use Rattle.session_laws.proofs.Wire.{IsData, rsets, behind_ua, live, Young, data_behind, young_later, young_older}
+use Rattle.session_laws.proofs.Hand.{peer_of, NothingIsOut, IsRset, IsNextRset, hand_empty, agrees_from, idle_out, ua_told, rset_told, ahead_not_waiting, hand_past, hand_timer, nothing_out}
 use Rattle.session_laws.proofs.Data.{Base, Below, below_more, none_ended, bound, OnLive, Pair, pair_next, IsAnswer, taken_up}
 use Rattle.session_laws.proofs.Safe.{HasWindows, Safe, session_with, agreed, safe_swap, pair_from, safe_up, safe_idle, Idle, HaveEnded, moves_end, moves_none, waiting_end, safe_asks, safe_down, up_end, safe_up_ua, safe_up_rset, WaitsOn, safe_wait_rset, frame_cases, safe_lose, safe_ignore, safe_older, live_empty, safe_silent}
 use Rattle.session_laws.proofs.Sending.{SafeAt, SafeLink, sans-push_act, fits_keeps, safe_fits, no_rset_out, up_step, becomes_none, becomes_one, becomes_taken}
@@ -272,10 +272,7 @@ takes ts l x xs h = go (frame_cases x) e.phase refl
     next = record l { to_controller = xs }
 
     no_ua : x.frame ≡ Ua → (e.phase ≡ Waiting → ⊥) → ⊥
-    no_ua q n =
-        let b : uas (x ∷ sans xs) ≡ x.age ∷ uas (sans xs) = rw q refl in
-        let z : x.age ∷ uas (sans xs) ≡ [] = sym b ∙ (idle_out h.hand n).no_ua in
-        cc
+    no_ua q n = n (ua_told h.hand q).1
 
     -- an end in a session
     in_session : e.phase ≡ Up → IsData x.frame → SafeLink 0 0 (took l ts x xs)
