@@ -7,15 +7,17 @@ fn quotas_hold(rt: HostRuntime) -> Result<(), Fail> {
     let mut pool = Pool::make(rt.alloc(), &[2, 1])?;
     let mut chain = pool.chain(0);
     let bytes = [7; 33];
-    assert_eq!(rt; pool.take(&mut chain, &bytes), Ok(()));
-    assert_eq!(rt; pool.spare(0), 0);
+    let taken = pool.take(&mut chain, &bytes);
     let further = pool.take(&mut chain, &bytes[..32]);
-    assert_eq!(rt; further, Err(NoRoom { need: 1, spare: 0 }));
     let passed = pool.pass(&mut chain, 1);
-    assert_eq!(rt; passed, Err(NoRoom { need: 2, spare: 1 }));
-    assert_eq!(rt; pool.len(&chain), 33);
+    let spare = pool.spare(0);
+    let len = pool.len(&chain);
     pool.give(chain);
-    assert_eq!(rt; pool.spare(0), 2);
+    assert_eq!(rt; taken, Ok(()));
+    assert_eq!(rt; further, Err(NoRoom { need: 1, spare: 0 }));
+    assert_eq!(rt; passed, Err(NoRoom { need: 2, spare: 1 }));
+    assert_eq!(rt; [spare, pool.spare(0)], [0, 2]);
+    assert_eq!(rt; len, 33);
     Ok(())
 }
 
@@ -24,16 +26,19 @@ fn bytes_come_back(rt: HostRuntime) -> Result<(), Fail> {
     let mut pool = Pool::make(rt.alloc(), &[4, 4])?;
     let mut first = pool.chain(0);
     let mut second = pool.chain(1);
-    assert_eq!(rt; pool.take(&mut first, &[1; 20]), Ok(()));
-    assert_eq!(rt; pool.take(&mut second, &[2; 33]), Ok(()));
-    assert_eq!(rt; pool.take(&mut first, &[3; 30]), Ok(()));
-    assert_eq!(rt; pool.len(&first), 50);
+    pool.take(&mut first, &[1; 20])?;
+    pool.take(&mut second, &[2; 33])?;
+    pool.take(&mut first, &[3; 30])?;
     let mut out = [0xEE; 40];
-    assert_eq!(rt; pool.copy_out(&first, 18, &mut out), 32);
-    assert_eq!(rt; &out[..3], [1, 1, 3].as_slice());
-    assert_eq!(rt; &out[31..33], [3, 0xEE].as_slice());
-    assert_eq!(rt; pool.copy_out(&second, 31, &mut out), 2);
-    assert_eq!(rt; &out[..3], [2, 2, 3].as_slice());
+    let mut rest = [0xEE; 3];
+    let counts = [
+        pool.copy_out(&first, 18, &mut out),
+        pool.copy_out(&second, 31, &mut rest),
+    ];
+    let shown = [out[0], out[1], out[2], out[31], out[32]];
+    assert_eq!(rt; counts, [32, 2]);
+    assert_eq!(rt; shown, [1, 1, 3, 3, 0xEE]);
+    assert_eq!(rt; rest, [2, 2, 0xEE]);
     Ok(())
 }
 
@@ -41,22 +46,24 @@ fn bytes_come_back(rt: HostRuntime) -> Result<(), Fail> {
 fn a_copy_goes_on_and_back(rt: HostRuntime) -> Result<(), Fail> {
     let mut pool = Pool::make(rt.alloc(), &[4])?;
     let mut chain = pool.chain(0);
-    assert_eq!(rt; pool.take(&mut chain, &[1; 40]), Ok(()));
-    assert_eq!(rt; pool.take(&mut chain, &[2; 60]), Ok(()));
-    let mut out = [0; 28];
-    assert_eq!(rt; pool.copy_on(&chain, 28, &mut out), 28);
-    assert_eq!(rt; &out[11..13], [1, 2].as_slice());
-    assert_eq!(rt; pool.copy_on(&chain, 84, &mut out), 16);
-    assert_eq!(rt; &out[15..17], [2, 2].as_slice());
-    assert_eq!(rt; pool.copy_on(&chain, 0, &mut out), 28);
-    assert_eq!(rt; out, [1; 28]);
+    pool.take(&mut chain, &[1; 40])?;
+    pool.take(&mut chain, &[2; 60])?;
+    let (mut on, mut end, mut back) = ([0; 28], [0; 28], [0; 28]);
+    let counts = [
+        pool.copy_on(&chain, 28, &mut on),
+        pool.copy_on(&chain, 84, &mut end),
+        pool.copy_on(&chain, 0, &mut back),
+    ];
+    assert_eq!(rt; counts, [28, 16, 28]);
+    assert_eq!(rt; [on[11], on[12], end[15], end[16]], [1, 2, 2, 0]);
+    assert_eq!(rt; back, [1; 28]);
     Ok(())
 }
 
 #[test]
 fn a_block_is_set_aside(rt: HostRuntime) -> Result<(), Fail> {
     let mut pool = Pool::make(rt.alloc(), &[1])?;
-    assert_eq!(rt; pool.set_aside(0), Ok(()));
-    assert_eq!(rt; pool.set_aside(0), Err(NoRoom { need: 1, spare: 0 }));
+    let answers = [pool.set_aside(0), pool.set_aside(0)];
+    assert_eq!(rt; answers, [Ok(()), Err(NoRoom { need: 1, spare: 0 })]);
     Ok(())
 }

@@ -3,6 +3,8 @@ ghost use Rattle.std.specs.Prelude.{◌≡◌, ◌+◌, ◌<◌, ◌≤◌, ◌+
 ghost use Rattle.swp_base.specs.Outside.{Rose};
 
 use arrayvec::ArrayVec;
+use std::alloc::Global;
+use std::process::Abort;
 use std::test::Fail;
 use swp_base::{
     Failed, Info, Lpdu, MemNv, MemSink, MemSource, NoMemory, Nv, Sink, Source, SureNv, SureSink,
@@ -41,31 +43,50 @@ fn read_all<S: Source>(source: &mut S, bytes: &mut Vec<u8>, limit: u32) -> Resul
     Ok(false)
 }
 
+/// A source is read, to its end where it says so, and these bytes come.
+fn gives<S: Source>(
+    rt: &impl Abort,
+    alloc: Global,
+    source: &mut S,
+    ended: bool,
+    wanted: &[u8],
+) -> Result<(), NoMemory> {
+    let mut bytes = Vec::new(alloc);
+    let came = read_all(source, &mut bytes, 100)?;
+    assert_eq!(rt; (came, bytes.as_slice()), (ended, wanted));
+    Ok(())
+}
+
 #[test]
 fn a_source_gives_its_bytes_in_pieces_and_fails_as_planned(rt: HostRuntime) -> Result<(), Fail> {
     let alloc = rt.alloc();
     let mut source = MemSource::new(vec![in alloc; 1, 2, 3, 4, 5]?, vec![in alloc; 2]?, 2);
-    let mut bytes = Vec::new(alloc);
-    assert_eq!(rt; read_all(&mut source, &mut bytes, 100), Ok(false));
-    assert_eq!(rt; bytes.as_slice(), [1, 2].as_slice());
-    assert_eq!(rt; source.left(), [3, 4, 5].as_slice());
-    assert_eq!(rt; read_all(&mut source, &mut bytes, 100), Ok(true));
-    assert_eq!(rt; bytes.as_slice(), [1, 2, 3, 4, 5].as_slice());
     let mut sure = SureSource::new(vec![in alloc; 6, 7, 8, 9, 10, 11]?);
-    assert_eq!(rt; read_all(&mut sure, &mut bytes, 100), Ok(true));
-    assert_eq!(rt; bytes.len(), 11);
+    gives(&rt, alloc, &mut source, false, &[1, 2])?;
+    gives(&rt, alloc, &mut source, true, &[3, 4, 5])?;
+    gives(&rt, alloc, &mut sure, true, &[6, 7, 8, 9, 10, 11])?;
     Ok(())
+}
+
+/// The whole piece is written to a sink, or not, and these are the sink's bytes then.
+fn takes(
+    rt: &impl Abort,
+    sink: &mut MemSink,
+    piece: &[u8],
+    answer: Result<(), Failed>,
+    wanted: &[u8],
+) {
+    let told = write_all(sink, piece);
+    assert_eq!(rt; (told, sink.bytes()), (answer, wanted));
 }
 
 #[test]
 fn a_sink_takes_pieces_and_fails_as_planned(rt: HostRuntime) -> Result<(), Fail> {
     let alloc = rt.alloc();
     let mut sink = MemSink::new(vec![in alloc; 9]?, vec![in alloc; 3]?, 1);
-    assert_eq!(rt; write_all(&mut sink, &[1, 2]), Ok(()));
-    assert_eq!(rt; write_all(&mut sink, &[3, 4]), Err(Failed));
-    assert_eq!(rt; sink.bytes(), [9, 1, 2].as_slice());
-    assert_eq!(rt; write_all(&mut sink, &[3, 4]), Ok(()));
-    assert_eq!(rt; sink.bytes(), [9, 1, 2, 3, 4].as_slice());
+    takes(&rt, &mut sink, &[1, 2], Ok(()), &[9, 1, 2]);
+    takes(&rt, &mut sink, &[3, 4], Err(Failed), &[9, 1, 2]);
+    takes(&rt, &mut sink, &[3, 4], Ok(()), &[9, 1, 2, 3, 4]);
     assert_eq!(rt; write_all(&mut SureSink, &[1, 2, 3]), Ok(()));
     Ok(())
 }
@@ -127,16 +148,12 @@ fn units_have_from_one_byte_to_their_longest(rt: HostRuntime) {
         (30, true, false),
         (31, false, false),
     ] {
-        assert_eq!(rt;
-            Lpdu::from_bytes(&bytes[..len]).is_some(),
-            lpdu,
-            "{len} bytes"
+        let unit = &bytes[..len];
+        let told = (
+            Lpdu::from_bytes(unit).is_some(),
+            Info::from_bytes(unit).is_some(),
         );
-        assert_eq!(rt;
-            Info::from_bytes(&bytes[..len]).is_some(),
-            info,
-            "{len} bytes"
-        );
+        assert_eq!(rt; told, (lpdu, info), "{len} bytes");
     }
     assert_eq!(rt; Lpdu::default().bytes(), [0].as_slice());
     assert_eq!(rt; Info::default().copied(), Info::default());

@@ -8,6 +8,7 @@ use crate::rows::*;
 use nv_journal::JournalFault;
 use schedule_text::LineFault;
 use std::alloc::{AllocError, Global};
+use std::process::Abort;
 use std::test::Fail;
 use swp_base::{MemNv, MemSink, MemSource, NoMemory, SureNv, SureSink, SureSource};
 use swp_tool::*;
@@ -50,6 +51,12 @@ fn outcome_of(
         written: Vec::from_slice(alloc, sink.bytes())?,
         left: source.left().len(),
     })
+}
+
+/// The run ended with this status, and wrote these bytes.
+fn ended(rt: &impl Abort, run: &Outcome, status: &Status, written: &[u8], what: &str) {
+    assert_eq!(rt; &run.status, status, "{what}");
+    assert_eq!(rt; run.written.as_slice(), written, "{what}");
 }
 
 /// The words that are this one.
@@ -108,8 +115,7 @@ fn worked_examples_are_replayed(rt: HostRuntime) -> Result<(), Fail> {
     ] {
         for piece in [4096, 1] {
             let run = outcome_of(rt.alloc(), &REPLAY, schedule.as_bytes(), NONE, piece)?;
-            assert_eq!(rt; run.status, Status::Done, "{schedule}");
-            assert_eq!(rt; run.written.as_slice(), transcript.as_bytes(), "{schedule}");
+            ended(&rt, &run, &Status::Done, transcript.as_bytes(), schedule);
             assert_eq!(rt; run.left, 0, "{schedule}");
         }
     }
@@ -121,8 +127,8 @@ fn damage_that_the_crc_does_not_show_ends_a_replay(rt: HostRuntime) -> Result<()
     let [schedule, transcript] = DAMAGE_THE_CRC_DOES_NOT_SHOW;
     for piece in [4096, 1] {
         let run = outcome_of(rt.alloc(), &REPLAY, schedule.as_bytes(), NONE, piece)?;
-        assert_eq!(rt; run.status, Status::Undetected { line: 3 });
-        assert_eq!(rt; run.written.as_slice(), transcript.as_bytes());
+        let status = Status::Undetected { line: 3 };
+        ended(&rt, &run, &status, transcript.as_bytes(), schedule);
     }
     Ok(())
 }
@@ -161,12 +167,8 @@ fn a_fault_is_told_with_its_line(rt: HostRuntime) -> Result<(), Fail> {
         ),
     ] {
         let run = outcome_of(rt.alloc(), &REPLAY, schedule.as_bytes(), NONE, 4096)?;
-        assert_eq!(rt;
-            run.status,
-            Status::BadSchedule { line, fault },
-            "{schedule}"
-        );
-        assert_eq!(rt; run.written.as_slice(), written, "{schedule}");
+        let status = Status::BadSchedule { line, fault };
+        ended(&rt, &run, &status, written, schedule);
     }
     Ok(())
 }
@@ -197,8 +199,8 @@ fn a_schedule_has_20000_lines_at_most(rt: HostRuntime) -> Result<(), Fail> {
     assert!(rt; run.written.as_slice().ends_with(b"\ndone 20000\n"));
     schedule.push(b'\n')?;
     let run = outcome_of(rt.alloc(), &REPLAY, schedule.as_slice(), NONE, 4096)?;
-    assert_eq!(rt; run.status, Status::TooMany { count: 20_001 });
-    assert_eq!(rt; run.written.as_slice(), OPENING);
+    let status = Status::TooMany { count: 20_001 };
+    ended(&rt, &run, &status, OPENING, "one line more");
     Ok(())
 }
 
@@ -221,14 +223,12 @@ fn other_words_are_refused_and_nothing_is_written(rt: HostRuntime) -> Result<(),
 #[test]
 fn a_read_that_fails_leaves_the_whole_lines_before_it(rt: HostRuntime) -> Result<(), Fail> {
     let [schedule, transcript] = ONE_MESSAGE;
-    let run = outcome_of(rt.alloc(), &REPLAY, schedule.as_bytes(), (&[1], &[]), 4096)?;
-    assert_eq!(rt; run.status, Status::ReadFault);
-    assert_eq!(rt; run.written.len(), 0);
-    let run = outcome_of(rt.alloc(), &REPLAY, schedule.as_bytes(), (&[2], &[]), 4096)?;
-    assert_eq!(rt; run.status, Status::ReadFault);
-    let mut whole = Vec::from_slice(rt.alloc(), run.written.as_slice())?;
-    whole.extend_from_slice(b"done 4\n")?;
-    assert_eq!(rt; whole.as_slice(), transcript.as_bytes());
+    let lines = transcript.trim_end_matches("done 4\n").as_bytes();
+    for (failing, written) in [(1, b"".as_slice()), (2, lines)] {
+        let fails: (&[u64], &[u64]) = (&[failing], &[]);
+        let run = outcome_of(rt.alloc(), &REPLAY, schedule.as_bytes(), fails, 4096)?;
+        ended(&rt, &run, &Status::ReadFault, written, schedule);
+    }
     Ok(())
 }
 
@@ -369,8 +369,7 @@ fn records_are_decoded(rt: HostRuntime) -> Result<(), Fail> {
     ] {
         for piece in [1, 7, 4096] {
             let run = outcome_of(rt.alloc(), &DECODE, record, NONE, piece)?;
-            assert_eq!(rt; run.status, Status::Done);
-            assert_eq!(rt; run.written.as_slice(), text.as_bytes());
+            ended(&rt, &run, &Status::Done, text.as_bytes(), text);
         }
     }
     Ok(())
@@ -394,22 +393,22 @@ fn a_long_record_is_decoded_in_order(rt: HostRuntime) -> Result<(), Fail> {
     }
     text.extend_from_slice(b"done 32000\n")?;
     let run = outcome_of(rt.alloc(), &DECODE, record.as_slice(), NONE, 4096)?;
-    assert_eq!(rt; run.status, Status::Done);
-    assert_eq!(rt; run.written.as_slice(), text.as_slice());
+    ended(&rt, &run, &Status::Done, text.as_slice(), "a long record");
     Ok(())
 }
 
 #[test]
 fn a_decoding_that_is_cut_off_leaves_the_lines_before_it(rt: HostRuntime) -> Result<(), Fail> {
-    let run = outcome_of(rt.alloc(), &DECODE, &RECORD, (&[2], &[]), 4096)?;
-    assert_eq!(rt; run.status, Status::ReadFault);
-    assert_eq!(rt; run.written.as_slice(), b"s1 0 C1 rr 1\n".as_slice());
-    let run = outcome_of(rt.alloc(), &DECODE, &RECORD, (&[], &[2]), 7)?;
-    assert_eq!(rt; run.status, Status::WriteFault);
-    assert_eq!(rt; run.written.as_slice(), b"s1 0 C1".as_slice());
-    let run = outcome_of(rt.alloc(), &DECODE, &RECORD, (&[], &[2]), 4096)?;
-    assert_eq!(rt; run.status, Status::WriteFault);
-    assert_eq!(rt; run.written.as_slice(), b"s1 0 C1 rr 1\n".as_slice());
+    let read: (&[u64], &[u64]) = (&[2], &[]);
+    let write: (&[u64], &[u64]) = (&[], &[2]);
+    for (fails, piece, status, text) in [
+        (read, 4096, Status::ReadFault, "s1 0 C1 rr 1\n"),
+        (write, 7, Status::WriteFault, "s1 0 C1"),
+        (write, 4096, Status::WriteFault, "s1 0 C1 rr 1\n"),
+    ] {
+        let run = outcome_of(rt.alloc(), &DECODE, &RECORD, fails, piece)?;
+        ended(&rt, &run, &status, text.as_bytes(), text);
+    }
     Ok(())
 }
 

@@ -3,6 +3,7 @@ use hci_tables::{Command, Tables};
 use pipe_table::PipeRow;
 use schedule_text::{LineFault, Read, read_line, write_entry};
 use std::alloc::{AllocError, Global};
+use std::process::Abort;
 use std::test::Fail;
 use swp_base::{Cause, Lpdu};
 use trace_model::{End, Entry, Header, Line, LostCause, NoCause, NodeTables, Octets};
@@ -69,71 +70,91 @@ fn lines_are_read(rt: HostRuntime) -> Result<(), Fail> {
     Ok(())
 }
 
+/// The entry is written as this line.
+fn is_written(rt: &impl Abort, alloc: Global, entry: Entry, line: &str) -> Result<(), Fail> {
+    let mut out = Vec::new(alloc);
+    write_entry(alloc, &entry, &mut out).map_err(|_| AllocError)?;
+    assert_eq!(rt; out.as_slice(), line.as_bytes());
+    Ok(())
+}
+
+/// The text is read as this line, and echoed again.
+fn stands_for(rt: &impl Abort, alloc: Global, text: &str, line: Line) -> Result<(), Fail> {
+    match read_line(alloc, Some(&header()), text.as_bytes())? {
+        Read::Line(read) => assert_eq!(rt; read, line, "{text}"),
+        _ => panic!(rt; "{text} is read as no line"),
+    }
+    is_written(
+        rt,
+        alloc,
+        Entry::Echo(line),
+        format!(in alloc; "> {text}\n")?.as_str(),
+    )
+}
+
 #[test]
 fn each_form_is_read_and_written(rt: HostRuntime) -> Result<(), Fail> {
     let alloc = rt.alloc();
-    let known = header();
-    let table = [
-        ("send 02h 01 03", send(alloc, 1, &[3])?),
-        (
-            "deliver 02c",
-            Line::Deliver {
-                at: CONTROLLER,
-                count: None,
-            },
-        ),
-        (
-            "deliver 02h 64",
-            Line::Deliver {
-                at: HOST,
-                count: Some(64),
-            },
-        ),
-        ("lose 02h", Line::Lose { at: HOST }),
-        (
-            "damage 02c 0",
-            Line::Damage {
-                at: CONTROLLER,
-                places: places(&[0]),
-            },
-        ),
-        (
-            "damage 02c 24 28 399",
-            Line::Damage {
-                at: CONTROLLER,
-                places: places(&[24, 28, 399]),
-            },
-        ),
-        ("tick", Line::Tick { times: None }),
-        ("tick 100", Line::Tick { times: Some(100) }),
-        (
-            "reset 02h",
-            Line::Reset {
-                at: HOST,
-                window: None,
-            },
-        ),
-        (
-            "reset 02c 4",
-            Line::Reset {
-                at: CONTROLLER,
-                window: Some(4),
-            },
-        ),
-        ("busy 02c", Line::Busy { at: CONTROLLER }),
-        ("ready 02h", Line::Ready { at: HOST }),
-    ];
-    for (text, line) in table {
-        assert_eq!(rt;
-            read_line(alloc, Some(&known), text.as_bytes()),
-            Ok(Read::Line(line.clone()?)),
-            "{text}"
-        );
-        let mut out = Vec::new(alloc);
-        write_entry(alloc, &Entry::Echo(line), &mut out).map_err(|_| AllocError)?;
-        let echo = format!(in alloc; "> {text}\n")?;
-        assert_eq!(rt; out.as_slice(), echo.as_bytes());
-    }
+    stands_for(&rt, alloc, "send 02h 01 03", send(alloc, 1, &[3])?)?;
+    stands_for(
+        &rt,
+        alloc,
+        "deliver 02c",
+        Line::Deliver {
+            at: CONTROLLER,
+            count: None,
+        },
+    )?;
+    stands_for(
+        &rt,
+        alloc,
+        "deliver 02h 64",
+        Line::Deliver {
+            at: HOST,
+            count: Some(64),
+        },
+    )?;
+    stands_for(&rt, alloc, "lose 02h", Line::Lose { at: HOST })?;
+    stands_for(
+        &rt,
+        alloc,
+        "damage 02c 0",
+        Line::Damage {
+            at: CONTROLLER,
+            places: places(&[0]),
+        },
+    )?;
+    stands_for(
+        &rt,
+        alloc,
+        "damage 02c 24 28 399",
+        Line::Damage {
+            at: CONTROLLER,
+            places: places(&[24, 28, 399]),
+        },
+    )?;
+    stands_for(&rt, alloc, "tick", Line::Tick { times: None })?;
+    stands_for(&rt, alloc, "tick 100", Line::Tick { times: Some(100) })?;
+    stands_for(
+        &rt,
+        alloc,
+        "reset 02h",
+        Line::Reset {
+            at: HOST,
+            window: None,
+        },
+    )?;
+    stands_for(
+        &rt,
+        alloc,
+        "reset 02c 4",
+        Line::Reset {
+            at: CONTROLLER,
+            window: Some(4),
+        },
+    )?;
+    stands_for(&rt, alloc, "busy 02c", Line::Busy { at: CONTROLLER })?;
+    stands_for(&rt, alloc, "ready 02h", Line::Ready { at: HOST })?;
     Ok(())
 }
 
@@ -247,263 +268,379 @@ fn lpdu(bytes: &[u8]) -> Result<Lpdu, Fail> {
     Ok(Lpdu::from_bytes(bytes).ok_or("no LPDU")?)
 }
 
-fn written(alloc: Global, entries: &[Entry]) -> Result<Vec<u8>, AllocError> {
-    let mut out = Vec::new(alloc);
-    for entry in entries {
-        write_entry(alloc, entry, &mut out).map_err(|_| AllocError)?;
-    }
-    Ok(out)
-}
-
 #[test]
 fn entries_are_written(rt: HostRuntime) -> Result<(), Fail> {
     let alloc = rt.alloc();
-    let entries = [
-        Entry::Head(header()),
+    is_written(&rt, alloc, Entry::Head(header()), "> swp 1 bare 02\n")?;
+    is_written(
+        &rt,
+        alloc,
         Entry::Up {
             at: CONTROLLER,
             session: 0,
         },
+        "up 02c 0\n",
+    )?;
+    is_written(
+        &rt,
+        alloc,
         Entry::Echo(send(alloc, 1, &[3])?),
+        "> send 02h 01 03\n",
+    )?;
+    is_written(
+        &rt,
+        alloc,
         Entry::Sent {
             at: HOST,
             session: 0,
             pid: 1,
             message: Octets::from_slice(alloc, &[3])?,
         },
+        "sent 02h 0 01 03\n",
+    )?;
+    is_written(
+        &rt,
+        alloc,
         Entry::Emit {
             at: HOST,
             lpdu: lpdu(&[0x80, 0x81, 3])?,
         },
+        "emit 02h 808103\n",
+    )?;
+    is_written(
+        &rt,
+        alloc,
         Entry::Echo(Line::Deliver {
             at: CONTROLLER,
             count: Some(10),
         }),
+        "> deliver 02c 10\n",
+    )?;
+    is_written(
+        &rt,
+        alloc,
         Entry::Took {
             at: CONTROLLER,
             lpdu: lpdu(&[0x80, 0x81, 3])?,
         },
+        "took 02c 808103\n",
+    )?;
+    is_written(
+        &rt,
+        alloc,
         Entry::Got {
             at: CONTROLLER,
             session: 0,
             pid: 1,
             message: Octets::from_slice(alloc, &[3])?,
         },
+        "got 02c 0 01 03\n",
+    )?;
+    is_written(
+        &rt,
+        alloc,
         Entry::Acked {
             at: HOST,
             session: 0,
             count: 4_294_967_295,
         },
+        "acked 02h 0 4294967295\n",
+    )?;
+    is_written(
+        &rt,
+        alloc,
         Entry::Lost {
             at: HOST,
             lpdu: lpdu(&[0xC1])?,
             cause: LostCause::Nothing,
         },
+        "lost 02h C1 none\n",
+    )?;
+    is_written(
+        &rt,
+        alloc,
         Entry::No {
             cause: NoCause::Full {
                 need: 129,
                 spare: 128,
             },
         },
+        "no full 129 128\n",
+    )?;
+    is_written(
+        &rt,
+        alloc,
         Entry::No {
             cause: NoCause::TooLong,
         },
-    ];
-    assert_eq!(rt;
-        written(alloc, &entries)?.as_slice(),
-        b"> swp 1 bare 02
-up 02c 0
-> send 02h 01 03
-sent 02h 0 01 03
-emit 02h 808103
-> deliver 02c 10
-took 02c 808103
-got 02c 0 01 03
-acked 02h 0 4294967295
-lost 02h C1 none
-no full 129 128
-no too-long
-"
-            .as_slice()
-    );
+        "no too-long\n",
+    )?;
     Ok(())
 }
 
 #[test]
 fn ends_of_sessions_and_losses_are_written(rt: HostRuntime) -> Result<(), Fail> {
     let alloc = rt.alloc();
-    let entries = [
+    is_written(
+        &rt,
+        alloc,
         Entry::Down {
             at: HOST,
             cause: Cause::Asked,
         },
+        "down 02h asked\n",
+    )?;
+    is_written(
+        &rt,
+        alloc,
         Entry::Down {
             at: HOST,
             cause: Cause::NoAnswer,
         },
+        "down 02h noanswer\n",
+    )?;
+    is_written(
+        &rt,
+        alloc,
         Entry::Down {
             at: CONTROLLER,
             cause: Cause::Peer,
         },
+        "down 02c peer\n",
+    )?;
+    is_written(
+        &rt,
+        alloc,
         Entry::Down {
             at: CONTROLLER,
             cause: Cause::Act,
         },
+        "down 02c act\n",
+    )?;
+    is_written(
+        &rt,
+        alloc,
         Entry::Down {
             at: CONTROLLER,
             cause: Cause::Chain,
         },
-        Entry::Active { at: HOST },
+        "down 02c chain\n",
+    )?;
+    is_written(&rt, alloc, Entry::Active { at: HOST }, "active 02h\n")?;
+    is_written(
+        &rt,
+        alloc,
         Entry::GaveUp { at: HOST, tries: 5 },
+        "gaveup 02h 5\n",
+    )?;
+    is_written(
+        &rt,
+        alloc,
         Entry::Lost {
             at: HOST,
             lpdu: lpdu(&[0xF9, 4, 0])?,
             cause: LostCause::Asked,
         },
+        "lost 02h F90400 asked\n",
+    )?;
+    is_written(
+        &rt,
+        alloc,
         Entry::Lost {
             at: HOST,
             lpdu: lpdu(&[0xC1])?,
             cause: LostCause::Age,
         },
+        "lost 02h C1 age\n",
+    )?;
+    is_written(
+        &rt,
+        alloc,
         Entry::Lost {
             at: HOST,
             lpdu: lpdu(&[0xC1])?,
             cause: LostCause::Full,
         },
+        "lost 02h C1 full\n",
+    )?;
+    is_written(
+        &rt,
+        alloc,
         Entry::Lost {
             at: HOST,
             lpdu: lpdu(&[0xC1])?,
             cause: LostCause::Length,
         },
+        "lost 02h C1 length\n",
+    )?;
+    is_written(
+        &rt,
+        alloc,
         Entry::Lost {
             at: HOST,
             lpdu: lpdu(&[0xC1])?,
             cause: LostCause::Alignment,
         },
+        "lost 02h C1 alignment\n",
+    )?;
+    is_written(
+        &rt,
+        alloc,
         Entry::Lost {
             at: HOST,
             lpdu: lpdu(&[0xC1])?,
             cause: LostCause::Crc,
         },
+        "lost 02h C1 crc\n",
+    )?;
+    is_written(
+        &rt,
+        alloc,
         Entry::Lost {
             at: HOST,
             lpdu: lpdu(&[0xC1])?,
             cause: LostCause::Broken,
         },
-    ];
-    assert_eq!(rt;
-        written(alloc, &entries)?.as_slice(),
-        b"down 02h asked
-down 02h noanswer
-down 02c peer
-down 02c act
-down 02c chain
-active 02h
-gaveup 02h 5
-lost 02h F90400 asked
-lost 02h C1 age
-lost 02h C1 full
-lost 02h C1 length
-lost 02h C1 alignment
-lost 02h C1 crc
-lost 02h C1 broken
-"
-            .as_slice()
-    );
+        "lost 02h C1 broken\n",
+    )?;
     Ok(())
 }
 
 #[test]
 fn causes_of_refusals_are_written(rt: HostRuntime) -> Result<(), Fail> {
     let alloc = rt.alloc();
-    let entries = [
+    is_written(
+        &rt,
+        alloc,
         Entry::No {
             cause: NoCause::Off,
         },
+        "no off\n",
+    )?;
+    is_written(
+        &rt,
+        alloc,
         Entry::No {
             cause: NoCause::Running,
         },
+        "no running\n",
+    )?;
+    is_written(
+        &rt,
+        alloc,
         Entry::No {
             cause: NoCause::Inactive,
         },
+        "no inactive\n",
+    )?;
+    is_written(
+        &rt,
+        alloc,
         Entry::No {
             cause: NoCause::NotUp,
         },
+        "no not-up\n",
+    )?;
+    is_written(
+        &rt,
+        alloc,
         Entry::No {
             cause: NoCause::Waiting,
         },
+        "no waiting\n",
+    )?;
+    is_written(
+        &rt,
+        alloc,
         Entry::No {
             cause: NoCause::Empty,
         },
+        "no empty\n",
+    )?;
+    is_written(
+        &rt,
+        alloc,
         Entry::No {
             cause: NoCause::Beyond { bits: 71 },
         },
-    ];
-    assert_eq!(rt;
-        written(alloc, &entries)?.as_slice(),
-        b"no off
-no running
-no inactive
-no not-up
-no waiting
-no empty
-no beyond 71
-"
-            .as_slice()
-    );
+        "no beyond 71\n",
+    )?;
     Ok(())
 }
 
 #[test]
 fn turns_of_nodes_are_written(rt: HostRuntime) -> Result<(), Fail> {
     let alloc = rt.alloc();
-    let entries = [
+    is_written(
+        &rt,
+        alloc,
         Entry::Turn {
             at: CONTROLLER,
             pid: 1,
             message: Octets::from_slice(alloc, &[2, 1])?,
         },
+        "turn 02c 01 0201\n",
+    )?;
+    is_written(
+        &rt,
+        alloc,
         Entry::Held {
             at: CONTROLLER,
             need: 32,
             spare: 0,
         },
+        "held 02c 32 0\n",
+    )?;
+    is_written(
+        &rt,
+        alloc,
         Entry::Ask {
             host: 1,
             message: Octets::from_slice(alloc, &[0x12, 2, 0x41, 1, 0x41, 2])?,
         },
+        "ask 01 120241014102\n",
+    )?;
+    is_written(
+        &rt,
+        alloc,
         Entry::Dropped {
             at: HOST,
             pid: 0x0A,
         },
+        "drop 02h 0A\n",
+    )?;
+    is_written(
+        &rt,
+        alloc,
         Entry::AnyOk {
             node: 0,
             count: 114,
         },
-        Entry::InitSame { at: HOST },
+        "ok 00 114\n",
+    )?;
+    is_written(&rt, alloc, Entry::InitSame { at: HOST }, "init 02h same\n")?;
+    is_written(
+        &rt,
+        alloc,
         Entry::InitMade { at: HOST, count: 3 },
+        "init 02h made 3\n",
+    )?;
+    is_written(
+        &rt,
+        alloc,
         Entry::InitFailed {
             at: HOST,
             code: 0x0B,
         },
-        Entry::Cut { node: 0 },
+        "init 02h failed 0B\n",
+    )?;
+    is_written(&rt, alloc, Entry::Cut { node: 0 }, "cut 00\n")?;
+    is_written(
+        &rt,
+        alloc,
         Entry::Booted { node: 2, count: 1 },
-    ];
-    assert_eq!(rt;
-        written(alloc, &entries)?.as_slice(),
-        b"turn 02c 01 0201
-held 02c 32 0
-ask 01 120241014102
-drop 02h 0A
-ok 00 114
-init 02h same
-init 02h made 3
-init 02h failed 0B
-cut 00
-booted 02 1
-"
-            .as_slice()
-    );
+        "booted 02 1\n",
+    )?;
     Ok(())
 }
 
@@ -534,19 +671,36 @@ fn commands_and_tables_are_written(rt: HostRuntime) -> Result<(), Fail> {
         tables.apply(&created);
         tables.apply(&sync);
     }
-    let entries = [
+    is_written(
+        &rt,
+        alloc,
         Entry::Command {
             node: 0,
             command: created,
         },
+        "command 00 create 02 02 20 00 04\n",
+    )?;
+    is_written(
+        &rt,
+        alloc,
         Entry::Command {
             node: 0,
             command: Command::Delete { pid: 5 },
         },
+        "command 00 delete 05\n",
+    )?;
+    is_written(
+        &rt,
+        alloc,
         Entry::Command {
             node: 0,
             command: Command::Clear { host: 2 },
         },
+        "command 00 clear 02\n",
+    )?;
+    is_written(
+        &rt,
+        alloc,
         Entry::Command {
             node: 0,
             command: Command::SetOpened {
@@ -555,6 +709,11 @@ fn commands_and_tables_are_written(rt: HostRuntime) -> Result<(), Fail> {
                 opened: true,
             },
         },
+        "command 00 opened 01 01 01\n",
+    )?;
+    is_written(
+        &rt,
+        alloc,
         Entry::Command {
             node: 2,
             command: Command::Set {
@@ -564,6 +723,11 @@ fn commands_and_tables_are_written(rt: HostRuntime) -> Result<(), Fail> {
                 value: value(&[1, 2]),
             },
         },
+        "command 02 set 02 00 03 0102\n",
+    )?;
+    is_written(
+        &rt,
+        alloc,
         Entry::Command {
             node: 2,
             command: Command::Set {
@@ -573,30 +737,26 @@ fn commands_and_tables_are_written(rt: HostRuntime) -> Result<(), Fail> {
                 value: value(&[]),
             },
         },
+        "command 02 set 02 00 03 -\n",
+    )?;
+    is_written(
+        &rt,
+        alloc,
         Entry::Command {
             node: 0,
             command: sync,
         },
+        "command 00 sync 02 1A2B\n",
+    )?;
+    is_written(
+        &rt,
+        alloc,
         Entry::Tables {
             node: 0,
             tables: NodeTables::new(alloc, tables)?,
         },
-    ];
-    assert_eq!(rt;
-        written(alloc, &entries)?.as_slice(),
-        b"command 00 create 02 02 20 00 04
-command 00 delete 05
-command 00 clear 02
-command 00 opened 01 01 01
-command 02 set 02 00 03 0102
-command 02 set 02 00 03 -
-command 00 sync 02 1A2B
-tables 00 1 0 0 1
-pipe 02 02 20 00 04 closed
-sync 02 1A2B
-"
-            .as_slice()
-    );
+        "tables 00 1 0 0 1\npipe 02 02 20 00 04 closed\nsync 02 1A2B\n",
+    )?;
     Ok(())
 }
 
@@ -611,36 +771,48 @@ fn lines_of_a_world_of_nodes_are_written(rt: HostRuntime) -> Result<(), Fail> {
     let alloc = rt.alloc();
     let mut fill = ArrayVec::new();
     fill.push(0x13);
-    let entries = [
+    is_written(
+        &rt,
+        alloc,
         Entry::Echo(Line::Boot { node: 0 }),
-        Entry::Echo(Line::Cut { node: 2 }),
+        "> boot 00\n",
+    )?;
+    is_written(&rt, alloc, Entry::Echo(Line::Cut { node: 2 }), "> cut 02\n")?;
+    is_written(
+        &rt,
+        alloc,
         Entry::Echo(Line::Activate {
             host: 2,
             sync: 0x1A2B,
             power: 1,
         }),
+        "> activate 02 1A2B 01\n",
+    )?;
+    is_written(
+        &rt,
+        alloc,
         Entry::Echo(Line::Arm {
             node: 0,
             nth: 1000,
             fill,
         }),
+        "> arm 00 1000 13\n",
+    )?;
+    is_written(
+        &rt,
+        alloc,
         Entry::Echo(Line::Init {
             at: HOST,
             identity: [1, 2, 3, 4, 5, 6, 7, 8],
             pipes: triples([0x20, 0, 4]),
         }),
+        "> init 02h 0102030405060708 200004\n",
+    )?;
+    is_written(
+        &rt,
+        alloc,
         Entry::Echo(Line::Tables { node: 0 }),
-    ];
-    assert_eq!(rt;
-        written(alloc, &entries)?.as_slice(),
-        b"> boot 00
-> cut 02
-> activate 02 1A2B 01
-> arm 00 1000 13
-> init 02h 0102030405060708 200004
-> tables 00
-"
-            .as_slice()
-    );
+        "> tables 00\n",
+    )?;
     Ok(())
 }
