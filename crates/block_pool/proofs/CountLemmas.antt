@@ -241,6 +241,20 @@ module _ (pool : PoolState) (counted : IsCounted pool) (o : ℕ) (has : o < leng
 
 -- ---- whole calls
 
+-- an owner that uses fewer blocks, and one that uses more
+abbrev pub less : Owner → ℕ → Owner
+less owner n = record { quota = owner.quota; used = owner.used - n; aside = owner.aside }
+
+abbrev pub more : Owner → ℕ → Owner
+more owner n = record { quota = owner.quota; used = owner.used + n; aside = owner.aside }
+
+-- a live chain, how many blocks it has, and what is counted of its owner
+pub record IsCountedChain (pool : PoolState) (o : ℕ) (name : Option ℕ) (n : ℕ) (old : Owner) : Type 0 where
+  pub has : o < length pool.owners
+  pub live : IsLiveAt pool.slots o name
+  pub blocks : n ≡ blocks_for (length (named_bytes pool.slots name))
+  pub counts : old ≡ owner_at pool.owners o
+
 module _ (pool : PoolState) (counted : IsCounted pool) (free : ℕ) (rest : AreFree pool.owners free) (o : ℕ) (has : o < length pool.owners) where
   -- bytes were appended to a chain of an owner
   pub taken_counted : (before : Option ℕ) (bytes : List ℕ) (after : Option ℕ) (slots : List (Option Held)) (left more : ℕ) (old : Owner)
@@ -264,59 +278,66 @@ module _ (pool : PoolState) (counted : IsCounted pool) (free : ℕ) (rest : AreF
         free_after pool counted o has slots free (used_of pool o + more) (aside_of pool o) left rest (omega (arith, left_is, more_is, grows)),
       )
 
-  -- a chain's blocks were given back
-  pub given_counted : (name : Option ℕ) (slots : List (Option Held)) (left n : ℕ) (old : Owner) → IsLiveAt pool.slots o name
-      → slots ≡ removed_at pool.slots name → left ≡ free + blocks_for (length (named_bytes pool.slots name))
-      → n ≡ blocks_for (length (named_bytes pool.slots name)) → old ≡ owner_at pool.owners o
-      → AreCounted slots (set pool.owners o (record { quota = old.quota; used = old.used - n; aside = old.aside }))
-      × AreFree (set pool.owners o (record { quota = old.quota; used = old.used - n; aside = old.aside })) left
-  given_counted name slots left n old live slots_are left_is n_is old_is =
-      let low = chain_low pool counted o has name live in
-      let held = remove_held pool.slots o name live in
-      let held_is : blocks_held slots o + n ≡ blocks_held pool.slots o = ap (λ ss. blocks_held ss o + n) slots_are ∙ omega (arith, held, n_is) in
-      subst (λ (x : Owner). AreCounted slots (set pool.owners o (record { quota = x.quota; used = x.used - n; aside = x.aside }))
-      × AreFree (set pool.owners o (record { quota = x.quota; used = x.used - n; aside = x.aside })) left) (sym old_is) (
-        counted_after pool counted o has slots (used_of pool o - n) (aside_of pool o) (omega (arith, held_is, counted.used o has, low, n_is))
-            (omega (arith, counted.within o))
-            (λ p apart. ap (λ ss. blocks_held ss p) slots_are ∙ remove_others pool.slots o name p live apart),
-        free_after pool counted o has slots free (used_of pool o - n) (aside_of pool o) left rest (omega (arith, left_is, n_is, low)),
-      )
+-- a chain's blocks were given back
+pub given_counted : {pool : PoolState} {o : ℕ} {name : Option ℕ} {n left : ℕ} {old : Owner} {slots : List (Option Held)} (counted : IsCounted pool)
+    (free : ℕ) (rest : AreFree pool.owners free)
+    → IsCountedChain pool o name n old → slots ≡ removed_at pool.slots name → left ≡ free + blocks_for (length (named_bytes pool.slots name))
+    → AreCounted slots (set pool.owners o (less old n)) × AreFree (set pool.owners o (less old n)) left
+given_counted {pool} {o} {name} {n} {left} {old} {slots} counted free rest chain slots_are left_is =
+    let has = chain.has in
+    let low = chain_low pool counted o has name chain.live in
+    let held = remove_held pool.slots o name chain.live in
+    let held_is : blocks_held slots o + n ≡ blocks_held pool.slots o = ap (λ ss. blocks_held ss o + n) slots_are ∙ omega (arith, held, chain.blocks) in
+    subst (λ (x : Owner). AreCounted slots (set pool.owners o (less x n)) × AreFree (set pool.owners o (less x n)) left) (sym chain.counts) (
+      counted_after pool counted o has slots (used_of pool o - n) (aside_of pool o) (omega (arith, held_is, counted.used o has, low, chain.blocks))
+          (omega (arith, counted.within o))
+          (λ p apart. ap (λ ss. blocks_held ss p) slots_are ∙ remove_others pool.slots o name p chain.live apart),
+      free_after pool counted o has slots free (used_of pool o - n) (aside_of pool o) left rest (omega (arith, left_is, chain.blocks, low)),
+    )
+
+-- an owner has room for so many blocks, once the one that had them has them no more
+pub record HasRoomFor (pool : PoolState) (o q n : ℕ) (old new : Owner) : Type 0 where
+  pub has : q < length pool.owners
+  pub room : n ≤ spare_of pool q
+  pub counts : new ≡ owner_at (set pool.owners o (less old n)) q
 
 -- a chain went to another owner: as if it was given back and taken again
-pub passed_counted : (pool : PoolState) (counted : IsCounted pool) (free : ℕ) (rest : AreFree pool.owners free) (o q : ℕ) (has : o < length pool.owners)
-    (other : q < length pool.owners) (name : Option ℕ) (slots : List (Option Held)) (n : ℕ) (old new : Owner)
-    → IsLiveAt pool.slots o name → slots ≡ put_at pool.slots name q (named_bytes pool.slots name)
-    → n ≡ blocks_for (length (named_bytes pool.slots name)) → n ≤ spare_of pool q → old ≡ owner_at pool.owners o
-    → new ≡ owner_at (set pool.owners o (record { quota = old.quota; used = old.used - n; aside = old.aside })) q
-    → AreCounted slots (set (set pool.owners o (record { quota = old.quota; used = old.used - n; aside = old.aside })) q
-    (record { quota = new.quota; used = new.used + n; aside = new.aside }))
-    × AreFree (set (set pool.owners o (record { quota = old.quota; used = old.used - n; aside = old.aside })) q
-    (record { quota = new.quota; used = new.used + n; aside = new.aside })) free
-passed_counted pool counted free rest o q has other name slots n old new live slots_are n_is room old_is new_is =
-    let lowered : Owner = record { quota = old.quota; used = old.used - n; aside = old.aside } in
+pub passed_counted : {pool : PoolState} {o q : ℕ} {name : Option ℕ} {n : ℕ} {old new : Owner} {slots : List (Option Held)} (counted : IsCounted pool)
+    (free : ℕ) (rest : AreFree pool.owners free)
+    → IsCountedChain pool o name n old → HasRoomFor pool o q n old new → slots ≡ put_at pool.slots name q (named_bytes pool.slots name)
+    → AreCounted slots (set (set pool.owners o (less old n)) q (more new n)) × AreFree (set (set pool.owners o (less old n)) q (more new n)) free
+passed_counted {pool} {o} {q} {name} {n} {old} {new} {slots} counted free rest chain taker slots_are =
+    let lowered = less old n in
     let between : PoolState = record { slots = removed_at pool.slots name; owners = set pool.owners o lowered; places = pool.places } in
     let nobody : Owner = record { quota = 0; used = 0; aside = 0 } in
-    let one = given_counted pool counted free rest o has name (removed_at pool.slots name)
-    (free + blocks_for (length (named_bytes pool.slots name))) n old live refl refl n_is old_is in
-    let low = chain_low pool counted o has name live in
-    let still : q < length between.owners = omega (arith, other, length-set pool.owners o lowered) in
+    let one = given_counted counted free rest chain refl refl in
+    let low = chain_low pool counted o chain.has name chain.live in
+    let still : q < length between.owners = omega (arith, taker.has, length-set pool.owners o lowered) in
     let fits : (get_or between.owners q nobody).used + n ≤ (get_or between.owners q nobody).quota = elim (cases_eq q o) [
       | inl same ↦
-          let here = ap (λ x. get_or between.owners x nobody) same ∙ get_or-set_same pool.owners o lowered nobody has in
-          omega (arith, ap (λ x. x.used) here, ap (λ x. x.quota) here, ap (λ x. x.used) old_is, ap (λ x. x.quota) old_is, counted.within o, low, n_is)
+          let here = ap (λ x. get_or between.owners x nobody) same ∙ get_or-set_same pool.owners o lowered nobody chain.has in
+          omega (
+            arith,
+            ap (λ x. x.used) here,
+            ap (λ x. x.quota) here,
+            ap (λ x. x.used) chain.counts,
+            ap (λ x. x.quota) chain.counts,
+            counted.within o,
+            low,
+            chain.blocks,
+          )
       | inr apart ↦
           let there = get_or-set_other pool.owners o q lowered nobody apart in
-          omega (arith, ap (λ x. x.used) there, ap (λ x. x.quota) there, room, counted.within q)
+          omega (arith, ap (λ x. x.used) there, ap (λ x. x.quota) there, taker.room, counted.within q)
     ] in
     let used = (get_or between.owners q nobody).used in
     let aside = (get_or between.owners q nobody).aside in
-    let held = again_held pool.slots o q name live in
-    let held_is : blocks_held slots q ≡ blocks_held between.slots q + n = ap (λ ss. blocks_held ss q) slots_are ∙ omega (arith, held, n_is) in
-    subst (λ (x : Owner). AreCounted slots (set between.owners q (record { quota = x.quota; used = x.used + n; aside = x.aside }))
-    × AreFree (set between.owners q (record { quota = x.quota; used = x.used + n; aside = x.aside })) free) (sym new_is) (
+    let held = again_held pool.slots o q name chain.live in
+    let held_is : blocks_held slots q ≡ blocks_held between.slots q + n = ap (λ ss. blocks_held ss q) slots_are ∙ omega (arith, held, chain.blocks) in
+    subst (λ (x : Owner). AreCounted slots (set between.owners q (more x n)) × AreFree (set between.owners q (more x n)) free) (sym taker.counts) (
       counted_after between one.0 q still slots (used + n) aside (omega (arith, held_is, one.0.used q still)) fits
-          (λ p apart. ap (λ ss. blocks_held ss p) slots_are ∙ again_others pool.slots o q name p live apart),
-      free_after between one.0 q still slots (free + blocks_for (length (named_bytes pool.slots name))) (used + n) aside free one.1 (omega (arith, n_is)),
+          (λ p apart. ap (λ ss. blocks_held ss p) slots_are ∙ again_others pool.slots o q name p chain.live apart),
+      free_after between one.0 q still slots (free + blocks_for (length (named_bytes pool.slots name))) (used + n) aside free one.1 (omega (arith, chain.blocks)),
     )
 
 -- ---- a new pool

@@ -10,7 +10,7 @@ use Rattle.block_pool.specs.Slots.{blocks_for}
 use Rattle.block_pool.specs.Names.{named_bytes, IsLiveAt}
 use Rattle.block_pool.specs.Owners.{owner_at, with_used, with_aside}
 use Rattle.block_pool.specs.Pool.{PoolState, IsLive, IsApart, chain_bytes, KeepsOthers}
-use Rattle.block_pool.specs.Holdings.{IsOwnChain, OwnsAll, LiesApart, LieApart, all_bytes, all_blocks, KeepsAllOthers, KeptAll}
+use Rattle.block_pool.specs.Holdings.{IsOwnChain, OwnsAll, LiesApart, LieApart, all_bytes, all_blocks, KeptAll}
 
 -- two chains of two owners don't lie in one place
 pub apart_by_owner : (pool : PoolState) (one other : Chain) → IsLive pool one → IsLive pool other → one.owner ≢ other.owner → IsApart one other
@@ -86,32 +86,6 @@ kept_all X chain_of old new owner before after xs keeps own apart =
       all_mapped X (λ x. IsApart (chain_of x) after × (IsLive new (chain_of x) × (chain_bytes new (chain_of x) ≡ chain_bytes old (chain_of x))))
           (λ x. IsApart after (chain_of x)) xs (λ x e. apart_turned (chain_of x) after e.0) each,
     )
-
--- the same of a call on many chains
-pub kept_beside : (X Y Z : Type 0) (chain_of : X → Chain) (before_of : Y → Chain) (after_of : Z → Chain) (old new : PoolState) (owner : ℕ) (before : List Y)
-    (after : List Z) (xs : List X)
-    → KeepsAllOthers Y Z before_of after_of old new before after → OwnsAll X chain_of old owner xs
-    → AllByRecursion (λ x. LiesApart Y before_of before (chain_of x)) xs
-    → KeptAll X chain_of old new owner xs × AllByRecursion (λ x. LiesApart Z after_of after (chain_of x)) xs
-kept_beside X Y Z chain_of before_of after_of old new owner before after xs keeps own apart =
-    let each = all_mapped X (λ x. IsOwnChain old owner (chain_of x) × LiesApart Y before_of before (chain_of x))
-    (λ x. LiesApart Z after_of after (chain_of x) × (IsLive new (chain_of x) × (chain_bytes new (chain_of x) ≡ chain_bytes old (chain_of x)))) xs
-    (λ x o. let k = keeps (chain_of x) o.0.live o.1 in (k.2, (k.0, k.1)))
-    (all_joined X (λ x. IsOwnChain old owner (chain_of x)) (λ x. LiesApart Y before_of before (chain_of x)) xs own apart) in (
-      kept_each X chain_of old new owner xs own
-          (all_mapped X
-          (λ x. LiesApart Z after_of after (chain_of x) × (IsLive new (chain_of x) × (chain_bytes new (chain_of x) ≡ chain_bytes old (chain_of x))))
-          (λ x. IsLive new (chain_of x) × (chain_bytes new (chain_of x) ≡ chain_bytes old (chain_of x))) xs (λ x e. e.1) each),
-      all_mapped X (λ x. LiesApart Z after_of after (chain_of x) × (IsLive new (chain_of x) × (chain_bytes new (chain_of x) ≡ chain_bytes old (chain_of x))))
-          (λ x. LiesApart Z after_of after (chain_of x)) xs (λ x e. e.0) each,
-    )
-
--- things of two owners lie apart, each from all of the others
-pub beside_by_owner : (X Y : Type 0) (chain_of : X → Chain) (other_of : Y → Chain) (pool : PoolState) (owner other : ℕ) (xs : List X) (ys : List Y)
-    → OwnsAll X chain_of pool owner xs → OwnsAll Y other_of pool other ys → owner ≢ other → AllByRecursion (λ x. LiesApart Y other_of ys (chain_of x)) xs
-beside_by_owner X Y chain_of other_of pool owner other xs ys own theirs differ =
-    all_mapped X (λ x. IsOwnChain pool owner (chain_of x)) (λ x. LiesApart Y other_of ys (chain_of x)) xs
-    (λ x o. lies_apart_by_owner Y other_of pool other ys (chain_of x) theirs o.live (λ e. differ (sym o.owned ∙ e))) own
 
 -- ---- owners
 

@@ -47,7 +47,7 @@ module _ (region next : List ℕ) (heads : List (Option Head)) (free free_len : 
       (set heads b (Some (record { owner = head.owner; last = head.last; len = head.len + 1; read_on = head.read_on; passed = head.passed }))) free free_len
   push_in_block_sound b head place byte at room =
       let chain = sound.chains b head at in
-      let low : b < length heads = omega (arith, in_pool next sound.mark sound.count b head chain, sound.counted) in
+      let low : b < length heads = omega (arith, in_pool chain, sound.counted) in
       let longer : Head = record { owner = head.owner; last = head.last; len = head.len + 1; read_on = head.read_on; passed = head.passed } in
       let same_blocks : blocks_for (head.len + 1) ≡ blocks_for head.len = omega arith in
       let grown : IsChain next sound.mark sound.count b longer = record {
@@ -79,7 +79,7 @@ module _ (region next : List ℕ) (heads : List (Option Head)) (free free_len : 
       → laid_bytes (set region (32 * block + offset % 32) byte) next b head.len ≡ laid_bytes region next b head.len
   other_bytes b head at block d j offset byte marked apart =
       same_bytes region next (set region (32 * block + offset % 32) byte) next b head.len (λ i low.
-      let m = block_of_byte next sound.mark sound.count b head (sound.chains b head at) i low in
+      let m = block_of_byte (sound.chains b head at) i low in
       get_or-set_other region (32 * block + offset % 32) (32 * block_at next b (i / 32) + i % 32) byte 0
       (other_block (block_at next b (i / 32)) block i offset
       (λ same. apart (sym (same_mark sound.mark (block_at next b (i / 32)) block b (i / 32) d j m.1 marked same).0))))
@@ -96,14 +96,14 @@ module _ (region next : List ℕ) (heads : List (Option Head)) (free free_len : 
   pushed_bytes b head byte at room =
       let chain = sound.chains b head at in
       let place = 32 * head.last + head.len % 32 in
-      let last_in : head.last < sound.count = (last_marked next sound.mark sound.count b head chain).0 in
+      let last_in : head.last < sound.count = (last_marked chain).0 in
       let in_region : place < length region = omega (arith, last_in, sound.bytes) in
       let new_byte : linked_byte (set region place byte) next b head.len ≡ byte =
       ap (λ x. get_or (set region place byte) (32 * x + head.len % 32) 0) (last_has_room b head at room) ∙ get_or-set_same region place byte 0 in_region in
       let before : laid_bytes (set region place byte) next b head.len ≡ laid_bytes region next b head.len =
       same_bytes region next (set region place byte) next b head.len (λ i low.
-      let m = block_of_byte next sound.mark sound.count b head chain i low in
-      let l = last_marked next sound.mark sound.count b head chain in
+      let m = block_of_byte chain i low in
+      let l = last_marked chain in
       get_or-set_other region place (32 * block_at next b (i / 32) + i % 32) byte 0
       (λ same.
       let blocks : block_at next b (i / 32) ≡ head.last = omega arith in
@@ -120,17 +120,15 @@ module _ (region next : List ℕ) (heads : List (Option Head)) (free free_len : 
       (slots_of region next heads) b head.owner (laid_bytes region next b head.len ++ byte ∷ [])
   push_in_block_slots b head byte at room =
       let chain = sound.chains b head at in
-      let low : b < length heads = omega (arith, in_pool next sound.mark sound.count b head chain, sound.counted) in
+      let low : b < length heads = omega (arith, in_pool chain, sound.counted) in
       let longer : Head = record { owner = head.owner; last = head.last; len = head.len + 1; read_on = head.read_on; passed = head.passed } in
       let place = 32 * head.last + head.len % 32 in
-      let l = last_marked next sound.mark sound.count b head chain in
-      slots_set region next (set region place byte) next heads (set heads b (Some longer)) b
-      (Some (record { owner = head.owner; bytes = laid_bytes region next b head.len ++ byte ∷ [] }))
-      (length-set heads b (Some longer)) low
-      (ap (held_by (set region place byte) next b) (get_or-set_same heads b (Some longer) None low)
-      ∙ ap (λ bs. Some (record { owner = head.owner; bytes = bs })) (pushed_bytes b head byte at room))
-      (λ c apart. ap (held_by (set region place byte) next c) (get_or-set_other heads b c (Some longer) None apart)
-      ∙ other_held c (get_or heads c None) refl b head l.1 apart)
+      let l = last_marked chain in
+      slots_set (record {
+        low = low;
+        here = ap (λ bs. Some (record { owner = head.owner; bytes = bs })) (pushed_bytes b head byte at room);
+        others = λ c apart. other_held c (get_or heads c None) refl b head l.1 apart;
+      })
     where
       other_held : (c : ℕ) (h : Option Head) → get_or heads c None ≡ h → (b : ℕ) (head : Head) → sound.mark head.last ≡ (b, blocks_for head.len - 1) → c ≢ b
           → held_by (set region (32 * head.last + head.len % 32) byte) next c (get_or heads c None) ≡ held_by region next c (get_or heads c None)
@@ -158,7 +156,7 @@ module _ (region next : List ℕ) (heads : List (Option Head)) (free free_len : 
   popped_chain c k next' d head at same =
       let chain = sound.chains d head at in
       let some : 0 < head.len = chain.some in
-      let low = in_pool next sound.mark sound.count d head chain in
+      let low = in_pool chain in
       record {
         some = chain.some;
         marked = λ i h.
@@ -216,18 +214,18 @@ module _ (region next : List ℕ) (heads : List (Option Head)) (free free_len : 
       let one : laid_bytes (set region (32 * free) byte) next free 1 ≡ byte ∷ [] =
       one_byte (set region (32 * free) byte) next free
       ∙ ap (λ x. x ∷ []) (ap (λ i. get_or (set region (32 * free) byte) i 0) plain ∙ get_or-set_same region (32 * free) byte 0 in_region) in
-      slots_set region next (set region (32 * free) byte) next heads (set heads free (Some new)) free (Some (record { owner = owner; bytes = byte ∷ [] }))
-      (length-set heads free (Some new)) low
-      (ap (held_by (set region (32 * free) byte) next free) (get_or-set_same heads free (Some new) None low)
-      ∙ ap (λ bs. Some (record { owner = owner; bytes = bs })) one)
-      (λ c apart. ap (held_by (set region (32 * free) byte) next c) (get_or-set_other heads free c (Some new) None apart)
-      ∙ (ap (λ i. held_by (set region i byte) next c (get_or heads c None)) (sym plain) ∙ other_held c (get_or heads c None) refl first.1))
+      slots_set (record {
+        low = low;
+        here = ap (λ bs. Some (record { owner = owner; bytes = bs })) one;
+        others = λ c apart. ap (λ i. held_by (set region i byte) next c (get_or heads c None)) (sym plain)
+            ∙ other_held c (get_or heads c None) refl first.1;
+      })
     where
       other_held : (c : ℕ) (h : Option Head) → get_or heads c None ≡ h → sound.mark free ≡ (sound.count, 0)
           → held_by (set region (32 * free + 0 % 32) byte) next c (get_or heads c None) ≡ held_by region next c (get_or heads c None)
       other_held c None e m = rw e refl
       other_held c (Some h) e m =
-          let low = in_pool next sound.mark sound.count c h (sound.chains c h e) in
+          let low = in_pool (sound.chains c h e) in
           rw e (ap (λ bs. Some (record { owner = h.owner; bytes = bs })) (other_bytes c h e free sound.count 0 0 byte m (λ s. absurd (omega arith))))
 
   -- ---- a byte more in a new last block
@@ -238,18 +236,18 @@ module _ (region next : List ℕ) (heads : List (Option Head)) (free free_len : 
       (set heads b (Some (record { owner = head.owner; last = free; len = head.len + 1; read_on = head.read_on; passed = head.passed }))) after (free_len - 1)
   push_in_new_block_sound b head place byte after at full some is_next =
       let chain = sound.chains b head at in
-      let b_low = in_pool next sound.mark sound.count b head chain in
+      let b_low = in_pool chain in
       let low : b < length heads = omega (arith, b_low, sound.counted) in
       let head_some : 0 < head.len = chain.some in
       let longer : Head = record { owner = head.owner; last = free; len = head.len + 1; read_on = head.read_on; passed = head.passed } in
       let first = first_free some in
-      let l = last_marked next sound.mark sound.count b head chain in
+      let l = last_marked chain in
       let n = blocks_for head.len in
       let n_some : 0 < n = omega arith in
       let one_more : blocks_for (head.len + 1) ≡ n + 1 = omega arith in
       let next' = set next head.last free in
       let mark = λ (x : ℕ). popped sound.count b n (sound.mark x) in
-      let kept = λ (k : ℕ) (h : k < n). last_link next sound.mark sound.count b head chain head.last free (n - 1) l.1 k h (omega arith) in
+      let kept = λ (k : ℕ) (h : k < n). last_link chain head.last free (n - 1) l.1 k h (omega arith) in
       let new_last : block_at next' b n ≡ free =
       let e : suc (n - 1) ≡ n = omega arith in
       let step : get_or next' (block_at next' b (n - 1)) 0 ≡ free =
@@ -286,7 +284,7 @@ module _ (region next : List ℕ) (heads : List (Option Head)) (free free_len : 
           | inr apart ↦
               let at_c = other_head b (Some longer) c (Some h) apart e in
               popped_chain b n next' c h at_c
-              (λ i i_low. other_link next sound.mark sound.count c h (sound.chains c h at_c) head.last free b (n - 1) l.1 (λ s. apart (sym s)) i i_low)
+              (λ i i_low. other_link (sound.chains c h at_c) head.last free b (n - 1) l.1 (λ s. apart (sym s)) i i_low)
         ];
         spare = popped_spare b n next' after is_next (λ i i_low. unchanged next head.last free after i (λ j h same.
             let m = sound.spare (1 + j) (omega arith) in
@@ -302,18 +300,18 @@ module _ (region next : List ℕ) (heads : List (Option Head)) (free free_len : 
       (slots_of region next heads) b head.owner (laid_bytes region next b head.len ++ byte ∷ [])
   push_in_new_block_slots b head byte at full some =
       let chain = sound.chains b head at in
-      let b_low = in_pool next sound.mark sound.count b head chain in
+      let b_low = in_pool chain in
       let low : b < length heads = omega (arith, b_low, sound.counted) in
       let head_some : 0 < head.len = chain.some in
       let longer : Head = record { owner = head.owner; last = free; len = head.len + 1; read_on = head.read_on; passed = head.passed } in
       let first = first_free some in
-      let l = last_marked next sound.mark sound.count b head chain in
+      let l = last_marked chain in
       let n = blocks_for head.len in
       let next' = set next head.last free in
       let region' = set region (32 * free) byte in
       let plain : 32 * free + 0 ≡ 32 * free = omega arith in
       let in_region : 32 * free < length region = omega (arith, first.0, sound.bytes) in
-      let kept = λ (k : ℕ) (h : k < n). last_link next sound.mark sound.count b head chain head.last free (n - 1) l.1 k h (omega arith) in
+      let kept = λ (k : ℕ) (h : k < n). last_link chain head.last free (n - 1) l.1 k h (omega arith) in
       let new_last : block_at next' b (head.len / 32) ≡ free =
       let e : suc (n - 1) ≡ head.len / 32 = omega arith in
       let step : get_or next' (block_at next' b (n - 1)) 0 ≡ free =
@@ -326,7 +324,7 @@ module _ (region next : List ℕ) (heads : List (Option Head)) (free free_len : 
       same_bytes region next region next' b head.len (λ i i_low. ap (λ x. get_or region (32 * x + i % 32) 0) (kept (i / 32) (omega arith))) in
       let before : laid_bytes region' next' b head.len ≡ laid_bytes region next b head.len =
       same_bytes region next' region' next' b head.len (λ i i_low.
-      let m = block_of_byte next sound.mark sound.count b head chain i i_low in
+      let m = block_of_byte chain i i_low in
       let block_is : block_at next' b (i / 32) ≡ block_at next b (i / 32) = kept (i / 32) (omega arith) in
       let apart : block_at next' b (i / 32) ≢ free =
       λ same. absurd (let e : b ≡ sound.count =
@@ -334,16 +332,14 @@ module _ (region next : List ℕ) (heads : List (Option Head)) (free free_len : 
       get_or-set_other region (32 * free) (32 * block_at next' b (i / 32) + i % 32) byte 0
       (λ same. other_block (block_at next' b (i / 32)) free i 0 apart (same ∙ sym plain)))
       ∙ same_links in
-      slots_set region next region' next' heads (set heads b (Some longer)) b
-      (Some (record { owner = head.owner; bytes = laid_bytes region next b head.len ++ byte ∷ [] }))
-      (length-set heads b (Some longer)) low
-      (ap (held_by region' next' b) (get_or-set_same heads b (Some longer) None low)
-      ∙ ap (λ bs. Some (record { owner = head.owner; bytes = bs }))
-      (one_more_byte region' next' b head.len
-      ∙ (ap (λ bs. bs ++ linked_byte region' next' b head.len ∷ []) before ∙ ap (λ x. laid_bytes region next b head.len ++ x ∷ []) new_byte)))
-      (λ c apart. ap (held_by region' next' c) (get_or-set_other heads b c (Some longer) None apart)
-      ∙ (ap (λ i. held_by (set region i byte) next' c (get_or heads c None)) (sym plain)
-      ∙ other_held c (get_or heads c None) refl b head l.1 first.1 (λ e. apart e)))
+      slots_set (record {
+        low = low;
+        here = ap (λ bs. Some (record { owner = head.owner; bytes = bs }))
+            (one_more_byte region' next' b head.len
+            ∙ (ap (λ bs. bs ++ linked_byte region' next' b head.len ∷ []) before ∙ ap (λ x. laid_bytes region next b head.len ++ x ∷ []) new_byte));
+        others = λ c apart. ap (λ i. held_by (set region i byte) next' c (get_or heads c None)) (sym plain)
+            ∙ other_held c (get_or heads c None) refl b head l.1 first.1 apart;
+      })
     where
       other_held : (c : ℕ) (h : Option Head) → get_or heads c None ≡ h → (b : ℕ) (head : Head) → sound.mark head.last ≡ (b, blocks_for head.len - 1)
           → sound.mark free ≡ (sound.count, 0) → c ≢ b
@@ -351,12 +347,12 @@ module _ (region next : List ℕ) (heads : List (Option Head)) (free free_len : 
       other_held c None e b head m m0 apart = rw e refl
       other_held c (Some h) e b head m m0 apart =
           let c_chain = sound.chains c h e in
-          let low = in_pool next sound.mark sound.count c h c_chain in
+          let low = in_pool c_chain in
           let links : laid_bytes (set region (32 * free + 0 % 32) byte) (set next head.last free) c h.len
           ≡ laid_bytes (set region (32 * free + 0 % 32) byte) next c h.len =
           same_bytes (set region (32 * free + 0 % 32) byte) next (set region (32 * free + 0 % 32) byte) (set next head.last free) c h.len
           (λ i i_low. ap (λ x. get_or (set region (32 * free + 0 % 32) byte) (32 * x + i % 32) 0)
-          (other_link next sound.mark sound.count c h c_chain head.last free b (blocks_for head.len - 1) m (λ s. apart (sym s)) (i / 32) (omega arith))) in
+          (other_link c_chain head.last free b (blocks_for head.len - 1) m (λ s. apart (sym s)) (i / 32) (omega arith))) in
           rw e (ap (λ bs. Some (record { owner = h.owner; bytes = bs })) (links ∙ other_bytes c h e free sound.count 0 0 byte m0 (λ s. absurd (omega arith))))
 
   -- ---- a chain freed
@@ -365,15 +361,15 @@ module _ (region next : List ℕ) (heads : List (Option Head)) (free free_len : 
       → AreSoundBlocks region (set next head.last free) (set heads b None) b (free_len + blocks_for head.len)
   free_chain_sound b head at =
       let chain = sound.chains b head at in
-      let b_low = in_pool next sound.mark sound.count b head chain in
+      let b_low = in_pool chain in
       let low : b < length heads = omega (arith, b_low, sound.counted) in
       let head_some : 0 < head.len = chain.some in
-      let l = last_marked next sound.mark sound.count b head chain in
+      let l = last_marked chain in
       let n = blocks_for head.len in
       let n_some : 0 < n = omega arith in
       let next' = set next head.last free in
       let mark = λ (x : ℕ). freed sound.count b n (sound.mark x) in
-      let kept = λ (k : ℕ) (h : k < n). last_link next sound.mark sound.count b head chain head.last free (n - 1) l.1 k h (omega arith) in
+      let kept = λ (k : ℕ) (h : k < n). last_link chain head.last free (n - 1) l.1 k h (omega arith) in
       let count_apart : sound.count ≢ b = λ e. absurd (omega arith) in
       let behind_last : block_at next' b n ≡ free =
       let e : suc (n - 1) ≡ n = omega arith in
@@ -392,9 +388,9 @@ module _ (region next : List ℕ) (heads : List (Option Head)) (free free_len : 
           | inr apart ↦
               let at_c = other_head b None c (Some h) apart e in
               let c_chain = sound.chains c h at_c in
-              let c_low = in_pool next sound.mark sound.count c h c_chain in
+              let c_low = in_pool c_chain in
               let c_some : 0 < h.len = c_chain.some in
-              let same = λ (i : ℕ) (i_low : i < blocks_for h.len). other_link next sound.mark sound.count c h c_chain head.last free b (n - 1) l.1
+              let same = λ (i : ℕ) (i_low : i < blocks_for h.len). other_link c_chain head.last free b (n - 1) l.1
               (λ s. apart (sym s)) i i_low in
               record {
                 some = c_chain.some;
@@ -419,7 +415,7 @@ module _ (region next : List ℕ) (heads : List (Option Head)) (free free_len : 
               let turned : j + n ≡ k = omega arith in
               let place : block_at next' b k ≡ block_at next free j =
               ap (block_at next' b) (sym sum) ∙ (sym (behind next' b n j) ∙ (ap (λ x. block_at next' x j) behind_last
-              ∙ free_link next sound.mark sound.count free free_len sound.spare head.last free b (n - 1) l.1 (λ s. absurd (omega arith)) j (omega arith))) in
+              ∙ free_link sound head.last free b (n - 1) l.1 (λ s. absurd (omega arith)) j (omega arith))) in
               subst (λ x. IsMarked mark sound.count x sound.count k) (sym place)
               (m.0, ap (freed sound.count b n) m.1 ∙ (freed_free sound.count b n j count_apart ∙ ap (λ i. (sound.count, i)) turned))
         ];
@@ -430,13 +426,9 @@ module _ (region next : List ℕ) (heads : List (Option Head)) (free free_len : 
       → slots_of region (set next head.last free) (set heads b None) ≡ set (slots_of region next heads) b None
   free_chain_slots b head at =
       let chain = sound.chains b head at in
-      let low : b < length heads = omega (arith, in_pool next sound.mark sound.count b head chain, sound.counted) in
-      let l = last_marked next sound.mark sound.count b head chain in
-      slots_set region next region (set next head.last free) heads (set heads b None) b None
-      (length-set heads b None) low
-      (ap (held_by region (set next head.last free) b) (get_or-set_same heads b None None low))
-      (λ c apart. ap (held_by region (set next head.last free) c) (get_or-set_other heads b c None None apart)
-      ∙ other_held c (get_or heads c None) refl b head l.1 apart)
+      let low : b < length heads = omega (arith, in_pool chain, sound.counted) in
+      let l = last_marked chain in
+      slots_set (record { low = low; here = refl; others = λ c apart. other_held c (get_or heads c None) refl b head l.1 apart })
     where
       other_held : (c : ℕ) (h : Option Head) → get_or heads c None ≡ h → (b : ℕ) (head : Head) → sound.mark head.last ≡ (b, blocks_for head.len - 1) → c ≢ b
           → held_by region (set next head.last free) c (get_or heads c None) ≡ held_by region next c (get_or heads c None)
@@ -445,13 +437,13 @@ module _ (region next : List ℕ) (heads : List (Option Head)) (free free_len : 
           rw e (ap (λ bs. Some (record { owner = h.owner; bytes = bs }))
           (same_bytes region next region (set next head.last free) c h.len
           (λ i i_low. ap (λ x. get_or region (32 * x + i % 32) 0)
-          (other_link next sound.mark sound.count c h (sound.chains c h e) head.last free b (blocks_for head.len - 1) m (λ s. apart (sym s)) (i / 32)
+          (other_link (sound.chains c h e) head.last free b (blocks_for head.len - 1) m (λ s. apart (sym s)) (i / 32)
           (omega arith)))))
 
 -- the last block of a chain lies in the pool
 pub last_in : (region next : List ℕ) (heads : List (Option Head)) (free free_len : ℕ) (sound : AreSoundBlocks region next heads free free_len) (b : ℕ)
     (head : Head) → get_or heads b None ≡ Some head → head.last < sound.count
-last_in region next heads free free_len sound b head at = (last_marked next sound.mark sound.count b head (sound.chains b head at)).0
+last_in region next heads free free_len sound b head at = (last_marked (sound.chains b head at)).0
 
 -- the length of a chain that isn't too long fits its type
 pub head_fits : (len bytes : ℕ) → bytes ≡ len → bytes < 2 ^ 24 → Fits w32 (len + 1)
@@ -503,7 +495,7 @@ module _ (region next : List ℕ) (heads : List (Option Head)) (free free_len : 
       (set heads b (Some (record { owner = owner; last = head.last; len = head.len; read_on = head.read_on; passed = head.passed }))) free free_len
   set_owner_sound b owner head at =
       let chain = sound.chains b head at in
-      let low : b < length heads = omega (arith, in_pool next sound.mark sound.count b head chain, sound.counted) in
+      let low : b < length heads = omega (arith, in_pool chain, sound.counted) in
       let new : Head = record { owner = owner; last = head.last; len = head.len; read_on = head.read_on; passed = head.passed } in
       let kept : IsChain next sound.mark sound.count b new =
       record { some = chain.some; marked = chain.marked; last = chain.last; within = chain.within; reading = chain.reading } in
@@ -528,12 +520,9 @@ module _ (region next : List ℕ) (heads : List (Option Head)) (free free_len : 
       (set heads b (Some (record { owner = owner; last = head.last; len = head.len; read_on = head.read_on; passed = head.passed }))) ≡ with_chain
       (slots_of region next heads) b owner (laid_bytes region next b head.len)
   set_owner_slots b owner head at =
-      let low : b < length heads = omega (arith, in_pool next sound.mark sound.count b head (sound.chains b head at), sound.counted) in
+      let low : b < length heads = omega (arith, in_pool (sound.chains b head at), sound.counted) in
       let new : Head = record { owner = owner; last = head.last; len = head.len; read_on = head.read_on; passed = head.passed } in
-      slots_set region next region next heads (set heads b (Some new)) b (Some (record { owner = owner; bytes = laid_bytes region next b head.len }))
-      (length-set heads b (Some new)) low
-      (ap (held_by region next b) (get_or-set_same heads b (Some new) None low))
-      (λ c apart. ap (held_by region next c) (get_or-set_other heads b c (Some new) None apart))
+      slots_set (record { low = low; here = refl; others = λ c apart. refl })
 
   -- ---- reading goes on at another block
 
@@ -542,7 +531,7 @@ module _ (region next : List ℕ) (heads : List (Option Head)) (free free_len : 
       (set heads b (Some (record { owner = head.owner; last = head.last; len = head.len; read_on = block; passed = passed }))) free free_len
   read_on_sound b block passed head at low block_is =
       let chain = sound.chains b head at in
-      let b_low : b < length heads = omega (arith, in_pool next sound.mark sound.count b head chain, sound.counted) in
+      let b_low : b < length heads = omega (arith, in_pool chain, sound.counted) in
       let new : Head = record { owner = head.owner; last = head.last; len = head.len; read_on = block; passed = passed } in
       let kept : IsChain next sound.mark sound.count b new =
       record { some = chain.some; marked = chain.marked; last = chain.last; within = low; reading = sym block_is } in
@@ -567,7 +556,7 @@ module _ (region next : List ℕ) (heads : List (Option Head)) (free free_len : 
       (set heads b (Some (record { owner = head.owner; last = head.last; len = head.len; read_on = block; passed = passed }))) ≡ slots_of region next heads
   unfolding slots_of
   read_on_slots b block passed head at =
-      let low : b < length heads = omega (arith, in_pool next sound.mark sound.count b head (sound.chains b head at), sound.counted) in
+      let low : b < length heads = omega (arith, in_pool (sound.chains b head at), sound.counted) in
       let new : Head = record { owner = head.owner; last = head.last; len = head.len; read_on = block; passed = passed } in
       let len = length-set heads b (Some new) in
       ap (λ n. map (λ c. held_by region next c (get_or (set heads b (Some new)) c None)) (range_with_len 0 n)) len

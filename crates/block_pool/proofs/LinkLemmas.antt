@@ -9,7 +9,7 @@ use Rattle.std.proofs.lemmas.Grind.{common_steps}
 use Rattle.block_pool.specs.declared.blocks.Head.{Head}
 use Rattle.block_pool.specs.Slots.{Held, blocks_for, slot}
 use Rattle.block_pool.specs.Links.{block_at, linked_byte}
-use Rattle.block_pool.specs.Layout.{laid_bytes, held_by, slots_of, IsMarked, IsChain}
+use Rattle.block_pool.specs.Layout.{laid_bytes, held_by, slots_of, IsMarked, IsChain, AreSoundBlocks}
 
 -- ---- links
 
@@ -84,24 +84,30 @@ same_slots f g n same =
     get_or-map-range_with_len f 0 n k k d low (omega arith)
     ∙ (same k ∙ sym (get_or-map-range_with_len g 0 n k k d low (omega arith))))
 
--- one chain was written, and each other one stayed
-pub slots_set : (region next region' next' : List ℕ) (heads heads' : List (Option Head)) (b : ℕ) (v : Option Held) → length heads' ≡ length heads
-    → b < length heads → held_by region' next' b (get_or heads' b None) ≡ v
-    → ((c : ℕ) → c ≢ b → held_by region' next' c (get_or heads' c None) ≡ held_by region next c (get_or heads c None))
-    → slots_of region' next' heads' ≡ set (slots_of region next heads) b v
-slots_set region next region' next' heads heads' b v lens low here others =
+-- one chain is written anew, and each other one stays
+pub record WritesOne (region next region' next' : List ℕ) (heads : List (Option Head)) (b : ℕ) (head : Option Head) (v : Option Held) : Type 0 where
+  pub low : b < length heads
+  pub here : held_by region' next' b head ≡ v
+  pub others : (c : ℕ) → c ≢ b → held_by region' next' c (get_or heads c None) ≡ held_by region next c (get_or heads c None)
+
+pub slots_set : {region next region' next' : List ℕ} {heads : List (Option Head)} {b : ℕ} {head : Option Head} {v : Option Held}
+    → WritesOne region next region' next' heads b head v → slots_of region' next' (set heads b head) ≡ set (slots_of region next heads) b v
+slots_set {region} {next} {region'} {next'} {heads} {b} {head} {v} w =
+    let heads' = set heads b head in
+    let len = length-set heads b head in
+    let slots = slots_of region next heads in
+    let slots_len = length-slots_of region next heads in
     same_lists _ _
-    (length-slots_of region' next' heads' ∙ (lens ∙ sym (length-set (slots_of region next heads) b v ∙ length-slots_of region next heads)))
+    (length-slots_of region' next' heads' ∙ (len ∙ sym (length-set slots b v ∙ slots_len)))
     (λ k d h.
-    let inside : k < length heads' = omega (arith, length-slots_of region' next' heads') in
+    let low : k < length heads = omega (arith, length-slots_of region' next' heads', len) in
     let left = get_or_default (slots_of region' next' heads') k d None h ∙ slot_is region' next' heads' k in
     elim (cases_eq k b) [
-      | inl same ↦ left ∙ (ap (λ c. held_by region' next' c (get_or heads' c None)) same ∙ (here
-          ∙ sym (ap (λ c. get_or (set (slots_of region next heads) b v) c d) same
-          ∙ get_or-set_same (slots_of region next heads) b v d (omega (arith, length-slots_of region next heads)))))
-      | inr other ↦ left ∙ (others k other
-          ∙ sym (get_or-set_other (slots_of region next heads) b k v d other
-          ∙ (get_or_default (slots_of region next heads) k d None (omega (arith, length-slots_of region next heads)) ∙ slot_is region next heads k)))
+      | inl same ↦ left ∙ (ap (λ c. held_by region' next' c (get_or heads' c None)) same
+          ∙ (ap (held_by region' next' b) (get_or-set_same heads b head None w.low) ∙ (w.here
+          ∙ sym (ap (λ c. get_or (set slots b v) c d) same ∙ get_or-set_same slots b v d (omega (arith, slots_len, w.low))))))
+      | inr other ↦ left ∙ (ap (held_by region' next' k) (get_or-set_other heads b k head None other) ∙ (w.others k other
+          ∙ sym (get_or-set_other slots b k v d other ∙ (get_or_default slots k d None (omega (arith, slots_len)) ∙ slot_is region next heads k))))
     ])
 
 -- ---- marks
@@ -159,37 +165,35 @@ freed_other count b n d k apart below = rw (test_false d b apart, test_false d c
 
 -- ---- chains
 
--- a chain begins at a block
-pub in_pool : (next : List ℕ) (mark : ℕ → ℕ × ℕ) (count b : ℕ) (head : Head) → IsChain next mark count b head → b < count
-in_pool next mark count b head chain = let some : 0 < head.len = chain.some in (chain.marked 0 (omega arith)).0
+module _ {next : List ℕ} {mark : ℕ → ℕ × ℕ} {count b : ℕ} {head : Head} (chain : IsChain next mark count b head) where
+  -- a chain begins at a block
+  pub in_pool : b < count
+  in_pool = let some = chain.some in (chain.marked 0 (omega arith)).0
 
--- the block of byte i of a chain
-pub block_of_byte : (next : List ℕ) (mark : ℕ → ℕ × ℕ) (count b : ℕ) (head : Head) → IsChain next mark count b head → (i : ℕ) → i < head.len
-    → IsMarked mark count (block_at next b (i / 32)) b (i / 32)
-block_of_byte next mark count b head chain i low = chain.marked (i / 32) (omega arith)
+  -- the block of byte i of a chain
+  pub block_of_byte : (i : ℕ) → i < head.len → IsMarked mark count (block_at next b (i / 32)) b (i / 32)
+  block_of_byte i low = chain.marked (i / 32) (omega arith)
 
--- a link of another chain leads nowhere in this one
-pub other_link : (next : List ℕ) (mark : ℕ → ℕ × ℕ) (count b : ℕ) (head : Head) → IsChain next mark count b head → (at link d j : ℕ) → mark at ≡ (d, j) → d ≢ b
-    → (k : ℕ) → k < blocks_for head.len → block_at (set next at link) b k ≡ block_at next b k
-other_link next mark count b head chain at link d j marked apart k low =
-    unchanged next at link b k (λ i h same. apart (sym (same_mark mark (block_at next b i) at b i d j (chain.marked i (omega arith)).1 marked same).0))
+  -- a link of another chain leads nowhere in this one
+  pub other_link : (at link d j : ℕ) → mark at ≡ (d, j) → d ≢ b → (k : ℕ) → k < blocks_for head.len → block_at (set next at link) b k ≡ block_at next b k
+  other_link at link d j marked apart k low =
+      unchanged next at link b k (λ i h same. apart (sym (same_mark mark (block_at next b i) at b i d j (chain.marked i (omega arith)).1 marked same).0))
 
--- nor does the link of its last block lead to a block before
-pub last_link : (next : List ℕ) (mark : ℕ → ℕ × ℕ) (count b : ℕ) (head : Head) → IsChain next mark count b head → (at link j : ℕ) → mark at ≡ (b, j) → (k : ℕ)
-    → k < blocks_for head.len → k ≤ j → block_at (set next at link) b k ≡ block_at next b k
-last_link next mark count b head chain at link j marked k low before =
-    unchanged next at link b k
-    (λ i h same. absurd (let e : i ≡ j = (same_mark mark (block_at next b i) at b i b j (chain.marked i (omega arith)).1 marked same).1 in omega arith))
+  -- nor does the link of its last block lead to a block before
+  pub last_link : (at link j : ℕ) → mark at ≡ (b, j) → (k : ℕ) → k < blocks_for head.len → k ≤ j → block_at (set next at link) b k ≡ block_at next b k
+  last_link at link j marked k low before =
+      unchanged next at link b k
+      (λ i h same. absurd (let e : i ≡ j = (same_mark mark (block_at next b i) at b i b j (chain.marked i (omega arith)).1 marked same).1 in omega arith))
 
--- the mark of the last block
-pub last_marked : (next : List ℕ) (mark : ℕ → ℕ × ℕ) (count b : ℕ) (head : Head) → IsChain next mark count b head
-    → IsMarked mark count head.last b (blocks_for head.len - 1)
-last_marked next mark count b head chain =
-    let some : 0 < head.len = chain.some in
-    subst (λ x. IsMarked mark count x b (blocks_for head.len - 1)) chain.last (chain.marked (blocks_for head.len - 1) (omega arith))
+  -- the mark of the last block
+  pub last_marked : IsMarked mark count head.last b (blocks_for head.len - 1)
+  last_marked =
+      let some = chain.some in
+      subst (λ x. IsMarked mark count x b (blocks_for head.len - 1)) chain.last (chain.marked (blocks_for head.len - 1) (omega arith))
 
 -- free blocks where a link of a chain changed
-pub free_link : (next : List ℕ) (mark : ℕ → ℕ × ℕ) (count free free_len : ℕ) → ((k : ℕ) → k < free_len → IsMarked mark count (block_at next free k) count k)
-    → (at link d j : ℕ) → mark at ≡ (d, j) → d ≢ count → (k : ℕ) → k < free_len → block_at (set next at link) free k ≡ block_at next free k
-free_link next mark count free free_len spare at link d j marked apart k low =
-    unchanged next at link free k (λ i h same. apart (sym (same_mark mark (block_at next free i) at count i d j (spare i (omega arith)).1 marked same).0))
+pub free_link : {region next : List ℕ} {heads : List (Option Head)} {free free_len : ℕ} (sound : AreSoundBlocks region next heads free free_len)
+    (at link d j : ℕ) → sound.mark at ≡ (d, j) → d ≢ sound.count → (k : ℕ) → k < free_len → block_at (set next at link) free k ≡ block_at next free k
+free_link {next = next} {free = free} sound at link d j marked apart k low =
+    unchanged next at link free k
+    (λ i h same. apart (sym (same_mark sound.mark (block_at next free i) at sound.count i d j (sound.spare i (omega arith)).1 marked same).0))

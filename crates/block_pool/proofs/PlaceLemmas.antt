@@ -107,7 +107,7 @@ module _ (region next : List ℕ) (heads : List (Option Head)) (free free_len : 
           let inside : k < blocks_for head.len = omega arith in (
             ap (λ bs. get_or bs k 0) blocks ∙ get_or-map-range_with_len (block_at next first) 0 (blocks_for head.len) k k 0 inside (omega arith),
             chain.marked k inside,
-            in_pool next sound.mark sound.count first head chain,
+            in_pool chain,
           )
 
   -- a free block

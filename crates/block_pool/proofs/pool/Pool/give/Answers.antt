@@ -5,7 +5,7 @@ use Rattle.block_pool.specs.Slots.{blocks_for}
 use Rattle.block_pool.specs.Names.{named_bytes}
 use Rattle.block_pool.specs.Pool.{PoolState, IsLive}
 use Rattle.block_pool.proofs.LayoutLemmas.{blocks_is, blocks_fit}
-use Rattle.block_pool.proofs.CountLemmas.{chain_low, used_low, free_low, given_counted}
+use Rattle.block_pool.proofs.CountLemmas.{chain_low, used_low, free_low, IsCountedChain, given_counted}
 use Rattle.block_pool.proofs.pool.Pool.give.Goals as goal
 
 pub overflow_cast-need : goal.overflow_cast-need
@@ -49,7 +49,10 @@ invariant_of-self c =
     let live = subst (λ (v : PoolState). IsLive v c.args.chain) (sym c.self.view_is) c.requires in
     let len : c.len.result ≡ length (named_bytes pool.slots c.args.chain.first) = c.len.ensures
     ∙ ap (λ (v : PoolState). length (named_bytes v.slots c.args.chain.first)) (sym c.self.view_is) in
-    given_counted pool c.self.invariant.0 s.blocks.free c.self.invariant.1 c.args.chain.owner live.0 c.args.chain.first c.free_all.new.blocks.slots
-    c.free_all.new.blocks.free c.div_ceil-need.result c.index-old.result.now
-    live.1 c.free_all.ensures.slots c.free_all.ensures.free (blocks_is c.div_ceil-need.result c.len.result c.div_ceil-need.ensures ∙ ap blocks_for len)
-    (get_or_read s.owners.items c.args.chain.owner c.index-old.result.now live.0 c.index-old.ensures (record { quota = 0; used = 0; aside = 0 }))
+    let chain : IsCountedChain pool c.args.chain.owner c.args.chain.first c.div_ceil-need.result c.index-old.result.now = record {
+      has = live.0;
+      live = live.1;
+      blocks = blocks_is c.div_ceil-need.result c.len.result c.div_ceil-need.ensures ∙ ap blocks_for len;
+      counts = get_or_read s.owners.items c.args.chain.owner c.index-old.result.now live.0 c.index-old.ensures (record { quota = 0; used = 0; aside = 0 });
+    } in
+    given_counted c.self.invariant.0 s.blocks.free c.self.invariant.1 chain c.free_all.ensures.slots c.free_all.ensures.free

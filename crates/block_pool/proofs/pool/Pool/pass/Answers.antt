@@ -1,4 +1,4 @@
-use Rattle.std.proofs.Common.{◌≡◌, ℕ, ◌+◌, ◌-◌, ◌<◌, sym, ap, ◌∙◌, subst, arith, length, set, length-set}
+use Rattle.std.proofs.Common.{◌≡◌, ℕ, ◌<◌, sym, ap, ◌∙◌, subst, arith, length, set, length-set}
 use Rattle.std.proofs.lemmas.List.{get_or_read}
 use Rattle.block_pool.specs.declared.owners.Owner.{Owner}
 use Rattle.block_pool.specs.Slots.{blocks_for}
@@ -6,7 +6,7 @@ use Rattle.block_pool.specs.Names.{named_bytes}
 use Rattle.block_pool.specs.Pool.{PoolState, IsLive, spare_of}
 use Rattle.block_pool.specs.Counts.{AreCounted, AreFree}
 use Rattle.block_pool.proofs.LayoutLemmas.{blocks_is, blocks_fit}
-use Rattle.block_pool.proofs.CountLemmas.{chain_low, used_low, passed_counted}
+use Rattle.block_pool.proofs.CountLemmas.{chain_low, used_low, less, more, IsCountedChain, HasRoomFor, passed_counted}
 use Rattle.block_pool.proofs.pool.Pool.pass.Goals as goal
 
 pub overflow_cast-need : goal.overflow_cast-need
@@ -44,24 +44,19 @@ invariant_of-self c =
     ∙ ap (λ (v : PoolState). length (named_bytes v.slots chain.first)) (sym c.self.view_is) in
     let spare : c.spare-spare.result ≡ spare_of pool q = c.spare-spare.ensures.spare ∙ ap (λ (v : PoolState). spare_of v q) (sym c.self.view_is) in
     let old = c.index-before.result.now in
-    let lowered : Owner = record { quota = old.quota; used = old.used - c.div_ceil-need.result; aside = old.aside } in
-    subst (λ (n : ℕ). AreCounted c.hand_over.new.blocks.slots (set (set s.owners.items chain.owner lowered) q (record {
-      quota =
-          c.index-after.result.now.quota;
-      used = c.index-after.result.now.used + c.div_ceil-need.result;
-      aside = c.index-after.result.now.aside;
-    }))
-    × AreFree (set (set s.owners.items chain.owner lowered) q (record {
-      quota = c.index-after.result.now.quota;
-      used =
-          c.index-after.result.now.used + c.div_ceil-need.result;
-      aside = c.index-after.result.now.aside;
-    })) n)
-    (sym c.hand_over.ensures.free)
-    (passed_counted pool c.self.invariant.0 s.blocks.free c.self.invariant.1 chain.owner q live.0 other chain.first c.hand_over.new.blocks.slots
-    c.div_ceil-need.result old c.index-after.result.now
-    live.1 c.hand_over.ensures.slots (blocks_is c.div_ceil-need.result c.len.result c.div_ceil-need.ensures ∙ ap blocks_for len)
-    (omega (arith, spare, c.if-need-spare.false))
-    (get_or_read s.owners.items chain.owner old live.0 c.index-before.ensures (record { quota = 0; used = 0; aside = 0 }))
-    (get_or_read (set s.owners.items chain.owner lowered) q c.index-after.result.now
-    (omega (arith, other, length-set s.owners.items chain.owner lowered)) c.index-after.ensures (record { quota = 0; used = 0; aside = 0 })))
+    let n = c.div_ceil-need.result in
+    let has : IsCountedChain pool chain.owner chain.first n old = record {
+      has = live.0;
+      live = live.1;
+      blocks = blocks_is n c.len.result c.div_ceil-need.ensures ∙ ap blocks_for len;
+      counts = get_or_read s.owners.items chain.owner old live.0 c.index-before.ensures (record { quota = 0; used = 0; aside = 0 });
+    } in
+    let taker : HasRoomFor pool chain.owner q n old c.index-after.result.now = record {
+      has = other;
+      room = omega (arith, spare, c.if-need-spare.false);
+      counts = get_or_read (set s.owners.items chain.owner (less old n)) q c.index-after.result.now
+          (omega (arith, other, length-set s.owners.items chain.owner (less old n))) c.index-after.ensures (record { quota = 0; used = 0; aside = 0 });
+    } in
+    let owners = set (set s.owners.items chain.owner (less old n)) q (more c.index-after.result.now n) in
+    subst (λ (left : ℕ). AreCounted c.hand_over.new.blocks.slots owners × AreFree owners left) (sym c.hand_over.ensures.free)
+    (passed_counted c.self.invariant.0 s.blocks.free c.self.invariant.1 has taker c.hand_over.ensures.slots)
