@@ -337,7 +337,8 @@ passed_counted {pool} {o} {q} {name} {n} {old} {new} {slots} counted free rest c
     subst (λ (x : Owner). AreCounted slots (set between.owners q (more x n)) × AreFree (set between.owners q (more x n)) free) (sym taker.counts) (
       counted_after between one.0 q still slots (used + n) aside (omega (arith, held_is, one.0.used q still)) fits
           (λ p apart. ap (λ ss. blocks_held ss p) slots_are ∙ again_others pool.slots o q name p chain.live apart),
-      free_after between one.0 q still slots (free + blocks_for (length (named_bytes pool.slots name))) (used + n) aside free one.1 (omega (arith, chain.blocks)),
+      free_after between one.0 q still slots (free + blocks_for (length (named_bytes pool.slots name))) (used + n) aside free one.1
+          (omega (arith, chain.blocks)),
     )
 
 -- ---- a new pool

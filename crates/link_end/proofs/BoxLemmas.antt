@@ -13,6 +13,7 @@ use Rattle.block_pool.proofs.HoldingLemmas.{apart_by_owner, apart_turned, all_ma
 use Rattle.hcp_packet.specs.Packets.{AreSendable, fragments_of}
 use Rattle.hcp_chain.specs.declared.joiner.Open.{Open}
 use Rattle.hcp_chain.specs.Holding.{IsOwnOpen, held_blocks, messages_in as messages_of, message_of, IsApartFrom}
+use Rattle.link_machine.specs.Machine.{LinkEnd as Machine}
 use Rattle.link_messages.specs.declared.outbox.Queued.{Queued}
 use Rattle.link_messages.specs.declared.outbox.Outbox.{Outbox}
 use Rattle.link_messages.specs.declared.inbox.Inbox.{Inbox}
@@ -21,7 +22,8 @@ use Rattle.link_messages.specs.Incoming.{got_chains, chains_in, messages_under_w
 use Rattle.link_messages.proofs.OutgoingLemmas.{messages_same}
 use Rattle.link_messages.proofs.IncomingLemmas.{front_holds, front_apart}
 use Rattle.circular_buffer.specs.Buffer.{Buffer}
-use Rattle.link_end.specs.Ends.{LeavesBoxes}
+use Rattle.link_end.specs.Ends.{Halfway, MayPass, LeavesBoxes}
+use Rattle.link_end.specs.declared.«end».End.{End}
 
 -- ---- what comes, where what is sent changed
 
@@ -187,9 +189,9 @@ leaves_all pool a b = record {
   others = λ other live x y. (live, refl, x, y);
 }
 
-pub leaves_more : (old mid new : PoolState) (a b c : Outbox) (x y z : Inbox) → LeavesBoxes old mid a x b y → LeavesBoxes mid new b y c z
+pub leaves_more : {old mid new : PoolState} {a b c : Outbox} {x y z : Inbox} → LeavesBoxes old mid a x b y → LeavesBoxes mid new b y c z
     → LeavesBoxes old new a x c z
-leaves_more old mid new a b c x y z l m =
+leaves_more {mid = mid} {new = new} {x = x} {y = y} {z = z} l m =
     let m_received : used_of new x.joiner.owner + held_blocks mid (chains_in y) ≡ used_of mid x.joiner.owner + held_blocks new (chains_in z) =
     subst (λ o. used_of new o + held_blocks mid (chains_in y) ≡ used_of mid o + held_blocks new (chains_in z)) l.receiver m.received in
     record {
@@ -205,9 +207,9 @@ leaves_more old mid new a b c x y z l m =
     }
 
 -- the same chains in the same places
-pub leaves_same : (old new : PoolState) (a b c : Outbox) (x y z : Inbox) → LeavesBoxes old new a x b y → c.owner ≡ b.owner → c.queue ≡ b.queue → z ≡ y
-    → LeavesBoxes old new a x c z
-leaves_same old new a b c x y z l owner queue inbox = record {
+pub leaves_same : {old new : PoolState} {a b : Outbox} {x y : Inbox} (c : Outbox) (z : Inbox) → LeavesBoxes old new a x b y → c.owner ≡ b.owner
+    → c.queue ≡ b.queue → z ≡ y → LeavesBoxes old new a x c z
+leaves_same {old} {new} {x = x} c z l owner queue inbox = record {
   sender = owner ∙ l.sender;
   receiver = ap (λ (i : Inbox). i.joiner.owner) inbox ∙ l.receiver;
   counts = l.counts;
@@ -225,15 +227,19 @@ leaves_same old new a b c x y z l owner queue inbox = record {
 
 -- ---- a chain of another owner goes to what is sent
 
-pub inbox_passed : (old new : PoolState) (owner : ℕ) (chain : Chain) (xs ys : List Queued) (box : Inbox) → OwnsAll Queued chain_in old owner xs
-    → LeavesOthersBut old new owner chain xs ys → InboxLiesIn old box
-    → owner ≢ box.joiner.owner → IsApartFrom (chains_in box) chain
-    → (chain.owner ≡ box.joiner.owner → held_blocks old (chains_in box) + blocks_for (length (chain_bytes old chain)) ≤ used_of old box.joiner.owner)
-    → InboxLiesIn new box × (messages_under_way new box ≡ messages_under_way old box) × (came_whole new box ≡ came_whole old box)
-inbox_passed old new owner chain xs ys box own leaves lies differ apart counted =
+pub inbox_passed : {old new : PoolState} {k : End} {m : Machine} {chain : Chain} {ys : List Queued} → Halfway k old m → MayPass old k chain
+    → LeavesOthersBut old new k.outbox.owner chain k.outbox.queue.items ys
+    → InboxLiesIn new k.inbox × (messages_under_way new k.inbox ≡ messages_under_way old k.inbox) × (came_whole new k.inbox ≡ came_whole old k.inbox)
+inbox_passed {old} {new} {k} {chain = chain} h may leaves =
+    let box = k.inbox in
+    let lies = h.receives.lies in
+    let apart = may.apart in
     let o = box.joiner.owner in
     let kept : (x : Open) → IsOwnOpen old o x × IsApart chain x.chain → IsLive new x.chain × (chain_bytes new x.chain ≡ chain_bytes old x.chain) =
-    (λ x p. let k = leaves.others x.chain p.0.live (apart_from_queue old owner o x xs p.0 own differ) (apart_turned chain x.chain p.1) in (k.0, k.1)) in
+    (λ x p.
+    let queue = apart_from_queue old k.outbox.owner o x k.outbox.queue.items p.0 h.sends.lies.kept.own h.differ in
+    let s = leaves.others x.chain p.0.live queue (apart_turned chain x.chain p.1) in
+    (s.0, s.1)) in
     let both = all_joined Open (IsOwnOpen old o) (λ x. IsApart chain x.chain) (chains_in box) lies.holds.own apart in
     let all = opens_passed old new o (λ x. IsApart chain x.chain) (chains_in box) both kept in
     let front = front_holds old o box.joiner.open.items box.got lies.holds in
@@ -249,10 +255,10 @@ inbox_passed old new owner chain xs ys box own leaves lies differ apart counted 
         ap (λ p. quota_of new p) (sym same) ∙ (leaves.giver_quota ∙ (ap (λ p. quota_of old p) same ∙ lies.quota)),
         (let u : used_of new o ≡ used_of old o - blocks_for (length (chain_bytes old chain)) = ap (used_of new) (sym same)
             ∙ (leaves.giver_used ∙ ap (λ p. used_of old p - blocks_for (length (chain_bytes old chain))) same) in
-            let c = counted same in omega (arith, u, c, all.blocks)),
+            let c = may.counted same in omega (arith, u, c, all.blocks)),
       )
       | inr apart_owner ↦ (
-          (let here = leaves.counts o (λ e. differ (sym e)) (λ e. apart_owner (sym e)) in
+          (let here = leaves.counts o (λ e. h.differ (sym e)) (λ e. apart_owner (sym e)) in
           (ap (λ (x : Owner). x.quota) here ∙ lies.quota, (let u = ap (λ (x : Owner). x.used) here in omega (arith, u, all.blocks, lies.used))))
           )
     ] in (

@@ -18,7 +18,7 @@ use Rattle.shdlc_core.specs.Machine.{EndState, Fragment, Session, taken, take_an
 use Rattle.shdlc_core.specs.Offering.{StandsBefore, with_out, left_waiting}
 use Rattle.shdlc_core.proofs.Offering.{stands_taken, stands_idle, takes_on, TakesOn, brings_fragment}
 use Rattle.shdlc_core.proofs.Histories.{in_phase}
-use Rattle.hcp_packet.specs.Packets.{packets_in, fragments_of, good_of, packet_of, AreSendable}
+use Rattle.hcp_packet.specs.Packets.{packets_in, fragments_of, good_of, packet_of}
 use Rattle.hcp_chain.specs.Joining.{are_taken, given_by, open_after}
 use Rattle.hcp_chain.proofs.ReadyLemmas.{open_after-append, given_by-append, are_taken-append}
 use Rattle.link_machine.specs.Machine.{LinkEnd as Machine, Message, moved, put_down, heard, is_faulty, messages_got, news, whole_acked, whole_among, oldest}
@@ -38,7 +38,7 @@ use Rattle.link_end.specs.Received.{ReceivesOn}
 use Rattle.link_end.specs.Reports.{nothing_told, heard_told}
 use Rattle.link_end.specs.declared.«end».End.{End}
 use Rattle.link_end.specs.declared.report.LinkReport.{LinkReport}
-use Rattle.link_end.proofs.EndLemmas.{session_over, carries, stopped_before}
+use Rattle.link_end.proofs.EndLemmas.{Carries, carries, session_over, session_ended, stopped_before}
 use Rattle.link_end.proofs.BoxLemmas.{OutboxKept, inbox_kept, outbox_kept, leaves_out, leaves_in, leaves_more}
 use Rattle.link_machine.proofs.Reports.{good-append, empty_news}
 use Rattle.shdlc_core.proofs.OfferedFrames.{taken_alike}
@@ -80,20 +80,33 @@ drop_of_none (suc n) = refl
 abbrev pub ended_in : Machine → Control → Bool
 ended_in m c = is_some (take_answer m.shdlc c).ended
 
-pub took_answer : (k : End) (pool : PoolState) (m : Machine) (c : Control) (t : Taken) → EndStandsFor k pool m
-    → ((e : EndState) → ShdlcStandsFor k.shdlc e → t ≡ take_answer e c) → t ≡ take_answer m.shdlc c
-took_answer k pool m c t h answer = answer (with_out m.shdlc h.half.link.offered) h.half.link.kept ∙ (taken_alike m.shdlc h.half.link.offered c).answer
+-- the SHDLC end of a link end took a frame, and answered this
+pub record HasTaken (k : End) (pool : PoolState) (m : Machine) (c : Control) (s : KeptEnd) (t : Taken) : Type 0 where
+  pub before : EndStandsFor k pool m
+  pub stands : (e : EndState) → ShdlcStandsFor k.shdlc e → ShdlcStandsFor s (taken e c)
+  pub answer : (e : EndState) → ShdlcStandsFor k.shdlc e → t ≡ take_answer e c
 
-pub took_link : (k : End) (pool : PoolState) (m : Machine) (c : Control) (s0 : KeptEnd) → EndStandsFor k pool m
-    → ((e : EndState) → ShdlcStandsFor k.shdlc e → ShdlcStandsFor s0 (taken e c))
-    → StandsBefore s0 (left_waiting (ended_in m c) (waiting_in pool k.outbox)) (taken m.shdlc c)
-took_link k pool m c s0 h stands =
-    let link = h.half.link in
+took_answer : {k : End} {pool : PoolState} {m : Machine} {c : Control} {s : KeptEnd} {t : Taken} → HasTaken k pool m c s t → t ≡ take_answer m.shdlc c
+took_answer {m = m} {c = c} h =
+    let link = h.before.half.link in
+    h.answer (with_out m.shdlc link.offered) link.kept ∙ (taken_alike m.shdlc link.offered c).answer
+
+-- whether it ended the session
+ended_by : {k : End} {pool : PoolState} {m : Machine} {c : Control} {s : KeptEnd} {t : Taken} {b : Bool} → HasTaken k pool m c s t → is_some t.ended ≡ b
+    → ended_in m c ≡ b
+ended_by h ended = sym (ap (λ (x : Taken). is_some x.ended) (took_answer h)) ∙ ended
+
+-- what the SHDLC end stands for then
+took_link : {k : End} {pool : PoolState} {m : Machine} {c : Control} {s : KeptEnd} {t : Taken} {b : Bool} → HasTaken k pool m c s t → ended_in m c ≡ b
+    → StandsBefore s (left_waiting b (waiting_in pool k.outbox)) (taken m.shdlc c)
+took_link {k} {pool} {m} {c} {s} h over =
+    let link = h.before.half.link in
     let waiting = waiting_in pool k.outbox in
     let on = takes_on m.shdlc c link.session in
-    let P : List Fragment → Type 0 = λ w. StandsBefore s0 w (taken m.shdlc c) in
-    subst P (on.waiting waiting (λ other. stands_idle k.shdlc waiting m.shdlc link (λ up. other (sym link.kept.phase ∙ up))))
-    (stands_taken k.shdlc s0 waiting m.shdlc c link (stands (with_out m.shdlc link.offered) link.kept))
+    let P : List Fragment → Type 0 = λ w. StandsBefore s w (taken m.shdlc c) in
+    subst P (on.waiting waiting (λ other. stands_idle k.shdlc waiting m.shdlc link (λ up. other (sym link.kept.phase ∙ up)))
+    ∙ ap (λ b. left_waiting b waiting) over)
+    (stands_taken k.shdlc s waiting m.shdlc c link (h.stands (with_out m.shdlc link.offered) link.kept))
 
 -- ---- a session that the frame ends
 
@@ -109,32 +122,26 @@ heard-over m c over acc =
 pub over_acc : (m : Machine) (c : Control) → TakesOn m.shdlc c → ended_in m c ≡ true → (taken m.shdlc c).session.acc ≡ []
 over_acc m c on over = on.acc ∙ ap (λ b. left_waiting b (m.shdlc.session.acc ++ option_to_list (take_answer m.shdlc c).accepted)) over
 
-pub over_stands : (pool new : PoolState) (k k1 : End) (m : Machine) (c : Control) (s0 : KeptEnd) (t : Taken) → EndStandsFor k pool m
-    → ((e : EndState) → ShdlcStandsFor k.shdlc e → ShdlcStandsFor s0 (taken e c))
-    → ((e : EndState) → ShdlcStandsFor k.shdlc e → t ≡ take_answer e c) → is_some t.ended ≡ true → ForgetsMessages pool new (record k { shdlc = s0 }) k1
-    → EndStandsFor k1 new (heard m c)
-over_stands pool new k k1 m c s0 t h stands answer ended f =
-    let e = taken m.shdlc c in
-    let on = takes_on m.shdlc c h.half.link.session in
-    let over : ended_in m c ≡ true = sym (ap (λ (x : Taken). is_some x.ended) (took_answer k pool m c t h answer)) ∙ ended in
+pub over_stands : {k k1 : End} {pool new : PoolState} {m : Machine} {c : Control} {s : KeptEnd} {t : Taken} → HasTaken k pool m c s t
+    → is_some t.ended ≡ true → ForgetsMessages pool new (record k { shdlc = s }) k1 → EndStandsFor k1 new (heard m c)
+over_stands {k1 = k1} {new = new} {m = m} {c = c} h ended f =
+    let on = takes_on m.shdlc c h.before.half.link.session in
+    let over = ended_by h ended in
     let acc = over_acc m c on over in
-    let P : Bool → Type 0 = λ b. StandsBefore s0 (left_waiting b (waiting_in pool k.outbox)) e in
-    let Q : KeptEnd → Type 0 = λ x. StandsBefore x [] e in
-    let link = subst Q (sym f.shdlc) (subst P over (took_link k pool m c s0 h stands)) in
-    let R : Machine → Type 0 = λ x. EndStandsFor k1 new x in
-    subst R (sym (heard-over m c over acc))
-    (session_over pool new k k1 s0 k1.shdlc m e (carries k pool m h.half) f link
-    (on.out ∙ ap (λ b. left_waiting b m.shdlc.session.out) over)
-    (on.acked ∙ ap (λ b. if b then 0 else m.shdlc.session.acked + (take_answer m.shdlc c).acked) over) acc)
+    let P : Machine → Type 0 = λ x. EndStandsFor k1 new x in
+    subst P (sym (heard-over m c over acc)) (session_ended (carries h.before.half) f (record {
+      stands = took_link h over;
+      out = on.out ∙ ap (λ b. left_waiting b m.shdlc.session.out) over;
+      acked = on.acked ∙ ap (λ b. if b then 0 else m.shdlc.session.acked + (take_answer m.shdlc c).acked) over;
+      acc = acc;
+    }))
 
-pub over_told : (pool : PoolState) (k : End) (m : Machine) (c : Control) (t : Taken) (n : LinkReport) → EndStandsFor k pool m
-    → ((e : EndState) → ShdlcStandsFor k.shdlc e → t ≡ take_answer e c)
+pub over_told : {k : End} {pool : PoolState} {m : Machine} {c : Control} {s : KeptEnd} {t : Taken} {n : LinkReport} → HasTaken k pool m c s t
     → is_some t.ended ≡ true → n ≡ nothing_told → record n { ended = t.ended; began = t.began } ≡ heard_told m c
-over_told pool k m c t n h answer ended none =
+over_told {m = m} {c = c} {t = t} h ended none =
     let e = taken m.shdlc c in
-    let on = takes_on m.shdlc c h.half.link.session in
-    let is = took_answer k pool m c t h answer in
-    let over : ended_in m c ≡ true = sym (ap (λ (x : Taken). is_some x.ended) is) ∙ ended in
+    let on = takes_on m.shdlc c h.before.half.link.session in
+    let over = ended_by h ended in
     let acc = over_acc m c on over in
     let faulty : is_faulty e.session ≡ false = ap (λ l. not (are_taken [] (packets_in l))) acc in
     let acked : whole_acked (heard m c) - whole_acked m ≡ 0 = ap (λ x. whole_acked x - whole_acked m) (heard-over m c over acc) ∙ omega arith in
@@ -143,7 +150,7 @@ over_told pool k m c t n h answer ended none =
     let cause : (if is_faulty e.session then Some Chain else (take_answer m.shdlc c).ended) ≡ (take_answer m.shdlc c).ended =
     ap (λ b. if b then Some Chain else (take_answer m.shdlc c).ended) faulty in
     ap (λ (x : LinkReport). record x { ended = t.ended; began = t.began }) none
-    ∙ (ap (λ (x : Taken). record nothing_told { ended = x.ended; began = x.began }) is
+    ∙ (ap (λ (x : Taken). record nothing_told { ended = x.ended; began = x.began }) (took_answer h)
     ∙ sym (ap (λ (x : Option Cause). record nothing_told {
       ended = x;
       began = (take_answer m.shdlc c).began;
@@ -162,44 +169,45 @@ over_told pool k m c t n h answer ended none =
 
 -- ---- what is acknowledged
 
+-- so many more fragments are acknowledged, and the messages that are acknowledged whole were given back
+pub record HasAcknowledged (old new : PoolState) (box after : Outbox) (count whole : ℕ) : Type 0 where
+  pub gives : GivesBack old new (acked_more box count) after whole
+  pub all : whole_among (queued_messages new after) after.acked ≡ 0
+  pub rest : rest_among (queued_messages new after) after.acked ≡ after.acked
+
 -- more of what is sent is acknowledged
-pub sends_on : (mid new : PoolState) (box after : Outbox) (sent : List Message) (s s' : Session) (count whole : ℕ) → AreSendable sent
-    → s.out ≡ fragments_of sent
-    → queued_messages mid box ≡ drop (whole_among sent s.acked) sent → box.acked ≡ rest_among sent s.acked
-    → GivesBack mid new (acked_more box count) after whole
-    → whole_among (queued_messages new after) after.acked ≡ 0 → rest_among (queued_messages new after) after.acked ≡ after.acked → s'.out ≡ s.out
-    → s'.acked ≡ s.acked + count
+sends_on : {old new : PoolState} {box after : Outbox} {sent : List Message} {s s' : Session} {count whole : ℕ} → OutboxStandsFor old box sent s
+    → HasAcknowledged old new box after count whole → s'.out ≡ s.out → s'.acked ≡ s.acked + count
     → OutboxStandsFor new after sent s' × (whole_among sent s'.acked ≡ whole_among sent s.acked + whole)
-sends_on mid new box after sent s s' count whole all out messages acked g none rest same_out counted =
+sends_on {old} {new} {box} {after} {sent} {s} {s'} {count} {whole} o a same_out counted =
+    let g = a.gives in
     let w = whole_among sent s.acked in
     let more = whole-more sent s.acked count in
-    let left : whole_among (queued_messages mid box) (box.acked + count) ≡ whole_among (drop w sent) (rest_among sent s.acked + count) =
-    ap (λ l. whole_among l (box.acked + count)) messages ∙ ap (λ n. whole_among (drop w sent) (n + count)) acked in
-    let resting : rest_among (queued_messages mid box) (box.acked + count) ≡ rest_among (drop w sent) (rest_among sent s.acked + count) =
-    ap (λ l. rest_among l (box.acked + count)) messages ∙ ap (λ n. rest_among (drop w sent) (n + count)) acked in
-    let among : whole_among sent s'.acked ≡ w + whole = ap (whole_among sent) counted ∙ omega (arith, more.0, left, g.among, none) in (
+    let left : whole_among (queued_messages old box) (box.acked + count) ≡ whole_among (drop w sent) (rest_among sent s.acked + count) =
+    ap (λ l. whole_among l (box.acked + count)) o.messages ∙ ap (λ n. whole_among (drop w sent) (n + count)) o.acked in
+    let resting : rest_among (queued_messages old box) (box.acked + count) ≡ rest_among (drop w sent) (rest_among sent s.acked + count) =
+    ap (λ l. rest_among l (box.acked + count)) o.messages ∙ ap (λ n. rest_among (drop w sent) (n + count)) o.acked in
+    let among : whole_among sent s'.acked ≡ w + whole = ap (whole_among sent) counted ∙ omega (arith, more.0, left, g.among, a.all) in (
       record {
         lies = g.lies;
-        all = all;
-        out = same_out ∙ out;
-        messages = g.messages ∙ (ap (drop whole) messages ∙ (drop-drop whole w sent ∙ ap (λ n. drop n sent) (sym among)));
-        acked = sym rest ∙ (g.rest ∙ (resting ∙ (sym more.1 ∙ ap (rest_among sent) (sym counted))));
+        all = o.all;
+        out = same_out ∙ o.out;
+        messages = g.messages ∙ (ap (drop whole) o.messages ∙ (drop-drop whole w sent ∙ ap (λ n. drop n sent) (sym among)));
+        acked = sym a.rest ∙ (g.rest ∙ (resting ∙ (sym more.1 ∙ ap (rest_among sent) (sym counted))));
       },
       among,
     )
 
 -- all that is acknowledged was cut
-pub cut_enough : (pool : PoolState) (k : End) (m : Machine) (c : Control) (s0 : KeptEnd) (t : Taken) → EndStandsFor k pool m
-    → ((e : EndState) → ShdlcStandsFor k.shdlc e → ShdlcStandsFor s0 (taken e c))
-    → ((e : EndState) → ShdlcStandsFor k.shdlc e → t ≡ take_answer e c) → is_some t.ended ≡ false → k.outbox.acked + t.acked ≤ k.outbox.cut
-cut_enough pool k m c s0 t h stands answer going =
-    let sends = h.half.sends in
-    let link = h.half.link in
+pub cut_enough : {k : End} {pool : PoolState} {m : Machine} {c : Control} {s : KeptEnd} {t : Taken} → HasTaken k pool m c s t → is_some t.ended ≡ false
+    → k.outbox.acked + t.acked ≤ k.outbox.cut
+cut_enough {k} {pool} {m} {c} {t = t} h going =
+    let sends = h.before.half.sends in
+    let link = h.before.half.link in
     let on = takes_on m.shdlc c link.session in
-    let is = took_answer k pool m c t h answer in
-    let over : ended_in m c ≡ false = sym (ap (λ (x : Taken). is_some x.ended) is) ∙ going in
-    let P : Bool → Type 0 = λ b. StandsBefore s0 (left_waiting b (waiting_in pool k.outbox)) (taken m.shdlc c) in
-    let next = subst P over (took_link k pool m c s0 h stands) in
+    let is = took_answer h in
+    let over = ended_by h going in
+    let next = took_link h over in
     let acked : (taken m.shdlc c).session.acked ≡ m.shdlc.session.acked + t.acked =
     on.acked ∙ (ap (λ b. if b then 0 else m.shdlc.session.acked + (take_answer m.shdlc c).acked) over
     ∙ ap (λ (x : Taken). m.shdlc.session.acked + x.acked) (sym is)) in
@@ -230,9 +238,9 @@ heard-on m c over faulty =
 abbrev pub brought : Taken → List Fragment
 brought t = option_to_list t.accepted
 
-pub record GoesOn (old mid new : PoolState) (k : End) (m : Machine) (c : Control) (s0 : KeptEnd) (t : Taken) (inbox : Inbox) (outbox : Outbox)
+pub record GoesOn (old new : PoolState) (k : End) (m : Machine) (c : Control) (s : KeptEnd) (t : Taken) (inbox : Inbox) (outbox : Outbox)
     (whole : ℕ) : Type 0 where
-  pub half : Halfway (record k { shdlc = s0; outbox = outbox; inbox = inbox }) new (heard m c)
+  pub stands : Halfway (record k { shdlc = s; outbox = outbox; inbox = inbox }) new (heard m c)
   pub told : (n : LinkReport) → n ≡ nothing_told → k.inbox.got ≡ None → record n { began = t.began; acked = whole; got = is_some inbox.got } ≡ heard_told m c
   pub elsewhere : LeavesBoxes old new k.outbox k.inbox outbox inbox
 
@@ -244,20 +252,17 @@ true_is : (b : Bool) → IsTrue b → b ≡ true
 true_is true t = refl
 true_is false t = t
 
-pub goes_on : (old mid new : PoolState) (k : End) (m : Machine) (c : Control) (s0 : KeptEnd) (t : Taken) (inbox : Inbox) (outbox : Outbox) (whole : ℕ)
-    → EndStandsFor k old m
-    → ((e : EndState) → ShdlcStandsFor k.shdlc e → ShdlcStandsFor s0 (taken e c)) → ((e : EndState) → ShdlcStandsFor k.shdlc e → t ≡ take_answer e c)
-    → is_some t.ended ≡ false
-    → IsTrue (are_taken (messages_under_way old k.inbox) (packets_in (brought t))) → ReceivesOn old mid k.inbox inbox (brought t)
-    → GivesBack mid new (acked_more k.outbox t.acked) outbox whole → whole_among (queued_messages new outbox) outbox.acked ≡ 0
-    → rest_among (queued_messages new outbox) outbox.acked ≡ outbox.acked
-    → GoesOn old mid new k m c s0 t inbox outbox whole
-goes_on old mid new k m c s0 t inbox outbox whole h stands answer going joined r g none rest =
-    let half = h.half in
+pub goes_on : {old mid new : PoolState} {k : End} {m : Machine} {c : Control} {s : KeptEnd} {t : Taken} {inbox : Inbox} {outbox : Outbox} {whole : ℕ}
+    → HasTaken k old m c s t → is_some t.ended ≡ false → IsTrue (are_taken (messages_under_way old k.inbox) (packets_in (brought t)))
+    → ReceivesOn old mid k.inbox inbox (brought t) → HasAcknowledged mid new k.outbox outbox t.acked whole
+    → GoesOn old new k m c s t inbox outbox whole
+goes_on {old} {mid} {new} {k} {m} {c} {s} {t} {inbox} {outbox} {whole} h going joined r a =
+    let before = h.before.half in
+    let g = a.gives in
     let e = taken m.shdlc c in
-    let on = takes_on m.shdlc c half.link.session in
-    let is = took_answer k old m c t h answer in
-    let over : ended_in m c ≡ false = sym (ap (λ (x : Taken). is_some x.ended) is) ∙ going in
+    let on = takes_on m.shdlc c before.link.session in
+    let is = took_answer h in
+    let over = ended_by h going in
     let acc : e.session.acc ≡ m.shdlc.session.acc ++ brought t =
     on.acc ∙ (ap (λ b. left_waiting b (m.shdlc.session.acc ++ brought (take_answer m.shdlc c))) over
     ∙ ap (λ (x : Taken). m.shdlc.session.acc ++ brought x) (sym is)) in
@@ -265,36 +270,40 @@ goes_on old mid new k m c s0 t inbox outbox whole h stands answer going joined r
     on.acked ∙ (ap (λ b. if b then 0 else m.shdlc.session.acked + (take_answer m.shdlc c).acked) over
     ∙ ap (λ (x : Taken). m.shdlc.session.acked + x.acked) (sym is)) in
     let out : e.session.out ≡ m.shdlc.session.out = on.out ∙ ap (λ b. left_waiting b m.shdlc.session.out) over in
-    let under = half.receives.under in
+    let under = before.receives.under in
     let all_taken : are_taken (messages_under_way old k.inbox) (packets_in (brought t)) ≡ true =
     true_is (are_taken (messages_under_way old k.inbox) (packets_in (brought t))) joined in
     let sound : are_taken [] (packets_in e.session.acc) ≡ true =
-    taken_is m.shdlc.session e (brought t) acc half.receives.sound ∙ (ap (λ u. are_taken u (packets_in (brought t))) (sym under) ∙ all_taken) in
+    taken_is m.shdlc.session e (brought t) acc before.receives.sound ∙ (ap (λ u. are_taken u (packets_in (brought t))) (sym under) ∙ all_taken) in
     let faulty : is_faulty e.session ≡ false = ap not sound in
     let new_ones = news_is m.shdlc.session e (brought t) acc in
     let o = outbox_kept old mid k.inbox.joiner.owner (chains_in k.inbox)
-    (chains_in inbox) k.outbox half.receives.lies.holds.own r.elsewhere half.sends.lies half.differ in
+    (chains_in inbox) k.outbox before.receives.lies.holds.own r.elsewhere before.sends.lies before.differ in
     let i =
-    inbox_kept mid new k.outbox.owner k.outbox.queue.items outbox.queue.items inbox o.lies.kept.own g.elsewhere r.lies (λ d. half.differ (d ∙ r.owner)) in
-    let s = sends_on mid new k.outbox outbox m.sent m.shdlc.session e.session t.acked whole half.sends.all half.sends.out
-    (o.messages ∙ half.sends.messages) half.sends.acked g none rest out acked in
-    let P : Bool → Type 0 = λ b. StandsBefore s0 (left_waiting b (waiting_in old k.outbox)) e in
+    inbox_kept mid new k.outbox.owner k.outbox.queue.items outbox.queue.items inbox o.lies.kept.own g.elsewhere r.lies (λ d. before.differ (d ∙ r.owner)) in
+    let kept : OutboxStandsFor mid k.outbox m.sent m.shdlc.session = record {
+      lies = o.lies;
+      all = before.sends.all;
+      out = before.sends.out;
+      messages = o.messages ∙ before.sends.messages;
+      acked = before.sends.acked;
+    } in
+    let sends = sends_on {s' = e.session} kept a out acked in
     let waiting : waiting_in old k.outbox ≡ waiting_in new outbox = sym (g.waiting ∙ ap (λ l. drop k.outbox.cut (fragments_of l)) o.messages) in
-    let Q : List Fragment → Type 0 = λ w. StandsBefore s0 w e in
+    let P : List Fragment → Type 0 = λ w. StandsBefore s w e in
     let came : came_whole new inbox ≡ m.got ++ news m.shdlc.session e =
-    i.got ∙ (r.got ∙ (ap (λ l. l ++ good_of (given_by (messages_under_way old k.inbox) (packets_in (brought t)))) half.got
+    i.got ∙ (r.got ∙ (ap (λ l. l ++ good_of (given_by (messages_under_way old k.inbox) (packets_in (brought t)))) before.got
     ∙ (ap (λ u. m.got ++ good_of (given_by u (packets_in (brought t)))) under ∙ ap (λ l. m.got ++ l) (sym new_ones)))) in
-    let now : Machine = record (moved m false e) { got = m.got ++ news m.shdlc.session e } in
-    let R : Machine → Type 0 = λ x. Halfway (record k { shdlc = s0; outbox = outbox; inbox = inbox }) new x in
+    let Q : Machine → Type 0 = λ x. Halfway (record k { shdlc = s; outbox = outbox; inbox = inbox }) new x in
     let aside : aside_of new k.outbox.owner ≡ aside_of mid k.outbox.owner =
     ap (λ os. (owner_at os k.outbox.owner).aside) g.elsewhere.owners
     ∙ aside-with_used mid.owners k.outbox.owner (used_of new k.outbox.owner) o.lies.kept.has_quota in
     record {
-      half = subst R (sym (heard-on m c over faulty)) (record {
-        role = half.role;
-        link = subst Q waiting (subst P over (took_link k old m c s0 h stands));
-        acts = half.acts;
-        sends = s.0;
+      stands = subst Q (sym (heard-on m c over faulty)) (record {
+        role = before.role;
+        link = subst P waiting (took_link h over);
+        acts = before.acts;
+        sends = sends.0;
         receives = record {
           lies = i.lies;
           under = i.under
@@ -302,16 +311,16 @@ goes_on old mid new k m c s0 t inbox outbox whole h stands answer going joined r
           sound = sound;
         };
         got = came;
-        aside = ap (aside_of new) g.owner ∙ (aside ∙ (o.aside ∙ half.aside));
-        passed_over = half.passed_over;
-        differ = λ d. half.differ (sym g.owner ∙ (d ∙ r.owner));
+        aside = ap (aside_of new) g.owner ∙ (aside ∙ (o.aside ∙ before.aside));
+        passed_over = before.passed_over;
+        differ = λ d. before.differ (sym g.owner ∙ (d ∙ r.owner));
       });
       told = λ n none_told fetched.
-          let nothing_got : m.got ≡ [] = sym half.got ∙ ap (λ x. messages_of old (got_chains x)) fetched in
+          let nothing_got : m.got ≡ [] = sym before.got ∙ ap (λ x. messages_of old (got_chains x)) fetched in
           let got : is_some inbox.got ≡ is_some (oldest (if is_faulty e.session then [] else news m.shdlc.session e)) =
           got_some new inbox.got ∙ (ap (λ l. is_some (oldest l)) (came ∙ ap (λ l. l ++ news m.shdlc.session e) nothing_got)
           ∙ sym (ap (λ b. is_some (oldest (if b then [] else news m.shdlc.session e))) faulty)) in
-          let acks : whole ≡ whole_acked (heard m c) - whole_acked m = (let p = s.1 in omega (arith, p))
+          let acks : whole ≡ whole_acked (heard m c) - whole_acked m = (let p = sends.1 in omega (arith, p))
           ∙ sym (ap (λ x. whole_acked x - whole_acked m) (heard-on m c over faulty)) in
           let cause : None ≡ (if is_faulty e.session then Some Chain else (take_answer m.shdlc c).ended) =
           sym (ap (λ b. if b then Some Chain else (take_answer m.shdlc c).ended) faulty ∙ none_ended (take_answer m.shdlc c).ended over) in
@@ -325,7 +334,7 @@ goes_on old mid new k m c s0 t inbox outbox whole h stands answer going joined r
             acked = whole_acked (heard m c) - whole_acked m;
             got = is_some (oldest (if is_faulty e.session then [] else news m.shdlc.session e));
           }) cause)));
-      elsewhere = leaves_more old mid new k.outbox k.outbox outbox k.inbox inbox inbox
+      elsewhere = leaves_more
           (leaves_in old mid k.outbox k.inbox inbox r.elsewhere r.owner r.counted) (leaves_out mid new k.outbox outbox inbox g.elsewhere g.owner i);
     }
   where
@@ -362,17 +371,16 @@ ready_in Waiting e c f is = let up = (brings_fragment (in_phase Waiting e) c f i
 pub accepted_ready : (e : EndState) (c : Control) (f : Fragment) → (take_answer e c).accepted ≡ Some f → e.ready ≡ true
 accepted_ready e c f is = ready_in e.phase e c f is
 
-pub may_receive : (pool : PoolState) (k : End) (m : Machine) (c : Control) (t : Taken) → EndStandsFor k pool m
-    → ((e : EndState) → ShdlcStandsFor k.shdlc e → t ≡ take_answer e c) → MayTake k pool
+pub may_receive : {k : End} {pool : PoolState} {m : Machine} {c : Control} {s : KeptEnd} {t : Taken} → HasTaken k pool m c s t → MayTake k pool
     → IfSome t.accepted (λ _. InboxIsReady pool k.inbox)
-may_receive pool k m c t h answer may = go t.accepted refl
+may_receive {k} {pool} {m} {c} {s} {t} h may = go t.accepted refl
   where
     free : (f : Fragment) → (used_of pool k.inbox.joiner.owner ≡ held_blocks pool k.inbox.joiner.open.items) ⊎ (k.shdlc.ready ≡ false) → t.accepted ≡ Some f
         → used_of pool k.inbox.joiner.owner ≡ held_blocks pool k.inbox.joiner.open.items
     free f (inl used) is = used
     free f (inr held) is =
-        let kept : k.shdlc.ready ≡ m.shdlc.ready = h.half.link.kept.ready in
-        let ready : m.shdlc.ready ≡ true = accepted_ready m.shdlc c f (sym (ap (λ (x : Taken). x.accepted) (took_answer k pool m c t h answer)) ∙ is) in
+        let kept : k.shdlc.ready ≡ m.shdlc.ready = h.before.half.link.kept.ready in
+        let ready : m.shdlc.ready ≡ true = accepted_ready m.shdlc c f (sym (ap (λ (x : Taken). x.accepted) (took_answer h)) ∙ is) in
         let no : false ≡ true = sym held ∙ (kept ∙ ready) in cc
 
     go : (o : Option Fragment) → t.accepted ≡ o → IfSome o (λ _. InboxIsReady pool k.inbox)
@@ -401,25 +409,24 @@ pub record IsBroken (old mid : PoolState) (before after : Inbox) : Type 0 where
   pub used : used_of mid before.joiner.owner ≡ 0
   pub elsewhere : InboxLeaves old mid before.joiner.owner (chains_in before) []
 
-pub record BreaksOff (old mid new : PoolState) (k k1 : End) (m : Machine) (c : Control) (s : KeptEnd) : Type 0 where
+pub record BreaksOff (new : PoolState) (k1 : End) (m : Machine) (c : Control) (s : KeptEnd) : Type 0 where
   pub stands : EndStandsFor (record k1 { shdlc = s }) new (heard m c)
   pub told : (n : LinkReport) → n ≡ nothing_told → record n { ended = Some Chain } ≡ heard_told m c
 
-pub fault_lies : (old mid : PoolState) (k : End) (m : Machine) (inbox : Inbox) → EndStandsFor k old m → IsBroken old mid k.inbox inbox
+pub fault_lies : {old mid : PoolState} {k : End} {m : Machine} {inbox : Inbox} → EndStandsFor k old m → IsBroken old mid k.inbox inbox
     → OutboxKept old mid k.outbox
-fault_lies old mid k m inbox h b =
+fault_lies {old} {mid} {k} h b =
     outbox_kept old mid k.inbox.joiner.owner (chains_in k.inbox) [] k.outbox h.half.receives.lies.holds.own b.elsewhere h.half.sends.lies h.half.differ
 
-pub breaks_off : (old mid new : PoolState) (k k1 : End) (m : Machine) (c : Control) (s0 s : KeptEnd) (t : Taken) (inbox : Inbox) → EndStandsFor k old m
-    → ((e : EndState) → ShdlcStandsFor k.shdlc e → ShdlcStandsFor s0 (taken e c)) → ((e : EndState) → ShdlcStandsFor k.shdlc e → t ≡ take_answer e c)
+pub breaks_off : {old mid new : PoolState} {k k1 : End} {m : Machine} {c : Control} {s0 s : KeptEnd} {t : Taken} {inbox : Inbox} → HasTaken k old m c s0 t
     → (IsTrue (are_taken (messages_under_way old k.inbox) (packets_in (brought t))) → ⊥) → k.inbox.got ≡ None → IsBroken old mid k.inbox inbox
     → ForgetsMessages mid new (record k { shdlc = s0; inbox = inbox }) k1 → ((e : EndState) → ShdlcStandsFor k1.shdlc e → ShdlcStandsFor s (stopped e))
-    → BreaksOff old mid new k k1 m c s
-breaks_off old mid new k k1 m c s0 s t inbox h stands answer broken fetched b f stops =
-    let half = h.half in
+    → BreaksOff new k1 m c s
+breaks_off {old} {mid} {new} {k} {k1} {m} {c} {s0} {s} {t} {inbox} h broken fetched b f stops =
+    let before = h.before.half in
     let e = taken m.shdlc c in
-    let on = takes_on m.shdlc c half.link.session in
-    let is = took_answer k old m c t h answer in
+    let on = takes_on m.shdlc c before.link.session in
+    let is = took_answer h in
     let some = some_brought (messages_under_way old k.inbox) t.accepted broken in
     let brings = brings_fragment m.shdlc c some.0 (sym (ap (λ (x : Taken). x.accepted) is) ∙ some.1) in
     let over : ended_in m c ≡ false = ap (λ (x : Option Cause). is_some x) brings.stays in
@@ -427,29 +434,32 @@ breaks_off old mid new k k1 m c s0 s t inbox h stands answer broken fetched b f 
     on.acc ∙ (ap (λ x. left_waiting x (m.shdlc.session.acc ++ brought (take_answer m.shdlc c))) over
     ∙ ap (λ (x : Taken). m.shdlc.session.acc ++ brought x) (sym is)) in
     let none_taken : are_taken [] (packets_in e.session.acc) ≡ false =
-    taken_is m.shdlc.session e (brought t) acc half.receives.sound ∙ (ap (λ u. are_taken u (packets_in (brought t))) (sym half.receives.under)
+    taken_is m.shdlc.session e (brought t) acc before.receives.sound ∙ (ap (λ u. are_taken u (packets_in (brought t))) (sym before.receives.under)
     ∙ not_true (are_taken (messages_under_way old k.inbox) (packets_in (brought t))) broken) in
     let faulty : is_faulty e.session ≡ true = ap not none_taken in
     let down : put_down true m ≡ moved m true (stopped m.shdlc) = down_up m brings.up in
     let heard_is : heard m c ≡ moved m true (stopped m.shdlc) =
     ap (λ x. if x then put_down true m else record (moved m (ended_in m c) e) { got = m.got ++ news m.shdlc.session e }) faulty ∙ down in
-    let o = fault_lies old mid k m inbox h b in
+    let o = fault_lies h.before b in
     let got_none : got_chains inbox.got ≡ [] = nil_back inbox.joiner.open.items (got_chains inbox.got) b.none in
-    let nothing_got : m.got ≡ [] = sym half.got ∙ ap (λ x. messages_of old (got_chains x)) fetched in
+    let nothing_got : m.got ≡ [] = sym before.got ∙ ap (λ x. messages_of old (got_chains x)) fetched in
     let P : Machine → Type 0 = λ x. EndStandsFor (record k1 { shdlc = s }) new x in
     let Q : EndState → Type 0 = λ x. StandsBefore s [] x in
+    let carried : Carries (record k { inbox = inbox }) mid m = record {
+      role = before.role;
+      acts = before.acts;
+      got = ap (messages_of mid) got_none ∙ sym nothing_got;
+      aside = o.aside ∙ before.aside;
+      passed_over = before.passed_over;
+      differ = λ d. before.differ (d ∙ b.owner);
+    } in
     record {
-      stands = subst P (sym heard_is)
-          (session_over mid new (record k { inbox = inbox }) k1 s0 s m (stopped m.shdlc)
-          (record {
-            role = half.role;
-            acts = half.acts;
-            got = ap (messages_of mid) got_none ∙ sym nothing_got;
-            aside = o.aside ∙ half.aside;
-            passed_over = half.passed_over;
-            differ = λ d. half.differ (d ∙ b.owner);
-          }) f
-          (subst Q brings.stopped_is (stopped_before s0 k1.shdlc s _ e (took_link k old m c s0 h stands) f.shdlc stops)) refl refl refl);
+      stands = subst P (sym heard_is) (session_over carried f (record {
+        stands = subst Q brings.stopped_is (stopped_before (took_link h refl) f.shdlc stops);
+        out = refl;
+        acked = refl;
+        acc = refl;
+      }));
       told = λ n none_told.
           let acks : 0 ≡ whole_acked (heard m c) - whole_acked m = omega arith ∙ sym (ap (λ x. whole_acked x - whole_acked m) heard_is) in
           let cause : Some Chain ≡ (if is_faulty e.session then Some Chain else (take_answer m.shdlc c).ended) =
@@ -483,19 +493,18 @@ breaks_off old mid new k k1 m c s0 s t inbox h stands answer broken fetched b f 
     down_up x up = down_in x.shdlc.phase x up
 
 -- what it left elsewhere
-pub broken_elsewhere : (old mid : PoolState) (k : End) (inbox : Inbox) → k.inbox.got ≡ None
-    → used_of old k.inbox.joiner.owner ≡ held_blocks old k.inbox.joiner.open.items → IsBroken old mid k.inbox inbox
+pub broken_elsewhere : {old mid : PoolState} (k : End) {inbox : Inbox} → InboxIsReady old k.inbox → IsBroken old mid k.inbox inbox
     → LeavesBoxes old mid k.outbox k.inbox k.outbox inbox
-broken_elsewhere old mid k inbox fetched used b =
-    let chains : chains_in k.inbox ≡ k.inbox.joiner.open.items = ap (λ g. k.inbox.joiner.open.items ++ got_chains g) fetched
+broken_elsewhere {old} {mid} k {inbox} ready b =
+    let chains : chains_in k.inbox ≡ k.inbox.joiner.open.items = ap (λ g. k.inbox.joiner.open.items ++ got_chains g) ready.fetched
     ∙ append-nil k.inbox.joiner.open.items in
     let held = ap (held_blocks old) chains in
     let left = ap (held_blocks mid) b.none in
     let P : List Open → Type 0 = λ l. InboxLeaves old mid k.inbox.joiner.owner (chains_in k.inbox) l in
-    leaves_in old mid k.outbox k.inbox inbox (subst P (sym b.none) b.elsewhere) b.owner (omega (arith, used, held, left, b.used))
+    leaves_in old mid k.outbox k.inbox inbox (subst P (sym b.none) b.elsewhere) b.owner (omega (arith, ready.used, held, left, b.used))
 
-pub received_lies : (old mid : PoolState) (k : End) (m : Machine) (inbox : Inbox) (more : List Fragment) → EndStandsFor k old m
+pub received_lies : {old mid : PoolState} {k : End} {m : Machine} {inbox : Inbox} {more : List Fragment} → EndStandsFor k old m
     → ReceivesOn old mid k.inbox inbox more → OutboxLiesIn mid k.outbox
-received_lies old mid k m inbox more h r =
+received_lies {old} {mid} {k} {inbox = inbox} h r =
     (outbox_kept old mid k.inbox.joiner.owner (chains_in k.inbox)
     (chains_in inbox) k.outbox h.half.receives.lies.holds.own r.elsewhere h.half.sends.lies h.half.differ).lies

@@ -34,7 +34,7 @@ use Rattle.link_messages.specs.declared.inbox.Got.{Got}
 use Rattle.link_messages.specs.declared.inbox.Inbox.{Inbox}
 use Rattle.link_messages.specs.Outgoing.{chain_in, messages_of_all, waiting_in, rest_among, Accepts, OutboxLeavesOthers as OutboxLeaves, LeavesOthersBut}
 use Rattle.link_messages.proofs.OutgoingLemmas.{aside-with_used}
-use Rattle.link_messages.specs.Incoming.{got_chains, InboxLiesIn}
+use Rattle.link_messages.specs.Incoming.{got_chains, messages_under_way, came_whole, InboxLiesIn}
 use Rattle.link_messages.proofs.Among.{whole-push, fragments-push}
 use Rattle.link_messages.proofs.IncomingLemmas.{front_holds, held_both}
 use Rattle.link_end.specs.Dues.{kept_nearer, front_act, behind_front}
@@ -42,7 +42,7 @@ use Rattle.link_end.specs.Ends.{due_of, Halfway, EndStandsFor, MayPass, LeavesBo
 use Rattle.link_end.specs.Steps.{ForgetsMessages}
 use Rattle.link_end.specs.declared.acts.ActDue.{ActDue}
 use Rattle.link_end.specs.declared.«end».End.{End}
-use Rattle.link_end.proofs.EndLemmas.{session_over, carries}
+use Rattle.link_end.proofs.EndLemmas.{session_ended, carries}
 use Rattle.link_end.proofs.StepLemmas.{same_session}
 use Rattle.link_end.proofs.BoxLemmas.{inbox_kept, inbox_passed, leaves_out}
 
@@ -74,39 +74,41 @@ waits_not Up e other is = rw is
 waits_not Down e other is = rw is
 waits_not Waiting e other is = absurd (other refl)
 
-reset_link : (pool : PoolState) (k : End) (m : Machine) (s : KeptEnd) (window : Option ℕ) (p : LinkState) → EndStandsFor k pool m
-    → IfSome window (λ w. (1 ≤ w) × (w ≤ 4))
-    → ((e : EndState) → ShdlcStandsFor k.shdlc e → ShdlcStandsFor s (reset_with e (unwrap_or window e.own_window))) → (p ≡ Waiting → ⊥) → m.shdlc.phase ≡ p
-    → StandsBefore s [] (reset_with m.shdlc (window_of m window))
-reset_link pool k m s window p h some asks other is =
-    let link = h.half.link in
-    let next = stands_reset k.shdlc s (waiting_in pool k.outbox) m.shdlc (window_of m window) link (window_low pool k m window h some)
-    (asks (with_out m.shdlc link.offered) link.kept) in
+-- the SHDLC end of a link end was reset, with a window that it can have
+pub record HasReset (k : End) (pool : PoolState) (m : Machine) (s : KeptEnd) (window : Option ℕ) : Type 0 where
+  pub before : EndStandsFor k pool m
+  pub small : IfSome window (λ w. (1 ≤ w) × (w ≤ 4))
+  pub stands : (e : EndState) → ShdlcStandsFor k.shdlc e → ShdlcStandsFor s (reset_with e (unwrap_or window e.own_window))
+
+reset_link : {k : End} {pool : PoolState} {m : Machine} {s : KeptEnd} {window : Option ℕ} (p : LinkState) → HasReset k pool m s window → (p ≡ Waiting → ⊥)
+    → m.shdlc.phase ≡ p → StandsBefore s [] (reset_with m.shdlc (window_of m window))
+reset_link {k} {pool} {m} {s} {window} p h other is =
+    let link = h.before.half.link in
+    let next = stands_reset k.shdlc s (waiting_in pool k.outbox) m.shdlc (window_of m window) link (window_low pool k m window h.before h.small)
+    (h.stands (with_out m.shdlc link.offered) link.kept) in
     let P : Bool → Type 0 = λ b. StandsBefore s (left_waiting (not b) (waiting_in pool k.outbox)) (reset_with m.shdlc (window_of m window)) in
     subst P (waits_not p m.shdlc other is) next
 
-pub reset_ends : (pool new : PoolState) (k k1 : End) (m : Machine) (s : KeptEnd) (window : Option ℕ) → EndStandsFor k pool m
-    → IfSome window (λ w. (1 ≤ w) × (w ≤ 4))
-    → ((e : EndState) → ShdlcStandsFor k.shdlc e → ShdlcStandsFor s (reset_with e (unwrap_or window e.own_window))) → m.shdlc.phase ≡ Up
-    → ForgetsMessages pool new (record k { shdlc = s }) k1
-    → EndStandsFor k1 new (moved m true (reset_with m.shdlc (window_of m window)))
-reset_ends pool new k k1 m s window h some asks up f =
-    let e = reset_with m.shdlc (window_of m window) in
-    let empty : e.session ≡ no_session = reset_empty Up m.shdlc (window_of m window) (λ x. cc) up in
-    let Q : KeptEnd → Type 0 = λ x. StandsBefore x [] e in
-    session_over pool new k k1 s k1.shdlc m e (carries k pool m h.half) f (subst Q (sym f.shdlc) (reset_link pool k m s window Up h some asks (λ x. cc) up))
-    (ap (λ (x : Session). x.out) empty) (ap (λ (x : Session). x.acked) empty) (ap (λ (x : Session). x.acc) empty)
+pub reset_ends : {k k1 : End} {pool new : PoolState} {m : Machine} {s : KeptEnd} {window : Option ℕ} → HasReset k pool m s window → m.shdlc.phase ≡ Up
+    → ForgetsMessages pool new (record k { shdlc = s }) k1 → EndStandsFor k1 new (moved m true (reset_with m.shdlc (window_of m window)))
+reset_ends {m = m} {window = window} h up f =
+    let empty = reset_empty Up m.shdlc (window_of m window) (λ x. cc) up in
+    session_ended (carries h.before.half) f (record {
+      stands = reset_link Up h (λ x. cc) up;
+      out = ap (λ (x : Session). x.out) empty;
+      acked = ap (λ (x : Session). x.acked) empty;
+      acc = ap (λ (x : Session). x.acc) empty;
+    })
 
 idle_in : (p : LinkState) (s : Session) → HasSession p s → p ≡ Down → s ≡ no_session
 idle_in Up s h d = cc
 idle_in Waiting s h d = cc
 idle_in Down s h d = h
 
-pub reset_begins : (pool : PoolState) (k : End) (m : Machine) (s : KeptEnd) (window : Option ℕ) → EndStandsFor k pool m → IfSome window (λ w. (1 ≤ w) × (w ≤ 4))
-    → ((e : EndState) → ShdlcStandsFor k.shdlc e → ShdlcStandsFor s (reset_with e (unwrap_or window e.own_window))) → m.shdlc.phase ≡ Down
+pub reset_begins : {k : End} {pool : PoolState} {m : Machine} {s : KeptEnd} {window : Option ℕ} → HasReset k pool m s window → m.shdlc.phase ≡ Down
     → Halfway (record k { shdlc = s }) pool (moved m false (reset_with m.shdlc (window_of m window)))
-reset_begins pool k m s window h some asks down =
-    let link = h.half.link in
+reset_begins {k} {pool} {m} {s} {window} h down =
+    let link = h.before.half.link in
     let e = reset_with m.shdlc (window_of m window) in
     let empty : e.session ≡ no_session = reset_empty Down m.shdlc (window_of m window) (λ x. cc) down in
     let idle : m.shdlc.session ≡ no_session = idle_in m.shdlc.phase m.shdlc.session link.session down in
@@ -114,7 +116,7 @@ reset_begins pool k m s window h some asks down =
     stands_idle k.shdlc (waiting_in pool k.outbox) m.shdlc link (λ up. (let d : Up ≡ Down = sym up ∙ (link.kept.phase ∙ down) in cc)) in
     let P : List Fragment → Type 0 = λ l. StandsBefore s l e in
     let same : e.session ≡ m.shdlc.session = empty ∙ sym idle in
-    same_session pool k s m e h.half (subst P (sym none) (reset_link pool k m s window Down h some asks (λ x. cc) down))
+    same_session h.before.half (subst P (sym none) (reset_link Down h (λ x. cc) down))
     (ap (λ (x : Session). x.out) same) (ap (λ (x : Session). x.acked) same) (ap (λ (x : Session). x.acc) same)
 
 -- ---- a message is fetched
@@ -140,23 +142,23 @@ fetched_got pool (Some g) = refl
 pub message_fetched : (pool : PoolState) (k : End) (inbox : Inbox) (m : Machine) → inbox.joiner ≡ k.inbox.joiner → inbox.got ≡ None → EndStandsFor k pool m
     → EndStandsFor (record k { inbox = inbox }) pool (record m { got = drop 1 m.got })
 message_fetched pool k inbox m same none h =
-    let half = h.half in
+    let before = h.half in
     record {
       half = record {
-        role = half.role;
-        link = half.link;
-        acts = half.acts;
-        sends = half.sends;
+        role = before.role;
+        link = before.link;
+        acts = before.acts;
+        sends = before.sends;
         receives = record {
-          lies = fetched_lies pool k.inbox inbox half.receives.lies same none;
+          lies = fetched_lies pool k.inbox inbox before.receives.lies same none;
           under = ap (λ j. messages_of pool j.open.items) same
-              ∙ half.receives.under;
-          sound = half.receives.sound;
+              ∙ before.receives.under;
+          sound = before.receives.sound;
         };
-        got = ap (λ g. messages_of pool (got_chains g)) none ∙ (fetched_got pool k.inbox.got ∙ ap (drop 1) half.got);
-        aside = half.aside;
-        passed_over = half.passed_over;
-        differ = λ d. half.differ (d ∙ ap (λ j. j.owner) same);
+        got = ap (λ g. messages_of pool (got_chains g)) none ∙ (fetched_got pool k.inbox.got ∙ ap (drop 1) before.got);
+        aside = before.aside;
+        passed_over = before.passed_over;
+        differ = λ d. before.differ (d ∙ ap (λ j. j.owner) same);
       };
       full = h.full;
     }
@@ -197,22 +199,22 @@ pub act_sent : (pool : PoolState) (k : End) (acts : ArrayVec ActDue) (m : Machin
     → Some act ≡ front_act k.acts.items → acts.items ≡ behind_front k.acts.items
     → (Some (ActFrame act false) ≡ next_frame m) × EndStandsFor (record k { acts = acts }) pool (frame_fetched m)
 act_sent pool k acts m act h front rest =
-    let half = h.half in
+    let before = h.half in
     let n = act_next m k.acts.items act front in
-    let is : record m { acts = map due_of k.acts.items } ≡ m = ap (λ a. record m { acts = a }) half.acts in
+    let is : record m { acts = map due_of k.acts.items } ≡ m = ap (λ a. record m { acts = a }) before.acts in
     let P : Machine → Type 0 = λ x. EndStandsFor (record k { acts = acts }) pool x in (
       sym (sym (ap next_frame is) ∙ n.0),
       subst P (sym n.1 ∙ ap frame_fetched is) (record {
         half = record {
-          role = half.role;
-          link = half.link;
+          role = before.role;
+          link = before.link;
           acts = ap (map due_of) rest;
-          sends = half.sends;
-          receives = half.receives;
-          got = half.got;
-          aside = half.aside;
-          passed_over = half.passed_over;
-          differ = half.differ;
+          sends = before.sends;
+          receives = before.receives;
+          got = before.got;
+          aside = before.aside;
+          passed_over = before.passed_over;
+          differ = before.differ;
         };
         full = h.full;
       }),
@@ -224,43 +226,47 @@ fetched_acc e [] None s = rw s
 fetched_acc e [] (Some f) s = rw s
 fetched_acc e (d ∷ due) q s = refl
 
-pub link_sent : (pool : PoolState) (k : End) (s : KeptEnd) (acts : ArrayVec ActDue) (middle : List ActDue) (m : Machine) (frame : Option Control)
-    → EndStandsFor k pool m → None ≡ front_act k.acts.items
-    → middle ≡ behind_front k.acts.items → acts.items ≡ map kept_nearer middle
-    → ((e : EndState) → ShdlcStandsFor k.shdlc e → frame ≡ frame_due e) → ((e : EndState) → ShdlcStandsFor k.shdlc e → ShdlcStandsFor s (fetched e))
-    → (frame ≡ next_frame m) × EndStandsFor (record k { shdlc = s; acts = acts }) pool (frame_fetched m)
-link_sent pool k s acts middle m frame h front rest moved_acts frames fetches =
-    let half = h.half in
-    let link = half.link in
+-- the SHDLC end of a link end was asked for its next frame, where no ACT frame is next
+pub record HasFetched (k : End) (s : KeptEnd) (acts : ArrayVec ActDue) (frame : Option Control) : Type 0 where
+  pub front : None ≡ front_act k.acts.items
+  pub nearer : acts.items ≡ map kept_nearer (behind_front k.acts.items)
+  pub frame_is : (e : EndState) → ShdlcStandsFor k.shdlc e → frame ≡ frame_due e
+  pub stands : (e : EndState) → ShdlcStandsFor k.shdlc e → ShdlcStandsFor s (fetched e)
+
+pub link_sent : {pool : PoolState} {k : End} {s : KeptEnd} {acts : ArrayVec ActDue} {m : Machine} {frame : Option Control} → EndStandsFor k pool m
+    → HasFetched k s acts frame → (frame ≡ next_frame m) × EndStandsFor (record k { shdlc = s; acts = acts }) pool (frame_fetched m)
+link_sent {pool} {k} {s} {acts} {m} h f =
+    let before = h.half in
+    let link = before.link in
     let both : StandsWith k.shdlc (waiting_in pool k.outbox) m.shdlc = record { stands = link; full = h.full } in
-    let n = link_next m k.acts.items front in
-    let is : record m { acts = map due_of k.acts.items } ≡ m = ap (λ a. record m { acts = a }) half.acts in
+    let n = link_next m k.acts.items f.front in
+    let is : record m { acts = map due_of k.acts.items } ≡ m = ap (λ a. record m { acts = a }) before.acts in
     let P : Machine → Type 0 = λ x. EndStandsFor (record k { shdlc = s; acts = acts }) pool x in
     let a = fetched_alike m.shdlc link.offered (waiting_in pool k.outbox) link.out link.narrow.session h.full in
-    let w = stands_fetched k.shdlc s (waiting_in pool k.outbox) m.shdlc both (fetches (with_out m.shdlc link.offered) link.kept) in
+    let w = stands_fetched k.shdlc s (waiting_in pool k.outbox) m.shdlc both (f.stands (with_out m.shdlc link.offered) link.kept) in
     let acc : (fetched m.shdlc).session.acc ≡ m.shdlc.session.acc = fetched_acc m.shdlc m.shdlc.due (fragment_due m.shdlc.session) refl in (
-      frames (with_out m.shdlc link.offered) link.kept ∙ (a.frame ∙ sym (sym (ap next_frame is) ∙ n.0)),
+      f.frame_is (with_out m.shdlc link.offered) link.kept ∙ (a.frame ∙ sym (sym (ap next_frame is) ∙ n.0)),
       subst P (sym n.1 ∙ ap frame_fetched is) (record {
         half = record {
-          role = half.role;
+          role = before.role;
           link = w.stands;
-          acts = ap (map due_of) (moved_acts ∙ ap (map kept_nearer) (rest ∙ n.2)) ∙ nearer_same k.acts.items;
+          acts = ap (map due_of) (f.nearer ∙ ap (map kept_nearer) n.2) ∙ nearer_same k.acts.items;
           sends = record {
-            lies = half.sends.lies;
-            all = half.sends.all;
-            out = a.out ∙ half.sends.out;
-            messages = half.sends.messages ∙ ap (λ x. drop (whole_among m.sent x) m.sent) (sym a.acked);
-            acked = half.sends.acked ∙ ap (rest_among m.sent) (sym a.acked);
+            lies = before.sends.lies;
+            all = before.sends.all;
+            out = a.out ∙ before.sends.out;
+            messages = before.sends.messages ∙ ap (λ x. drop (whole_among m.sent x) m.sent) (sym a.acked);
+            acked = before.sends.acked ∙ ap (rest_among m.sent) (sym a.acked);
           };
           receives = record {
-            lies = half.receives.lies;
-            under = half.receives.under ∙ sym (ap (λ l. open_after [] (packets_in l)) acc);
-            sound = ap (λ l. are_taken [] (packets_in l)) acc ∙ half.receives.sound;
+            lies = before.receives.lies;
+            under = before.receives.under ∙ sym (ap (λ l. open_after [] (packets_in l)) acc);
+            sound = ap (λ l. are_taken [] (packets_in l)) acc ∙ before.receives.sound;
           };
-          got = half.got;
-          aside = half.aside;
-          passed_over = half.passed_over;
-          differ = half.differ;
+          got = before.got;
+          aside = before.aside;
+          passed_over = before.passed_over;
+          differ = before.differ;
         };
         full = w.full;
       }),
@@ -316,79 +322,62 @@ whole_low (x ∷ ms) n = go (nat_le (packet_count (length x.1)) n) refl (whole_l
     go true e rest = rw e (omega arith)
     go false e rest = rw e (omega arith)
 
-pub message_given : (old new : PoolState) (k : End) (box : Outbox) (m : Machine) (x : Message) → EndStandsFor k old m → k.shdlc.phase ≡ Up
-    → IsSendable x → Accepts old new k.outbox box x
-    → OutboxLeaves old new k.outbox.owner k.outbox.queue.items box.queue.items
-    → Halfway (record k { outbox = box }) new (given m x) × LeavesBoxes old new k.outbox k.inbox box k.inbox
-message_given old new k box m x h up sendable a leaves =
-    let half = h.half in
-    let link = half.link in
-    let sends = half.sends in
-    let i = inbox_kept old new k.outbox.owner k.outbox.queue.items box.queue.items k.inbox sends.lies.kept.own leaves half.receives.lies half.differ in
-    let n = m.shdlc.session.acked in
-    let some = link.kept.sender.offered in
-    let len : length (fragments_of m.sent) ≡ length link.offered + length (waiting_in old k.outbox) = ap length (sym sends.out ∙ link.out)
-    ∙ length-append link.offered (waiting_in old k.outbox) in
-    let push = whole-push m.sent x n sendable (omega (arith, len, some)) in
-    let P : List Fragment → Type 0 = λ w. StandsBefore k.shdlc w (put_out m.shdlc (map packet_bytes (packets_of x.0 x.1))) in
-    let aside : aside_of new k.outbox.owner ≡ aside_of old k.outbox.owner =
-    ap (λ os. (owner_at os k.outbox.owner).aside) leaves.owners
-    ∙ aside-with_used old.owners k.outbox.owner (used_of new k.outbox.owner) sends.lies.kept.has_quota in (
-      record {
-        role = half.role;
-        link = subst P (sym a.waiting)
-            (stands_put k.shdlc (waiting_in old k.outbox) (map packet_bytes (packets_of x.0 x.1)) m.shdlc (sym link.kept.phase ∙ up) link);
-        acts = half.acts;
-        sends = record {
-          lies = a.lies;
-          all = all_pushed Message IsSendable m.sent x sends.all sendable;
-          out = ap (λ l. l ++ map packet_bytes (packets_of x.0 x.1)) sends.out ∙ sym (fragments-push m.sent x);
-          messages = a.messages ∙ (ap (λ (l : List Message). l ++ x ∷ []) sends.messages
-              ∙ (sym (drop-append-le (whole_among m.sent n) m.sent (x ∷ []) (whole_low m.sent n)) ∙ ap (λ w. drop w (m.sent ++ x ∷ [])) (sym push.0)));
-          acked = a.acked ∙ (sends.acked ∙ sym push.1);
-        };
-        receives = record { lies = i.lies; under = i.under ∙ half.receives.under; sound = half.receives.sound };
-        got = i.got ∙ half.got;
-        aside = ap (aside_of new) a.owner ∙ (aside ∙ half.aside);
-        passed_over = half.passed_over;
-        differ = λ d. half.differ (sym a.owner ∙ d);
-      },
-      leaves_out old new k.outbox box k.inbox leaves a.owner i,
-    )
+-- an end whose link is up has accepted a message
+pub record HasAccepted (old new : PoolState) (k : End) (box : Outbox) (m : Machine) (x : Message) : Type 0 where
+  pub before : EndStandsFor k old m
+  pub up : k.shdlc.phase ≡ Up
+  pub sendable : IsSendable x
+  pub accepts : Accepts old new k.outbox box x
 
--- a message in a chain of another owner
-pub message_passed : (old new : PoolState) (k : End) (box : Outbox) (chain : Chain) (m : Machine) (x : Message) → EndStandsFor k old m
-    → k.shdlc.phase ≡ Up → IsSendable x → MayPass old k chain → Accepts old new k.outbox box x
-    → LeavesOthersBut old new k.outbox.owner chain k.outbox.queue.items box.queue.items → Halfway (record k { outbox = box }) new (given m x)
-message_passed old new k box chain m x h up sendable may a leaves =
-    let half = h.half in
-    let link = half.link in
-    let sends = half.sends in
-    let i =
-    inbox_passed old new k.outbox.owner chain k.outbox.queue.items box.queue.items k.inbox sends.lies.kept.own leaves half.receives.lies half.differ
-    may.apart may.counted in
+-- it stands for the state after, where what comes and what is set aside are as before
+accepted_stands : {old new : PoolState} {k : End} {box : Outbox} {m : Machine} {x : Message} → HasAccepted old new k box m x → InboxLiesIn new k.inbox
+    → messages_under_way new k.inbox ≡ messages_under_way old k.inbox → came_whole new k.inbox ≡ came_whole old k.inbox
+    → aside_of new k.outbox.owner ≡ aside_of old k.outbox.owner → Halfway (record k { outbox = box }) new (given m x)
+accepted_stands {old} {new} {k} {box} {m} {x} h lies under got aside =
+    let before = h.before.half in
+    let a = h.accepts in
+    let link = before.link in
+    let sends = before.sends in
     let n = m.shdlc.session.acked in
     let some = link.kept.sender.offered in
     let len : length (fragments_of m.sent) ≡ length link.offered + length (waiting_in old k.outbox) = ap length (sym sends.out ∙ link.out)
     ∙ length-append link.offered (waiting_in old k.outbox) in
-    let push = whole-push m.sent x n sendable (omega (arith, len, some)) in
+    let push = whole-push m.sent x n h.sendable (omega (arith, len, some)) in
     let P : List Fragment → Type 0 = λ w. StandsBefore k.shdlc w (put_out m.shdlc (map packet_bytes (packets_of x.0 x.1))) in
     record {
-      role = half.role;
+      role = before.role;
       link = subst P (sym a.waiting)
-          (stands_put k.shdlc (waiting_in old k.outbox) (map packet_bytes (packets_of x.0 x.1)) m.shdlc (sym link.kept.phase ∙ up) link);
-      acts = half.acts;
+          (stands_put k.shdlc (waiting_in old k.outbox) (map packet_bytes (packets_of x.0 x.1)) m.shdlc (sym link.kept.phase ∙ h.up) link);
+      acts = before.acts;
       sends = record {
         lies = a.lies;
-        all = all_pushed Message IsSendable m.sent x sends.all sendable;
+        all = all_pushed Message IsSendable m.sent x sends.all h.sendable;
         out = ap (λ l. l ++ map packet_bytes (packets_of x.0 x.1)) sends.out ∙ sym (fragments-push m.sent x);
         messages = a.messages ∙ (ap (λ (l : List Message). l ++ x ∷ []) sends.messages
             ∙ (sym (drop-append-le (whole_among m.sent n) m.sent (x ∷ []) (whole_low m.sent n)) ∙ ap (λ w. drop w (m.sent ++ x ∷ [])) (sym push.0)));
         acked = a.acked ∙ (sends.acked ∙ sym push.1);
       };
-      receives = record { lies = i.0; under = i.1 ∙ half.receives.under; sound = half.receives.sound };
-      got = i.2 ∙ half.got;
-      aside = ap (aside_of new) a.owner ∙ (leaves.aside ∙ half.aside);
-      passed_over = half.passed_over;
-      differ = λ d. half.differ (sym a.owner ∙ d);
+      receives = record { lies = lies; under = under ∙ before.receives.under; sound = before.receives.sound };
+      got = got ∙ before.got;
+      aside = ap (aside_of new) a.owner ∙ (aside ∙ before.aside);
+      passed_over = before.passed_over;
+      differ = λ d. before.differ (sym a.owner ∙ d);
     }
+
+pub message_given : {old new : PoolState} {k : End} {box : Outbox} {m : Machine} {x : Message} → HasAccepted old new k box m x
+    → OutboxLeaves old new k.outbox.owner k.outbox.queue.items box.queue.items
+    → Halfway (record k { outbox = box }) new (given m x) × LeavesBoxes old new k.outbox k.inbox box k.inbox
+message_given {old} {new} {k} {box} h leaves =
+    let before = h.before.half in
+    let o = k.outbox.owner in
+    let kept = before.sends.lies.kept in
+    let i = inbox_kept old new o k.outbox.queue.items box.queue.items k.inbox kept.own leaves before.receives.lies before.differ in
+    let aside : aside_of new o ≡ aside_of old o = ap (λ os. (owner_at os o).aside) leaves.owners
+    ∙ aside-with_used old.owners o (used_of new o) kept.has_quota in
+    (accepted_stands h i.lies i.under i.got aside, leaves_out old new k.outbox box k.inbox leaves h.accepts.owner i)
+
+-- a message in a chain of another owner
+pub message_passed : {old new : PoolState} {k : End} {box : Outbox} {chain : Chain} {m : Machine} {x : Message} → HasAccepted old new k box m x
+    → MayPass old k chain → LeavesOthersBut old new k.outbox.owner chain k.outbox.queue.items box.queue.items
+    → Halfway (record k { outbox = box }) new (given m x)
+message_passed h may leaves = let i = inbox_passed h.before.half may leaves in accepted_stands h i.0 i.1 i.2 leaves.aside

@@ -33,24 +33,24 @@ use Rattle.link_end.specs.Reports.{IsShdlc, nothing_told, act_told, report_told}
 use Rattle.link_end.specs.declared.report.LinkReport.{LinkReport}
 use Rattle.link_end.specs.Steps.{ForgetsMessages}
 use Rattle.link_end.specs.declared.«end».End.{End}
-use Rattle.link_end.proofs.EndLemmas.{session_over, carries}
+use Rattle.link_end.proofs.EndLemmas.{session_ended, carries}
 
 pub passed : (pool : PoolState) (k : End) (p : ℕ) (m : Machine) → p ≡ min (k.passed_over + 1) 4294967295 → EndStandsFor k pool m
     → EndStandsFor (record k { passed_over = p }) pool (record m { passed_over = m.passed_over + 1 })
 passed pool k p m is h =
-    let half = h.half in
-    let was = half.passed_over in
+    let before = h.half in
+    let was = before.passed_over in
     record {
       half = record {
-        role = half.role;
-        link = half.link;
-        acts = half.acts;
-        sends = half.sends;
-        receives = half.receives;
-        got = half.got;
-        aside = half.aside;
+        role = before.role;
+        link = before.link;
+        acts = before.acts;
+        sends = before.sends;
+        receives = before.receives;
+        got = before.got;
+        aside = before.aside;
         passed_over = omega (arith, is, was);
-        differ = half.differ;
+        differ = before.differ;
       };
       full = h.full;
     }
@@ -67,8 +67,8 @@ pub held : (pool : PoolState) (k : End) (s : KeptEnd) (m : Machine) (r : Bool)
     → ((e : EndState) → ShdlcStandsFor k.shdlc e → ShdlcStandsFor s (with_ready e r)) → EndStandsFor k pool m
     → EndStandsFor (record k { shdlc = s }) pool (record m { shdlc = with_ready m.shdlc r })
 held pool k s m r readies h =
-    let half = h.half in
-    let link = half.link in
+    let before = h.half in
+    let link = before.link in
     let a = ready_alike m.shdlc link.offered r in
     let w = stands_ready k.shdlc s (waiting_in pool k.outbox) m.shdlc r (record { stands = link; full = h.full })
     (readies (with_out m.shdlc link.offered) link.kept) in
@@ -76,25 +76,25 @@ held pool k s m r readies h =
     let acked : m.shdlc.session.acked ≡ (with_ready m.shdlc r).session.acked = sym a.acked in
     record {
       half = record {
-        role = half.role;
+        role = before.role;
         link = w.stands;
-        acts = half.acts;
+        acts = before.acts;
         sends = record {
-          lies = half.sends.lies;
-          all = half.sends.all;
-          out = a.out ∙ half.sends.out;
-          messages = half.sends.messages ∙ ap (λ n. drop (whole_among m.sent n) m.sent) acked;
-          acked = half.sends.acked ∙ ap (rest_among m.sent) acked;
+          lies = before.sends.lies;
+          all = before.sends.all;
+          out = a.out ∙ before.sends.out;
+          messages = before.sends.messages ∙ ap (λ n. drop (whole_among m.sent n) m.sent) acked;
+          acked = before.sends.acked ∙ ap (rest_among m.sent) acked;
         };
         receives = record {
-          lies = half.receives.lies;
-          under = half.receives.under ∙ sym (ap (λ l. open_after [] (packets_in l)) acc);
-          sound = ap (λ l. are_taken [] (packets_in l)) acc ∙ half.receives.sound;
+          lies = before.receives.lies;
+          under = before.receives.under ∙ sym (ap (λ l. open_after [] (packets_in l)) acc);
+          sound = ap (λ l. are_taken [] (packets_in l)) acc ∙ before.receives.sound;
         };
-        got = half.got;
-        aside = half.aside;
-        passed_over = half.passed_over;
-        differ = half.differ;
+        got = before.got;
+        aside = before.aside;
+        passed_over = before.passed_over;
+        differ = before.differ;
       };
       full = w.full;
     }
@@ -107,71 +107,77 @@ alike pool k m h =
     let next = link.kept.sender.next in
     ticked_alike m.shdlc link.offered (waiting_in pool k.outbox) link.out h.full (omega arith)
 
-pub ticked_answer : (pool : PoolState) (k : End) (m : Machine) (t : Ticked) → EndStandsFor k pool m
-    → ((e : EndState) → ShdlcStandsFor k.shdlc e → t ≡ tick_answer e) → t ≡ tick_answer m.shdlc
-ticked_answer pool k m t h answer = answer (with_out m.shdlc h.half.link.offered) h.half.link.kept ∙ (alike pool k m h).answer
+-- the SHDLC end of a link end took a tick, and answered this
+pub record HasTicked (k : End) (pool : PoolState) (m : Machine) (s : KeptEnd) (t : Ticked) : Type 0 where
+  pub before : EndStandsFor k pool m
+  pub stands : (e : EndState) → ShdlcStandsFor k.shdlc e → ShdlcStandsFor s (ticked e)
+  pub answer : (e : EndState) → ShdlcStandsFor k.shdlc e → t ≡ tick_answer e
 
-pub tick_ends : (pool new : PoolState) (k k1 : End) (m : Machine) (s0 : KeptEnd) (t : Ticked) → EndStandsFor k pool m
-    → ((e : EndState) → ShdlcStandsFor k.shdlc e → ShdlcStandsFor s0 (ticked e))
-    → ((e : EndState) → ShdlcStandsFor k.shdlc e → t ≡ tick_answer e) → is_some t.ended ≡ true → ForgetsMessages pool new (record k { shdlc = s0 }) k1
-    → EndStandsFor k1 new (moved m (is_some (tick_answer m.shdlc).ended) (ticked m.shdlc))
-tick_ends pool new k k1 m s0 t h stands answer ended f =
-    let e = ticked m.shdlc in
-    let link = h.half.link in
-    let a = alike pool k m h in
-    let over : is_some (tick_answer m.shdlc).ended ≡ true = sym (ap (λ (x : Ticked). is_some x.ended) (ticked_answer pool k m t h answer)) ∙ ended in
-    let next = stands_ticked k.shdlc s0 (waiting_in pool k.outbox) m.shdlc (record { stands = link; full = h.full })
-    (stands (with_out m.shdlc link.offered) link.kept) in
-    let P : Bool → Type 0 = λ b. StandsBefore s0 (left_waiting b (waiting_in pool k.outbox)) e in
-    let Q : KeptEnd → Type 0 = λ x. StandsBefore x [] e in
-    let R : Bool → Type 0 = λ b. EndStandsFor k1 new (moved m b e) in
-    subst R (sym over)
-    (session_over pool new k k1 s0 k1.shdlc m e (carries k pool m h.half) f (subst Q (sym f.shdlc) (subst P over next))
-    (a.out ∙ ap (λ b. left_waiting b m.shdlc.session.out) over)
-    (a.acked ∙ ap (λ b. if b then 0 else m.shdlc.session.acked) over)
-    (a.acc ∙ ap (λ b. left_waiting b m.shdlc.session.acc) over))
+ticked_answer : {k : End} {pool : PoolState} {m : Machine} {s : KeptEnd} {t : Ticked} → HasTicked k pool m s t → t ≡ tick_answer m.shdlc
+ticked_answer {k} {pool} {m} h = h.answer (with_out m.shdlc h.before.half.link.offered) h.before.half.link.kept ∙ (alike pool k m h.before).answer
+
+-- whether it ended the session
+ended_by_tick : {k : End} {pool : PoolState} {m : Machine} {s : KeptEnd} {t : Ticked} {b : Bool} → HasTicked k pool m s t → is_some t.ended ≡ b
+    → is_some (tick_answer m.shdlc).ended ≡ b
+ended_by_tick h ended = sym (ap (λ (x : Ticked). is_some x.ended) (ticked_answer h)) ∙ ended
+
+-- what the SHDLC end stands for then
+ticked_link : {k : End} {pool : PoolState} {m : Machine} {s : KeptEnd} {t : Ticked} {b : Bool} → HasTicked k pool m s t → is_some t.ended ≡ b
+    → StandsBefore s (left_waiting b (waiting_in pool k.outbox)) (ticked m.shdlc)
+ticked_link {k} {pool} {m} {s} h ended =
+    let link = h.before.half.link in
+    let waiting = waiting_in pool k.outbox in
+    let P : Bool → Type 0 = λ b. StandsBefore s (left_waiting b waiting) (ticked m.shdlc) in
+    subst P (ended_by_tick h ended) (stands_ticked k.shdlc s waiting m.shdlc (record { stands = link; full = h.before.full })
+    (h.stands (with_out m.shdlc link.offered) link.kept))
+
+pub tick_ends : {pool new : PoolState} {k k1 : End} {m : Machine} {s : KeptEnd} {t : Ticked} → HasTicked k pool m s t → is_some t.ended ≡ true
+    → ForgetsMessages pool new (record k { shdlc = s }) k1 → EndStandsFor k1 new (moved m (is_some (tick_answer m.shdlc).ended) (ticked m.shdlc))
+tick_ends {pool} {new} {k} {k1} {m} h ended f =
+    let a = alike pool k m h.before in
+    let over = ended_by_tick h ended in
+    let P : Bool → Type 0 = λ b. EndStandsFor k1 new (moved m b (ticked m.shdlc)) in
+    subst P (sym over) (session_ended (carries h.before.half) f (record {
+      stands = ticked_link h ended;
+      out = a.out ∙ ap (λ b. left_waiting b m.shdlc.session.out) over;
+      acked = a.acked ∙ ap (λ b. if b then 0 else m.shdlc.session.acked) over;
+      acc = a.acc ∙ ap (λ b. left_waiting b m.shdlc.session.acc) over;
+    }))
 
 -- another state of the SHDLC end in the same session
-pub same_session : (pool : PoolState) (k : End) (s0 : KeptEnd) (m : Machine) (e : EndState) → Halfway k pool m
-    → StandsBefore s0 (waiting_in pool k.outbox) e → e.session.out ≡ m.shdlc.session.out
-    → e.session.acked ≡ m.shdlc.session.acked → e.session.acc ≡ m.shdlc.session.acc → Halfway (record k { shdlc = s0 }) pool (moved m false e)
-same_session pool k s0 m e half link out acked acc = record {
-  role = half.role;
+pub same_session : {pool : PoolState} {k : End} {s : KeptEnd} {m : Machine} {e : EndState} → Halfway k pool m → StandsBefore s (waiting_in pool k.outbox) e
+    → e.session.out ≡ m.shdlc.session.out → e.session.acked ≡ m.shdlc.session.acked → e.session.acc ≡ m.shdlc.session.acc
+    → Halfway (record k { shdlc = s }) pool (moved m false e)
+same_session {m = m} before link out acked acc = record {
+  role = before.role;
   link = link;
-  acts = half.acts;
+  acts = before.acts;
   sends = record {
-    lies = half.sends.lies;
-    all = half.sends.all;
-    out = out ∙ half.sends.out;
-    messages = half.sends.messages ∙ ap (λ n. drop (whole_among m.sent n) m.sent) (sym acked);
-    acked = half.sends.acked ∙ ap (rest_among m.sent) (sym acked);
+    lies = before.sends.lies;
+    all = before.sends.all;
+    out = out ∙ before.sends.out;
+    messages = before.sends.messages ∙ ap (λ n. drop (whole_among m.sent n) m.sent) (sym acked);
+    acked = before.sends.acked ∙ ap (rest_among m.sent) (sym acked);
   };
   receives = record {
-    lies = half.receives.lies;
-    under = half.receives.under ∙ sym (ap (λ l. open_after [] (packets_in l)) acc);
-    sound = ap (λ l. are_taken [] (packets_in l)) acc ∙ half.receives.sound;
+    lies = before.receives.lies;
+    under = before.receives.under ∙ sym (ap (λ l. open_after [] (packets_in l)) acc);
+    sound = ap (λ l. are_taken [] (packets_in l)) acc ∙ before.receives.sound;
   };
-  got = half.got;
-  aside = half.aside;
-  passed_over = half.passed_over;
-  differ = half.differ;
+  got = before.got;
+  aside = before.aside;
+  passed_over = before.passed_over;
+  differ = before.differ;
 }
 
-pub tick_goes_on : (pool : PoolState) (k : End) (m : Machine) (s0 : KeptEnd) (t : Ticked) → EndStandsFor k pool m
-    → ((e : EndState) → ShdlcStandsFor k.shdlc e → ShdlcStandsFor s0 (ticked e))
-    → ((e : EndState) → ShdlcStandsFor k.shdlc e → t ≡ tick_answer e) → is_some t.ended ≡ false
-    → Halfway (record k { shdlc = s0 }) pool (moved m (is_some (tick_answer m.shdlc).ended) (ticked m.shdlc))
-tick_goes_on pool k m s0 t h stands answer going =
-    let e = ticked m.shdlc in
-    let link = h.half.link in
-    let a = alike pool k m h in
-    let over : is_some (tick_answer m.shdlc).ended ≡ false = sym (ap (λ (x : Ticked). is_some x.ended) (ticked_answer pool k m t h answer)) ∙ going in
-    let next = stands_ticked k.shdlc s0 (waiting_in pool k.outbox) m.shdlc (record { stands = link; full = h.full })
-    (stands (with_out m.shdlc link.offered) link.kept) in
-    let P : Bool → Type 0 = λ b. StandsBefore s0 (left_waiting b (waiting_in pool k.outbox)) e in
-    let R : Bool → Type 0 = λ b. Halfway (record k { shdlc = s0 }) pool (moved m b e) in
-    subst R (sym over)
-    (same_session pool k s0 m e h.half (subst P over next)
+pub tick_goes_on : {pool : PoolState} {k : End} {m : Machine} {s : KeptEnd} {t : Ticked} → HasTicked k pool m s t → is_some t.ended ≡ false
+    → Halfway (record k { shdlc = s }) pool (moved m (is_some (tick_answer m.shdlc).ended) (ticked m.shdlc))
+tick_goes_on {pool} {k} {m} {s} h going =
+    let a = alike pool k m h.before in
+    let over = ended_by_tick h going in
+    let P : Bool → Type 0 = λ b. Halfway (record k { shdlc = s }) pool (moved m b (ticked m.shdlc)) in
+    subst P (sym over)
+    (same_session h.before.half (ticked_link h going)
     (a.out ∙ ap (λ b. left_waiting b m.shdlc.session.out) over)
     (a.acked ∙ ap (λ b. if b then 0 else m.shdlc.session.acked) over)
     (a.acc ∙ ap (λ b. left_waiting b m.shdlc.session.acc) over))
@@ -194,12 +200,11 @@ unheard_after m Ua f o = ap (λ b. if b then heard m Ua else m) o
 unheard_after m (ActFrame act again) f o = absurd f
 unheard_after m Clt f o = absurd f
 
-pub tick_told : (pool : PoolState) (k : End) (m : Machine) (t : Ticked) (n : LinkReport) → EndStandsFor k pool m
-    → ((e : EndState) → ShdlcStandsFor k.shdlc e → t ≡ tick_answer e) → n ≡ nothing_told
+pub tick_told : {pool : PoolState} {k : End} {m : Machine} {s : KeptEnd} {t : Ticked} {n : LinkReport} → HasTicked k pool m s t → n ≡ nothing_told
     → record n { ended = t.ended; gave_up = t.gave_up } ≡ record nothing_told { ended = (tick_answer m.shdlc).ended; gave_up = (tick_answer m.shdlc).gave_up }
-tick_told pool k m t n h answer none =
+tick_told {t = t} h none =
     ap (λ (x : LinkReport). record x { ended = t.ended; gave_up = t.gave_up }) none
-    ∙ ap (λ (x : Ticked). record nothing_told { ended = x.ended; gave_up = x.gave_up }) (ticked_answer pool k m t h answer)
+    ∙ ap (λ (x : Ticked). record nothing_told { ended = x.ended; gave_up = x.gave_up }) (ticked_answer h)
 
 -- ---- activation
 

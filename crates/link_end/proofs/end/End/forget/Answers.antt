@@ -11,9 +11,16 @@ clear-requires-2 c =
 
 pub returns : goal.returns
 returns c =
-    let old = c.args.self.now in
-    forgotten c.args.pool.now c.clear.new.pool c.clear-2.new.pool old c.clear.new.self c.clear-2.new.self c.bring_to_front.new.acts c.requires.outbox
-    c.requires.inbox c.requires.differ
-    c.clear.ensures.lies c.clear.ensures.empty c.clear.ensures.places c.clear.ensures.owner c.clear.ensures.elsewhere
-    c.clear-2.ensures.lies c.clear-2.ensures.«open» c.clear-2.ensures.got c.clear-2.ensures.owner c.clear-2.ensures.message c.clear-2.ensures.elsewhere
-    c.clear-2.ensures.counted c.bring_to_front.ensures
+    let out = c.clear.ensures in
+    let come = c.clear-2.ensures in
+    forgotten c.requires.outbox c.requires.inbox c.requires.differ
+    (record { lies = out.lies; empty = out.empty; places = out.places; owner = out.owner; elsewhere = out.elsewhere })
+    (record {
+      lies = come.lies;
+      empty = come.«open»;
+      got = come.got;
+      owner = come.owner;
+      message = come.message;
+      counted = come.counted;
+      elsewhere = come.elsewhere;
+    }) c.bring_to_front.ensures

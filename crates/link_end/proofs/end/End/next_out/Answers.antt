@@ -1,3 +1,5 @@
+use Rattle.std.proofs.Common.{map, ap, ◌∙◌}
+use Rattle.link_end.specs.Dues.{kept_nearer}
 use Rattle.link_end.proofs.NodeLemmas.{act_sent, link_sent}
 use Rattle.link_end.proofs.«end».End.next_out.Goals as goal
 
@@ -11,12 +13,12 @@ returns-in-Some-clause-answer c pool m h =
 
 pub returns-in-None-clause-stands : goal.returns-in-None-clause-stands
 returns-in-None-clause-stands c pool m h =
-    (link_sent pool c.args.self.now c.next_out.new.self c.bring_nearer.new.acts c.take_front.new.acts.items m c.next_out.result h c.in-None.ensures.act
-    c.in-None.ensures.rest c.bring_nearer.ensures
-    c.next_out.ensures.frame c.next_out.ensures.stands).1
+    let e = c.next_out.ensures in
+    let nearer = c.bring_nearer.ensures ∙ ap (map kept_nearer) c.in-None.ensures.rest in
+    (link_sent h (record { front = c.in-None.ensures.act; nearer = nearer; frame_is = e.frame; stands = e.stands })).1
 
 pub returns-in-None-clause-answer : goal.returns-in-None-clause-answer
 returns-in-None-clause-answer c pool m h =
-    (link_sent pool c.args.self.now c.next_out.new.self c.bring_nearer.new.acts c.take_front.new.acts.items m c.next_out.result h c.in-None.ensures.act
-    c.in-None.ensures.rest c.bring_nearer.ensures
-    c.next_out.ensures.frame c.next_out.ensures.stands).0
+    let e = c.next_out.ensures in
+    let nearer = c.bring_nearer.ensures ∙ ap (map kept_nearer) c.in-None.ensures.rest in
+    (link_sent h (record { front = c.in-None.ensures.act; nearer = nearer; frame_is = e.frame; stands = e.stands })).0

@@ -30,8 +30,8 @@ returns-in-Ok-clause-stands c m h =
     let P : LinkEnd → Type 0 = λ y. EndStandsFor c.refill.new.self c.refill.new.pool y in
     subst P (sym (gives m x (refused_none m x up (let l = c.len-len.ensures in omega (arith, l, c.if-len-gt-MAX_MESSAGE.false)) fits)))
     (c.refill.ensures.stands _
-    (message_passed c.args.pool.now c.accept_chain.new.pool c.args.self.now c.accept_chain.new.self c.args.chain m x h c.requires.up c.requires.sendable
-    c.requires.chain c.in-Ok.ensures.ok c.in-Ok.ensures.elsewhere))
+    (message_passed (record { before = h; up = c.requires.up; sendable = c.requires.sendable; accepts = c.in-Ok.ensures.ok }) c.requires.chain
+    c.in-Ok.ensures.elsewhere))
 
 pub returns-in-Ok-clause-answer : goal.returns-in-Ok-clause-answer
 returns-in-Ok-clause-answer c m h =

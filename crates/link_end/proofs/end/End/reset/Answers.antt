@@ -17,8 +17,7 @@ returns-in-Up-clause-stands c m h =
     let up : m.shdlc.phase ≡ Up = sym h.half.link.kept.phase ∙ sym c.in-Up.ensures.value in
     let P : LinkEnd → Type 0 = λ x. EndStandsFor c.forget.new.self c.forget.new.pool x in
     subst P (sym (reset_up m c.args.window o up))
-    (reset_ends c.args.pool.now c.forget.new.pool c.args.self.now c.forget.new.self m c.ask.new.shdlc c.args.window h c.requires.window c.ask.ensures up
-    c.forget.ensures)
+    (reset_ends (record { before = h; small = c.requires.window; stands = c.ask.ensures }) up c.forget.ensures)
 
 pub returns-in-Down-clause-stands : goal.returns-in-Down-clause-stands
 returns-in-Down-clause-stands c m h =
@@ -27,4 +26,4 @@ returns-in-Down-clause-stands c m h =
     let P : LinkEnd → Type 0 = λ x. EndStandsFor c.refill.new.self c.refill.new.pool x in
     subst P (sym (reset_down m c.args.window o down))
     (c.refill.ensures.stands _
-    (reset_begins c.args.pool.now c.args.self.now m c.ask-in-Down.new.shdlc c.args.window h c.requires.window c.ask-in-Down.ensures down))
+    (reset_begins (record { before = h; small = c.requires.window; stands = c.ask-in-Down.ensures }) down))

@@ -29,8 +29,7 @@ returns-in-Ok-clause-stands c m h =
     let P : LinkEnd → Type 0 = λ y. EndStandsFor c.refill.new.self c.refill.new.pool y in
     subst P (sym (gives m x (refused_none m x up c.if-message.false fits)))
     (c.refill.ensures.stands _
-    (message_given c.args.pool.now c.accept.new.pool c.args.self.now c.accept.new.self m x h c.requires.up c.requires.sendable c.in-Ok.ensures.ok
-    c.in-Ok.ensures.elsewhere).0)
+    (message_given (record { before = h; up = c.requires.up; sendable = c.requires.sendable; accepts = c.in-Ok.ensures.ok }) c.in-Ok.ensures.elsewhere).0)
 
 pub returns-in-Ok-clause-answer : goal.returns-in-Ok-clause-answer
 returns-in-Ok-clause-answer c m h =
@@ -42,16 +41,13 @@ returns-in-Ok-clause-answer c m h =
 
 pub returns-in-Ok-clause-elsewhere : goal.returns-in-Ok-clause-elsewhere
 returns-in-Ok-clause-elsewhere c =
-    let x : Message = (c.args.pipe, c.args.message.now) in
+    let given = message_given {x = (c.args.pipe, c.args.message.now)}
+    (record { before = c.requires.stands.1; up = c.requires.up; sendable = c.requires.sendable; accepts = c.in-Ok.ensures.ok }) c.in-Ok.ensures.elsewhere in
     let boxes = c.refill.ensures.boxes in
     let P : PoolState
     → Type 0 = λ p. LeavesBoxes c.args.pool.now p c.args.self.now.outbox c.args.self.now.inbox c.refill.new.self.outbox c.refill.new.self.inbox in
     subst P (sym c.refill.ensures.pool)
-    (leaves_same c.args.pool.now c.accept.new.pool c.args.self.now.outbox c.accept.new.self c.refill.new.self.outbox c.args.self.now.inbox
-    c.args.self.now.inbox c.refill.new.self.inbox
-    (message_given c.args.pool.now c.accept.new.pool c.args.self.now c.accept.new.self c.requires.stands.0 x c.requires.stands.1 c.requires.up
-    c.requires.sendable c.in-Ok.ensures.ok c.in-Ok.ensures.elsewhere).1
-    boxes.1 boxes.0 boxes.2)
+    (leaves_same c.refill.new.self.outbox c.refill.new.self.inbox given.1 boxes.1 boxes.0 boxes.2)
 
 pub returns-in-Err-clause-stands : goal.returns-in-Err-clause-stands
 returns-in-Err-clause-stands c m h =
