@@ -8,7 +8,7 @@ use Rattle.block_pool.specs.declared.owners.Owner.{Owner}
 use Rattle.block_pool.specs.Slots.{blocks_for}
 use Rattle.block_pool.specs.Owners.{owner_at, with_used, new_owners}
 use Rattle.block_pool.specs.Pool.{PoolState, IsNew, quota_of, used_of, IsLive, IsApart, chain_bytes, Gives, KeepsOthers}
-use Rattle.block_pool.specs.Holdings.{IsOwnChain as IsChainOf, LiesApart}
+use Rattle.block_pool.specs.Holdings.{IsOwnChain as IsChainOf, OwnsAll, LiesApart}
 use Rattle.block_pool.proofs.HoldingLemmas.{apart_by_owner, apart_turned, all_mapped, all_joined, kept_each, lies_apart_by_owner, used-with_used, quota-with_used, other-with_used, length-with_used}
 use Rattle.hcp_packet.specs.Packets.{AreSendable, fragments_of}
 use Rattle.hcp_chain.specs.declared.joiner.Open.{Open}
@@ -56,12 +56,12 @@ opens_of old new k m h u = opens_stay old new k.inbox.joiner.owner (chains_in k.
 -- an end whose chains and owners are untouched stands as before
 untouched_stands : (old new : PoolState) (k : End) (m : Machine) → EndStandsFor k old m → Untouched old new k → EndStandsFor k new m
 untouched_stands old new k m h u =
-    let half = h.half in
+    let before = h.half in
     let box = k.inbox in
     let o = k.outbox.owner in
     let i = box.joiner.owner in
-    let kept = half.sends.lies.kept in
-    let lies = half.receives.lies in
+    let kept = before.sends.lies.kept in
+    let lies = before.receives.lies in
     let len = u.lengths in
     let sent = kept_each Queued chain_in old new o k.outbox.queue.items kept.own u.queued in
     let same : queued_messages new k.outbox ≡ queued_messages old k.outbox = messages_same old new k.outbox.queue.items sent.bytes in
@@ -75,15 +75,15 @@ untouched_stands old new k m h u =
     let got = opens_stay old new i (got_chains box.got) owns.1 parts.1 in
     record {
       half = record {
-        role = half.role;
+        role = before.role;
         link = record {
-          offered = half.link.offered;
-          out = half.link.out ∙ ap (λ w. half.link.offered ++ w) (sym waits);
-          kept = half.link.kept;
-          narrow = half.link.narrow;
-          session = half.link.session;
+          offered = before.link.offered;
+          out = before.link.out ∙ ap (λ w. before.link.offered ++ w) (sym waits);
+          kept = before.link.kept;
+          narrow = before.link.narrow;
+          session = before.link.session;
         };
-        acts = half.acts;
+        acts = before.acts;
         sends = record {
           lies = record {
             kept = record {
@@ -96,13 +96,13 @@ untouched_stands old new k m h u =
               used = omega (arith, out_used, out_aside, sent.blocks, kept.used);
               within = omega (arith, out_used, kept.within);
             };
-            acked = half.sends.lies.acked;
-            cut = subst (λ l. k.outbox.cut ≤ length (fragments_of l)) (sym same) half.sends.lies.cut;
+            acked = before.sends.lies.acked;
+            cut = subst (λ l. k.outbox.cut ≤ length (fragments_of l)) (sym same) before.sends.lies.cut;
           };
-          all = half.sends.all;
-          out = half.sends.out;
-          messages = same ∙ half.sends.messages;
-          acked = half.sends.acked;
+          all = before.sends.all;
+          out = before.sends.out;
+          messages = same ∙ before.sends.messages;
+          acked = before.sends.acked;
         };
         receives = record {
           lies = record {
@@ -111,13 +111,13 @@ untouched_stands old new k m h u =
             quota = u.quota ∙ lies.quota;
             used = omega (arith, all.blocks, u.used);
           };
-          under = some.messages ∙ half.receives.under;
-          sound = half.receives.sound;
+          under = some.messages ∙ before.receives.under;
+          sound = before.receives.sound;
         };
-        got = got.messages ∙ half.got;
-        aside = out_aside ∙ half.aside;
-        passed_over = half.passed_over;
-        differ = half.differ;
+        got = got.messages ∙ before.got;
+        aside = out_aside ∙ before.aside;
+        passed_over = before.passed_over;
+        differ = before.differ;
       };
       full = elim h.full [ inl none ↦ inl (waits ∙ none) | inr four ↦ inr four ];
     }
@@ -267,40 +267,48 @@ none_counted pool k owner none is unused =
     let used = ap (used_of pool) is in
     record { fetched = tt; used = omega (arith, held, used, unused) }
 
-pub fetched_counted : (pool : PoolState) (k : End) (inbox : Inbox) (m : Machine) (x : Option (ℕ × Chain)) → EndStandsFor k pool m
-    → Accounts k pool None → inbox.joiner ≡ k.inbox.joiner → inbox.got ≡ None
-    → IfSome x (λ y. k.inbox.got ≡ Some (record { pipe = y.0; chain = y.1 })) → IfNone x (k.inbox.got ≡ None)
-    → Accounts (record k { inbox = inbox }) pool (option_map (λ y. y.1) x)
-fetched_counted pool k inbox m None h a joiner none some same =
+-- the message that came whole was fetched, if one did
+pub record HasFetched (before after : Inbox) (x : Option (ℕ × Chain)) : Type 0 where
+  pub joiner : after.joiner ≡ before.joiner
+  pub fetched : after.got ≡ None
+  pub some : IfSome x (λ y. before.got ≡ Some (record { pipe = y.0; chain = y.1 }))
+  pub none : IfNone x (before.got ≡ None)
+
+pub fetched_counted : {pool : PoolState} {k : End} {inbox : Inbox} {m : Machine} {x : Option (ℕ × Chain)} → EndStandsFor k pool m → Accounts k pool None
+    → HasFetched k.inbox inbox x → Accounts (record k { inbox = inbox }) pool (option_map (λ y. y.1) x)
+fetched_counted {pool} {k} {inbox} {x = None} h a f =
     let P : Inbox → Type 0 = λ b. Accounts (record k { inbox = b }) pool None in
-    subst P (ap (λ j. record { joiner = j; got = k.inbox.got }) (sym joiner) ∙ ap (λ g. record { joiner = inbox.joiner; got = g }) (same ∙ sym none)) a
-fetched_counted pool k inbox m (Some y) h a joiner none some same =
+    subst P (ap (λ j. record { joiner = j; got = k.inbox.got }) (sym f.joiner) ∙ ap (λ g. record { joiner = inbox.joiner; got = g }) (f.none ∙ sym f.fetched)) a
+fetched_counted {pool} {k} {inbox} {x = Some y} h a f =
     let P : Inbox → Type 0 = λ b. Accounts (record k { inbox = b }) pool (Some y.1) in
     let xs = k.inbox.joiner.open.items in
     let o = k.inbox.joiner.owner in
     let one : Open = record { pipe = y.0; chain = y.1 } in
-    let chains : chains_in k.inbox ≡ xs ++ one ∷ [] = ap (λ g. xs ++ got_chains g) some in
+    let chains : chains_in k.inbox ≡ xs ++ one ∷ [] = ap (λ g. xs ++ got_chains g) f.some in
     let holds = subst (HoldsChains pool o) chains h.half.receives.lies.holds in
     let own = all_front (IsOwnOpen pool o) xs one holds.own in
     let apart = all_map (λ x. AreApart x one) (λ x. IsApart y.1 x.chain) xs (λ x d first p q. d.chains first q p) (apart_front xs one holds.apart).1 in
     let sum = held_both pool xs (one ∷ []) in
     let held = ap (held_blocks pool) chains in
     let front = ap (held_blocks pool) (append-nil xs) in
-    subst P (ap (λ j. record { joiner = j; got = None }) (sym joiner) ∙ ap (λ g. record { joiner = inbox.joiner; got = g }) (sym none)) (record {
+    subst P (ap (λ j. record { joiner = j; got = None }) (sym f.joiner) ∙ ap (λ g. record { joiner = inbox.joiner; got = g }) (sym f.fetched)) (record {
       fetched = record { live = own.1.live; owned = own.1.owned; apart = subst (λ l. IsApartFrom l y.1) (sym (append-nil xs)) apart };
       used = omega (arith, a.used, held, sum, front);
     })
 
 -- ---- a message that was fetched goes away
 
--- what lies apart from its chain has its bytes still
-goes_own : (old new : PoolState) (k : End) (m : Machine) (chain : Chain) → EndStandsFor k old m → Accounts k old (Some chain)
-    → ((c : Chain) → IsLive old c → IsApart c chain → (c.owner ≡ k.outbox.owner) ⊎ (c.owner ≡ k.inbox.joiner.owner) → Stays old new c)
-    → owner_at new.owners k.outbox.owner ≡ owner_at old.owners k.outbox.owner
-    → quota_of new k.inbox.joiner.owner ≡ quota_of old k.inbox.joiner.owner
-    → used_of new k.inbox.joiner.owner ≡ used_of old k.inbox.joiner.owner - blocks_for (length (chain_bytes old chain))
-    → length new.owners ≡ length old.owners → EndStandsFor k new m × Accounts k new None
-goes_own old new k m chain h a stay counts quota used lengths =
+-- the chain of an end's fetched message went away: those of its owners that lie apart from it have their bytes still
+record HasGone (old new : PoolState) (k : End) (chain : Chain) : Type 0 where
+  apart : (c : Chain) → IsLive old c → IsApart c chain → (c.owner ≡ k.outbox.owner) ⊎ (c.owner ≡ k.inbox.joiner.owner) → Stays old new c
+  counts : owner_at new.owners k.outbox.owner ≡ owner_at old.owners k.outbox.owner
+  quota : quota_of new k.inbox.joiner.owner ≡ quota_of old k.inbox.joiner.owner
+  used : used_of new k.inbox.joiner.owner ≡ used_of old k.inbox.joiner.owner - blocks_for (length (chain_bytes old chain))
+  lengths : length new.owners ≡ length old.owners
+
+goes_own : {old new : PoolState} {k : End} {m : Machine} {chain : Chain} → EndStandsFor k old m → Accounts k old (Some chain) → HasGone old new k chain
+    → EndStandsFor k new m × Accounts k new None
+goes_own {old} {new} {k} {m} {chain} h a g =
     let o = k.outbox.owner in
     let i = k.inbox.joiner.owner in
     let f = a.fetched in
@@ -308,18 +316,18 @@ goes_own old new k m chain h a stay counts quota used lengths =
     let opens = all_joined Open (IsOwnOpen old i) (λ x. IsApart chain x.chain) (chains_in k.inbox) lies.holds.own f.apart in
     let u : Untouched old new k = record {
       queued = all_mapped Queued (λ q. IsChainOf old o q.chain) (λ q. Stays old new q.chain) k.outbox.queue.items
-          (λ q own. stay q.chain own.live (apart_by_owner old q.chain chain own.live f.live (λ e. h.half.differ (sym own.owned ∙ (e
+          (λ q own. g.apart q.chain own.live (apart_by_owner old q.chain chain own.live f.live (λ e. h.half.differ (sym own.owned ∙ (e
           ∙ f.owned)))) (inl own.owned)) h.half.sends.lies.kept.own;
       opens = all_mapped Open (λ x. IsOwnOpen old i x × IsApart chain x.chain) (λ x. Stays old new x.chain) (chains_in k.inbox)
-          (λ x own. stay x.chain own.0.live (apart_turned chain x.chain own.1) (inr own.0.owned)) opens;
-      sender = counts;
-      quota = quota;
-      used = omega (arith, used, a.used);
-      lengths = lengths;
+          (λ x own. g.apart x.chain own.0.live (apart_turned chain x.chain own.1) (inr own.0.owned)) opens;
+      sender = g.counts;
+      quota = g.quota;
+      used = omega (arith, g.used, a.used);
+      lengths = g.lengths;
     } in
     let all = opens_of old new k m h u in (
       untouched_stands old new k m h u,
-      record { fetched = tt; used = omega (arith, used, a.used, all.blocks) },
+      record { fetched = tt; used = omega (arith, g.used, a.used, all.blocks) },
     )
 
 pub given_own : (old new : PoolState) (k : End) (m : Machine) (chain : Chain) → EndStandsFor k old m → Accounts k old (Some chain)
@@ -331,12 +339,13 @@ given_own old new k m chain h a gives keeps =
     let has = h.half.receives.lies.has_quota in
     let owners : new.owners ≡ with_used old.owners i (used_of old i - n) = gives.owners ∙ ap
     (λ q. with_used old.owners q (used_of old q - n)) a.fetched.owned in
-    let stay : (c : Chain) → IsLive old c → IsApart c chain → Stays old new c = λ c live apart. (let s = keeps c live apart in (s.1, s.2)) in
-    goes_own old new k m chain h a (λ c live apart e. stay c live apart)
-    (ap (λ os. owner_at os k.outbox.owner) owners ∙ other-with_used old.owners i (used_of old i - n) k.outbox.owner h.half.differ)
-    (ap (λ os. (owner_at os i).quota) owners ∙ quota-with_used old.owners i (used_of old i - n) has)
-    (ap (λ os. (owner_at os i).used) owners ∙ used-with_used old.owners i (used_of old i - n) has)
-    (ap length owners ∙ length-with_used old.owners i (used_of old i - n))
+    goes_own h a (record {
+      apart = λ c live apart e. (let s = keeps c live apart in (s.1, s.2));
+      counts = ap (λ os. owner_at os k.outbox.owner) owners ∙ other-with_used old.owners i (used_of old i - n) k.outbox.owner h.half.differ;
+      quota = ap (λ os. (owner_at os i).quota) owners ∙ quota-with_used old.owners i (used_of old i - n) has;
+      used = ap (λ os. (owner_at os i).used) owners ∙ used-with_used old.owners i (used_of old i - n) has;
+      lengths = ap length owners ∙ length-with_used old.owners i (used_of old i - n);
+    })
 
 pub given_beside : (old new : PoolState) (k other : End) (n : Machine) (chain : Chain) (theirs : Option Chain) → Accounts k old (Some chain)
     → Gives old new chain → KeepsOthers old new chain chain
@@ -379,41 +388,61 @@ may_pass_on pool from to m n chain h a differ g =
       counted = λ e. absurd (differ.receivers (sym f.owned ∙ e));
     }
 
+-- an end has put a chain of another owner behind what it sends
+record HasAdopted (old new : PoolState) (k after : End) (owner : ℕ) (chain : Chain) : Type 0 where
+  live : IsLive old chain
+  owned : chain.owner ≡ owner
+  own : OwnsAll Queued chain_in old k.outbox.owner k.outbox.queue.items
+  leaves : LeavesOthersBut old new k.outbox.owner chain k.outbox.queue.items after.outbox.queue.items
+
+adopted : {old new : PoolState} {from k after : End} {m : Machine} {chain : Chain} → Accounts from old (Some chain) → EndStandsFor k old m
+    → LeavesOthersBut old new k.outbox.owner chain k.outbox.queue.items after.outbox.queue.items → HasAdopted old new k after from.inbox.joiner.owner chain
+adopted a h leaves = record { live = a.fetched.live; owned = a.fetched.owned; own = h.half.sends.lies.kept.own; leaves = leaves }
+
+-- a chain that lies apart from it, of another owner than that of what is sent, has its bytes still
+stays_beside : {old new : PoolState} {k after : End} {owner : ℕ} {chain : Chain} → HasAdopted old new k after owner chain → (c : Chain) (p : ℕ) → IsLive old c
+    → c.owner ≡ p → k.outbox.owner ≢ p → IsApart c chain → Stays old new c
+stays_beside {old} {k = k} t c p live is differ apart =
+    let queue = lies_apart_by_owner Queued chain_in old k.outbox.owner k.outbox.queue.items c t.own live (λ e. differ (sym e ∙ is)) in
+    let s = t.leaves.others c live queue apart in
+    (s.0, s.1)
+
+-- so has a chain of a third owner
+stays_third : {old new : PoolState} {k after : End} {owner : ℕ} {chain : Chain} → HasAdopted old new k after owner chain → (c : Chain) (p : ℕ) → IsLive old c
+    → c.owner ≡ p → k.outbox.owner ≢ p → owner ≢ p → Stays old new c
+stays_third {old} {chain = chain} t c p live is differ third =
+    stays_beside t c p live is differ (apart_by_owner old c chain live t.live (λ e. third (sym t.owned ∙ (sym e ∙ is))))
+
+-- the blocks of the owner that had it
+giver_used : {old new : PoolState} {k after : End} {owner : ℕ} {chain : Chain} → HasAdopted old new k after owner chain
+    → used_of new owner ≡ used_of old owner - blocks_for (length (chain_bytes old chain))
+giver_used {old} {new} {chain = chain} t =
+    ap (used_of new) (sym t.owned) ∙ (t.leaves.giver_used ∙ ap (λ p. used_of old p - blocks_for (length (chain_bytes old chain))) t.owned)
+
 pub sent_back_own : (old new : PoolState) (k after : End) (m : Machine) (chain : Chain) → EndStandsFor k old m → Accounts k old (Some chain)
     → after.inbox ≡ k.inbox
     → LeavesOthersBut old new k.outbox.owner chain k.outbox.queue.items after.outbox.queue.items → Accounts after new None
 sent_back_own old new k after m chain h a inbox l =
     let i = k.inbox.joiner.owner in
-    let f = a.fetched in
-    let lies = h.half.receives.lies in
-    let opens = all_joined Open (IsOwnOpen old i) (λ x. IsApart chain x.chain) (chains_in k.inbox) lies.holds.own f.apart in
-    let all = opens_passed old new i (λ x. IsApart chain x.chain) (chains_in k.inbox) opens (λ x own.
-    let queue = lies_apart_by_owner Queued chain_in old k.outbox.owner k.outbox.queue.items x.chain h.half.sends.lies.kept.own own.0.live
-    (λ e. h.half.differ (sym e ∙ own.0.owned)) in
-    let s = l.others x.chain own.0.live queue (apart_turned chain x.chain own.1) in
-    (s.0, s.1)) in
-    let used : used_of new i ≡ used_of old i - blocks_for (length (chain_bytes old chain)) =
-    ap (used_of new) (sym f.owned) ∙ (l.giver_used ∙ ap (λ p. used_of old p - blocks_for (length (chain_bytes old chain))) f.owned) in
+    let t = adopted {after = after} a h l in
+    let opens = all_joined Open (IsOwnOpen old i) (λ x. IsApart chain x.chain) (chains_in k.inbox) h.half.receives.lies.holds.own a.fetched.apart in
+    let all = opens_passed old new i (λ x. IsApart chain x.chain) (chains_in k.inbox) opens
+    (λ x own. stays_beside t x.chain i own.0.live own.0.owned h.half.differ (apart_turned chain x.chain own.1)) in
     let P : Inbox → Type 0 = λ b. used_of new b.joiner.owner ≡ held_blocks new (chains_in b) + 0 in
-    record { fetched = tt; used = subst P (sym inbox) (omega (arith, used, a.used, all.blocks)) }
+    record { fetched = tt; used = subst P (sym inbox) (omega (arith, giver_used t, a.used, all.blocks)) }
 
--- an end whose owners are neither the one that gave the chain nor the one that took it
-passed_by : (old new : PoolState) (giver : ℕ) (to after other : End) (n o : Machine) (chain : Chain) (theirs : Option Chain) → IsLive old chain
-    → chain.owner ≡ giver → EndStandsFor to old n
-    → LeavesOthersBut old new to.outbox.owner chain to.outbox.queue.items after.outbox.queue.items
-    → giver ≢ other.outbox.owner → giver ≢ other.inbox.joiner.owner → to.outbox.owner ≢ other.outbox.owner → to.outbox.owner ≢ other.inbox.joiner.owner
-    → EndStandsFor other old o → Accounts other old theirs → EndStandsFor other new o × Accounts other new theirs
-passed_by old new giver to after other n o chain theirs live_chain owned h l a b c d g acc =
-    let stay : (x : Chain) (p : ℕ) → IsLive old x → x.owner ≡ p → giver ≢ p → to.outbox.owner ≢ p → Stays old new x =
-    λ x p live is u v.
-    (let queue = lies_apart_by_owner Queued chain_in old to.outbox.owner to.outbox.queue.items x h.half.sends.lies.kept.own live (λ e. v (sym e ∙ is)) in
-    let s = l.others x live queue (apart_by_owner old x chain live live_chain (λ e. u (sym owned ∙ (sym e ∙ is)))) in
-    (s.0, s.1)) in
-    both_stay old new other o theirs g acc (record {
-      first = λ x live is. stay x other.outbox.owner live is a c;
-      second = λ x live is. stay x other.inbox.joiner.owner live is b d;
-      counts = l.counts other.outbox.owner (λ e. c (sym e)) (λ e. a (sym owned ∙ sym e));
-      uses = l.counts other.inbox.joiner.owner (λ e. d (sym e)) (λ e. b (sym owned ∙ sym e));
+pub passed_beside : (old new : PoolState) (from to after other : End) (n o : Machine) (chain : Chain) (theirs : Option Chain)
+    → Accounts from old (Some chain) → EndStandsFor to old n
+    → LeavesOthersBut old new to.outbox.owner chain to.outbox.queue.items after.outbox.queue.items → HaveOwners from other → HaveOwners to other
+    → EndStandsFor other old o → Accounts other old theirs
+    → EndStandsFor other new o × Accounts other new theirs
+passed_beside old new from to after other n o chain theirs a h l differ apart g b =
+    let t = adopted {after = after} a h l in
+    both_stay old new other o theirs g b (record {
+      first = λ x live is. stays_third t x other.outbox.owner live is apart.senders differ.from;
+      second = λ x live is. stays_third t x other.inbox.joiner.owner live is apart.to differ.receivers;
+      counts = l.counts other.outbox.owner (λ e. apart.senders (sym e)) (λ e. differ.from (sym t.owned ∙ sym e));
+      uses = l.counts other.inbox.joiner.owner (λ e. apart.to (sym e)) (λ e. differ.receivers (sym t.owned ∙ sym e));
       lengths = l.lengths;
     })
 
@@ -422,39 +451,23 @@ pub sent_back_beside : (old new : PoolState) (k after other : End) (m n : Machin
     → LeavesOthersBut old new k.outbox.owner chain k.outbox.queue.items after.outbox.queue.items → HaveOwners k other → EndStandsFor other old n
     → Accounts other old theirs
     → EndStandsFor other new n × Accounts other new theirs
-sent_back_beside old new k after other m n chain theirs h a l differ g b =
-    passed_by old new k.inbox.joiner.owner k after other m n chain theirs a.fetched.live a.fetched.owned h l differ.from differ.receivers differ.senders
-    differ.to g b
+sent_back_beside old new k after other m n chain theirs h a l differ g b = passed_beside old new k k after other m n chain theirs a h l differ differ g b
 
 pub passed_giver : (old new : PoolState) (from to after : End) (m n : Machine) (chain : Chain) → EndStandsFor from old m
     → Accounts from old (Some chain) → HaveOwners from to → EndStandsFor to old n
     → LeavesOthersBut old new to.outbox.owner chain to.outbox.queue.items after.outbox.queue.items → EndStandsFor from new m × Accounts from new None
 passed_giver old new from to after m n chain h a differ g l =
-    let i = from.inbox.joiner.owner in
-    let f = a.fetched in
-    let stay : (c : Chain) (p : ℕ) → IsLive old c → IsApart c chain → c.owner ≡ p → to.outbox.owner ≢ p → Stays old new c =
-    λ c p live apart is v.
-    (let queue = lies_apart_by_owner Queued chain_in old to.outbox.owner to.outbox.queue.items c g.half.sends.lies.kept.own live (λ e. v (sym e ∙ is)) in
-    let s = l.others c live queue apart in
-    (s.0, s.1)) in
-    goes_own old new from m chain h a (λ c live apart which. elim which [
-      | inl is ↦ stay c from.outbox.owner live apart is
-          (λ e. differ.senders (sym e))
-      | inr is ↦ stay c i live apart is (λ e. differ.from (sym e))
-    ])
-    (l.counts from.outbox.owner differ.senders (λ e. h.half.differ (e ∙ f.owned)))
-    (ap (quota_of new) (sym f.owned) ∙ (l.giver_quota ∙ ap (quota_of old) f.owned))
-    (ap (used_of new) (sym f.owned) ∙ (l.giver_used ∙ ap (λ p. used_of old p - blocks_for (length (chain_bytes old chain))) f.owned))
-    l.lengths
-
-pub passed_beside : (old new : PoolState) (from to after other : End) (n o : Machine) (chain : Chain) (theirs : Option Chain)
-    → Accounts from old (Some chain) → EndStandsFor to old n
-    → LeavesOthersBut old new to.outbox.owner chain to.outbox.queue.items after.outbox.queue.items → HaveOwners from other → HaveOwners to other
-    → EndStandsFor other old o → Accounts other old theirs
-    → EndStandsFor other new o × Accounts other new theirs
-passed_beside old new from to after other n o chain theirs a h l differ apart g b =
-    passed_by old new from.inbox.joiner.owner to after other n o chain theirs a.fetched.live a.fetched.owned h l differ.from differ.receivers apart.senders
-    apart.to g b
+    let t = adopted {after = after} a g l in
+    goes_own h a (record {
+      apart = λ c live apart which. elim which [
+        | inl is ↦ stays_beside t c from.outbox.owner live is (λ e. differ.senders (sym e)) apart
+        | inr is ↦ stays_beside t c from.inbox.joiner.owner live is (λ e. differ.from (sym e)) apart
+      ];
+      counts = l.counts from.outbox.owner differ.senders (λ e. h.half.differ (e ∙ t.owned));
+      quota = ap (quota_of new) (sym t.owned) ∙ (l.giver_quota ∙ ap (quota_of old) t.owned);
+      used = giver_used t;
+      lengths = l.lengths;
+    })
 
 pub passed_taker : (old new : PoolState) (from to after : End) (n : Machine) (chain : Chain) (theirs : Option Chain)
     → Accounts from old (Some chain) → HaveOwners from to → EndStandsFor to old n
@@ -462,18 +475,13 @@ pub passed_taker : (old new : PoolState) (from to after : End) (n : Machine) (ch
     → Accounts after new theirs
 passed_taker old new from to after n chain theirs a differ g b inbox l =
     let i = to.inbox.joiner.owner in
-    let f = a.fetched in
-    let stay : (c : Chain) → IsLive old c → c.owner ≡ i → Stays old new c =
-    λ c live is.
-    (let queue = lies_apart_by_owner Queued chain_in old to.outbox.owner to.outbox.queue.items c g.half.sends.lies.kept.own live
-    (λ e. g.half.differ (sym e ∙ is)) in
-    let s = l.others c live queue (apart_by_owner old c chain live f.live (λ e. differ.receivers (sym f.owned ∙ (sym e ∙ is)))) in
-    (s.0, s.1)) in
+    let t = adopted {after = after} a g l in
+    let stay : (c : Chain) → IsLive old c → c.owner ≡ i → Stays old new c = λ c live is. stays_third t c i live is g.half.differ differ.receivers in
     let own = g.half.receives.lies.holds.own in
     let all = opens_stay old new i (chains_in to.inbox) own (all_mapped Open (IsOwnOpen old i) (λ x. Stays old new x.chain) (chains_in to.inbox)
     (λ x o. stay x.chain o.live o.owned) own) in
     let moved = fetched_stays old new to theirs stay b.fetched in
-    let used = ap (λ (x : Owner). x.used) (l.counts i (λ e. g.half.differ (sym e)) (λ e. differ.receivers (sym f.owned ∙ sym e))) in
+    let used = ap (λ (x : Owner). x.used) (l.counts i (λ e. g.half.differ (sym e)) (λ e. differ.receivers (sym t.owned ∙ sym e))) in
     let P : Inbox → Type 0 = λ box. used_of new box.joiner.owner ≡ held_blocks new (chains_in box) + blocks_of new theirs in
     record { fetched = fetched_moved new to after theirs inbox moved.0; used = subst P (sym inbox) (omega (arith, used, b.used, all.blocks, moved.1)) }
 

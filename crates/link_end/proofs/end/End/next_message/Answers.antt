@@ -8,4 +8,4 @@ returns-clause-stands c pool m h = message_fetched pool c.args.self.now c.fetch.
 pub returns-clause-accounts : goal.returns-clause-accounts
 returns-clause-accounts c pool m h a =
     let e = c.fetch.ensures in
-    fetched_counted pool c.args.self.now c.fetch.new.self m c.fetch.result h a e.joiner e.fetched e.some e.none
+    fetched_counted h a (record { joiner = e.joiner; fetched = e.fetched; some = e.some; none = e.none })
