@@ -71,10 +71,11 @@ clears_none pool owner chains quota holds = record {
   others = λ other live apart. (live, refl, apart);
 }
 
-pub clears_more : (first now next : PoolState) (owner owner_now : ℕ) (chains left : List Open) (x : Open)
+-- one more chain was given back
+pub clears_more : {first now next : PoolState} {owner owner_now : ℕ} {chains left : List Open} (x : Open)
     → Clears first now owner owner_now chains (left ++ x ∷ []) → Gives now next x.chain → KeepsOthers now next x.chain x.chain
     → Clears first next owner owner_now chains left
-clears_more first now next owner owner_now chains left x so_far gives keeps =
+clears_more {first} {now} {next} {owner} {chains = chains} {left} x so_far gives keeps =
     let own = all_front (IsOwnOpen now owner) left x so_far.holds.own in
     let apart = apart_front left x so_far.holds.apart in
     let k = kept now next owner x.chain x.chain left keeps own.0 (all_map (λ y. AreApart y x) (λ y. IsApart y.chain x.chain) left (λ y a. a.chains) apart.1) in
@@ -101,21 +102,28 @@ clears_more first now next owner owner_now chains left x so_far gives keeps =
           (still.1, still.2 ∙ o.1, parts.0);
     }
 
--- a chain was given back, and then those of a joiner: their owner uses nothing
-pub all_given : (pool next last : PoolState) (owner : ℕ) (chain : Chain) (xs : List Open) → HasQuota pool owner → chain.owner ≡ owner
-    → HoldsChains pool owner xs → AllByRecursion (λ x. IsApart x.chain chain) xs → Gives pool next chain → KeepsOthers pool next chain chain
-    → used_of pool owner ≡ blocks_for (length (chain_bytes pool chain)) + held_blocks pool xs
+-- a chain lies apart from those of a joiner, and these are all that their owner uses
+pub record HasOneMore (pool : PoolState) (owner : ℕ) (chain : Chain) (xs : List Open) : Type 0 where
+  pub has_quota : HasQuota pool owner
+  pub owned : chain.owner ≡ owner
+  pub holds : HoldsChains pool owner xs
+  pub apart : AllByRecursion (λ x. IsApart x.chain chain) xs
+  pub used : used_of pool owner ≡ blocks_for (length (chain_bytes pool chain)) + held_blocks pool xs
+
+-- it was given back, and then those of the joiner: their owner uses nothing
+pub all_given : {pool next : PoolState} (last : PoolState) {owner : ℕ} {chain : Chain} {xs : List Open} → HasOneMore pool owner chain xs
+    → Gives pool next chain → KeepsOthers pool next chain chain
     → last.owners ≡ with_used next.owners owner (used_of next owner - held_blocks next xs) → last.owners ≡ with_used pool.owners owner 0
-all_given pool next last owner chain xs quota owned holds apart gives keeps used cleared =
-    let k = kept pool next owner chain chain xs keeps holds.own apart in
+all_given {pool} {next} last {owner} {chain} {xs} h gives keeps cleared =
+    let k = kept pool next owner chain chain xs keeps h.holds.own h.apart in
     let n = blocks_for (length (chain_bytes pool chain)) in
     let given : next.owners ≡ with_used pool.owners owner (used_of pool owner - n) = gives.owners
-    ∙ ap (λ o. with_used pool.owners o (used_of pool o - n)) owned in
+    ∙ ap (λ o. with_used pool.owners o (used_of pool o - n)) h.owned in
     let used_next : used_of next owner ≡ used_of pool owner - n = ap (λ os. (owner_at os owner).used) given
-    ∙ used-with_used pool.owners owner (used_of pool owner - n) quota in
-    let none : used_of next owner - held_blocks next xs ≡ 0 = omega (arith, used_next, used, k.blocks) in
+    ∙ used-with_used pool.owners owner (used_of pool owner - n) h.has_quota in
+    let none : used_of next owner - held_blocks next xs ≡ 0 = omega (arith, used_next, h.used, k.blocks) in
     cleared ∙ (ap (with_used next.owners owner) none
-    ∙ (ap (λ os. with_used os owner 0) given ∙ with_used-with_used pool.owners owner (used_of pool owner - n) 0 quota))
+    ∙ (ap (λ os. with_used os owner 0) given ∙ with_used-with_used pool.owners owner (used_of pool owner - n) 0 h.has_quota))
 
 -- a joiner can take the next packet
 pub ready_again : (old new : PoolState) (before after : Joiner) (whole : List Open) → IsJoinerReady old before → after.owner ≡ before.owner

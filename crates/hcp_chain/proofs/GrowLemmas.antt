@@ -37,10 +37,10 @@ room_for pool joiner p chain can =
     subst (λ o. more_blocks (length (chain_bytes pool chain)) (length p.bytes.items) ≤ spare_of pool o) (sym can.owned)
     (omega (arith, held, can.room, can.fits, can.quota, can.used))
 
-pub grows : (old new : PoolState) (joiner : Joiner) (p : Packet) (chain after : Chain) → CanGrow old joiner p chain
+pub grows : {old new : PoolState} {joiner : Joiner} {p : Packet} {chain after : Chain} → CanGrow old joiner p chain
     → Appends old new chain after p.bytes.items → chain_bytes new after ≡ chain_bytes old chain ++ p.bytes.items → IsLive new after
     → KeepsOthers old new chain after → Grown old new joiner.owner p.pipe chain after joiner.open.items (chain_bytes old chain ++ p.bytes.items)
-grows old new joiner p chain after can appends bytes live keeps =
+grows {old} {new} {joiner} {p} {chain} {after} can appends bytes live keeps =
     let xs = joiner.open.items in
     let o = joiner.owner in
     let y : Open = record { pipe = p.pipe; chain = after } in

@@ -9,7 +9,7 @@ use Rattle.std.proofs.lemmas.Grind.{common_steps}
 use Rattle.block_pool.specs.declared.chain.Chain.{Chain}
 use Rattle.block_pool.specs.Slots.{blocks_for}
 use Rattle.block_pool.specs.Names.{named_bytes, IsLiveAt}
-use Rattle.block_pool.specs.Pool.{PoolState, HasQuota, IsApart, chain_bytes}
+use Rattle.block_pool.specs.Pool.{PoolState, HasQuota, IsEmptyChain, IsApart, chain_bytes}
 use Rattle.hcp_chain.specs.declared.joiner.Open.{Open}
 use Rattle.hcp_chain.specs.declared.joiner.Joiner.{Joiner}
 use Rattle.hcp_chain.specs.TakingOut.{TakesOut}
@@ -158,10 +158,10 @@ length-messages : (pool : PoolState) (xs : List Open) → length (messages_in po
 length-messages pool xs = length-map xs (message_of pool)
 
 -- a chain is under way on the pipe
-pub taken_out : (pool : PoolState) (old new : Joiner) (pipe i : ℕ) (x : Open) → HoldsChains pool old.owner old.open.items
+pub taken_out : {pool : PoolState} {old new : Joiner} {pipe i : ℕ} {x : Open} → HoldsChains pool old.owner old.open.items
     → position (λ y. eqb y.pipe pipe) old.open.items ≡ Some i → x ≡ get_or old.open.items i x → new.owner ≡ old.owner
     → new.open.items ≡ remove old.open.items i → length new.open.items < 4 → TakesOut pool old new pipe x.chain
-taken_out pool old new pipe i x holds found read owner items room =
+taken_out {pool} {old} {new} {pipe} {i} {x} holds found read owner items room =
     let xs = old.open.items in
     let at = position-Some (λ y. eqb y.pipe pipe) xs i x found in
     let low = at.0 in
@@ -194,10 +194,12 @@ taken_out pool old new pipe i x holds found read owner items room =
     }
 
 -- none is, and there is room
-pub begun : (pool : PoolState) (old new : Joiner) (pipe : ℕ) (chain : Chain) → HoldsChains pool old.owner old.open.items → HasQuota pool old.owner
+pub begun : {pool : PoolState} {old new : Joiner} {pipe : ℕ} {chain : Chain} → HoldsChains pool old.owner old.open.items → HasQuota pool old.owner
     → position (λ y. eqb y.pipe pipe) old.open.items ≡ None → new.owner ≡ old.owner → new.open.items ≡ old.open.items → length old.open.items < 4
-    → chain.owner ≡ old.owner → chain.first ≡ None → TakesOut pool old new pipe chain
-begun pool old new pipe chain holds quota found owner items room owned empty =
+    → IsEmptyChain old.owner chain → TakesOut pool old new pipe chain
+begun {pool} {old} {new} {pipe} {chain} holds quota found owner items room empty_chain =
+    let owned = empty_chain.0 in
+    let empty = empty_chain.1 in
     let xs = old.open.items in
     let away = found_none pipe xs found in
     let none = none_open pool pipe xs away in

@@ -15,7 +15,7 @@ returns c =
     let ok : IsOk c.take.result = c.take.ensures.room.1 (subst
     (λ (bs : List ℕ). more_blocks (length (chain_bytes old chain)) (length bs) ≤ chain_spare old chain) (sym value)
     (room_for old c.args.self.now packet chain c.requires)) in
-    grows old new c.args.self.now packet chain after c.requires
+    grows c.requires
     (subst (λ (bs : List ℕ). Appends old new chain after bs) value
     (on_ok c.take.result (Appends old new chain after c.as_slice.result.now) ok c.take.ensures.ok))
     (on_ok c.take.result (chain_bytes new after ≡ chain_bytes old chain ++ c.as_slice.result.now) ok c.take.ensures.appended

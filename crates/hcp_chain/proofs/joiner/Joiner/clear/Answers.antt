@@ -16,8 +16,7 @@ give-requires c =
 
 pub loop-open-preserved : goal.loop-open-preserved
 loop-open-preserved c =
-    clears_more c.args.pool.now c.loop-open.pool c.give.new.self c.args.self.now.owner c.loop-open.self.owner c.args.self.now.open.items c.pop.new.self.items
-    c.in-Some.open
+    clears_more c.in-Some.open
     (subst
     (Clears c.args.pool.now c.loop-open.pool c.args.self.now.owner c.loop-open.self.owner c.args.self.now.open.items) c.in-Some.ensures.items
     c.loop-open.invariant)

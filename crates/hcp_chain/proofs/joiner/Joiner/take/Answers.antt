@@ -5,7 +5,7 @@ use Rattle.block_pool.specs.Pool.{PoolState, IsLive, IsApart, chain_bytes, used_
 use Rattle.hcp_chain.specs.declared.joiner.Open.{Open}
 use Rattle.hcp_chain.specs.Holding.{HoldsChains, IsApartFrom, held_blocks, whole_in}
 use Rattle.hcp_chain.proofs.HoldingLemmas.{all_map}
-use Rattle.hcp_chain.proofs.ClearLemmas.{all_given, ready_again}
+use Rattle.hcp_chain.proofs.ClearLemmas.{HasOneMore, all_given, ready_again}
 use Rattle.hcp_chain.proofs.joiner.Joiner.take.Goals as goal
 
 pub returns-then-len-gt-MAX_MESSAGE-clause-used : goal.returns-then-len-gt-MAX_MESSAGE-clause-used
@@ -21,12 +21,16 @@ returns-then-len-gt-MAX_MESSAGE-clause-used c =
     let cleared : done.new.pool.owners ≡ with_used c.give.new.self.owners owner (used_of c.give.new.self owner - held_blocks c.give.new.self left.open.items) =
     done.ensures.used
     ∙ ap (λ (o : ℕ). with_used c.give.new.self.owners o (used_of c.give.new.self o - held_blocks c.give.new.self left.open.items)) same_owner in
-    let given = all_given pool c.give.new.self done.new.pool owner chain left.open.items c.requires.has_quota out.owned
-    (subst (λ (o : ℕ). HoldsChains pool o left.open.items) same_owner out.holds)
-    (all_map (λ x. (x.pipe ≢ c.args.packet.now.pipe) × IsApart x.chain chain) (λ x. IsApart x.chain chain) left.open.items (λ x a. a.1) out.apart)
+    let more : HasOneMore pool owner chain left.open.items = record {
+      has_quota = c.requires.has_quota;
+      owned = out.owned;
+      holds = subst (λ (o : ℕ). HoldsChains pool o left.open.items) same_owner out.holds;
+      apart = all_map (λ x. (x.pipe ≢ c.args.packet.now.pipe) × IsApart x.chain chain) (λ x. IsApart x.chain chain) left.open.items (λ x a. a.1) out.apart;
+      used = c.requires.used ∙ sym out.blocks;
+    } in
+    let given = all_given done.new.pool more
     (subst (λ (v : PoolState). Gives v c.give.new.self chain) same c.give.ensures.given)
-    (subst (λ (v : PoolState). KeepsOthers v c.give.new.self chain chain) same c.give.ensures.others)
-    (c.requires.used ∙ sym out.blocks) cleared in
+    (subst (λ (v : PoolState). KeepsOthers v c.give.new.self chain chain) same c.give.ensures.others) cleared in
     let none : whole_in done.result ≡ [] = ap whole_in done.ensures.fault in
     given ∙ (ap (λ (ys : List Open). with_used pool.owners owner (held_blocks done.new.pool (ys ++ []))) (sym done.ensures.«open»)
     ∙ ap (λ (ys : List Open). with_used pool.owners owner (held_blocks done.new.pool (done.new.self.open.items ++ ys))) (sym none))

@@ -10,9 +10,7 @@ pub returns-in-Some-clause-some : goal.returns-in-Some-clause-some
 returns-in-Some-clause-some c =
     let found : position (λ (x : Open). eqb x.pipe c.args.pipe) c.args.self.now.open.items ≡ Some c.in-Some.at =
     ap (position (λ (x : Open). eqb x.pipe c.args.pipe)) (sym c.as_slice.ensures.value) ∙ (sym c.place_of.ensures ∙ c.in-Some.is) in
-    taken_out c.args.pool.now c.args.self.now
-    (record { owner = c.args.self.now.owner; «open» = c.remove.new.self }) c.args.pipe c.in-Some.at c.remove.result c.requires.holds found
-    c.remove.ensures.value refl c.remove.ensures.items
+    taken_out c.requires.holds found c.remove.ensures.value refl c.remove.ensures.items
     (let fits = c.as_slice.ensures.fits in let value = ap length c.as_slice.ensures.value in omega (arith, fits, value, c.remove.ensures.len))
 
 pub returns-in-None-clause-fifth : goal.returns-in-None-clause-fifth
@@ -30,6 +28,4 @@ returns-in-None-2-clause-some c =
     let fits = c.as_slice.ensures.fits in
     let value = ap length c.as_slice.ensures.value in
     let not_full = sym c.is_full.ensures.value ∙ c.if-is_full.false in
-    begun c.args.pool.now c.args.self.now
-    (record { owner = c.args.self.now.owner; «open» = c.args.self.now.open }) c.args.pipe c.chain.result c.requires.holds c.requires.quota found refl refl
-    (grind (arith, common_steps, fits, value, not_full)) c.chain.ensures.chain.0 c.chain.ensures.chain.1
+    begun c.requires.holds c.requires.quota found refl refl (grind (arith, common_steps, fits, value, not_full)) c.chain.ensures.chain
