@@ -45,6 +45,10 @@ front_apart xs (Some g) other a =
 pub held_both : (pool : PoolState) (xs ys : List Open) → held_blocks pool (xs ++ ys) ≡ held_blocks pool xs + held_blocks pool ys
 held_both pool xs ys = sum_by-append (λ (x : Open). blocks_for (length (chain_bytes pool x.chain))) xs ys
 
+-- where none came whole, all chains are of messages under way
+only_under_way : (box : Inbox) → box.got ≡ None → chains_in box ≡ box.joiner.open.items
+only_under_way box none = ap (λ g. box.joiner.open.items ++ got_chains g) none ∙ append-nil box.joiner.open.items
+
 -- the message that was got, where the chains under way changed
 pub got_kept : (old new : PoolState) (owner : ℕ) (before after : List Open) (got : Option Got) → KeepsOtherChains old new before after
     → HoldsChains old owner (before ++ got_chains got)
@@ -138,7 +142,7 @@ dropped_bad old new before whole h none bad gives keeps =
     let apart = apart_front xs whole h.holds.apart in
     let k = kept old new o whole.chain whole.chain xs keeps own.0
     (all_map (λ y. AreApart y whole) (λ y. IsApart y.chain whole.chain) xs (λ y a. a.chains) apart.1) in
-    let chains : chains_in before ≡ xs = ap (λ g. xs ++ got_chains g) none ∙ append-nil xs in
+    let chains = only_under_way before none in
     let owners : new.owners ≡ with_used old.owners o (used_of old o - n) = gives.owners ∙ ap (λ q. with_used old.owners q (used_of old q - n)) own.1.owned in
     let used : used_of new o ≡ used_of old o - n = ap (λ os. (owner_at os o).used) owners ∙ used-with_used old.owners o (used_of old o - n) h.has_quota in
     record {
@@ -183,7 +187,7 @@ can_take pool box lies ready = record {
 -- nothing came
 pub joins_none : (pool : PoolState) (box : Inbox) → InboxLiesIn pool box → IsInboxReady pool box → Joins pool pool box box []
 joins_none pool box lies ready =
-    let chains : chains_in box ≡ box.joiner.open.items = ap (λ g. box.joiner.open.items ++ got_chains g) ready.fetched ∙ append-nil box.joiner.open.items in
+    let chains = only_under_way box ready.fetched in
     record {
       lies = lies;
       joined = refl;
@@ -225,8 +229,7 @@ joins_more old new before joiner p lies ready t outcome =
     let o = before.joiner.owner in
     let c = counts old new before joiner p [] lies t in
     let all : joiner.open.items ++ got_chains before.got ≡ joiner.open.items ++ [] = ap (λ g. joiner.open.items ++ got_chains g) ready.fetched in
-    let before_chains : chains_in before ≡ before.joiner.open.items = ap (λ g. before.joiner.open.items ++ got_chains g) ready.fetched
-    ∙ append-nil before.joiner.open.items in
+    let before_chains = only_under_way before ready.fetched in
     record {
       lies = record {
         holds = subst (λ q. HoldsChains new q (joiner.open.items ++ got_chains before.got)) (sym t.owner) (subst (HoldsChains new o) (sym all) t.holds);
@@ -259,14 +262,13 @@ holds_whole old new before joiner p whole lies t =
       used = ap (λ q. used_of new q) t.owner ∙ c.2;
     }
 
-pub joins_whole : (old mid new : PoolState) (before after : Inbox) (joiner : Joiner) (p : Packet) (whole : Open) → InboxLiesIn old before
+pub joins_whole : {old mid new : PoolState} {before after : Inbox} {joiner : Joiner} {p : Packet} {whole : Open} → InboxLiesIn old before
     → IsInboxReady old before → TakesIn old mid before joiner p (whole ∷ [])
     → (join_step (messages_under_way old before) p).0 ≡ Ended whole.pipe (chain_bytes mid whole.chain) → after.joiner ≡ joiner
     → Keeps mid new (record before { joiner = joiner }) after whole → Joins old new before after (p ∷ [])
-joins_whole old mid new before after joiner p whole lies ready t outcome same k =
+joins_whole {old} {mid} {new} {before} {after} {joiner} {p} {whole} lies ready t outcome same k =
     let o = before.joiner.owner in
-    let before_chains : chains_in before ≡ before.joiner.open.items = ap (λ g. before.joiner.open.items ++ got_chains g) ready.fetched
-    ∙ append-nil before.joiner.open.items in
+    let before_chains = only_under_way before ready.fetched in
     let owner : after.joiner.owner ≡ joiner.owner = ap (λ (j : Joiner). j.owner) same in
     record {
       lies = k.lies;
@@ -316,8 +318,7 @@ joins_fault old new before joiner p lies ready t fault =
     let empty : joiner.open.items ≡ [] = none_open new joiner.open.items (t.under ∙ fault_empties (messages_under_way old before) p fault) in
     let all : joiner.open.items ++ got_chains before.got ≡ joiner.open.items ++ [] = ap (λ g. joiner.open.items ++ got_chains g) ready.fetched in
     let nothing : joiner.open.items ++ [] ≡ [] = ap (λ l. l ++ []) empty in
-    let before_chains : chains_in before ≡ before.joiner.open.items = ap (λ g. before.joiner.open.items ++ got_chains g) ready.fetched
-    ∙ append-nil before.joiner.open.items in
+    let before_chains = only_under_way before ready.fetched in
     record {
       lies = record {
         holds = subst (λ q. HoldsChains new q (joiner.open.items ++ got_chains before.got)) (sym t.owner) (subst (HoldsChains new o) (sym all) t.holds);

@@ -10,7 +10,7 @@ use Rattle.block_pool.specs.declared.chain.Chain.{Chain}
 use Rattle.block_pool.specs.declared.owners.Owner.{Owner}
 use Rattle.block_pool.specs.Slots.{blocks_for}
 use Rattle.block_pool.specs.Owners.{owner_at, with_used}
-use Rattle.block_pool.specs.Pool.{PoolState, HasQuota, quota_of, used_of, aside_of, IsLive, IsApart, chain_bytes, spare_of, chain_spare, more_blocks, KeepsOthers, Gives, Appends, Passes}
+use Rattle.block_pool.specs.Pool.{PoolState, HasQuota, quota_of, used_of, aside_of, IsLive, IsEmptyChain, IsApart, chain_bytes, spare_of, chain_spare, more_blocks, KeepsOthers, Gives, Appends, Passes}
 use Rattle.block_pool.specs.Names.{named_bytes}
 use Rattle.block_pool.specs.Holdings.{IsOwnChain, OwnsAll, LiesApart, LieApart, all_bytes, all_blocks}
 use Rattle.block_pool.proofs.HoldingLemmas.{kept_all, all_pushed, lie_apart_pushed, used-with_used, quota-with_used, length-with_used, with_used-with_used, with_used-same, other-with_used, apart_empty, lies_apart_by_owner}
@@ -55,12 +55,17 @@ pub none_first : (items : List Queued) → None ≡ slice_get items 0 → items 
 none_first [] e = refl
 none_first (x ∷ items) e = cc
 
+-- nothing but the queue changed
+pub record ChangesQueue (before after : Outbox) : Type 0 where
+  pub acked : after.acked ≡ before.acked
+  pub cut : after.cut ≡ before.cut
+  pub owner : after.owner ≡ before.owner
+
 -- a front whose blocks were given back
-pub gives_front : (old new : PoolState) (before after : Outbox) (q : Queued) → AreKept old before.owner before.queue
-    → before.queue.items ≡ q ∷ after.queue.items
-    → after.queue.capacity ≡ before.queue.capacity → after.acked ≡ before.acked → after.cut ≡ before.cut → after.owner ≡ before.owner
+pub gives_front : {old new : PoolState} {before after : Outbox} {q : Queued} → AreKept old before.owner before.queue
+    → before.queue.items ≡ q ∷ after.queue.items → after.queue.capacity ≡ before.queue.capacity → ChangesQueue before after
     → Gives old new q.chain → KeepsOthers old new q.chain q.chain → GivesFront old new before after
-gives_front old new before after q kept items capacity acked cut owner gives keeps =
+gives_front {old} {new} {before} {after} {q} kept items capacity same_places gives keeps =
     let o = before.owner in
     let rest = after.queue.items in
     let own : OwnsAll Queued chain_in old o (q ∷ rest) = subst (OwnsAll Queued chain_in old o) items kept.own in
@@ -91,10 +96,10 @@ gives_front old new before after q kept items capacity acked cut owner gives kee
     record {
       first = queued_message old q;
       messages = ap (messages_of_all old) items ∙ ap (λ ms. queued_message old q ∷ ms) (sym same);
-      kept = subst (λ p. AreKept new p after.queue) (sym owner) here;
-      acked = acked;
-      cut = cut;
-      owner = owner;
+      kept = subst (λ p. AreKept new p after.queue) (sym same_places.owner) here;
+      acked = same_places.acked;
+      cut = same_places.cut;
+      owner = same_places.owner;
       fewer = (let e = ap length items in omega (arith, e));
       elsewhere = record {
         owners = owners ∙ ap (with_used old.owners o) (sym used);
@@ -171,57 +176,70 @@ gives_none pool a lies = record {
 }
 
 -- a message in a chain of its own stands behind the others
-pub pushed : (old new : PoolState) (o : ℕ) (queue : Buffer Queued) (before after : Chain) (pipe : ℕ) (bytes : List ℕ) → AreKept old o queue
-    → KeepsOthers old new before after
-    → LiesApart Queued chain_in queue.items before → IsLive new after → after.owner ≡ o → chain_bytes new after ≡ bytes → IsSendable (pipe, bytes)
-    → HasQuota new o → quota_of new o ≡ quota_of old o → used_of new o ≡ used_of old o + blocks_for (length bytes) → aside_of new o ≡ aside_of old o
-    → used_of new o ≤ 128
-    → (length queue.items < 128)
-    × AreKept new o (buffer (queue.items ++ record { pipe = pipe; chain = after } ∷ []) queue.capacity)
-    × (messages_of_all new (queue.items ++ record { pipe = pipe; chain = after } ∷ []) ≡ messages_of_all old queue.items ++ (pipe, bytes) ∷ [])
-    × LiesApart Queued chain_in queue.items after
-pushed old new o queue before after pipe bytes kept keeps away live owned is sendable has quota used aside within =
+pub record IsPushed (old new : PoolState) (o : ℕ) (queue : Buffer Queued) (chain : Chain) (pipe : ℕ) (bytes : List ℕ) : Type 0 where
+  pub room : length queue.items < 128
+  pub kept : AreKept new o (buffer (queue.items ++ record { pipe = pipe; chain = chain } ∷ []) queue.capacity)
+  pub messages : messages_of_all new (queue.items ++ record { pipe = pipe; chain = chain } ∷ []) ≡ messages_of_all old queue.items ++ (pipe, bytes) ∷ []
+  pub apart : LiesApart Queued chain_in queue.items chain
+
+-- these bytes lie in a chain of an owner now, and its blocks are counted beside those that it used
+record LieInChain (old new : PoolState) (o : ℕ) (chain : Chain) (bytes : List ℕ) : Type 0 where
+  live : IsLive new chain
+  owned : chain.owner ≡ o
+  bytes_are : chain_bytes new chain ≡ bytes
+  has_quota : HasQuota new o
+  quota : quota_of new o ≡ quota_of old o
+  used : used_of new o ≡ used_of old o + blocks_for (length bytes)
+  aside : aside_of new o ≡ aside_of old o
+  within : used_of new o ≤ 128
+
+pushed : {old new : PoolState} {o : ℕ} {queue : Buffer Queued} {after : Chain} {bytes : List ℕ} (before : Chain) (pipe : ℕ) → AreKept old o queue
+    → KeepsOthers old new before after → LiesApart Queued chain_in queue.items before → LieInChain old new o after bytes → IsSendable (pipe, bytes)
+    → IsPushed old new o queue after pipe bytes
+pushed {old} {new} {o} {queue} {after} {bytes} before pipe kept keeps away c sendable =
     let xs = queue.items in
     let y : Queued = record { pipe = pipe; chain = after } in
     let both = kept_all Queued chain_in old new o before after xs keeps kept.own away in
     let same : messages_of_all new xs ≡ messages_of_all old xs = messages_same old new xs both.0.bytes in
     let sum = sum_by_push (λ (x : Queued). blocks_for (length (chain_bytes new x.chain))) xs y in
-    let size : blocks_for (length (chain_bytes new after)) ≡ blocks_for (length bytes) = ap (λ l. blocks_for (length l)) is in
+    let size : blocks_for (length (chain_bytes new after)) ≡ blocks_for (length bytes) = ap (λ l. blocks_for (length l)) c.bytes_are in
     let messages : messages_of_all new (xs ++ y ∷ []) ≡ messages_of_all old xs ++ (pipe, bytes) ∷ [] =
-    map_push (queued_message new) xs y ∙ (ap (λ ms. ms ++ (pipe, chain_bytes new after) ∷ []) same ∙ ap (λ l. messages_of_all old xs ++ (pipe, l) ∷ []) is) in
+    map_push (queued_message new) xs y
+    ∙ (ap (λ ms. ms ++ (pipe, chain_bytes new after) ∷ []) same ∙ ap (λ l. messages_of_all old xs ++ (pipe, l) ∷ []) c.bytes_are) in
     let each = each_has_block old xs kept.sendable in
-    let some = sendable.1 in (
-      omega (arith, each, some, used, within, kept.used),
-      record {
-        own = all_pushed Queued (λ x. IsOwnChain new o x.chain) xs y both.0.own (record { live = live; owned = owned });
+    let some = sendable.1 in
+    record {
+      room = omega (arith, each, some, c.used, c.within, kept.used);
+      kept = record {
+        own = all_pushed Queued (λ x. IsOwnChain new o x.chain) xs y both.0.own (record { live = c.live; owned = c.owned });
         apart = lie_apart_pushed Queued chain_in xs y kept.apart both.1;
-        sendable = subst AreSendable (sym messages) (all_sendable (messages_of_all old xs) (pipe, bytes) kept.sendable sendable);
+        sendable = subst AreSendable (sym messages) (all_pushed Message IsSendable (messages_of_all old xs) (pipe, bytes) kept.sendable sendable);
         capacity = kept.capacity;
-        has_quota = has;
-        quota = quota ∙ kept.quota;
-        used = omega (arith, used, aside, sum, size, both.0.blocks, kept.used);
-        within = within;
-      },
-      messages,
-      both.1,
-    )
-  where
-    all_sendable : (ms : List Message) (m : Message) → AreSendable ms → IsSendable m → AreSendable (ms ++ m ∷ [])
-    all_sendable ms m all here = all_pushed Message IsSendable ms m all here
+        has_quota = c.has_quota;
+        quota = c.quota ∙ kept.quota;
+        used = omega (arith, c.used, c.aside, sum, size, both.0.blocks, kept.used);
+        within = c.within;
+      };
+      messages = messages;
+      apart = both.1;
+    }
 
 -- what is kept with it lies in the pool
-pub accepted : (old new : PoolState) (before after : Outbox) (m : Message) → OutboxLiesIn old before → AreKept new after.owner after.queue
-    → queued_messages new after ≡ queued_messages old before ++ m ∷ []
-    → after.acked ≡ before.acked → after.cut ≡ before.cut → after.owner ≡ before.owner → Accepts old new before after m
-accepted old new before after m lies kept messages acked cut owner =
+pub accepted : {old new : PoolState} {before after : Outbox} {m : Message} → OutboxLiesIn old before → AreKept new after.owner after.queue
+    → queued_messages new after ≡ queued_messages old before ++ m ∷ [] → ChangesQueue before after → Accepts old new before after m
+accepted {old} {new} {before} {after} {m} lies kept messages same_places =
     let len = ap (λ l. length (fragments_of l)) messages ∙ length-push (queued_messages old before) m in
     record {
-      lies = record { kept = kept; acked = omega (arith, acked, cut, lies.acked); cut = omega (arith, len, cut, lies.cut) };
+      lies = record {
+        kept = kept;
+        acked = omega (arith, same_places.acked, same_places.cut, lies.acked);
+        cut = omega (arith, len, same_places.cut, lies.cut);
+      };
       messages = messages;
-      waiting = ap (λ n. drop n (fragments_of (queued_messages new after))) cut
+      waiting = ap (λ n. drop n (fragments_of (queued_messages new after))) same_places.cut
           ∙ (ap (λ l. drop before.cut (fragments_of l)) messages ∙ waiting-push (queued_messages old before) m before.cut lies.cut);
-      acked = acked;
-      owner = owner;
+      acked = same_places.acked;
+      owner = same_places.owner;
     }
 
 -- how far all were given back
@@ -261,14 +279,11 @@ apart_empty_all [] chain none = tt
 apart_empty_all (x ∷ xs) chain none = (apart_empty chain x.chain none, apart_empty_all xs chain none)
 
 -- a message was taken into a chain of its own
-pub taken_into : (old new : PoolState) (o : ℕ) (queue : Buffer Queued) (before after : Chain) (pipe : ℕ) (bytes : List ℕ) → AreKept old o queue
-    → before.owner ≡ o → before.first ≡ None
-    → IsSendable (pipe, bytes) → TakesInto old new before after bytes
-    → (length queue.items < 128)
-    × AreKept new o (buffer (queue.items ++ record { pipe = pipe; chain = after } ∷ []) queue.capacity)
-    × (messages_of_all new (queue.items ++ record { pipe = pipe; chain = after } ∷ []) ≡ messages_of_all old queue.items ++ (pipe, bytes) ∷ [])
-    × LiesApart Queued chain_in queue.items after
-taken_into old new o queue before after pipe bytes kept owned none sendable t =
+pub taken_into : {old new : PoolState} {o : ℕ} {queue : Buffer Queued} {before after : Chain} {bytes : List ℕ} (pipe : ℕ) → AreKept old o queue
+    → IsEmptyChain o before → IsSendable (pipe, bytes) → TakesInto old new before after bytes → IsPushed old new o queue after pipe bytes
+taken_into {old} {new} {o} {queue} {before} {bytes = bytes} pipe kept is_empty sendable t =
+    let owned = is_empty.0 in
+    let none = is_empty.1 in
     let empty : chain_bytes old before ≡ [] = ap (named_bytes old.slots) none in
     let n : more_blocks (length (chain_bytes old before)) (length bytes) ≡ blocks_for (length bytes) =
     ap (λ (l : List ℕ). more_blocks (length l) (length bytes)) empty ∙ omega arith in
@@ -284,8 +299,16 @@ taken_into old new o queue before after pipe bytes kept owned none sendable t =
     let has : HasQuota new o = omega (arith, ap length owners ∙ length-with_used old.owners o (used_of old o + blocks_for (length bytes)), kept.has_quota) in
     let room : blocks_for (length bytes) ≤ spare_of old o =
     subst (λ k. k ≤ spare_of old o) n (subst (λ p. more_blocks (length (chain_bytes old before)) (length bytes) ≤ spare_of old p) owned t.room) in
-    pushed old new o queue before after pipe bytes kept t.others (apart_empty_all queue.items before none) t.live (t.appends.owner ∙ owned)
-    (t.appended ∙ ap (λ (l : List ℕ). l ++ bytes) empty) sendable has quota used aside (omega (arith, used, room, kept.quota, kept.within))
+    pushed before pipe kept t.others (apart_empty_all queue.items before none) (record {
+      live = t.live;
+      owned = t.appends.owner ∙ owned;
+      bytes_are = t.appended ∙ ap (λ (l : List ℕ). l ++ bytes) empty;
+      has_quota = has;
+      quota = quota;
+      used = used;
+      aside = aside;
+      within = omega (arith, used, room, kept.quota, kept.within);
+    }) sendable
 
 -- ---- cutting
 
@@ -403,14 +426,11 @@ pub record PassesInto (old new : PoolState) (before after : Chain) (owner : ℕ)
   pub others : KeepsOthers old new before after
   pub room : blocks_for (length (chain_bytes old before)) ≤ spare_of old owner
 
-pub passed_into : (old new : PoolState) (o : ℕ) (queue : Buffer Queued) (before after : Chain) (pipe : ℕ) → AreKept old o queue → IsLive old before
-    → before.owner ≢ o
-    → IsSendable (pipe, chain_bytes old before) → PassesInto old new before after o
-    → (length queue.items < 128)
-    × AreKept new o (buffer (queue.items ++ record { pipe = pipe; chain = after } ∷ []) queue.capacity)
-    × (messages_of_all new (queue.items ++ record { pipe = pipe; chain = after } ∷ []) ≡ messages_of_all old queue.items ++ (pipe, chain_bytes old before) ∷ [])
+pub passed_into : {old new : PoolState} {o : ℕ} {queue : Buffer Queued} {before after : Chain} (pipe : ℕ) → AreKept old o queue → IsLive old before
+    → before.owner ≢ o → IsSendable (pipe, chain_bytes old before) → PassesInto old new before after o
+    → IsPushed old new o queue after pipe (chain_bytes old before)
     × LeavesOthersBut old new o before queue.items (queue.items ++ record { pipe = pipe; chain = after } ∷ [])
-passed_into old new o queue before after pipe kept live differ sendable t =
+passed_into {old} {new} {o} {queue} {before} {after} pipe kept live differ sendable t =
     let xs = queue.items in
     let n = blocks_for (length (chain_bytes old before)) in
     let without = with_used old.owners before.owner (used_of old before.owner - n) in
@@ -427,12 +447,17 @@ passed_into old new o queue before after pipe kept live differ sendable t =
     let len : length new.owners ≡ length old.owners = ap length owners
     ∙ (length-with_used without o more ∙ length-with_used old.owners before.owner (used_of old before.owner - n)) in
     let away = lies_apart_by_owner Queued chain_in old o xs before kept.own live differ in
-    let p = pushed old new o queue before after pipe (chain_bytes old before) kept t.others away t.live t.passes.owner_is t.same_bytes sendable
-    (omega (arith, len, kept.has_quota)) quota used aside
-    (omega (arith, used, t.room, kept.quota, kept.within)) in (
-      p.0,
-      p.1,
-      p.2,
+    let p = pushed before pipe kept t.others away (record {
+      live = t.live;
+      owned = t.passes.owner_is;
+      bytes_are = t.same_bytes;
+      has_quota = omega (arith, len, kept.has_quota);
+      quota = quota;
+      used = used;
+      aside = aside;
+      within = omega (arith, used, t.room, kept.quota, kept.within);
+    }) sendable in (
+      p,
       record {
         counts = λ q a b. ap (λ os. owner_at os q) owners
             ∙ (other-with_used without o more q a ∙ other-with_used old.owners before.owner (used_of old before.owner - n) q b);

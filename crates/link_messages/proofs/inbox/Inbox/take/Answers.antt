@@ -18,7 +18,7 @@ returns-in-Whole-clause-ok c =
     let packets : p ∷ [] ≡ option_to_list (packet_of c.args.info.now) = ap option_to_list (sym c.in-Ok.ensures.ok ∙ ap packet_of c.bytes.ensures.value) in
     let P : List Packet → Type 0 = λ l. Joins c.args.pool.now c.keep_good.new.pool before c.keep_good.new.self l in
     subst P packets
-    (joins_whole c.args.pool.now c.take.new.pool c.keep_good.new.pool before c.keep_good.new.self c.take.new.self p whole c.requires.lies c.requires.ready
+    (joins_whole c.requires.lies c.requires.ready
     (record { owner = e.owner; under = e.«open»; holds = e.holds; owners = e.used; others = e.others }) e.says k.joiner
     (record { lies = k.lies; under = k.«open»; got = k.got; used = k.used; elsewhere = k.elsewhere }))
 

@@ -12,10 +12,8 @@ push-requires c =
     let P : PoolState → Type 0 = λ p. TakesInto p c.take.new.self c.chain-chain.result c.take.new.chain c.args.message.now in
     let t =
     subst P c.chain-chain.ensures.unchanged (record { appends = e.ok; appended = e.appended; live = e.live; others = e.others; room = e.room.0 refl }) in
-    let into =
-    taken_into c.args.pool.now c.take.new.self old.owner old.queue c.chain-chain.result c.take.new.chain c.args.pipe c.args.message.now c.requires.lies.kept
-    c.chain-chain.ensures.chain.0 c.chain-chain.ensures.chain.1 c.requires.sendable t in
-    subst (λ n. length old.queue.items < n) (sym c.requires.lies.kept.capacity) into.0
+    let into = taken_into c.args.pipe c.requires.lies.kept c.chain-chain.ensures.chain c.requires.sendable t in
+    subst (λ n. length old.queue.items < n) (sym c.requires.lies.kept.capacity) into.room
 
 pub returns-clause-ok : goal.returns-clause-ok
 returns-clause-ok c =
@@ -24,9 +22,7 @@ returns-clause-ok c =
     let P : PoolState → Type 0 = λ p. TakesInto p c.take.new.self c.chain-chain.result c.take.new.chain c.args.message.now in
     let t =
     subst P c.chain-chain.ensures.unchanged (record { appends = e.ok; appended = e.appended; live = e.live; others = e.others; room = e.room.0 refl }) in
-    let into =
-    taken_into c.args.pool.now c.take.new.self old.owner old.queue c.chain-chain.result c.take.new.chain c.args.pipe c.args.message.now c.requires.lies.kept
-    c.chain-chain.ensures.chain.0 c.chain-chain.ensures.chain.1 c.requires.sendable t in
+    let into = taken_into c.args.pipe c.requires.lies.kept c.chain-chain.ensures.chain c.requires.sendable t in
     let Q : Outbox → Type 0 = λ b. Accepts c.args.pool.now c.take.new.self old b (c.args.pipe, c.args.message.now) in
     subst Q (sym c.push.ensures)
-    (accepted c.args.pool.now c.take.new.self old _ (c.args.pipe, c.args.message.now) c.requires.lies into.1 into.2 refl refl refl)
+    (accepted c.requires.lies into.kept into.messages (record { acked = refl; cut = refl; owner = refl }))

@@ -10,30 +10,27 @@ push-requires c =
     let old = c.args.self.now in
     let e = c.in-Ok.ensures in
     let into =
-    passed_into c.args.pool.now c.pass.new.self old.owner old.queue c.args.chain c.pass.new.chain c.args.pipe c.requires.lies.kept c.requires.live
-    c.requires.other c.requires.sendable
+    passed_into c.args.pipe c.requires.lies.kept c.requires.live c.requires.other c.requires.sendable
     (record { passes = e.ok; same_bytes = e.same_bytes; live = e.live; others = e.others; room = e.room.0 refl }) in
-    subst (λ n. length old.queue.items < n) (sym c.requires.lies.kept.capacity) into.0
+    subst (λ n. length old.queue.items < n) (sym c.requires.lies.kept.capacity) into.0.room
 
 pub returns-in-Ok-clause-ok : goal.returns-in-Ok-clause-ok
 returns-in-Ok-clause-ok c =
     let old = c.args.self.now in
     let e = c.in-Ok.ensures in
     let into =
-    passed_into c.args.pool.now c.pass.new.self old.owner old.queue c.args.chain c.pass.new.chain c.args.pipe c.requires.lies.kept c.requires.live
-    c.requires.other c.requires.sendable
+    passed_into c.args.pipe c.requires.lies.kept c.requires.live c.requires.other c.requires.sendable
     (record { passes = e.ok; same_bytes = e.same_bytes; live = e.live; others = e.others; room = e.room.0 refl }) in
     let Q : Outbox → Type 0 = λ b. Accepts c.args.pool.now c.pass.new.self old b (c.args.pipe, chain_bytes c.args.pool.now c.args.chain) in
     subst Q (sym c.push.ensures)
-    (accepted c.args.pool.now c.pass.new.self old _ (c.args.pipe, chain_bytes c.args.pool.now c.args.chain) c.requires.lies into.1 into.2 refl refl refl)
+    (accepted c.requires.lies into.0.kept into.0.messages (record { acked = refl; cut = refl; owner = refl }))
 
 pub returns-in-Ok-clause-elsewhere : goal.returns-in-Ok-clause-elsewhere
 returns-in-Ok-clause-elsewhere c =
     let old = c.args.self.now in
     let e = c.in-Ok.ensures in
     let into =
-    passed_into c.args.pool.now c.pass.new.self old.owner old.queue c.args.chain c.pass.new.chain c.args.pipe c.requires.lies.kept c.requires.live
-    c.requires.other c.requires.sendable
+    passed_into c.args.pipe c.requires.lies.kept c.requires.live c.requires.other c.requires.sendable
     (record { passes = e.ok; same_bytes = e.same_bytes; live = e.live; others = e.others; room = e.room.0 refl }) in
     let Q : Outbox → Type 0 = λ b. LeavesOthersBut c.args.pool.now c.pass.new.self old.owner c.args.chain old.queue.items b.queue.items in
-    subst Q (sym c.push.ensures) into.3
+    subst Q (sym c.push.ensures) into.1

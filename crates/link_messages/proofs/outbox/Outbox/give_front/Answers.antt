@@ -8,6 +8,7 @@ pub returns-in-Some-clause-given : goal.returns-in-Some-clause-given
 returns-in-Some-clause-given c =
     let q = c.in-Some.first in
     let old = c.args.self.now in
-    gives_front c.args.pool.now c.give.new.self old (record old { queue = c.pop_front.new.self }) q c.requires
+    gives_front c.requires
     (front_is old.queue.items q c.in-Some.ensures.value ∙ ap (λ (b : Buffer Queued). q ∷ b.items) (sym c.pop_front.ensures.items))
-    (ap (λ (b : Buffer Queued). b.capacity) c.pop_front.ensures.items) refl refl refl c.give.ensures.given c.give.ensures.others
+    (ap (λ (b : Buffer Queued). b.capacity) c.pop_front.ensures.items) (record { acked = refl; cut = refl; owner = refl })
+    c.give.ensures.given c.give.ensures.others
