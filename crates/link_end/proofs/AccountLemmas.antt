@@ -268,14 +268,14 @@ none_counted pool k owner none is unused =
     record { fetched = tt; used = omega (arith, held, used, unused) }
 
 -- the message that came whole was fetched, if one did
-pub record HasFetched (before after : Inbox) (x : Option (ℕ × Chain)) : Type 0 where
+pub record HasFetchedMessage (before after : Inbox) (x : Option (ℕ × Chain)) : Type 0 where
   pub joiner : after.joiner ≡ before.joiner
   pub fetched : after.got ≡ None
   pub some : IfSome x (λ y. before.got ≡ Some (record { pipe = y.0; chain = y.1 }))
   pub none : IfNone x (before.got ≡ None)
 
 pub fetched_counted : {pool : PoolState} {k : End} {inbox : Inbox} {m : Machine} {x : Option (ℕ × Chain)} → EndStandsFor k pool m → Accounts k pool None
-    → HasFetched k.inbox inbox x → Accounts (record k { inbox = inbox }) pool (option_map (λ y. y.1) x)
+    → HasFetchedMessage k.inbox inbox x → Accounts (record k { inbox = inbox }) pool (option_map (λ y. y.1) x)
 fetched_counted {pool} {k} {inbox} {x = None} h a f =
     let P : Inbox → Type 0 = λ b. Accounts (record k { inbox = b }) pool None in
     subst P (ap (λ j. record { joiner = j; got = k.inbox.got }) (sym f.joiner) ∙ ap (λ g. record { joiner = inbox.joiner; got = g }) (f.none ∙ sym f.fetched)) a
@@ -389,55 +389,52 @@ may_pass_on pool from to m n chain h a differ g =
     }
 
 -- an end has put a chain of another owner behind what it sends
-record HasAdopted (old new : PoolState) (k after : End) (owner : ℕ) (chain : Chain) : Type 0 where
-  live : IsLive old chain
-  owned : chain.owner ≡ owner
-  own : OwnsAll Queued chain_in old k.outbox.owner k.outbox.queue.items
-  leaves : LeavesOthersBut old new k.outbox.owner chain k.outbox.queue.items after.outbox.queue.items
+pub record HasAdopted (old new : PoolState) (k : End) (after : List Queued) (owner : ℕ) (chain : Chain) : Type 0 where
+  pub live : IsLive old chain
+  pub owned : chain.owner ≡ owner
+  pub own : OwnsAll Queued chain_in old k.outbox.owner k.outbox.queue.items
+  pub leaves : LeavesOthersBut old new k.outbox.owner chain k.outbox.queue.items after
 
-adopted : {old new : PoolState} {from k after : End} {m : Machine} {chain : Chain} → Accounts from old (Some chain) → EndStandsFor k old m
-    → LeavesOthersBut old new k.outbox.owner chain k.outbox.queue.items after.outbox.queue.items → HasAdopted old new k after from.inbox.joiner.owner chain
+pub adopted : {old new : PoolState} {from k : End} {after : List Queued} {m : Machine} {chain : Chain} → Accounts from old (Some chain)
+    → EndStandsFor k old m → LeavesOthersBut old new k.outbox.owner chain k.outbox.queue.items after
+    → HasAdopted old new k after from.inbox.joiner.owner chain
 adopted a h leaves = record { live = a.fetched.live; owned = a.fetched.owned; own = h.half.sends.lies.kept.own; leaves = leaves }
 
--- a chain that lies apart from it, of another owner than that of what is sent, has its bytes still
-stays_beside : {old new : PoolState} {k after : End} {owner : ℕ} {chain : Chain} → HasAdopted old new k after owner chain → (c : Chain) (p : ℕ) → IsLive old c
-    → c.owner ≡ p → k.outbox.owner ≢ p → IsApart c chain → Stays old new c
-stays_beside {old} {k = k} t c p live is differ apart =
-    let queue = lies_apart_by_owner Queued chain_in old k.outbox.owner k.outbox.queue.items c t.own live (λ e. differ (sym e ∙ is)) in
-    let s = t.leaves.others c live queue apart in
-    (s.0, s.1)
+module _ {old new : PoolState} {k : End} {after : List Queued} {owner : ℕ} {chain : Chain} (t : HasAdopted old new k after owner chain) where
+  -- a chain that lies apart from it, of another owner than that of what is sent, has its bytes still
+  stays_beside : (c : Chain) (p : ℕ) → IsLive old c → c.owner ≡ p → k.outbox.owner ≢ p → IsApart c chain → Stays old new c
+  stays_beside c p live is differ apart =
+      let queue = lies_apart_by_owner Queued chain_in old k.outbox.owner k.outbox.queue.items c t.own live (λ e. differ (sym e ∙ is)) in
+      let s = t.leaves.others c live queue apart in
+      (s.0, s.1)
 
--- so has a chain of a third owner
-stays_third : {old new : PoolState} {k after : End} {owner : ℕ} {chain : Chain} → HasAdopted old new k after owner chain → (c : Chain) (p : ℕ) → IsLive old c
-    → c.owner ≡ p → k.outbox.owner ≢ p → owner ≢ p → Stays old new c
-stays_third {old} {chain = chain} t c p live is differ third =
-    stays_beside t c p live is differ (apart_by_owner old c chain live t.live (λ e. third (sym t.owned ∙ (sym e ∙ is))))
+  -- so has a chain of a third owner
+  stays_third : (c : Chain) (p : ℕ) → IsLive old c → c.owner ≡ p → k.outbox.owner ≢ p → owner ≢ p → Stays old new c
+  stays_third c p live is differ third =
+      stays_beside c p live is differ (apart_by_owner old c chain live t.live (λ e. third (sym t.owned ∙ (sym e ∙ is))))
 
--- the blocks of the owner that had it
-giver_used : {old new : PoolState} {k after : End} {owner : ℕ} {chain : Chain} → HasAdopted old new k after owner chain
-    → used_of new owner ≡ used_of old owner - blocks_for (length (chain_bytes old chain))
-giver_used {old} {new} {chain = chain} t =
-    ap (used_of new) (sym t.owned) ∙ (t.leaves.giver_used ∙ ap (λ p. used_of old p - blocks_for (length (chain_bytes old chain))) t.owned)
+  -- the owner that had it uses its blocks no more
+  giver_used : used_of new owner ≡ used_of old owner - blocks_for (length (chain_bytes old chain))
+  giver_used = ap (used_of new) (sym t.owned) ∙ (t.leaves.giver_used ∙ ap (λ p. used_of old p - blocks_for (length (chain_bytes old chain))) t.owned)
 
 pub sent_back_own : (old new : PoolState) (k after : End) (m : Machine) (chain : Chain) → EndStandsFor k old m → Accounts k old (Some chain)
     → after.inbox ≡ k.inbox
     → LeavesOthersBut old new k.outbox.owner chain k.outbox.queue.items after.outbox.queue.items → Accounts after new None
 sent_back_own old new k after m chain h a inbox l =
     let i = k.inbox.joiner.owner in
-    let t = adopted {after = after} a h l in
+    let t = adopted a h l in
     let opens = all_joined Open (IsOwnOpen old i) (λ x. IsApart chain x.chain) (chains_in k.inbox) h.half.receives.lies.holds.own a.fetched.apart in
     let all = opens_passed old new i (λ x. IsApart chain x.chain) (chains_in k.inbox) opens
     (λ x own. stays_beside t x.chain i own.0.live own.0.owned h.half.differ (apart_turned chain x.chain own.1)) in
     let P : Inbox → Type 0 = λ b. used_of new b.joiner.owner ≡ held_blocks new (chains_in b) + 0 in
     record { fetched = tt; used = subst P (sym inbox) (omega (arith, giver_used t, a.used, all.blocks)) }
 
-pub passed_beside : (old new : PoolState) (from to after other : End) (n o : Machine) (chain : Chain) (theirs : Option Chain)
-    → Accounts from old (Some chain) → EndStandsFor to old n
-    → LeavesOthersBut old new to.outbox.owner chain to.outbox.queue.items after.outbox.queue.items → HaveOwners from other → HaveOwners to other
-    → EndStandsFor other old o → Accounts other old theirs
-    → EndStandsFor other new o × Accounts other new theirs
-passed_beside old new from to after other n o chain theirs a h l differ apart g b =
-    let t = adopted {after = after} a h l in
+-- another end, to whose owners the chain didn't go
+pub passed_beside : {old new : PoolState} {from k other : End} {after : List Queued} {o : Machine} {chain : Chain} {theirs : Option Chain}
+    → HasAdopted old new k after from.inbox.joiner.owner chain → HaveOwners from other → HaveOwners k other → EndStandsFor other old o
+    → Accounts other old theirs → EndStandsFor other new o × Accounts other new theirs
+passed_beside {old} {new} {other = other} {o = o} {theirs = theirs} t differ apart g b =
+    let l = t.leaves in
     both_stay old new other o theirs g b (record {
       first = λ x live is. stays_third t x other.outbox.owner live is apart.senders differ.from;
       second = λ x live is. stays_third t x other.inbox.joiner.owner live is apart.to differ.receivers;
@@ -446,18 +443,11 @@ passed_beside old new from to after other n o chain theirs a h l differ apart g 
       lengths = l.lengths;
     })
 
-pub sent_back_beside : (old new : PoolState) (k after other : End) (m n : Machine) (chain : Chain) (theirs : Option Chain) → EndStandsFor k old m
-    → Accounts k old (Some chain)
-    → LeavesOthersBut old new k.outbox.owner chain k.outbox.queue.items after.outbox.queue.items → HaveOwners k other → EndStandsFor other old n
-    → Accounts other old theirs
-    → EndStandsFor other new n × Accounts other new theirs
-sent_back_beside old new k after other m n chain theirs h a l differ g b = passed_beside old new k k after other m n chain theirs a h l differ differ g b
-
 pub passed_giver : (old new : PoolState) (from to after : End) (m n : Machine) (chain : Chain) → EndStandsFor from old m
     → Accounts from old (Some chain) → HaveOwners from to → EndStandsFor to old n
     → LeavesOthersBut old new to.outbox.owner chain to.outbox.queue.items after.outbox.queue.items → EndStandsFor from new m × Accounts from new None
 passed_giver old new from to after m n chain h a differ g l =
-    let t = adopted {after = after} a g l in
+    let t = adopted a g l in
     goes_own h a (record {
       apart = λ c live apart which. elim which [
         | inl is ↦ stays_beside t c from.outbox.owner live is (λ e. differ.senders (sym e)) apart
@@ -475,7 +465,7 @@ pub passed_taker : (old new : PoolState) (from to after : End) (n : Machine) (ch
     → Accounts after new theirs
 passed_taker old new from to after n chain theirs a differ g b inbox l =
     let i = to.inbox.joiner.owner in
-    let t = adopted {after = after} a g l in
+    let t = adopted a g l in
     let stay : (c : Chain) → IsLive old c → c.owner ≡ i → Stays old new c = λ c live is. stays_third t c i live is g.half.differ differ.receivers in
     let own = g.half.receives.lies.holds.own in
     let all = opens_stay old new i (chains_in to.inbox) own (all_mapped Open (IsOwnOpen old i) (λ x. Stays old new x.chain) (chains_in to.inbox)

@@ -86,27 +86,26 @@ pub record HasTaken (k : End) (pool : PoolState) (m : Machine) (c : Control) (s 
   pub stands : (e : EndState) → ShdlcStandsFor k.shdlc e → ShdlcStandsFor s (taken e c)
   pub answer : (e : EndState) → ShdlcStandsFor k.shdlc e → t ≡ take_answer e c
 
-took_answer : {k : End} {pool : PoolState} {m : Machine} {c : Control} {s : KeptEnd} {t : Taken} → HasTaken k pool m c s t → t ≡ take_answer m.shdlc c
-took_answer {m = m} {c = c} h =
-    let link = h.before.half.link in
-    h.answer (with_out m.shdlc link.offered) link.kept ∙ (taken_alike m.shdlc link.offered c).answer
+module _ {k : End} {pool : PoolState} {m : Machine} {c : Control} {s : KeptEnd} {t : Taken} (h : HasTaken k pool m c s t) where
+  took_answer : t ≡ take_answer m.shdlc c
+  took_answer =
+      let link = h.before.half.link in
+      h.answer (with_out m.shdlc link.offered) link.kept ∙ (taken_alike m.shdlc link.offered c).answer
 
--- whether it ended the session
-ended_by : {k : End} {pool : PoolState} {m : Machine} {c : Control} {s : KeptEnd} {t : Taken} {b : Bool} → HasTaken k pool m c s t → is_some t.ended ≡ b
-    → ended_in m c ≡ b
-ended_by h ended = sym (ap (λ (x : Taken). is_some x.ended) (took_answer h)) ∙ ended
+  -- whether it ended the session
+  ended_by : {b : Bool} → is_some t.ended ≡ b → ended_in m c ≡ b
+  ended_by ended = sym (ap (λ (x : Taken). is_some x.ended) took_answer) ∙ ended
 
--- what the SHDLC end stands for then
-took_link : {k : End} {pool : PoolState} {m : Machine} {c : Control} {s : KeptEnd} {t : Taken} {b : Bool} → HasTaken k pool m c s t → ended_in m c ≡ b
-    → StandsBefore s (left_waiting b (waiting_in pool k.outbox)) (taken m.shdlc c)
-took_link {k} {pool} {m} {c} {s} h over =
-    let link = h.before.half.link in
-    let waiting = waiting_in pool k.outbox in
-    let on = takes_on m.shdlc c link.session in
-    let P : List Fragment → Type 0 = λ w. StandsBefore s w (taken m.shdlc c) in
-    subst P (on.waiting waiting (λ other. stands_idle k.shdlc waiting m.shdlc link (λ up. other (sym link.kept.phase ∙ up)))
-    ∙ ap (λ b. left_waiting b waiting) over)
-    (stands_taken k.shdlc s waiting m.shdlc c link (h.stands (with_out m.shdlc link.offered) link.kept))
+  -- what the SHDLC end stands for then
+  took_link : {b : Bool} → ended_in m c ≡ b → StandsBefore s (left_waiting b (waiting_in pool k.outbox)) (taken m.shdlc c)
+  took_link over =
+      let link = h.before.half.link in
+      let waiting = waiting_in pool k.outbox in
+      let on = takes_on m.shdlc c link.session in
+      let P : List Fragment → Type 0 = λ w. StandsBefore s w (taken m.shdlc c) in
+      subst P (on.waiting waiting (λ other. stands_idle k.shdlc waiting m.shdlc link (λ up. other (sym link.kept.phase ∙ up)))
+      ∙ ap (λ b. left_waiting b waiting) over)
+      (stands_taken k.shdlc s waiting m.shdlc c link (h.stands (with_out m.shdlc link.offered) link.kept))
 
 -- ---- a session that the frame ends
 
@@ -122,50 +121,50 @@ heard-over m c over acc =
 pub over_acc : (m : Machine) (c : Control) → TakesOn m.shdlc c → ended_in m c ≡ true → (taken m.shdlc c).session.acc ≡ []
 over_acc m c on over = on.acc ∙ ap (λ b. left_waiting b (m.shdlc.session.acc ++ option_to_list (take_answer m.shdlc c).accepted)) over
 
-pub over_stands : {k k1 : End} {pool new : PoolState} {m : Machine} {c : Control} {s : KeptEnd} {t : Taken} → HasTaken k pool m c s t
-    → is_some t.ended ≡ true → ForgetsMessages pool new (record k { shdlc = s }) k1 → EndStandsFor k1 new (heard m c)
-over_stands {k1 = k1} {new = new} {m = m} {c = c} h ended f =
-    let on = takes_on m.shdlc c h.before.half.link.session in
-    let over = ended_by h ended in
-    let acc = over_acc m c on over in
-    let P : Machine → Type 0 = λ x. EndStandsFor k1 new x in
-    subst P (sym (heard-over m c over acc)) (session_ended (carries h.before.half) f (record {
-      stands = took_link h over;
-      out = on.out ∙ ap (λ b. left_waiting b m.shdlc.session.out) over;
-      acked = on.acked ∙ ap (λ b. if b then 0 else m.shdlc.session.acked + (take_answer m.shdlc c).acked) over;
-      acc = acc;
-    }))
+module _ {k : End} {pool : PoolState} {m : Machine} {c : Control} {s : KeptEnd} {t : Taken} (h : HasTaken k pool m c s t) where
+  pub over_stands : {k1 : End} {new : PoolState} → is_some t.ended ≡ true → ForgetsMessages pool new (record k { shdlc = s }) k1
+      → EndStandsFor k1 new (heard m c)
+  over_stands {k1} {new} ended f =
+      let on = takes_on m.shdlc c h.before.half.link.session in
+      let over = ended_by h ended in
+      let acc = over_acc m c on over in
+      let P : Machine → Type 0 = λ x. EndStandsFor k1 new x in
+      subst P (sym (heard-over m c over acc)) (session_ended (carries h.before.half) f (record {
+        stands = took_link h over;
+        out = on.out ∙ ap (λ b. left_waiting b m.shdlc.session.out) over;
+        acked = on.acked ∙ ap (λ b. if b then 0 else m.shdlc.session.acked + (take_answer m.shdlc c).acked) over;
+        acc = acc;
+      }))
 
-pub over_told : {k : End} {pool : PoolState} {m : Machine} {c : Control} {s : KeptEnd} {t : Taken} {n : LinkReport} → HasTaken k pool m c s t
-    → is_some t.ended ≡ true → n ≡ nothing_told → record n { ended = t.ended; began = t.began } ≡ heard_told m c
-over_told {m = m} {c = c} {t = t} h ended none =
-    let e = taken m.shdlc c in
-    let on = takes_on m.shdlc c h.before.half.link.session in
-    let over = ended_by h ended in
-    let acc = over_acc m c on over in
-    let faulty : is_faulty e.session ≡ false = ap (λ l. not (are_taken [] (packets_in l))) acc in
-    let acked : whole_acked (heard m c) - whole_acked m ≡ 0 = ap (λ x. whole_acked x - whole_acked m) (heard-over m c over acc) ∙ omega arith in
-    let got : is_some (oldest (if is_faulty e.session then [] else news m.shdlc.session e)) ≡ false =
-    ap (λ b. is_some (oldest (if b then [] else news m.shdlc.session e))) faulty ∙ ap (λ l. is_some (oldest l)) (empty_news m.shdlc.session e acc) in
-    let cause : (if is_faulty e.session then Some Chain else (take_answer m.shdlc c).ended) ≡ (take_answer m.shdlc c).ended =
-    ap (λ b. if b then Some Chain else (take_answer m.shdlc c).ended) faulty in
-    ap (λ (x : LinkReport). record x { ended = t.ended; began = t.began }) none
-    ∙ (ap (λ (x : Taken). record nothing_told { ended = x.ended; began = x.began }) (took_answer h)
-    ∙ sym (ap (λ (x : Option Cause). record nothing_told {
-      ended = x;
-      began = (take_answer m.shdlc c).began;
-      acked =
-          whole_acked (heard m c) - whole_acked m;
-      got = is_some (oldest (if is_faulty e.session then [] else news m.shdlc.session e));
-    }) cause
-    ∙ (ap (λ (x : ℕ). record nothing_told {
-      ended = (take_answer m.shdlc c).ended;
-      began = (take_answer m.shdlc c).began;
-      acked = x;
-      got =
-          is_some (oldest (if is_faulty e.session then [] else news m.shdlc.session e));
-    }) acked
-    ∙ ap (λ (x : Bool). record nothing_told { ended = (take_answer m.shdlc c).ended; began = (take_answer m.shdlc c).began; acked = 0; got = x }) got)))
+  pub over_told : {n : LinkReport} → is_some t.ended ≡ true → n ≡ nothing_told → record n { ended = t.ended; began = t.began } ≡ heard_told m c
+  over_told ended none =
+      let e = taken m.shdlc c in
+      let on = takes_on m.shdlc c h.before.half.link.session in
+      let over = ended_by h ended in
+      let acc = over_acc m c on over in
+      let faulty : is_faulty e.session ≡ false = ap (λ l. not (are_taken [] (packets_in l))) acc in
+      let acked : whole_acked (heard m c) - whole_acked m ≡ 0 = ap (λ x. whole_acked x - whole_acked m) (heard-over m c over acc) ∙ omega arith in
+      let got : is_some (oldest (if is_faulty e.session then [] else news m.shdlc.session e)) ≡ false =
+      ap (λ b. is_some (oldest (if b then [] else news m.shdlc.session e))) faulty ∙ ap (λ l. is_some (oldest l)) (empty_news m.shdlc.session e acc) in
+      let cause : (if is_faulty e.session then Some Chain else (take_answer m.shdlc c).ended) ≡ (take_answer m.shdlc c).ended =
+      ap (λ b. if b then Some Chain else (take_answer m.shdlc c).ended) faulty in
+      ap (λ (x : LinkReport). record x { ended = t.ended; began = t.began }) none
+      ∙ (ap (λ (x : Taken). record nothing_told { ended = x.ended; began = x.began }) (took_answer h)
+      ∙ sym (ap (λ (x : Option Cause). record nothing_told {
+        ended = x;
+        began = (take_answer m.shdlc c).began;
+        acked =
+            whole_acked (heard m c) - whole_acked m;
+        got = is_some (oldest (if is_faulty e.session then [] else news m.shdlc.session e));
+      }) cause
+      ∙ (ap (λ (x : ℕ). record nothing_told {
+        ended = (take_answer m.shdlc c).ended;
+        began = (take_answer m.shdlc c).began;
+        acked = x;
+        got =
+            is_some (oldest (if is_faulty e.session then [] else news m.shdlc.session e));
+      }) acked
+      ∙ ap (λ (x : Bool). record nothing_told { ended = (take_answer m.shdlc c).ended; began = (take_answer m.shdlc c).began; acked = 0; got = x }) got)))
 
 -- ---- what is acknowledged
 

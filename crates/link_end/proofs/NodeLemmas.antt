@@ -227,14 +227,14 @@ fetched_acc e [] (Some f) s = rw s
 fetched_acc e (d ∷ due) q s = refl
 
 -- the SHDLC end of a link end was asked for its next frame, where no ACT frame is next
-pub record HasFetched (k : End) (s : KeptEnd) (acts : ArrayVec ActDue) (frame : Option Control) : Type 0 where
+pub record HasFetchedFrame (k : End) (s : KeptEnd) (acts : ArrayVec ActDue) (frame : Option Control) : Type 0 where
   pub front : None ≡ front_act k.acts.items
   pub nearer : acts.items ≡ map kept_nearer (behind_front k.acts.items)
   pub frame_is : (e : EndState) → ShdlcStandsFor k.shdlc e → frame ≡ frame_due e
   pub stands : (e : EndState) → ShdlcStandsFor k.shdlc e → ShdlcStandsFor s (fetched e)
 
 pub link_sent : {pool : PoolState} {k : End} {s : KeptEnd} {acts : ArrayVec ActDue} {m : Machine} {frame : Option Control} → EndStandsFor k pool m
-    → HasFetched k s acts frame → (frame ≡ next_frame m) × EndStandsFor (record k { shdlc = s; acts = acts }) pool (frame_fetched m)
+    → HasFetchedFrame k s acts frame → (frame ≡ next_frame m) × EndStandsFor (record k { shdlc = s; acts = acts }) pool (frame_fetched m)
 link_sent {pool} {k} {s} {acts} {m} h f =
     let before = h.half in
     let link = before.link in

@@ -107,43 +107,6 @@ alike pool k m h =
     let next = link.kept.sender.next in
     ticked_alike m.shdlc link.offered (waiting_in pool k.outbox) link.out h.full (omega arith)
 
--- the SHDLC end of a link end took a tick, and answered this
-pub record HasTicked (k : End) (pool : PoolState) (m : Machine) (s : KeptEnd) (t : Ticked) : Type 0 where
-  pub before : EndStandsFor k pool m
-  pub stands : (e : EndState) → ShdlcStandsFor k.shdlc e → ShdlcStandsFor s (ticked e)
-  pub answer : (e : EndState) → ShdlcStandsFor k.shdlc e → t ≡ tick_answer e
-
-ticked_answer : {k : End} {pool : PoolState} {m : Machine} {s : KeptEnd} {t : Ticked} → HasTicked k pool m s t → t ≡ tick_answer m.shdlc
-ticked_answer {k} {pool} {m} h = h.answer (with_out m.shdlc h.before.half.link.offered) h.before.half.link.kept ∙ (alike pool k m h.before).answer
-
--- whether it ended the session
-ended_by_tick : {k : End} {pool : PoolState} {m : Machine} {s : KeptEnd} {t : Ticked} {b : Bool} → HasTicked k pool m s t → is_some t.ended ≡ b
-    → is_some (tick_answer m.shdlc).ended ≡ b
-ended_by_tick h ended = sym (ap (λ (x : Ticked). is_some x.ended) (ticked_answer h)) ∙ ended
-
--- what the SHDLC end stands for then
-ticked_link : {k : End} {pool : PoolState} {m : Machine} {s : KeptEnd} {t : Ticked} {b : Bool} → HasTicked k pool m s t → is_some t.ended ≡ b
-    → StandsBefore s (left_waiting b (waiting_in pool k.outbox)) (ticked m.shdlc)
-ticked_link {k} {pool} {m} {s} h ended =
-    let link = h.before.half.link in
-    let waiting = waiting_in pool k.outbox in
-    let P : Bool → Type 0 = λ b. StandsBefore s (left_waiting b waiting) (ticked m.shdlc) in
-    subst P (ended_by_tick h ended) (stands_ticked k.shdlc s waiting m.shdlc (record { stands = link; full = h.before.full })
-    (h.stands (with_out m.shdlc link.offered) link.kept))
-
-pub tick_ends : {pool new : PoolState} {k k1 : End} {m : Machine} {s : KeptEnd} {t : Ticked} → HasTicked k pool m s t → is_some t.ended ≡ true
-    → ForgetsMessages pool new (record k { shdlc = s }) k1 → EndStandsFor k1 new (moved m (is_some (tick_answer m.shdlc).ended) (ticked m.shdlc))
-tick_ends {pool} {new} {k} {k1} {m} h ended f =
-    let a = alike pool k m h.before in
-    let over = ended_by_tick h ended in
-    let P : Bool → Type 0 = λ b. EndStandsFor k1 new (moved m b (ticked m.shdlc)) in
-    subst P (sym over) (session_ended (carries h.before.half) f (record {
-      stands = ticked_link h ended;
-      out = a.out ∙ ap (λ b. left_waiting b m.shdlc.session.out) over;
-      acked = a.acked ∙ ap (λ b. if b then 0 else m.shdlc.session.acked) over;
-      acc = a.acc ∙ ap (λ b. left_waiting b m.shdlc.session.acc) over;
-    }))
-
 -- another state of the SHDLC end in the same session
 pub same_session : {pool : PoolState} {k : End} {s : KeptEnd} {m : Machine} {e : EndState} → Halfway k pool m → StandsBefore s (waiting_in pool k.outbox) e
     → e.session.out ≡ m.shdlc.session.out → e.session.acked ≡ m.shdlc.session.acked → e.session.acc ≡ m.shdlc.session.acc
@@ -170,17 +133,58 @@ same_session {m = m} before link out acked acc = record {
   differ = before.differ;
 }
 
-pub tick_goes_on : {pool : PoolState} {k : End} {m : Machine} {s : KeptEnd} {t : Ticked} → HasTicked k pool m s t → is_some t.ended ≡ false
-    → Halfway (record k { shdlc = s }) pool (moved m (is_some (tick_answer m.shdlc).ended) (ticked m.shdlc))
-tick_goes_on {pool} {k} {m} {s} h going =
-    let a = alike pool k m h.before in
-    let over = ended_by_tick h going in
-    let P : Bool → Type 0 = λ b. Halfway (record k { shdlc = s }) pool (moved m b (ticked m.shdlc)) in
-    subst P (sym over)
-    (same_session h.before.half (ticked_link h going)
-    (a.out ∙ ap (λ b. left_waiting b m.shdlc.session.out) over)
-    (a.acked ∙ ap (λ b. if b then 0 else m.shdlc.session.acked) over)
-    (a.acc ∙ ap (λ b. left_waiting b m.shdlc.session.acc) over))
+-- the SHDLC end of a link end took a tick, and answered this
+pub record HasTicked (k : End) (pool : PoolState) (m : Machine) (s : KeptEnd) (t : Ticked) : Type 0 where
+  pub before : EndStandsFor k pool m
+  pub stands : (e : EndState) → ShdlcStandsFor k.shdlc e → ShdlcStandsFor s (ticked e)
+  pub answer : (e : EndState) → ShdlcStandsFor k.shdlc e → t ≡ tick_answer e
+
+module _ {k : End} {pool : PoolState} {m : Machine} {s : KeptEnd} {t : Ticked} (h : HasTicked k pool m s t) where
+  ticked_answer : t ≡ tick_answer m.shdlc
+  ticked_answer = h.answer (with_out m.shdlc h.before.half.link.offered) h.before.half.link.kept ∙ (alike pool k m h.before).answer
+
+  -- whether it ended the session
+  ended_by_tick : {b : Bool} → is_some t.ended ≡ b → is_some (tick_answer m.shdlc).ended ≡ b
+  ended_by_tick ended = sym (ap (λ (x : Ticked). is_some x.ended) ticked_answer) ∙ ended
+
+  -- what the SHDLC end stands for then
+  ticked_link : {b : Bool} → is_some t.ended ≡ b → StandsBefore s (left_waiting b (waiting_in pool k.outbox)) (ticked m.shdlc)
+  ticked_link ended =
+      let link = h.before.half.link in
+      let waiting = waiting_in pool k.outbox in
+      let P : Bool → Type 0 = λ b. StandsBefore s (left_waiting b waiting) (ticked m.shdlc) in
+      subst P (ended_by_tick ended) (stands_ticked k.shdlc s waiting m.shdlc (record { stands = link; full = h.before.full })
+      (h.stands (with_out m.shdlc link.offered) link.kept))
+
+  pub tick_ends : {new : PoolState} {k1 : End} → is_some t.ended ≡ true → ForgetsMessages pool new (record k { shdlc = s }) k1
+      → EndStandsFor k1 new (moved m (is_some (tick_answer m.shdlc).ended) (ticked m.shdlc))
+  tick_ends {new} {k1} ended f =
+      let a = alike pool k m h.before in
+      let over = ended_by_tick ended in
+      let P : Bool → Type 0 = λ b. EndStandsFor k1 new (moved m b (ticked m.shdlc)) in
+      subst P (sym over) (session_ended (carries h.before.half) f (record {
+        stands = ticked_link ended;
+        out = a.out ∙ ap (λ b. left_waiting b m.shdlc.session.out) over;
+        acked = a.acked ∙ ap (λ b. if b then 0 else m.shdlc.session.acked) over;
+        acc = a.acc ∙ ap (λ b. left_waiting b m.shdlc.session.acc) over;
+      }))
+
+  pub tick_goes_on : is_some t.ended ≡ false → Halfway (record k { shdlc = s }) pool (moved m (is_some (tick_answer m.shdlc).ended) (ticked m.shdlc))
+  tick_goes_on going =
+      let a = alike pool k m h.before in
+      let over = ended_by_tick going in
+      let P : Bool → Type 0 = λ b. Halfway (record k { shdlc = s }) pool (moved m b (ticked m.shdlc)) in
+      subst P (sym over)
+      (same_session h.before.half (ticked_link going)
+      (a.out ∙ ap (λ b. left_waiting b m.shdlc.session.out) over)
+      (a.acked ∙ ap (λ b. if b then 0 else m.shdlc.session.acked) over)
+      (a.acc ∙ ap (λ b. left_waiting b m.shdlc.session.acc) over))
+
+  pub tick_told : {n : LinkReport} → n ≡ nothing_told
+      → record n { ended = t.ended; gave_up = t.gave_up } ≡ record nothing_told { ended = (tick_answer m.shdlc).ended; gave_up = (tick_answer m.shdlc).gave_up }
+  tick_told none =
+      ap (λ (x : LinkReport). record x { ended = t.ended; gave_up = t.gave_up }) none
+      ∙ ap (λ (x : Ticked). record nothing_told { ended = x.ended; gave_up = x.gave_up }) ticked_answer
 
 -- ---- a frame of SHDLC at an end that is open or not
 
@@ -199,12 +203,6 @@ unheard_after m (Rset window caps) f o = ap (λ b. if b then heard m (Rset windo
 unheard_after m Ua f o = ap (λ b. if b then heard m Ua else m) o
 unheard_after m (ActFrame act again) f o = absurd f
 unheard_after m Clt f o = absurd f
-
-pub tick_told : {pool : PoolState} {k : End} {m : Machine} {s : KeptEnd} {t : Ticked} {n : LinkReport} → HasTicked k pool m s t → n ≡ nothing_told
-    → record n { ended = t.ended; gave_up = t.gave_up } ≡ record nothing_told { ended = (tick_answer m.shdlc).ended; gave_up = (tick_answer m.shdlc).gave_up }
-tick_told {t = t} h none =
-    ap (λ (x : LinkReport). record x { ended = t.ended; gave_up = t.gave_up }) none
-    ∙ ap (λ (x : Ticked). record nothing_told { ended = x.ended; gave_up = x.gave_up }) (ticked_answer h)
 
 -- ---- activation
 
