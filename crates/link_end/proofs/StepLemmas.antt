@@ -55,58 +55,6 @@ passed pool k p m is h =
       full = h.full;
     }
 
-acc_in : (e : EndState) (old new answered : Bool)
-    → (with_ready (record e { ready = old; session = record e.session { answered_rnr = answered } }) new).session.acc ≡ e.session.acc
-acc_in e true true a = refl
-acc_in e false false a = refl
-acc_in e true false a = refl
-acc_in e false true true = refl
-acc_in e false true false = refl
-
-pub held : (pool : PoolState) (k : End) (s : KeptEnd) (m : Machine) (r : Bool)
-    → ((e : EndState) → ShdlcStandsFor k.shdlc e → ShdlcStandsFor s (with_ready e r)) → EndStandsFor k pool m
-    → EndStandsFor (record k { shdlc = s }) pool (record m { shdlc = with_ready m.shdlc r })
-held pool k s m r readies h =
-    let before = h.half in
-    let link = before.link in
-    let a = ready_alike m.shdlc link.offered r in
-    let w = stands_ready k.shdlc s (waiting_in pool k.outbox) m.shdlc r (record { stands = link; full = h.full })
-    (readies (with_out m.shdlc link.offered) link.kept) in
-    let acc = acc_in m.shdlc m.shdlc.ready r m.shdlc.session.answered_rnr in
-    let acked : m.shdlc.session.acked ≡ (with_ready m.shdlc r).session.acked = sym a.acked in
-    record {
-      half = record {
-        role = before.role;
-        link = w.stands;
-        acts = before.acts;
-        sends = record {
-          lies = before.sends.lies;
-          all = before.sends.all;
-          out = a.out ∙ before.sends.out;
-          messages = before.sends.messages ∙ ap (λ n. drop (whole_among m.sent n) m.sent) acked;
-          acked = before.sends.acked ∙ ap (rest_among m.sent) acked;
-        };
-        receives = record {
-          lies = before.receives.lies;
-          under = before.receives.under ∙ sym (ap (λ l. open_after [] (packets_in l)) acc);
-          sound = ap (λ l. are_taken [] (packets_in l)) acc ∙ before.receives.sound;
-        };
-        got = before.got;
-        aside = before.aside;
-        passed_over = before.passed_over;
-        differ = before.differ;
-      };
-      full = w.full;
-    }
-
--- ---- a tick
-
-alike : (pool : PoolState) (k : End) (m : Machine) (h : EndStandsFor k pool m) → TicksAlike m.shdlc h.half.link.offered
-alike pool k m h =
-    let link = h.half.link in
-    let next = link.kept.sender.next in
-    ticked_alike m.shdlc link.offered (waiting_in pool k.outbox) link.out h.full (omega arith)
-
 -- another state of the SHDLC end in the same session
 pub same_session : {pool : PoolState} {k : End} {s : KeptEnd} {m : Machine} {e : EndState} → Halfway k pool m → StandsBefore s (waiting_in pool k.outbox) e
     → e.session.out ≡ m.shdlc.session.out → e.session.acked ≡ m.shdlc.session.acked → e.session.acc ≡ m.shdlc.session.acc
@@ -132,6 +80,33 @@ same_session {m = m} before link out acked acc = record {
   passed_over = before.passed_over;
   differ = before.differ;
 }
+
+acc_in : (e : EndState) (old new answered : Bool)
+    → (with_ready (record e { ready = old; session = record e.session { answered_rnr = answered } }) new).session.acc ≡ e.session.acc
+acc_in e true true a = refl
+acc_in e false false a = refl
+acc_in e true false a = refl
+acc_in e false true true = refl
+acc_in e false true false = refl
+
+pub held : (pool : PoolState) (k : End) (s : KeptEnd) (m : Machine) (r : Bool)
+    → ((e : EndState) → ShdlcStandsFor k.shdlc e → ShdlcStandsFor s (with_ready e r)) → EndStandsFor k pool m
+    → EndStandsFor (record k { shdlc = s }) pool (record m { shdlc = with_ready m.shdlc r })
+unfolding same_session
+held pool k s m r readies h =
+    let link = h.half.link in
+    let a = ready_alike m.shdlc link.offered r in
+    let w = stands_ready k.shdlc s (waiting_in pool k.outbox) m.shdlc r (record { stands = link; full = h.full })
+    (readies (with_out m.shdlc link.offered) link.kept) in
+    record { half = same_session h.half w.stands a.out a.acked (acc_in m.shdlc m.shdlc.ready r m.shdlc.session.answered_rnr); full = w.full }
+
+-- ---- a tick
+
+alike : (pool : PoolState) (k : End) (m : Machine) (h : EndStandsFor k pool m) → TicksAlike m.shdlc h.half.link.offered
+alike pool k m h =
+    let link = h.half.link in
+    let next = link.kept.sender.next in
+    ticked_alike m.shdlc link.offered (waiting_in pool k.outbox) link.out h.full (omega arith)
 
 -- the SHDLC end of a link end took a tick, and answered this
 pub record HasTicked (k : End) (pool : PoolState) (m : Machine) (s : KeptEnd) (t : Ticked) : Type 0 where
