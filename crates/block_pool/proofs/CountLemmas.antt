@@ -255,28 +255,29 @@ pub record IsCountedChain (pool : PoolState) (o : ℕ) (name : Option ℕ) (n : 
   pub blocks : n ≡ blocks_for (length (named_bytes pool.slots name))
   pub counts : old ≡ owner_at pool.owners o
 
-module _ (pool : PoolState) (counted : IsCounted pool) (free : ℕ) (rest : AreFree pool.owners free) (o : ℕ) (has : o < length pool.owners) where
-  -- bytes were appended to a chain of an owner
-  pub taken_counted : (before : Option ℕ) (bytes : List ℕ) (after : Option ℕ) (slots : List (Option Held)) (left more : ℕ) (old : Owner)
-      → IsLiveAt pool.slots o before → IsNamedAfter pool.slots before bytes after
-      → slots ≡ put_at pool.slots after o (named_bytes pool.slots before ++ bytes)
-      → left + blocks_for (length (named_bytes pool.slots before) + length bytes) ≡ free + blocks_for (length (named_bytes pool.slots before))
-      → more ≡ blocks_for (length (named_bytes pool.slots before) + length bytes) - blocks_for (length (named_bytes pool.slots before))
-      → more ≤ spare_of pool o → old ≡ owner_at pool.owners o
-      → AreCounted slots (set pool.owners o (record { quota = old.quota; used = old.used + more; aside = old.aside }))
-      × AreFree (set pool.owners o (record { quota = old.quota; used = old.used + more; aside = old.aside })) left
-  taken_counted before bytes after slots left more old live name slots_are left_is more_is room old_is =
-      let n = length (named_bytes pool.slots before) in
-      let grows : blocks_for n ≤ blocks_for (n + length bytes) = omega arith in
-      let held = append_held pool.slots o before bytes after live name in
-      let held_is : blocks_held slots o ≡ blocks_held pool.slots o + more = ap (λ ss. blocks_held ss o) slots_are ∙ omega (arith, held, more_is, grows) in
-      subst (λ (x : Owner). AreCounted slots (set pool.owners o (record { quota = x.quota; used = x.used + more; aside = x.aside }))
-      × AreFree (set pool.owners o (record { quota = x.quota; used = x.used + more; aside = x.aside })) left) (sym old_is) (
-        counted_after pool counted o has slots (used_of pool o + more) (aside_of pool o) (omega (arith, held_is, counted.used o has))
-            (omega (arith, counted.within o, room))
-            (λ p apart. ap (λ ss. blocks_held ss p) slots_are ∙ append_others pool.slots o before bytes after p live name apart),
-        free_after pool counted o has slots free (used_of pool o + more) (aside_of pool o) left rest (omega (arith, left_is, more_is, grows)),
-      )
+-- an owner takes so many blocks more for bytes that are appended to a chain of its own, and has room for them
+pub record TakesBlocks (pool : PoolState) (o : ℕ) (name : Option ℕ) (bytes : List ℕ) (free left n : ℕ) : Type 0 where
+  pub left_is : left + blocks_for (length (named_bytes pool.slots name) + length bytes) ≡ free + blocks_for (length (named_bytes pool.slots name))
+  pub more_is : n ≡ blocks_for (length (named_bytes pool.slots name) + length bytes) - blocks_for (length (named_bytes pool.slots name))
+  pub room : n ≤ spare_of pool o
+
+-- bytes were appended to a chain of an owner
+pub taken_counted : {pool : PoolState} {o : ℕ} {before : Option ℕ} {bytes : List ℕ} {had n left : ℕ} {old : Owner} {slots : List (Option Held)}
+    (counted : IsCounted pool) (free : ℕ) (rest : AreFree pool.owners free) (after : Option ℕ)
+    → IsCountedChain pool o before had old → TakesBlocks pool o before bytes free left n → IsNamedAfter pool.slots before bytes after
+    → slots ≡ put_at pool.slots after o (named_bytes pool.slots before ++ bytes)
+    → AreCounted slots (set pool.owners o (more old n)) × AreFree (set pool.owners o (more old n)) left
+taken_counted {pool} {o} {before} {bytes} {n = n} {left} {slots = slots} counted free rest after chain takes name slots_are =
+    let len = length (named_bytes pool.slots before) in
+    let grows : blocks_for len ≤ blocks_for (len + length bytes) = omega arith in
+    let held = append_held pool.slots o before bytes after chain.live name in
+    let held_is : blocks_held slots o ≡ blocks_held pool.slots o + n = ap (λ ss. blocks_held ss o) slots_are ∙ omega (arith, held, takes.more_is, grows) in
+    subst (λ (x : Owner). AreCounted slots (set pool.owners o (more x n)) × AreFree (set pool.owners o (more x n)) left) (sym chain.counts) (
+      counted_after pool counted o chain.has slots (used_of pool o + n) (aside_of pool o) (omega (arith, held_is, counted.used o chain.has))
+          (omega (arith, counted.within o, takes.room))
+          (λ p apart. ap (λ ss. blocks_held ss p) slots_are ∙ append_others pool.slots o before bytes after p chain.live name apart),
+      free_after pool counted o chain.has slots free (used_of pool o + n) (aside_of pool o) left rest (omega (arith, takes.left_is, takes.more_is, grows)),
+    )
 
 -- a chain's blocks were given back
 pub given_counted : {pool : PoolState} {o : ℕ} {name : Option ℕ} {n left : ℕ} {old : Owner} {slots : List (Option Held)} (counted : IsCounted pool)

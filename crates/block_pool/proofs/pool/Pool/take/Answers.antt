@@ -4,7 +4,7 @@ use Rattle.block_pool.specs.Slots.{blocks_for}
 use Rattle.block_pool.specs.Names.{named_bytes}
 use Rattle.block_pool.specs.Pool.{PoolState, IsLive, spare_of}
 use Rattle.block_pool.proofs.LayoutLemmas.{blocks_is}
-use Rattle.block_pool.proofs.CountLemmas.{enough_free, taken_counted}
+use Rattle.block_pool.proofs.CountLemmas.{enough_free, IsCountedChain, taken_counted}
 use Rattle.block_pool.proofs.pool.Pool.take.Goals as goal
 
 pub append-requires-clause-room : goal.append-requires-clause-room
@@ -35,11 +35,14 @@ invariant_of-self c =
     ∙ ap (λ (v : PoolState). spare_of v chain.owner) (sym c.self.view_is) in
     let all = blocks_is c.div_ceil.result (c.len-len.result + length c.args.bytes.now) c.div_ceil.ensures in
     let had = blocks_is c.div_ceil-2.result c.len-len.result c.div_ceil-2.ensures in
-    let more : c.div_ceil.result - c.div_ceil-2.result
-    ≡ blocks_for (length (named_bytes pool.slots chain.first) + length c.args.bytes.now) - blocks_for (length (named_bytes pool.slots chain.first)) =
-    subst (λ n. c.div_ceil.result - c.div_ceil-2.result ≡ blocks_for (n + length c.args.bytes.now) - blocks_for n) len (omega (arith, all, had)) in
-    taken_counted pool c.self.invariant.0 s.blocks.free c.self.invariant.1 chain.owner live.0 chain.first c.args.bytes.now c.append.new.chain.first
-    c.append.new.blocks.slots c.append.new.blocks.free
-    (c.div_ceil.result - c.div_ceil-2.result) c.index-old.result.now
-    live.1 c.append.ensures.name c.append.ensures.slots c.append.ensures.free more (omega (arith, spare, c.if-need-spare.false))
-    (get_or_read s.owners.items chain.owner c.index-old.result.now live.0 c.index-old.ensures (record { quota = 0; used = 0; aside = 0 }))
+    let has : IsCountedChain pool chain.owner chain.first c.div_ceil-2.result c.index-old.result.now = record {
+      has = live.0;
+      live = live.1;
+      blocks = had ∙ ap blocks_for len;
+      counts = get_or_read s.owners.items chain.owner c.index-old.result.now live.0 c.index-old.ensures (record { quota = 0; used = 0; aside = 0 });
+    } in
+    taken_counted c.self.invariant.0 s.blocks.free c.self.invariant.1 c.append.new.chain.first has (record {
+      left_is = c.append.ensures.free;
+      more_is = subst (λ n. c.div_ceil.result - c.div_ceil-2.result ≡ blocks_for (n + length c.args.bytes.now) - blocks_for n) len (omega (arith, all, had));
+      room = omega (arith, spare, c.if-need-spare.false);
+    }) c.append.ensures.name c.append.ensures.slots
