@@ -14,7 +14,8 @@ use Rattle.block_pool.specs.Layout.{laid_bytes, held_by, slots_of, IsMarked, IsC
 -- ---- links
 
 -- a link that a list of blocks doesn't follow changes none of its blocks
-pub unchanged : (next : List ℕ) (at link first k : ℕ) → ((j : ℕ) → j < k → block_at next first j ≢ at) → block_at (set next at link) first k ≡ block_at next first k
+pub unchanged : (next : List ℕ) (at link first k : ℕ) → ((j : ℕ) → j < k → block_at next first j ≢ at)
+    → block_at (set next at link) first k ≡ block_at next first k
 unchanged next at link first zero apart = refl
 unchanged next at link first (suc k) apart =
     ap (λ b. get_or (set next at link) b 0) (unchanged next at link first k (λ j h. apart j (omega arith)))
@@ -37,7 +38,8 @@ same_made f g n same =
     get_or-map-range_with_len f 0 n k k d low (omega arith)
     ∙ (same k low ∙ sym (get_or-map-range_with_len g 0 n k k d low (omega arith))))
 
-pub same_bytes : (region next region' next' : List ℕ) (first len : ℕ) → ((i : ℕ) → i < len → linked_byte region' next' first i ≡ linked_byte region next first i)
+pub same_bytes : (region next region' next' : List ℕ) (first len : ℕ)
+    → ((i : ℕ) → i < len → linked_byte region' next' first i ≡ linked_byte region next first i)
     → laid_bytes region' next' first len ≡ laid_bytes region next first len
 unfolding laid_bytes
 same_bytes region next region' next' first len same = same_made (linked_byte region' next' first) (linked_byte region next first) len same
