@@ -16,8 +16,9 @@ pub ArePipeRows-all_closed : (rows : List PipeRow) → ArePipeRows rows → AreP
 ArePipeRows-all_closed rows h = AreRows-map pid_of (as_opened false) 2 112 rows (λ row. refl) h
 
 -- One more row of a list is changed by f.
-pub changed_more : (f : PipeRow → PipeRow) (xs ys new : List PipeRow) (i : ℕ) (blank row : PipeRow) → i < length xs → length ys ≡ length xs
-    → ys ≡ map f (take i xs) ++ drop i xs → row ≡ f (get_or ys i blank) → new ≡ set ys i row → new ≡ map f (take (i + 1) xs) ++ drop (i + 1) xs
-changed_more f xs ys new i blank row within same so_far row_is new_is =
+pub changed_more : (f : PipeRow → PipeRow) (xs : List PipeRow) {ys new : List PipeRow} (i : ℕ) (blank : PipeRow) {row : PipeRow} → i < length xs
+    → length ys ≡ length xs → ys ≡ map f (take i xs) ++ drop i xs → row ≡ f (get_or ys i blank) → new ≡ set ys i row
+    → new ≡ map f (take (i + 1) xs) ++ drop (i + 1) xs
+changed_more f xs {ys} i blank within same so_far row_is new_is =
     new_is ∙ ap (set ys i) row_is
     ∙ map_over_more f xs ys i (get_or ys i blank) within so_far (get_or_default ys i blank (get_or ys i blank) (omega arith))

@@ -5,5 +5,5 @@ use Rattle.pipe_table.proofs.table.close_rows.Goals as goal
 
 pub loop-row-preserved : goal.loop-row-preserved
 loop-row-preserved c =
-    changed_more (as_opened false) c.args.rows.now c.loop-row.rows _ c.loop-row.row-index _ _
-    (omega arith) c.loop-row.auto.rows c.loop-row.invariant c.as_opened.ensures refl
+    changed_more (as_opened false) c.args.rows.now c.loop-row.row-index _ (omega arith) c.loop-row.auto.rows c.loop-row.invariant
+    c.as_opened.ensures refl

@@ -10,8 +10,8 @@ pub loop-row-preserved : goal.loop-row-preserved
 loop-row-preserved c =
     let f : PipeRow → PipeRow = λ row. cond (eqb row.pid c.args.pid) (as_opened c.args.opened row) row in
     elim c.if-row-pid.branch [
-      | then-row-pid w ↦ changed_more f c.args.rows.now c.loop-row.rows _ c.loop-row.row-index _ _ (omega arith) c.loop-row.auto.rows c.loop-row.invariant
+      | then-row-pid w ↦ changed_more f c.args.rows.now c.loop-row.row-index _ (omega arith) c.loop-row.auto.rows c.loop-row.invariant
           (w.as_opened.ensures ∙ sym (cond-true _ _ _ (eq-eqb _ _ w.if-row-pid.true))) w.rows-is
-      | else-row-pid w ↦ changed_more f c.args.rows.now c.loop-row.rows _ c.loop-row.row-index _ _ (omega arith) c.loop-row.auto.rows c.loop-row.invariant
+      | else-row-pid w ↦ changed_more f c.args.rows.now c.loop-row.row-index _ (omega arith) c.loop-row.auto.rows c.loop-row.invariant
           (sym (cond-false _ _ _ (ne_eqb _ _ w.if-row-pid.false))) w.rows-is
     ]
