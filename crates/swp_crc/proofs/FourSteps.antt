@@ -171,20 +171,44 @@ goes_on_by_four bytes b0 b1 b2 b3 high low h l whole =
         (append_assoc (bits_of_byte b2) (bits_of (b3 ∷ [])) zeros
         ∙ ap (λ xs. bits_of_byte b2 ++ xs) (ap (λ xs. xs ++ zeros) (append-nil (bits_of_byte b3)))))
 
-pub push_four_step : (r b0 b1 b2 b3 e0 e1 e2 e3 : ℕ) (bytes : List ℕ) → b0 < 256 → b1 < 256 → r ≡ running_of bytes
-    → e0 ≡ entry_before 3 (bit_xor (r / 256) b0) → e1 ≡ entry_before 2 (bit_xor (r % 256) b1) → e2 ≡ entry_before 1 b2 → e3 ≡ table_entry b3
-    → bit_xor e0 (bit_xor e1 (bit_xor e2 e3)) ≡ running_of (bytes ++ b0 ∷ b1 ∷ b2 ∷ b3 ∷ [])
-push_four_step r b0 b1 b2 b3 e0 e1 e2 e3 bytes small0 small1 is is0 is1 is2 is3 =
-    ap (λ n. bit_xor n (bit_xor e1 (bit_xor e2 e3))) (is0 ∙ ap (λ xs. spelled_number (alone 3 xs)) (bits_of_sum high (r / 256) b0 h upper small0))
+-- a list of four by its places
+four_of : (xs : List ℕ) → length xs ≡ 4 → xs ≡ get_or xs 0 0 ∷ get_or xs 1 0 ∷ get_or xs 2 0 ∷ get_or xs 3 0 ∷ []
+four_of [] h = absurd (omega arith)
+four_of (a ∷ []) h = absurd (omega arith)
+four_of (a ∷ b ∷ []) h = absurd (omega arith)
+four_of (a ∷ b ∷ c ∷ []) h = absurd (omega arith)
+four_of (a ∷ b ∷ c ∷ d ∷ []) h = refl
+four_of (a ∷ b ∷ c ∷ d ∷ e ∷ xs) h = absurd (omega arith)
+
+-- the register behind four more bytes, from their entries of the tables
+pub push_four_step : {r e0 e1 e2 e3 : ℕ} (four bytes : List ℕ) → length four ≡ 4 → ((i : ℕ) → get_or four i 0 < 256) → r ≡ running_of bytes
+    → e0 ≡ entry_before 3 (bit_xor (r / 256) (get_or four 0 0)) → e1 ≡ entry_before 2 (bit_xor (r % 256) (get_or four 1 0))
+    → e2 ≡ entry_before 1 (get_or four 2 0) → e3 ≡ table_entry (get_or four 3 0)
+    → bit_xor e0 (bit_xor e1 (bit_xor e2 e3)) ≡ running_of (bytes ++ four)
+push_four_step {r} {e1} {e2} {e3} four bytes long small is is0 is1 is2 is3 =
+    ap (λ n. bit_xor n (bit_xor e1 (bit_xor e2 e3))) (is0 ∙ ap (λ xs. spelled_number (alone 3 xs)) (bits_of_sum high (r / 256) b0 h upper (small 0)))
     ∙ ap (λ n. bit_xor (spelled_number (alone 3 top0)) (bit_xor n (bit_xor e2 e3)))
-    (is1 ∙ ap (λ xs. spelled_number (alone 2 xs)) (bits_of_sum low (r % 256) b1 l lower small1))
+    (is1 ∙ ap (λ xs. spelled_number (alone 2 xs)) (bits_of_sum low (r % 256) b1 l lower (small 1)))
     ∙ ap (λ n. bit_xor (spelled_number (alone 3 top0)) (bit_xor (spelled_number (alone 2 top1)) (bit_xor n e3))) is2
     ∙ ap (λ n. bit_xor (spelled_number (alone 3 top0)) (bit_xor (spelled_number (alone 2 top1)) (bit_xor (spelled_number (alone 1 (bits_of_byte b2))) n))) is3
     ∙ sym (four_numbers (alone 3 top0) (alone 2 top1) (alone 1 (bits_of_byte b2)) (alone 0 (bits_of_byte b3))
     (length-alone 3 top0 (long_sum high b0 h)) (length-alone 2 top1 (long_sum low b1 l)) (length-alone 1 (bits_of_byte b2) (length-byte b2))
     (length-alone 0 (bits_of_byte b3) (length-byte b3)))
     ∙ ap spelled_number (sym (goes_on_by_four bytes b0 b1 b2 b3 high low h l whole))
+    ∙ ap (λ xs. running_of (bytes ++ xs)) (sym (four_of four long))
   where
+    b0 : ℕ
+    b0 = get_or four 0 0
+
+    b1 : ℕ
+    b1 = get_or four 1 0
+
+    b2 : ℕ
+    b2 = get_or four 2 0
+
+    b3 : ℕ
+    b3 = get_or four 3 0
+
     high : List Bool
     high = take 8 (remainder_of bytes)
 
@@ -211,12 +235,3 @@ push_four_step r b0 b1 b2 b3 e0 e1 e2 e3 bytes small0 small1 is is0 is1 is2 is3 
 
     lower : r % 256 ≡ spelled_number low
     lower = lower_half r high low l (is ∙ ap spelled_number (sym whole))
-
--- a list of four by its places
-pub four_of : (xs : List ℕ) → length xs ≡ 4 → xs ≡ get_or xs 0 0 ∷ get_or xs 1 0 ∷ get_or xs 2 0 ∷ get_or xs 3 0 ∷ []
-four_of [] h = absurd (omega arith)
-four_of (a ∷ []) h = absurd (omega arith)
-four_of (a ∷ b ∷ []) h = absurd (omega arith)
-four_of (a ∷ b ∷ c ∷ []) h = absurd (omega arith)
-four_of (a ∷ b ∷ c ∷ d ∷ []) h = refl
-four_of (a ∷ b ∷ c ∷ d ∷ e ∷ xs) h = absurd (omega arith)
