@@ -98,10 +98,10 @@ AreBytes-take (suc n) [] h = tt
 AreBytes-take (suc n) (x ∷ xs) h = (h.0, AreBytes-take n xs h.1)
 
 -- more bits that make the word under way whole
-pub more_than_word : (bytes : List ℕ) (partial : ℕ) (bits more : List Bool) (value width surplus : ℕ) → KeepsBits bytes partial bits
+pub more_than_word : {bytes : List ℕ} {partial : ℕ} {bits : List Bool} (more : List Bool) {value width : ℕ} (surplus : ℕ) → KeepsBits bytes partial bits
     → length more ≡ width → spelled_number more ≡ value → length bits % 64 + width ≡ 64 + surplus → surplus < 64
     → KeepsBits (bytes ++ to_be_bytes w64 (partial * 2 ^ (64 - length bits % 64) + value / 2 ^ surplus)) (value % 2 ^ surplus) (bits ++ more)
-more_than_word bytes partial bits more value width surplus kept l n h few = record {
+more_than_word {bytes} {partial} {bits} more {value} {width} surplus kept l n h few = record {
   rest = low;
   whole =
       ap (λ xs. xs ++ more) kept.whole ∙ append_assoc (bits_of bytes) kept.rest more
@@ -193,10 +193,10 @@ bytes_in_front bytes bits junk n are same l h =
     ∙ bytes_from-bits_of front (AreBytes-take n bytes are)
 
 -- the bytes of a content, from those of the whole words and of the word under way, which is moved to the top
-pub content_bytes : (bytes : List ℕ) (partial last n : ℕ) (bits end : List Bool) → KeepsBits bytes partial (bits ++ end) → length bits ≡ 8 * n
+pub content_bytes : {bytes : List ℕ} {partial last : ℕ} (n : ℕ) (bits end : List Bool) → KeepsBits bytes partial (bits ++ end) → length bits ≡ 8 * n
     → length end < 8 → 0 < length end
     → last ≡ partial * 2 ^ (64 - length (bits ++ end) % 64) % 2 ^ 64 → bytes_of_bits bits ≡ take n (bytes ++ to_be_bytes w64 last)
-content_bytes bytes partial last n bits end kept l short some is =
+content_bytes {bytes} {partial} {last} n bits end kept l short some is =
     bytes_in_front (bytes ++ to_be_bytes w64 last) bits (end ++ zeros) n (AreBytes-append bytes (to_be_bytes w64 last) kept.in_range (word_in_range last))
     (bits_of-append bytes (to_be_bytes w64 last)
     ∙ ap (λ xs. bits_of bytes ++ xs)

@@ -65,6 +65,5 @@ returns-clause-bits c = λ bits more kept l n.
           ≡ old.bytes.items ++ to_be_bytes w64 (old.partial * 2 ^ (64 - length bits % 64) + c.args.value / 2 ^ surplus) =
           c.push_word.ensures ∙ ap (λ x. old.bytes.items ++ to_be_bytes w64 x) word in
           rw (bytes, one_shl surplus 64 few)
-          (more_than_word old.bytes.items old.partial bits more c.args.value c.args.width surplus
-          (kept.few (omega (arith, length-append bits more))) l n places few);
+          (more_than_word more surplus (kept.few (omega (arith, length-append bits more))) l n places few);
     }
