@@ -267,13 +267,12 @@ left_append : (b : Bool) (o waiting : List Fragment) → left_waiting b (o ++ wa
 left_append true o waiting = refl
 left_append false o waiting = refl
 
-stands_after : (k : KeptEnd) (waiting : List Fragment) (e new : EndState) (h_offered : List Fragment) (b : Bool) → e.session.out ≡ h_offered ++ waiting
-    → new.session.out ≡ left_waiting b e.session.out → ShdlcStandsFor k (with_out new (left_waiting b h_offered)) → IsNarrow new
-    → HasSession new.phase new.session
-    → StandsBefore k (left_waiting b waiting) new
-stands_after k waiting e new o b out left kept narrow session = record {
-  offered = left_waiting b o;
-  out = left ∙ (ap (left_waiting b) out ∙ left_append b o waiting);
+stands_after : {old new : KeptEnd} {waiting : List Fragment} {e f : EndState} (b : Bool) (h : StandsBefore old waiting e)
+    → f.session.out ≡ left_waiting b e.session.out → ShdlcStandsFor new (with_out f (left_waiting b h.offered)) → IsNarrow f → HasSession f.phase f.session
+    → StandsBefore new (left_waiting b waiting) f
+stands_after {waiting} b h left kept narrow session = record {
+  offered = left_waiting b h.offered;
+  out = left ∙ (ap (left_waiting b) h.out ∙ left_append b h.offered waiting);
   kept = kept;
   narrow = narrow;
   session = session;
@@ -283,8 +282,7 @@ pub stands_taken : (k new : KeptEnd) (waiting : List Fragment) (e : EndState) (c
     → ShdlcStandsFor new (taken (with_out e h.offered) c) → StandsBefore new (left_waiting (take_answer e c).began waiting) (taken e c)
 stands_taken k new waiting e c h kept =
     let a = taken_alike e h.offered c in
-    stands_after new waiting e (taken e c) h.offered (take_answer e c).began h.out a.out (subst (ShdlcStandsFor new) a.same kept) (a.narrow h.narrow)
-    (a.session h.session)
+    stands_after (take_answer e c).began h a.out (subst (ShdlcStandsFor new) a.same kept) (a.narrow h.narrow) (a.session h.session)
 
 pub stands_ticked : (k new : KeptEnd) (waiting : List Fragment) (e : EndState) (h : StandsWith k waiting e)
     → ShdlcStandsFor new (ticked (with_out e h.stands.offered)) → StandsBefore new (left_waiting (is_some (tick_answer e).ended) waiting) (ticked e)
@@ -292,15 +290,13 @@ stands_ticked k new waiting e h kept =
     let s = h.stands in
     let next = s.kept.sender.next in
     let a = ticked_alike e s.offered waiting s.out h.full (omega arith) in
-    stands_after new waiting e (ticked e) s.offered (is_some (tick_answer e).ended) s.out a.out (subst (ShdlcStandsFor new) a.same kept) (a.narrow s.narrow)
-    (a.session s.session)
+    stands_after (is_some (tick_answer e).ended) s a.out (subst (ShdlcStandsFor new) a.same kept) (a.narrow s.narrow) (a.session s.session)
 
 pub stands_reset : (k new : KeptEnd) (waiting : List Fragment) (e : EndState) (w : ℕ) (h : StandsBefore k waiting e) → w ≤ 4
     → ShdlcStandsFor new (reset_with (with_out e h.offered) w) → StandsBefore new (left_waiting (not (is_waiting e)) waiting) (reset_with e w)
 stands_reset k new waiting e w h l kept =
     let a = reset_alike_with e h.offered w in
-    stands_after new waiting e (reset_with e w) h.offered (not (is_waiting e)) h.out a.out (subst (ShdlcStandsFor new) a.same kept) (a.narrow h.narrow l)
-    (a.session h.session)
+    stands_after (not (is_waiting e)) h a.out (subst (ShdlcStandsFor new) a.same kept) (a.narrow h.narrow l) (a.session h.session)
 
 pub stands_ready : (k new : KeptEnd) (waiting : List Fragment) (e : EndState) (r : Bool) (h : StandsWith k waiting e)
     → ShdlcStandsFor new (with_ready (with_out e h.stands.offered) r) → StandsWith new waiting (with_ready e r)
