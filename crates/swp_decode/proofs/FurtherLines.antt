@@ -99,12 +99,12 @@ s1_silent (byte ∷ bytes) older e =
     ∙ ap (λ lines. line_at S2 (byte ∷ older) ++ lines) (s1_silent bytes (byte ∷ older) none.1)
 
 -- Where both readers have read the bits of further bytes, the decoder stands for these too.
-pub stands_behind : (old new : Decoder) (bytes older : List ℕ) (first second : List Bool) → AreBits S1 bytes first → AreBits S2 bytes second
+pub stands_behind : {old new : Decoder} (bytes : List ℕ) {older : List ℕ} (first second : List Bool) → AreBits S1 bytes first → AreBits S2 bytes second
     → DecoderStandsFor old older
     → new.count ≡ old.count + length bytes → ReadsSignal new.s1 (readings_on old.count first (signal S1 older))
     → ReadsSignal new.s2 (readings_on old.count second (signal S2 older))
     → DecoderStandsFor new (reverse bytes ++ older)
-stands_behind old new bytes older first second s1 s2 stands count reads_s1 reads_s2 = record {
+stands_behind {new} bytes {older} first second s1 s2 stands count reads_s1 reads_s2 = record {
   count = omega (arith, count, stands.count, length-append (reverse bytes) older, length-reverse bytes);
   s1 = subst (ReadsSignal new.s1) (ap (λ n. readings_on n first (signal S1 older)) stands.count ∙ sym (signal-bits S1 bytes first older s1)) reads_s1;
   s2 = subst (ReadsSignal new.s2) (ap (λ n. readings_on n second (signal S2 older)) stands.count ∙ sym (signal-bits S2 bytes second older s2)) reads_s2;
@@ -123,23 +123,29 @@ no_lines bytes older first second s1 s2 quiet_s1 quiet_s2 =
     s1_silent bytes older (wire_lines-bits S1 bytes first older s1 ∙ lines_on-quiet S1 (length older) first (signal S1 older) quiet_s1)
     ∙ wire_lines-bits S2 bytes second older s2 ∙ lines_on-quiet S2 (length older) second (signal S2 older) quiet_s2
 
-pub lines_between : (bytes older : List ℕ) (first second : List Bool) (from to : ℕ) → AreBits S1 bytes first → AreBits S2 bytes second → from ≤ to
-    → HasNoMark (symbols (readings_on (length older) (take from first) (signal S1 older))) (take (to - from) (drop from first))
-    → HasNoMark (symbols (readings_on (length older) (take from second) (signal S2 older))) (take (to - from) (drop from second))
+-- bytes behind older ones have these bits on the two wires, and no mark ends on either from one place of them up to another
+pub record AreQuietBetween (bytes older : List ℕ) (first second : List Bool) (from to : ℕ) : Type 0 where
+  pub order : from ≤ to
+  pub s1 : AreBits S1 bytes first
+  pub s2 : AreBits S2 bytes second
+  pub quiet_s1 : HasNoMark (symbols (readings_on (length older) (take from first) (signal S1 older))) (take (to - from) (drop from first))
+  pub quiet_s2 : HasNoMark (symbols (readings_on (length older) (take from second) (signal S2 older))) (take (to - from) (drop from second))
+
+pub lines_between : {bytes older : List ℕ} {first second : List Bool} {from to : ℕ} → AreQuietBetween bytes older first second from to
     → lines_with older (take to bytes) ≡ lines_with older (take from bytes)
-lines_between bytes older first second from to s1 s2 order quiet_s1 quiet_s2 =
+lines_between {bytes} {older} {first} {second} {from} {to} h =
     let part = take (to - from) (drop from bytes) in
     let seen = reverse (take from bytes) ++ older in
-    let sum : to ≡ from + (to - from) = omega (arith, order) in
+    let sum : to ≡ from + (to - from) = omega (arith, h.order) in
     ap (λ k. lines_with older (take k bytes)) sum
     ∙ ap (lines_with older) (take-add from (to - from) bytes)
     ∙ lines_behind-append older (take from bytes) part
     ∙ ap (λ lines. lines_with older (take from bytes) ++ lines)
     (no_lines part seen (take (to - from) (drop from first)) (take (to - from) (drop from second))
-    (AreBits-take S1 (to - from) (drop from bytes) (drop from first) (AreBits-drop S1 from bytes first s1))
-    (AreBits-take S2 (to - from) (drop from bytes) (drop from second) (AreBits-drop S2 from bytes second s2))
-    (subst (λ readings. HasNoMark (symbols readings) (take (to - from) (drop from first))) (sym (signal_at S1 bytes older first from s1)) quiet_s1)
-    (subst (λ readings. HasNoMark (symbols readings) (take (to - from) (drop from second))) (sym (signal_at S2 bytes older second from s2)) quiet_s2))
+    (AreBits-take S1 (to - from) (drop from bytes) (drop from first) (AreBits-drop S1 from bytes first h.s1))
+    (AreBits-take S2 (to - from) (drop from bytes) (drop from second) (AreBits-drop S2 from bytes second h.s2))
+    (subst (λ readings. HasNoMark (symbols readings) (take (to - from) (drop from first))) (sym (signal_at S1 bytes older first from h.s1)) h.quiet_s1)
+    (subst (λ readings. HasNoMark (symbols readings) (take (to - from) (drop from second))) (sym (signal_at S2 bytes older second from h.s2)) h.quiet_s2))
     ∙ append-nil (lines_with older (take from bytes))
 
 line_there : (wire : Wire) (bytes older : List ℕ) (bits : List Bool) (i : ℕ) → AreBits wire bytes bits → i < length bytes
@@ -148,18 +154,16 @@ line_there : (wire : Wire) (bytes older : List ℕ) (bits : List Bool) (i : ℕ)
 line_there wire bytes older bits i are h = ap₂ (line_with wire) (AreBits-at wire i bytes bits are h) (signal_at wire bytes older bits i are)
 
 -- where no mark ends on either wire from one place up to another, the lines that come with the bytes through the other are those of its bits
-pub lines_through : (text bytes older : List ℕ) (first second : List Bool) (from last : ℕ) → AreBits S1 bytes first → AreBits S2 bytes second
-    → from ≤ last → last < length bytes
-    → HasNoMark (symbols (readings_on (length older) (take from first) (signal S1 older))) (take (last - from) (drop from first))
-    → HasNoMark (symbols (readings_on (length older) (take from second) (signal S2 older))) (take (last - from) (drop from second))
+pub lines_through : (text : List ℕ) {bytes older : List ℕ} {first second : List Bool} {from last : ℕ} → AreQuietBetween bytes older first second from last
+    → last < length bytes
     → ((text ++ lines_with older (take from bytes))
     ++ line_with S1 (Some (symbol_of (get_or first last false))) (readings_on (length older) (take last first) (signal S1 older)))
     ++ line_with S2 (Some (symbol_of (get_or second last false))) (readings_on (length older) (take last second) (signal S2 older))
     ≡ text ++ lines_with older (take (last + 1) bytes)
-lines_through text bytes older first second from last s1 s2 order h quiet_s1 quiet_s2 =
-    ap₂ (λ a b. ((text ++ lines_with older (take from bytes)) ++ a) ++ b) (sym (line_there S1 bytes older first last s1 h))
-    (sym (line_there S2 bytes older second last s2 h))
+lines_through text {bytes} {older} {first} {second} {from} {last} h within =
+    ap₂ (λ a b. ((text ++ lines_with older (take from bytes)) ++ a) ++ b) (sym (line_there S1 bytes older first last h.s1 within))
+    (sym (line_there S2 bytes older second last h.s2 within))
     ∙ ap (λ lines. ((text ++ lines) ++ line_at S1 (get_or bytes last 0 ∷ (reverse (take last bytes) ++ older)))
     ++ line_at S2 (get_or bytes last 0 ∷ (reverse (take last bytes) ++ older)))
-    (sym (lines_between bytes older first second from last s1 s2 order quiet_s1 quiet_s2))
-    ∙ lines_behind-more text older bytes last h
+    (sym (lines_between h))
+    ∙ lines_behind-more text older bytes last within

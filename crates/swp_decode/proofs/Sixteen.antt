@@ -210,25 +210,31 @@ all_some (x ∷ xs) (bit ∷ bits) small are =
 power_of_sixteen : (xs : List ℕ) (p : ℕ → Bool) → length xs ≡ 16 → 2 ^ length (map p xs) ≡ 65536
 power_of_sixteen xs p sixteen = ap (λ n. 2 ^ n) (length-map xs p ∙ sixteen)
 
-pub all_where : (xs : List ℕ) (a b c d : ℕ) → length xs ≡ 16 → a ≡ spelled_number (map has_neither xs) → b ≡ spelled_number (map has_first xs)
-    → c ≡ spelled_number (map has_second xs)
-    → d ≡ spelled_number (map has_both xs) → a + b + c + d ≡ 65535 → spelled_number (map is_some xs) + 1 ≡ 2 ^ length (map is_some xs)
-all_where xs a b c d sixteen is_a is_b is_c is_d sum = omega (arith, number_some xs, power_of_sixteen xs is_some sixteen, is_a, is_b, is_c, is_d, sum)
+-- these numbers tell where each of the four periods with bits stands among sixteen bytes
+pub record HavePlaces (xs : List ℕ) (a b c d : ℕ) : Type 0 where
+  pub sixteen : length xs ≡ 16
+  pub neither : a ≡ spelled_number (map has_neither xs)
+  pub first : b ≡ spelled_number (map has_first xs)
+  pub second : c ≡ spelled_number (map has_second xs)
+  pub both : d ≡ spelled_number (map has_both xs)
 
-pub sum_where : (xs : List ℕ) (a b c d : ℕ) → length xs ≡ 16 → a ≡ spelled_number (map has_neither xs) → b ≡ spelled_number (map has_first xs)
-    → c ≡ spelled_number (map has_second xs)
-    → d ≡ spelled_number (map has_both xs) → spelled_number (map is_some xs) + 1 ≡ 2 ^ length (map is_some xs) → a + b + c + d ≡ 65535
-sum_where xs a b c d sixteen is_a is_b is_c is_d all = omega (arith, number_some xs, power_of_sixteen xs is_some sixteen, is_a, is_b, is_c, is_d, all)
+pub all_where : {xs : List ℕ} {a b c d : ℕ} → HavePlaces xs a b c d → a + b + c + d ≡ 65535
+    → spelled_number (map is_some xs) + 1 ≡ 2 ^ length (map is_some xs)
+all_where {xs} h sum = omega (arith, number_some xs, power_of_sixteen xs is_some h.sixteen)
+
+pub sum_where : {xs : List ℕ} {a b c d : ℕ} → HavePlaces xs a b c d → spelled_number (map is_some xs) + 1 ≡ 2 ^ length (map is_some xs)
+    → a + b + c + d ≡ 65535
+sum_where {xs} h all = omega (arith, number_some xs, power_of_sixteen xs is_some h.sixteen)
 
 spelled : (xs : List ℕ) (p : ℕ → Bool) (n : ℕ) → length xs ≡ 16 → n ≡ spelled_number (map p xs) → low_bits 16 n ≡ map p xs
 spelled xs p n sixteen is = ap (low_bits 16) is ∙ low_bits-number_of (map p xs) 16 (length-map xs p ∙ sixteen)
 
-pub bits_s1 : (xs : List ℕ) (b d : ℕ) → length xs ≡ 16 → b ≡ spelled_number (map has_first xs) → d ≡ spelled_number (map has_both xs)
-    → spelled_number (map is_some xs) + 1 ≡ 2 ^ length (map is_some xs) → AreBits S1 xs (low_bits 16 (b + d))
-bits_s1 xs b d sixteen is_b is_d all =
-    subst (AreBits S1 xs) (sym (spelled xs is_s1 (b + d) sixteen (ap₂ (λ m n. m + n) is_b is_d ∙ number_s1 xs))) (are_s1 xs all)
+pub bits_s1 : {xs : List ℕ} {a b c d : ℕ} → HavePlaces xs a b c d → spelled_number (map is_some xs) + 1 ≡ 2 ^ length (map is_some xs)
+    → AreBits S1 xs (low_bits 16 (b + d))
+bits_s1 {xs} {b} {d} h all =
+    subst (AreBits S1 xs) (sym (spelled xs is_s1 (b + d) h.sixteen (ap₂ (λ m n. m + n) h.first h.both ∙ number_s1 xs))) (are_s1 xs all)
 
-pub bits_s2 : (xs : List ℕ) (c d : ℕ) → length xs ≡ 16 → c ≡ spelled_number (map has_second xs) → d ≡ spelled_number (map has_both xs)
-    → spelled_number (map is_some xs) + 1 ≡ 2 ^ length (map is_some xs) → AreBits S2 xs (low_bits 16 (c + d))
-bits_s2 xs c d sixteen is_c is_d all =
-    subst (AreBits S2 xs) (sym (spelled xs is_s2 (c + d) sixteen (ap₂ (λ m n. m + n) is_c is_d ∙ number_s2 xs))) (are_s2 xs all)
+pub bits_s2 : {xs : List ℕ} {a b c d : ℕ} → HavePlaces xs a b c d → spelled_number (map is_some xs) + 1 ≡ 2 ^ length (map is_some xs)
+    → AreBits S2 xs (low_bits 16 (c + d))
+bits_s2 {xs} {c} {d} h all =
+    subst (AreBits S2 xs) (sym (spelled xs is_s2 (c + d) h.sixteen (ap₂ (λ m n. m + n) h.second h.both ∙ number_s2 xs))) (are_s2 xs all)

@@ -1,26 +1,35 @@
-use Rattle.swp_decode.proofs.Sixteen.{all_where, sum_where, bits_s1, bits_s2, all_some}
+use Rattle.swp_decode.proofs.Sixteen.{HavePlaces, all_where, sum_where, bits_s1, bits_s2, all_some}
 use Rattle.swp_decode.proofs.many.sixteen_bits.Goals as goal
 
 pub returns-then-neither-first-ne65535-clause-none : goal.returns-then-neither-first-ne65535-clause-none
 returns-then-neither-first-ne65535-clause-none c bits has =
-    let bytes = c.args.bytes.now in
-    c.if-neither-first-ne65535.true
-    (sum_where bytes c.places_of-neither.result c.places_of-first.result c.places_of-second.result c.places_of-both.result c.told-bytes
-    c.places_of-neither.ensures.value c.places_of-first.ensures.value c.places_of-second.ensures.value c.places_of-both.ensures.value
-    (all_some bytes bits c.fits-bytes has))
+    let places : HavePlaces c.args.bytes.now _ _ _ _ = record {
+      sixteen = c.told-bytes;
+      neither = c.places_of-neither.ensures.value;
+      first = c.places_of-first.ensures.value;
+      second = c.places_of-second.ensures.value;
+      both = c.places_of-both.ensures.value;
+    } in
+    c.if-neither-first-ne65535.true (sum_where places (all_some c.args.bytes.now bits c.fits-bytes has))
 
 pub returns-clause-s1 : goal.returns-clause-s1
 returns-clause-s1 c =
-    let bytes = c.args.bytes.now in
-    let all = all_where bytes c.places_of-neither.result c.places_of-first.result c.places_of-second.result c.places_of-both.result c.told-bytes
-    c.places_of-neither.ensures.value c.places_of-first.ensures.value c.places_of-second.ensures.value c.places_of-both.ensures.value
-    c.if-neither-first-ne65535.false in
-    bits_s1 bytes c.places_of-first.result c.places_of-both.result c.told-bytes c.places_of-first.ensures.value c.places_of-both.ensures.value all
+    let places : HavePlaces c.args.bytes.now _ _ _ _ = record {
+      sixteen = c.told-bytes;
+      neither = c.places_of-neither.ensures.value;
+      first = c.places_of-first.ensures.value;
+      second = c.places_of-second.ensures.value;
+      both = c.places_of-both.ensures.value;
+    } in
+    bits_s1 places (all_where places c.if-neither-first-ne65535.false)
 
 pub returns-clause-s2 : goal.returns-clause-s2
 returns-clause-s2 c =
-    let bytes = c.args.bytes.now in
-    let all = all_where bytes c.places_of-neither.result c.places_of-first.result c.places_of-second.result c.places_of-both.result c.told-bytes
-    c.places_of-neither.ensures.value c.places_of-first.ensures.value c.places_of-second.ensures.value c.places_of-both.ensures.value
-    c.if-neither-first-ne65535.false in
-    bits_s2 bytes c.places_of-second.result c.places_of-both.result c.told-bytes c.places_of-second.ensures.value c.places_of-both.ensures.value all
+    let places : HavePlaces c.args.bytes.now _ _ _ _ = record {
+      sixteen = c.told-bytes;
+      neither = c.places_of-neither.ensures.value;
+      first = c.places_of-first.ensures.value;
+      second = c.places_of-second.ensures.value;
+      both = c.places_of-both.ensures.value;
+    } in
+    bits_s2 places (all_where places c.if-neither-first-ne65535.false)

@@ -15,7 +15,7 @@ use Rattle.swp_decode.specs.Readings.{ReadSymbol, signal, symbols, readings_on, 
 use Rattle.swp_decode.specs.Decoded.{line_with, lines_with}
 use Rattle.swp_decode.proofs.FurtherBits.{quiet_between, quiet_further, quiet_none}
 use Rattle.swp_decode.proofs.Gathering.{AreBits-take}
-use Rattle.swp_decode.proofs.FurtherLines.{lines_between, lines_through, stands_behind}
+use Rattle.swp_decode.proofs.FurtherLines.{AreQuietBetween, lines_between, lines_through, stands_behind}
 use Rattle.swp_decode.proofs.Marks.{IsNext, next_place, none_before, marks_left}
 use Rattle.swp_decode.proofs.decoder.Decoder.step_bits.Goals as goal
 use Rattle.swp_decode.proofs.decoder.Decoder.step_bits.Goals.{then-marks-test+else-passed-lt-MOST_PLACES, else-marks-test}
@@ -77,16 +77,13 @@ abbrev line_of_word : Wire → Word → ℕ → ℕ → List ReadSymbol → List
 line_of_word wire word place last older = line_with wire (Some (symbol_of (bit word.bits (63 - last)))) (readings_on place (take last (word_bits word)) older)
 
 -- the lines of both wires are those of the bytes
-through : (text bytes older : List ℕ) (word1 word2 : Word) (place from last : ℕ) → length bytes ≡ 64 → AreBits S1 bytes (word_bits word1)
-    → AreBits S2 bytes (word_bits word2)
-    → from ≤ last → last < 64 → place ≡ length older
-    → HasNoMark (symbols (readings_on (length older) (take from (word_bits word1)) (signal S1 older))) (take (last - from) (drop from (word_bits word1)))
-    → HasNoMark (symbols (readings_on (length older) (take from (word_bits word2)) (signal S2 older))) (take (last - from) (drop from (word_bits word2)))
+through : (text : List ℕ) {bytes older : List ℕ} (word1 word2 : Word) {place from last : ℕ}
+    → AreQuietBetween bytes older (word_bits word1) (word_bits word2) from last → length bytes ≡ 64 → last < 64 → place ≡ length older
     → ((text ++ lines_with older (take from bytes)) ++ line_of_word S1 word1 place last (signal S1 older)) ++ line_of_word S2 word2 place last (signal S2 older)
     ≡ text ++ lines_with older (take (last + 1) bytes)
-through text bytes older word1 word2 place from last l s1 s2 order h is quiet1 quiet2 =
+through text {bytes} {older} word1 word2 {place} {from} {last} quiet l h is =
     ap₂ (λ a b. ((text ++ lines_with older (take from bytes)) ++ a) ++ b) (there S1 word1) (there S2 word2)
-    ∙ lines_through text bytes older (word_bits word1) (word_bits word2) from last s1 s2 order (omega (arith, l, h)) quiet1 quiet2
+    ∙ lines_through text quiet (omega (arith, l, h))
   where
     there : (wire : Wire) (word : Word) → line_of_word wire word place last (signal wire older)
         ≡ line_with wire (Some (symbol_of (get_or (word_bits word) last false))) (readings_on (length older) (take last (word_bits word)) (signal wire older))
@@ -130,9 +127,15 @@ marks-preserved c =
             ∙ ap (λ text. text ++ line_of_word S2 word2 place last (signal S2 older))
             (c.decode_mark_at-read_s1.ensures.items (signal S1 older) behind1 quiet1 (kept.s1 (signal S1 older) stands.s1)
             ∙ ap (λ text. text ++ line_of_word S1 word1 place last (signal S1 older)) (kept.lines older stands))
-            ∙ through c.args.text.now.items bytes older word1 word2 place read last c.told-bytes s1 s2 next.behind inside stands.count
-            (quiet_between word1 (length older) read last (signal S1 older) next.behind next.within behind1 quiet.0)
-            (quiet_between word2 (length older) read last (signal S2 older) next.behind next.within behind2 quiet.1);
+            ∙ through c.args.text.now.items word1 word2
+            (record {
+              order = next.behind;
+              s1 = s1;
+              s2 = s2;
+              quiet_s1 = quiet_between word1 (length older) read last (signal S1 older) next.behind next.within behind1 quiet.0;
+              quiet_s2 = quiet_between word2 (length older) read last (signal S2 older) next.behind next.within behind2 quiet.1;
+            })
+            c.told-bytes inside stands.count;
         sized = omega (arith, kept.sized, c.decode_mark_at-read_s1.ensures.sized, c.decode_mark_at-read_s2.ensures.sized);
       },
     )
@@ -164,7 +167,7 @@ returns-clause-stands c = λ older stands.
     let quiet2 = quiet_further word2 c.marks.read_s2 read to kept.before_s2 next.behind next.within kept.quiet_s2 quiet.1 in
     let s1 = bits_of_word S1 bytes c.args.bits.s1 word1 c.word-s1.ensures.bits c.requires.s1 in
     let s2 = bits_of_word S2 bytes c.args.bits.s2 word2 c.word-s2.ensures.bits c.requires.s2 in
-    stands_behind c.args.self.now _ (take to bytes) older (take to (word_bits word1)) (take to (word_bits word2))
+    stands_behind (take to bytes) (take to (word_bits word1)) (take to (word_bits word2))
     (AreBits-take S1 to bytes (word_bits word1) s1) (AreBits-take S2 to bytes (word_bits word2) s2) stands
     (omega (arith, length-take-le to bytes (omega (arith, next.within, c.told-bytes))))
     (c.read_between.ensures (signal S1 older) (c.word-s1.ensures.behind (signal S1 older) stands.s1) quiet1 (kept.s1 (signal S1 older) stands.s1))
@@ -184,6 +187,12 @@ returns-clause-lines c = λ older stands.
     let s2 = bits_of_word S2 bytes c.args.bits.s2 word2 c.word-s2.ensures.bits c.requires.s2 in
     kept.lines older stands
     ∙ ap (λ lines. c.args.text.now.items ++ lines)
-    (sym (lines_between bytes older (word_bits word1) (word_bits word2) read to s1 s2 next.behind
-    (quiet_between word1 (length older) read to (signal S1 older) next.behind next.within (c.word-s1.ensures.behind (signal S1 older) stands.s1) quiet.0)
-    (quiet_between word2 (length older) read to (signal S2 older) next.behind next.within (c.word-s2.ensures.behind (signal S2 older) stands.s2) quiet.1)))
+    (sym (lines_between (record {
+      order = next.behind;
+      s1 = s1;
+      s2 = s2;
+      quiet_s1 = quiet_between word1 (length older) read to (signal S1 older) next.behind next.within (c.word-s1.ensures.behind (signal S1 older) stands.s1)
+          quiet.0;
+      quiet_s2 = quiet_between word2 (length older) read to (signal S2 older) next.behind next.within (c.word-s2.ensures.behind (signal S2 older) stands.s2)
+          quiet.1;
+    })))
