@@ -30,8 +30,8 @@ pub record Becomes (e f : LinkEnd) (ended began : Bool) (ms : List Message) : Ty
 abbrev pub Reports : LinkEnd → LinkInput → Type 0
 Reports e i = Becomes e (after_input e i) (is_some (ended_by e i)) (began_by e i) (got_by e i)
 
-becomes_as : (e f : LinkEnd) (a b c d : Bool) (ms ns : List Message) → a ≡ c → b ≡ d → ms ≡ ns → Becomes e f c d ns → Becomes e f a b ms
-becomes_as e f a b c d ms ns p q r h = rw (p, q, r) h
+becomes_as : {e f : LinkEnd} {a b c d : Bool} {ms ns : List Message} → a ≡ c → b ≡ d → ms ≡ ns → Becomes e f c d ns → Becomes e f a b ms
+becomes_as p q r h = rw (p, q, r) h
 
 drop_all : (ms : List Message) → drop (length ms) ms ≡ []
 drop_all ms = grind (arith, common_steps)
@@ -90,14 +90,13 @@ put_down_so e r h = go e.shdlc.phase refl
         let is : record (put_down true e) { role = r } ≡ f = rw p refl in
         let b : is_some (if_up e.shdlc ByAct) ≡ true = rw p refl in
         let P : LinkEnd → Type 0 = λ g. Becomes e g (is_some (if_up e.shdlc ByAct)) false [] in
-        subst P (sym is) (becomes_as e f (is_some (if_up e.shdlc ByAct)) false true false [] [] b refl refl
-        (ends_down e f p (not_up (stopped e.shdlc) Down refl (λ u. cc)) refl refl))
+        subst P (sym is) (becomes_as b refl refl (ends_down e f p (not_up (stopped e.shdlc) Down refl (λ u. cc)) refl refl))
     go Waiting p =
         let f : LinkEnd = record (moved e true (stopped e.shdlc)) { role = r } in
         let is : record (put_down true e) { role = r } ≡ f = rw p refl in
         let b : is_some (if_up e.shdlc ByAct) ≡ false = rw p refl in
         let P : LinkEnd → Type 0 = λ g. Becomes e g (is_some (if_up e.shdlc ByAct)) false [] in
-        subst P (sym is) (becomes_as e f (is_some (if_up e.shdlc ByAct)) false false false [] [] b refl refl
+        subst P (sym is) (becomes_as b refl refl
         (rests_down e f (not_up e.shdlc Waiting p (λ u. cc)) (not_up (stopped e.shdlc) Down refl (λ u. cc)) refl refl h))
     go Down p =
         let f : LinkEnd = record e { role = r; shdlc = record e.shdlc { due = [] }; acts = map in_front e.acts } in
@@ -105,8 +104,7 @@ put_down_so e r h = go e.shdlc.phase refl
         let b : is_some (if_up e.shdlc ByAct) ≡ false = rw p refl in
         let down : IsNotUp e.shdlc = not_up e.shdlc Down p (λ u. cc) in
         let P : LinkEnd → Type 0 = λ g. Becomes e g (is_some (if_up e.shdlc ByAct)) false [] in
-        subst P (sym is) (becomes_as e f (is_some (if_up e.shdlc ByAct)) false false false [] [] b refl refl
-        (rests_down e f down down (h.is.forgot down) (h.is.none down) h))
+        subst P (sym is) (becomes_as b refl refl (rests_down e f down down (h.is.forgot down) (h.is.none down) h))
 
 activated_so : (e : LinkEnd) (event : ActEvent) → Sound e → Becomes e (activated e event) (is_some (ended_by_act e event)) false []
 activated_so e event h =
@@ -120,14 +118,11 @@ activated_so e event h =
     by true q =
         let a : ended_by_act e event ≡ if_up e.shdlc ByAct = rw q refl in
         let P : Bool → Type 0 = λ b. Becomes e (at b) (is_some (ended_by_act e event)) false [] in
-        subst P (sym q) (becomes_as e (at true) (is_some (ended_by_act e event)) false (is_some (if_up e.shdlc ByAct)) false [] []
-        (ap (λ o. is_some o) a) refl refl
-        (put_down_so e (role_after e.role event) h))
+        subst P (sym q) (becomes_as (ap (λ o. is_some o) a) refl refl (put_down_so e (role_after e.role event) h))
     by false q =
         let a : ended_by_act e event ≡ None = rw q refl in
         let P : Bool → Type 0 = λ b. Becomes e (at b) (is_some (ended_by_act e event)) false [] in
-        subst P (sym q) (becomes_as e (at false) (is_some (ended_by_act e event)) false false false [] [] (ap (λ o. is_some o) a) refl refl
-        (stays_so e (at false) refl refl))
+        subst P (sym q) (becomes_as (ap (λ o. is_some o) a) refl refl (stays_so e (at false) refl refl))
 
 restarted_so : (e : LinkEnd) (event : ActEvent) → Sound e
     → Becomes e (activated (moved e true (stopped e.shdlc)) event) (is_some (if_up e.shdlc ByAct)) false []
@@ -154,13 +149,9 @@ restarted_so e event h =
         none = ap (λ (z : EndState). z.session) s
 
         go : (p : LinkState) → e.shdlc.phase ≡ p → Becomes e f (is_some (if_up e.shdlc ByAct)) false []
-        go Up p = becomes_as e f (is_some (if_up e.shdlc ByAct)) false true false [] [] (rw p refl) refl refl (ends_down e f p down sent none)
-        go Waiting p =
-            becomes_as e f (is_some (if_up e.shdlc ByAct)) false false false [] [] (rw p refl) refl refl
-            (rests_down e f (not_up e.shdlc Waiting p (λ u. cc)) down sent none h)
-        go Down p =
-            becomes_as e f (is_some (if_up e.shdlc ByAct)) false false false [] [] (rw p refl) refl refl
-            (rests_down e f (not_up e.shdlc Down p (λ u. cc)) down sent none h)
+        go Up p = becomes_as {c = true} (rw p refl) refl refl (ends_down e f p down sent none)
+        go Waiting p = becomes_as {c = false} (rw p refl) refl refl (rests_down e f (not_up e.shdlc Waiting p (λ u. cc)) down sent none h)
+        go Down p = becomes_as {c = false} (rw p refl) refl refl (rests_down e f (not_up e.shdlc Down p (λ u. cc)) down sent none h)
 
     by : (b : Bool) → Becomes e (at b) (is_some (if_up e.shdlc ByAct)) false []
     by true = from (at true) refl refl
@@ -275,33 +266,30 @@ and_false false b q = refl
 -- what a frame does is told
 pub take_so : (e : LinkEnd) (c : Control) → Sound e → Reports e (Take c)
 take_so e (Act act again) h =
-    becomes_as e (took e (Act act again)) (is_some (ended_by e (Take (Act act again)))) (began_by e (Take (Act act again)))
-    (is_some (ended_by_act e (ActTake act again))) false [] [] refl
-    (and_false (is_open e.role) (take_answer e.shdlc (Act act again)).began (no_began e.shdlc act again)) refl
+    becomes_as refl (and_false (is_open e.role) (take_answer e.shdlc (Act act again)).began (no_began e.shdlc act again)) refl
     (activated_so e (ActTake act again) h)
 take_so e Clt h =
-    becomes_as e (took e Clt) false (began_by e (Take Clt)) false false [] [] refl
-    (and_false (is_open e.role) (take_answer e.shdlc Clt).began (clt_began e.shdlc)) refl
+    becomes_as refl (and_false (is_open e.role) (take_answer e.shdlc Clt).began (clt_began e.shdlc)) refl
     (stays_so e (took e Clt) refl refl)
 take_so e (I ns nr info) h = by (is_open e.role) refl
   where
     by : (b : Bool) → is_open e.role ≡ b → Reports e (Take (I ns nr info))
-    by true o = let k = heard_so e (I ns nr info) h in rw o (becomes_as e (heard e (I ns nr info)) _ _ _ _ _ _ refl (began_so e.shdlc (I ns nr info)) refl k)
+    by true o = let k = heard_so e (I ns nr info) h in rw o (becomes_as refl (began_so e.shdlc (I ns nr info)) refl k)
     by false o = rw o (stays_so e e refl refl)
 take_so e (S kind nr) h = by (is_open e.role) refl
   where
     by : (b : Bool) → is_open e.role ≡ b → Reports e (Take (S kind nr))
-    by true o = let k = heard_so e (S kind nr) h in rw o (becomes_as e (heard e (S kind nr)) _ _ _ _ _ _ refl (began_so e.shdlc (S kind nr)) refl k)
+    by true o = let k = heard_so e (S kind nr) h in rw o (becomes_as refl (began_so e.shdlc (S kind nr)) refl k)
     by false o = rw o (stays_so e e refl refl)
 take_so e (Rset w caps) h = by (is_open e.role) refl
   where
     by : (b : Bool) → is_open e.role ≡ b → Reports e (Take (Rset w caps))
-    by true o = let k = heard_so e (Rset w caps) h in rw o (becomes_as e (heard e (Rset w caps)) _ _ _ _ _ _ refl (began_so e.shdlc (Rset w caps)) refl k)
+    by true o = let k = heard_so e (Rset w caps) h in rw o (becomes_as refl (began_so e.shdlc (Rset w caps)) refl k)
     by false o = rw o (stays_so e e refl refl)
 take_so e Ua h = by (is_open e.role) refl
   where
     by : (b : Bool) → is_open e.role ≡ b → Reports e (Take Ua)
-    by true o = let k = heard_so e Ua h in rw o (becomes_as e (heard e Ua) _ _ _ _ _ _ refl (began_so e.shdlc Ua) refl k)
+    by true o = let k = heard_so e Ua h in rw o (becomes_as refl (began_so e.shdlc Ua) refl k)
     by false o = rw o (stays_so e e refl refl)
 
 -- ## Ticks and resets

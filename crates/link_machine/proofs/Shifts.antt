@@ -74,9 +74,9 @@ same_shift e f q = go e.phase refl
     go Down p = rw q (Rests refl refl (down_not_up e p) (down_not_up e p) (λ s. s))
 
 -- what is acknowledged by a valid number
-at_place : (e f : EndState) (nr x : ℕ) (more : List Fragment) → e.phase ≡ Up → f.phase ≡ Up → place_of e.session nr ≡ Some x
+at_place : {e f : EndState} (nr : ℕ) {x : ℕ} (more : List Fragment) → e.phase ≡ Up → f.phase ≡ Up → place_of e.session nr ≡ Some x
     → f.session.out ≡ e.session.out → f.session.reached ≡ e.session.reached → f.session.acked ≡ x → f.session.acc ≡ e.session.acc ++ more → GoesOn e f
-at_place e f nr x more p q place out reached acked acc =
+at_place {e} nr {x} more p q place out reached acked acc =
     let w = place_of-within e.session nr x place in
     record {
       was = p;
@@ -102,7 +102,7 @@ up_I e ns nr info up = go (place_of e.session nr) refl
         let g : EndState = acknowledged e x in
         let s = received-sending g ns info in
         let on : GoesOn e (received g ns info) =
-        at_place e (received g ns info) nr x (option_to_list (fragment_accepted g ns info)) up (received-phase g ns info ∙ up) q s.0 s.2
+        at_place nr (option_to_list (fragment_accepted g ns info)) up (received-phase g ns info ∙ up) q s.0 s.2
         (received-acked g ns info) (received-acc g ns info) in
         let shift : Shift e (received g ns info) false false = Stays refl refl on in
         rw (up, q) (rw up at shift)
@@ -122,14 +122,11 @@ up_S e k nr up = go k (place_of e.session nr) refl
     go Rej None q = none Rej (rw (up, q) refl)
     go Rnr None q = none Rnr (rw (up, q) refl)
     go Rr (Some x) q =
-        Stays refl refl
-        (at_place e (taken e (S Rr nr)) nr x [] up (rw (up, q) refl) q (rw (up, q) refl) (rw (up, q) refl) (rw (up, q) refl) (rw (up, q) nil))
+        Stays refl refl (at_place nr [] up (rw (up, q) refl) q (rw (up, q) refl) (rw (up, q) refl) (rw (up, q) refl) (rw (up, q) nil))
     go Rej (Some x) q =
-        Stays refl refl
-        (at_place e (taken e (S Rej nr)) nr x [] up (rw (up, q) refl) q (rw (up, q) refl) (rw (up, q) refl) (rw (up, q) refl) (rw (up, q) nil))
+        Stays refl refl (at_place nr [] up (rw (up, q) refl) q (rw (up, q) refl) (rw (up, q) refl) (rw (up, q) refl) (rw (up, q) nil))
     go Rnr (Some x) q =
-        Stays refl refl
-        (at_place e (taken e (S Rnr nr)) nr x [] up (rw (up, q) refl) q (rw (up, q) refl) (rw (up, q) refl) (rw (up, q) refl) (rw (up, q) nil))
+        Stays refl refl (at_place nr [] up (rw (up, q) refl) q (rw (up, q) refl) (rw (up, q) refl) (rw (up, q) refl) (rw (up, q) nil))
 
 -- a frame
 pub taken_shift : (e : EndState) (c : Control) → Shift e (taken e c) (is_some (take_answer e c).ended) (take_answer e c).began
