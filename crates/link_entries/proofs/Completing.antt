@@ -3,30 +3,28 @@ use Rattle.std.proofs.Common.{◌≡◌, ℕ, Bool, true, false, cond, List, [],
 use Rattle.std.specs.Prelude.{nat_lt, is_some, max, option_to_list}
 use Rattle.std.proofs.lemmas.Bool.{true≢false}
 use Rattle.swp_base.specs.declared.link_terms.Cause.TheVariants.{Asked}
-use Rattle.swp_act.specs.declared.ActEvent.TheVariants.{Start as ActStart, Stop as ActStop}
 use Rattle.shdlc_core.specs.declared.answers.LinkState.TheVariants.{Up as IsUpNow}
 use Rattle.shdlc_core.specs.Machine.{EndState, most_frames}
-use Rattle.session_laws.specs.Sessions.{OnWire, is_up, took_with}
+use Rattle.session_laws.specs.Sessions.{OnWire, took_with}
 use Rattle.session_laws.specs.Losses.{Losses, no_losses, noted_all, noted_turns, came_up, is_up_with}
 use Rattle.link_machine.specs.Machine.{LinkEnd, Role, Refused, LinkInput, Turn, report, turned, reset_refusal, reset_by, window_of, if_up, took, after_input, ended_by, began_by, whole_acked, frames_out, new_link_end, renewed}
 use Rattle.link_machine.specs.Machine.Role.{Bare, Clf, Uicc}
 use Rattle.link_machine.specs.Machine.LinkInput.{Take, Reset, Start, Stop}
 use Rattle.link_machine.proofs.Shifts.{Shift, IsNotUp}
 use Rattle.link_machine.proofs.Shifts.Shift.{Stays, Ends, Renews, Begins, Rests as ShiftRests}
-use Rattle.link_machine.proofs.Reports.{Reports, take_so, reset_so, start_so, stop_so}
-use Rattle.message_link.specs.Links.{NumberedEnd, Link, Ending, Comes, number_of, put_all, with_ended, silent, finished, has_taken, steps_at_controller, AreSendableTurns, CanEnd, IsNode, IsOwn}
+use Rattle.link_machine.proofs.Reports.{Reports, take_so, reset_so}
+use Rattle.message_link.specs.Links.{NumberedEnd, Link, Ending, Comes, number_of, put_all, with_ended, finished, has_taken, steps_at_controller, AreSendableTurns, CanEnd, IsNode, IsOwn}
 use Rattle.message_link.specs.Links.Ending.{GoesOut, CutOff}
 use Rattle.message_link.specs.Links.Comes.{NextFrame, AsksReset, Starts, Stops, NoInput}
 use Rattle.message_link.specs.Links.EndEvent.{Step}
 use Rattle.message_link.specs.Projection.{core_of, core_half, core_take, core_ending, core_reset, core_step}
 use Rattle.message_link.proofs.Ends.{frames_alike}
-use Rattle.message_link.proofs.Project.{Tells, host_ended as ended_host}
-use Rattle.message_link.proofs.Finishing.{can_end, took_can}
+use Rattle.message_link.proofs.Project.{Tells}
 use Rattle.link_entries.specs.Entries.{End, Entry, if_so, told_of, left_after, rest_entries, taken_entries, step_entries}
 use Rattle.link_entries.specs.Entries.Entry.{Up, Down, Active, GaveUp, Acked, Got, Took}
-use Rattle.link_entries.proofs.Stepping.{puts_number, host_finished}
-use Rattle.link_entries.proofs.Noting.{Near, Frame, IsQuietEnd, turned_same, quiet_idle, quiet_reset, not_up_quiet, restarted_down, ended_number, reset_role, restart_can}
-use Rattle.link_entries.proofs.Running.{Before, frame_facts}
+use Rattle.link_entries.proofs.Stepping.{puts_number, host_finished, CanFinish}
+use Rattle.link_entries.proofs.Noting.{Near, Frame, turned_same, IsPlainInput, plain_ended, plain_silent, idle_finishes, reset_finishes, take_finishes, start_restarts, stop_restarts, restart_finishes}
+use Rattle.link_entries.proofs.Running.{Before, frame_facts, near_of}
 use Rattle.link_entries.proofs.Losing.{bad, Disturbed, disturbed_right, Grows}
 use Rattle.link_entries.proofs.Disturbing.{idle_noted, reset_noted}
 use Rattle.link_entries.proofs.Lasting.{Knows, knows_more, knows_new, rest_grows, grows_right, came_bad, taken_noted, cut_disturbs}
@@ -120,14 +118,14 @@ was_up k g CutOff can number up = absurd (new_not_up g.role can up)
 
 near_same : (l k : Link) (i : LinkInput) (ts : List Turn) (ending : Ending) → Reports l.controller.side i → began_by l.controller.side i ≡ false
     → (l.controller.side.shdlc.phase ≡ IsUpNow → is_some (ended_by l.controller.side i) ≡ false → number_of k.controller ≡ number_of l.controller)
-    → IsQuietEnd (after_input l.controller.side i) ts → CanEnd (turned (after_input l.controller.side i) ts).role ending
+    → CanFinish (after_input l.controller.side i) ts ending
     → (finished k (turned (after_input l.controller.side i) ts) ending).controller.side.shdlc.phase ≡ IsUpNow
     → (l.controller.side.shdlc.phase ≡ IsUpNow)
     × (number_of (finished k (turned (after_input l.controller.side i) ts) ending).controller ≡ number_of l.controller)
-near_same l k i ts ending so none number quiet can up =
+near_same l k i ts ending so none number finishes up =
     let e : LinkEnd = l.controller.side in
     let f : LinkEnd = after_input e i in
-    let w = was_up k (turned f ts) ending can (λ u. puts_number k (frames_out (turned f ts)) (quiet u)) up in
+    let w = was_up k (turned f ts) ending finishes.can (λ u. puts_number k (frames_out (turned f ts)) (finishes.quiet u)) up in
     let on = went_on e.shdlc f.shdlc (is_some (ended_by e i)) (began_by e i) so.shift none (sym (turned_same ts f) ∙ w.0) in
     (on.0, w.1 ∙ number on.0 on.1)
 
@@ -142,31 +140,30 @@ far_knows : (t u : List Entry) (n m : Losses) (h k : NumberedEnd) → k ≡ h �
 far_knows t u n m h k q g x =
     knows_more t u n m h k (λ up. let P : NumberedEnd → Type 0 = λ z. z.side.shdlc.phase ≡ IsUpNow in (subst P q up, ap number_of q)) g x
 
-pub input_knows : (t u : List Entry) (n m : Losses) (l k : Link) (i : LinkInput) (ts : List Turn) (ending : Ending) → Reports l.controller.side i
-    → began_by l.controller.side i ≡ false → number_of k.controller ≡ number_of l.controller → k.host ≡ l.host
-    → IsQuietEnd (after_input l.controller.side i) ts → CanEnd (turned (after_input l.controller.side i) ts).role ending → Grows n m u → Both t n l
+pub input_knows : {t : List Entry} (u : List Entry) {n m : Losses} {l k : Link} (i : LinkInput) {ts : List Turn} {ending : Ending} → IsPlainInput l k i
+    → CanFinish (after_input l.controller.side i) ts ending → Grows n m u → Both t n l
     → Both (t ++ u) m (finished k (turned (after_input l.controller.side i) ts) ending)
-input_knows t u n m l k i ts ending so none number host quiet can g b =
+input_knows {t} u {n} {m} {l} {k} i {ts} {ending} plain finishes g b =
     let f : LinkEnd = turned (after_input l.controller.side i) ts in
     record {
-      here = knows_more t u n m l.controller (finished k f ending).controller (near_same l k i ts ending so none (λ a c. number) quiet can) g b.here;
-      there = far_knows t u n m l.host (finished k f ending).host (host_finished k f ending ∙ host) g b.there;
+      here = knows_more t u n m l.controller (finished k f ending).controller
+          (near_same l k i ts ending plain.reports plain.none (λ a c. plain.number) finishes) g b.here;
+      there = far_knows t u n m l.host (finished k f ending).host (host_finished k f ending ∙ plain.host) g b.there;
     }
 
-idle_same : (l : Link) (ts : List Turn) (ending : Ending) → AreSendableTurns ts → CanEnd l.controller.side.role ending → Near l
+idle_same : (l : Link) (ts : List Turn) (ending : Ending) → IsNode l ts ending → Near l
     → (finished l (turned l.controller.side ts) ending).controller.side.shdlc.phase ≡ IsUpNow
     → (l.controller.side.shdlc.phase ≡ IsUpNow) × (number_of (finished l (turned l.controller.side ts) ending).controller ≡ number_of l.controller)
-idle_same l ts ending a can n up =
+idle_same l ts ending a n up =
     let e : LinkEnd = l.controller.side in
-    let w = was_up l (turned e ts) ending (can_end e ts e.role ending refl can)
-    (λ u. puts_number l (frames_out (turned e ts)) (quiet_idle l ts a n.tells n.rests u)) up in
+    let finishes = idle_finishes l ts ending a n in
+    let w = was_up l (turned e ts) ending finishes.can (λ u. puts_number l (frames_out (turned e ts)) (finishes.quiet u)) up in
     (sym (turned_same ts e) ∙ w.0, w.1)
 
-pub own_knows : (t : List Entry) (n : Losses) (who : End) (l : Link) (comes : Comes) (ts : List Turn) (ending : Ending) → IsOwn (Step comes ts ending)
-    → IsNode l ts ending
-    → Near l → Both t n l → Both (t ++ step_entries who l comes ts ending) (noted_turns n (core_of l) (core_step l comes ts ending))
-    (steps_at_controller l comes ts ending)
-own_knows t n who l comes ts ending o a x b = go comes o
+pub own_knows : {t : List Entry} {n : Losses} (who : End) (l : Link) (comes : Comes) (ts : List Turn) (ending : Ending) → IsOwn (Step comes ts ending)
+    → IsNode l ts ending → Near l → Both t n l
+    → Both (t ++ step_entries who l comes ts ending) (noted_turns n (core_of l) (core_step l comes ts ending)) (steps_at_controller l comes ts ending)
+own_knows {t} {n} who l comes ts ending o a x b = go comes o
   where
     e : LinkEnd
     e = l.controller.side
@@ -175,43 +172,34 @@ own_knows t n who l comes ts ending o a x b = go comes o
         → Both (t ++ step_entries who l comes ts ending) (noted_turns n (core_of l) (core_step l comes ts ending)) (steps_at_controller l comes ts ending)
     go NextFrame o = absurd o
     go (AsksReset window) o =
-        let i : LinkInput = Reset window in
-        let c : Bool = is_some (ended_by e i) in
-        input_knows t (step_entries who l (AsksReset window) ts ending) n (noted_turns n (core_of l) (core_step l (AsksReset window) ts ending)) l
-        (with_ended l c) i ts ending
-        (reset_so e window x.sound) refl (ended_number l c) (ended_host l c) (quiet_reset l window ts a.0 x.tells x.rests)
-        (can_end (after_input e i) ts e.role ending (reset_role e window) a.1) (own_grows n who l (AsksReset window) ts ending tt a.0 x.tells) b
+        let c : Bool = is_some (ended_by e (Reset window)) in
+        input_knows (step_entries who l (AsksReset window) ts ending) (Reset window) (plain_ended l c (reset_so e window x.sound) refl)
+        (reset_finishes l window ts ending a x) (own_grows n who l (AsksReset window) ts ending tt a.0 x.tells) b
     go (Starts v) o =
-        let i : LinkInput = Start v in
-        let c : Bool = is_up e.shdlc.phase in
-        input_knows t (step_entries who l (Starts v) ts ending) n (noted_turns n (core_of l) (core_step l (Starts v) ts ending)) l
-        (silent l (after_input e i)) i ts ending
-        (start_so e v x.sound) refl (ended_number l c) (ended_host l c) (not_up_quiet (after_input e i) ts (restarted_down e (ActStart v) x.tells.now))
-        (restart_can e (ActStart v) ts ending a.1) (own_grows n who l (Starts v) ts ending tt a.0 x.tells) b
+        let r = start_restarts e v x.sound in
+        input_knows (step_entries who l (Starts v) ts ending) (Start v) (plain_silent l (after_input e (Start v)) r.reports r.none)
+        (restart_finishes l ts ending a x r) (own_grows n who l (Starts v) ts ending tt a.0 x.tells) b
     go Stops o =
-        let i : LinkInput = Stop in
-        let c : Bool = is_up e.shdlc.phase in
-        input_knows t (step_entries who l Stops ts ending) n (noted_turns n (core_of l) (core_step l Stops ts ending)) l (silent l (after_input e i))
-        i ts ending
-        (stop_so e x.sound) refl (ended_number l c) (ended_host l c) (not_up_quiet (after_input e i) ts (restarted_down e ActStop x.tells.now))
-        (restart_can e ActStop ts ending a.1) (own_grows n who l Stops ts ending tt a.0 x.tells) b
+        let r = stop_restarts e x.sound in
+        input_knows (step_entries who l Stops ts ending) Stop (plain_silent l (after_input e Stop) r.reports r.none) (restart_finishes l ts ending a x r)
+        (own_grows n who l Stops ts ending tt a.0 x.tells) b
     go NoInput o =
         let g = own_grows n who l NoInput ts ending tt a.0 x.tells in
         let u : List Entry = step_entries who l NoInput ts ending in
         let m : Losses = noted_turns n (core_of l) (core_step l NoInput ts ending) in
         record {
-          here = knows_more t u n m l.controller (steps_at_controller l NoInput ts ending).controller (idle_same l ts ending a.0 a.1 x) g b.here;
+          here = knows_more t u n m l.controller (steps_at_controller l NoInput ts ending).controller (idle_same l ts ending a x) g b.here;
           there = far_knows t u n m l.host (steps_at_controller l NoInput ts ending).host (host_finished l (turned e ts) ending) g b.there;
         }
 
 -- ## A frame is taken
 
-taken_knows : (t : List Entry) (n : Losses) (who : End) (l : Link) (x : OnWire) (xs : List OnWire) (ts : List Turn) (ending : Ending) → l.to_controller ≡ x ∷ xs
-    → IsNode l ts ending → Before l → Both t n l
+taken_knows : {t : List Entry} {n : Losses} (who : End) (l : Link) (x : OnWire) (xs : List OnWire) (ts : List Turn) (ending : Ending)
+    → l.to_controller ≡ x ∷ xs → IsNode l ts ending → Before l → Both t n l
     → Both (t ++ taken_entries who l x xs ts ending)
     (noted_all (came_up n (core_of (left_after l x xs)) (began_by l.controller.side (Take x.frame))) (core_of (left_after l x xs))
     (frames_out (turned (took l.controller.side x.frame) ts))) (has_taken l x xs ts ending)
-taken_knows t n who l x xs ts ending w a b both = go (began_by e i) refl
+taken_knows {t} {n} who l x xs ts ending w a b both = go (began_by e i) refl
   where
     e : LinkEnd
     e = l.controller.side
@@ -268,8 +256,8 @@ taken_knows t n who l x xs ts ending w a b both = go (began_by e i) refl
     m' : Link
     m' = has_taken l x xs ts ending
 
-    can : CanEnd (turned f ts).role ending
-    can = can_end f ts f.role ending refl (took_can e x.frame ending a.1)
+    finishes : CanFinish f ts ending
+    finishes = take_finishes l x ts ending a (near_of l b) fr
 
     there : Knows (t ++ u) m m'.host
     there = far_knows t u n m l.host m'.host (host_finished k (turned f ts) ending ∙ host c) grows both.there
@@ -279,7 +267,7 @@ taken_knows t n who l x xs ts ending w a b both = go (began_by e i) refl
         record {
           here = knows_more t u n m l.controller m'.controller
               (near_same l k i ts ending (take_so e x.frame b.sound) q (λ up z. number c ∙ ap (max l.controller.emitted) (fr.same up z))
-              (λ _. fr.quiet) can) grows both.here;
+              finishes) grows both.here;
           there = there;
         }
     go true q = record { here = new; there = there }
@@ -325,7 +313,7 @@ taken_knows t n who l x xs ts ending w a b both = go (began_by e i) refl
 
         -- the end with its number
         up_number : m'.controller.side.shdlc.phase ≡ IsUpNow → number_of m'.controller ≡ j
-        up_number up = (was_up k (turned f ts) ending can (λ _. puts_number k (frames_out (turned f ts)) fr.quiet) up).1 ∙ number c
+        up_number up = (was_up k (turned f ts) ending finishes.can (λ _. puts_number k (frames_out (turned f ts)) fr.quiet) up).1 ∙ number c
 
         at_j : (number_of m'.controller ≡ j) → Knows (t ++ u) m m'.controller
         at_j r =
@@ -333,7 +321,7 @@ taken_knows t n who l x xs ts ending w a b both = go (began_by e i) refl
             let Q : List Entry → Type 0 = λ z. Grows n m z in
             let split : u ≡ pre ++ (Up who (number_of m'.controller) ∷ v) = parts ∙ ap (λ z. pre ++ (Up who z ∷ v)) (sym r) in
             let R : ℕ → Type 0 = λ z. is_up_with (core_half l.host) z ≡ false → bad m ≡ true → Disturbed v in
-            subst P (sym split) (knows_new t pre v who n m l.host m'.controller both.there (subst Q split grows) (subst R (sym r) first))
+            subst P (sym split) (knows_new pre v who both.there (subst Q split grows) (subst R (sym r) first))
 
         new : Knows (t ++ u) m m'.controller
         new = record { has = λ up. (at_j (up_number up)).has up; tells = λ up z. (at_j (up_number up)).tells up z }
@@ -374,4 +362,4 @@ frame_knows t n who l ts ending a b both = go l.to_controller refl
         as_is (step_entries who l NextFrame ts ending) (taken_entries who l x xs ts ending) (noted_turns n (core_of l) (core_step l NextFrame ts ending)) k
         (steps_at_controller l NextFrame ts ending) (has_taken l x xs ts ending) (rw q refl) (ap (noted_turns n (core_of l)) (list x xs q)
         ∙ taken_noted n l ts ending x xs q a.0 b) (rw q refl)
-        (taken_knows t n who l x xs ts ending q a b both)
+        (taken_knows who l x xs ts ending q a b both)

@@ -18,12 +18,10 @@ use Rattle.link_machine.specs.Machine.{LinkEnd, Turn, turned, is_open, role_afte
 use Rattle.link_machine.specs.Machine.LinkInput.{Take}
 use Rattle.message_link.specs.Links.{Link, with_ended, AreSendableTurns}
 use Rattle.message_link.specs.Projection.{core_of, core_turns, core_take}
-use Rattle.message_link.proofs.Calm.{IsPolite}
 use Rattle.message_link.proofs.Project.{Now, Tells, turns_mid, with_ended-core, mid_moved}
 use Rattle.link_machine.proofs.Runs.{opened}
 use Rattle.link_machine.proofs.Reports.{shdlc_is as shdlc_moved}
-use Rattle.message_link.proofs.Steps.{FromHost, Rests, Heard, is_shdlc, heard_end, heard_is, counted_is, mid_counted, took_open, took_closed, no_fault_first, polite, role_closes, stays_down, act_mid}
-use Rattle.session_laws.proofs.Steps.{took as core_took}
+use Rattle.message_link.proofs.Steps.{ComesFirst, Heard, is_shdlc, heard_end, heard_is, counted_is, mid_counted, took_open, took_closed, no_fault_first, polite, role_closes, stays_down, act_mid}
 use Rattle.message_link.proofs.Finishing.{reset_tells, reset_keeps}
 use Rattle.link_entries.specs.Entries.{left_after}
 use Rattle.link_entries.proofs.Losing.{out_noted}
@@ -43,12 +41,11 @@ ignore_noted : (n : Losses) (c : CoreLink) (ts : List CoreTurn) (x : OnWire) (xs
 ignore_noted n c ts x xs p q = rw (p, q) refl
 
 -- what is lost as a frame is taken
-pub take_noted : (n : Losses) (l : Link) (ts : List Turn) (x : OnWire) (xs : List OnWire) → l.to_controller ≡ x ∷ xs → AreSendableTurns ts
-    → IsPolite l.controller.side (x ∷ xs) → Tells l.controller → Tells l.host → Rests l.controller.side.shdlc → FromHost (core_took (core_of l) [] x xs)
+pub take_noted : (n : Losses) (l : Link) (ts : List Turn) (x : OnWire) (xs : List OnWire) → AreSendableTurns ts → ComesFirst l x xs
     → noted_turns n (core_of l) (core_take l.controller.side x.frame ts)
     ≡ noted_all (came_up n (core_of (left_after l x xs)) (began_by l.controller.side (Take x.frame))) (core_of (left_after l x xs))
     (frames_out (turned (took l.controller.side x.frame) ts))
-take_noted n l ts x xs w a p h t rests from = go x.frame refl
+take_noted n l ts x xs a comes = go x.frame refl
   where
     e : LinkEnd
     e = l.controller.side
@@ -102,7 +99,7 @@ take_noted n l ts x xs w a p h t rests from = go x.frame refl
         let k_is : left_core l x xs (is_some (take_answer e.shdlc x.frame).ended) ≡ k = ap (left_core l x xs) heard.ended ∙ sym (left b ends) in
         let first : noted_here n c (CoreDeliver us)
         ≡ noted_out (came_up n (left_core l x xs (is_some (take_answer e.shdlc x.frame).ended)) (take_answer e.shdlc x.frame).began)
-        (left_core l x xs (is_some (take_answer e.shdlc x.frame).ended)) s = rw w refl in
+        (left_core l x xs (is_some (take_answer e.shdlc x.frame).ended)) s = rw comes.first refl in
         ap (noted_turns n c) (take_open x.frame q o ∙ ap (λ g. CoreDeliver (core_turns g ts) ∷ []) is)
         ∙ (first
         ∙ (ap (λ z. noted_out (came_up n z (take_answer e.shdlc x.frame).began) z s) k_is
@@ -119,8 +116,8 @@ take_noted n l ts x xs w a p h t rests from = go x.frame refl
         let s : EndState = core_turned e.shdlc us in
         let shdlc : (turned f ts).shdlc ≡ s = tm.is ∙ ap (λ z. core_turned z us) same in
         let beg : began_by e (Take x.frame) ≡ false = ap (λ z. z && (take_answer e.shdlc x.frame).began) o in
-        let down = h.now.closed o in
-        let first : noted_here n c (CoreIgnore us) ≡ noted_out n (left_core l x xs false) s = ignore_noted n c us x xs down w in
+        let down = comes.tells.now.closed o in
+        let first : noted_here n c (CoreIgnore us) ≡ noted_out n (left_core l x xs false) s = ignore_noted n c us x xs down comes.first in
         ap (noted_turns n c) (take_closed x.frame q o ∙ ap (λ g. CoreIgnore (core_turns g ts) ∷ []) is)
         ∙ (first
         ∙ (ap (λ z. noted_out n z s) (sym (left false ends))
@@ -130,43 +127,43 @@ take_noted n l ts x xs w a p h t rests from = go x.frame refl
 
     shdlc : (b : Bool) → is_open e.role ≡ b → is_shdlc x.frame ≡ true → is_act x.frame ≡ false → Goal
     shdlc true o s q =
-        let f = took_open e x s o (no_fault_first l x xs w h t o from) in
-        open_as (heard_end e x) (is_some (take_answer e.shdlc x.frame).ended) q o f.0 f.1 (heard_is e x h.now o)
-    shdlc false o s q = let f = took_closed e x.frame s o in closed_as e q o f.0 f.1 refl h.now
+        let f = took_open e x s o (no_fault_first l x xs comes.first comes.tells comes.host o comes.from) in
+        open_as (heard_end e x) (is_some (take_answer e.shdlc x.frame).ended) q o f.0 f.1 (heard_is e x comes.tells.now o)
+    shdlc false o s q = let f = took_closed e x.frame s o in closed_as e q o f.0 f.1 refl comes.tells.now
 
     counts : (b : Bool) → is_open e.role ≡ b → x.frame ≡ Clt → Goal
     counts true o q =
         open_as (record e { passed_over = e.passed_over + 1 }) false (ap is_act q) o (ap (took e) q) (ap (λ y. is_some (ended_by e (Take y))) q)
-        (counted_is e x h.now q)
+        (counted_is e x comes.tells.now q)
     counts false o q =
         closed_as (record e { passed_over = e.passed_over + 1 }) (ap is_act q) o (ap (took e) q) (ap (λ y. is_some (ended_by e (Take y))) q) refl
-        (mid_counted None e (e.passed_over + 1) h.now)
+        (mid_counted None e (e.passed_over + 1) comes.tells.now)
 
     -- a frame of activation
     acts : (act : Activation) (again : Bool) → x.frame ≡ Act act again → Goal
     acts act again q =
         let event : ActEvent = ActTake act again in
-        let down = polite e x xs act again q p in
+        let down = polite e x xs act again q comes.polite in
         let o : Option Activation = (act_answer e.role event).send in
         let closed : is_open (role_after e.role event) ≡ false → e.shdlc.phase ≡ IsDown = λ z. by (role_closes e.role act again z) in
         let f : LinkEnd = activated e event in
-        let m = act_mid e event h.now rests.due down closed in
+        let m = act_mid e event comes.tells.now comes.rests.due down closed in
         let is : took e x.frame ≡ f = ap (took e) q in
         let us : List CoreTurn = core_turns f ts in
         let tm = turns_mid o f ts a m.mid in
         let s : EndState = core_turned e.shdlc us in
         let same : (turned f ts).shdlc ≡ s = tm.is ∙ ap (λ z. core_turned z us) m.same in
         let ends : is_some (ended_by e (Take x.frame)) ≡ false =
-        ap (λ y. is_some (ended_by e (Take y))) q ∙ (stays_down (act_answer e.role event).ended_link e down rests.due h.now.acts).1 in
+        ap (λ y. is_some (ended_by e (Take y))) q ∙ (stays_down (act_answer e.role event).ended_link e down comes.rests.due comes.tells.now.acts).1 in
         let counts : took_with l.controller.took x ≡ l.controller.took = no_number (ap is_rset q) in
         let gone : CoreLink = record c { to_controller = xs } in
         let k_is : k ≡ gone = left false ends ∙ ap (λ z. record (record c { to_controller = xs }) { controller = record c.controller { took = z } }) counts in
         let beg : began_by e (Take x.frame) ≡ false = ap (λ y. began_by e (Take y)) q ∙ none e.shdlc.phase refl in
         let list : core_take e x.frame ts ≡ CoreLose ∷ CoreActs (option_to_list o) us ∷ [] = ap (λ y. core_take e y ts) q in
         let lost : noted_here n c CoreLose ≡ n =
-        ap (λ z. record n { lost = n.lost || counts_first z }) w
+        ap (λ z. record n { lost = n.lost || counts_first z }) comes.first
         ∙ (ap (λ z. record n { lost = n.lost || not z }) (ap is_act q) ∙ ap (λ z. record n { lost = z }) (or_none n.lost)) in
-        let link : core_happens_here c CoreLose ≡ gone = ap (λ z. record c { to_controller = drop 1 z }) w in
+        let link : core_happens_here c CoreLose ≡ gone = ap (λ z. record c { to_controller = drop 1 z }) comes.first in
         ap (noted_turns n c) list
         ∙ (ap (λ z. noted_here z (core_happens_here c CoreLose) (CoreActs (option_to_list o) us)) lost
         ∙ (ap (λ z. noted_here n z (CoreActs (option_to_list o) us)) link
@@ -176,8 +173,8 @@ take_noted n l ts x xs w a p h t rests from = go x.frame refl
         ∙ ap (λ g. noted_all (came_up n k (began_by e (Take x.frame))) k (frames_out (turned g ts))) (sym is))))))
       where
         by : (is_open e.role ≡ false) ⊎ ((act_answer e.role (ActTake act again)).ended_link ≡ true) → e.shdlc.phase ≡ IsDown
-        by (inl z) = h.now.closed z
-        by (inr z) = polite e x xs act again q p z
+        by (inl z) = comes.tells.now.closed z
+        by (inr z) = polite e x xs act again q comes.polite z
 
         no_number : is_rset x.frame ≡ false → took_with l.controller.took x ≡ l.controller.took
         no_number z = rw z refl

@@ -10,29 +10,26 @@ use Rattle.shdlc_core.specs.declared.answers.LinkState.TheVariants.{Down as IsDo
 use Rattle.shdlc_core.specs.Machine.{most_frames}
 use Rattle.session_laws.specs.Sessions.{OnWire, is_up, took_with}
 use Rattle.link_machine.specs.Machine.{LinkEnd, Refused, LinkInput, Turn, Report, report, turn, turned, give_refusal, took, after_input, ended_by, began_by, whole_acked, frames_out}
-use Rattle.link_machine.specs.Machine.LinkInput.{Take, Tick as HasTick, Reset, Start, Stop}
+use Rattle.link_machine.specs.Machine.LinkInput.{Take, Tick as HasTick, Reset}
 use Rattle.link_machine.specs.Machine.Turn.{Give, Hold, FetchMessage, SetAside, Release}
 use Rattle.link_machine.proofs.Shifts.{Shift, IsNotUp}
 use Rattle.link_machine.proofs.Shifts.Shift.{Stays, Ends, Renews, Begins, Rests as ShiftRests}
-use Rattle.link_machine.proofs.Reports.{Reports, take_so, tick_so, reset_so, start_so, stop_so}
-use Rattle.message_link.specs.Links.{NumberedEnd, Link, Loss, Ending, Node, EndEvent, number_of, put, becomes, silent, finished, with_ended, has_taken, happens_at_controller, ticks_at_controller, CanEnd, IsNode, IsAllowed, IsOwn}
+use Rattle.link_machine.proofs.Reports.{Reports, take_so, tick_so, reset_so}
+use Rattle.message_link.specs.Links.{NumberedEnd, Link, Loss, Ending, Node, EndEvent, number_of, put, becomes, silent, finished, with_ended, has_taken, happens_at_controller, ticks_at_controller, IsNode, IsAllowed, IsOwn}
 use Rattle.message_link.specs.Links.Ending.{GoesOut, CutOff}
 use Rattle.message_link.specs.Links.Comes.{NextFrame, AsksReset, Starts, Stops, NoInput}
 use Rattle.message_link.specs.Links.EndEvent.{Step, Lose}
-use Rattle.message_link.specs.Projection.{core_of}
-use Rattle.message_link.proofs.Runs.{rests_of}
-use Rattle.swp_act.specs.declared.ActEvent.TheVariants.{Start as ActStart, Stop as ActStop}
 use Rattle.message_link.specs.Links.Loss.{TooMany}
 use Rattle.message_link.proofs.Ends.{frames_alike}
 use Rattle.link_entries.specs.Entries.{End, Entry, far, if_so, told, told_of, turn_entry, turn_entries, sent_unless, first_lost, wire_with, put_entries, puts_entries, rest_entries, input_entries, restart_entries, step_entries, here_entries, tick_entries, left_after, taken_entries, aged_entries}
 use Rattle.link_entries.specs.Entries.Entry.{Up, Down, Active, GaveUp, Acked, Got, Cut}
 use Rattle.link_entries.specs.Sessions.{hear, number_now}
 use Rattle.link_entries.proofs.Books.{same_self, same_far, with_side}
-use Rattle.link_entries.proofs.Stepping.{puts_number}
-use Rattle.link_entries.proofs.Noting.{turned_same, IsQuietEnd, quiet_idle, quiet_reset, quiet_tick, not_up_quiet, restarted_down, Near, Frame, Frames, ended_number, reset_role, restart_can, tick_can}
+use Rattle.link_entries.proofs.Stepping.{puts_number, CanFinish}
+use Rattle.link_entries.proofs.Noting.{turned_same, IsQuietEnd, Near, Frame, Frames, ended_number, IsRestart, start_restarts, stop_restarts, idle_finishes, tick_finishes, reset_finishes, take_finishes, restart_finishes}
 use Rattle.link_entries.proofs.Completing.{new_not_up}
-use Rattle.message_link.proofs.Finishing.{can_end, took_can}
-use Rattle.link_entries.proofs.Running.{Before, frame_facts}
+use Rattle.link_entries.proofs.Running.{Before, frame_facts, near_of}
+use Rattle.swp_act.specs.declared.ActEvent.{ActEvent}
 
 -- ## Sessions
 
@@ -206,16 +203,16 @@ rest_session l e ts quiet =
     (λ up. puts_number l (frames_out f) (quiet (turned_same ts e ∙ up)))
 
 -- turns of the node of an end that is e by now, and how the step ends
-rest_heard : (who : End) (l : Link) (e : LinkEnd) (ts : List Turn) (ending : Ending) → IsQuietEnd e ts → CanEnd (turned e ts).role ending
+rest_heard : (who : End) (l : Link) (e : LinkEnd) (ts : List Turn) (ending : Ending) → CanFinish e ts ending
     → heard who (number_now (with_side l.controller e)) (rest_entries who l e ts ending) ≡ number_now (finished l (turned e ts) ending).controller
-rest_heard who l e ts GoesOut quiet can = passes_out who who l e ts (number_now (with_side l.controller e)) ∙ sym (rest_session l e ts quiet)
-rest_heard who l e ts CutOff quiet can =
+rest_heard who l e ts GoesOut finishes = passes_out who who l e ts (number_now (with_side l.controller e)) ∙ sym (rest_session l e ts finishes.quiet)
+rest_heard who l e ts CutOff finishes =
     let s : Option ℕ = number_now (with_side l.controller e) in
     let us : List Entry = turn_entries who (number_of l.controller) e ts in
     let last : heard who s (Cut who ∷ []) ≡ None = let q = same_self who in rw q refl in
     heard-append who s us (Cut who ∷ [])
     ∙ (ap (λ z. heard who z (Cut who ∷ [])) (passes_turns who who (number_of l.controller) e ts s)
-    ∙ (last ∙ sym (down_session (finished l (turned e ts) CutOff).controller (new_not_up (turned e ts).role can))))
+    ∙ (last ∙ sym (down_session (finished l (turned e ts) CutOff).controller (new_not_up (turned e ts).role finishes.can))))
 
 -- ## Steps
 
@@ -225,13 +222,13 @@ pub record Heard (who : End) (l m : Link) (u : List Entry) : Type 0 where
   pub there : Passes (far who) u
 
 -- an input of the end, which has taken an RSET with the number `took` then, and what follows it
-input_heard : (who : End) (l k : Link) (took : ℕ) (i : LinkInput) (ts : List Turn) (ending : Ending) → Reports l.controller.side i
+input_heard : (who : End) (l k : Link) (took : ℕ) (i : LinkInput) {ts : List Turn} {ending : Ending} → Reports l.controller.side i
     → number_of k.controller ≡ max l.controller.emitted took
     → (l.controller.side.shdlc.phase ≡ IsUpNow → is_some (ended_by l.controller.side i) ≡ false → max l.controller.emitted took ≡ number_of l.controller)
-    → IsQuietEnd (after_input l.controller.side i) ts → CanEnd (turned (after_input l.controller.side i) ts).role ending
+    → CanFinish (after_input l.controller.side i) ts ending
     → Heard who l (finished k (turned (after_input l.controller.side i) ts) ending)
     (told_of who (record l.controller { took = took }) i ++ rest_entries who k (after_input l.controller.side i) ts ending)
-input_heard who l k took i ts ending so number same quiet can =
+input_heard who l k took i {ts} {ending} so number same finishes =
     let e : LinkEnd = l.controller.side in
     let f : LinkEnd = after_input e i in
     let h : NumberedEnd = record l.controller { took = took } in
@@ -242,45 +239,40 @@ input_heard who l k took i ts ending so number same quiet can =
     ∙ (shifted l.controller (with_side h f) (is_some (ended_by e i)) (began_by e i) so.shift same
     ∙ same_session (with_side h f) (with_side k.controller f) refl (λ up. sym number)) in
     record {
-      here = heard-append who (number_now l.controller) us vs ∙ (ap (λ z. heard who z vs) now ∙ rest_heard who k f ts ending quiet can);
+      here = heard-append who (number_now l.controller) us vs ∙ (ap (λ z. heard who z vs) now ∙ rest_heard who k f ts ending finishes);
       there = passes-append (far who) us vs (passes_told who (number_of h) (report e i) (whole_acked f)) (rest_far who k f ts ending);
     }
 
 -- an input of its own
-own_input_heard : (who : End) (l : Link) (i : LinkInput) (ts : List Turn) (ending : Ending) → Reports l.controller.side i
-    → IsQuietEnd (after_input l.controller.side i) ts → CanEnd (turned (after_input l.controller.side i) ts).role ending
+own_input_heard : (who : End) (l : Link) (i : LinkInput) {ts : List Turn} {ending : Ending} → Reports l.controller.side i
+    → CanFinish (after_input l.controller.side i) ts ending
     → Heard who l (finished (with_ended l (is_some (ended_by l.controller.side i))) (turned (after_input l.controller.side i) ts) ending)
     (input_entries who l i ts ending)
-own_input_heard who l i ts ending so quiet can =
+own_input_heard who l i so finishes =
     let b : Bool = is_some (ended_by l.controller.side i) in
-    input_heard who l (with_ended l b) l.controller.took i ts ending so (ended_number l b) (λ up q. refl) quiet can
+    input_heard who l (with_ended l b) l.controller.took i so (ended_number l b) (λ up q. refl) finishes
 
 pub tick_heard : (who : End) (l : Link) (node : Node) → IsNode l node.turns node.ending → Near l
     → Heard who l (ticks_at_controller l node.turns node.ending) (tick_entries who l node)
-tick_heard who l node a n =
-    own_input_heard who l HasTick node.turns node.ending (tick_so l.controller.side n.sound) (quiet_tick l node.turns a.0 n.tells n.rests)
-    (tick_can l.controller.side node.turns node.ending a.1)
+tick_heard who l node a n = own_input_heard who l HasTick (tick_so l.controller.side n.sound) (tick_finishes l node a n)
 
 -- activation begins or ends
-restart_heard : (who : End) (l : Link) (i : LinkInput) (ts : List Turn) (ending : Ending) → Reports l.controller.side i
-    → IsNotUp (after_input l.controller.side i).shdlc → CanEnd (turned (after_input l.controller.side i) ts).role ending
+restart_heard : (who : End) (l : Link) {i : LinkInput} {event : ActEvent} (ts : List Turn) (ending : Ending) → IsNode l ts ending → Near l
+    → IsRestart l.controller.side i event
     → Heard who l (finished (silent l (after_input l.controller.side i)) (turned (after_input l.controller.side i) ts) ending)
     (restart_entries who l i ts ending)
-restart_heard who l i ts ending so down can =
-    let f : LinkEnd = after_input l.controller.side i in
-    let h = input_heard who l (silent l f) l.controller.took i ts ending so (ended_number l (is_up l.controller.side.shdlc.phase)) (λ up q. refl)
-    (not_up_quiet f ts down) can in
+restart_heard who l {i} ts ending a n r =
+    let h = input_heard who l (silent l (after_input l.controller.side i)) l.controller.took i r.reports
+    (ended_number l (is_up l.controller.side.shdlc.phase)) (λ up q. refl) (restart_finishes l ts ending a n r) in
     record { here = h.here; there = h.there }
 
-taken_heard : (who : End) (l : Link) (x : OnWire) (xs : List OnWire) (ts : List Turn) (ending : Ending) → CanEnd l.controller.side.role ending
-    → Near l → Frame l x ts
+taken_heard : (who : End) (l : Link) (x : OnWire) (xs : List OnWire) (ts : List Turn) (ending : Ending) → IsNode l ts ending → Near l → Frame l x ts
     → Heard who l (has_taken l x xs ts ending) (taken_entries who l x xs ts ending)
-taken_heard who l x xs ts ending can n fr =
+taken_heard who l x xs ts ending a n fr =
     let e : LinkEnd = l.controller.side in
     let i : LinkInput = Take x.frame in
-    let h = input_heard who l (left_after l x xs) (took_with l.controller.took x) i ts ending (take_so e x.frame n.sound) (number (is_some (ended_by e i)))
-    (λ up q. ap (max l.controller.emitted) (fr.same up q)) (λ _. fr.quiet)
-    (can_end (took e x.frame) ts (took e x.frame).role ending refl (took_can e x.frame ending can)) in
+    let h = input_heard who l (left_after l x xs) (took_with l.controller.took x) i (take_so e x.frame n.sound) (number (is_some (ended_by e i)))
+    (λ up q. ap (max l.controller.emitted) (fr.same up q)) (take_finishes l x ts ending a n fr) in
     record { here = h.here; there = h.there }
   where
     number : (c : Bool) → number_of (record (with_ended (record l { to_controller = xs }) c).controller { took = took_with l.controller.took x })
@@ -293,24 +285,15 @@ pub own_heard : (who : End) (l : Link) (e : EndEvent) → IsOwn e → IsAllowed 
 own_heard who l (Lose why) o a n = absurd o
 own_heard who l (Step NextFrame ts ending) o a n = absurd o
 own_heard who l (Step (AsksReset window) ts ending) o a n =
-    own_input_heard who l (Reset window) ts ending (reset_so l.controller.side window n.sound) (quiet_reset l window ts a.1.0 n.tells n.rests)
-    (can_end (after_input l.controller.side (Reset window)) ts l.controller.side.role ending (reset_role l.controller.side window) a.1.1)
-own_heard who l (Step (Starts v) ts ending) o a n =
-    restart_heard who l (Start v) ts ending (start_so l.controller.side v n.sound) (restarted_down l.controller.side (ActStart v) n.tells.now)
-    (restart_can l.controller.side (ActStart v) ts ending a.1.1)
-own_heard who l (Step Stops ts ending) o a n =
-    restart_heard who l Stop ts ending (stop_so l.controller.side n.sound) (restarted_down l.controller.side ActStop n.tells.now)
-    (restart_can l.controller.side ActStop ts ending a.1.1)
+    own_input_heard who l (Reset window) (reset_so l.controller.side window n.sound) (reset_finishes l window ts ending a.1 n)
+own_heard who l (Step (Starts v) ts ending) o a n = restart_heard who l ts ending a.1 n (start_restarts l.controller.side v n.sound)
+own_heard who l (Step Stops ts ending) o a n = restart_heard who l ts ending a.1 n (stop_restarts l.controller.side n.sound)
 own_heard who l (Step NoInput ts ending) o a n =
-    record {
-      here = rest_heard who l l.controller.side ts ending (quiet_idle l ts a.1.0 n.tells n.rests)
-          (can_end l.controller.side ts l.controller.side.role ending refl a.1.1);
-      there = rest_far who l l.controller.side ts ending;
-    }
+    record { here = rest_heard who l l.controller.side ts ending (idle_finishes l ts ending a.1 n); there = rest_far who l l.controller.side ts ending }
 
-frame_heard : (who : End) (l : Link) (ts : List Turn) (ending : Ending) → CanEnd l.controller.side.role ending → Near l → Frames l ts
+frame_heard : (who : End) (l : Link) (ts : List Turn) (ending : Ending) → IsNode l ts ending → Near l → Frames l ts
     → Heard who l (happens_at_controller l (Step NextFrame ts ending)) (step_entries who l NextFrame ts ending)
-frame_heard who l ts ending can n frames = go l.to_controller refl
+frame_heard who l ts ending a n frames = go l.to_controller refl
   where
     m : Link
     m = happens_at_controller l (Step NextFrame ts ending)
@@ -331,18 +314,18 @@ frame_heard who l ts ending can n frames = go l.to_controller refl
         let some : u ≡ taken_entries who l x xs ts ending = rw q refl in
         let next : m ≡ has_taken l x xs ts ending = rw q refl in
         let Q : List Entry → Type 0 = λ z. Heard who l (has_taken l x xs ts ending) z in
-        subst P (sym next) (subst Q (sym some) (taken_heard who l x xs ts ending can n (frames x xs q)))
+        subst P (sym next) (subst Q (sym some) (taken_heard who l x xs ts ending a n (frames x xs q)))
 
 pub here_heard : (who : End) (l : Link) (e : EndEvent) → IsAllowed l e → Before l → Heard who l (happens_at_controller l e) (here_entries who l e)
 here_heard who l e a b = go e a
   where
     near : Near l
-    near = record { tells = b.tells; rests = rests_of 0 0 (core_of l) b.safe; sound = b.sound }
+    near = near_of l b
 
     go : (e : EndEvent) → IsAllowed l e → Heard who l (happens_at_controller l e) (here_entries who l e)
     go (Lose why) a =
         record { here = passes_lost who who why l.to_controller (number_now l.controller); there = passes_lost (far who) who why l.to_controller }
-    go (Step NextFrame ts ending) a = frame_heard who l ts ending a.1.1 near (frame_facts l ts a.1.0 b)
+    go (Step NextFrame ts ending) a = frame_heard who l ts ending a.1 near (frame_facts l ts a.1.0 b)
     go (Step (AsksReset window) ts ending) a = own_heard who l (Step (AsksReset window) ts ending) tt a near
     go (Step (Starts v) ts ending) a = own_heard who l (Step (Starts v) ts ending) tt a near
     go (Step Stops ts ending) a = own_heard who l (Step Stops ts ending) tt a near

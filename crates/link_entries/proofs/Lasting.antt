@@ -13,13 +13,10 @@ use Rattle.link_machine.specs.Machine.LinkInput.{Take}
 use Rattle.message_link.specs.Links.{NumberedEnd, Link, Ending, number_of, AreSendableTurns}
 use Rattle.message_link.specs.Links.Ending.{GoesOut, CutOff}
 use Rattle.message_link.specs.Projection.{core_of, core_half, core_take, core_ending}
-use Rattle.message_link.proofs.Steps.{FromHost, core_first}
-use Rattle.message_link.proofs.Runs.{rests_of}
-use Rattle.message_link.proofs.Calm.{polite_of, IsPolite}
 use Rattle.link_entries.specs.Entries.{End, Entry, turn_entries, left_after, puts_entries, rest_entries}
 use Rattle.link_entries.specs.Entries.Entry.{Up, Cut}
 use Rattle.link_entries.specs.Quiet.{begins, since}
-use Rattle.link_entries.proofs.Running.{Before}
+use Rattle.link_entries.proofs.Running.{Before, comes_first}
 use Rattle.link_entries.proofs.Losing.{bad, Disturbed, disturbed_left, disturbed_right, Grows, flush_grows}
 use Rattle.link_entries.proofs.Disturbing.{take_noted}
 
@@ -96,11 +93,11 @@ knows_more t u n m h k same grows x =
         which (inr b) = disturbed_right (since (number_of h) t) u b
 
 -- the end comes up: first in its session, or where the other end is up with its number
-pub knows_new : (t pre v : List Entry) (who : End) (n m : Losses) (other k : NumberedEnd) → Knows t n other
+pub knows_new : {t : List Entry} (pre v : List Entry) (who : End) {n m : Losses} {other k : NumberedEnd} → Knows t n other
     → Grows n m (pre ++ (Up who (number_of k) ∷ v))
     → (is_up_with (core_half other) (number_of k) ≡ false → bad m ≡ true → Disturbed v)
     → Knows (t ++ (pre ++ (Up who (number_of k) ∷ v))) m k
-knows_new t pre v who n m other k x grows first =
+knows_new {t} pre v who {n} {m} {other} {k} x grows first =
     record { has = λ up. has_later j t u (has_up j who pre v); tells = λ up b. go (is_up_with (core_half other) j) refl b }
   where
     j : ℕ
@@ -182,6 +179,4 @@ taken_noted n l ts ending x xs w a b =
     noted-append n (core_of l) (core_take l.controller.side x.frame ts) (core_ending ending)
     ∙ (ending_noted (noted_turns n (core_of l) (core_take l.controller.side x.frame ts))
     (core_all_here (core_of l) (core_take l.controller.side x.frame ts)) ending
-    ∙ take_noted n l ts x xs w a
-    (subst (IsPolite l.controller.side) w (polite_of l.controller.side l.host.side.role l.to_controller l.to_host b.calm b.tells.now.closed)) b.tells b.host
-    (rests_of 0 0 (core_of l) b.safe) (subst FromHost (core_first (core_of l) [] x xs w) b.from))
+    ∙ take_noted n l ts x xs a (comes_first l x xs w b))

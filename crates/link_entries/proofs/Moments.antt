@@ -4,7 +4,7 @@ use Rattle.std.specs.Prelude.{max}
 use Rattle.std.proofs.lemmas.List.{take-append-le}
 use Rattle.std.proofs.lemmas.List.Elements.{filter-append}
 use Rattle.hcp_packet.specs.Packets.{IsFrontOf, good_of, is_good}
-use Rattle.link_machine.specs.Machine.{Message, messages_got, whole_among}
+use Rattle.link_machine.specs.Machine.{Message}
 use Rattle.session_laws.specs.Sessions.{shdlc_session_of}
 use Rattle.session_laws.proofs.Data.{Base}
 use Rattle.session_laws.proofs.Sending.{SafeLink}
@@ -66,9 +66,10 @@ as_read : (t : List Entry) (who : End) (n : ℕ) (b : Book) → read t who n ≡
     × (acked_noted t who n ≡ b.acked)
 as_read t who n b q = (ap (λ (z : Book). z.sent) q, ap (λ (z : Book). z.got) q, ap (λ (z : Book). z.acked) q)
 
-in_order_as : (t : List Entry) (who : End) (n : ℕ) (s g : List Message) (a : ℕ) → sent_noted t who n ≡ s → acked_noted t who n ≡ a → got_noted t (far who) n ≡ g
+in_order_as : (t : List Entry) (who : End) (n : ℕ) {s g : List Message} {a : ℕ} → sent_noted t who n ≡ s → acked_noted t who n ≡ a
+    → got_noted t (far who) n ≡ g
     → IsFrontOf g (good_of s) → IsFrontOf (good_of (take a s)) g → a ≤ length s → InOrderIn t who n
-in_order_as t who n s g a p q r got acked few =
+in_order_as t who n {s} {g} {a} p q r got acked few =
     let G : List Message → Type 0 = λ z. IsFrontOf z (good_of s) in
     let H : List Message → Type 0 = λ z. IsFrontOf (got_noted t (far who) n) (good_of z) in
     let A : List Message → Type 0 = λ z. IsFrontOf (good_of (take a s)) z in
@@ -110,7 +111,7 @@ mine t u p who n before after one few f =
     let G : List Message → Type 0 = λ z. IsFrontOf (good_of (take (acked_noted (t ++ u) who n) (sent_noted (t ++ u) who n))) z in
     let done : IsFrontOf (good_of (take (acked_noted (t ++ u) who n) (sent_noted (t ++ u) who n))) (got_noted t (far who) n) = subst G there_all.1 a.acked in
     let H : List Message → Type 0 = λ z. IsFrontOf (got_noted t (far who) n) z in
-    in_order_as (t ++ p) who n s (got_noted t (far who) n) k here.0 here.2 there.1
+    in_order_as (t ++ p) who n here.0 here.2 there.1
     (subst H (sym (good-append (sent_noted t who n) (sent_noted p who n)))
     (front_more (got_noted t (far who) n) (good_of (sent_noted t who n)) (good_of (sent_noted p who n)) b.got))
     (front_then (good_of (take k s)) (good_of (take (acked_noted (t ++ u) who n) (sent_noted (t ++ u) who n))) (got_noted t (far who) n)
@@ -149,7 +150,7 @@ theirs t u p who n before after one f =
     let Z : List Message → Type 0 = λ z. IsFrontOf (good_of (take (acked_noted t (far who) n) (sent_noted t (far who) n))) z in
     let acked_front : IsFrontOf (good_of (take (acked_noted t (far who) n) (sent_noted t (far who) n))) g =
     front_more (good_of (take (acked_noted t (far who) n) (sent_noted t (far who) n))) (got_noted t who n) (got_noted p who n) (subst Z got_before b.acked) in
-    in_order_as (t ++ p) (far who) n (sent_noted t (far who) n) g (acked_noted t (far who) n) there.0 there.2 got_here got_front acked_front b.few
+    in_order_as (t ++ p) (far who) n there.0 there.2 got_here got_front acked_front b.few
 
 pub between : (t u : List Entry) (who : End) → Ok t → Ok (t ++ u) → OfOne who u → AllFew t who u → AllOk t u
 between t u who before after one few p f w n = go who w refl
@@ -176,7 +177,7 @@ ok_silent t u ok s who n =
     let r = as_read (t ++ u) (far who) n (read t (far who) n) (read-append t u (far who) n
     ∙ (ap (plus (read t (far who) n)) (s (far who) n) ∙ plus-blank (read t (far who) n))) in
     let k = ok who n in
-    in_order_as (t ++ u) who n (sent_noted t who n) (got_noted t (far who) n) (acked_noted t who n) q.0 q.2 r.1 k.got k.acked k.few
+    in_order_as (t ++ u) who n q.0 q.2 r.1 k.got k.acked k.few
 
 -- ## A link and what was noted of it
 
@@ -206,7 +207,7 @@ order_in t who n s r p q o few =
     let b = as_read t (far who) n (book_of r) q in
     let l = ap (λ (ms : List Message). length ms) a.0 in
     let i = few n in
-    in_order_as t who n s.sent (messages_got r.session) (whole_among s.sent s.session.acked) a.0 a.2 b.1 o.got o.acked (omega (arith, i, l, a.2))
+    in_order_as t who n a.0 a.2 b.1 o.got o.acked (omega (arith, i, l, a.2))
 
 pub ok_link : (t : List Entry) (kn kf : ℕ) (l : Link) → SafeLink kn kf (core_of l) → Tells l.controller → Tells l.host → Tolds t Controller l → Ok t
 ok_link t kn kf l s c h b Controller n =

@@ -9,7 +9,7 @@ use Rattle.shdlc_core.specs.declared.answers.LinkState.{LinkState}
 use Rattle.shdlc_core.specs.declared.answers.LinkState.TheVariants.{Down as IsDown, Waiting as IsWaitingNow, Up as IsUpNow}
 use Rattle.shdlc_core.specs.Machine.{EndState, ticked, tick_answer, is_waiting, reset_with, stopped}
 use Rattle.session_laws.specs.Sessions.{OnWire, is_up, took_with}
-use Rattle.link_machine.specs.Machine.{LinkEnd, Role, Refused, LinkInput, Turn, report, turn, turned, is_open, role_after, act_answer, moved, activated, new_link_end, renewed, if_up, reset_refusal, give_refusal, aside_refusal, reset_by, window_of, took, after_input, ended_by, began_by, frames_out, sent_all}
+use Rattle.link_machine.specs.Machine.{LinkEnd, Role, Refused, LinkInput, Turn, turn, turned, is_open, role_after, act_answer, moved, activated, new_link_end, renewed, if_up, reset_refusal, give_refusal, aside_refusal, reset_by, window_of, took, after_input, ended_by, began_by, frames_out, sent_all}
 use Rattle.link_machine.specs.Machine.Role.{Bare, Clf, Uicc}
 use Rattle.link_machine.specs.Machine.LinkInput.{Take, Tick as HasTick, Reset, Start, Stop}
 use Rattle.link_machine.specs.Machine.Turn.{Give, Hold, FetchMessage, SetAside, Release}
@@ -27,9 +27,9 @@ use Rattle.message_link.proofs.Steps.{Rests, activated_role, act_mid, tick_close
 use Rattle.message_link.proofs.Finishing.{can_end, can_after, took_can, none_out, reset_tells, reset_waits, tick_open, tick_closed, tick_role, waiting_phase, restart_mid}
 use Rattle.link_entries.specs.Entries.{End, Entry, far, told_of, rest_entries, left_after, taken_entries, restart_entries, step_entries, tick_entries}
 use Rattle.link_entries.specs.Entries.Entry.{Took, Restarted}
-use Rattle.link_entries.proofs.Books.{told_silent, Input, past_after, with_side}
+use Rattle.link_entries.proofs.Books.{told_silent, past_after}
 use Rattle.link_entries.proofs.Fronts.{few_told, few_more, few_then}
-use Rattle.link_entries.proofs.Stepping.{Tolds, Out, input_told, rest_told, sound_turns, sound_sent}
+use Rattle.link_entries.proofs.Stepping.{Tolds, Out, CanFinish, TakesInput, input_told, rest_told, sound_turns, sound_sent}
 
 -- ## Where an end is Up before its frames go out, no RSET is due
 
@@ -154,13 +154,36 @@ pub ended_past : (l : Link) (b : Bool) → (with_ended l b).controller.past ≡ 
 ended_past l false = refl
 ended_past l true = refl
 
--- an input by which no session begins
-plain_input : (l k : Link) (i : LinkInput) → Reports l.controller.side i → began_by l.controller.side i ≡ false
-    → k.controller.past ≡ past_after (is_some (ended_by l.controller.side i)) l.controller → number_of k.controller ≡ number_of l.controller
-    → Input l.controller (with_side k.controller (after_input l.controller.side i)) (is_some (ended_by l.controller.side i)) (began_by l.controller.side i)
-    (report l.controller.side i)
-plain_input l k i so none past number =
-    record { becomes = so; acked = refl; past = past; same = λ up q. number; fresh = λ q. absurd (true≢false (sym q ∙ none)) }
+-- l becomes k in front of an input by which no session begins
+pub record IsPlainInput (l k : Link) (i : LinkInput) : Type 0 where
+  pub reports : Reports l.controller.side i
+  pub none : began_by l.controller.side i ≡ false
+  pub number : number_of k.controller ≡ number_of l.controller
+  pub host : k.host ≡ l.host
+
+pub plain_ended : (l : Link) (b : Bool) {i : LinkInput} → Reports l.controller.side i → began_by l.controller.side i ≡ false
+    → IsPlainInput l (with_ended l b) i
+plain_ended l b so none = record { reports = so; none = none; number = ended_number l b; host = ended_host l b }
+
+pub plain_silent : (l : Link) (f : LinkEnd) {i : LinkInput} → Reports l.controller.side i → began_by l.controller.side i ≡ false
+    → IsPlainInput l (silent l f) i
+plain_silent l f so none =
+    let b : Bool = is_up l.controller.side.shdlc.phase in record { reports = so; none = none; number = ended_number l b; host = ended_host l b }
+
+plain_input : {l k : Link} {i : LinkInput} → IsPlainInput l k i → k.controller.past ≡ past_after (is_some (ended_by l.controller.side i)) l.controller
+    → TakesInput l k i l.controller
+plain_input plain past = record {
+  input = record {
+    becomes = plain.reports;
+    acked = refl;
+    past = past;
+    same = λ up q. plain.number;
+    fresh = λ q. absurd (true≢false (sym q ∙ plain.none));
+  };
+  side = refl;
+  number = sym plain.number;
+  host = plain.host;
+}
 
 pub moved_can : (e : LinkEnd) (i : LinkInput) (ts : List Turn) (ending : Ending) (r : Role) → (after_input e i).role ≡ r → CanEnd r ending
     → CanEnd (turned (after_input e i) ts).role ending
@@ -190,15 +213,78 @@ tick_can e ts ending can = go (is_open e.role) refl
         let t = tick_closed e o in
         subst P (sym t.0) (can_end (activated e ActTick) ts (role_after e.role ActTick) ending (activated_role e ActTick) (can_after e.role ActTick ending can))
 
+-- how the step of an end can go on behind an input
+pub idle_finishes : (l : Link) (ts : List Turn) (ending : Ending) → IsNode l ts ending → Near l → CanFinish l.controller.side ts ending
+idle_finishes l ts ending a n = record {
+  sendable = a.0;
+  can = can_end l.controller.side ts l.controller.side.role ending refl a.1;
+  quiet = quiet_idle l ts a.0 n.tells n.rests;
+  sound = n.sound;
+}
+
+pub tick_finishes : (l : Link) (node : Node) → IsNode l node.turns node.ending → Near l
+    → CanFinish (after_input l.controller.side HasTick) node.turns node.ending
+tick_finishes l node a n = record {
+  sendable = a.0;
+  can = tick_can l.controller.side node.turns node.ending a.1;
+  quiet = quiet_tick l node.turns a.0 n.tells n.rests;
+  sound = sound_input l.controller.side HasTick tt n.sound;
+}
+
+pub reset_finishes : (l : Link) (window : Option ℕ) (ts : List Turn) (ending : Ending) → IsNode l ts ending → Near l
+    → CanFinish (after_input l.controller.side (Reset window)) ts ending
+reset_finishes l window ts ending a n = record {
+  sendable = a.0;
+  can = moved_can l.controller.side (Reset window) ts ending l.controller.side.role (reset_role l.controller.side window) a.1;
+  quiet = quiet_reset l window ts a.0 n.tells n.rests;
+  sound = sound_input l.controller.side (Reset window) tt n.sound;
+}
+
+pub take_finishes : (l : Link) (x : OnWire) (ts : List Turn) (ending : Ending) → IsNode l ts ending → Near l → Frame l x ts
+    → CanFinish (after_input l.controller.side (Take x.frame)) ts ending
+take_finishes l x ts ending a n fr =
+    let f : LinkEnd = after_input l.controller.side (Take x.frame) in
+    record {
+      sendable = a.0;
+      can = can_end f ts f.role ending refl (took_can l.controller.side x.frame ending a.1);
+      quiet = λ _. fr.quiet;
+      sound = sound_input l.controller.side (Take x.frame) tt n.sound;
+    }
+
+-- the input i begins or ends activation, by which the end restarts
+pub record IsRestart (e : LinkEnd) (i : LinkInput) (event : ActEvent) : Type 0 where
+  pub becomes : after_input e i ≡ activated (moved e true (stopped e.shdlc)) event
+  pub ended : ended_by e i ≡ if_up e.shdlc ByAct
+  pub none : began_by e i ≡ false
+  pub reports : Reports e i
+  pub sound : Sound (after_input e i)
+
+pub start_restarts : (e : LinkEnd) (v : ℕ) → Sound e → IsRestart e (Start v) (ActStart v)
+start_restarts e v s = record { becomes = refl; ended = refl; none = refl; reports = start_so e v s; sound = sound_input e (Start v) tt s }
+
+pub stop_restarts : (e : LinkEnd) → Sound e → IsRestart e Stop ActStop
+stop_restarts e s = record { becomes = refl; ended = refl; none = refl; reports = stop_so e s; sound = sound_input e Stop tt s }
+
+pub restart_finishes : (l : Link) {i : LinkInput} {event : ActEvent} (ts : List Turn) (ending : Ending) → IsNode l ts ending → Near l
+    → IsRestart l.controller.side i event → CanFinish (after_input l.controller.side i) ts ending
+restart_finishes l {i} {event} ts ending a n r =
+    let e : LinkEnd = l.controller.side in
+    let g : LinkEnd = activated (moved e true (stopped e.shdlc)) event in
+    let role : (after_input e i).role ≡ role_after e.role event =
+    ap (λ (z : LinkEnd). z.role) r.becomes ∙ activated_role (moved e true (stopped e.shdlc)) event in
+    let P : LinkEnd → Type 0 = λ z. IsQuietEnd z ts in
+    record {
+      sendable = a.0;
+      can = moved_can e i ts ending (role_after e.role event) role (can_after e.role event ending a.1);
+      quiet = subst P (sym r.becomes) (not_up_quiet g ts (restarted_down e event n.tells.now));
+      sound = r.sound;
+    }
+
 pub tick_told : (t : List Entry) (who : End) (l : Link) (node : Node) → IsNode l node.turns node.ending → Near l → Tolds t who l
     → Out t (tick_entries who l node) who (ticks_at_controller l node.turns node.ending)
 tick_told t who l node a n b =
-    let e : LinkEnd = l.controller.side in
-    let i : LinkInput = HasTick in
-    let c : Bool = is_some (ended_by e i) in
-    input_told t who l (with_ended l c) i l.controller node.turns node.ending
-    (plain_input l (with_ended l c) i (tick_so e n.sound) refl (ended_past l c) (ended_number l c)) refl (sym (ended_number l c)) (ended_host l c) a.0
-    (tick_can e node.turns node.ending a.1) (quiet_tick l node.turns a.0 n.tells n.rests) n.sound (sound_input e i tt n.sound) b
+    let c : Bool = is_some (ended_by l.controller.side HasTick) in
+    input_told HasTick (plain_input (plain_ended l c (tick_so l.controller.side n.sound) refl) (ended_past l c)) (tick_finishes l node a n) n.sound b
 
 pub if_up_is : (s : EndState) → is_up s.phase ≡ is_some (if_up s ByAct)
 if_up_is s = go s.phase refl
@@ -208,30 +294,22 @@ if_up_is s = go s.phase refl
     go IsWaitingNow p = rw p refl
     go IsDown p = rw p refl
 
-restart_told : (t : List Entry) (who : End) (l : Link) (i : LinkInput) (event : ActEvent) (ts : List Turn) (ending : Ending) → IsNode l ts ending → Near l
-    → after_input l.controller.side i ≡ activated (moved l.controller.side true (stopped l.controller.side.shdlc)) event
-    → ended_by l.controller.side i ≡ if_up l.controller.side.shdlc ByAct → began_by l.controller.side i ≡ false → Reports l.controller.side i
-    → Sound (after_input l.controller.side i) → Tolds t who l
+restart_told : {t : List Entry} {who : End} {l : Link} {i : LinkInput} {event : ActEvent} (ts : List Turn) (ending : Ending) → IsNode l ts ending → Near l
+    → IsRestart l.controller.side i event → Tolds t who l
     → Out t (restart_entries who l i ts ending) who (finished (silent l (after_input l.controller.side i)) (turned (after_input l.controller.side i) ts) ending)
-restart_told t who l i event ts ending a n is ended none so sf b =
+restart_told {t} {who} {l} {i} ts ending a n r b =
     let e : LinkEnd = l.controller.side in
     let f : LinkEnd = after_input e i in
     let c : Bool = is_up e.shdlc.phase in
     let k : Link = silent l f in
     let past : k.controller.past ≡ past_after (is_some (ended_by e i)) l.controller =
-    ended_past l c ∙ ap (λ x. past_after x l.controller) (if_up_is e.shdlc ∙ ap (λ o. is_some o) (sym ended)) in
+    ended_past l c ∙ ap (λ x. past_after x l.controller) (if_up_is e.shdlc ∙ ap (λ o. is_some o) (sym r.ended)) in
     let first : Tolds (t ++ Restarted who ∷ []) who l =
     record {
       here = told_silent t (Restarted who ∷ []) who l.controller (λ x m. refl) b.here;
       there = told_silent t (Restarted who ∷ []) (far who) l.host (λ x m. refl) b.there;
     } in
-    let g : LinkEnd = activated (moved e true (stopped e.shdlc)) event in
-    let role : f.role ≡ role_after e.role event = ap (λ (z : LinkEnd). z.role) is ∙ activated_role (moved e true (stopped e.shdlc)) event in
-    let P : LinkEnd → Type 0 = λ z. IsQuietEnd z ts in
-    let quiet : IsQuietEnd f ts = subst P (sym is) (not_up_quiet g ts (restarted_down e event n.tells.now)) in
-    let out = input_told (t ++ Restarted who ∷ []) who l k i l.controller ts ending
-    (plain_input l k i so none past (ended_number l c)) refl (sym (ended_number l c)) (ended_host l c) a.0
-    (moved_can e i ts ending (role_after e.role event) role (can_after e.role event ending a.1)) quiet n.sound sf first in
+    let out = input_told i (plain_input (plain_silent l f r.reports r.none) past) (restart_finishes l ts ending a n r) n.sound first in
     let vs : List Entry = told_of who l.controller i ++ rest_entries who k f ts ending in
     let Q : List Entry → Type 0 = λ z. Tolds z who (finished k (turned f ts) ending) in
     record {
@@ -239,9 +317,9 @@ restart_told t who l i event ts ending a n is ended none so sf b =
       few = few_then t who (Restarted who ∷ []) vs (few_more t who (Restarted who ∷ []) (few_told t who l.controller b.here) ((λ w m. refl), tt)) out.few;
     }
 
-taken_told : (t : List Entry) (who : End) (l : Link) (x : OnWire) (xs : List OnWire) (ts : List Turn) (ending : Ending) → IsNode l ts ending → Near l
+taken_told : {t : List Entry} {who : End} (l : Link) (x : OnWire) (xs : List OnWire) (ts : List Turn) (ending : Ending) → IsNode l ts ending → Near l
     → Frame l x ts → Tolds t who l → Out t (taken_entries who l x xs ts ending) who (has_taken l x xs ts ending)
-taken_told t who l x xs ts ending a n fr b =
+taken_told {t} {who} l x xs ts ending a n fr b =
     let e : LinkEnd = l.controller.side in
     let i : LinkInput = Take x.frame in
     let f : LinkEnd = after_input e i in
@@ -253,16 +331,20 @@ taken_told t who l x xs ts ending a n fr b =
       here = told_silent t (Took who x.frame ∷ []) who l.controller (λ y m. refl) b.here;
       there = told_silent t (Took who x.frame ∷ []) (far who) l.host (λ y m. refl) b.there;
     } in
-    let input : Input l.controller (with_side k.controller f) c (began_by e i) (report e i) =
+    let takes : TakesInput l k i h =
     record {
-      becomes = take_so e x.frame n.sound;
-      acked = refl;
-      past = past c;
-      same = λ up q. number c ∙ ap (max l.controller.emitted) (fr.same up q);
-      fresh = λ q. ap (talk_of l.controller) (number c) ∙ fr.fresh q;
+      input = record {
+        becomes = take_so e x.frame n.sound;
+        acked = refl;
+        past = past c;
+        same = λ up q. number c ∙ ap (max l.controller.emitted) (fr.same up q);
+        fresh = λ q. ap (talk_of l.controller) (number c) ∙ fr.fresh q;
+      };
+      side = refl;
+      number = sym (number c);
+      host = host c;
     } in
-    let out = input_told (t ++ Took who x.frame ∷ []) who l k i h ts ending input refl (sym (number c)) (host c) a.0
-    (can_end f ts f.role ending refl (took_can e x.frame ending a.1)) (λ _. fr.quiet) n.sound (sound_input e i tt n.sound) first in
+    let out = input_told i takes (take_finishes l x ts ending a n fr) n.sound first in
     let vs : List Entry = told_of who h i ++ rest_entries who k f ts ending in
     let Q : List Entry → Type 0 = λ z. Tolds z who (finished k (turned f ts) ending) in
     record {
@@ -294,20 +376,12 @@ FramesFor _ l ts = Unit {0}
 pub step_told : (t : List Entry) (who : End) (l : Link) (comes : Comes) (ts : List Turn) (ending : Ending) → IsNode l ts ending → Near l → FramesFor comes l ts
     → Tolds t who l → Out t (step_entries who l comes ts ending) who (steps_at_controller l comes ts ending)
 step_told t who l (AsksReset window) ts ending a n fr b =
-    let e : LinkEnd = l.controller.side in
-    let i : LinkInput = Reset window in
-    let c : Bool = is_some (ended_by e i) in
-    input_told t who l (with_ended l c) i l.controller ts ending
-    (plain_input l (with_ended l c) i (reset_so e window n.sound) refl (ended_past l c) (ended_number l c)) refl (sym (ended_number l c)) (ended_host l c) a.0
-    (moved_can e i ts ending e.role (reset_role e window) a.1) (quiet_reset l window ts a.0 n.tells n.rests) n.sound (sound_input e i tt n.sound) b
-step_told t who l (Starts v) ts ending a n fr b =
-    restart_told t who l (Start v) (ActStart v) ts ending a n refl refl refl (start_so l.controller.side v n.sound)
-    (sound_input l.controller.side (Start v) tt n.sound) b
-step_told t who l Stops ts ending a n fr b =
-    restart_told t who l Stop ActStop ts ending a n refl refl refl (stop_so l.controller.side n.sound) (sound_input l.controller.side Stop tt n.sound) b
-step_told t who l NoInput ts ending a n fr b =
-    rest_told t who l l.controller.side ts ending a.0 (can_end l.controller.side ts l.controller.side.role ending refl a.1)
-    (quiet_idle l ts a.0 n.tells n.rests) n.sound b.here b.there
+    let c : Bool = is_some (ended_by l.controller.side (Reset window)) in
+    input_told (Reset window) (plain_input (plain_ended l c (reset_so l.controller.side window n.sound) refl) (ended_past l c))
+    (reset_finishes l window ts ending a n) n.sound b
+step_told t who l (Starts v) ts ending a n fr b = restart_told ts ending a n (start_restarts l.controller.side v n.sound) b
+step_told t who l Stops ts ending a n fr b = restart_told ts ending a n (stop_restarts l.controller.side n.sound) b
+step_told t who l NoInput ts ending a n fr b = rest_told t who l l.controller.side ts ending (idle_finishes l ts ending a n) b.here b.there
 step_told t who l NextFrame ts ending a n fr b = go l.to_controller refl
   where
     some : (x : OnWire) (xs : List OnWire) → l.to_controller ≡ x ∷ xs → step_entries who l NextFrame ts ending ≡ taken_entries who l x xs ts ending
@@ -334,7 +408,7 @@ step_told t who l NextFrame ts ending a n fr b = go l.to_controller refl
     go (x ∷ xs) q =
         as_is (step_entries who l NextFrame ts ending) (taken_entries who l x xs ts ending) (steps_at_controller l NextFrame ts ending)
         (has_taken l x xs ts ending)
-        (some x xs q) (here x xs q) (taken_told t who l x xs ts ending a n (fr x xs q) b)
+        (some x xs q) (here x xs q) (taken_told l x xs ts ending a n (fr x xs q) b)
 
 -- ## Ends stay sound
 

@@ -18,17 +18,16 @@ use Rattle.message_link.specs.Links.Ending.{GoesOut, CutOff}
 use Rattle.message_link.specs.Links.Comes.{NextFrame, AsksReset, Starts, Stops, NoInput}
 use Rattle.message_link.specs.Links.EndEvent.{Step, Lose}
 use Rattle.message_link.specs.Projection.{core_of, core_turns, core_here, core_tick, core_tick_rest}
-use Rattle.message_link.proofs.Project.{Now, Tells, turns_mid, with_ended-core, mid_moved, host_ended as ended_host}
+use Rattle.message_link.proofs.Project.{Now, Tells, turns_mid, with_ended-core, mid_moved}
 use Rattle.link_machine.proofs.Runs.{opened}
 use Rattle.message_link.proofs.Ends.{ticked_keeps}
 use Rattle.message_link.proofs.Steps.{Rests, act_mid, tick_closes}
 use Rattle.message_link.proofs.Finishing.{tick_open, tick_closed, tick_role, core_tick_rests, rests}
-use Rattle.message_link.proofs.Runs.{rests_of}
 use Rattle.link_entries.specs.Entries.{End, Entry, told_of, rest_entries, first_lost, here_entries, aged_entries, tick_entries}
 use Rattle.link_entries.specs.Entries.End.{Controller, Host}
 use Rattle.link_entries.specs.Entries.Entry.{Tick}
-use Rattle.link_entries.proofs.Noting.{Near, quiet_tick, tick_can, ended_number}
-use Rattle.link_entries.proofs.Running.{Before}
+use Rattle.link_entries.proofs.Noting.{Near, plain_ended, tick_finishes}
+use Rattle.link_entries.proofs.Running.{Before, near_of}
 use Rattle.link_entries.proofs.Losing.{bad, Disturbed, disturbed_left, disturbed_right, Grows, out_noted}
 use Rattle.link_entries.proofs.Lasting.{knows_more}
 use Rattle.link_entries.proofs.Completing.{Both, input_grows, input_cut, input_knows, own_knows, frame_knows}
@@ -131,9 +130,7 @@ pub tick_knows : (t : List Entry) (n : Losses) (who : End) (l : Link) (node : No
 tick_knows t n who l node a x b =
     let e : LinkEnd = l.controller.side in
     let c : Bool = is_some (ended_by e HasTick) in
-    input_knows t (tick_entries who l node) n (tick_flags n l node) l (with_ended l c) HasTick node.turns node.ending (tick_so e x.sound) refl
-    (ended_number l c)
-    (ended_host l c) (quiet_tick l node.turns a.0 x.tells x.rests) (tick_can e node.turns node.ending a.1)
+    input_knows (tick_entries who l node) HasTick (plain_ended l c (tick_so e x.sound) refl) (tick_finishes l node a x)
     (tick_grows n who l node.turns node.ending a.0 x.tells x.rests) b
 
 -- a frame that is too old is noted
@@ -189,19 +186,16 @@ lose_knows t n who l why b =
       there = knows_more t u n m l.host l.host (λ up. (up, refl)) (lost_grows n who why l.to_controller) b.there;
     }
 
-near_of : (l : Link) → Before l → Near l
-near_of l b = record { tells = b.tells; rests = rests_of 0 0 (core_of l) b.safe; sound = b.sound }
-
 pub here_knows : (t : List Entry) (n : Losses) (who : End) (l : Link) (e : EndEvent) → IsAllowed l e → Before l → Both t n l
     → Both (t ++ here_entries who l e) (noted_turns n (core_of l) (core_here l e)) (happens_at_controller l e)
 here_knows t n who l (Lose why) a b h = lose_knows t n who l why h
 here_knows t n who l (Step NextFrame ts ending) a b h = frame_knows t n who l ts ending a.1 b h
-here_knows t n who l (Step (AsksReset window) ts ending) a b h = own_knows t n who l (AsksReset window) ts ending tt a.1 (near_of l b) h
-here_knows t n who l (Step (Starts v) ts ending) a b h = own_knows t n who l (Starts v) ts ending tt a.1 (near_of l b) h
-here_knows t n who l (Step Stops ts ending) a b h = own_knows t n who l Stops ts ending tt a.1 (near_of l b) h
-here_knows t n who l (Step NoInput ts ending) a b h = own_knows t n who l NoInput ts ending tt a.1 (near_of l b) h
+here_knows t n who l (Step (AsksReset window) ts ending) a b h = own_knows who l (AsksReset window) ts ending tt a.1 (near_of l b) h
+here_knows t n who l (Step (Starts v) ts ending) a b h = own_knows who l (Starts v) ts ending tt a.1 (near_of l b) h
+here_knows t n who l (Step Stops ts ending) a b h = own_knows who l Stops ts ending tt a.1 (near_of l b) h
+here_knows t n who l (Step NoInput ts ending) a b h = own_knows who l NoInput ts ending tt a.1 (near_of l b) h
 
 pub own_step_knows : (t : List Entry) (n : Losses) (l : Link) (e : EndEvent) → IsOwn e → IsAllowed l e → Near l → Both t n l
     → Both (t ++ here_entries Controller l e) (noted_turns n (core_of l) (core_here l e)) (happens_at_controller l e)
 own_step_knows t n l (Lose why) o a x b = absurd o
-own_step_knows t n l (Step comes ts ending) o a x b = own_knows t n Controller l comes ts ending o a.1 x b
+own_step_knows t n l (Step comes ts ending) o a x b = own_knows Controller l comes ts ending o a.1 x b

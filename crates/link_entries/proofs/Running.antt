@@ -1,12 +1,12 @@
 -- Every event is noted so that the entries say what is kept of the sessions of both ends.
-use Rattle.std.proofs.Common.{◌≡◌, ℕ, ◌<◌, Bool, true, false, cond, List, [], ◌∷◌, ◌++◌, refl, ap, sym, subst, ◌∙◌, arith, append_assoc, append-nil}
+use Rattle.std.proofs.Common.{◌≡◌, ℕ, ◌<◌, Bool, true, false, cond, List, [], ◌∷◌, ◌++◌, Option, refl, ap, sym, subst, ◌∙◌, arith, append_assoc, append-nil}
 use Rattle.std.specs.Prelude.{is_some, ◌==◌, max, nat_lt}
 use Rattle.std.proofs.lemmas.Bool.{true≢false, ne_eqb}
 use Rattle.swp_base.specs.declared.control_frames.Control.{Control}
 use Rattle.swp_base.specs.declared.control_frames.Control.TheVariants.{I, S, Rset, Ua, Act, Clt}
 use Rattle.shdlc_core.specs.declared.answers.LinkState.TheVariants.{Up as IsUpNow}
-use Rattle.shdlc_core.specs.Machine.{most_frames, taken}
-use Rattle.session_laws.specs.Sessions.{OnWire, ShdlcLink as CoreLink, is_rset, took_with, shdlc_aged as core_aged, shdlc_happens_at_controller as core_happens_here, ticks_or_cut as core_ticks_or_cut, ticks_if_waiting as core_ticks_if_waiting}
+use Rattle.shdlc_core.specs.Machine.{is_waiting, most_frames, taken}
+use Rattle.session_laws.specs.Sessions.{OnWire, ShdlcLink as CoreLink, ShdlcTurn as CoreTurn, is_rset, took_with, shdlc_aged as core_aged, shdlc_happens_at_controller as core_happens_here, shdlc_all_at_controller as core_all_here, ticks_or_cut as core_ticks_or_cut, ticks_if_waiting as core_ticks_if_waiting}
 use Rattle.session_laws.specs.Sessions.ShdlcEndEvent.{Deliver as CoreDeliver}
 use Rattle.session_laws.specs.Losses.{is_act, sans}
 use Rattle.session_laws.proofs.Hand.{peer_of, rset_tells}
@@ -31,8 +31,8 @@ use Rattle.message_link.specs.Projection.{core_of, core_half, core_here, core_ti
 use Rattle.message_link.proofs.Asks.{NoRset}
 use Rattle.message_link.proofs.Calm.{CalmLink, IsPolite, polite_of}
 use Rattle.message_link.proofs.Ends.{frames_alike}
-use Rattle.message_link.proofs.Project.{Tells, beside-put_all}
-use Rattle.message_link.proofs.Steps.{Rests, FromHost, core_first}
+use Rattle.message_link.proofs.Project.{Tells, Step, beside-put_all}
+use Rattle.message_link.proofs.Steps.{ComesFirst, FromHost, core_first}
 use Rattle.message_link.proofs.Finishing.{first_none, step_tick}
 use Rattle.message_link.proofs.Runs.{Good, Reached, safe_reached, rests_of, reached_more, from_host, from_controller, own_here, own_turns, step_here, event_step, rest_both, tells_same, seen, started_clf, can_start}
 use Rattle.message_link.proofs.Whole.{new_number, start_good, start_reached}
@@ -60,6 +60,21 @@ pub record Before (l : Link) : Type 0 where
   pub next : SafeLink 0 0 (core_of (steps_at_controller l NextFrame [] GoesOut))
   pub sound : Sound l.controller.side
 
+pub near_of : (l : Link) → Before l → Near l
+near_of l b = record { tells = b.tells; rests = rests_of 0 0 (core_of l) b.safe; sound = b.sound }
+
+-- the frame that comes first on the wire then
+pub comes_first : (l : Link) (x : OnWire) (xs : List OnWire) → l.to_controller ≡ x ∷ xs → Before l → ComesFirst l x xs
+comes_first l x xs w b = record {
+  first = w;
+  polite = subst (IsPolite l.controller.side) w
+      (polite_of l.controller.side l.host.side.role l.to_controller l.to_host b.calm b.tells.now.closed);
+  tells = b.tells;
+  host = b.host;
+  rests = rests_of 0 0 (core_of l) b.safe;
+  from = subst FromHost (core_first (core_of l) [] x xs w) b.from;
+}
+
 pub frame_facts : (l : Link) (ts : List Turn) → AreSendableTurns ts → Before l → Frames l ts
 frame_facts l ts a b x xs w = record { quiet = none ts a; same = same; fresh = fresh }
   where
@@ -69,14 +84,8 @@ frame_facts l ts a b x xs w = record { quiet = none ts a; same = same; fresh = f
     f : LinkEnd
     f = took e x.frame
 
-    rest : Rests e.shdlc
-    rest = rests_of 0 0 (core_of l) b.safe
-
-    polite : IsPolite e (x ∷ xs)
-    polite = subst (IsPolite e) w (polite_of e l.host.side.role l.to_controller l.to_host b.calm b.tells.now.closed)
-
     none : (ts : List Turn) → AreSendableTurns ts → NoRset (frames_out (turned f ts))
-    none ts a = first_none l ts x xs w a polite b.tells b.host rest (subst FromHost (core_first (core_of l) [] x xs w) b.from)
+    none ts a = first_none l ts x xs a (comes_first l x xs w b)
 
     -- an RSET that an end which is Up takes ends its session
     rset_ends : (v caps : ℕ) → x.frame ≡ Rset v caps → e.shdlc.phase ≡ IsUpNow → is_some (ended_by e (Take x.frame)) ≡ true
@@ -207,54 +216,70 @@ own_told t who l (EndStep (Starts v) ts ending) o a n h = step_told t who l (Sta
 own_told t who l (EndStep Stops ts ending) o a n h = step_told t who l Stops ts ending a.1 n tt h
 own_told t who l (EndStep NoInput ts ending) o a n h = step_told t who l NoInput ts ending a.1 n tt h
 
--- what is known of a link within a tick, after these entries of its controller's end
+-- what is known of the controller's end within a tick
+pub record IsInTick (kf : ℕ) (l : Link) : Type 0 where
+  pub tells : Tells l.controller
+  pub safe : SafeLink 0 kf (core_of l)
+  pub sound : Sound l.controller.side
+
+pub near_in_tick : {kf : ℕ} (l : Link) → IsInTick kf l → Near l
+near_in_tick {kf} l s = record { tells = s.tells; rests = rests_of 0 kf (core_of l) s.safe; sound = s.sound }
+
+-- a step of its own
+pub own_step : {kf : ℕ} (l : Link) (e : EndEvent) → IsOwn e → IsAllowed l e → IsInTick kf l
+    → Step l (happens_at_controller l e) (core_all_here (core_of l) (core_here l e))
+own_step l e own allowed s = own_here l e own allowed s.tells (near_in_tick l s).rests
+
+pub own_in_tick : {kf : ℕ} (l : Link) (e : EndEvent) → IsOwn e → IsAllowed l e → IsInTick kf l → IsInTick kf (happens_at_controller l e)
+own_in_tick {kf} l e own allowed s =
+    let one = own_step l e own allowed s in
+    let P : CoreLink → Type 0 = λ c. SafeLink 0 kf c in
+    record {
+      tells = one.tells;
+      safe = subst P (sym one.core) (safe_turns kf (core_here l e) (core_of l) (own_turns l e (near_in_tick l s).rests own allowed) s.safe);
+      sound = sound_here l e allowed s.sound;
+    }
+
+-- what was noted up to these entries of it
 record Within (kf : ℕ) (t u : List Entry) (l m : Link) : Type 0 where
   tolds : Tolds (t ++ u) Controller m
   ok : Ok (t ++ u)
   all : AllOk t u
-  tells : Tells m.controller
-  safe : SafeLink 0 kf (core_of m)
-  sound : Sound m.controller.side
+  stands : IsInTick kf m
   host : m.host ≡ l.host
 
-all_told : (kf : ℕ) (es : List EndEvent) (t : List Entry) (l : Link) → AreOwn l es → Tells l.controller → Tells l.host → SafeLink 0 kf (core_of l)
-    → Sound l.controller.side → Tolds t Controller l → Ok t → Within kf t (entries_of_events Controller l es) l (all_at_controller l es)
-all_told kf [] t l a h g s sd b ok =
+all_told : {kf : ℕ} (es : List EndEvent) (t : List Entry) (l : Link) → AreOwn l es → IsInTick kf l → Tells l.host → Tolds t Controller l → Ok t
+    → Within kf t (entries_of_events Controller l es) l (all_at_controller l es)
+all_told [] t l a s g b ok =
     record {
       tolds = record { here = told_silent t [] Controller l.controller (λ x n. refl) b.here; there = told_silent t [] Host l.host (λ x n. refl) b.there };
       ok = ok_silent t [] ok (λ x n. refl);
       all = none;
-      tells = h;
-      safe = s;
-      sound = sd;
+      stands = s;
       host = refl;
     }
   where
     none : AllOk t []
     none [] f = ok_silent t [] ok (λ x n. refl)
     none (x ∷ xs) f = absurd (let z = f.1 in cc)
-all_told kf (e ∷ es) t l a h g s sd b ok =
-    let r = rests_of 0 kf (core_of l) s in
-    let one = own_here l e a.0 a.1 h r in
+all_told {kf} (e ∷ es) t l a s g b ok =
+    let one = own_step l e a.0 a.1 s in
     let m : Link = happens_at_controller l e in
-    let P : CoreLink → Type 0 = λ c. SafeLink 0 kf c in
-    let safe : SafeLink 0 kf (core_of m) = subst P (sym one.core) (safe_turns kf (core_here l e) (core_of l) (own_turns l e r a.0 a.1) s) in
-    let out = own_told t Controller l e a.0 a.1 (record { tells = h; rests = r; sound = sd }) b in
+    let then = own_in_tick l e a.0 a.1 s in
+    let out = own_told t Controller l e a.0 a.1 (near_in_tick l s) b in
     let u : List Entry = here_entries Controller l e in
     let v : List Entry = entries_of_events Controller m es in
     let far_tells : Tells m.host = tells_same m.host l.host one.host g in
-    let next : Ok (t ++ u) = ok_link (t ++ u) 0 kf m safe one.tells far_tells out.tolds in
+    let next : Ok (t ++ u) = ok_link (t ++ u) 0 kf m then.safe then.tells far_tells out.tolds in
     let first : AllOk t u = between t u Controller ok next (one_here Controller l e) out.few in
-    let more = all_told kf es (t ++ u) m a.2 one.tells far_tells safe (sound_here l e a.1 sd) out.tolds next in
+    let more = all_told es (t ++ u) m a.2 then far_tells out.tolds next in
     let Q : List Entry → Type 0 = λ z. Tolds z Controller (all_at_controller m es) in
     let R : List Entry → Type 0 = λ z. Ok z in
     record {
       tolds = subst Q (append_assoc t u v) more.tolds;
       ok = subst R (append_assoc t u v) more.ok;
       all = all_then t u v first more.all;
-      tells = more.tells;
-      safe = more.safe;
-      sound = more.sound;
+      stands = more.stands;
       host = more.host ∙ one.host;
     }
 
@@ -264,6 +289,42 @@ all_told kf (e ∷ es) t l a h g s sd b ok =
 pub record Sounds (l : Link) : Type 0 where
   pub controller : Sound l.controller.side
   pub host : Sound l.host.side
+
+-- the controller's end after its tick
+pub after_tick : (l : Link) (c : Node) → IsNode (aged l) c.turns c.ending → Good l → Reached (core_of l) → Sounds l
+    → IsInTick 1 (ticks_at_controller (aged l) c.turns c.ending)
+after_tick l c a g r s =
+    let s0 = safe_aged (core_of l) (safe_reached (core_of l) r) in
+    let one = step_tick (aged l) c.turns c.ending a.0 a.1 g.controller (rests_of 1 1 (core_of (aged l)) s0) in
+    let t : Option (List CoreTurn) = core_tick l.controller.side c.turns c.ending in
+    let P : CoreLink → Type 0 = λ d. SafeLink 0 1 d in
+    record {
+      tells = one.tells;
+      safe = subst P (sym one.core) (safe_turns 1 (core_tick_rest l.controller.side c.turns c.ending) (core_ticks_or_cut t (core_aged (core_of l)))
+          (rest_both l.controller.side c.turns c.ending).turns (tick_or_cut 1 t (core_aged (core_of l)) s0));
+      sound = sound_tick (aged l) c a s.controller;
+    }
+
+-- where it has none
+pub without_tick : (l : Link) → is_waiting l.controller.side.shdlc ≡ false → Good l → Reached (core_of l) → Sounds l → IsInTick 1 (aged l)
+without_tick l waits g r s =
+    let kept : core_ticks_if_waiting (core_aged (core_of l)) ≡ core_of (aged l) = rw waits refl in
+    let P : CoreLink → Type 0 = λ d. SafeLink 0 1 d in
+    record {
+      tells = g.controller;
+      safe = subst P kept (tick_if_waiting 1 (core_aged (core_of l)) (safe_aged (core_of l) (safe_reached (core_of l) r)));
+      sound = s.controller;
+    }
+
+-- the host's end in front of its tick, where m came of l
+pub host_in_tick : (l m : Link) → m.host ≡ l.host → SafeLink 0 1 (core_of m) → Good l → Sounds l → Near (exchanged m)
+host_in_tick l m is safe g s =
+    let H : NumberedEnd → Type 0 = λ z. Sound z.side in
+    record {
+      tells = tells_same m.host l.host is g.host;
+      rests = rests_of 1 0 (core_of (exchanged m)) (safe_exchanged 0 1 (core_of m) safe);
+      sound = subst H (sym is) s.host;
+    }
 
 -- what was noted of a link up to now
 pub record Noted (t : List Entry) (l : Link) : Type 0 where
@@ -424,28 +485,19 @@ note_event t l (Ticks c es h) a g r n =
     let near : Link = ticks_at_controller aged_link c.turns c.ending in
     let one = step_tick aged_link c.turns c.ending a.0.0 a.0.1 g.controller rests in
     let one_out = tick_told (t ++ start) Controller aged_link c a.0 (record { tells = g.controller; rests = rests; sound = n.sounds.controller }) zero_told in
-    let one_sound = sound_tick aged_link c a.0 n.sounds.controller in
     let cs : List Entry = tick_entries Controller aged_link c in
-    let core_one : CoreLink = core_ticks_or_cut (core_tick l.controller.side c.turns c.ending) (core_aged (core_of l)) in
-    let rest = rest_both l.controller.side c.turns c.ending in
-    let P : CoreLink → Type 0 = λ d. SafeLink 0 1 d in
-    let safe_near : SafeLink 0 1 (core_of near) =
-    subst P (sym one.core) (safe_turns 1 (core_tick_rest l.controller.side c.turns c.ending) core_one rest.turns
-    (tick_or_cut 1 (core_tick l.controller.side c.turns c.ending) (core_aged (core_of l)) s0)) in
+    let stands = after_tick l c a.0 g r n.sounds in
     let near_host : Tells near.host = tells_same near.host l.host one.host g.host in
-    let one_ok : Ok ((t ++ start) ++ cs) = ok_link ((t ++ start) ++ cs) 0 1 near safe_near one.tells near_host one_out.tolds in
+    let one_ok : Ok ((t ++ start) ++ cs) = ok_link ((t ++ start) ++ cs) 0 1 near stands.safe one.tells near_host one_out.tolds in
     let one_all : AllOk (t ++ start) cs = between (t ++ start) cs Controller zero_ok one_ok (one_tick Controller aged_link c) one_out.few in
-    let two = all_told 1 es ((t ++ start) ++ cs) near a.1 one.tells near_host safe_near one_sound one_out.tolds one_ok in
+    let two = all_told es ((t ++ start) ++ cs) near a.1 stands near_host one_out.tolds one_ok in
     let ds : List Entry = entries_of_events Controller near es in
     let m : Link = all_at_controller near es in
-    let host_is : m.host ≡ l.host = two.host ∙ one.host in
     let H : NumberedEnd → Type 0 = λ z. Sound z.side in
-    let m_sound : Sound m.host.side = subst H (sym host_is) n.sounds.host in
-    let m_tells : Tells m.host = tells_same m.host l.host host_is g.host in
-    let m_rests = rests_of 1 0 (core_of (exchanged m)) (safe_exchanged 0 1 (core_of m) two.safe) in
+    let there = host_in_tick l m (two.host ∙ one.host) two.stands.safe g n.sounds in
     let u : List Entry = ((t ++ start) ++ cs) ++ ds in
-    let three = tick_told u Host (exchanged m) h a.2 (record { tells = m_tells; rests = m_rests; sound = m_sound }) (swap_tolds u m two.tolds) in
-    let last = step_tick (exchanged m) h.turns h.ending a.2.0 a.2.1 m_tells m_rests in
+    let three = tick_told u Host (exchanged m) h a.2 there (swap_tolds u m two.tolds) in
+    let last = step_tick (exchanged m) h.turns h.ending a.2.0 a.2.1 there.tells there.rests in
     let fs : List Entry = tick_entries Host (exchanged m) h in
     let k : Link = ticks_at_controller (exchanged m) h.turns h.ending in
     let all : u ++ fs ≡ t ++ (Tick ∷ (ps ++ (bs ++ (cs ++ (ds ++ fs))))) = five t Tick ps bs cs ds fs in
@@ -464,7 +516,7 @@ note_event t l (Ticks c es h) a g r n =
     record {
       noted = record {
         tolds = tolds;
-        sounds = record { controller = subst H (sym last.host) two.sound; host = sound_tick (exchanged m) h a.2 m_sound };
+        sounds = record { controller = subst H (sym last.host) two.stands.sound; host = sound_tick (exchanged m) h a.2 there.sound };
         ok = ok;
       };
       all = subst S whole (all_then t start (cs ++ (ds ++ fs)) zero_all rest_all);
@@ -474,7 +526,6 @@ note_event t l (Ticks c es h) a g r n =
         → (((t ++ (e ∷ (ps ++ bs))) ++ cs) ++ ds) ++ fs ≡ t ++ (e ∷ (ps ++ (bs ++ (cs ++ (ds ++ fs)))))
     five t e ps bs cs ds fs = simp append_assoc
 note_event t l (TicksWithout es h) a g r n =
-    let s0 = safe_aged (core_of l) (safe_reached (core_of l) r) in
     let near : Link = aged l in
     let ps : List Entry = aged_entries Controller l.to_controller in
     let bs : List Entry = aged_entries Host l.to_host in
@@ -489,19 +540,14 @@ note_event t l (TicksWithout es h) a g r n =
     } in
     let one_ok : Ok (t ++ start) = ok_silent t start n.ok silent in
     let one_all : AllOk t start = quiet_all t start n.ok quiet in
-    let P : CoreLink → Type 0 = λ d. SafeLink 0 1 d in
-    let kept : core_ticks_if_waiting (core_aged (core_of l)) ≡ core_of near = rw a.0 refl in
-    let safe_near : SafeLink 0 1 (core_of near) = subst P kept (tick_if_waiting 1 (core_aged (core_of l)) s0) in
-    let two = all_told 1 es (t ++ start) near a.1 g.controller g.host safe_near n.sounds.controller one_told one_ok in
+    let two = all_told es (t ++ start) near a.1 (without_tick l a.0 g r n.sounds) g.host one_told one_ok in
     let ds : List Entry = entries_of_events Controller near es in
     let m : Link = all_at_controller near es in
     let H : NumberedEnd → Type 0 = λ z. Sound z.side in
-    let m_sound : Sound m.host.side = subst H (sym two.host) n.sounds.host in
-    let m_tells : Tells m.host = tells_same m.host l.host two.host g.host in
-    let m_rests = rests_of 1 0 (core_of (exchanged m)) (safe_exchanged 0 1 (core_of m) two.safe) in
+    let there = host_in_tick l m two.host two.stands.safe g n.sounds in
     let u : List Entry = (t ++ start) ++ ds in
-    let three = tick_told u Host (exchanged m) h a.2 (record { tells = m_tells; rests = m_rests; sound = m_sound }) (swap_tolds u m two.tolds) in
-    let last = step_tick (exchanged m) h.turns h.ending a.2.0 a.2.1 m_tells m_rests in
+    let three = tick_told u Host (exchanged m) h a.2 there (swap_tolds u m two.tolds) in
+    let last = step_tick (exchanged m) h.turns h.ending a.2.0 a.2.1 there.tells there.rests in
     let fs : List Entry = tick_entries Host (exchanged m) h in
     let k : Link = ticks_at_controller (exchanged m) h.turns h.ending in
     let e : LinkEvent = TicksWithout es h in
@@ -519,7 +565,7 @@ note_event t l (TicksWithout es h) a g r n =
     record {
       noted = record {
         tolds = tolds;
-        sounds = record { controller = subst H (sym last.host) two.sound; host = sound_tick (exchanged m) h a.2 m_sound };
+        sounds = record { controller = subst H (sym last.host) two.stands.sound; host = sound_tick (exchanged m) h a.2 there.sound };
         ok = ok;
       };
       all = subst S whole (all_then t start (ds ++ fs) one_all rest_all);
@@ -553,27 +599,40 @@ note_event t l (Activate power c id h) a g r n =
 
 -- ## Runs
 
-note_events : (events : List LinkEvent) (t : List Entry) (l : Link) → AllAllowed l events → Good l → Reached (core_of l) → Noted t l
+-- a link that was reached in a run, of which t was noted
+pub record IsUnderWay (t : List Entry) (l : Link) : Type 0 where
+  pub good : Good l
+  pub reached : Reached (core_of l)
+  pub noted : Noted t l
+
+pub goes_on : {t : List Entry} (l : Link) (e : LinkEvent) → IsEvent l e → IsUnderWay t l → IsUnderWay (t ++ event_entries l e) (happens l e)
+goes_on {t} l e a w =
+    let st = event_step l e a w.good w.reached in
+    record {
+      good = st.good;
+      reached = subst Reached (sym st.core) (reached_more (core_of l) (core_event l e) st.allowed w.reached);
+      noted = (note_event t l e a w.good w.reached w.noted).noted;
+    }
+
+note_events : (events : List LinkEvent) (t : List Entry) (l : Link) → AllAllowed l events → IsUnderWay t l
     → Notes t (entries l events) (after_link_events l events)
-note_events [] t l a g r n =
+note_events [] t l a w =
     record {
       noted = record {
         tolds = record {
-          here = told_silent t [] Controller l.controller (λ x m. refl) n.tolds.here;
-          there = told_silent t [] Host l.host (λ x m. refl) n.tolds.there;
+          here = told_silent t [] Controller l.controller (λ x m. refl) w.noted.tolds.here;
+          there = told_silent t [] Host l.host (λ x m. refl) w.noted.tolds.there;
         };
-        sounds = n.sounds;
-        ok = ok_silent t [] n.ok (λ x m. refl);
+        sounds = w.noted.sounds;
+        ok = ok_silent t [] w.noted.ok (λ x m. refl);
       };
-      all = quiet_all t [] n.ok tt;
+      all = quiet_all t [] w.noted.ok tt;
     }
-note_events (e ∷ es) t l a g r n =
-    let st = event_step l e a.0 g r in
-    let next : Reached (core_of (happens l e)) = subst Reached (sym st.core) (reached_more (core_of l) (core_event l e) st.allowed r) in
+note_events (e ∷ es) t l a w =
     let u : List Entry = event_entries l e in
     let v : List Entry = entries (happens l e) es in
-    let first = note_event t l e a.0 g r n in
-    let more = note_events es (t ++ u) (happens l e) a.1 st.good next first.noted in
+    let first = note_event t l e a.0 w.good w.reached w.noted in
+    let more = note_events es (t ++ u) (happens l e) a.1 (goes_on l e a.0 w) in
     let P : List Entry → Type 0 = λ z. Noted z (after_link_events (happens l e) es) in
     record { noted = subst P (append_assoc t u v) more.noted; all = all_then t u v first.all more.all }
 
@@ -602,11 +661,14 @@ start_noted l s =
     let b = start_tolds l s in
     record { tolds = b; sounds = start_sounds l s; ok = reached_ok (first_entries l.controller.side.role) l (start_good l s) (start_reached l s) b }
 
+pub start_under_way : (l : Link) → IsStart l → IsUnderWay (first_entries l.controller.side.role) l
+start_under_way l s = record { good = start_good l s; reached = start_reached l s; noted = start_noted l s }
+
 nothing_ok : Ok []
 nothing_ok who n = record { got = ([], refl); acked = ([], refl); few = omega arith }
 
 noted : (l : Link) → IsStart l → (events : List LinkEvent) → AllAllowed l events → Noted (trace l events) (after_link_events l events)
-noted l s events a = (note_events events (first_entries l.controller.side.role) l a (start_good l s) (start_reached l s) (start_noted l s)).noted
+noted l s events a = (note_events events (first_entries l.controller.side.role) l a (start_under_way l s)).noted
 
 -- at each moment messages are in order
 pub at_each_moment : (l : Link) → IsStart l → (events : List LinkEvent) → AllAllowed l events → (p : List Entry) → IsFrontOf p (trace l events)
@@ -614,7 +676,7 @@ pub at_each_moment : (l : Link) → IsStart l → (events : List LinkEvent) → 
 at_each_moment l s events a p f =
     all_then [] (first_entries l.controller.side.role) (entries l events)
     (quiet_all [] (first_entries l.controller.side.role) nothing_ok (start_quiet l.controller.side.role))
-    (note_events events (first_entries l.controller.side.role) l a (start_good l s) (start_reached l s) (start_noted l s)).all p f
+    (note_events events (first_entries l.controller.side.role) l a (start_under_way l s)).all p f
 
 -- what the filters read
 pub is_read : (t : List Entry) (who : End) (h : NumberedEnd) (n : ℕ) → Told t who h → IsRead t who n (talk_of h n)

@@ -26,17 +26,17 @@ use Rattle.message_link.specs.Links.Ending.{GoesOut, CutOff}
 use Rattle.message_link.specs.Links.Comes.{NextFrame, AsksReset, Starts, Stops, NoInput}
 use Rattle.message_link.specs.Links.EndEvent.{Step, Lose}
 use Rattle.message_link.specs.Projection.{core_of, core_here, core_step, core_take, core_reset, core_turns}
-use Rattle.message_link.proofs.Calm.{Calm, IsPolite, polite_of, ended_means}
+use Rattle.message_link.proofs.Calm.{Calm, ended_means}
 use Rattle.message_link.proofs.Project.{Now, Tells, turns_mid, mid_moved, turned_role, moved_role}
 use Rattle.link_machine.proofs.Runs.{opened}
 use Rattle.link_machine.proofs.Reports.{shdlc_is as shdlc_moved}
-use Rattle.message_link.proofs.Steps.{FromHost, Rests, activated_role, role_closes, core_first}
+use Rattle.message_link.proofs.Steps.{Rests, activated_role, role_closes}
 use Rattle.message_link.proofs.Finishing.{reset_tells, reset_keeps}
 use Rattle.message_link.proofs.Runs.{rests_of}
 use Rattle.link_entries.specs.Entries.{End, Entry, told_of, turn_entries, put_entries, puts_entries, rest_entries, input_entries, left_after, step_entries, taken_entries, here_entries}
 use Rattle.link_entries.specs.Entries.Entry.{Cut}
 use Rattle.link_entries.proofs.Noting.{reset_role}
-use Rattle.link_entries.proofs.Running.{Before}
+use Rattle.link_entries.proofs.Running.{Before, comes_first}
 use Rattle.link_entries.proofs.Sparing.{Spared, Stands, or_none, spared_parts, stands_parts, rest_sure, take_sure, idle_sure}
 
 -- ## Ends that are active
@@ -173,10 +173,10 @@ abbrev pub Spares : List Entry → Bool → Bool → Link → Type 0
 Spares u s n l = (s ≡ true → Spared u → n ≡ true) × (is_open l.controller.side.role ≡ true)
 
 -- a reset that is refused
-refused_spares : (s : Bool) (who : End) (l : Link) (window : Option ℕ) (ts : List Turn) (why : Refused) → reset_refusal l.controller.side ≡ Some why
+refused_spares : {s : Bool} (who : End) (l : Link) (window : Option ℕ) (ts : List Turn) {why : Refused} → reset_refusal l.controller.side ≡ Some why
     → AreSendableTurns ts → Tells l.controller → s ≡ true → Spared (input_entries who l (Reset window) ts GoesOut)
     → sure_turns s (core_of l) (core_here l (Step (AsksReset window) ts GoesOut)) ≡ true
-refused_spares s who l window ts why q a h p sp =
+refused_spares {s} who l window ts q a h p sp =
     let e : LinkEnd = l.controller.side in
     let c : CoreLink = core_of l in
     let b : Bool = is_some (ended_by e (Reset window)) in
@@ -214,7 +214,7 @@ own_spares s who l (Step (AsksReset window) ts GoesOut) o a h r k st = (
   where
     go : (q : Option Refused) → reset_refusal l.controller.side ≡ q → s ≡ true → Spared (here_entries who l (Step (AsksReset window) ts GoesOut))
         → sure_turns s (core_of l) (core_here l (Step (AsksReset window) ts GoesOut)) ≡ true
-    go (Some why) q p sp = refused_spares s who l window ts why q a.1.0 h p sp
+    go (Some why) q p sp = refused_spares who l window ts q a.1.0 h p sp
     go None q p sp = absurd (reset_puts who l window ts a.1.0 h r q sp)
 
 lost_spares : (s : Bool) (who : End) (l : Link) (why : Loss) → s ≡ true → Spared (here_entries who l (Lose why))
@@ -257,9 +257,7 @@ frame_spares s who l ts a b k = go l.to_controller refl
         let P : List Entry → Type 0 = λ z. Spared z in
         let C : List OnWire → Type 0 = λ z. Calm e.role l.host.side.role z l.to_host in
         let calm : Calm e.role l.host.side.role (x ∷ xs) l.to_host = subst C r b.calm in
-        let is = take_sure s l ts x xs r a
-        (subst (IsPolite e) r (polite_of e l.host.side.role l.to_controller l.to_host b.calm b.tells.now.closed)) b.tells b.host
-        (rests_of 0 0 c b.safe) (subst FromHost (core_first c [] x xs r) b.from) k in (
+        let is = take_sure s l ts x xs a (comes_first l x xs r b) k in (
           λ p q. ap (sure_turns s c) list
               ∙ (no_more (core_take e x.frame ts) s c
               ∙ rest_sure s (sure_turns s c (core_take e x.frame ts)) who m (took e x.frame) ts is p (spared_parts u v (subst P some q)).1),

@@ -14,19 +14,17 @@ use Rattle.session_laws.specs.Sessions.{OnWire, ShdlcLink as CoreLink, ShdlcTurn
 use Rattle.session_laws.specs.Sessions.ShdlcEndEvent.{Turns as CoreTurns, Deliver as CoreDeliver, Acts as CoreActs, Lose as CoreLose}
 use Rattle.session_laws.specs.Losses.{is_act, counts_first, overflows}
 use Rattle.session_laws.specs.Settled.{sure_put, sure_all, sure_out, sure_here, sure_turns, sure_tick}
-use Rattle.session_laws.proofs.Steps.{took as core_took}
 use Rattle.link_machine.specs.Machine.{LinkEnd, Turn, turned, is_open, role_after, act_answer, activated, moved, took, after_input, ended_by, frames_out, among}
 use Rattle.link_machine.specs.Machine.LinkInput.{Take, Tick as HasTick}
 use Rattle.message_link.specs.Links.{Link, put, with_ended, AreSendableTurns}
 use Rattle.message_link.specs.Links.Ending.{GoesOut}
 use Rattle.message_link.specs.Links.Loss.{TooMany}
 use Rattle.message_link.specs.Projection.{core_of, core_turns, core_take}
-use Rattle.message_link.proofs.Calm.{IsPolite}
 use Rattle.message_link.proofs.Ends.{ticked_keeps}
 use Rattle.message_link.proofs.Project.{Now, Tells, turns_mid, with_ended-core, mid_moved, due_now, frames_now, among_now, put-core}
 use Rattle.link_machine.proofs.Runs.{opened}
 use Rattle.link_machine.proofs.Reports.{shdlc_is as shdlc_moved}
-use Rattle.message_link.proofs.Steps.{FromHost, Rests, Heard, is_shdlc, heard_end, heard_is, counted_is, took_open, no_fault_first, polite, role_closes, stays_down, act_mid}
+use Rattle.message_link.proofs.Steps.{ComesFirst, Heard, is_shdlc, heard_end, heard_is, counted_is, took_open, no_fault_first, polite, role_closes, stays_down, act_mid}
 use Rattle.message_link.proofs.Finishing.{tick_open}
 use Rattle.link_entries.specs.Entries.{End, Entry, far, first_lost, pushed_out, wire_with, put_entries, puts_entries, turn_entries, rest_entries, left_after}
 use Rattle.link_entries.specs.Entries.Entry.{Emit, Lost, Restarted, Cut}
@@ -152,12 +150,11 @@ out_sure n c o g s acts is =
 -- ## Steps
 
 -- a frame is taken by an end that is open
-pub take_sure : (n : Bool) (l : Link) (ts : List Turn) (x : OnWire) (xs : List OnWire) → l.to_controller ≡ x ∷ xs → AreSendableTurns ts
-    → IsPolite l.controller.side (x ∷ xs) → Tells l.controller → Tells l.host → Rests l.controller.side.shdlc → FromHost (core_took (core_of l) [] x xs)
+pub take_sure : (n : Bool) (l : Link) (ts : List Turn) (x : OnWire) (xs : List OnWire) → AreSendableTurns ts → ComesFirst l x xs
     → is_open l.controller.side.role ≡ true
     → sure_turns n (core_of l) (core_take l.controller.side x.frame ts)
     ≡ sure_all n (core_of (left_after l x xs)) (frames_out (turned (took l.controller.side x.frame) ts))
-take_sure n l ts x xs w a p h t rests from open_role = go x.frame refl
+take_sure n l ts x xs a comes open_role = go x.frame refl
   where
     e : LinkEnd
     e = l.controller.side
@@ -200,7 +197,7 @@ take_sure n l ts x xs w a p h t rests from open_role = go x.frame refl
         let s : EndState = core_turned (taken e.shdlc x.frame) us in
         let shdlc : (turned f ts).shdlc ≡ s = tm.is ∙ ap (λ z. core_turned z us) heard.shdlc in
         let k_is : left_core l x xs (is_some (take_answer e.shdlc x.frame).ended) ≡ k = ap (left_core l x xs) heard.ended ∙ sym (left b ends) in
-        let first : sure_here n c (CoreDeliver us) ≡ sure_out n (left_core l x xs (is_some (take_answer e.shdlc x.frame).ended)) s = rw w refl in
+        let first : sure_here n c (CoreDeliver us) ≡ sure_out n (left_core l x xs (is_some (take_answer e.shdlc x.frame).ended)) s = rw comes.first refl in
         ap (sure_turns n c) (take_open x.frame q o ∙ ap (λ g. CoreDeliver (core_turns g ts) ∷ []) is)
         ∙ (first
         ∙ (ap (λ z. sure_out n z s) k_is
@@ -209,37 +206,37 @@ take_sure n l ts x xs w a p h t rests from open_role = go x.frame refl
 
     shdlc : is_shdlc x.frame ≡ true → is_act x.frame ≡ false → Goal
     shdlc s q =
-        let f = took_open e x s open_role (no_fault_first l x xs w h t open_role from) in
-        open_as (heard_end e x) (is_some (take_answer e.shdlc x.frame).ended) q open_role f.0 f.1 (heard_is e x h.now open_role)
+        let f = took_open e x s open_role (no_fault_first l x xs comes.first comes.tells comes.host open_role comes.from) in
+        open_as (heard_end e x) (is_some (take_answer e.shdlc x.frame).ended) q open_role f.0 f.1 (heard_is e x comes.tells.now open_role)
 
     counts : x.frame ≡ Clt → Goal
     counts q =
         open_as (record e { passed_over = e.passed_over + 1 }) false (ap is_act q) open_role (ap (took e) q) (ap (λ y. is_some (ended_by e (Take y))) q)
-        (counted_is e x h.now q)
+        (counted_is e x comes.tells.now q)
 
     -- a frame of activation
     acts : (act : Activation) (again : Bool) → x.frame ≡ Act act again → Goal
     acts act again q =
         let event : ActEvent = ActTake act again in
-        let down = polite e x xs act again q p in
+        let down = polite e x xs act again q comes.polite in
         let o : Option Activation = (act_answer e.role event).send in
         let closed : is_open (role_after e.role event) ≡ false → e.shdlc.phase ≡ IsDown = λ z. by (role_closes e.role act again z) in
         let f : LinkEnd = activated e event in
-        let m = act_mid e event h.now rests.due down closed in
+        let m = act_mid e event comes.tells.now comes.rests.due down closed in
         let is : took e x.frame ≡ f = ap (took e) q in
         let us : List CoreTurn = core_turns f ts in
         let tm = turns_mid o f ts a m.mid in
         let s : EndState = core_turned e.shdlc us in
         let same : (turned f ts).shdlc ≡ s = tm.is ∙ ap (λ z. core_turned z us) m.same in
         let ends : is_some (ended_by e (Take x.frame)) ≡ false =
-        ap (λ y. is_some (ended_by e (Take y))) q ∙ (stays_down (act_answer e.role event).ended_link e down rests.due h.now.acts).1 in
+        ap (λ y. is_some (ended_by e (Take y))) q ∙ (stays_down (act_answer e.role event).ended_link e down comes.rests.due comes.tells.now.acts).1 in
         let counts : took_with l.controller.took x ≡ l.controller.took = no_number (ap is_rset q) in
         let gone : CoreLink = record c { to_controller = xs } in
         let k_is : k ≡ gone = left false ends ∙ ap (λ z. record (record c { to_controller = xs }) { controller = record c.controller { took = z } }) counts in
         let list : core_take e x.frame ts ≡ CoreLose ∷ CoreActs (option_to_list o) us ∷ [] = ap (λ y. core_take e y ts) q in
         let lost : sure_here n c CoreLose ≡ n =
-        ap (λ z. n && not (counts_first z)) w ∙ (ap (λ z. n && not (not z)) (ap is_act q) ∙ and_true n) in
-        let link : core_happens_here c CoreLose ≡ gone = ap (λ z. record c { to_controller = drop 1 z }) w in
+        ap (λ z. n && not (counts_first z)) comes.first ∙ (ap (λ z. n && not (not z)) (ap is_act q) ∙ and_true n) in
+        let link : core_happens_here c CoreLose ≡ gone = ap (λ z. record c { to_controller = drop 1 z }) comes.first in
         ap (sure_turns n c) list
         ∙ (ap (λ z. sure_here z (core_happens_here c CoreLose) (CoreActs (option_to_list o) us)) lost
         ∙ (ap (λ z. sure_here n z (CoreActs (option_to_list o) us)) link
@@ -248,8 +245,8 @@ take_sure n l ts x xs w a p h t rests from open_role = go x.frame refl
         ∙ ap (λ g. sure_all n k (frames_out (turned g ts))) (sym is)))))
       where
         by : (is_open e.role ≡ false) ⊎ ((act_answer e.role (ActTake act again)).ended_link ≡ true) → e.shdlc.phase ≡ IsDown
-        by (inl z) = h.now.closed z
-        by (inr z) = polite e x xs act again q p z
+        by (inl z) = comes.tells.now.closed z
+        by (inr z) = polite e x xs act again q comes.polite z
 
         no_number : is_rset x.frame ≡ false → took_with l.controller.took x ≡ l.controller.took
         no_number z = rw z refl

@@ -271,21 +271,26 @@ told_at t who h k q b = let P : NumberedEnd → Type 0 = λ z. Told t who z in s
 told_list : (t u : List Entry) (who : End) (h : NumberedEnd) → t ≡ u → Told t who h → Told u who h
 told_list t u who h q b = let P : List Entry → Type 0 = λ z. Told z who h in subst P q b
 
+-- an end that is e by now can have these turns of its node, and end its step so
+pub record CanFinish (e : LinkEnd) (ts : List Turn) (ending : Ending) : Type 0 where
+  pub sendable : AreSendableTurns ts
+  pub can : CanEnd (turned e ts).role ending
+  pub quiet : (turned e ts).shdlc.phase ≡ IsUpNow → NoRset (frames_out (turned e ts))
+  pub sound : Sound e
+
 -- the turns of its node and the end of a step
-pub rest_told : (t : List Entry) (who : End) (l : Link) (e : LinkEnd) (ts : List Turn) (ending : Ending) → AreSendableTurns ts
-    → CanEnd (turned e ts).role ending
-    → ((turned e ts).shdlc.phase ≡ IsUpNow → NoRset (frames_out (turned e ts))) → Sound e → Told t who (with_side l.controller e) → Told t (far who) l.host
-    → Out t (rest_entries who l e ts ending) who (finished l (turned e ts) ending)
-rest_told t who l e ts ending a can none s here there =
+pub rest_told : (t : List Entry) (who : End) (l : Link) (e : LinkEnd) (ts : List Turn) (ending : Ending) → CanFinish e ts ending
+    → Told t who (with_side l.controller e) → Told t (far who) l.host → Out t (rest_entries who l e ts ending) who (finished l (turned e ts) ending)
+rest_told t who l e ts ending finishes here there =
     let n : ℕ = number_of l.controller in
     let us : List Entry = turn_entries who n e ts in
     let vs : List Entry = ending_entries who l (turned e ts) ending in
-    let turns = told_turns ts t who (with_side l.controller e) a s here in
+    let turns = told_turns ts t who (with_side l.controller e) finishes.sendable finishes.sound here in
     let q : (t ++ us) ++ vs ≡ t ++ (us ++ vs) = append_assoc t us vs in
     record {
       tolds = record {
         here = told_list ((t ++ us) ++ vs) (t ++ (us ++ vs)) who (finished l (turned e ts) ending).controller q
-            (ending_told (t ++ us) who l (turned e ts) ending can none turns);
+            (ending_told (t ++ us) who l (turned e ts) ending finishes.can finishes.quiet turns);
         there = told_list ((t ++ us) ++ vs) (t ++ (us ++ vs)) (far who) (finished l (turned e ts) ending).host q
             (told_silent (t ++ us) vs (far who) (finished l (turned e ts) ending).host (silent_ending who l (turned e ts) ending)
             (told_at (t ++ us) (far who) l.host (finished l (turned e ts) ending).host (host_finished l (turned e ts) ending)
@@ -296,26 +301,31 @@ rest_told t who l e ts ending a can none s here there =
           (no_acked-append us vs (no_acked_turns who n e ts) (no_acked_ending who l (turned e ts) ending));
     }
 
--- an input, the turns and the end of a step: l becomes k
-pub input_told : (t : List Entry) (who : End) (l k : Link) (i : LinkInput) (h : NumberedEnd) (ts : List Turn) (ending : Ending)
-    → (let f : LinkEnd = after_input l.controller.side i in
-    Input l.controller (with_side k.controller f) (is_some (ended_by l.controller.side i)) (began_by l.controller.side i) (report l.controller.side i)
-    → h.side ≡ l.controller.side → number_of h ≡ number_of k.controller → k.host ≡ l.host
-    → AreSendableTurns ts → CanEnd (turned f ts).role ending → ((turned f ts).shdlc.phase ≡ IsUpNow → NoRset (frames_out (turned f ts)))
-    → Sound l.controller.side → Sound f → Tolds t who l
-    → Out t (told_of who h i ++ rest_entries who k f ts ending) who (finished k (turned f ts) ending))
-input_told t who l k i h ts ending input side number host a can none s sf b =
+-- the controller's end of l takes an input, where it is h and the link k
+pub record TakesInput (l k : Link) (i : LinkInput) (h : NumberedEnd) : Type 0 where
+  pub input : Input l.controller (with_side k.controller (after_input l.controller.side i)) (is_some (ended_by l.controller.side i))
+      (began_by l.controller.side i) (report l.controller.side i)
+  pub side : h.side ≡ l.controller.side
+  pub number : number_of h ≡ number_of k.controller
+  pub host : k.host ≡ l.host
+
+-- an input, the turns and the end of a step
+pub input_told : {t : List Entry} {who : End} {l k : Link} (i : LinkInput) {h : NumberedEnd} {ts : List Turn} {ending : Ending} → TakesInput l k i h
+    → CanFinish (after_input l.controller.side i) ts ending → Sound l.controller.side → Tolds t who l
+    → Out t (told_of who h i ++ rest_entries who k (after_input l.controller.side i) ts ending) who
+    (finished k (turned (after_input l.controller.side i) ts) ending)
+input_told {t} {who} {l} {k} i {h} {ts} {ending} takes finishes s b =
     let f : LinkEnd = after_input l.controller.side i in
     let e : LinkEnd = l.controller.side in
     let r : Report = report e i in
     let us : List Entry = told who (number_of k.controller) r (whole_acked f) in
     let vs : List Entry = rest_entries who k f ts ending in
-    let here = told_input t who l.controller (with_side k.controller f) (is_some (ended_by e i)) (began_by e i) r input s.is b.here in
-    let there = told_far t who (number_of k.controller) r (whole_acked f) k.host (told_at t (far who) l.host k.host host b.there) in
-    let out = rest_told (t ++ us) who k f ts ending a can none sf here there in
+    let here = told_input t who l.controller (with_side k.controller f) (is_some (ended_by e i)) (began_by e i) r takes.input s.is b.here in
+    let there = told_far t who (number_of k.controller) r (whole_acked f) k.host (told_at t (far who) l.host k.host takes.host b.there) in
+    let out = rest_told (t ++ us) who k f ts ending finishes here there in
     let same : told_of who h i ≡ us =
-    ap (λ n. told who n (report h.side i) (whole_acked (after_input h.side i))) number
-    ∙ ap (λ z. told who (number_of k.controller) (report z i) (whole_acked (after_input z i))) side in
+    ap (λ n. told who n (report h.side i) (whole_acked (after_input h.side i))) takes.number
+    ∙ ap (λ z. told who (number_of k.controller) (report z i) (whole_acked (after_input z i))) takes.side in
     let P : List Entry → Type 0 = λ z. Tolds z who (finished k (turned f ts) ending) in
     let both : Out t (us ++ vs) who (finished k (turned f ts) ending) =
     record {

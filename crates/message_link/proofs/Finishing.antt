@@ -31,7 +31,7 @@ use Rattle.message_link.proofs.Project.{Mid, Now, mid_moved, moved_role, frames_
 use Rattle.link_machine.proofs.Runs.{opened}
 use Rattle.link_machine.proofs.Reports.{shdlc_is as shdlc_moved}
 use Rattle.session_laws.proofs.Steps.{took as core_took}
-use Rattle.message_link.proofs.Steps.{FromHost, Rests, is_shdlc, heard_end, heard_is, mid_counted, took_open, took_closed, no_fault_first, polite, role_closes, step_first, stays_down, activated_role, act_mid, Acted, tick_closes, core_first}
+use Rattle.message_link.proofs.Steps.{FromHost, Rests, is_shdlc, heard_end, heard_is, mid_counted, took_open, took_closed, no_fault_first, polite, role_closes, ComesFirst, step_first, stays_down, activated_role, act_mid, Acted, tick_closes, core_first}
 
 -- ## A step that is cut off
 
@@ -147,10 +147,9 @@ step_idle l ts ending a can h r =
 -- ## A frame is taken
 
 -- no RSET goes out after it
-pub first_none : (l : Link) (ts : List Turn) (x : OnWire) (xs : List OnWire) → l.to_controller ≡ x ∷ xs → AreSendableTurns ts
-    → IsPolite l.controller.side (x ∷ xs) → Tells l.controller → Tells l.host → Rests l.controller.side.shdlc
-    → FromHost (core_took (core_of l) [] x xs) → NoRset (frames_out (turned (took l.controller.side x.frame) ts))
-first_none l ts x xs w a p h t rests from = go x.frame refl
+pub first_none : (l : Link) (ts : List Turn) (x : OnWire) (xs : List OnWire) → AreSendableTurns ts → ComesFirst l x xs
+    → NoRset (frames_out (turned (took l.controller.side x.frame) ts))
+first_none l ts x xs a comes = go x.frame refl
   where
     e : LinkEnd
     e = l.controller.side
@@ -159,28 +158,28 @@ first_none l ts x xs w a p h t rests from = go x.frame refl
     P f = NoRset (frames_out (turned f ts))
 
     none : NoAsk e.shdlc.due
-    none = none_due e.shdlc rests.due
+    none = none_due e.shdlc comes.rests.due
 
     shdlc : (b : Bool) → is_open e.role ≡ b → is_shdlc x.frame ≡ true → P (took e x.frame)
     shdlc true o s =
-        let f = took_open e x s o (no_fault_first l x xs w h t o from) in
-        let g = heard_is e x h.now o in
+        let f = took_open e x s o (no_fault_first l x xs comes.first comes.tells comes.host o comes.from) in
+        let g = heard_is e x comes.tells.now o in
         let Q : EndState → Type 0 = λ z. NoAsk z.due in
         subst P (sym f.0) (none_out None (heard_end e x) ts a g.mid (subst Q (sym g.shdlc) (taken_asks e.shdlc x.frame none)))
-    shdlc false o s = subst P (sym (took_closed e x.frame s o).0) (none_out None e ts a h.now none)
+    shdlc false o s = subst P (sym (took_closed e x.frame s o).0) (none_out None e ts a comes.tells.now none)
 
     acts : (act : Activation) (again : Bool) → x.frame ≡ Act act again → P (took e x.frame)
     acts act again q =
         let event : ActEvent = ActTake act again in
-        let down = polite e x xs act again q p in
+        let down = polite e x xs act again q comes.polite in
         let closed : is_open (role_after e.role event) ≡ false → e.shdlc.phase ≡ Down = λ z. by (role_closes e.role act again z) in
-        let m = act_mid e event h.now rests.due down closed in
-        let due : (activated e event).shdlc.due ≡ [] = ap (λ (z : EndState). z.due) m.same ∙ rests.due in
+        let m = act_mid e event comes.tells.now comes.rests.due down closed in
+        let due : (activated e event).shdlc.due ≡ [] = ap (λ (z : EndState). z.due) m.same ∙ comes.rests.due in
         subst P (sym (ap (took e) q)) (none_out (act_answer e.role event).send (activated e event) ts a m.mid (none_due (activated e event).shdlc due))
       where
         by : (is_open e.role ≡ false) ⊎ ((act_answer e.role (ActTake act again)).ended_link ≡ true) → e.shdlc.phase ≡ Down
-        by (inl z) = h.now.closed z
-        by (inr z) = polite e x xs act again q p z
+        by (inl z) = comes.tells.now.closed z
+        by (inr z) = polite e x xs act again q comes.polite z
 
     go : (c : Control) → x.frame ≡ c → P (took e x.frame)
     go (Act act again) q = acts act again q
@@ -190,7 +189,7 @@ first_none l ts x xs w a p h t rests from = go x.frame refl
     go Ua q = shdlc (is_open e.role) refl (ap is_shdlc q)
     go Clt q =
         subst P (sym (ap (took e) q))
-        (none_out None (record e { passed_over = e.passed_over + 1 }) ts a (mid_counted None e (e.passed_over + 1) h.now) none)
+        (none_out None (record e { passed_over = e.passed_over + 1 }) ts a (mid_counted None e (e.passed_over + 1) comes.tells.now) none)
 
 -- the role of an end that took a frame lets its step end so
 pub can_after : (r : Role) (event : ActEvent) (ending : Ending) → CanEnd r ending → CanEnd (role_after r event) ending
@@ -231,18 +230,16 @@ took_can e c ending can = go c (is_open e.role) (is_faulty (taken e.shdlc c).ses
     go Ua true f p q = rw p (heard_can Ua f q)
     go Ua false f p q = rw p can
 
-step_take : (l : Link) (ts : List Turn) (ending : Ending) (x : OnWire) (xs : List OnWire) → l.to_controller ≡ x ∷ xs → AreSendableTurns ts
-    → CanEnd l.controller.side.role ending → IsPolite l.controller.side (x ∷ xs) → Tells l.controller → Tells l.host → Rests l.controller.side.shdlc
-    → FromHost (core_took (core_of l) [] x xs)
-    → Step l (has_taken l x xs ts ending) (core_all_here (core_of l) (core_take l.controller.side x.frame ts ++ core_ending ending))
-step_take l ts ending x xs w a can p h t rests from =
+step_take : (l : Link) (ts : List Turn) (ending : Ending) (x : OnWire) (xs : List OnWire) → AreSendableTurns ts → CanEnd l.controller.side.role ending
+    → ComesFirst l x xs → Step l (has_taken l x xs ts ending) (core_all_here (core_of l) (core_take l.controller.side x.frame ts ++ core_ending ending))
+step_take l ts ending x xs a can comes =
     let e : LinkEnd = l.controller.side in
     let m : Link = with_ended (record l { to_controller = xs }) (is_some (ended_by_frame e x.frame)) in
     let k : Link = record m { controller = record m.controller { took = took_with l.controller.took x } } in
     let f : LinkEnd = took e x.frame in
     let st =
-    step_ends l k (turned f ts) (core_all_here (core_of l) (core_take e x.frame ts)) ending (step_first l ts x xs w a p h t rests from)
-    (first_none l ts x xs w a p h t rests from) (can_end f ts f.role ending refl (took_can e x.frame ending can)) in
+    step_ends l k (turned f ts) (core_all_here (core_of l) (core_take e x.frame ts)) ending (step_first l ts x xs a comes)
+    (first_none l ts x xs a comes) (can_end f ts f.role ending refl (took_can e x.frame ending can)) in
     record {
       core = st.core ∙ sym (all_here-append (core_of l) (core_take e x.frame ts) (core_ending ending));
       tells = st.tells;
@@ -279,8 +276,14 @@ step_frame l ts ending a can p h t rests from = go l.to_controller refl
         step_same l (steps_at_controller l NextFrame ts ending) (has_taken l x xs ts ending) (core_all_here (core_of l) (core_step l NextFrame ts ending))
         (core_all_here (core_of l) (core_take l.controller.side x.frame ts ++ core_ending ending))
         (some x xs q) (ap (core_all_here (core_of l)) (core_some x xs q))
-        (step_take l ts ending x xs q a can (subst (IsPolite l.controller.side) q p) h t rests
-        (subst FromHost (core_first (core_of l) [] x xs q) from))
+        (step_take l ts ending x xs a can (record {
+          first = q;
+          polite = subst (IsPolite l.controller.side) q p;
+          tells = h;
+          host = t;
+          rests = rests;
+          from = subst FromHost (core_first (core_of l) [] x xs q) from;
+        }))
 
 -- ## A cut in place of a step that leaves the end waiting
 

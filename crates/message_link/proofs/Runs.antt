@@ -336,25 +336,33 @@ record Ticked (n : Link) (c : CoreLink) : Type 0 where
   pub core : core_of n ≡ c
   pub good : Good n
 
--- the host's end has its tick on m, whose core has become x
-ticked_there : (l m : Link) (h : Node) (x : CoreLink) → m.host ≡ l.host → core_of m ≡ x → IsNode (exchanged m) h.turns h.ending
-    → SafeLink 0 1 (core_of m) → Tells m.controller → Tells l.host → CalmLink m
+-- the controller's end of l has had its tick, by which l has become m, and its core x
+record HasTicked (l m : Link) (x : CoreLink) : Type 0 where
+  host : m.host ≡ l.host
+  core : core_of m ≡ x
+  safe : SafeLink 0 1 (core_of m)
+  near : Tells m.controller
+  far : Tells l.host
+  calm : CalmLink m
+
+-- the host's end has its tick then
+ticked_there : (l m : Link) (x : CoreLink) (h : Node) → HasTicked l m x → IsNode (exchanged m) h.turns h.ending
     → Ticked (exchanged (ticks_at_controller (exchanged m) h.turns h.ending))
     (core_after (core_exchanged (core_ticks_or_cut (core_tick l.host.side h.turns h.ending) (core_exchanged x)))
     (map CoreAtHost (core_tick_rest l.host.side h.turns h.ending)))
-ticked_there l m h x host_is m_is a safe near far calm =
+ticked_there l m x h s a =
     let n : Link = ticks_at_controller (exchanged m) h.turns h.ending in
-    let three = step_tick (exchanged m) h.turns h.ending a.0 a.1 (tells_same m.host l.host host_is far)
-    (rests_of 1 0 (core_of (exchanged m)) (safe_exchanged 0 1 (core_of m) safe)) in
+    let three = step_tick (exchanged m) h.turns h.ending a.0 a.1 (tells_same m.host l.host s.host s.far)
+    (rests_of 1 0 (core_of (exchanged m)) (safe_exchanged 0 1 (core_of m) s.safe)) in
     let there : List CoreEndEvent = core_tick_rest l.host.side h.turns h.ending in
     let u : Option (List CoreTurn) = core_tick l.host.side h.turns h.ending in
     record {
       core = ap core_exchanged
           (three.core ∙ (ap (λ z. core_all_here (core_ticks_or_cut (core_tick z.side h.turns h.ending) (core_exchanged (core_of m)))
-          (core_tick_rest z.side h.turns h.ending)) host_is
-          ∙ ap (λ d. core_all_here (core_ticks_or_cut u (core_exchanged d)) there) m_is))
+          (core_tick_rest z.side h.turns h.ending)) s.host
+          ∙ ap (λ d. core_all_here (core_ticks_or_cut u (core_exchanged d)) there) s.core))
           ∙ sym (after_there (core_exchanged (core_ticks_or_cut u (core_exchanged x))) there);
-      good = record { controller = tells_same n.host m.controller three.host near; host = three.tells; calm = seen n (three.calm (seen m calm)) };
+      good = record { controller = tells_same n.host m.controller three.host s.near; host = three.tells; calm = seen n (three.calm (seen m s.calm)) };
     }
 
 pub event_step : (l : Link) (e : LinkEvent) → IsEvent l e → Good l → Reached (core_of l)
@@ -376,11 +384,15 @@ event_step l (Ticks c es h) a g r =
     let two = all.step in
     let m : Link = all_at_controller near es in
     let m_safe : SafeLink 0 1 (core_of m) = subst P (sym two.core) (safe_turns 1 (core_all near es) (core_of near) all.turns near_safe) in
-    let host_is : m.host ≡ l.host = two.host ∙ one.host in
-    let x : CoreLink = core_all_here start (rest ++ core_all near es) in
-    let m_is : core_of m ≡ x = two.core ∙ (ap (λ d. core_all_here d (core_all near es)) one.core ∙ sym (all_here-append start rest (core_all near es))) in
-    let three = ticked_there l m h x host_is m_is a.2 m_safe two.tells g.host
-    (two.calm (one.calm (calm_aged l.controller.side.role l.host.side.role l.to_controller l.to_host g.calm))) in
+    let has_ticked : HasTicked l m (core_all_here start (rest ++ core_all near es)) = record {
+      host = two.host ∙ one.host;
+      core = two.core ∙ (ap (λ d. core_all_here d (core_all near es)) one.core ∙ sym (all_here-append start rest (core_all near es)));
+      safe = m_safe;
+      near = two.tells;
+      far = g.host;
+      calm = two.calm (one.calm (calm_aged l.controller.side.role l.host.side.role l.to_controller l.to_host g.calm));
+    } in
+    let three = ticked_there l m _ h has_ticked a.2 in
     let there : List CoreEndEvent = core_tick_rest l.host.side h.turns h.ending in
     record {
       core = three.core;
@@ -396,10 +408,15 @@ event_step l (TicksWithout es h) a g r =
     let all = all_step 1 near es a.1 g.controller near_safe in
     let m : Link = all_at_controller near es in
     let m_safe : SafeLink 0 1 (core_of m) = subst P (sym all.step.core) (safe_turns 1 (core_all near es) (core_of near) all.turns near_safe) in
-    let x : CoreLink = core_all_here (core_ticks_if_waiting (core_aged (core_of l))) (core_all near es) in
-    let m_is : core_of m ≡ x = all.step.core ∙ ap (λ d. core_all_here d (core_all near es)) (sym kept) in
-    let three = ticked_there l m h x all.step.host m_is a.2 m_safe all.step.tells g.host
-    (all.step.calm (calm_aged l.controller.side.role l.host.side.role l.to_controller l.to_host g.calm)) in
+    let has_ticked : HasTicked l m (core_all_here (core_ticks_if_waiting (core_aged (core_of l))) (core_all near es)) = record {
+      host = all.step.host;
+      core = all.step.core ∙ ap (λ d. core_all_here d (core_all near es)) (sym kept);
+      safe = m_safe;
+      near = all.step.tells;
+      far = g.host;
+      calm = all.step.calm (calm_aged l.controller.side.role l.host.side.role l.to_controller l.to_host g.calm);
+    } in
+    let three = ticked_there l m _ h has_ticked a.2 in
     let there : List CoreEndEvent = core_tick_rest l.host.side h.turns h.ending in
     record {
       core = three.core;

@@ -419,11 +419,18 @@ pub polite : (e : LinkEnd) (x : OnWire) (xs : List OnWire) (act : Activation) (a
     → (act_answer e.role (ActTake act again)).ended_link ≡ true → e.shdlc.phase ≡ Down
 polite e x xs act again q h = rw q at h
 
-pub step_first : (l : Link) (ts : List Turn) (x : OnWire) (xs : List OnWire) → l.to_controller ≡ x ∷ xs → AreSendableTurns ts
-    → IsPolite l.controller.side (x ∷ xs)
-    → Tells l.controller → Tells l.host → Rests l.controller.side.shdlc → FromHost (core_took (core_of l) [] x xs)
+-- the frame x comes first on the wire to the controller's end, which can take it
+pub record ComesFirst (l : Link) (x : OnWire) (xs : List OnWire) : Type 0 where
+  pub first : l.to_controller ≡ x ∷ xs
+  pub polite : IsPolite l.controller.side (x ∷ xs)
+  pub tells : Tells l.controller
+  pub host : Tells l.host
+  pub rests : Rests l.controller.side.shdlc
+  pub from : FromHost (core_took (core_of l) [] x xs)
+
+pub step_first : (l : Link) (ts : List Turn) (x : OnWire) (xs : List OnWire) → AreSendableTurns ts → ComesFirst l x xs
     → Step l (took_first l ts x xs) (core_all_here (core_of l) (core_take l.controller.side x.frame ts))
-step_first l ts x xs w a p h t rests from = go x.frame refl
+step_first l ts x xs a comes = go x.frame refl
   where
     e : LinkEnd
     e = l.controller.side
@@ -453,9 +460,9 @@ step_first l ts x xs w a p h t rests from = go x.frame refl
         step_same l (took_first l ts x xs) (took_as l ts x xs b g) (core_all_here (core_of l) (core_take e x.frame ts))
         (core_took (core_of l) (core_turns g ts) x xs)
         (took_is_as l ts x xs b g ends is)
-        (ap (core_all_here (core_of l)) (take_open x.frame q o) ∙ (core_first (core_of l) (core_turns (took e x.frame) ts) x xs w
+        (ap (core_all_here (core_of l)) (take_open x.frame q o) ∙ (core_first (core_of l) (core_turns (took e x.frame) ts) x xs comes.first
         ∙ ap (λ f. core_took (core_of l) (core_turns f ts) x xs) is))
-        (step_heard l ts x xs g b w h a heard)
+        (step_heard l ts x xs g b comes.first comes.tells a heard)
 
     closed_as : (g : LinkEnd) → is_act x.frame ≡ false → is_open e.role ≡ false → took e x.frame ≡ g
         → is_some (ended_by_frame e x.frame) ≡ false → g.shdlc ≡ e.shdlc → g.role ≡ e.role → Now g
@@ -467,48 +474,49 @@ step_first l ts x xs w a p h t rests from = go x.frame refl
         step_same l (took_first l ts x xs) (took_as l ts x xs false g) (core_all_here (core_of l) (core_take e x.frame ts))
         (core_becomes (core_of k) (core_turned g.shdlc us))
         (took_is_as l ts x xs false g ends is)
-        (ap (core_all_here (core_of l)) (take_closed x.frame q o) ∙ (ignore_is (core_of l) (core_turns (took e x.frame) ts) x xs (h.now.closed o) w
+        (ap (core_all_here (core_of l)) (take_closed x.frame q o)
+        ∙ (ignore_is (core_of l) (core_turns (took e x.frame) ts) x xs (comes.tells.now.closed o) comes.first
         ∙ (ap (λ f. core_becomes (core_of k) (core_turned e.shdlc (core_turns f ts))) is
         ∙ ap (λ s. core_becomes (core_of k) (core_turned s us)) (sym shdlc))))
-        (step_turned l k None g ts refl h.past a mid (λ z. subst P (sym role) (first_gone l x xs w z)))
+        (step_turned l k None g ts refl comes.tells.past a mid (λ z. subst P (sym role) (first_gone l x xs comes.first z)))
 
     shdlc : (b : Bool) → is_open e.role ≡ b → is_shdlc x.frame ≡ true → is_act x.frame ≡ false
         → Step l (took_first l ts x xs) (core_all_here (core_of l) (core_take e x.frame ts))
     shdlc true o s q =
-        let f = took_open e x s o (no_fault_first l x xs w h t o from) in
-        open_as (heard_end e x) (is_some (take_answer e.shdlc x.frame).ended) q o f.0 f.1 (heard_is e x h.now o)
-    shdlc false o s q = let f = took_closed e x.frame s o in closed_as e q o f.0 f.1 refl refl h.now
+        let f = took_open e x s o (no_fault_first l x xs comes.first comes.tells comes.host o comes.from) in
+        open_as (heard_end e x) (is_some (take_answer e.shdlc x.frame).ended) q o f.0 f.1 (heard_is e x comes.tells.now o)
+    shdlc false o s q = let f = took_closed e x.frame s o in closed_as e q o f.0 f.1 refl refl comes.tells.now
 
     -- CLT
     counts : (b : Bool) → is_open e.role ≡ b → x.frame ≡ Clt → Step l (took_first l ts x xs) (core_all_here (core_of l) (core_take e x.frame ts))
     counts true o q =
         open_as (record e { passed_over = e.passed_over + 1 }) false (ap is_act q) o (ap (took e) q)
-        (ap (λ c. is_some (ended_by_frame e c)) q) (counted_is e x h.now q)
+        (ap (λ c. is_some (ended_by_frame e c)) q) (counted_is e x comes.tells.now q)
     counts false o q =
         closed_as (record e { passed_over = e.passed_over + 1 }) (ap is_act q) o (ap (took e) q) (ap (λ c. is_some (ended_by_frame e c)) q) refl refl
-        (mid_counted None e (e.passed_over + 1) h.now)
+        (mid_counted None e (e.passed_over + 1) comes.tells.now)
 
     -- a frame of activation
     acts : (act : Activation) (again : Bool) → x.frame ≡ Act act again
         → Step l (took_first l ts x xs) (core_all_here (core_of l) (core_take e (Act act again) ts))
     acts act again q =
         let event : ActEvent = ActTake act again in
-        let down = polite e x xs act again q p in
+        let down = polite e x xs act again q comes.polite in
         let o : Option Activation = (act_answer e.role event).send in
         let closed : is_open (role_after e.role event) ≡ false → e.shdlc.phase ≡ Down = λ z. by (role_closes e.role act again z) in
         let f : LinkEnd = activated e event in
-        let m = act_mid e event h.now rests.due down closed in
+        let m = act_mid e event comes.tells.now comes.rests.due down closed in
         let k : Link = record l { to_controller = xs } in
-        let st = step_turned l k o f ts refl h.past a m.mid (taken_calm act again q) in
+        let st = step_turned l k o f ts refl comes.tells.past a m.mid (taken_calm act again q) in
         let frame_is : took_first l ts x xs ≡ took_as l ts x xs false f =
         took_is_as l ts x xs false f (ap (λ c. is_some (ended_by_frame e c)) q
-        ∙ (stays_down (act_answer e.role event).ended_link e down rests.due h.now.acts).1) (ap (took e) q) in
+        ∙ (stays_down (act_answer e.role event).ended_link e down comes.rests.due comes.tells.now.acts).1) (ap (took e) q) in
         let counts : took_with l.controller.took x ≡ l.controller.took = took_act l.controller.took x (ap is_rset q) in
         let same : took_as l ts x xs false f
         ≡ becomes k (turned f ts) = ap (λ n. becomes (with_took (record l { to_controller = xs }) n) (turned f ts)) counts in
         let core : core_all_here (core_of l) (core_take e (Act act again) ts) ≡ core_becomes (core_put_all (core_of k) (frames_now o))
         (core_turned e.shdlc (core_turns f ts)) =
-        ap (λ c. core_happens_here c (CoreActs (option_to_list o) (core_turns f ts))) (lose_is (core_of l) x xs w) in
+        ap (λ c. core_happens_here c (CoreActs (option_to_list o) (core_turns f ts))) (lose_is (core_of l) x xs comes.first) in
         let last : core_becomes (core_put_all (core_of k) (frames_now o)) (core_turned f.shdlc (core_turns f ts))
         ≡ core_becomes (core_put_all (core_of k) (frames_now o)) (core_turned e.shdlc (core_turns f ts)) =
         ap (λ z. core_becomes (core_put_all (core_of k) (frames_now o)) (core_turned z (core_turns f ts))) m.same in
@@ -517,15 +525,15 @@ step_first l ts x xs w a p h t rests from = go x.frame refl
         (frame_is ∙ same) (core ∙ sym last) st
       where
         by : (is_open e.role ≡ false) ⊎ ((act_answer e.role (ActTake act again)).ended_link ≡ true) → e.shdlc.phase ≡ Down
-        by (inl z) = h.now.closed z
-        by (inr z) = polite e x xs act again q p z
+        by (inl z) = comes.tells.now.closed z
+        by (inr z) = polite e x xs act again q comes.polite z
 
         taken_calm : (act : Activation) (again : Bool) → x.frame ≡ Act act again → CalmLink l
             → Calm (activated e (ActTake act again)).role l.host.side.role xs (with_sent (act_answer e.role (ActTake act again)).send l.to_host)
         taken_calm act again q z =
             let P : List OnWire → Type 0 = λ v. Calm l.controller.side.role l.host.side.role v l.to_host in
             let R : Role → Type 0 = λ r. Calm r l.host.side.role xs (with_sent (act_answer e.role (ActTake act again)).send l.to_host) in
-            subst R (sym (activated_role e (ActTake act again))) (calm_take e.role l.host.side.role x xs l.to_host act again q (subst P w z))
+            subst R (sym (activated_role e (ActTake act again))) (calm_take e.role l.host.side.role x xs l.to_host act again q (subst P comes.first z))
 
         took_act : (n : ℕ) (y : OnWire) → is_rset y.frame ≡ false → took_with n y ≡ n
         took_act n y z = rw z refl
