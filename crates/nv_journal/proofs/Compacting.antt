@@ -16,11 +16,11 @@ not_ok (Ok x) err = sym err
 not_ok (Err e) err = refl
 
 -- the writes, by the bank that is not in use
-pub made_at : {M : Type 0} (writes : M → ℕ → List ℕ → Bool → M → Type 0) (s : State) (side : Side) (bodies : List (List ℕ)) (at : ℕ) (bytes : List ℕ)
+pub made_at : {M : Type 0} (writes : M → ℕ → List ℕ → Bool → M → Type 0) (s : State) {side : Side} (bodies : List (List ℕ)) {at : ℕ} {bytes : List ℕ}
     (old : M) (ok : Bool) (new : M) → s.in_use ≡ Some side → at ≡ bank_place (other side) → bytes ≡ bank_bytes (s.generation + 1) (count_of s) bodies
     → AreMade writes (close_bank s.beside at ++ write (at + 1) bytes ∷ write at (90 ∷ []) ∷ []) old ok new
     → AreMade writes (compact_writes s bodies) old ok new
-made_at writes s side bodies at bytes old ok new is at_is bytes_are made =
+made_at writes s bodies old ok new is at_is bytes_are made =
     subst (λ planned. AreMade writes planned old ok new)
     (ap₂ (λ p b. close_bank s.beside p ++ write (p + 1) b ∷ write p (90 ∷ []) ∷ []) at_is bytes_are
     ∙ ap

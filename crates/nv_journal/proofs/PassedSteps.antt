@@ -104,10 +104,10 @@ take_two (suc n) k (x ∷ xs) = ap (λ m. take m (x ∷ xs)) (suc-add n k) ∙ a
 
 -- ---- a state by its fields
 
-same_state : (s : State) (in_use : Option Side) (version generation base snapshot many size : ℕ) (beside : Bool) → in_use ≡ s.in_use → version ≡ s.version
+same_state : {s : State} {in_use : Option Side} {version generation base snapshot many size : ℕ} {beside : Bool} → in_use ≡ s.in_use → version ≡ s.version
     → generation ≡ s.generation → base ≡ s.base → snapshot ≡ s.snapshot → many ≡ s.many → size ≡ s.size → beside ≡ s.beside
     → record { in_use = in_use; version = version; generation = generation; base = base; snapshot = snapshot; many = many; size = size; beside = beside } ≡ s
-same_state s in_use version generation base snapshot many size beside a b c d e f g h =
+same_state {s} {generation} {base} {snapshot} {many} {size} {beside} a b c d e f g h =
     ap₂ (λ x y. record { in_use = x; version = y; generation = generation; base = base; snapshot = snapshot; many = many; size = size; beside = beside }) a b
     ∙ ap₂ (λ x y. record s { generation = x; base = y; snapshot = snapshot; many = many; size = size; beside = beside }) c d
     ∙ ap₂ (λ x y. record s { snapshot = x; many = y; size = size; beside = beside }) e f
@@ -158,8 +158,7 @@ module _ (c : List ℕ) (side : Side) (state : State) (ahead : List ℕ) (p : Is
       record {
         size = long;
         state_is = state_at c side p.in_use
-            ∙ same_state state (Some side) (journal c).head.version (journal c).head.generation (journal c).head.base (journal c).head.snapshot
-            (length (journal c).found.bodies) (journal c).found.size (is_opened_gate (head c (other side)).gate) (sym used) version_is
+            ∙ same_state (sym used) version_is
             (ap (λ (j : Journal). j.head.generation) seen ∙ p.generation) (ap (λ (j : Journal). j.head.base) seen ∙ p.base)
             (ap (λ (j : Journal). j.head.snapshot) seen ∙ p.snapshot)
             (ap (λ (x : Found). length x.bodies) f ∙ ap length (append-nil p.passed) ∙ p.many)
@@ -293,11 +292,11 @@ filled_len reads left old before new now (inl same) = (omega (arith, ap length s
 filled_len reads left old before new now (inr piece) = (omega (arith, piece.size), omega (arith, piece.size))
 
 -- a piece is read while the pass goes on
-pub piece_says : (c : List ℕ) (state : State) (ahead now : List ℕ) (ended : Bool) (at : ℕ) → SaysSoFar c state ahead ended → ended ≡ false
+pub piece_says : {c : List ℕ} {state : State} {ahead now : List ℕ} {ended : Bool} {at : ℕ} → SaysSoFar c state ahead ended → ended ≡ false
     → 3 * state.many ≤ state.size → state.size < 32756 → IsTrue (state.version == 1 || state.version == 2)
     → at ≡ next_place state + length ahead → length ahead ≤ length now → state.size + length now ≤ 32756
     → now ≡ ahead ++ slice_range c at (at + (length now - length ahead)) → SaysSoFar c state now ended
-piece_says c state ahead now ended at says going few inside known at_is more fits is = record {
+piece_says {c} {state} {ahead} {now} {at} says going few inside known at_is more fits is = record {
   size = says.size;
   in_use = says.in_use;
   passed = λ side used. piece_read c side state ahead (says.passed side used) says.size used few inside known now at (length now - length ahead)

@@ -30,8 +30,7 @@ invariant_of-self-2 g c =
       known = old.known;
       idle = old.idle;
       says = λ tells. rw (c.in_ok-fill.ensures.kept tells)
-          (piece_says (g.N.Nv.content k.nv) k.state k.ahead now k.ended (c.next_place.result + length c.as_slice.result.now) (old.says tells)
-          (rw (← c.self.view_is) at c.requires) old.few old.inside old.known
+          (piece_says (old.says tells) (rw (← c.self.view_is) at c.requires) old.few old.inside old.known
           (ap₂ (λ a b. a + b) c.next_place.ensures.place len) grown.0 read (c.in_ok-fill.ensures.bytes tells));
     }
 
