@@ -72,19 +72,19 @@ unfolding encode_with
 encode-nil = refl
 
 -- the digits of two more bytes behind those of a front
-pub holds_two : (start : Start) (text front two upper lower : List ℕ) (t : Text) → length two ≡ 2 → upper ≡ encode_upper (get_or two 0 0 ∷ [])
+pub holds_two : {start : Start} (text front two : List ℕ) {upper lower : List ℕ} {t : Text} → length two ≡ 2 → upper ≡ encode_upper (get_or two 0 0 ∷ [])
     → lower ≡ encode_upper (get_or two 1 0 ∷ [])
     → HoldsText start ((text ++ encode_upper front) ++ (get_or upper 0 0 ∷ get_or upper 1 0 ∷ get_or lower 0 0 ∷ get_or lower 1 0 ∷ [])) t
     → HoldsText start (text ++ encode_upper (front ++ two)) t
 unfolding encode_with
-holds_two start text front [] upper lower t e u l h = absurd (omega arith)
-holds_two start text front (a ∷ []) upper lower t e u l h = absurd (omega arith)
-holds_two start text front (a ∷ b ∷ []) upper lower t e u l h =
+holds_two text front [] e u l h = absurd (omega arith)
+holds_two text front (a ∷ []) e u l h = absurd (omega arith)
+holds_two {start} text front (a ∷ b ∷ []) {t = t} e u l h =
     subst (λ x. HoldsText start x t)
     (ap₂ (λ x y. (text ++ encode_upper front) ++ (get_or x 0 0 ∷ get_or x 1 0 ∷ get_or y 0 0 ∷ get_or y 1 0 ∷ [])) u l
     ∙ append_assoc text (encode_upper front) (encode_upper (a ∷ b ∷ []))
     ∙ ap (λ t. text ++ t) (sym (encode-append front (a ∷ b ∷ [])))) h
-holds_two start text front (a ∷ b ∷ c ∷ two) upper lower t e u l h = absurd (omega arith)
+holds_two text front (a ∷ b ∷ c ∷ two) e u l h = absurd (omega arith)
 
 -- the last digit of a number
 pub holds_digit : (start : Start) (text : List ℕ) (n : ℕ) (t : Text) → 10 ≤ n → n < 2 ^ 64

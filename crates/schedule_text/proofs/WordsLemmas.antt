@@ -129,10 +129,10 @@ first_word line start end h e =
     (sym (spaces_first start line (omega arith) (λ k lt. before_letter line k (subst (λ n. k < n) at lt))) ∙ word_first (drop start line) end e some, some)
 
 -- the line cut at its first letter, and what is behind cut at its first space
-pub cut_word : (line back word rest : List ℕ) (start end : ℕ) → position is_letter line ≡ Some start → back ≡ drop start line
+pub cut_word : (line : List ℕ) {back word rest : List ℕ} {start end : ℕ} → position is_letter line ≡ Some start → back ≡ drop start line
     → end ≡ unwrap_or (position is_space back) (length back) → word ≡ take end back → rest ≡ drop end back
     → (words line ≡ word ∷ words rest) × (length rest < length line)
-cut_word line back word rest start end h b e w r =
+cut_word line {back} {start} {end} h b e w r =
     let at : end ≡ position_or_len is_space (drop start line) = e ∙ place_or_len is_space back ∙ ap (position_or_len is_space) b in
     let found = first_word line start end h at in
     let within = (cond_some _ _ _ h).0 in

@@ -7,12 +7,10 @@ returns-in_err-start-clause-none c = rw c.from_residual.ensures (no_word c.args.
 
 pub returns-clause-some : goal.returns-clause-some
 returns-clause-some c =
-    (cut_word c.args.line.now c.split_at.result.1.now c.split_at-2.result.0.now c.split_at-2.result.1.now c.in_ok-start.start c.unwrap_or-end.result
-    (sym c.first_letter.ensures ∙ c.in_ok-start.was) c.split_at.ensures.back
+    (cut_word c.args.line.now (sym c.first_letter.ensures ∙ c.in_ok-start.was) c.split_at.ensures.back
     (rw (← c.first_space.ensures) c.unwrap_or-end.ensures) c.split_at-2.ensures.front c.split_at-2.ensures.back).0
 
 pub returns-clause-shorter : goal.returns-clause-shorter
 returns-clause-shorter c =
-    (cut_word c.args.line.now c.split_at.result.1.now c.split_at-2.result.0.now c.split_at-2.result.1.now c.in_ok-start.start c.unwrap_or-end.result
-    (sym c.first_letter.ensures ∙ c.in_ok-start.was) c.split_at.ensures.back
+    (cut_word c.args.line.now (sym c.first_letter.ensures ∙ c.in_ok-start.was) c.split_at.ensures.back
     (rw (← c.first_space.ensures) c.unwrap_or-end.ensures) c.split_at-2.ensures.front c.split_at-2.ensures.back).1

@@ -26,7 +26,7 @@ twos-preserved c =
         append_assoc front two c.in-Some.more.now ∙ ap (λ xs. front ++ xs) (ap₂ (λ xs ys. xs ++ ys) cases.0 cases.1 ∙ take-append-drop 2 left)
             ∙ c.twos.invariant.1.0,
         λ start text h.
-            holds_two start text front two c.hex_digits.result c.hex_digits-in-Some.result _ long c.hex_digits.ensures c.hex_digits-in-Some.ensures
+            holds_two text front two long c.hex_digits.ensures c.hex_digits-in-Some.ensures
             (c.push.ensures start _ (c.twos.invariant.1.1 start text h)),
       ),
     )
