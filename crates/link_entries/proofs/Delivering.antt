@@ -7,7 +7,7 @@ use Rattle.session_laws.specs.Sessions.{ShdlcLink as CoreLink, ShdlcTurn as Core
 use Rattle.session_laws.specs.Sessions.ShdlcLinkEvent.{AtController as CoreAtController, AtHost as CoreAtHost, Tick as CoreTick, TickWithout as CoreTickWithout}
 use Rattle.session_laws.specs.Losses.{Losses, no_losses, sans, noted_here, noted_turns, noted_tick, noted_if_waiting, noted_aged, noted_event, losses_after}
 use Rattle.session_laws.proofs.Sending.{SafeLink}
-use Rattle.session_laws.proofs.Steps.{safe_aged, safe_turns, safe_exchanged, tick_or_cut, tick_if_waiting}
+use Rattle.session_laws.proofs.Steps.{safe_aged, safe_turns}
 use Rattle.link_machine.proofs.Runs.{Sound}
 use Rattle.message_link.specs.Links.{Talk, NumberedEnd, Link, IsStart, EndEvent, LinkEvent, exchanged, number_of, happens_at_controller, happens, all_at_controller, ticks_at_controller, aged, after_link_events, talk_now, talk_of, CanStart, IsUicc, IsNode, AreOwn, IsEvent, AllAllowed}
 use Rattle.message_link.specs.Links.IsStart.{IsBare, IsLine}
@@ -16,19 +16,17 @@ use Rattle.message_link.specs.Links.EndEvent.{Step}
 use Rattle.message_link.specs.Links.LinkEvent.{AtController, AtHost, Ticks, TicksWithout, Activate}
 use Rattle.message_link.specs.Projection.{core_of, core_here, core_all, core_tick, core_tick_rest, core_event, core_events}
 use Rattle.message_link.specs.Quiet.{losses_of, IsQuiet, AllDelivered}
-use Rattle.message_link.proofs.Project.{Tells}
 use Rattle.message_link.proofs.Finishing.{step_tick, all_here-append}
-use Rattle.message_link.proofs.Runs.{Good, Reached, safe_reached, rests_of, reached_more, event_step, own_here, own_turns, all_step, rest_both, tells_same, started_clf, clf_starts, can_start}
+use Rattle.message_link.proofs.Runs.{Good, Reached, safe_reached, rests_of, reached_more, event_step, all_step, started_clf, clf_starts, can_start}
 use Rattle.message_link.proofs.Quiet.{all_here as delivered_here, all_there as delivered_there}
-use Rattle.message_link.proofs.Whole.{start_good, start_reached, one_number}
+use Rattle.message_link.proofs.Whole.{one_number}
 use Rattle.link_entries.specs.Entries.{End, Entry, far, here_entries, entries_of_events, aged_entries, tick_entries, event_entries, entries, first_entries, trace}
 use Rattle.link_entries.specs.Entries.End.{Controller, Host}
 use Rattle.link_entries.specs.Entries.Entry.{Tick}
 use Rattle.link_entries.specs.Quiet.{IsQuietSince, IsDeliveredOnLink}
 use Rattle.link_entries.specs.Sessions.{IsRead}
 use Rattle.link_entries.proofs.Books.{up_talk}
-use Rattle.link_entries.proofs.Noting.{sound_tick}
-use Rattle.link_entries.proofs.Running.{before_here, before_there, host_here, sound_here, Sounds, Noted, note_event, start_noted, read_here, read_there}
+use Rattle.link_entries.proofs.Running.{before_here, before_there, host_here, sound_here, Sounds, read_here, read_there, IsInTick, near_in_tick, own_step, own_in_tick, after_tick, without_tick, host_in_tick, IsUnderWay, goes_on, start_under_way}
 use Rattle.link_entries.proofs.Losing.{bad}
 use Rattle.link_entries.proofs.Lasting.{noted-append, same_number}
 use Rattle.link_entries.proofs.Completing.{Both}
@@ -63,20 +61,17 @@ swap_back t n l b = record { here = b.there; there = b.here }
 
 -- ## Events
 
-all_knows : (kf : ℕ) (es : List EndEvent) (t : List Entry) (n : Losses) (l : Link) → AreOwn l es → Tells l.controller → Tells l.host → SafeLink 0 kf (core_of l)
-    → Sound l.controller.side → Both t n l → Both (t ++ entries_of_events Controller l es) (noted_turns n (core_of l) (core_all l es)) (all_at_controller l es)
-all_knows kf [] t n l a h g s sd b = as_is (t ++ []) t n n l (append-nil t) refl b
-all_knows kf (e ∷ es) t n l a h g s sd b =
-    let r = rests_of 0 kf (core_of l) s in
-    let one = own_here l e a.0 a.1 h r in
+all_knows : {kf : ℕ} (es : List EndEvent) (t : List Entry) (n : Losses) (l : Link) → AreOwn l es → IsInTick kf l → Both t n l
+    → Both (t ++ entries_of_events Controller l es) (noted_turns n (core_of l) (core_all l es)) (all_at_controller l es)
+all_knows [] t n l a s b = as_is (t ++ []) t n n l (append-nil t) refl b
+all_knows (e ∷ es) t n l a s b =
+    let one = own_step l e a.0 a.1 s in
     let m : Link = happens_at_controller l e in
-    let P : CoreLink → Type 0 = λ c. SafeLink 0 kf c in
-    let safe : SafeLink 0 kf (core_of m) = subst P (sym one.core) (safe_turns kf (core_here l e) (core_of l) (own_turns l e r a.0 a.1) s) in
     let u : List Entry = here_entries Controller l e in
     let v : List Entry = entries_of_events Controller m es in
     let k : Losses = noted_turns n (core_of l) (core_here l e) in
-    let first = own_step_knows t n l e a.0 a.1 (record { tells = h; rests = r; sound = sd }) b in
-    let more = all_knows kf es (t ++ u) k m a.2 one.tells (tells_same m.host l.host one.host g) safe (sound_here l e a.1 sd) first in
+    let first = own_step_knows t n l e a.0 a.1 (near_in_tick l s) b in
+    let more = all_knows es (t ++ u) k m a.2 (own_in_tick l e a.0 a.1 s) first in
     as_is (t ++ (u ++ v)) ((t ++ u) ++ v) (noted_turns n (core_of l) (core_here l e ++ core_all m es)) (noted_turns k (core_of m) (core_all m es))
     (all_at_controller m es) (sym (append_assoc t u v))
     (noted-append n (core_of l) (core_here l e) (core_all m es) ∙ ap (λ c. noted_turns k c (core_all m es)) (sym one.core)) more
@@ -110,27 +105,21 @@ event_knows t n l (Ticks c es h) a g r s b =
     let t1 : Option (List CoreTurn) = core_tick l.controller.side c.turns c.ending in
     let rest : List CoreEndEvent = core_tick_rest l.controller.side c.turns c.ending in
     let first : CoreLink = core_ticks_or_cut t1 (core_aged (core_of l)) in
-    let P : CoreLink → Type 0 = λ d. SafeLink 0 1 d in
-    let near_safe : SafeLink 0 1 (core_of near) =
-    subst P (sym one.core) (safe_turns 1 rest first (rest_both l.controller.side c.turns c.ending).turns (tick_or_cut 1 t1 (core_aged (core_of l)) s0)) in
-    let near_host : Tells near.host = tells_same near.host l.host one.host g.host in
-    let all = all_step 1 near es a.1 one.tells near_safe in
+    let stands = after_tick l c a.0 g r s in
+    let all = all_step 1 near es a.1 stands.tells stands.safe in
     let ds : List Entry = entries_of_events Controller near es in
     let n3 : Losses = noted_turns n2 (core_of near) (core_all near es) in
     let u : List Entry = ((t ++ start) ++ cs) ++ ds in
     let m : Link = all_at_controller near es in
-    let b3 : Both u n3 m =
-    all_knows 1 es ((t ++ start) ++ cs) n2 near a.1 one.tells near_host near_safe (sound_tick (aged l) c a.0 s.controller) b2 in
-    let m_safe : SafeLink 0 1 (core_of m) = subst P (sym all.step.core) (safe_turns 1 (core_all near es) (core_of near) all.turns near_safe) in
+    let b3 : Both u n3 m = all_knows es ((t ++ start) ++ cs) n2 near a.1 stands b2 in
+    let P : CoreLink → Type 0 = λ d. SafeLink 0 1 d in
+    let m_safe : SafeLink 0 1 (core_of m) = subst P (sym all.step.core) (safe_turns 1 (core_all near es) (core_of near) all.turns stands.safe) in
     let host_is : m.host ≡ l.host = all.step.host ∙ one.host in
-    let H : NumberedEnd → Type 0 = λ z. Sound z.side in
-    let m_rests = rests_of 1 0 (core_of (exchanged m)) (safe_exchanged 0 1 (core_of m) m_safe) in
     let fs : List Entry = tick_entries Host (exchanged m) h in
     let n4 : Losses = tick_flags n3 (exchanged m) h in
     let k : Link = ticks_at_controller (exchanged m) h.turns h.ending in
     let b4 : Both (u ++ fs) n4 k =
-    tick_knows u n3 Host (exchanged m) h a.2 (record { tells = tells_same m.host l.host host_is g.host; rests = m_rests; sound = subst H (sym host_is) s.host })
-    (swap u n3 m b3) in
+    tick_knows u n3 Host (exchanged m) h a.2 (host_in_tick l m host_is m_safe g s) (swap u n3 m b3) in
     let turns : List CoreEndEvent = rest ++ core_all near es in
     let d : CoreLink = core_all_here first turns in
     let x : Losses = noted_turns (noted_tick n1 t1 (core_aged (core_of l))) first turns in
@@ -154,7 +143,6 @@ event_knows t n l (Ticks c es h) a g r s b =
         let t : Option (List CoreTurn) = core_tick z.side h.turns h.ending in
         noted_turns (noted_tick n t (core_exchanged d)) (core_ticks_or_cut t (core_exchanged d)) (core_tick_rest z.side h.turns h.ending)
 event_knows t n l (TicksWithout es h) a g r s b =
-    let s0 = safe_aged (core_of l) (safe_reached (core_of l) r) in
     let ps : List Entry = aged_entries Controller l.to_controller in
     let bs : List Entry = aged_entries Host l.to_host in
     let start : List Entry = Tick ∷ (ps ++ bs) in
@@ -163,25 +151,22 @@ event_knows t n l (TicksWithout es h) a g r s b =
     let near : Link = aged l in
     let first : CoreLink = core_ticks_if_waiting (core_aged (core_of l)) in
     let kept : first ≡ core_of near = rw a.0 refl in
-    let P : CoreLink → Type 0 = λ d. SafeLink 0 1 d in
-    let near_safe : SafeLink 0 1 (core_of near) = subst P kept (tick_if_waiting 1 (core_aged (core_of l)) s0) in
-    let all = all_step 1 near es a.1 g.controller near_safe in
+    let stands = without_tick l a.0 g r s in
+    let all = all_step 1 near es a.1 stands.tells stands.safe in
     let turns : List CoreEndEvent = core_all near es in
     let ds : List Entry = entries_of_events Controller near es in
     let n3 : Losses = noted_turns n1 (core_of near) turns in
     let u : List Entry = (t ++ start) ++ ds in
     let m : Link = all_at_controller near es in
-    let b3 : Both u n3 m = all_knows 1 es (t ++ start) n1 near a.1 g.controller g.host near_safe s.controller b1 in
-    let m_safe : SafeLink 0 1 (core_of m) = subst P (sym all.step.core) (safe_turns 1 turns (core_of near) all.turns near_safe) in
+    let b3 : Both u n3 m = all_knows es (t ++ start) n1 near a.1 stands b1 in
+    let P : CoreLink → Type 0 = λ d. SafeLink 0 1 d in
+    let m_safe : SafeLink 0 1 (core_of m) = subst P (sym all.step.core) (safe_turns 1 turns (core_of near) all.turns stands.safe) in
     let host_is : m.host ≡ l.host = all.step.host in
-    let H : NumberedEnd → Type 0 = λ z. Sound z.side in
-    let m_rests = rests_of 1 0 (core_of (exchanged m)) (safe_exchanged 0 1 (core_of m) m_safe) in
     let fs : List Entry = tick_entries Host (exchanged m) h in
     let n4 : Losses = tick_flags n3 (exchanged m) h in
     let k : Link = ticks_at_controller (exchanged m) h.turns h.ending in
     let b4 : Both (u ++ fs) n4 k =
-    tick_knows u n3 Host (exchanged m) h a.2 (record { tells = tells_same m.host l.host host_is g.host; rests = m_rests; sound = subst H (sym host_is) s.host })
-    (swap u n3 m b3) in
+    tick_knows u n3 Host (exchanged m) h a.2 (host_in_tick l m host_is m_safe g s) (swap u n3 m b3) in
     let x : Losses = noted_turns (noted_if_waiting n1 (core_aged (core_of l))) first turns in
     let x_is : x ≡ n3 = rw a.0 refl in
     let d_is : core_all_here first turns ≡ core_of m = ap (λ z. core_all_here z turns) kept ∙ sym all.step.core in
@@ -230,18 +215,17 @@ event_knows t n l (Activate power c id h) a g r s b =
 
 -- ## Runs
 
-events_know : (events : List LinkEvent) (t : List Entry) (n : Losses) (l : Link) → AllAllowed l events → Good l → Reached (core_of l) → Noted t l → Both t n l
+events_know : (events : List LinkEvent) (t : List Entry) (n : Losses) (l : Link) → AllAllowed l events → IsUnderWay t l → Both t n l
     → Both (t ++ entries l events) (losses_after n (core_of l) (core_events l events)) (after_link_events l events)
-events_know [] t n l a g r s b = as_is (t ++ []) t n n l (append-nil t) refl b
-events_know (e ∷ es) t n l a g r s b =
-    let st = event_step l e a.0 g r in
+events_know [] t n l a w b = as_is (t ++ []) t n n l (append-nil t) refl b
+events_know (e ∷ es) t n l a w b =
+    let st = event_step l e a.0 w.good w.reached in
     let m : Link = happens l e in
-    let next : Reached (core_of m) = subst Reached (sym st.core) (reached_more (core_of l) (core_event l e) st.allowed r) in
     let u : List Entry = event_entries l e in
     let v : List Entry = entries m es in
     let k : Losses = losses_after n (core_of l) (core_event l e) in
-    let first = event_knows t n l e a.0 g r s.sounds b in
-    let more = events_know es (t ++ u) k m a.1 st.good next (note_event t l e a.0 g r s).noted first in
+    let first = event_knows t n l e a.0 w.good w.reached w.noted.sounds b in
+    let more = events_know es (t ++ u) k m a.1 (goes_on l e a.0 w) first in
     as_is (t ++ (u ++ v)) ((t ++ u) ++ v) (losses_after n (core_of l) (core_event l e ++ core_events m es)) (losses_after k (core_of m) (core_events m es))
     (after_link_events m es) (sym (append_assoc t u v))
     (losses-append n (core_of l) (core_event l e) (core_events m es) ∙ ap (λ c. losses_after k c (core_events m es)) (sym st.core)) more
@@ -260,7 +244,7 @@ start_knows l IsLine =
 
 knows : (l : Link) → IsStart l → (events : List LinkEvent) → AllAllowed l events → Both (trace l events) (losses_of l events) (after_link_events l events)
 knows l s events a =
-    events_know events (first_entries l.controller.side.role) no_losses l a (start_good l s) (start_reached l s) (start_noted l s) (start_knows l s)
+    events_know events (first_entries l.controller.side.role) no_losses l a (start_under_way l s) (start_knows l s)
 
 -- ## A quiet session
 

@@ -1,27 +1,24 @@
 -- What is noted of a link says which session each end has.
 use Rattle.std.proofs.Common.{◌≡◌, ℕ, List, [], ◌∷◌, ◌++◌, Option, Some, None, refl, ap, sym, subst, ◌∙◌}
-use Rattle.session_laws.specs.Sessions.{ShdlcLink as CoreLink, ShdlcTurn as CoreTurn, ShdlcEndEvent as CoreEndEvent, shdlc_aged as core_aged, ticks_or_cut as core_ticks_or_cut, ticks_if_waiting as core_ticks_if_waiting}
+use Rattle.session_laws.specs.Sessions.{ShdlcLink as CoreLink}
 use Rattle.session_laws.proofs.Sending.{SafeLink}
-use Rattle.session_laws.proofs.Steps.{safe_aged, safe_turns, safe_exchanged, tick_or_cut, tick_if_waiting}
+use Rattle.session_laws.proofs.Steps.{safe_aged, safe_turns}
 use Rattle.link_machine.proofs.Runs.{Sound}
 use Rattle.message_link.specs.Links.{NumberedEnd, Link, IsStart, EndEvent, LinkEvent, number_of, exchanged, happens_at_controller, happens, all_at_controller, ticks_at_controller, aged, after_link_events, CanStart, IsUicc, IsNode, AreOwn, IsEvent, AllAllowed}
 use Rattle.message_link.specs.Links.IsStart.{IsBare, IsLine}
 use Rattle.message_link.specs.Links.Comes.{Starts}
 use Rattle.message_link.specs.Links.EndEvent.{Step}
 use Rattle.message_link.specs.Links.LinkEvent.{AtController, AtHost, Ticks, TicksWithout, Activate}
-use Rattle.message_link.specs.Projection.{core_of, core_here, core_all, core_tick, core_tick_rest, core_event}
-use Rattle.message_link.proofs.Project.{Tells}
+use Rattle.message_link.specs.Projection.{core_of, core_all, core_event}
 use Rattle.message_link.proofs.Finishing.{step_tick}
-use Rattle.message_link.proofs.Runs.{Good, Reached, safe_reached, rests_of, reached_more, event_step, step_here, own_here, own_turns, all_step, rest_both, tells_same, started_clf, clf_starts, can_start}
-use Rattle.message_link.proofs.Whole.{start_good, start_reached}
+use Rattle.message_link.proofs.Runs.{Good, Reached, safe_reached, rests_of, reached_more, event_step, step_here, all_step, started_clf, clf_starts, can_start}
 use Rattle.link_entries.specs.Entries.{End, Entry, here_entries, entries_of_events, aged_entries, tick_entries, event_entries, entries, first_entries, trace}
 use Rattle.link_entries.specs.Entries.End.{Controller, Host}
 use Rattle.link_entries.specs.Entries.Entry.{Tick}
 use Rattle.link_entries.specs.Reading.{Seen}
 use Rattle.link_entries.specs.Sessions.{session_in, number_now}
 use Rattle.link_entries.specs.Settled.{IsSettledSince, AreNotedUpTogether}
-use Rattle.link_entries.proofs.Noting.{sound_tick}
-use Rattle.link_entries.proofs.Running.{Sounds, Noted, before_here, before_there, host_here, sound_here, note_event, start_noted}
+use Rattle.link_entries.proofs.Running.{Sounds, before_here, before_there, host_here, sound_here, IsInTick, near_in_tick, own_in_tick, after_tick, without_tick, host_in_tick, IsUnderWay, goes_on, start_under_way}
 use Rattle.link_entries.proofs.Hearing.{up_session, heard, heard-append, passes-append, passes_aged, Heard, tick_heard, own_heard, here_heard}
 use Rattle.link_entries.proofs.Together.{ticks_host, together}
 use Rattle.link_entries.proofs.Ages.{read_off}
@@ -35,19 +32,15 @@ record BothHeard (l m : Link) (u : List Entry) : Type 0 where
 then_heard : (who : End) (x y z : Option ℕ) (u v : List Entry) → heard who x u ≡ y → heard who y v ≡ z → heard who x (u ++ v) ≡ z
 then_heard who x y z u v p q = heard-append who x u v ∙ (ap (λ s. heard who s v) p ∙ q)
 
-all_heard : (kf : ℕ) (es : List EndEvent) (l : Link) → AreOwn l es → Tells l.controller → SafeLink 0 kf (core_of l) → Sound l.controller.side
+all_heard : {kf : ℕ} (es : List EndEvent) (l : Link) → AreOwn l es → IsInTick kf l
     → Heard Controller l (all_at_controller l es) (entries_of_events Controller l es)
-all_heard kf [] l a h safe sound = record { here = refl; there = λ s. refl }
-all_heard kf (e ∷ es) l a h safe sound =
-    let r = rests_of 0 kf (core_of l) safe in
-    let one = own_here l e a.0 a.1 h r in
+all_heard [] l a s = record { here = refl; there = λ x. refl }
+all_heard (e ∷ es) l a s =
     let m : Link = happens_at_controller l e in
-    let P : CoreLink → Type 0 = λ c. SafeLink 0 kf c in
-    let next : SafeLink 0 kf (core_of m) = subst P (sym one.core) (safe_turns kf (core_here l e) (core_of l) (own_turns l e r a.0 a.1) safe) in
     let u : List Entry = here_entries Controller l e in
     let v : List Entry = entries_of_events Controller m es in
-    let first = own_heard Controller l e a.0 a.1 (record { tells = h; rests = r; sound = sound }) in
-    let more = all_heard kf es m a.2 one.tells next (sound_here l e a.1 sound) in
+    let first = own_heard Controller l e a.0 a.1 (near_in_tick l s) in
+    let more = all_heard es m a.2 (own_in_tick l e a.0 a.1 s) in
     record {
       here =
           then_heard Controller (number_now l.controller) (number_now m.controller) (number_now (all_at_controller m es).controller) u v first.here more.here;
@@ -81,26 +74,19 @@ event_heard l (Ticks c es h) a g r s =
     let rests = rests_of 1 1 (core_of old) s0 in
     let near : Link = ticks_at_controller old c.turns c.ending in
     let one = step_tick old c.turns c.ending a.0.0 a.0.1 g.controller rests in
-    let t1 : Option (List CoreTurn) = core_tick l.controller.side c.turns c.ending in
-    let rest : List CoreEndEvent = core_tick_rest l.controller.side c.turns c.ending in
-    let first : CoreLink = core_ticks_or_cut t1 (core_aged (core_of l)) in
-    let P : CoreLink → Type 0 = λ d. SafeLink 0 1 d in
-    let near_safe : SafeLink 0 1 (core_of near) =
-    subst P (sym one.core) (safe_turns 1 rest first (rest_both l.controller.side c.turns c.ending).turns (tick_or_cut 1 t1 (core_aged (core_of l)) s0)) in
-    let all = all_step 1 near es a.1 one.tells near_safe in
+    let stands = after_tick l c a.0 g r s in
+    let all = all_step 1 near es a.1 stands.tells stands.safe in
     let m : Link = all_at_controller near es in
-    let m_safe : SafeLink 0 1 (core_of m) = subst P (sym all.step.core) (safe_turns 1 (core_all near es) (core_of near) all.turns near_safe) in
+    let P : CoreLink → Type 0 = λ d. SafeLink 0 1 d in
+    let m_safe : SafeLink 0 1 (core_of m) = subst P (sym all.step.core) (safe_turns 1 (core_all near es) (core_of near) all.turns stands.safe) in
     let host_is : m.host ≡ l.host = all.step.host ∙ one.host in
-    let H : NumberedEnd → Type 0 = λ z. Sound z.side in
-    let m_rests = rests_of 1 0 (core_of (exchanged m)) (safe_exchanged 0 1 (core_of m) m_safe) in
     let k : Link = ticks_at_controller (exchanged m) h.turns h.ending in
     let cs : List Entry = tick_entries Controller old c in
     let ds : List Entry = entries_of_events Controller near es in
     let fs : List Entry = tick_entries Host (exchanged m) h in
     let x = tick_heard Controller old c a.0 (record { tells = g.controller; rests = rests; sound = s.controller }) in
-    let y = all_heard 1 es near a.1 one.tells near_safe (sound_tick old c a.0 s.controller) in
-    let z = tick_heard Host (exchanged m) h a.2
-    (record { tells = tells_same m.host l.host host_is g.host; rests = m_rests; sound = subst H (sym host_is) s.host }) in
+    let y = all_heard es near a.1 stands in
+    let z = tick_heard Host (exchanged m) h a.2 (host_in_tick l m host_is m_safe g s) in
     let here : Option ℕ = number_now l.controller in
     let there : Option ℕ = number_now l.host in
     record {
@@ -113,24 +99,18 @@ event_heard l (Ticks c es h) a g r s =
           (then_heard Host there (number_now m.host) (number_now k.controller) ds fs (y.there there ∙ sym (ap number_now host_is)) z.here);
     }
 event_heard l (TicksWithout es h) a g r s =
-    let s0 = safe_aged (core_of l) (safe_reached (core_of l) r) in
     let near : Link = aged l in
-    let first : CoreLink = core_ticks_if_waiting (core_aged (core_of l)) in
-    let kept : first ≡ core_of near = rw a.0 refl in
-    let P : CoreLink → Type 0 = λ d. SafeLink 0 1 d in
-    let near_safe : SafeLink 0 1 (core_of near) = subst P kept (tick_if_waiting 1 (core_aged (core_of l)) s0) in
-    let all = all_step 1 near es a.1 g.controller near_safe in
+    let stands = without_tick l a.0 g r s in
+    let all = all_step 1 near es a.1 stands.tells stands.safe in
     let m : Link = all_at_controller near es in
-    let m_safe : SafeLink 0 1 (core_of m) = subst P (sym all.step.core) (safe_turns 1 (core_all near es) (core_of near) all.turns near_safe) in
+    let P : CoreLink → Type 0 = λ d. SafeLink 0 1 d in
+    let m_safe : SafeLink 0 1 (core_of m) = subst P (sym all.step.core) (safe_turns 1 (core_all near es) (core_of near) all.turns stands.safe) in
     let host_is : m.host ≡ l.host = all.step.host in
-    let H : NumberedEnd → Type 0 = λ z. Sound z.side in
-    let m_rests = rests_of 1 0 (core_of (exchanged m)) (safe_exchanged 0 1 (core_of m) m_safe) in
     let k : Link = ticks_at_controller (exchanged m) h.turns h.ending in
     let ds : List Entry = entries_of_events Controller near es in
     let fs : List Entry = tick_entries Host (exchanged m) h in
-    let y = all_heard 1 es near a.1 g.controller near_safe s.controller in
-    let z = tick_heard Host (exchanged m) h a.2
-    (record { tells = tells_same m.host l.host host_is g.host; rests = m_rests; sound = subst H (sym host_is) s.host }) in
+    let y = all_heard es near a.1 stands in
+    let z = tick_heard Host (exchanged m) h a.2 (host_in_tick l m host_is m_safe g s) in
     let here : Option ℕ = number_now l.controller in
     let there : Option ℕ = number_now l.host in
     record {
@@ -171,17 +151,14 @@ event_heard l (Activate power c id h) a g r s =
 
 -- ## Runs
 
-events_heard : (es : List LinkEvent) (t : List Entry) (l : Link) → AllAllowed l es → Good l → Reached (core_of l) → Noted t l
-    → BothHeard l (after_link_events l es) (entries l es)
-events_heard [] t l a g r n = record { controller = refl; host = refl }
-events_heard (e ∷ es) t l a g r n =
+events_heard : (es : List LinkEvent) (t : List Entry) (l : Link) → AllAllowed l es → IsUnderWay t l → BothHeard l (after_link_events l es) (entries l es)
+events_heard [] t l a w = record { controller = refl; host = refl }
+events_heard (e ∷ es) t l a w =
     let m : Link = happens l e in
-    let st = event_step l e a.0 g r in
-    let next : Reached (core_of m) = subst Reached (sym st.core) (reached_more (core_of l) (core_event l e) st.allowed r) in
     let u : List Entry = event_entries l e in
     let v : List Entry = entries m es in
-    let one = event_heard l e a.0 g r n.sounds in
-    let more = events_heard es (t ++ u) m a.1 st.good next (note_event t l e a.0 g r n).noted in
+    let one = event_heard l e a.0 w.good w.reached w.noted.sounds in
+    let more = events_heard es (t ++ u) m a.1 (goes_on l e a.0 w) in
     record {
       controller = then_heard Controller (number_now l.controller) (number_now m.controller) (number_now (after_link_events m es).controller) u v one.controller
           more.controller;
@@ -195,8 +172,7 @@ first_heard l IsBare = (refl, refl)
 first_heard l IsLine = (refl, refl)
 
 both_heard : (l : Link) → IsStart l → (events : List LinkEvent) → AllAllowed l events → BothHeard l (after_link_events l events) (entries l events)
-both_heard l s events a =
-    events_heard events (first_entries l.controller.side.role) l a (start_good l s) (start_reached l s) (start_noted l s)
+both_heard l s events a = events_heard events (first_entries l.controller.side.role) l a (start_under_way l s)
 
 pub controller_heard : (l : Link) → IsStart l → (events : List LinkEvent) → AllAllowed l events
     → session_in (trace l events) Controller ≡ number_now (after_link_events l events).controller

@@ -44,7 +44,7 @@ use Rattle.link_entries.proofs.Sparing.{Spared, Stands, or_none, spared_parts, s
 -- activation goes on at an end that is active
 act_open : (r f : Role) (x : OnWire) (w v : List OnWire) (act : Activation) (again : Bool) → x.frame ≡ Act act again → Calm r f (x ∷ w) v
     → is_open r ≡ true → is_open (role_after r (ActTake act again)) ≡ true
-act_open r f x w v act again q calm o = go (is_open (role_after r (ActTake act again))) refl
+act_open r f x w v act again q wires o = go (is_open (role_after r (ActTake act again))) refl
   where
     go : (b : Bool) → is_open (role_after r (ActTake act again)) ≡ b → is_open (role_after r (ActTake act again)) ≡ true
     go true p = p
@@ -52,7 +52,7 @@ act_open r f x w v act again q calm o = go (is_open (role_after r (ActTake act a
       where
         by : (is_open r ≡ false) ⊎ ((act_answer r (ActTake act again)).ended_link ≡ true) → is_open (role_after r (ActTake act again)) ≡ true
         by (inl z) = absurd (true≢false (sym o ∙ z))
-        by (inr z) = absurd (true≢false (sym o ∙ ended_means r f x w v act again q calm z))
+        by (inr z) = absurd (true≢false (sym o ∙ ended_means r f x w v act again q wires z))
 
 pub down_role : (e : LinkEnd) → (put_down true e).role ≡ e.role
 down_role e = go e.shdlc.phase refl
@@ -70,13 +70,13 @@ heard_role e c = go (is_faulty (taken e.shdlc c).session) refl
     go false p = rw p (moved_role e (is_some (take_answer e.shdlc c).ended) (taken e.shdlc c))
 
 took_open : (e : LinkEnd) (f : Role) (x : OnWire) (w v : List OnWire) → Calm e.role f (x ∷ w) v → is_open e.role ≡ true → is_open (took e x.frame).role ≡ true
-took_open e f x w v calm o = go x.frame refl
+took_open e f x w v wires o = go x.frame refl
   where
     shdlc : (c : Control) → took e c ≡ heard e c → is_open (took e c).role ≡ true
     shdlc c q = ap (λ (g : LinkEnd). is_open g.role) q ∙ (ap is_open (heard_role e c) ∙ o)
 
     go : (c : Control) → x.frame ≡ c → is_open (took e c).role ≡ true
-    go (Act act again) q = ap is_open (activated_role e (ActTake act again)) ∙ act_open e.role f x w v act again q calm o
+    go (Act act again) q = ap is_open (activated_role e (ActTake act again)) ∙ act_open e.role f x w v act again q wires o
     go Clt q = o
     go (I ns nr info) q = shdlc (I ns nr info) (rw o refl)
     go (S kind nr) q = shdlc (S kind nr) (rw o refl)
@@ -256,13 +256,13 @@ frame_spares s who l ts a b k = go l.to_controller refl
         let v : List Entry = rest_entries who m (took e x.frame) ts GoesOut in
         let P : List Entry → Type 0 = λ z. Spared z in
         let C : List OnWire → Type 0 = λ z. Calm e.role l.host.side.role z l.to_host in
-        let calm : Calm e.role l.host.side.role (x ∷ xs) l.to_host = subst C r b.calm in
+        let wires : Calm e.role l.host.side.role (x ∷ xs) l.to_host = subst C r b.calm in
         let is = take_sure s l ts x xs a (comes_first l x xs r b) k in (
           λ p q. ap (sure_turns s c) list
               ∙ (no_more (core_take e x.frame ts) s c
               ∙ rest_sure s (sure_turns s c (core_take e x.frame ts)) who m (took e x.frame) ts is p (spared_parts u v (subst P some q)).1),
           ap (λ (z : Link). is_open z.controller.side.role) next
-              ∙ (ap is_open (turned_role (took e x.frame) ts) ∙ took_open e l.host.side.role x xs l.to_host calm k),
+              ∙ (ap is_open (turned_role (took e x.frame) ts) ∙ took_open e l.host.side.role x xs l.to_host wires k),
         )
 
 cut_spares : (s : Bool) (who : End) (l : Link) (ts : List Turn) → is_open l.controller.side.role ≡ true

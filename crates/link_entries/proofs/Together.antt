@@ -8,8 +8,7 @@ use Rattle.session_laws.specs.Sessions.{OnWire, ShdlcLink as CoreLink, ShdlcTurn
 use Rattle.session_laws.specs.Sessions.ShdlcLinkEvent.{AtController as CoreAtController, AtHost as CoreAtHost, Tick as CoreTick, TickWithout as CoreTickWithout}
 use Rattle.session_laws.specs.Losses.{is_act, sans, loses_aged}
 use Rattle.session_laws.specs.Settled.{sure_here, sure_turns, sure_tick, sure_if_waiting, sure_aged, sure_event, sure_after}
-use Rattle.session_laws.proofs.Sending.{SafeLink}
-use Rattle.session_laws.proofs.Steps.{safe_aged, safe_turns, safe_exchanged, tick_or_cut, tick_if_waiting}
+use Rattle.session_laws.proofs.Steps.{safe_aged, safe_exchanged}
 use Rattle.link_machine.specs.Machine.{LinkEnd, Turn, is_open, after_input, ended_by, turned}
 use Rattle.link_machine.specs.Machine.LinkInput.{Tick as HasTick, Reset}
 use Rattle.message_link.specs.Links.{NumberedEnd, Link, Ending, Node, IsStart, EndEvent, LinkEvent, exchanged, with_ended, happens_at_controller, happens, all_at_controller, ticks_at_controller, aged, after_link_events, IsNode, IsAllowed, AreOwn, IsEvent, AllAllowed}
@@ -22,12 +21,11 @@ use Rattle.message_link.specs.Settled.{AreUpTogether as LinkTogether}
 use Rattle.message_link.proofs.Project.{Tells, turned_role, moved_role, host_ended as ended_host}
 use Rattle.message_link.proofs.Finishing.{reset_tells, step_tick, tick_open, all_here-append}
 use Rattle.message_link.proofs.Quiet.{up_together}
-use Rattle.message_link.proofs.Runs.{Good, Reached, safe_reached, rests_of, reached_more, own_here, own_turns, all_step, rest_both, event_step, step_here, tells_same}
-use Rattle.message_link.proofs.Whole.{start_good, start_reached}
+use Rattle.message_link.proofs.Runs.{Good, Reached, safe_reached, rests_of, own_here, all_step, event_step, step_here, tells_same}
 use Rattle.link_entries.specs.Entries.{End, Entry, told_of, rest_entries, here_entries, entries_of_events, aged_entries, tick_entries, event_entries, entries, first_entries}
 use Rattle.link_entries.specs.Entries.End.{Controller, Host}
 use Rattle.link_entries.specs.Settled.{withholds, FindsReady, IsReset, rest_of}
-use Rattle.link_entries.proofs.Running.{before_here, before_there, host_here, Noted, note_event, start_noted}
+use Rattle.link_entries.proofs.Running.{before_here, before_there, host_here, Noted, IsInTick, near_in_tick, own_step, own_in_tick, after_tick, without_tick, IsUnderWay, goes_on, start_under_way}
 use Rattle.link_entries.proofs.Noting.{reset_role}
 use Rattle.link_entries.proofs.Stepping.{host_finished}
 use Rattle.link_entries.proofs.Sparing.{Spared, Stands, spared_parts, stands_parts, none_withholds, rest_sure, tick_sure}
@@ -51,22 +49,19 @@ turns-append : (s : Bool) (c : CoreLink) (es fs : List CoreEndEvent) → sure_tu
 turns-append s c [] fs = refl
 turns-append s c (e ∷ es) fs = turns-append (sure_here s c e) (core_happens_here c e) es fs
 
-all_spares : (kf : ℕ) (es : List EndEvent) (s : Bool) (l : Link) → AreOwn l es → Tells l.controller → SafeLink 0 kf (core_of l)
+all_spares : {kf : ℕ} (es : List EndEvent) (s : Bool) (l : Link) → AreOwn l es → IsInTick kf l
     → is_open l.controller.side.role ≡ true → Stands (entries_of_events Controller l es)
     → Spares (entries_of_events Controller l es) s (sure_turns s (core_of l) (core_all l es)) (all_at_controller l es)
-all_spares kf [] s l a h safe k st = (λ p sp. p, k)
-all_spares kf (e ∷ es) s l a h safe k st =
-    let r = rests_of 0 kf (core_of l) safe in
-    let one = own_here l e a.0 a.1 h r in
+all_spares [] s l a i k st = (λ p sp. p, k)
+all_spares (e ∷ es) s l a i k st =
+    let one = own_step l e a.0 a.1 i in
     let m : Link = happens_at_controller l e in
-    let P : CoreLink → Type 0 = λ c. SafeLink 0 kf c in
-    let next : SafeLink 0 kf (core_of m) = subst P (sym one.core) (safe_turns kf (core_here l e) (core_of l) (own_turns l e r a.0 a.1) safe) in
     let u : List Entry = here_entries Controller l e in
     let v : List Entry = entries_of_events Controller m es in
     let y = stands_parts u v st in
     let n : Bool = sure_turns s (core_of l) (core_here l e) in
-    let first = own_spares s Controller l e a.0 a.1 h r k y.0 in
-    let more = all_spares kf es n m a.2 one.tells next first.1 y.1 in (
+    let first = own_spares s Controller l e a.0 a.1 i.tells (near_in_tick l i).rests k y.0 in
+    let more = all_spares es n m a.2 (own_in_tick l e a.0 a.1 i) first.1 y.1 in (
       λ p sp. let x = spared_parts u v sp in
           turns-append s (core_of l) (core_here l e) (core_all m es)
           ∙ (ap (λ c. sure_turns n c (core_all m es)) (sym one.core) ∙ more.0 (first.0 p x.0) x.1),
@@ -199,12 +194,10 @@ event_goes t s l (Ticks c es h) a g r n o st =
     let t1 : Option (List CoreTurn) = core_tick l.controller.side c.turns c.ending in
     let rest : List CoreEndEvent = core_tick_rest l.controller.side c.turns c.ending in
     let first : CoreLink = core_ticks_or_cut t1 (core_aged (core_of l)) in
-    let P : CoreLink → Type 0 = λ d. SafeLink 0 1 d in
-    let near_safe : SafeLink 0 1 (core_of near) =
-    subst P (sym one.core) (safe_turns 1 rest first (rest_both l.controller.side c.turns c.ending).turns (tick_or_cut 1 t1 (core_aged (core_of l)) s0)) in
-    let all = all_step 1 near es a.1 one.tells near_safe in
+    let stands = after_tick l c a.0 g r n.sounds in
+    let all = all_step 1 near es a.1 stands.tells stands.safe in
     let n3 : Bool = sure_turns n2 (core_of near) (core_all near es) in
-    let k3 = all_spares 1 es n2 near a.1 one.tells near_safe k2.1 q4.0 in
+    let k3 = all_spares es n2 near a.1 stands k2.1 q4.0 in
     let host_is : m.host ≡ l.host = all.step.host ∙ one.host in
     let n4 : Bool = tick_flag n3 (exchanged m) h in
     let k4 = tick_spares n3 Host (exchanged m) h a.2 (tells_same m.host l.host host_is g.host) (open_as m.host l.host host_is o.host) q4.1 in
@@ -236,7 +229,6 @@ event_goes t s l (Ticks c es h) a g r n o st =
         let t : Option (List CoreTurn) = core_tick z.side h.turns h.ending in
         sure_turns (sure_tick n t (core_exchanged d)) (core_ticks_or_cut t (core_exchanged d)) (core_tick_rest z.side h.turns h.ending)
 event_goes t s l (TicksWithout es h) a g r n o st =
-    let s0 = safe_aged (core_of l) (safe_reached (core_of l) r) in
     let ps : List Entry = aged_entries Controller l.to_controller in
     let bs : List Entry = aged_entries Host l.to_host in
     let near : Link = aged l in
@@ -249,12 +241,11 @@ event_goes t s l (TicksWithout es h) a g r n o st =
     let n1 : Bool = sure_aged s (core_of l) in
     let first : CoreLink = core_ticks_if_waiting (core_aged (core_of l)) in
     let kept : first ≡ core_of near = rw a.0 refl in
-    let P : CoreLink → Type 0 = λ d. SafeLink 0 1 d in
-    let near_safe : SafeLink 0 1 (core_of near) = subst P kept (tick_if_waiting 1 (core_aged (core_of l)) s0) in
-    let all = all_step 1 near es a.1 g.controller near_safe in
+    let stands = without_tick l a.0 g r n.sounds in
+    let all = all_step 1 near es a.1 stands.tells stands.safe in
     let turns : List CoreEndEvent = core_all near es in
     let n3 : Bool = sure_turns n1 (core_of near) turns in
-    let k3 = all_spares 1 es n1 near a.1 g.controller near_safe o.controller q4.0 in
+    let k3 = all_spares es n1 near a.1 stands o.controller q4.0 in
     let host_is : m.host ≡ l.host = all.step.host in
     let n4 : Bool = tick_flag n3 (exchanged m) h in
     let k4 = tick_spares n3 Host (exchanged m) h a.2 (tells_same m.host l.host host_is g.host) (open_as m.host l.host host_is o.host) q4.1 in
@@ -292,21 +283,31 @@ sure_first s l e es q =
     let m : Bool = sure_after s (core_of l) (core_event l e) in
     sure-append s (core_of l) (core_event l e) (core_events (happens l e) es) ∙ ap (λ z. sure_after m z (core_events (happens l e) es)) (sym q)
 
--- events in which nothing withholds the answer
-behind_sure : (es : List LinkEvent) (t : List Entry) (s : Bool) (l : Link) → AllAllowed l es → Good l → Reached (core_of l) → Noted t l → AreActive l → s ≡ true
-    → Spared (entries l es) → Stands (entries l es) → sure_after s (core_of l) (core_events l es) ≡ true
-behind_sure [] t s l a g r n o p sp st = p
-behind_sure (e ∷ es) t s l a g r n o p sp st =
-    let ev = event_step l e a.0 g r in
+-- none of these entries withholds the answer
+record NoneWithholds (u : List Entry) : Type 0 where
+  spared : Spared u
+  stands : Stands u
+
+none_first : (u v : List Entry) → NoneWithholds (u ++ v) → NoneWithholds u
+none_first u v h = record { spared = (spared_parts u v h.spared).0; stands = (stands_parts u v h.stands).0 }
+
+none_behind : (u v : List Entry) → NoneWithholds (u ++ v) → NoneWithholds v
+none_behind u v h = record { spared = (spared_parts u v h.spared).1; stands = (stands_parts u v h.stands).1 }
+
+-- events in which nothing withholds it
+behind_sure : (es : List LinkEvent) (t : List Entry) (s : Bool) (l : Link) → AllAllowed l es → IsUnderWay t l → AreActive l → s ≡ true
+    → NoneWithholds (entries l es) → sure_after s (core_of l) (core_events l es) ≡ true
+behind_sure [] t s l a w o p none = p
+behind_sure (e ∷ es) t s l a w o p none =
+    let ev = event_step l e a.0 w.good w.reached in
     let m : Link = happens l e in
-    let next : Reached (core_of m) = subst Reached (sym ev.core) (reached_more (core_of l) (core_event l e) ev.allowed r) in
     let u : List Entry = event_entries l e in
-    let x = spared_parts u (entries m es) sp in
-    let y = stands_parts u (entries m es) st in
+    let v : List Entry = entries m es in
+    let first : NoneWithholds u = none_first u v none in
+    let rest : NoneWithholds v = none_behind u v none in
     let k : Bool = sure_after s (core_of l) (core_event l e) in
-    let one = event_goes t s l e a.0 g r n o y.0 in
-    sure_first s l e es ev.core
-    ∙ behind_sure es (t ++ u) k m a.1 ev.good next (note_event t l e a.0 g r n).noted one.active (one.sure p x.0) x.1 y.1
+    let one = event_goes t s l e a.0 w.good w.reached w.noted o first.stands in
+    sure_first s l e es ev.core ∙ behind_sure es (t ++ u) k m a.1 (goes_on l e a.0 w) one.active (one.sure p first.spared) rest
 
 -- a reset at the controller's end, and one at the host's
 asked_here : (s : Bool) (l : Link) (window : Option ℕ) (ts : List Turn) → IsAllowed l (Step (AsksReset window) ts GoesOut) → FindsReady l
@@ -319,40 +320,34 @@ asked_here s l window ts a f = (
 )
 
 -- such a reset in place of the tick of the controller's end
-asked_in_tick : (s : Bool) (l : Link) (window : Option ℕ) (ts : List Turn) (es : List EndEvent) (h : Node)
-    → IsEvent l (TicksWithout (Step (AsksReset window) ts GoesOut ∷ es) h) → Good l → Reached (core_of l) → FindsReady l
-    → Spared (rest_of l (TicksWithout (Step (AsksReset window) ts GoesOut ∷ es) h))
-    → Stands (rest_of l (TicksWithout (Step (AsksReset window) ts GoesOut ∷ es) h))
+asked_in_tick : {t : List Entry} (s : Bool) (l : Link) (window : Option ℕ) (ts : List Turn) (es : List EndEvent) (h : Node)
+    → IsEvent l (TicksWithout (Step (AsksReset window) ts GoesOut ∷ es) h) → IsUnderWay t l → FindsReady l
+    → NoneWithholds (rest_of l (TicksWithout (Step (AsksReset window) ts GoesOut ∷ es) h))
     → (sure_after s (core_of l) (core_event l (TicksWithout (Step (AsksReset window) ts GoesOut ∷ es) h)) ≡ true)
     × AreActive (happens l (TicksWithout (Step (AsksReset window) ts GoesOut ∷ es) h))
-asked_in_tick s l window ts es h a g r f sp st =
+asked_in_tick s l window ts es h a w f none =
     let near : Link = aged l in
     let first : CoreLink = core_ticks_if_waiting (core_aged (core_of l)) in
     let kept : first ≡ core_of near = rw a.0 refl in
-    let P : CoreLink → Type 0 = λ d. SafeLink 0 1 d in
-    let near_safe : SafeLink 0 1 (core_of near) =
-    subst P kept (tick_if_waiting 1 (core_aged (core_of l)) (safe_aged (core_of l) (safe_reached (core_of l) r))) in
     let x : EndEvent = Step (AsksReset window) ts GoesOut in
-    let rests = rests_of 0 1 (core_of near) near_safe in
-    let one = own_here near x tt a.1.1 g.controller rests in
+    let stands = without_tick l a.0 w.good w.reached w.noted.sounds in
+    let one = own_step near x tt a.1.1 stands in
     let m : Link = happens_at_controller near x in
-    let m_safe : SafeLink 0 1 (core_of m) =
-    subst P (sym one.core) (safe_turns 1 (core_here near x) (core_of near) (own_turns near x rests tt a.1.1) near_safe) in
-    let all = all_step 1 near (x ∷ es) a.1 g.controller near_safe in
+    let all = all_step 1 near (x ∷ es) a.1 stands.tells stands.safe in
     let turns : List CoreEndEvent = core_all near (x ∷ es) in
     let last : Link = all_at_controller m es in
     let ds : List Entry = entries_of_events Controller m es in
     let fs : List Entry = tick_entries Host (exchanged last) h in
-    let p = spared_parts ds fs sp in
-    let q = stands_parts ds fs st in
+    let p = spared_parts ds fs none.spared in
+    let q = stands_parts ds fs none.stands in
     let n1 : Bool = sure_aged s (core_of l) in
     let n2 : Bool = sure_turns n1 (core_of near) (core_here near x) in
     let asked = asked_here n1 near window ts a.1.1 (record { granted = f.granted; active = f.active; free = f.free }) in
     let n3 : Bool = sure_turns n2 (core_of m) (core_all m es) in
-    let k3 = all_spares 1 es n2 m a.1.2 one.tells m_safe asked.1 q.0 in
+    let k3 = all_spares es n2 m a.1.2 (own_in_tick near x tt a.1.1 stands) asked.1 q.0 in
     let host_is : last.host ≡ l.host = all.step.host in
     let n4 : Bool = tick_flag n3 (exchanged last) h in
-    let k4 = tick_spares n3 Host (exchanged last) h a.2 (tells_same last.host l.host host_is g.host) (open_as last.host l.host host_is f.active) q.1 in
+    let k4 = tick_spares n3 Host (exchanged last) h a.2 (tells_same last.host l.host host_is w.good.host) (open_as last.host l.host host_is f.active) q.1 in
     let y : Bool = sure_turns (sure_if_waiting n1 (core_aged (core_of l))) first turns in
     let y_is : y ≡ n3 =
     waits_not n1 turns a.0
@@ -378,47 +373,42 @@ asked_in_tick s l window ts es h a g r f sp st =
         → sure_turns (sure_if_waiting n (core_aged (core_of l))) (core_ticks_if_waiting (core_aged (core_of l))) turns ≡ sure_turns n (core_of (aged l)) turns
     waits_not n turns q = rw q refl
 
-asked_goes : (s : Bool) (l : Link) (e : LinkEvent) → IsEvent l e → Good l → Reached (core_of l) → IsReset l e
-    → Spared (rest_of l e) → Stands (rest_of l e) → (sure_after s (core_of l) (core_event l e) ≡ true) × AreActive (happens l e)
-asked_goes s l (AtController (Step (AsksReset window) ts GoesOut)) a g r f sp st =
+asked_goes : {t : List Entry} (s : Bool) (l : Link) (e : LinkEvent) → IsEvent l e → IsUnderWay t l → IsReset l e → NoneWithholds (rest_of l e)
+    → (sure_after s (core_of l) (core_event l e) ≡ true) × AreActive (happens l e)
+asked_goes s l (AtController (Step (AsksReset window) ts GoesOut)) a w f none =
     let x : EndEvent = Step (AsksReset window) ts GoesOut in
     let k = asked_here s l window ts a f in (
       sure_near s (core_of l) (core_here l x)
           ∙ k.0,
-      record { controller = k.1; host = open_as (happens_at_controller l x).host l.host (host_here l x a g r) f.active },
+      record { controller = k.1; host = open_as (happens_at_controller l x).host l.host (host_here l x a w.good w.reached) f.active },
     )
-asked_goes s l (AtHost (Step (AsksReset window) ts GoesOut)) a g r f sp st =
+asked_goes s l (AtHost (Step (AsksReset window) ts GoesOut)) a w f none =
     let x : EndEvent = Step (AsksReset window) ts GoesOut in
     let m : Link = exchanged l in
     let k = asked_here s m window ts a f in
-    let safe = safe_exchanged 0 0 (core_of l) (safe_reached (core_of l) r) in
-    let host : (happens_at_controller m x).host ≡ m.host = (own_here m x tt a g.host (rests_of 0 0 (core_of m) safe)).host in
+    let safe = safe_exchanged 0 0 (core_of l) (safe_reached (core_of l) w.reached) in
+    let host : (happens_at_controller m x).host ≡ m.host = (own_here m x tt a w.good.host (rests_of 0 0 (core_of m) safe)).host in
     (sure_there s (core_of l) (core_here m x) ∙ k.0, record { controller = open_as (happens_at_controller m x).host m.host host f.active; host = k.1 })
-asked_goes s l (TicksWithout (Step (AsksReset window) ts GoesOut ∷ es) h) a g r f sp st = asked_in_tick s l window ts es h a g r f sp st
-asked_goes s l (_) a g r f sp st = absurd f
+asked_goes s l (TicksWithout (Step (AsksReset window) ts GoesOut ∷ es) h) a w f none = asked_in_tick s l window ts es h a w f none
+asked_goes s l (_) a w f none = absurd f
 
 run_sure : (before : List LinkEvent) (reset : LinkEvent) (behind : List LinkEvent) (t : List Entry) (s : Bool) (l : Link)
-    → AllAllowed l (before ++ reset ∷ behind) → Good l → Reached (core_of l) → Noted t l → IsReset (after_link_events l before) reset
-    → Spared (rest_of (after_link_events l before) reset ++ entries (happens (after_link_events l before) reset) behind)
-    → Stands (rest_of (after_link_events l before) reset ++ entries (happens (after_link_events l before) reset) behind)
+    → AllAllowed l (before ++ reset ∷ behind) → IsUnderWay t l → IsReset (after_link_events l before) reset
+    → NoneWithholds (rest_of (after_link_events l before) reset ++ entries (happens (after_link_events l before) reset) behind)
     → sure_after s (core_of l) (core_events l (before ++ reset ∷ behind)) ≡ true
-run_sure [] e behind t s l a g r n is sp st =
-    let ev = event_step l e a.0 g r in
+run_sure [] e behind t s l a w is none =
     let m : Link = happens l e in
-    let next : Reached (core_of m) = subst Reached (sym ev.core) (reached_more (core_of l) (core_event l e) ev.allowed r) in
-    let x = spared_parts (rest_of l e) (entries m behind) sp in
-    let y = stands_parts (rest_of l e) (entries m behind) st in
-    let one = asked_goes s l e a.0 g r is x.0 y.0 in
-    sure_first s l e behind ev.core
-    ∙ behind_sure behind (t ++ event_entries l e) (sure_after s (core_of l) (core_event l e)) m a.1 ev.good next (note_event t l e a.0 g r n).noted one.1
-    one.0 x.1 y.1
-run_sure (x ∷ before) e behind t s l a g r n is sp st =
-    let ev = event_step l x a.0 g r in
+    let u : List Entry = rest_of l e in
+    let v : List Entry = entries m behind in
+    let first : NoneWithholds u = none_first u v none in
+    let rest : NoneWithholds v = none_behind u v none in
+    let one = asked_goes s l e a.0 w is first in
+    sure_first s l e behind (event_step l e a.0 w.good w.reached).core
+    ∙ behind_sure behind (t ++ event_entries l e) (sure_after s (core_of l) (core_event l e)) m a.1 (goes_on l e a.0 w) one.1 one.0 rest
+run_sure (x ∷ before) e behind t s l a w is none =
     let m : Link = happens l x in
-    let next : Reached (core_of m) = subst Reached (sym ev.core) (reached_more (core_of l) (core_event l x) ev.allowed r) in
-    sure_first s l x (before ++ e ∷ behind) ev.core
-    ∙ run_sure before e behind (t ++ event_entries l x) (sure_after s (core_of l) (core_event l x)) m a.1 ev.good next
-    (note_event t l x a.0 g r n).noted is sp st
+    sure_first s l x (before ++ e ∷ behind) (event_step l x a.0 w.good w.reached).core
+    ∙ run_sure before e behind (t ++ event_entries l x) (sure_after s (core_of l) (core_event l x)) m a.1 (goes_on l x a.0 w) is none
 
 -- where nothing withheld the answer to a reset, and both wires are empty now
 pub together : (l : Link) → IsStart l → (before : List LinkEvent) (reset : LinkEvent) (behind : List LinkEvent) → AllAllowed l (before ++ reset ∷ behind)
@@ -431,8 +421,7 @@ together l s before reset behind a asked undisturbed near there =
     up_together l s (before ++ reset ∷ behind) a
     (record {
       undisturbed =
-          run_sure before reset behind (first_entries l.controller.side.role) false l a (start_good l s) (start_reached l s) (start_noted l s) asked none.0
-          none.1;
+          run_sure before reset behind (first_entries l.controller.side.role) false l a (start_under_way l s) asked (record { spared = none.0; stands = none.1 });
       to_controller = ap sans near;
       to_host = ap sans there;
     })

@@ -46,13 +46,13 @@ silent-core l e = go l.controller.side.shdlc.phase refl
 
 step_silent : (l : Link) (e : LinkEnd) → Now e → Tells l.controller → (CalmLink l → Calm e.role l.host.side.role [] [])
     → Step l (silent l e) (core_silent (core_of l) e.shdlc)
-step_silent l e n h calm =
+step_silent l e n h wires =
     record {
       core = silent-core l e;
       tells = record { now = n; past = past_ended l (is_up l.controller.side.shdlc.phase) h };
       host = host_ended l (is_up l.controller.side.shdlc.phase);
       calm = λ z. let P : NumberedEnd → Type 0 = λ f. Calm e.role f.side.role [] [] in
-          subst P (sym (host_ended l (is_up l.controller.side.shdlc.phase))) (calm z);
+          subst P (sym (host_ended l (is_up l.controller.side.shdlc.phase))) (wires z);
     }
 
 -- its node loses power
@@ -71,10 +71,10 @@ step_cut l line h = go l.controller.side.role line (λ z. calm_cut l.controller.
     go : (r : Role) → IfLine r → (CalmLink l → Calm (renewed r) l.host.side.role [] [])
         → Step l (silent l (new_link_end (renewed r))) (core_silent (core_of l) (new_end 4))
     go Bare i calm = absurd i
-    go (Clf s) i calm =
-        step_silent l (new_link_end (renewed (Clf s))) (fresh (new_link_end (renewed (Clf s))) refl refl refl) h calm
-    go (Uicc s) i calm =
-        step_silent l (new_link_end (renewed (Uicc s))) (fresh (new_link_end (renewed (Uicc s))) refl refl refl) h calm
+    go (Clf s) i wires =
+        step_silent l (new_link_end (renewed (Clf s))) (fresh (new_link_end (renewed (Clf s))) refl refl refl) h wires
+    go (Uicc s) i wires =
+        step_silent l (new_link_end (renewed (Uicc s))) (fresh (new_link_end (renewed (Uicc s))) refl refl refl) h wires
 
 -- the link where the end with this role is new after a loss of power, whether a session ended or not
 abbrev cut_as : Link → Bool → Role → Link
@@ -411,7 +411,7 @@ pub step_restart : (l : Link) (event : ActEvent) (ts : List Turn) (ending : Endi
     → (CalmLink l → Calm (role_after l.controller.side.role event) l.host.side.role [] (with_sent (act_answer l.controller.side.role event).send []))
     → (let g : LinkEnd = activated (moved l.controller.side true (stopped l.controller.side.shdlc)) event in
     Step l (has_restarted l g ts ending) (core_all_here (core_of l) (core_restart l.controller.side event g ts ending)))
-step_restart l event ts ending a can h calm =
+step_restart l event ts ending a can h wires =
     let e : LinkEnd = l.controller.side in
     let g : LinkEnd = activated (moved e true (stopped e.shdlc)) event in
     let o : Option Activation = (act_answer e.role event).send in
@@ -421,7 +421,7 @@ step_restart l event ts ending a can h calm =
     let k : Link = silent l g in
     let role : g.role ≡ role_after e.role event = activated_role (moved e true (stopped e.shdlc)) event in
     let P : Role → Type 0 = λ r. Calm r l.host.side.role [] (with_sent o []) in
-    let st = step_turned l k o g ts (host_ended l b) (past_ended l b h) a m.mid (λ z. subst P (sym role) (calm z)) in
+    let st = step_turned l k o g ts (host_ended l b) (past_ended l b h) a m.mid (λ z. subst P (sym role) (wires z)) in
     let c : core_of k ≡ core_happens_here (core_of l) CoreStop = silent-core l g ∙ ap (core_silent (core_of l)) m.same in
     let out =
     step_ends l k (turned g ts) (core_becomes (core_put_all (core_of k) (frames_now o)) (core_turned g.shdlc us)) ending st

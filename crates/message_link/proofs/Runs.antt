@@ -343,7 +343,7 @@ record HasTicked (l m : Link) (x : CoreLink) : Type 0 where
   safe : SafeLink 0 1 (core_of m)
   near : Tells m.controller
   far : Tells l.host
-  calm : CalmLink m
+  wires : CalmLink m
 
 -- the host's end has its tick then
 ticked_there : (l m : Link) (x : CoreLink) (h : Node) → HasTicked l m x → IsNode (exchanged m) h.turns h.ending
@@ -362,7 +362,7 @@ ticked_there l m x h s a =
           (core_tick_rest z.side h.turns h.ending)) s.host
           ∙ ap (λ d. core_all_here (core_ticks_or_cut u (core_exchanged d)) there) s.core))
           ∙ sym (after_there (core_exchanged (core_ticks_or_cut u (core_exchanged x))) there);
-      good = record { controller = tells_same n.host m.controller three.host s.near; host = three.tells; calm = seen n (three.calm (seen m s.calm)) };
+      good = record { controller = tells_same n.host m.controller three.host s.near; host = three.tells; calm = seen n (three.calm (seen m s.wires)) };
     }
 
 pub event_step : (l : Link) (e : LinkEvent) → IsEvent l e → Good l → Reached (core_of l)
@@ -390,7 +390,7 @@ event_step l (Ticks c es h) a g r =
       safe = m_safe;
       near = two.tells;
       far = g.host;
-      calm = two.calm (one.calm (calm_aged l.controller.side.role l.host.side.role l.to_controller l.to_host g.calm));
+      wires = two.calm (one.calm (calm_aged l.controller.side.role l.host.side.role l.to_controller l.to_host g.calm));
     } in
     let three = ticked_there l m _ h has_ticked a.2 in
     let there : List CoreEndEvent = core_tick_rest l.host.side h.turns h.ending in
@@ -414,7 +414,7 @@ event_step l (TicksWithout es h) a g r =
       safe = m_safe;
       near = all.step.tells;
       far = g.host;
-      calm = all.step.calm (calm_aged l.controller.side.role l.host.side.role l.to_controller l.to_host g.calm);
+      wires = all.step.calm (calm_aged l.controller.side.role l.host.side.role l.to_controller l.to_host g.calm);
     } in
     let three = ticked_there l m _ h has_ticked a.2 in
     let there : List CoreEndEvent = core_tick_rest l.host.side h.turns h.ending in

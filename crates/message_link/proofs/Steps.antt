@@ -94,8 +94,8 @@ step_heard l ts x xs g b w h a heard = to_core (go b)
     at : Bool → Link
     at b = with_took (with_ended (record l { to_controller = xs }) b) (took_with l.controller.took x)
 
-    calm : CalmLink l → Calm g.role l.host.side.role xs l.to_host
-    calm z = let P : Role → Type 0 = λ r. Calm r l.host.side.role xs l.to_host in subst P (sym heard.role) (first_gone l x xs w z)
+    wires : CalmLink l → Calm g.role l.host.side.role xs l.to_host
+    wires z = let P : Role → Type 0 = λ r. Calm r l.host.side.role xs l.to_host in subst P (sym heard.role) (first_gone l x xs w z)
 
     core_at : Bool → CoreLink
     core_at b =
@@ -103,8 +103,8 @@ step_heard l ts x xs g b w h a heard = to_core (go b)
         record m { controller = record m.controller { took = took_with l.controller.took x } }
 
     go : (b : Bool) → Step l (becomes (at b) (turned g ts)) (core_becomes (core_at b) (core_turned g.shdlc us))
-    go false = step_turned l (at false) None g ts refl h.past a heard.mid calm
-    go true = step_turned l (at true) None g ts refl (h.now.says, h.past) a heard.mid calm
+    go false = step_turned l (at false) None g ts refl h.past a heard.mid wires
+    go true = step_turned l (at true) None g ts refl (h.now.says, h.past) a heard.mid wires
 
     is : core_took (core_of l) us x xs ≡ core_becomes (core_at b) (core_turned g.shdlc us)
     is =
