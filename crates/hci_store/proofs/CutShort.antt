@@ -114,11 +114,11 @@ room_count s t body = by_room (record_fits s body)
     by_room false = compact_count s (snapshot_bodies t)
 
 -- a record that was cut, behind the room for it
-pub keeps_then : (left : List ℕ) (s m : State) (t : HciTables) (c : Command) (first second : List ℕ) → first ≡ body_of c → second ≡ body_of c
+pub keeps_then : (left : List ℕ) (s : State) {m : State} (t : HciTables) (c : Command) {first second : List ℕ} → first ≡ body_of c → second ≡ body_of c
     → m ≡ with_room s t first → Keeps left t (count_of m) ⊎ Keeps left (apply t c) (count_of (appended m second))
     → Keeps left t (count_of s) ⊎ Keeps left (apply t c) (count_of (committed s t (body_of c)))
-keeps_then left s m t c first second a b is (inl before) = inl (subst (Keeps left t) (ap count_of is ∙ room_count s t first) before)
-keeps_then left s m t c first second a b is (inr later) =
+keeps_then left s t c {first} a b is (inl before) = inl (subst (Keeps left t) (ap count_of is ∙ room_count s t first) before)
+keeps_then left s t c a b is (inr later) =
     inr (subst (Keeps left (apply t c)) (ap₂ (λ (p : State) l. count_of (appended p l)) (is ∙ ap (with_room s t) a) b) later)
 
 pub err_of : {T : Type 0} (r : Result T JournalFault) (P : Type 0) → r ≡ Err NvFault → OnErr r P → P

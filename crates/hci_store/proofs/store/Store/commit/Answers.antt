@@ -31,8 +31,7 @@ returns-in-Ok-clause-cut g c = λ tells failed.
     let left = g.N.Nv.content c.keep.new.self.journal.nv in
     let room = c.in-Ok.ensures in
     let body_is = c.write_command-body.ensures.body in
-    keeps_then left old.journal.state c.make_room.new.self.journal.state old.tables c.args.command.now c.as_slice.result.now c.as_slice-in-Ok.result.now
-    (c.as_slice.ensures.value ∙ body_is) (c.as_slice-in-Ok.ensures.value ∙ body_is) room.state
+    keeps_then left old.journal.state old.tables c.args.command.now (c.as_slice.ensures.value ∙ body_is) (c.as_slice-in-Ok.ensures.value ∙ body_is) room.state
     (subst (λ t. Keeps left t (count_of c.make_room.new.self.journal.state)
     ⊎ Keeps left (apply t c.args.command.now) (count_of (appended c.make_room.new.self.journal.state c.as_slice-in-Ok.result.now))) room.tables
     (err_of c.keep.result _ failed (c.keep.ensures.cut tells)))
