@@ -6,8 +6,7 @@ use Rattle.hcp_packet.specs.Packets.{good_of}
 use Rattle.session_laws.specs.Sessions.{ShdlcLink as CoreLink, ShdlcTurn as CoreTurn, ShdlcEndEvent as CoreEndEvent, ShdlcLinkEvent as CoreLinkEvent, shdlc_exchanged as core_exchanged, shdlc_happens as core_happens, shdlc_all_at_controller as core_all_here, shdlc_happens_at_controller as core_happens_here, ticks_or_cut as core_ticks_or_cut, ticks_if_waiting as core_ticks_if_waiting, shdlc_aged as core_aged, shdlc_after as core_after}
 use Rattle.session_laws.specs.Sessions.ShdlcLinkEvent.{AtController as CoreAtController, AtHost as CoreAtHost, Tick as CoreTick, TickWithout as CoreTickWithout}
 use Rattle.session_laws.specs.Losses.{Losses, no_losses, sans, noted_here, noted_turns, noted_tick, noted_if_waiting, noted_aged, noted_event, losses_after}
-use Rattle.session_laws.proofs.Sending.{SafeLink}
-use Rattle.session_laws.proofs.Steps.{safe_aged, safe_turns}
+use Rattle.session_laws.proofs.Steps.{safe_aged}
 use Rattle.link_machine.proofs.Runs.{Sound}
 use Rattle.message_link.specs.Links.{Talk, NumberedEnd, Link, IsStart, EndEvent, LinkEvent, exchanged, number_of, happens_at_controller, happens, all_at_controller, ticks_at_controller, aged, after_link_events, talk_now, talk_of, CanStart, IsUicc, IsNode, AreOwn, IsEvent, AllAllowed}
 use Rattle.message_link.specs.Links.IsStart.{IsBare, IsLine}
@@ -26,7 +25,7 @@ use Rattle.link_entries.specs.Entries.Entry.{Tick}
 use Rattle.link_entries.specs.Quiet.{IsQuietSince, IsDeliveredOnLink}
 use Rattle.link_entries.specs.Sessions.{IsRead}
 use Rattle.link_entries.proofs.Books.{up_talk}
-use Rattle.link_entries.proofs.Running.{before_here, before_there, host_here, sound_here, Sounds, read_here, read_there, IsInTick, near_in_tick, own_step, own_in_tick, after_tick, without_tick, host_in_tick, IsUnderWay, goes_on, start_under_way}
+use Rattle.link_entries.proofs.Running.{before_here, before_there, host_here, sound_here, Sounds, read_here, read_there, IsInTick, near_in_tick, own_step, own_in_tick, after_tick, without_tick, host_in_tick, IsUnderWay, goes_on, start_under_way, all_in_tick}
 use Rattle.link_entries.proofs.Losing.{bad}
 use Rattle.link_entries.proofs.Lasting.{noted-append, same_number}
 use Rattle.link_entries.proofs.Completing.{Both}
@@ -112,14 +111,12 @@ event_knows t n l (Ticks c es h) a g r s b =
     let u : List Entry = ((t ++ start) ++ cs) ++ ds in
     let m : Link = all_at_controller near es in
     let b3 : Both u n3 m = all_knows es ((t ++ start) ++ cs) n2 near a.1 stands b2 in
-    let P : CoreLink → Type 0 = λ d. SafeLink 0 1 d in
-    let m_safe : SafeLink 0 1 (core_of m) = subst P (sym all.step.core) (safe_turns 1 (core_all near es) (core_of near) all.turns stands.safe) in
     let host_is : m.host ≡ l.host = all.step.host ∙ one.host in
     let fs : List Entry = tick_entries Host (exchanged m) h in
     let n4 : Losses = tick_flags n3 (exchanged m) h in
     let k : Link = ticks_at_controller (exchanged m) h.turns h.ending in
     let b4 : Both (u ++ fs) n4 k =
-    tick_knows u n3 Host (exchanged m) h a.2 (host_in_tick l m host_is m_safe g s) (swap u n3 m b3) in
+    tick_knows u n3 Host (exchanged m) h a.2 (host_in_tick l m host_is (all_in_tick near es a.1 stands) g s) (swap u n3 m b3) in
     let turns : List CoreEndEvent = rest ++ core_all near es in
     let d : CoreLink = core_all_here first turns in
     let x : Losses = noted_turns (noted_tick n1 t1 (core_aged (core_of l))) first turns in
@@ -159,14 +156,12 @@ event_knows t n l (TicksWithout es h) a g r s b =
     let u : List Entry = (t ++ start) ++ ds in
     let m : Link = all_at_controller near es in
     let b3 : Both u n3 m = all_knows es (t ++ start) n1 near a.1 stands b1 in
-    let P : CoreLink → Type 0 = λ d. SafeLink 0 1 d in
-    let m_safe : SafeLink 0 1 (core_of m) = subst P (sym all.step.core) (safe_turns 1 turns (core_of near) all.turns stands.safe) in
     let host_is : m.host ≡ l.host = all.step.host in
     let fs : List Entry = tick_entries Host (exchanged m) h in
     let n4 : Losses = tick_flags n3 (exchanged m) h in
     let k : Link = ticks_at_controller (exchanged m) h.turns h.ending in
     let b4 : Both (u ++ fs) n4 k =
-    tick_knows u n3 Host (exchanged m) h a.2 (host_in_tick l m host_is m_safe g s) (swap u n3 m b3) in
+    tick_knows u n3 Host (exchanged m) h a.2 (host_in_tick l m host_is (all_in_tick near es a.1 stands) g s) (swap u n3 m b3) in
     let x : Losses = noted_turns (noted_if_waiting n1 (core_aged (core_of l))) first turns in
     let x_is : x ≡ n3 = rw a.0 refl in
     let d_is : core_all_here first turns ≡ core_of m = ap (λ z. core_all_here z turns) kept ∙ sym all.step.core in

@@ -1,15 +1,13 @@
 -- What is noted of a link says which session each end has.
 use Rattle.std.proofs.Common.{◌≡◌, ℕ, List, [], ◌∷◌, ◌++◌, Option, Some, None, refl, ap, sym, subst, ◌∙◌}
-use Rattle.session_laws.specs.Sessions.{ShdlcLink as CoreLink}
-use Rattle.session_laws.proofs.Sending.{SafeLink}
-use Rattle.session_laws.proofs.Steps.{safe_aged, safe_turns}
+use Rattle.session_laws.proofs.Steps.{safe_aged}
 use Rattle.link_machine.proofs.Runs.{Sound}
 use Rattle.message_link.specs.Links.{NumberedEnd, Link, IsStart, EndEvent, LinkEvent, number_of, exchanged, happens_at_controller, happens, all_at_controller, ticks_at_controller, aged, after_link_events, CanStart, IsUicc, IsNode, AreOwn, IsEvent, AllAllowed}
 use Rattle.message_link.specs.Links.IsStart.{IsBare, IsLine}
 use Rattle.message_link.specs.Links.Comes.{Starts}
 use Rattle.message_link.specs.Links.EndEvent.{Step}
 use Rattle.message_link.specs.Links.LinkEvent.{AtController, AtHost, Ticks, TicksWithout, Activate}
-use Rattle.message_link.specs.Projection.{core_of, core_all, core_event}
+use Rattle.message_link.specs.Projection.{core_of, core_event}
 use Rattle.message_link.proofs.Finishing.{step_tick}
 use Rattle.message_link.proofs.Runs.{Good, Reached, safe_reached, rests_of, reached_more, event_step, step_here, all_step, started_clf, clf_starts, can_start}
 use Rattle.link_entries.specs.Entries.{End, Entry, here_entries, entries_of_events, aged_entries, tick_entries, event_entries, entries, first_entries, trace}
@@ -18,7 +16,7 @@ use Rattle.link_entries.specs.Entries.Entry.{Tick}
 use Rattle.link_entries.specs.Reading.{Seen}
 use Rattle.link_entries.specs.Sessions.{session_in, number_now}
 use Rattle.link_entries.specs.Settled.{IsSettledSince, AreNotedUpTogether}
-use Rattle.link_entries.proofs.Running.{Sounds, before_here, before_there, host_here, sound_here, IsInTick, near_in_tick, own_in_tick, after_tick, without_tick, host_in_tick, IsUnderWay, goes_on, start_under_way}
+use Rattle.link_entries.proofs.Running.{Sounds, before_here, before_there, host_here, sound_here, IsInTick, near_in_tick, own_in_tick, after_tick, without_tick, host_in_tick, IsUnderWay, goes_on, start_under_way, all_in_tick}
 use Rattle.link_entries.proofs.Hearing.{up_session, heard, heard-append, passes-append, passes_aged, Heard, tick_heard, own_heard, here_heard}
 use Rattle.link_entries.proofs.Together.{ticks_host, together}
 use Rattle.link_entries.proofs.Ages.{read_off}
@@ -77,8 +75,6 @@ event_heard l (Ticks c es h) a g r s =
     let stands = after_tick l c a.0 g r s in
     let all = all_step 1 near es a.1 stands.tells stands.safe in
     let m : Link = all_at_controller near es in
-    let P : CoreLink → Type 0 = λ d. SafeLink 0 1 d in
-    let m_safe : SafeLink 0 1 (core_of m) = subst P (sym all.step.core) (safe_turns 1 (core_all near es) (core_of near) all.turns stands.safe) in
     let host_is : m.host ≡ l.host = all.step.host ∙ one.host in
     let k : Link = ticks_at_controller (exchanged m) h.turns h.ending in
     let cs : List Entry = tick_entries Controller old c in
@@ -86,7 +82,7 @@ event_heard l (Ticks c es h) a g r s =
     let fs : List Entry = tick_entries Host (exchanged m) h in
     let x = tick_heard Controller old c a.0 (record { tells = g.controller; rests = rests; sound = s.controller }) in
     let y = all_heard es near a.1 stands in
-    let z = tick_heard Host (exchanged m) h a.2 (host_in_tick l m host_is m_safe g s) in
+    let z = tick_heard Host (exchanged m) h a.2 (host_in_tick l m host_is (all_in_tick near es a.1 stands) g s) in
     let here : Option ℕ = number_now l.controller in
     let there : Option ℕ = number_now l.host in
     record {
@@ -103,14 +99,12 @@ event_heard l (TicksWithout es h) a g r s =
     let stands = without_tick l a.0 g r s in
     let all = all_step 1 near es a.1 stands.tells stands.safe in
     let m : Link = all_at_controller near es in
-    let P : CoreLink → Type 0 = λ d. SafeLink 0 1 d in
-    let m_safe : SafeLink 0 1 (core_of m) = subst P (sym all.step.core) (safe_turns 1 (core_all near es) (core_of near) all.turns stands.safe) in
     let host_is : m.host ≡ l.host = all.step.host in
     let k : Link = ticks_at_controller (exchanged m) h.turns h.ending in
     let ds : List Entry = entries_of_events Controller near es in
     let fs : List Entry = tick_entries Host (exchanged m) h in
     let y = all_heard es near a.1 stands in
-    let z = tick_heard Host (exchanged m) h a.2 (host_in_tick l m host_is m_safe g s) in
+    let z = tick_heard Host (exchanged m) h a.2 (host_in_tick l m host_is (all_in_tick near es a.1 stands) g s) in
     let here : Option ℕ = number_now l.controller in
     let there : Option ℕ = number_now l.host in
     record {

@@ -240,6 +240,10 @@ own_in_tick {kf} l e own allowed s =
       sound = sound_here l e allowed s.sound;
     }
 
+pub all_in_tick : {kf : ℕ} (l : Link) (es : List EndEvent) → AreOwn l es → IsInTick kf l → IsInTick kf (all_at_controller l es)
+all_in_tick l [] a s = s
+all_in_tick l (e ∷ es) a s = all_in_tick (happens_at_controller l e) es a.2 (own_in_tick l e a.0 a.1 s)
+
 -- what was noted up to these entries of it
 record Within (kf : ℕ) (t u : List Entry) (l m : Link) : Type 0 where
   tolds : Tolds (t ++ u) Controller m
@@ -317,12 +321,12 @@ without_tick l waits g r s =
     }
 
 -- the host's end in front of its tick, where m came of l
-pub host_in_tick : (l m : Link) → m.host ≡ l.host → SafeLink 0 1 (core_of m) → Good l → Sounds l → Near (exchanged m)
-host_in_tick l m is safe g s =
+pub host_in_tick : (l m : Link) → m.host ≡ l.host → IsInTick 1 m → Good l → Sounds l → Near (exchanged m)
+host_in_tick l m is i g s =
     let H : NumberedEnd → Type 0 = λ z. Sound z.side in
     record {
       tells = tells_same m.host l.host is g.host;
-      rests = rests_of 1 0 (core_of (exchanged m)) (safe_exchanged 0 1 (core_of m) safe);
+      rests = rests_of 1 0 (core_of (exchanged m)) (safe_exchanged 0 1 (core_of m) i.safe);
       sound = subst H (sym is) s.host;
     }
 
@@ -494,7 +498,7 @@ note_event t l (Ticks c es h) a g r n =
     let ds : List Entry = entries_of_events Controller near es in
     let m : Link = all_at_controller near es in
     let H : NumberedEnd → Type 0 = λ z. Sound z.side in
-    let there = host_in_tick l m (two.host ∙ one.host) two.stands.safe g n.sounds in
+    let there = host_in_tick l m (two.host ∙ one.host) two.stands g n.sounds in
     let u : List Entry = ((t ++ start) ++ cs) ++ ds in
     let three = tick_told u Host (exchanged m) h a.2 there (swap_tolds u m two.tolds) in
     let last = step_tick (exchanged m) h.turns h.ending a.2.0 a.2.1 there.tells there.rests in
@@ -544,7 +548,7 @@ note_event t l (TicksWithout es h) a g r n =
     let ds : List Entry = entries_of_events Controller near es in
     let m : Link = all_at_controller near es in
     let H : NumberedEnd → Type 0 = λ z. Sound z.side in
-    let there = host_in_tick l m two.host two.stands.safe g n.sounds in
+    let there = host_in_tick l m two.host two.stands g n.sounds in
     let u : List Entry = (t ++ start) ++ ds in
     let three = tick_told u Host (exchanged m) h a.2 there (swap_tolds u m two.tolds) in
     let last = step_tick (exchanged m) h.turns h.ending a.2.0 a.2.1 there.tells there.rests in

@@ -421,7 +421,8 @@ together l s before reset behind a asked undisturbed near there =
     up_together l s (before ++ reset ∷ behind) a
     (record {
       undisturbed =
-          run_sure before reset behind (first_entries l.controller.side.role) false l a (start_under_way l s) asked (record { spared = none.0; stands = none.1 });
+          run_sure before reset behind (first_entries l.controller.side.role) false l a (start_under_way l s) asked
+          (record { spared = none.0; stands = none.1 });
       to_controller = ap sans near;
       to_host = ap sans there;
     })
