@@ -118,25 +118,24 @@ whole_transcript p bytes text h gathered =
     }
 
 -- a front of what was gathered of a piece stands behind what was written before it
-pub cut_short : (tells : Bool) (input bytes piece left text items before written after : List ℕ) → input ≡ bytes ++ (piece ++ left) → length piece ≤ 4096
-    → IsWholeTranscript bytes text → IsSomeTranscript input (text ++ items)
-    → (IsTrue tells → written ≡ before ++ text) → (n : ℕ) × (IsTrue tells → after ≡ written ++ take n items)
-    → AppendsText tells (IsCutShort 4096 input left) before after
-cut_short tells input bytes piece left text items before written after input_is few whole some is front = (
-  text ++ take front.0 items,
+pub cut_short : {tells : Bool} {p : Pieces} {input before written after : List ℕ} (piece left items : List ℕ)
+    → (under : IsUnderWay tells p input (piece ++ left) before written) → length piece ≤ 4096 → IsSomeTranscript input (under.text ++ items)
+    → (n : ℕ) × (IsTrue tells → after ≡ written ++ take n items) → AppendsText tells (IsCutShort 4096 input left) before after
+cut_short {tells} {p} {before} {written} {after} piece left items under few some front = (
+  under.text ++ take front.0 items,
   record {
-    bytes = bytes;
+    bytes = under.bytes;
     piece = piece;
-    input_is = input_is;
+    input_is = under.input_is;
     few = few;
-    written = text;
-    whole = whole;
+    written = under.text;
+    whole = whole_transcript p under.bytes under.text under.read under.gathered;
     behind = items;
     n = front.0;
     some = some;
     front_is = refl;
   },
-  behind tells before text (take front.0 items) written after is front.1,
+  behind tells before under.text (take front.0 items) written after under.after_is front.1,
 )
 
 -- what was gathered of a piece is the transcript of some of the first lines, whether the replay goes on or not

@@ -38,10 +38,10 @@ before_header (Some w) None lines text none at = absurd at
 before_header w (Some h) lines text none at = absurd (cc)
 
 -- a header was read
-pub began : (r r' : Replay) (s : Schedule) (written : List ℕ) (w : World) (header : Header) → HasPlayed r s written → s.header ≡ None
+pub began : {r r' : Replay} {s : Schedule} {written : List ℕ} {w : World} {header : Header} → HasPlayed r s written → s.header ≡ None
     → WorldStandsFor w header [] (opened header) → r'.world ≡ Some w → r'.count ≡ r.count + 1 → r'.text.items ≡ r.text.items ++ transcript_of (opened header)
     → HasPlayed r' (with_said s (Ok (read.Header header))) written
-began r r' s written w header h none stands world_is count_is text_is =
+began {r} {r'} {s} {written} {w} {header} h none stands world_is count_is text_is =
     let before = before_header r.world s.header s.lines (written ++ r.text.items) none h.at in
     let P : Option World → Type 0 = λ x. IsAt x (Some header) s.lines (written ++ r'.text.items) in
     let Q : List Line → Type 0 = λ x. WorldStandsFor w header x (opened header) in
@@ -81,13 +81,13 @@ misread_is w header lines text line at =
     ∙ ap (λ l. misread l line) (sym (lines_lead at.of lines at.runs.history at.runs.stands.follows))
 
 -- the world went on by a line
-pub went_on : (r r' : Replay) (s : Schedule) (written : List ℕ) (w w' : World) (line : Line) → HasPlayed r s written → r.world ≡ Some w → r'.world ≡ Some w'
-    → r'.count ≡ r.count + 1
+pub went_on : {r r' : Replay} {s : Schedule} {written : List ℕ} {w w' : World} (line : Line) → HasPlayed r s written → r.world ≡ Some w
+    → r'.world ≡ Some w' → r'.count ≡ r.count + 1
     → ((header : Header) (lines : List Line) (before : List ℕ) → Runs w header lines (before ++ r.text.items)
     → Runs w' header (lines ++ line ∷ []) (before ++ r'.text.items))
     → ((header : Header) (lines : List Line) (t : History) → WorldStandsFor w header lines t → misread (link_at t) line ≡ None)
     → HasPlayed r' (with_said s (Ok (read.Line line))) written
-went_on r r' s written w w' line h is is' count_is runs told =
+went_on {r} {r'} {s} {written} {w} {w'} line h is is' count_is runs told =
     let at = played_at w r.world s.header s.lines (written ++ r.text.items) is h.at in
     let none : misread_behind s.header s.lines line ≡ None =
     misread_is w s.header s.lines (written ++ r.text.items) line at ∙ told at.of s.lines at.runs.history at.runs.stands in
@@ -113,10 +113,10 @@ halts_before halt.TooMany s line other on = absurd on
 halts_before halt.NoMemory s line other on = tt
 
 -- the world halted at a line
-pub halted_there : (r : Replay) (s : Schedule) (written : List ℕ) (w : World) (line : Line) (why : Halt) → HasPlayed r s written → r.world ≡ Some w
+pub halted_there : {r : Replay} {s : Schedule} {written : List ℕ} {w : World} (line : Line) (why : Halt) → HasPlayed r s written → r.world ≡ Some w
     → ((header : Header) (lines : List Line) (t : History) → WorldStandsFor w header lines t → HaltsOn why (misread (link_at t) line))
     → HaltsBefore why (with_said s (Ok (read.Line line)))
-halted_there r s written w line why h is halts =
+halted_there {r} {s} {written} {w} line why h is halts =
     let at = played_at w r.world s.header s.lines (written ++ r.text.items) is h.at in
     let P : Option (List ℕ) → Type 0 = λ o. HaltsOn why o in
     halts_before why s line (misread_behind s.header s.lines line)

@@ -1,5 +1,5 @@
 -- What a piece of a schedule adds to what was read before it.
-use Rattle.std.proofs.Common.{◌≡◌, ℕ, suc, ◌+◌, ◌-◌, ◌<◌, ◌≤◌, Bool, true, false, cond, eqb, ltb, List, [], ◌∷◌, ◌++◌, length, map, take, drop, refl, sym, ap, ◌∙◌, append_assoc, arith, subst, ◌⊎◌, ⊎_elim}
+use Rattle.std.proofs.Common.{◌≡◌, ℕ, ◌+◌, ◌-◌, ◌<◌, Bool, true, false, cond, eqb, ltb, List, [], ◌∷◌, ◌++◌, length, map, refl, sym, ap, ◌∙◌, append_assoc, arith, subst, ◌⊎◌, ⊎_elim}
 use Rattle.std.specs.Prelude.{Option, Some, None, Result, Ok, Err}
 use Rattle.std.specs.List.{flat_map}
 use Rattle.std.specs.Str.Lines.{lines, strip_carriage_return}
@@ -101,10 +101,10 @@ lines_on p bytes written rest h =
     ∙ (ap lines (append_assoc (flat_map ended_line h.whole) p.partial.items rest) ∙ lines-all_ended h.whole (p.partial.items ++ rest) h.lack)
 
 -- However the bytes go on, their schedule stops at the next line.
-pub stops_next : (p : Pieces) (bytes written rest : List ℕ) (why : Stop) (text : List ℕ) (h : HasRead p bytes written) (line : List ℕ) (more : List (List ℕ))
+pub stops_next : {p : Pieces} {bytes written : List ℕ} (rest : List ℕ) {why : Stop} {text line : List ℕ} {more : List (List ℕ)} (h : HasRead p bytes written)
     → lines (p.partial.items ++ rest) ≡ line ∷ more → (with_line (schedule_so_far h.whole) line).stop ≡ Some why
     → IsTranscript (schedule_so_far h.whole) text → StopsAt (bytes ++ rest) why (p.replay.count + 1) text
-stops_next p bytes written rest why text h line more next stop transcript =
+stops_next {p} {bytes} {written} rest {why} {text} {line} {more} h next stop transcript =
     let s = schedule_so_far h.whole in
     let s' = with_line s line in
     let is : schedule_of (bytes ++ rest) ≡ s' =
@@ -154,8 +154,7 @@ halts_too_many p bytes written byte reading full h = λ rest.
     let stop : (with_line s line.line).stop ≡ Some Too_many = at_limit s line.line h.played.running (sym h.played.count_is ∙ full) in
     let P : List ℕ → Type 0 = λ b. StopsAt b Too_many (p.replay.count + 1) (written ++ p.replay.text.items) in
     subst P (sym (append_assoc bytes (byte ∷ []) rest))
-    (stops_next p bytes written (byte ∷ rest) Too_many (written ++ p.replay.text.items) h line.line line.more next stop
-    (played_transcript p.replay s written h.played))
+    (stops_next (byte ∷ rest) h next stop (played_transcript p.replay s written h.played))
   where
     no_partial : (l : List ℕ) → (0 < length l → p.replay.count < 20000) → l ≡ []
     no_partial [] begun = refl
@@ -191,8 +190,7 @@ halts_too_long p before written bytes room long lacks h = λ rest.
     too_long s line.line h.played.running (omega (arith, h.played.count_is)) line.holds in
     let P : List ℕ → Type 0 = λ b. StopsAt b (AtFault fault.TooLong) (p.replay.count + 1) (written ++ p.replay.text.items) in
     subst P (sym (append_assoc before bytes rest))
-    (stops_next p before written (bytes ++ rest) (AtFault fault.TooLong) (written ++ p.replay.text.items) h line.line line.more next stop
-    (played_transcript p.replay s written h.played))
+    (stops_next (bytes ++ rest) h next stop (played_transcript p.replay s written h.played))
   where
     too_long : (s : Schedule) (line : List ℕ) → s.stop ≡ None → s.count < 20000 → 9000 < length line → (with_line s line).stop ≡ Some (AtFault fault.TooLong)
     too_long s line running room' long' =
@@ -243,11 +241,11 @@ so_far-push whole line =
     ∙ with_lines-append nothing_read (map strip_carriage_return whole) (strip_carriage_return line ∷ [])
 
 -- the line was played: with these bytes the one under way has ended
-pub read_when : (p q : Pieces) (bytes written line tail : List ℕ) → HasRead p bytes written → p.partial.items ++ tail ≡ ended_line line
+pub read_when : {p q : Pieces} {bytes written : List ℕ} (line tail : List ℕ) → HasRead p bytes written → p.partial.items ++ tail ≡ ended_line line
     → LacksLineFeed line → q.partial.items ≡ []
     → ((s : Schedule) (w : List ℕ) → HasPlayed p.replay s w → HasPlayed q.replay (with_line s (strip_carriage_return line)) w)
     → HasRead q (bytes ++ tail) written
-read_when p q bytes written line tail h ends lacks none played =
+read_when {p} {q} {bytes} {written} line tail h ends lacks none played =
     let whole = h.whole ++ line ∷ [] in
     let P : Schedule → Type 0 = λ s. HasPlayed q.replay s written in
     record {
@@ -261,25 +259,26 @@ read_when p q bytes written line tail h ends lacks none played =
       played = subst P (sym (so_far-push h.whole line)) (played (schedule_so_far h.whole) written h.played);
     }
 
-pub read_line_ended : (p q : Pieces) (bytes written : List ℕ) → HasRead p bytes written → q.partial.items ≡ []
+pub read_line_ended : {p q : Pieces} {bytes written : List ℕ} → HasRead p bytes written → q.partial.items ≡ []
     → ((s : Schedule) (w : List ℕ) → HasPlayed p.replay s w → HasPlayed q.replay (with_line s (strip_carriage_return p.partial.items)) w)
     → HasRead q (bytes ++ 10 ∷ []) written
-read_line_ended p q bytes written h none played = read_when p q bytes written p.partial.items (10 ∷ []) h refl h.partial_lacks none played
+read_line_ended {p} h none played = read_when p.partial.items (10 ∷ []) h refl h.partial_lacks none played
 
 -- the same of a line that lies whole in a piece
-pub read_whole_line : (p q : Pieces) (bytes written line : List ℕ) → HasRead p bytes written → p.partial.items ≡ [] → LacksLineFeed line → q.partial.items ≡ []
+pub read_whole_line : {p q : Pieces} {bytes written : List ℕ} (line : List ℕ) → HasRead p bytes written → p.partial.items ≡ []
+    → LacksLineFeed line → q.partial.items ≡ []
     → ((s : Schedule) (w : List ℕ) → HasPlayed p.replay s w → HasPlayed q.replay (with_line s (strip_carriage_return line)) w)
     → HasRead q (bytes ++ ended_line line) written
-read_whole_line p q bytes written line h nothing lacks none played =
-    read_when p q bytes written line (ended_line line) h (ap (λ l. l ++ ended_line line) nothing) lacks none played
+read_whole_line line h nothing lacks none played =
+    read_when line (ended_line line) h (ap (λ l. l ++ ended_line line) nothing) lacks none played
 
 -- With these bytes the line under way has ended, and it was not played: it has a fault, or there was no memory.
-pub halts_when : (p : Pieces) (why : Halt) (count : ℕ) (now bytes written line tail : List ℕ) → HasRead p bytes written → count ≡ p.replay.count
+pub halts_when : {p : Pieces} (why : Halt) {count : ℕ} {now bytes written : List ℕ} (line tail : List ℕ) → HasRead p bytes written → count ≡ p.replay.count
     → now ≡ p.replay.text.items
     → ((rest : List ℕ) → lines (p.partial.items ++ (tail ++ rest)) ≡ strip_carriage_return line ∷ lines rest)
     → ((s : Schedule) (w : List ℕ) → HasPlayed p.replay s w → HaltsAt why s (strip_carriage_return line))
     → Halts why count (bytes ++ tail) (written ++ now)
-halts_when p why count now bytes written line tail h count_is now_is next halts =
+halts_when {p} why {count} {now} {bytes} {written} line tail h count_is now_is next halts =
     let P : ℕ → Type 0 = λ n. Halts why n (bytes ++ tail) (written ++ now) in
     let Q : List ℕ → Type 0 = λ l. Halts why p.replay.count (bytes ++ tail) (written ++ l) in
     subst P (sym count_is) (subst Q (sym now_is) (go why (halts (schedule_so_far h.whole) written h.played)))
@@ -294,29 +293,29 @@ halts_when p why count now bytes written line tail h count_is now_is next halts 
     go (halt.Fault f) stop = λ rest.
         let R : List ℕ → Type 0 = λ b. StopsAt b (AtFault f) (p.replay.count + 1) text in
         subst R (sym (append_assoc bytes tail rest))
-        (stops_next p bytes written (tail ++ rest) (AtFault f) text h (strip_carriage_return line) (lines rest) (next rest) stop transcript)
+        (stops_next (tail ++ rest) h (next rest) stop transcript)
     go halt.Undetected stop = λ rest.
         let R : List ℕ → Type 0 = λ b. StopsAt b AtMisread (p.replay.count + 1) text in
         subst R (sym (append_assoc bytes tail rest))
-        (stops_next p bytes written (tail ++ rest) AtMisread text h (strip_carriage_return line) (lines rest) (next rest) stop transcript)
+        (stops_next (tail ++ rest) h (next rest) stop transcript)
     go halt.TooMany never = absurd never
     go halt.NoMemory any = λ rest.
         let R : List ℕ → Type 0 = λ b. IsFrontTranscript b text in
         subst R (sym (append_assoc bytes tail rest)) (front_so_far p bytes written (tail ++ rest) text h transcript)
 
-pub halts_at_line : (p : Pieces) (why : Halt) (count : ℕ) (now bytes written : List ℕ) → HasRead p bytes written → count ≡ p.replay.count
+pub halts_at_line : {p : Pieces} (why : Halt) {count : ℕ} {now bytes written : List ℕ} → HasRead p bytes written → count ≡ p.replay.count
     → now ≡ p.replay.text.items
     → ((s : Schedule) (w : List ℕ) → HasPlayed p.replay s w → HaltsAt why s (strip_carriage_return p.partial.items))
     → Halts why count (bytes ++ 10 ∷ []) (written ++ now)
-halts_at_line p why count now bytes written h count_is now_is halts =
-    halts_when p why count now bytes written p.partial.items (10 ∷ []) h count_is now_is (λ rest. lines-ended p.partial.items rest h.partial_lacks) halts
+halts_at_line {p} why h count_is now_is halts =
+    halts_when why p.partial.items (10 ∷ []) h count_is now_is (λ rest. lines-ended p.partial.items rest h.partial_lacks) halts
 
-pub halts_at_whole_line : (p : Pieces) (why : Halt) (count : ℕ) (now bytes written line : List ℕ) → HasRead p bytes written → p.partial.items ≡ []
+pub halts_at_whole_line : {p : Pieces} (why : Halt) {count : ℕ} {now bytes written : List ℕ} (line : List ℕ) → HasRead p bytes written → p.partial.items ≡ []
     → LacksLineFeed line
     → count ≡ p.replay.count → now ≡ p.replay.text.items → ((s : Schedule) (w : List ℕ) → HasPlayed p.replay s w → HaltsAt why s (strip_carriage_return line))
     → Halts why count (bytes ++ ended_line line) (written ++ now)
-halts_at_whole_line p why count now bytes written line h nothing lacks count_is now_is halts =
-    halts_when p why count now bytes written line (ended_line line) h count_is now_is
+halts_at_whole_line why line h nothing lacks count_is now_is halts =
+    halts_when why line (ended_line line) h count_is now_is
     (λ rest. ap (λ l. lines (l ++ (ended_line line ++ rest))) nothing ∙ (ap lines (append_assoc line (10 ∷ []) rest) ∙ lines-ended line rest lacks)) halts
 
 -- ## The end of the bytes
@@ -349,11 +348,11 @@ played_rest p r bytes written h some played =
     (played (schedule_so_far h.whole) written h.played)
 
 -- the line under way was not played
-pub halts_at_rest : (p : Pieces) (why : Halt) (count : ℕ) (now bytes written : List ℕ) → HasRead p bytes written → 0 < length p.partial.items
+pub halts_at_rest : {p : Pieces} (why : Halt) {count : ℕ} {now bytes written : List ℕ} → HasRead p bytes written → 0 < length p.partial.items
     → count ≡ p.replay.count → now ≡ p.replay.text.items
     → ((s : Schedule) (w : List ℕ) → HasPlayed p.replay s w → HaltsAt why s p.partial.items)
     → HaltsAtEnd why count bytes (written ++ now)
-halts_at_rest p why count now bytes written h some count_is now_is halts =
+halts_at_rest {p} why {count} {now} {bytes} {written} h some count_is now_is halts =
     let P : ℕ → Type 0 = λ n. HaltsAtEnd why n bytes (written ++ now) in
     let Q : List ℕ → Type 0 = λ l. HaltsAtEnd why p.replay.count bytes (written ++ l) in
     subst P (sym count_is) (subst Q (sym now_is) (go why (halts (schedule_so_far h.whole) written h.played)))
@@ -367,10 +366,10 @@ halts_at_rest p why count now bytes written h some count_is now_is halts =
     go : (w : Halt) → HaltsAt w (schedule_so_far h.whole) p.partial.items → HaltsAtEnd w p.replay.count bytes text
     go (halt.Fault f) stop =
         end_of bytes (λ b. StopsAt b (AtFault f) (p.replay.count + 1) text)
-        (stops_next p bytes written [] (AtFault f) text h p.partial.items [] (rest_is p bytes written h some) stop transcript)
+        (stops_next [] h (rest_is p bytes written h some) stop transcript)
     go halt.Undetected stop =
         end_of bytes (λ b. StopsAt b AtMisread (p.replay.count + 1) text)
-        (stops_next p bytes written [] AtMisread text h p.partial.items [] (rest_is p bytes written h some) stop transcript)
+        (stops_next [] h (rest_is p bytes written h some) stop transcript)
     go halt.TooMany never = never
     go halt.NoMemory any = end_of bytes (λ b. IsFrontTranscript b text) (front_so_far p bytes written [] text h transcript)
 

@@ -24,9 +24,9 @@ nothing_decoded tells d input before stands none = record {
 }
 
 -- a front of what is gathered was written
-pub cut_lines : (tells : Bool) (d : Decoding) (earlier bytes before was after : List ℕ) → IsDecoding tells d earlier bytes before was
+pub cut_lines : {tells : Bool} {d : Decoding} {earlier bytes before was after : List ℕ} → IsDecoding tells d earlier bytes before was
     → (n : ℕ) × (IsTrue tells → after ≡ was ++ take n d.text.items) → IsFrontOfLines tells earlier bytes before after
-cut_lines tells d earlier bytes before was after h front = record {
+cut_lines {tells} {d} {before} {was} {after} h front = record {
   n = length h.written + front.0;
   least = omega (arith, h.least);
   after_is = λ told. behind tells before h.written (take front.0 d.text.items) was after h.after_is front.1 told
@@ -34,9 +34,9 @@ cut_lines tells d earlier bytes before was after h front = record {
 }
 
 -- all that was gathered was written, and nothing is gathered
-pub flushed : (tells : Bool) (d e : Decoding) (earlier bytes before was after : List ℕ) → IsDecoding tells d earlier bytes before was
+pub flushed : {tells : Bool} {d e : Decoding} {earlier bytes before was after : List ℕ} → IsDecoding tells d earlier bytes before was
     → e.decoder ≡ d.decoder → e.text.items ≡ [] → (IsTrue tells → after ≡ was ++ d.text.items) → IsDecoding tells e earlier bytes before after
-flushed tells d e earlier bytes before was after h same none wrote = record {
+flushed {tells} {d} {bytes} {before} {was} {after} h same none wrote = record {
   stands = subst (λ x. DecoderStandsFor x (reverse bytes)) (sym same) h.stands;
   written = h.written ++ d.text.items;
   after_is = behind tells before h.written d.text.items was after h.after_is wrote;
@@ -54,17 +54,17 @@ on_err P (Ok x) h = tt
 on_err P (Err e) h = h
 
 -- where nothing is gathered, all lines were written
-pub none_gathered : (tells : Bool) (d : Decoding) (earlier bytes before after : List ℕ) → IsDecoding tells d earlier bytes before after → d.text.items ≡ []
+pub none_gathered : {tells : Bool} {d : Decoding} {earlier bytes before after : List ℕ} → IsDecoding tells d earlier bytes before after → d.text.items ≡ []
     → IsTrue tells → after ≡ before ++ record_lines bytes
-none_gathered tells d earlier bytes before after h none told =
+none_gathered {before} h none told =
     h.after_is told ∙ ap (λ l. before ++ l) (sym (append-nil h.written) ∙ (ap (λ l. h.written ++ l) (sym none) ∙ h.lines))
 
 -- a step adds the lines of its byte
-pub step_decodes : (tells : Bool) (d e : Decoding) (byte : ℕ) (earlier bytes before after : List ℕ) → IsDecoding tells d earlier bytes before after
+pub step_decodes : {tells : Bool} {d e : Decoding} (byte : ℕ) {earlier bytes before after : List ℕ} → IsDecoding tells d earlier bytes before after
     → DecoderStandsFor e.decoder (byte ∷ reverse bytes)
     → e.text.items ≡ (d.text.items ++ line_at S1 (byte ∷ reverse bytes)) ++ line_at S2 (byte ∷ reverse bytes)
     → IsDecoding tells e earlier (bytes ++ byte ∷ []) before after
-step_decodes tells d e byte earlier bytes before after h stands items =
+step_decodes {d} {e} byte {bytes} h stands items =
     let first = line_at S1 (byte ∷ reverse bytes) in
     let second = line_at S2 (byte ∷ reverse bytes) in
     record {
@@ -78,40 +78,40 @@ step_decodes tells d e byte earlier bytes before after h stands items =
     }
 
 -- how many bytes were read
-pub count_read : (tells : Bool) (d : Decoding) (earlier bytes before after : List ℕ) → IsDecoding tells d earlier bytes before after
+pub count_read : {tells : Bool} {d : Decoding} {earlier bytes before after : List ℕ} → IsDecoding tells d earlier bytes before after
     → d.decoder.count ≡ length bytes
-count_read tells d earlier bytes before after h = h.stands.count ∙ length-reverse bytes
+count_read {bytes} h = h.stands.count ∙ length-reverse bytes
 
 -- with the last line behind the lines, the whole text is there
-pub whole_text : (tells : Bool) (d : Decoding) (earlier bytes before after text : List ℕ) → (h : IsDecoding tells d earlier bytes before after)
+pub whole_text : {tells : Bool} {d : Decoding} {earlier bytes before after text : List ℕ} → (h : IsDecoding tells d earlier bytes before after)
     → text ≡ d.text.items ++ last_line d.decoder.count → h.written ++ text ≡ decoded bytes
-whole_text tells d earlier bytes before after text h is =
+whole_text {d} {bytes} h is =
     ap (λ l. h.written ++ l) is ∙ (sym (append_assoc h.written d.text.items (last_line d.decoder.count))
-    ∙ (ap (λ l. l ++ last_line d.decoder.count) h.lines ∙ ap (λ n. record_lines bytes ++ last_line n) (count_read tells d earlier bytes before after h)))
+    ∙ (ap (λ l. l ++ last_line d.decoder.count) h.lines ∙ ap (λ n. record_lines bytes ++ last_line n) (count_read h)))
 
-pub whole_written : (tells : Bool) (d : Decoding) (earlier bytes before was after text : List ℕ) → (h : IsDecoding tells d earlier bytes before was)
+pub whole_written : {tells : Bool} {d : Decoding} {earlier bytes before was after text : List ℕ} → (h : IsDecoding tells d earlier bytes before was)
     → text ≡ d.text.items ++ last_line d.decoder.count → (IsTrue tells → after ≡ was ++ text) → IsTrue tells → after ≡ before ++ decoded bytes
-whole_written tells d earlier bytes before was after text h is wrote told =
-    behind tells before h.written text was after h.after_is wrote told ∙ ap (λ l. before ++ l) (whole_text tells d earlier bytes before was text h is)
+whole_written {tells} {before} {was} {after} {text} h is wrote told =
+    behind tells before h.written text was after h.after_is wrote told ∙ ap (λ l. before ++ l) (whole_text h is)
 
 -- a front of the last piece was written
-pub cut_whole : (tells : Bool) (d : Decoding) (earlier bytes before was after text : List ℕ) → (h : IsDecoding tells d earlier bytes before was)
+pub cut_whole : {tells : Bool} {d : Decoding} {earlier bytes before was after text : List ℕ} → (h : IsDecoding tells d earlier bytes before was)
     → text ≡ d.text.items ++ last_line d.decoder.count → length bytes ≤ 16777216
     → (n : ℕ) × (IsTrue tells → after ≡ was ++ take n text) → IsFrontOfWhole tells earlier bytes before after
-cut_whole tells d earlier bytes before was after text h is few front = record {
+cut_whole {tells} {before} {was} {after} {text} h is few front = record {
   n = length h.written + front.0;
   least = omega (arith, h.least);
   few = few;
   after_is = λ told. behind tells before h.written (take front.0 text) was after h.after_is front.1 told
       ∙ ap (λ l. before ++ l) (sym (take-append-add h.written text front.0)
-      ∙ ap (λ l. take (length h.written + front.0) l) (whole_text tells d earlier bytes before was text h is));
+      ∙ ap (λ l. take (length h.written + front.0) l) (whole_text h is));
 }
 
 -- a step adds the lines of all its bytes
-pub more_decoded : (tells : Bool) (d e : Decoding) (more earlier bytes before after : List ℕ) → IsDecoding tells d earlier bytes before after
+pub more_decoded : {tells : Bool} {d e : Decoding} (more : List ℕ) {earlier bytes before after : List ℕ} → IsDecoding tells d earlier bytes before after
     → DecoderStandsFor e.decoder (reverse more ++ reverse bytes) → e.text.items ≡ d.text.items ++ lines_with (reverse bytes) more
     → IsDecoding tells e earlier (bytes ++ more) before after
-more_decoded tells d e more earlier bytes before after h stands items = record {
+more_decoded {d} {e} more {bytes} h stands items = record {
   stands = subst (λ l. DecoderStandsFor e.decoder l) (sym (reverse-append bytes more)) stands;
   written = h.written;
   after_is = h.after_is;
@@ -121,9 +121,9 @@ more_decoded tells d e more earlier bytes before after h stands items = record {
 }
 
 -- where nothing is gathered, the lines of all bytes were written
-pub all_written : (tells : Bool) (d : Decoding) (earlier bytes before after : List ℕ) → IsDecoding tells d earlier bytes before after → d.text.items ≡ []
+pub all_written : {tells : Bool} {d : Decoding} {earlier bytes before after : List ℕ} → IsDecoding tells d earlier bytes before after → d.text.items ≡ []
     → IsDecoding tells d bytes bytes before after
-all_written tells d earlier bytes before after h none = record {
+all_written h none = record {
   stands = h.stands;
   written = h.written;
   after_is = h.after_is;
@@ -139,19 +139,20 @@ piece_fits count len h = by_room (nat_lt most_bytes (count + 8192)) h where
   by_room false few = few
 
 -- how a decoding ended in a piece, said of the whole
-pub ended_in : (tells : Bool) (why : Status) (earlier input piece left before after : List ℕ) → input ≡ earlier ++ (piece ++ left) → length piece ≤ 8192
+pub ended_in : (tells : Bool) (why : Status) (earlier : List ℕ) {input : List ℕ} (piece left before after : List ℕ)
+    → input ≡ earlier ++ (piece ++ left) → length piece ≤ 8192
     → EndedIn tells why earlier input before after → DecodedBy tells why input left before after
-ended_in tells (status.TooMany count) earlier input piece left before after is few h = h
-ended_in tells status.WriteFault earlier input piece left before after is few h =
+ended_in tells (status.TooMany count) earlier piece left before after is few h = h
+ended_in tells status.WriteFault earlier piece left before after is few h =
     record { earlier = earlier; piece = piece; input_is = is; few = few; front = inl h }
-ended_in tells status.Done earlier input piece left before after is few h = absurd h
-ended_in tells status.ReadFault earlier input piece left before after is few h = absurd h
-ended_in tells status.NoMemory earlier input piece left before after is few h = absurd h
-ended_in tells status.BadWords earlier input piece left before after is few h = absurd h
-ended_in tells (status.BadSchedule line why) earlier input piece left before after is few h = absurd h
-ended_in tells (status.Undetected line) earlier input piece left before after is few h = absurd h
-ended_in tells status.NvFault earlier input piece left before after is few h = absurd h
-ended_in tells (status.BadImage why) earlier input piece left before after is few h = absurd h
+ended_in tells status.Done earlier piece left before after is few h = absurd h
+ended_in tells status.ReadFault earlier piece left before after is few h = absurd h
+ended_in tells status.NoMemory earlier piece left before after is few h = absurd h
+ended_in tells status.BadWords earlier piece left before after is few h = absurd h
+ended_in tells (status.BadSchedule line why) earlier piece left before after is few h = absurd h
+ended_in tells (status.Undetected line) earlier piece left before after is few h = absurd h
+ended_in tells status.NvFault earlier piece left before after is few h = absurd h
+ended_in tells (status.BadImage why) earlier piece left before after is few h = absurd h
 
 -- a write failed behind the end of the input: the lines of all of it had been written
 pub broken_off_at_end : (tells : Bool) (input before after : List ℕ)

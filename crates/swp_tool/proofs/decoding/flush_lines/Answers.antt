@@ -11,13 +11,11 @@ returns-in_err-write_all-clause-ends g c =
     let front = c.in_err-write_all.ensures.front in
     on_err ((earlier bytes before : List ℕ) → IsDecoding tells c.args.decoding.now earlier bytes before was
     → IsFrontOfLines tells earlier bytes before after) c.from_residual.result
-    (λ earlier bytes before h. cut_lines tells c.args.decoding.now earlier bytes before was after h
+    (λ earlier bytes before h. cut_lines h
     (front.0, λ told. front.1 told ∙ ap (λ l. was ++ take front.0 l) c.as_slice.ensures.value))
 
 pub returns-clause-goes : goal.returns-clause-goes
 returns-clause-goes g c earlier bytes before h =
     let was = g.K.Sink.written c.args.sink.now in
-    let after = g.K.Sink.written c.write_all.new.sink in
-    let d = c.args.decoding.now in
-    flushed g.K.Sink.tells d (record d { text = c.clear.new.self }) earlier bytes before was after h refl c.clear.ensures
+    flushed h refl c.clear.ensures
     (λ told. c.in_ok-write_all.ensures.wrote told ∙ ap (λ l. was ++ l) c.as_slice.ensures.value)

@@ -4,8 +4,6 @@ use Rattle.swp_tool.proofs.decoding.take_first.Goals as goal
 
 pub returns-clause-goes : goal.returns-clause-goes
 returns-clause-goes g c earlier read before h =
-    let d = c.make_room.new.decoding in
     let k = c.in_ok-make_room.ensures.goes earlier read before h in
-    more_decoded g.K.Sink.tells d (record { decoder = c.step_many.new.self; text = c.step_many.new.text })
-    (take c.step_many.result c.args.bytes.now) earlier read before (g.K.Sink.written c.make_room.new.sink) k
-    (c.step_many.ensures.stands (reverse read) k.stands) (c.step_many.ensures.lines (reverse read) k.stands)
+    more_decoded (take c.step_many.result c.args.bytes.now) k (c.step_many.ensures.stands (reverse read) k.stands)
+    (c.step_many.ensures.lines (reverse read) k.stands)

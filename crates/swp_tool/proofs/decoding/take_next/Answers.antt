@@ -20,7 +20,7 @@ returns-then-decoding-eq-MAX_BYTES-clause-ends g c earlier bytes ahead before h 
         byte = c.args.byte;
         rest = ahead;
         input_is = refl;
-        most = sym (count_read tells c.args.decoding.now earlier bytes before was h) ∙ c.if-decoding-eq-MAX_BYTES.true;
-        after_is = none_gathered tells d earlier bytes before after (goes earlier bytes before h) none;
+        most = sym (count_read h) ∙ c.if-decoding-eq-MAX_BYTES.true;
+        after_is = none_gathered (goes earlier bytes before h) none;
       },
     )

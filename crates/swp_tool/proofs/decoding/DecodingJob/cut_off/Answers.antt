@@ -5,10 +5,10 @@ use Rattle.swp_tool.proofs.decoding.DecodingJob.cut_off.Goals as goal
 
 pub returns-clause-ends : goal.returns-clause-ends
 returns-clause-ends c tells input left before after h =
-    let few : length h.bytes ≤ 16777216 = omega (arith, c.requires.goes, count_read tells c.args.self.now h.bytes h.bytes before after h.decoding) in
+    let few : length h.bytes ≤ 16777216 = omega (arith, c.requires.goes, count_read h.decoding) in
     record {
       bytes = h.bytes;
       input_is = h.input_is;
       few = few;
-      after_is = none_gathered tells c.args.self.now h.bytes h.bytes before after h.decoding h.gathered;
+      after_is = none_gathered h.decoding h.gathered;
     }

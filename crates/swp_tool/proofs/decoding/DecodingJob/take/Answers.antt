@@ -6,11 +6,10 @@ use Rattle.swp_tool.proofs.decoding.DecodingJob.take.Goals as goal
 pub returns-in-Ok-clause-on : goal.returns-in-Ok-clause-on
 returns-in-Ok-clause-on g c input rest before h =
     let piece = c.args.piece.now in
-    let after = g.K.Sink.written c.flush_lines.new.sink in
     record {
       bytes = h.bytes ++ piece;
       input_is = h.input_is ∙ sym (append_assoc h.bytes piece rest);
-      decoding = all_written g.K.Sink.tells c.flush_lines.new.decoding h.bytes (h.bytes ++ piece) before after
+      decoding = all_written
           (c.in-Ok.ensures.goes h.bytes (h.bytes ++ piece) before (c.in_default.ensures.goes h.bytes h.bytes before h.decoding)) c.in-Ok.ensures.room;
       gathered = c.in-Ok.ensures.room;
     }
@@ -19,7 +18,7 @@ pub returns-in-Err-clause-ends : goal.returns-in-Err-clause-ends
 returns-in-Err-clause-ends g c input rest before h =
     let piece = c.args.piece.now in
     let after = g.K.Sink.written c.take_all.new.sink in
-    ended_in g.K.Sink.tells c.in-Err.status h.bytes input piece rest before after h.input_is
+    ended_in g.K.Sink.tells c.in-Err.status h.bytes piece rest before after h.input_is
     (piece_fits c.args.self.now.decoder.count (length piece) c.requires.size)
     (subst (λ l. EndedIn g.K.Sink.tells c.in-Err.status h.bytes l before after) (append_assoc h.bytes piece rest ∙ sym h.input_is)
     (c.in-Err.ensures.ends h.bytes h.bytes rest before h.decoding))

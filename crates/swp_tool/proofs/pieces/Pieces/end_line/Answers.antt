@@ -11,7 +11,7 @@ returns-in-Err-clause-halts c bytes written h =
     let p = c.args.self.now in
     let line : c.without_carriage_return-line.result.now ≡ strip_carriage_return p.partial.items =
     c.without_carriage_return-line.ensures ∙ ap strip_carriage_return c.as_slice.ensures.value in
-    halts_at_line p c.in-Err.why c.play.new.self.count c.play.new.self.text.items bytes written h c.in-Err.ensures.uncounted c.in-Err.ensures.same
+    halts_at_line c.in-Err.why h c.in-Err.ensures.uncounted c.in-Err.ensures.same
     (λ (s : Schedule) (w : List ℕ) (k : HasPlayed p.replay s w).
     (let P : List ℕ → Type 0 = λ l. HaltsAt c.in-Err.why s l in subst P line (c.in-Err.ensures.halts s w k)))
 
@@ -20,6 +20,6 @@ returns-in-Ok-clause-read c bytes written h =
     let p = c.args.self.now in
     let line : c.without_carriage_return-line.result.now ≡ strip_carriage_return p.partial.items =
     c.without_carriage_return-line.ensures ∙ ap strip_carriage_return c.as_slice.ensures.value in
-    read_line_ended p _ bytes written h c.clear.ensures.items
+    read_line_ended h c.clear.ensures.items
     (λ (s : Schedule) (w : List ℕ) (k : HasPlayed p.replay s w).
     (let P : List ℕ → Type 0 = λ l. HasPlayed c.play.new.self (with_line s l) w in subst P line (c.in-Ok.ensures.played s w k)))

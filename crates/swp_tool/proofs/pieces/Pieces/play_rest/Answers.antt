@@ -28,6 +28,6 @@ returns-in-Err-clause-halts c bytes written h =
     let P : List ℕ → Type 0 = λ l. 0 < length l in
     let some : 0 < length p.partial.items =
     subst P c.as_slice-rest.ensures.value (tests_some c.as_slice-rest.result.now c.is_empty.result c.is_empty.ensures c.if-is_empty.false) in
-    halts_at_rest p c.in-Err.why c.play.new.self.count c.play.new.self.text.items bytes written h some c.in-Err.ensures.uncounted c.in-Err.ensures.same
+    halts_at_rest c.in-Err.why h some c.in-Err.ensures.uncounted c.in-Err.ensures.same
     (λ (s : Schedule) (w : List ℕ) (k : HasPlayed p.replay s w).
     (let P : List ℕ → Type 0 = λ l. HaltsAt c.in-Err.why s l in subst P c.as_slice-rest.ensures.value (c.in-Err.ensures.halts s w k)))

@@ -8,7 +8,7 @@ use Rattle.swp_tool.proofs.pieces.Pieces.play_whole.Goals as goal
 pub returns-in-Err-clause-halts : goal.returns-in-Err-clause-halts
 returns-in-Err-clause-halts c before written h =
     let p = c.args.self.now in
-    halts_at_whole_line p c.in-Err.why c.play.new.self.count c.play.new.self.text.items before written c.args.bytes.now h c.requires.none c.requires.lacks
+    halts_at_whole_line c.in-Err.why c.args.bytes.now h c.requires.none c.requires.lacks
     c.in-Err.ensures.uncounted c.in-Err.ensures.same
     (λ (s : Schedule) (w : List ℕ) (k : HasPlayed p.replay s w).
     (let P : List ℕ → Type 0 = λ l. HaltsAt c.in-Err.why s l in subst P c.without_carriage_return.ensures (c.in-Err.ensures.halts s w k)))
@@ -16,6 +16,6 @@ returns-in-Err-clause-halts c before written h =
 pub returns-in-Ok-clause-read : goal.returns-in-Ok-clause-read
 returns-in-Ok-clause-read c before written h =
     let p = c.args.self.now in
-    read_whole_line p _ before written c.args.bytes.now h c.requires.none c.requires.lacks c.requires.none
+    read_whole_line c.args.bytes.now h c.requires.none c.requires.lacks c.requires.none
     (λ (s : Schedule) (w : List ℕ) (k : HasPlayed p.replay s w).
     (let P : List ℕ → Type 0 = λ l. HasPlayed c.play.new.self (with_line s l) w in subst P c.without_carriage_return.ensures (c.in-Ok.ensures.played s w k)))

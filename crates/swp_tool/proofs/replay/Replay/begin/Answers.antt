@@ -5,4 +5,4 @@ use Rattle.swp_tool.proofs.replay.Replay.begin.Goals as goal
 -- the world of the header stands for the history of its opening
 pub returns-clause-played : goal.returns-clause-played
 returns-clause-played c s written h none =
-    began c.args.self.now _ s written c.in_ok-world.world c.args.header.now h none c.in_ok-world.ensures.stands refl refl c.in_ok-world.ensures.text
+    began h none c.in_ok-world.ensures.stands refl refl c.in_ok-world.ensures.text

@@ -10,9 +10,9 @@ step-requires-clause-room c =
 -- the line was played
 pub returns-in-Ok-clause-played : goal.returns-in-Ok-clause-played
 returns-in-Ok-clause-played c s written h =
-    went_on c.args.self.now _ s written c.in-Some.world c.step.new.world c.args.line.now h c.in-Some.is refl refl c.in-Ok.ensures.runs c.in-Ok.ensures.told
+    went_on c.args.line.now h c.in-Some.is refl refl c.in-Ok.ensures.runs c.in-Ok.ensures.told
 
 -- the world halted at the line
 pub returns-in-Err-clause-halts : goal.returns-in-Err-clause-halts
 returns-in-Err-clause-halts c s written h =
-    halted_there c.args.self.now s written c.in-Some.world c.args.line.now c.in-Err.why h c.in-Some.is c.in-Err.ensures.halts
+    halted_there c.args.line.now c.in-Err.why h c.in-Some.is c.in-Err.ensures.halts

@@ -4,7 +4,7 @@ use Rattle.std.proofs.lemmas.List.{append-nil}
 use Rattle.swp_tool.specs.declared.status.Status.{Status}
 use Rattle.swp_tool.specs.Pieces.{IsCompleteTranscript}
 use Rattle.swp_tool.specs.Runs.{IsSomeTranscript, Replayed}
-use Rattle.swp_tool.proofs.Ending.{of_err, of_ok, behind, whole_transcript, cut_short, finished_front, halted_at_end}
+use Rattle.swp_tool.proofs.Ending.{of_err, of_ok, behind, cut_short, finished_front, halted_at_end}
 use Rattle.swp_tool.proofs.replaying.PiecesJob.close.Goals as goal
 
 pub returns-then-is_err-clause-ends : goal.returns-then-is_err-clause-ends
@@ -19,9 +19,7 @@ returns-then-is_err-clause-ends g c input before under =
     let some = subst P (sym input_is)
     (finished_front c.args.self.now c.finish-finished.new.self c.finish-finished.result under.bytes under.text c.finish-finished.ensures.done
     c.finish-finished.ensures.halts under.read) in
-    cut_short tells input under.bytes [] [] under.text now before (g.K.Sink.written c.args.sink.now) (g.K.Sink.written c.write_all.new.sink) under.input_is
-    (omega arith)
-    (whole_transcript c.args.self.now under.bytes under.text under.read under.gathered) some under.after_is
+    cut_short [] [] now under (omega arith) some
     (front.0, λ told. front.1 told ∙ ap (λ l. g.K.Sink.written c.args.sink.now ++ take front.0 l) c.as_slice.ensures.value)
 
 pub returns-in-Ok-clause-ends : goal.returns-in-Ok-clause-ends

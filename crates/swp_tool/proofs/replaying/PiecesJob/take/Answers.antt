@@ -3,7 +3,7 @@ use Rattle.std.proofs.Common.{◌≡◌, ◌++◌, List, ℕ, IsTrue, [], sym, a
 use Rattle.swp_tool.specs.declared.status.Status.{Status}
 use Rattle.swp_tool.specs.Pieces.{HasRead, IsFrontTranscript}
 use Rattle.swp_tool.specs.Runs.{Replayed}
-use Rattle.swp_tool.proofs.Ending.{of_err, of_ok, behind, whole_transcript, cut_short, fed_front, halted_replayed}
+use Rattle.swp_tool.proofs.Ending.{of_err, of_ok, behind, cut_short, fed_front, halted_replayed}
 use Rattle.swp_tool.proofs.replaying.PiecesJob.take.Goals as goal
 
 pub returns-then-is_err-clause-ends : goal.returns-then-is_err-clause-ends
@@ -20,8 +20,7 @@ returns-then-is_err-clause-ends g c input rest before under =
     let some = subst P (sym input_is)
     (fed_front c.args.self.now c.feed-fed.new.self c.feed-fed.result piece rest under.bytes under.text c.feed-fed.ensures.read c.feed-fed.ensures.halts
     under.read) in
-    cut_short tells input under.bytes piece rest under.text items before was after under.input_is c.requires.size
-    (whole_transcript c.args.self.now under.bytes under.text under.read under.gathered) (inl some) under.after_is front
+    cut_short piece rest items under c.requires.size (inl some) front
 
 pub returns-in-Ok-clause-on : goal.returns-in-Ok-clause-on
 returns-in-Ok-clause-on g c input rest before under =
