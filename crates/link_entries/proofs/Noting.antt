@@ -213,7 +213,7 @@ tick_can e ts ending can = go (is_open e.role) refl
         let t = tick_closed e o in
         subst P (sym t.0) (can_end (activated e ActTick) ts (role_after e.role ActTick) ending (activated_role e ActTick) (can_after e.role ActTick ending can))
 
--- how the step of an end can go on behind an input
+-- behind no input, a tick, a reset and a frame an end can finish its step
 pub idle_finishes : (l : Link) (ts : List Turn) (ending : Ending) → IsNode l ts ending → Near l → CanFinish l.controller.side ts ending
 idle_finishes l ts ending a n = record {
   sendable = a.0;

@@ -301,7 +301,7 @@ rest_told t who l e ts ending finishes here there =
           (no_acked-append us vs (no_acked_turns who n e ts) (no_acked_ending who l (turned e ts) ending));
     }
 
--- the controller's end of l takes an input, where it is h and the link k
+-- the controller's end of l, with the number of h, takes an input, and l becomes k
 pub record TakesInput (l k : Link) (i : LinkInput) (h : NumberedEnd) : Type 0 where
   pub input : Input l.controller (with_side k.controller (after_input l.controller.side i)) (is_some (ended_by l.controller.side i))
       (began_by l.controller.side i) (report l.controller.side i)
