@@ -162,10 +162,10 @@ inserted_is_put key low high row rows h =
     ∙ ap (λ back. rows_before key (key row) rows ++ row ∷ back) (drop-place key (key row) low high rows h)
 
 -- the same, as the code's calls say it
-pub put_by_insert : {X : Type 0} (key : X → ℕ) (low high : ℕ) (row : X) (rows taken seen new : List X) (n : ℕ) → AreRows key low high rows
+pub put_by_insert : {X : Type 0} (key : X → ℕ) (low high : ℕ) (row : X) (rows : List X) {taken seen new : List X} {n : ℕ} → AreRows key low high rows
     → taken ≡ without_row key (key row) rows → seen ≡ taken → n ≡ prefix_len (λ r. ltb (key r) (key row)) seen → new ≡ insert taken n row
     → new ≡ with_row key row rows
-put_by_insert key low high row rows taken seen new n h taken_is seen_is n_is new_is =
+put_by_insert key low high row rows h taken_is seen_is n_is new_is =
     let put = inserted_is_put key low high row rows h in cc
 
 -- there is room for a row where all keys stay below the number of places

@@ -22,4 +22,4 @@ returns c =
     let items = c.args.statics.now.items in
     let taken = c.take_out.ensures ∙ ap (λ (k : ℕ). without_row static_place k items) c.place_of-place.ensures in
     let placed = c.place_in-at.ensures ∙ ap (λ (k : ℕ). prefix_len (λ (p : ℕ × ℕ). ltb (static_place p) k) c.as_slice.result.now) c.place_of-place.ensures in
-    put_by_insert static_place 0 16 (c.args.host, c.args.pid) items _ _ _ _ c.requires.sorted taken c.as_slice.ensures.value placed c.insert.ensures.items
+    put_by_insert static_place 0 16 (c.args.host, c.args.pid) items c.requires.sorted taken c.as_slice.ensures.value placed c.insert.ensures.items

@@ -19,4 +19,4 @@ returns c =
     put_by_insert sync_host 1 8 (
       c.args.host,
       c.args.id,
-    ) c.args.syncs.now.items _ _ _ _ c.requires.sorted c.take_out.ensures c.as_slice.ensures.value c.place_in-at.ensures c.insert.ensures.items
+    ) c.args.syncs.now.items c.requires.sorted c.take_out.ensures c.as_slice.ensures.value c.place_in-at.ensures c.insert.ensures.items

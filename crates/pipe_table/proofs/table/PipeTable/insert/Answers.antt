@@ -18,13 +18,13 @@ pub invariant_of-self : goal.invariant_of-self
 invariant_of-self c =
     let P : List PipeRow → Type 0 = ArePipeRows in
     let put =
-    put_by_insert pid_of 2 112 c.args.row c.self.inside.rows.items _ _ _ _ c.self.invariant c.take_out.ensures c.as_slice.ensures.value
+    put_by_insert pid_of 2 112 c.args.row c.self.inside.rows.items c.self.invariant c.take_out.ensures c.as_slice.ensures.value
     c.place_of-place.ensures c.insert.ensures.items in
     subst P (sym put) (AreRows-with_row pid_of 2 112 c.args.row c.self.inside.rows.items c.self.invariant c.requires.0 c.requires.1)
 
 pub returns : goal.returns
 returns c =
     let put =
-    put_by_insert pid_of 2 112 c.args.row c.self.inside.rows.items _ _ _ _ c.self.invariant c.take_out.ensures c.as_slice.ensures.value
+    put_by_insert pid_of 2 112 c.args.row c.self.inside.rows.items c.self.invariant c.take_out.ensures c.as_slice.ensures.value
     c.place_of-place.ensures c.insert.ensures.items in
     put ∙ ap (λ (rows : List PipeRow). with_pipe rows c.args.row) c.self.view_is

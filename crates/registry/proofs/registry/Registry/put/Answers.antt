@@ -26,7 +26,7 @@ invariant_of-self c =
     let taken = c.take_out.ensures ∙ ap (λ (k : ℕ). without_row place_of_value k items) c.place-place.ensures in
     let placed = c.place_in-at.ensures ∙ ap (λ (k : ℕ). prefix_len (λ (v : RegValue). ltb (place_of_value v) k) c.as_slice.result.now) c.place-place.ensures in
     let put =
-    put_by_insert place_of_value 2 16 c.args.value items _ _ _ _ c.self.invariant.sorted taken c.as_slice.ensures.value placed c.insert.ensures.items in
+    put_by_insert place_of_value 2 16 c.args.value items c.self.invariant.sorted taken c.as_slice.ensures.value placed c.insert.ensures.items in
     subst P (sym put) (AreValues-with_row c.args.value items c.requires c.self.invariant)
 
 pub returns : goal.returns
@@ -35,5 +35,5 @@ returns c =
     let taken = c.take_out.ensures ∙ ap (λ (k : ℕ). without_row place_of_value k items) c.place-place.ensures in
     let placed = c.place_in-at.ensures ∙ ap (λ (k : ℕ). prefix_len (λ (v : RegValue). ltb (place_of_value v) k) c.as_slice.result.now) c.place-place.ensures in
     let put =
-    put_by_insert place_of_value 2 16 c.args.value items _ _ _ _ c.self.invariant.sorted taken c.as_slice.ensures.value placed c.insert.ensures.items in
+    put_by_insert place_of_value 2 16 c.args.value items c.self.invariant.sorted taken c.as_slice.ensures.value placed c.insert.ensures.items in
     put ∙ ap (λ (values : List RegValue). with_row place_of_value c.args.value values) c.self.view_is
